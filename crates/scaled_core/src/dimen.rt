@@ -1,0 +1,54 @@
+//! A dimension: a whole number of scaled points that fits.
+
+ghost use Rattle.std.specs.Prelude.{◌≡◌};
+ghost use Rattle.std.specs.Option.{SomeIff};
+ghost use Rattle.scaled_core.specs.Dimensions.{Fits};
+
+use std::marker::Model;
+
+/// A number of scaled points, of absolute value at most 2^30 - 1 (TeX: The Program, part 7).
+#[derive(Clone, Copy, Debug, PartialEq, Eq, PartialOrd, Ord)]
+pub struct Dimen {
+    value: i32,
+}
+
+impl Model for Dimen {
+    ghost use Rattle.std.specs.Prelude.{ℤ};
+    ghost use Rattle.scaled_core.specs.Dimensions.{Fits};
+
+    ghost Value = { ℤ };
+
+    ghost view = { λ d. d.value };
+
+    ghost invariant = { λ d. Fits d.value };
+
+    ghost inverse = { λ z. record { value = z } };
+}
+
+impl Dimen {
+    /// No length at all: 0 sp.
+    pub const ZERO: Dimen = Dimen { value: 0 };
+
+    /// The dimension of that many scaled points, or None exactly where the number does not fit.
+    pub fn try_new(value: i64) -> Option<Dimen>
+        ensures { SomeIff result (Fits value) value }
+    {
+        if value < -1_073_741_823 {
+            return None;
+        }
+        if value > 1_073_741_823 {
+            return None;
+        }
+        Some(Dimen {
+            value: value as i32,
+        })
+    }
+
+    /// The number of scaled points.
+    pub fn get(self) -> i32
+        ensures value { result ≡ self }
+        ensures fits { Fits result }
+    {
+        self.value
+    }
+}

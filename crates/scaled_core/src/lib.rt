@@ -1,0 +1,8 @@
+//! Scaled arithmetic: dimensions, and their texts.
+//!
+//! All quantities are whole numbers of scaled points, of which 65536 make a printer's point.
+#![tactic(auto)]
+
+pub mod dimen;
+
+pub use dimen::Dimen;
