@@ -1,0 +1,2 @@
+//! The instructions of a DVI file: their table, the page body and the file as definitions, and the calls that spell and read one instruction.
+#![tactic(auto)]
