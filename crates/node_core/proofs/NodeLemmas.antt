@@ -1,0 +1,28 @@
+-- Lists of nodes and items are the same thing, seen in two ways.
+use Rattle.std.proofs.Common.{◌≡◌, List, [], ◌∷◌, length, refl, ap, arith}
+use Rattle.node_core.specs.declared.tree.Node.{Node}
+use Rattle.node_core.specs.declared.tree.Node.TheVariants.{Kern, Rule}
+use Rattle.node_core.specs.Items.{kern, rule, Items, none, leaf, items_count, items_depth}
+use Rattle.node_core.specs.Nodes.{items_of, nodes_of}
+
+pub nodes_of-items_of : (nodes : List Node) → nodes_of (items_of nodes) ≡ nodes
+nodes_of-items_of [] = refl
+nodes_of-items_of ((Kern width) ∷ rest) = ap (λ nodes. Kern width ∷ nodes) (nodes_of-items_of rest)
+nodes_of-items_of ((Rule sizes) ∷ rest) = ap (λ nodes. Rule sizes ∷ nodes) (nodes_of-items_of rest)
+
+pub items_of-nodes_of : (items : Items) → items_of (nodes_of items) ≡ items
+items_of-nodes_of none = refl
+items_of-nodes_of (leaf (kern width) rest) = ap (leaf (kern width)) (items_of-nodes_of rest)
+items_of-nodes_of (leaf (rule sizes) rest) = ap (leaf (rule sizes)) (items_of-nodes_of rest)
+
+pub items_count-is : (items : Items) → items_count items ≡ length (nodes_of items)
+items_count-is none = refl
+items_count-is (leaf (kern width) rest) = omega (arith, items_count-is rest)
+items_count-is (leaf (rule sizes) rest) = omega (arith, items_count-is rest)
+
+-- No box stands in a list.
+pub items_depth-is : (items : Items) → items_depth items ≡ 0
+items_depth-is none = refl
+items_depth-is (leaf x rest) = items_depth-is rest
+
+pub ruleset nodes = (nodes_of-items_of, items_of-nodes_of, items_count-is, items_depth-is)

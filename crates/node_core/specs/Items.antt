@@ -1,0 +1,23 @@
+-- The items of a list as a tree, and its numbers (TeX: The Program, part 10).
+use Rattle.std.specs.Prelude.{ℕ, ℤ, ◌+◌}
+use Rattle.node_core.specs.declared.tree.Rule.{Rule}
+
+-- An item that has no items of its own.
+pub data Leaf : Type 0 where
+  kern : ℤ → Leaf
+  rule : Rule → Leaf
+
+-- The items of a list: none, or an item and those after it.
+pub data Items : Type 0 where
+  none : Items
+  leaf : Leaf → Items → Items
+
+-- How deep the boxes in a list nest.
+abbrev pub items_depth : Items → ℕ
+items_depth none = 0
+items_depth (leaf x rest) = items_depth rest
+
+-- How many items stand in a list, those of its boxes included.
+abbrev pub items_count : Items → ℕ
+items_count none = 0
+items_count (leaf x rest) = items_count rest + 1

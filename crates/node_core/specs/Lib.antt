@@ -1,0 +1,3 @@
+pub mod Items
+pub mod Codes
+pub mod Nodes

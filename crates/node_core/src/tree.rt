@@ -1,0 +1,191 @@
+//! Nodes, lists of nodes and boxes.
+
+ghost use Rattle.std.specs.Prelude.{◌≡◌, ◌==◌, ℕ, ◌+◌, List, [], ◌∷◌, ◌++◌, length, OnOk, OnErr, IfOk, IfErr, min};
+ghost use Rattle.node_core.specs.Items.{Items, none, items_depth, items_count};
+ghost use Rattle.node_core.specs.Nodes.{items_of, nodes_of, box_depth, box_count};
+
+use scaled_core::Dimen;
+use std::alloc::{AllocError, AllocFailed, Global};
+use std::marker::Model;
+
+/// An item of a list (TeX: The Program, part 10).
+#[derive(Debug, Drop)]
+pub enum Node {
+    /// An explicit kern.
+    Kern(Dimen),
+    /// A rule.
+    Rule(Rule),
+}
+
+/// A size of a rule.
+#[derive(Clone, Copy, Debug, PartialEq, Eq)]
+pub enum RuleSize {
+    /// That of the box whose list the rule stands in.
+    Running,
+    /// A size of its own.
+    Fixed(Dimen),
+}
+
+/// A rule (TeX: The Program, part 10).
+#[derive(Clone, Copy, Debug, PartialEq, Eq)]
+pub struct Rule {
+    pub width: RuleSize,
+    pub height: RuleSize,
+    pub depth: RuleSize,
+}
+
+/// Which way a list goes.
+#[derive(Clone, Copy, Debug, PartialEq, Eq)]
+pub enum Kind {
+    Horizontal,
+    Vertical,
+}
+
+/// A box: its sizes and the list that is set in it.
+#[derive(Debug, Drop)]
+pub struct BoxNode {
+    pub kind: Kind,
+    pub width: Dimen,
+    pub height: Dimen,
+    pub depth: Dimen,
+    pub list: NodeList,
+}
+
+/// A list of nodes.
+#[derive(Debug, Drop)]
+pub struct NodeList {
+    nodes: Vec<Node>,
+}
+
+impl Model for NodeList {
+    ghost use Rattle.node_core.specs.Items.{Items};
+    ghost use Rattle.node_core.specs.Codes.{coded_items};
+
+    ghost Value = { Items };
+
+    ghost coded = { coded_items };
+
+    ghost use Rattle.node_core.specs.Nodes.{items_of};
+
+    ghost view = { λ list. items_of list.nodes.items };
+}
+
+impl NodeList {
+    /// The list without nodes. It takes no memory.
+    pub fn new(alloc: Global) -> NodeList
+        ensures { result ≡ none }
+    {
+        NodeList {
+            nodes: Vec::new(alloc),
+        }
+    }
+
+    /// The list of these nodes.
+    pub fn from_vec(nodes: Vec<Node>) -> NodeList
+        ensures { result ≡ items_of nodes.items }
+    {
+        NodeList { nodes }
+    }
+
+    /// The nodes of the list.
+    #[tactic(auto, using(crate::proofs::NodeLemmas::nodes))]
+    pub fn into_vec(self) -> Vec<Node>
+        ensures { result.items ≡ nodes_of self }
+    {
+        self.nodes
+    }
+
+    /// The nodes of the list.
+    #[tactic(auto, using(crate::proofs::NodeLemmas::nodes))]
+    pub fn as_slice(&self) -> &[Node]
+        ensures { result.now ≡ nodes_of self.now }
+    {
+        &self.nodes
+    }
+
+    /// The number of nodes, those in inner boxes not counted.
+    #[tactic(auto, using(crate::proofs::NodeLemmas::nodes))]
+    pub fn len(&self) -> usize
+        ensures { result ≡ length (nodes_of self.now) }
+    {
+        self.nodes.len()
+    }
+
+    /// Whether there is no node.
+    #[tactic(auto, using(crate::proofs::NodeLemmas::nodes))]
+    pub fn is_empty(&self) -> bool
+        ensures { result ≡ (length (nodes_of self.now) == 0) }
+    {
+        self.nodes.is_empty()
+    }
+
+    /// Puts a node behind the others. A refused growth hands it back.
+    #[tactic(auto, using(crate::proofs::NodeLemmas::nodes))]
+    pub fn push(&mut self, node: Node) -> Result<(), AllocFailed<Node>>
+        ensures ok { OnOk result (self.new ≡ items_of (nodes_of self.old ++ node ∷ [])) }
+        ensures nodes { OnOk result (nodes_of self.new ≡ nodes_of self.old ++ node ∷ []) }
+        ensures err { OnErr result (self.new ≡ self.old) }
+        ensures back { IfErr result (λ failed. failed.value ≡ node) }
+    {
+        match self.nodes.push(node) {
+            Ok(()) => Ok(()),
+            Err(failed) => Err(failed),
+        }
+    }
+
+    /// An equal list in memory of its own.
+    #[tactic(auto, using(crate::proofs::NodeLemmas::nodes))]
+    pub fn copy(&self, alloc: Global) -> Result<NodeList, AllocError>
+        ensures { IfOk result (λ copy. copy ≡ self.now) }
+    {
+        let mut nodes = Vec::with_capacity(alloc, self.nodes.len())?;
+        for node in &self.nodes {
+            nodes.push(node.copy())?;
+        }
+        Ok(NodeList { nodes })
+    }
+}
+
+impl Node {
+    /// An equal node.
+    pub fn copy(&self) -> Node
+        ensures { result ≡ self.now }
+    {
+        match self {
+            Node::Kern(width) => Node::Kern(*width),
+            Node::Rule(rule) => Node::Rule(*rule),
+        }
+    }
+}
+
+impl BoxNode {
+    /// An equal box in memory of its own.
+    pub fn copy(&self, alloc: Global) -> Result<BoxNode, AllocError>
+        ensures { IfOk result (λ copy. copy ≡ self.now) }
+    {
+        let list = self.list.copy(alloc)?;
+        Ok(BoxNode {
+            kind: self.kind,
+            width: self.width,
+            height: self.height,
+            depth: self.depth,
+            list,
+        })
+    }
+
+    #[tactic(auto, using(crate::proofs::NodeLemmas::nodes))]
+    /// How deep boxes nest, 1 for a box without inner boxes; cut at the greatest number.
+    pub fn depth(&self) -> u64
+        ensures { result ≡ min (box_depth self.now) u64.MAX }
+    {
+        1
+    }
+
+    #[tactic(auto, using(crate::proofs::NodeLemmas::nodes))]
+    /// The number of nodes: the box itself and every item in it; cut at the greatest number.
+    pub fn count(&self) -> u64
+        ensures { result ≡ min (box_count self.now) u64.MAX }
+    {
+        (self.list.len() as u64).saturating_add(1)
+    }
+}
