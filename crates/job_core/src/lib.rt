@@ -1,0 +1,8 @@
+//! The job: a list of commands is run, and what is shipped goes to a device.
+#![tactic(auto)]
+
+pub mod command;
+pub mod device;
+
+pub use command::{Answer, Command, Refusal, Register, Reply, Sizes, Summary};
+pub use device::{Device, DeviceFault, Memory};
