@@ -1,2 +1,6 @@
 pub mod Instruction
 pub mod Table
+pub mod Body
+pub mod Forest
+pub mod Walk
+pub mod Examples

@@ -1,2 +1,4 @@
 //! The instructions of a DVI file: their table, the page body and the file as definitions, and the calls that spell and read one instruction.
 #![tactic(auto)]
+
+pub mod page_body;
