@@ -3,6 +3,9 @@
 
 pub mod command;
 pub mod device;
+pub mod font_file;
+mod nest;
 
 pub use command::{Answer, Command, Refusal, Register, Reply, Sizes, Summary};
 pub use device::{Device, DeviceFault, Memory};
+pub use font_file::FontFile;
