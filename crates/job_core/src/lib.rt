@@ -5,6 +5,8 @@ pub mod command;
 pub mod device;
 pub mod font_file;
 mod nest;
+mod pack;
+mod registers;
 
 pub use command::{Answer, Command, Refusal, Register, Reply, Sizes, Summary};
 pub use device::{Device, DeviceFault, Memory};
