@@ -5,3 +5,4 @@ pub mod Packing
 pub mod Marks
 pub mod Reply
 pub mod Machine
+pub mod StateCode
