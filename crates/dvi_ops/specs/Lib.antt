@@ -1,2 +1,4 @@
 pub mod Instruction
 pub mod Table
+pub mod View
+pub mod Spelling

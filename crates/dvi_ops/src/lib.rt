@@ -1,2 +1,8 @@
 //! The instructions of a DVI file: their table, the page body and the file as definitions, and the calls that spell and read one instruction.
 #![tactic(auto)]
+
+pub mod op;
+mod spelling;
+
+pub use op::{FontDefinition, Op, Postamble, Units};
+pub use spelling::spell;
