@@ -1,1 +1,2 @@
 pub mod Forests
+pub mod Operands

@@ -4,3 +4,5 @@ pub mod Body
 pub mod Forest
 pub mod Walk
 pub mod Examples
+pub mod View
+pub mod Spelling

@@ -2,3 +2,8 @@
 #![tactic(auto)]
 
 pub mod page_body;
+pub mod op;
+mod spelling;
+
+pub use op::{FontDefinition, Op, Postamble, Units};
+pub use spelling::spell;

@@ -1,0 +1,116 @@
+//! An instruction of a DVI file as a value, without the lengths of its operands (DVItype, 13 to 18).
+//!
+//! All lengths are in DVI units; names and texts are slices of the file.
+
+/// A font definition.
+#[derive(Clone, Copy, Debug, PartialEq)]
+pub struct FontDefinition<'a> {
+    /// The number by which the font is selected.
+    pub number: i32,
+    /// The check sum of its metric file.
+    pub check_sum: i32,
+    /// The size at which the font is used.
+    pub size: i32,
+    /// The size for which it was designed.
+    pub design_size: i32,
+    /// The first part of its name, up to 255 bytes: the area.
+    pub area: &'a [u8],
+    /// The second part of its name, up to 255 bytes.
+    pub name: &'a [u8],
+}
+
+/// How DVI units are measured: num / den times 10^-7 metres, enlarged by mag / 1000.
+#[derive(Clone, Copy, Debug, PartialEq)]
+pub struct Units {
+    pub num: i32,
+    pub den: i32,
+    pub mag: i32,
+}
+
+/// What `post` says of the whole file.
+#[derive(Clone, Copy, Debug, PartialEq)]
+pub struct Postamble {
+    /// The place of the last bop, or -1.
+    pub last_bop: i32,
+    /// The units, as in the preamble.
+    pub units: Units,
+    /// The greatest height plus depth of a page.
+    pub height_plus_depth: i32,
+    /// The greatest width of a page.
+    pub width: i32,
+    /// How many pushes are open at once, at most.
+    pub stack_depth: u16,
+    /// The number of pages, modulo 65536.
+    pub pages: u16,
+}
+
+/// An instruction.
+#[derive(Clone, Copy, Debug, PartialEq)]
+pub enum Op<'a> {
+    /// Sets the character of that number and moves right by its width.
+    SetChar(i32),
+    /// Sets the character of that number.
+    PutChar(i32),
+    /// Sets a rule and moves right by its width.
+    SetRule {
+        height: i32,
+        width: i32,
+    },
+    /// Sets a rule.
+    PutRule {
+        height: i32,
+        width: i32,
+    },
+    /// Does nothing.
+    Nop,
+    /// Begins a page, with its ten counts and the place of the bop before, or -1.
+    Bop {
+        counts: [i32; 10],
+        pointer: i32,
+    },
+    /// Ends a page.
+    Eop,
+    /// Keeps h, v, w, x, y, z.
+    Push,
+    /// Takes back h, v, w, x, y, z.
+    Pop,
+    /// Moves right.
+    Right(i32),
+    /// Moves right by w.
+    W0,
+    /// Sets w and moves right by it.
+    W(i32),
+    /// Moves right by x.
+    X0,
+    /// Sets x and moves right by it.
+    X(i32),
+    /// Moves down.
+    Down(i32),
+    /// Moves down by y.
+    Y0,
+    /// Sets y and moves down by it.
+    Y(i32),
+    /// Moves down by z.
+    Z0,
+    /// Sets z and moves down by it.
+    Z(i32),
+    /// Selects the font of that number.
+    FontNum(i32),
+    /// A special: a text for another program, of fewer than 2^32 bytes.
+    Xxx(&'a [u8]),
+    /// Defines a font.
+    FontDef(FontDefinition<'a>),
+    /// Begins the file, with a comment of up to 255 bytes.
+    Pre {
+        id: u8,
+        units: Units,
+        comment: &'a [u8],
+    },
+    /// Begins the postamble.
+    Post(Postamble),
+    /// Ends the postamble and names its place; the bytes 223 behind it do not belong to it.
+    PostPost {
+        place: i32,
+        id: u8,
+    },
+}

@@ -1,0 +1,271 @@
+//! The one spelling of an instruction.
+
+ghost use Rattle.std.specs.Prelude.{◌≡◌, ◌≤◌, ◌<◌, ◌+◌, ◌++◌, ◌^◌, [], ◌∷◌, length, pos, OnOk, OnErr};
+ghost use Rattle.std.specs.List.{flat_map};
+ghost use Rattle.byteorder.specs.Endian.{big_bytes};
+ghost use Rattle.dvi_ops.specs.Spelling.{HasSpelling, char_spelling, code_size, coded, coded_signed, definition_spelling, font_spelling, leaf_spelling, operand, post_bytes, signed_size, spelling, text_spelling, units_bytes};
+ghost use Rattle.dvi_ops.specs.View.{definition, postamble, units as view_units, view};
+
+use crate::op::{FontDefinition, Op, Postamble, Units};
+use byteorder::{BigEndian, ByteOrder};
+use std::alloc::AllocError;
+
+// Appends the parts, one after the other.
+fn append(out: &mut Vec<u8>, parts: &[&[u8]]) -> Result<(), AllocError>
+    ensures ok { OnOk result (out.new.items ≡ out.old.items ++ flat_map (λ part. part.now) parts.now) }
+    ensures err { OnErr result (out.new.items ≡ out.old.items) }
+{
+    let held = out.len();
+    for part in parts {
+        if let Err(refused) = out.extend_from_slice(part) {
+            out.truncate(held);
+            return Err(refused);
+        }
+    }
+    Ok(())
+}
+
+// The four bytes of a number.
+#[tactic(auto, unfolding(crate::specs::Spelling::operand))]
+fn word(value: i32) -> [u8; 4]
+    ensures { result ≡ operand 4 value }
+{
+    let mut bytes = [0; 4];
+    BigEndian::write_i32(&mut bytes, value);
+    bytes
+}
+
+// How many bytes hold a signed number, at least.
+#[tactic(auto, unfolding(crate::specs::Spelling::signed_size))]
+fn size_of_signed(value: i32) -> usize
+    ensures size { result ≡ signed_size value }
+    ensures low { 1 ≤ result }
+    ensures high { result ≤ 4 }
+{
+    match value {
+        -128..=127 => 1,
+        -32_768..=32_767 => 2,
+        -8_388_608..=8_388_607 => 3,
+        _ => 4,
+    }
+}
+
+// How many bytes hold the number of a character or of a font, at least.
+#[tactic(auto, unfolding(crate::specs::Spelling::code_size))]
+fn size_of_code(value: i32) -> usize
+    ensures size { result ≡ code_size value }
+    ensures low { 1 ≤ result }
+    ensures high { result ≤ 4 }
+{
+    match value {
+        0..=255 => 1,
+        256..=65_535 => 2,
+        65_536..=16_777_215 => 3,
+        _ => 4,
+    }
+}
+
+// Appends the code that stands `size` above `base`, and the `size` lowest bytes of a number.
+#[tactic(auto, using(crate::proofs::Operands::operands))]
+fn append_coded(out: &mut Vec<u8>, base: u8, size: usize, value: i32) -> Result<(), AllocError>
+    requires low { 1 ≤ size }
+    requires high { size ≤ 4 }
+    requires room { base + 4 < 256 }
+    ensures ok { OnOk result (out.new.items ≡ out.old.items ++ coded base size value) }
+    ensures err { OnErr result (out.new.items ≡ out.old.items) }
+{
+    append(out, &[&[base + size as u8], &word(value)[4 - size..]])
+}
+
+// Appends a character: set_char or set1 to set4.
+#[tactic(auto, unfolding(crate::specs::Spelling::char_spelling))]
+fn append_char(out: &mut Vec<u8>, character: i32) -> Result<(), AllocError>
+    ensures ok { OnOk result (out.new.items ≡ out.old.items ++ char_spelling character) }
+    ensures err { OnErr result (out.new.items ≡ out.old.items) }
+{
+    match character {
+        0..=127 => append(out, &[&[character as u8]]),
+        _ => append_coded(out, 127, size_of_code(character), character),
+    }
+}
+
+// Appends the selection of a font: fnt_num or fnt1 to fnt4.
+#[tactic(auto, unfolding(crate::specs::Spelling::font_spelling))]
+fn append_font(out: &mut Vec<u8>, font: i32) -> Result<(), AllocError>
+    ensures ok { OnOk result (out.new.items ≡ out.old.items ++ font_spelling font) }
+    ensures err { OnErr result (out.new.items ≡ out.old.items) }
+{
+    match font {
+        0..=63 => append(out, &[&[171 + font as u8]]),
+        _ => append_coded(out, 234, size_of_code(font), font),
+    }
+}
+
+// Appends a movement.
+fn append_signed(out: &mut Vec<u8>, base: u8, amount: i32) -> Result<(), AllocError>
+    requires { base + 4 < 256 }
+    ensures ok { OnOk result (out.new.items ≡ out.old.items ++ coded_signed base amount) }
+    ensures err { OnErr result (out.new.items ≡ out.old.items) }
+{
+    append_coded(out, base, size_of_signed(amount), amount)
+}
+
+// Appends a rule, by its code.
+fn append_rule(out: &mut Vec<u8>, code: u8, height: i32, width: i32) -> Result<(), AllocError>
+    ensures ok { OnOk result (out.new.items ≡ out.old.items ++ code ∷ (operand 4 height ++ operand 4 width)) }
+    ensures err { OnErr result (out.new.items ≡ out.old.items) }
+{
+    append(out, &[&[code], &word(height), &word(width)])
+}
+
+// The length of a text in four bytes.
+#[tactic(auto, unfolding(crate::specs::Spelling::operand))]
+fn length_of(text: &[u8]) -> [u8; 4]
+    requires { length text.now < 2 ^ 32 }
+    ensures { result ≡ operand 4 (pos (length text.now)) }
+{
+    let mut bytes = [0; 4];
+    BigEndian::write_u32(&mut bytes, text.len() as u32);
+    bytes
+}
+
+// Appends a special.
+#[tactic(auto, unfolding(crate::specs::Spelling::text_spelling))]
+fn append_text(out: &mut Vec<u8>, text: &[u8]) -> Result<(), AllocError>
+    requires { length text.now < 2 ^ 32 }
+    ensures ok { OnOk result (out.new.items ≡ out.old.items ++ text_spelling text.now) }
+    ensures err { OnErr result (out.new.items ≡ out.old.items) }
+{
+    if text.len() < 256 {
+        return append(out, &[&[239, text.len() as u8], text]);
+    }
+    append(out, &[&[242], &length_of(text), text])
+}
+
+// The twelve bytes of the units.
+#[tactic(auto, unfolding(crate::specs::Spelling::operand))]
+fn units_of(units: &Units) -> [u8; 12]
+    ensures { result ≡ units_bytes (view_units units.now) }
+{
+    let mut bytes = [0; 12];
+    BigEndian::write_i32_into(&[units.num, units.den, units.mag], &mut bytes);
+    bytes
+}
+
+// Appends the beginning of a page.
+#[tactic(auto, unfolding(crate::specs::Spelling::operand))]
+fn append_bop(out: &mut Vec<u8>, counts: &[i32; 10], pointer: i32) -> Result<(), AllocError>
+    ensures ok { OnOk result (out.new.items ≡ out.old.items ++ 139 ∷ (flat_map (operand 4) counts.now ++ operand 4 pointer)) }
+    ensures err { OnErr result (out.new.items ≡ out.old.items) }
+{
+    let mut bytes = [0; 40];
+    BigEndian::write_i32_into(counts, &mut bytes);
+    append(out, &[&[139], &bytes, &word(pointer)])
+}
+
+// Appends a font definition.
+#[tactic(auto, using(crate::proofs::Operands::operands))]
+fn append_definition(out: &mut Vec<u8>, font: &FontDefinition<'_>) -> Result<(), AllocError>
+    requires area { length font.now.area.now < 256 }
+    requires name { length font.now.name.now < 256 }
+    ensures ok { OnOk result (out.new.items ≡ out.old.items ++ definition_spelling (definition font.now)) }
+    ensures err { OnErr result (out.new.items ≡ out.old.items) }
+{
+    let size = size_of_code(font.number);
+    let lengths = [font.area.len() as u8, font.name.len() as u8];
+    append(
+        out,
+        &[
+            &[242 + size as u8],
+            &word(font.number)[4 - size..],
+            &word(font.check_sum),
+            &word(font.size),
+            &word(font.design_size),
+            &lengths,
+            font.area,
+            font.name,
+        ],
+    )
+}
+
+// Appends the preamble.
+fn append_pre(out: &mut Vec<u8>, id: u8, units: &Units, comment: &[u8]) -> Result<(), AllocError>
+    requires { length comment.now < 256 }
+    ensures ok { OnOk result (out.new.items ≡ out.old.items ++ 247 ∷ id ∷ (units_bytes (view_units units.now) ++ (length comment.now ∷ comment.now))) }
+    ensures err { OnErr result (out.new.items ≡ out.old.items) }
+{
+    append(
+        out,
+        &[
+            &[247, id],
+            &units_of(units),
+            &[comment.len() as u8],
+            comment,
+        ],
+    )
+}
+
+// Two numbers of two bytes.
+#[tactic(auto, unfolding(crate::specs::Spelling::operand))]
+fn two_halves(first: u16, second: u16) -> [u8; 4]
+    ensures { result ≡ operand 2 (pos first) ++ operand 2 (pos second) }
+{
+    let mut bytes = [0; 4];
+    BigEndian::write_u16_into(&[first, second], &mut bytes);
+    bytes
+}
+
+// Appends the beginning of the postamble.
+fn append_post(out: &mut Vec<u8>, post: &Postamble) -> Result<(), AllocError>
+    ensures ok { OnOk result (out.new.items ≡ out.old.items ++ 248 ∷ post_bytes (postamble post.now)) }
+    ensures err { OnErr result (out.new.items ≡ out.old.items) }
+{
+    append(
+        out,
+        &[
+            &[248],
+            &word(post.last_bop),
+            &units_of(&post.units),
+            &word(post.height_plus_depth),
+            &word(post.width),
+            &two_halves(post.stack_depth, post.pages),
+        ],
+    )
+}
+
+/// Appends the spelling of an instruction: the fewest bytes for every instruction whose operand may have several lengths; of xxx the first form for up to 255
+/// bytes, else the last (DVItype, 15 to 18). Where memory is refused, `out` is as it was.
+#[tactic(auto, unfolding(crate::specs::Spelling::spelling, crate::specs::Spelling::leaf_spelling))]
+pub fn spell(op: &Op<'_>, out: &mut Vec<u8>) -> Result<(), AllocError>
+    requires { HasSpelling (view op.now) }
+    ensures ok { OnOk result (out.new.items ≡ out.old.items ++ spelling (view op.now)) }
+    ensures err { OnErr result (out.new.items ≡ out.old.items) }
+{
+    match op {
+        Op::SetChar(character) => append_char(out, *character),
+        Op::PutChar(character) => append_coded(out, 132, size_of_code(*character), *character),
+        Op::SetRule { height, width } => append_rule(out, 132, *height, *width),
+        Op::PutRule { height, width } => append_rule(out, 137, *height, *width),
+        Op::Nop => append(out, &[&[138]]),
+        Op::Bop { counts, pointer } => append_bop(out, counts, *pointer),
+        Op::Eop => append(out, &[&[140]]),
+        Op::Push => append(out, &[&[141]]),
+        Op::Pop => append(out, &[&[142]]),
+        Op::Right(amount) => append_signed(out, 142, *amount),
+        Op::W0 => append(out, &[&[147]]),
+        Op::W(amount) => append_signed(out, 147, *amount),
+        Op::X0 => append(out, &[&[152]]),
+        Op::X(amount) => append_signed(out, 152, *amount),
+        Op::Down(amount) => append_signed(out, 156, *amount),
+        Op::Y0 => append(out, &[&[161]]),
+        Op::Y(amount) => append_signed(out, 161, *amount),
+        Op::Z0 => append(out, &[&[166]]),
+        Op::Z(amount) => append_signed(out, 166, *amount),
+        Op::FontNum(font) => append_font(out, *font),
+        Op::Xxx(text) => append_text(out, text),
+        Op::FontDef(font) => append_definition(out, font),
+        Op::Pre { id, units, comment } => append_pre(out, *id, units, comment),
+        Op::Post(post) => append_post(out, post),
+        Op::PostPost { place, id } => append(out, &[&[249], &word(*place), &[*id]]),
+    }
+}
