@@ -6,3 +6,4 @@ mod spelling;
 
 pub use op::{FontDefinition, Op, Postamble, Units};
 pub use spelling::spell;
+pub mod page_body;
