@@ -5,4 +5,7 @@ pub mod Spelling
 pub mod Body
 pub mod Forest
 pub mod Walk
+pub mod Tokens
+pub mod Fonts
+pub mod File
 pub mod Examples
