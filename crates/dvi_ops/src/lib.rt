@@ -6,4 +6,5 @@ mod spelling;
 
 pub use op::{FontDefinition, Op, Postamble, Units};
 pub use spelling::spell;
+pub mod dvi_file;
 pub mod page_body;
