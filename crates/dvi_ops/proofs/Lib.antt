@@ -1,3 +1,4 @@
 pub mod Operands
 pub mod Forests
 pub mod ExampleFiles
+pub mod Appends
