@@ -2,3 +2,4 @@ pub mod Operands
 pub mod Forests
 pub mod ExampleFiles
 pub mod Appends
+pub mod Frames
