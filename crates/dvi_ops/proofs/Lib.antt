@@ -1,2 +1,5 @@
 pub mod Forests
 pub mod Operands
+pub mod ExampleFiles
+pub mod Appends
+pub mod Frames

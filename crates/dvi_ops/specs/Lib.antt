@@ -6,3 +6,6 @@ pub mod Walk
 pub mod Examples
 pub mod View
 pub mod Spelling
+pub mod Tokens
+pub mod Fonts
+pub mod File
