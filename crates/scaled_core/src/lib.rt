@@ -5,6 +5,7 @@
 
 pub mod dimen;
 pub mod fault;
+pub mod laws;
 mod reading;
 mod rounding;
 mod units;
