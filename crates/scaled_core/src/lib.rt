@@ -4,5 +4,12 @@
 #![tactic(auto)]
 
 pub mod dimen;
+pub mod fault;
+pub mod laws;
+mod reading;
+mod rounding;
+mod units;
 
 pub use dimen::Dimen;
+pub use fault::DimenFault;
+pub use reading::parse_dimen;
