@@ -1,11 +1,18 @@
 -- Sums and greatest sizes over a list that has one more node.
 use Rattle.std.proofs.Common.{◌≡◌, ℕ, ◌+◌, ◌<◌, List, [], ◌∷◌, ◌++◌, length, take, get_or, refl, ap, arith, sym, ◌∙◌, subst}
-use Rattle.std.specs.Prelude.{ℤ, pos, ◌+ℤ◌, ◌≤ℤ◌}
+use Rattle.std.specs.Prelude.{ℤ, pos, negsuc, ◌+ℤ◌, ◌≤ℤ◌, true}
 use Rattle.std.specs.Int.{int_max}
 use Rattle.std.proofs.lemmas.Int.{ints, clamps}
 use Rattle.std.proofs.lemmas.List.{take_more}
+use Rattle.std.proofs.lemmas.Bool.{lt-ltb, le-leb}
+use Rattle.scaled_core.specs.Dimensions.{Within}
 use Rattle.node_core.specs.declared.tree.Node.{Node}
-use Rattle.job_core.specs.Packing.{total, greatest}
+use Rattle.job_core.specs.Packing.{fits, total, greatest}
+
+-- What is within the bounds of a dimension fits.
+pub dimension_fits : (z : ℤ) → Within 1073741823 z → fits z ≡ true
+dimension_fits (pos n) within = le-leb n 1073741823 (omega (arith, ints, within.high))
+dimension_fits (negsuc n) within = lt-ltb n 1073741823 (omega (arith, ints, within.low))
 
 pub total-append : (size : Node → ℤ) (xs ys : List Node) → total size (xs ++ ys) ≡ total size xs +ℤ total size ys
 total-append size [] ys = omega (arith, ints)

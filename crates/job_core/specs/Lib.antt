@@ -6,3 +6,5 @@ pub mod Marks
 pub mod Reply
 pub mod Machine
 pub mod StateCode
+pub mod Drawing
+pub mod Placing

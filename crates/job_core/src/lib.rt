@@ -7,6 +7,7 @@ pub mod font_file;
 mod kept;
 mod nest;
 mod pack;
+mod plan;
 mod registers;
 
 pub use command::{Answer, Command, Refusal, Register, Reply, Sizes, Summary};
