@@ -1,2 +1,3 @@
 pub mod Sums
 pub mod Drawings
+pub mod Places

@@ -1,6 +1,6 @@
 //! From a box to the instructions that draw it (TeX: The Program, part 32).
 
-ghost use Rattle.std.specs.Prelude.{◌≡◌, ◌+ℤ◌, ◌-ℤ◌, ◌++◌, [], ◌∷◌, ℤ, pos, List, map, not, true, Option, Some, None, is_some, if◌then◌else◌, IfOk, OnOk, OnErr, IfSome};
+ghost use Rattle.std.specs.Prelude.{◌≡◌, ◌+ℤ◌, ◌-ℤ◌, ◌++◌, [], ◌∷◌, ℤ, pos, List, map, not, true, false, Option, Some, None, is_some, if◌then◌else◌, IfOk, OnOk, OnErr, IfSome};
 ghost use Rattle.std.specs.List.{list_all};
 ghost use Rattle.dvi_ops.specs.Body.{Mark};
 ghost use Rattle.dvi_ops.specs.Forest.{Forest, flat};
@@ -8,8 +8,9 @@ ghost use Rattle.dvi_ops.specs.Instruction.{Across, Downward, Do, SetRule};
 ghost use Rattle.dvi_ops.specs.View.{view};
 ghost use Rattle.node_core.specs.Nodes.{nodes_of};
 ghost use Rattle.job_core.specs.Packing.{fits, advance};
-ghost use Rattle.job_core.specs.Marks.{size_in, rule_mark, mark_of, marks_of_box, numbers_of, numbers_behind};
-ghost use Rattle.job_core.specs.Drawing.{drawn};
+ghost use Rattle.job_core.specs.Marks.{size_in, rule_mark, mark_of, marks_of_box, numbers_of, numbers_behind, is_huge};
+ghost use Rattle.job_core.specs.Drawing.{drawn, body_of};
+ghost use Rattle.job_core.specs.Machine.{page_of};
 ghost use Rattle.job_core.specs.Placing.{marks_in, makes, movement, unless_zero};
 ghost use Rattle.node_core.specs.declared.tree.Node.TheVariants as nodes;
 
@@ -201,4 +202,51 @@ impl Drawing {
             Some(mark) => self.draw_rule(mark),
         }
     }
+}
+
+/// Whether the numbers of all items fit, where the list begins at a point.
+fn all_fit(shown: &BoxNode, h: Dimen, v: Dimen) -> bool
+    ensures { result ≡ list_all fits (numbers_behind shown.now h v [] (nodes_of shown.now.list)) }
+{
+    let mut place = h;
+    for node in shown.list.as_slice() {
+        let Some(item) = place_item(shown, place, v, node) else {
+            return false;
+        };
+        place = item.next;
+    }
+    true
+}
+
+/// Whether the page of a box is huge.
+#[tactic(auto, unfolding(crate::specs::Marks::is_huge))]
+pub fn makes_huge_page(shown: &BoxNode) -> bool
+    ensures { result ≡ is_huge (page_of shown.now) }
+{
+    if sum(shown.height, shown.depth).is_none() {
+        return true;
+    }
+    if sum(Dimen::ZERO, shown.width).is_none() {
+        return true;
+    }
+    !all_fit(shown, Dimen::ZERO, shown.height)
+}
+
+/// The instructions that draw the page of a box.
+#[tactic(auto, unfolding(crate::specs::Drawing::body_of))]
+pub fn plan(alloc: Global, shown: &BoxNode) -> Result<Vec<Op<'static>>, AllocError>
+    requires { is_huge (page_of shown.now) ≡ false }
+    ensures { IfOk result (λ ops. map view ops.items ≡ flat (body_of (page_of shown.now))) }
+{
+    let v = shown.height;
+    let mut place = Dimen::ZERO;
+    let mut drawing = Drawing::new(alloc);
+    for node in shown.list.as_slice() {
+        let Some(item) = place_item(shown, place, v, node) else {
+            unreachable!();
+        };
+        drawing.draw(item.mark)?;
+        place = item.next;
+    }
+    Ok(drawing.ops)
 }
