@@ -2,3 +2,4 @@ pub mod Instruction
 pub mod Table
 pub mod View
 pub mod Spelling
+pub mod Reading
