@@ -1,2 +1,4 @@
 pub mod Operands
 pub mod Numbers
+pub mod Fronts
+pub mod SpellsRead
