@@ -2,3 +2,4 @@ pub mod Operands
 pub mod Numbers
 pub mod Fronts
 pub mod SpellsRead
+pub mod ReadSpells
