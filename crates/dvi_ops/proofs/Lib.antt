@@ -3,3 +3,7 @@ pub mod Operands
 pub mod ExampleFiles
 pub mod Appends
 pub mod Frames
+pub mod Numbers
+pub mod Fronts
+pub mod SpellsRead
+pub mod ReadSpells

@@ -9,3 +9,4 @@ pub mod Spelling
 pub mod Tokens
 pub mod Fonts
 pub mod File
+pub mod Reading

@@ -1,10 +1,13 @@
 //! The instructions of a DVI file: their table, the page body and the file as definitions, and the calls that spell and read one instruction.
 #![tactic(auto)]
 
+mod fault;
 pub mod op;
 pub mod page_body;
+mod reading;
 mod spelling;
 
+pub use fault::OpFault;
 pub use op::{FontDefinition, Op, Postamble, Units};
 pub use spelling::spell;
 

@@ -1,0 +1,347 @@
+//! The instruction at the front of some bytes.
+
+ghost use Rattle.std.specs.Prelude.{◌≡◌, ◌≤◌, ◌<◌, ◌+◌, ◌-◌, ◌++◌, ◌^◌, [], ◌∷◌, length, pos, OnOk, OnErr, option_map};
+ghost use Rattle.byteorder.specs.Endian.{big_number};
+ghost use Rattle.dvi_ops.specs.Instruction.{Across, Downward};
+ghost use Rattle.dvi_ops.specs.Reading.{bop_at, char_at, code_at, comment_at, definition_at, font_at, frame_at, half_at, halves_at, long_at, movement_at, names_at, plain_at, post_at, post_post_at, pre_at, read, signed_at, text_at, three_at, two_at, words};
+ghost use Rattle.dvi_ops.specs.Table.{code, signed};
+ghost use Rattle.dvi_ops.specs.View.{definition as view_definition, view};
+
+use byteorder::{BigEndian, ByteOrder};
+
+use crate::op::{FontDefinition, Op, Postamble, Units};
+
+// What the bytes say as a signed number.
+fn signed_of(operand: &[u8]) -> i32
+    requires low { 1 ≤ length operand.now }
+    requires high { length operand.now ≤ 4 }
+    ensures { result ≡ signed (length operand.now) operand.now }
+{
+    BigEndian::read_int(operand, operand.len()) as i32
+}
+
+// The number of a character or of a font.
+fn code_of(operand: &[u8]) -> i32
+    requires low { 1 ≤ length operand.now }
+    requires high { length operand.now ≤ 4 }
+    ensures { result ≡ code (length operand.now) operand.now }
+{
+    if operand.len() == 4 {
+        return signed_of(operand);
+    }
+    BigEndian::read_uint(operand, operand.len()) as i32
+}
+
+// A signed number of `size` bytes, and what is behind it.
+#[tactic(auto, unfolding(crate::specs::Reading::signed_at))]
+fn signed_number(bytes: &[u8], size: usize) -> Option<(i32, &[u8])>
+    requires low { 1 ≤ size }
+    requires high { size ≤ 4 }
+    ensures { option_map (λ found. (found.0, found.1.now)) result ≡ signed_at size bytes.now }
+{
+    let (operand, rest) = bytes.split_at_checked(size)?;
+    Some((signed_of(operand), rest))
+}
+
+// The number of a character or of a font, of `size` bytes, and what is behind it.
+#[tactic(auto, unfolding(crate::specs::Reading::code_at))]
+fn code_number(bytes: &[u8], size: usize) -> Option<(i32, &[u8])>
+    requires low { 1 ≤ size }
+    requires high { size ≤ 4 }
+    ensures { option_map (λ found. (found.0, found.1.now)) result ≡ code_at size bytes.now }
+{
+    let (operand, rest) = bytes.split_at_checked(size)?;
+    Some((code_of(operand), rest))
+}
+
+// A number of two bytes, and what is behind it.
+#[tactic(auto, unfolding(crate::specs::Reading::half_at))]
+fn half(bytes: &[u8]) -> Option<(u16, &[u8])>
+    ensures { option_map (λ found. (found.0, found.1.now)) result ≡ half_at bytes.now }
+{
+    let (operand, rest) = bytes.split_at_checked(2)?;
+    Some((BigEndian::read_u16(operand), rest))
+}
+
+// A character, by its code from 0 to 131.
+#[tactic(auto, unfolding(crate::specs::Reading::char_at))]
+fn character(operation: u8, rest: &[u8]) -> Option<(Op<'_>, &[u8])>
+    requires { operation ≤ 131 }
+    ensures { option_map (λ found. (view found.0, found.1.now)) result ≡ char_at operation rest.now }
+{
+    if operation < 128 {
+        return Some((Op::SetChar(i32::from(operation)), rest));
+    }
+    let (number, rest) = code_number(rest, usize::from(operation - 127))?;
+    Some((Op::SetChar(number), rest))
+}
+
+// Two numbers of four bytes, and what is behind them.
+#[tactic(auto, unfolding(crate::specs::Reading::two_at))]
+fn two(bytes: &[u8]) -> Option<((i32, i32), &[u8])>
+    ensures { option_map (λ found. ((found.0.0, found.0.1), found.1.now)) result ≡ two_at bytes.now }
+{
+    let (first, rest) = signed_number(bytes, 4)?;
+    let (second, rest) = signed_number(rest, 4)?;
+    Some(((first, second), rest))
+}
+
+// Three numbers of four bytes, and what is behind them.
+#[tactic(auto, unfolding(crate::specs::Reading::three_at))]
+fn three(bytes: &[u8]) -> Option<((i32, i32, i32), &[u8])>
+    ensures { option_map (λ found. ((found.0.0, found.0.1, found.0.2), found.1.now)) result ≡ three_at bytes.now }
+{
+    let (first, rest) = signed_number(bytes, 4)?;
+    let ((second, third), rest) = two(rest)?;
+    Some(((first, second, third), rest))
+}
+
+// Two numbers of two bytes, and what is behind them.
+#[tactic(auto, unfolding(crate::specs::Reading::halves_at))]
+fn halves(bytes: &[u8]) -> Option<((u16, u16), &[u8])>
+    ensures { option_map (λ found. ((found.0.0, found.0.1), found.1.now)) result ≡ halves_at bytes.now }
+{
+    let (first, rest) = half(bytes)?;
+    let (second, rest) = half(rest)?;
+    Some(((first, second), rest))
+}
+
+// The ten counts of a page.
+fn counts_of(operand: &[u8]) -> [i32; 10]
+    requires { length operand.now ≡ 40 }
+    ensures { result ≡ words 10 operand.now }
+{
+    let mut counts = [0; 10];
+    BigEndian::read_i32_into(operand, &mut counts);
+    counts
+}
+
+// The beginning of a page, behind its code.
+#[tactic(auto, unfolding(crate::specs::Reading::bop_at))]
+fn bop(bytes: &[u8]) -> Option<(Op<'_>, &[u8])>
+    ensures { option_map (λ found. (view found.0, found.1.now)) result ≡ bop_at bytes.now }
+{
+    let (operand, rest) = bytes.split_at_checked(40)?;
+    let counts = counts_of(operand);
+    let (pointer, rest) = signed_number(rest, 4)?;
+    Some((Op::Bop { counts, pointer }, rest))
+}
+
+// Rules, put, nop, bop, eop, push and pop, by their code from 132 to 142.
+#[tactic(auto, unfolding(crate::specs::Reading::plain_at))]
+fn plain(operation: u8, rest: &[u8]) -> Option<(Op<'_>, &[u8])>
+    requires low { 132 ≤ operation }
+    requires high { operation ≤ 142 }
+    ensures { option_map (λ found. (view found.0, found.1.now)) result ≡ plain_at operation rest.now }
+{
+    match operation {
+        132 => {
+            let ((height, width), rest) = two(rest)?;
+            Some((Op::SetRule { height, width }, rest))
+        }
+        133..=136 => {
+            let (number, rest) = code_number(rest, usize::from(operation - 132))?;
+            Some((Op::PutChar(number), rest))
+        }
+        137 => {
+            let ((height, width), rest) = two(rest)?;
+            Some((Op::PutRule { height, width }, rest))
+        }
+        138 => Some((Op::Nop, rest)),
+        139 => bop(rest),
+        140 => Some((Op::Eop, rest)),
+        141 => Some((Op::Push, rest)),
+        _ => Some((Op::Pop, rest)),
+    }
+}
+
+// Movements to the right, by their code from 143 to 156.
+#[tactic(auto, unfolding(crate::specs::Reading::movement_at))]
+fn across(operation: u8, rest: &[u8]) -> Option<(Op<'_>, &[u8])>
+    requires low { 143 ≤ operation }
+    requires high { operation ≤ 156 }
+    ensures { option_map (λ found. (view found.0, found.1.now)) result ≡ movement_at Across (operation - 142) rest.now }
+{
+    match operation {
+        143..=146 => {
+            let (amount, rest) = signed_number(rest, usize::from(operation - 142))?;
+            Some((Op::Right(amount), rest))
+        }
+        147 => Some((Op::W0, rest)),
+        148..=151 => {
+            let (amount, rest) = signed_number(rest, usize::from(operation - 147))?;
+            Some((Op::W(amount), rest))
+        }
+        152 => Some((Op::X0, rest)),
+        _ => {
+            let (amount, rest) = signed_number(rest, usize::from(operation - 152))?;
+            Some((Op::X(amount), rest))
+        }
+    }
+}
+
+// Movements down, by their code from 157 to 170.
+#[tactic(auto, unfolding(crate::specs::Reading::movement_at))]
+fn down(operation: u8, rest: &[u8]) -> Option<(Op<'_>, &[u8])>
+    requires low { 157 ≤ operation }
+    requires high { operation ≤ 170 }
+    ensures { option_map (λ found. (view found.0, found.1.now)) result ≡ movement_at Downward (operation - 156) rest.now }
+{
+    match operation {
+        157..=160 => {
+            let (amount, rest) = signed_number(rest, usize::from(operation - 156))?;
+            Some((Op::Down(amount), rest))
+        }
+        161 => Some((Op::Y0, rest)),
+        162..=165 => {
+            let (amount, rest) = signed_number(rest, usize::from(operation - 161))?;
+            Some((Op::Y(amount), rest))
+        }
+        166 => Some((Op::Z0, rest)),
+        _ => {
+            let (amount, rest) = signed_number(rest, usize::from(operation - 166))?;
+            Some((Op::Z(amount), rest))
+        }
+    }
+}
+
+// The selection of a font, by its code from 171 to 238.
+#[tactic(auto, unfolding(crate::specs::Reading::font_at))]
+fn font(operation: u8, rest: &[u8]) -> Option<(Op<'_>, &[u8])>
+    requires low { 171 ≤ operation }
+    requires high { operation ≤ 238 }
+    ensures { option_map (λ found. (view found.0, found.1.now)) result ≡ font_at operation rest.now }
+{
+    if operation < 235 {
+        return Some((Op::FontNum(i32::from(operation - 171)), rest));
+    }
+    let (number, rest) = code_number(rest, usize::from(operation - 234))?;
+    Some((Op::FontNum(number), rest))
+}
+
+// A special whose length has `size` bytes.
+#[tactic(auto, unfolding(crate::specs::Reading::text_at))]
+fn text(bytes: &[u8], size: usize) -> Option<(Op<'_>, &[u8])>
+    requires low { 1 ≤ size }
+    requires high { size ≤ 4 }
+    ensures { option_map (λ found. (view found.0, found.1.now)) result ≡ text_at size bytes.now }
+{
+    let (count, rest) = bytes.split_at_checked(size)?;
+    let count = BigEndian::read_uint(count, size) as usize;
+    let (text, rest) = rest.split_at_checked(count)?;
+    Some((Op::Xxx(text), rest))
+}
+
+// The two parts of a font's name behind their lengths.
+#[tactic(auto, unfolding(crate::specs::Reading::names_at))]
+fn names(bytes: &[u8]) -> Option<((&[u8], &[u8]), &[u8])>
+    ensures { option_map (λ found. ((found.0.0.now, found.0.1.now), found.1.now)) result ≡ names_at bytes.now }
+{
+    let (area_length, rest) = bytes.split_first()?;
+    let (name_length, rest) = rest.split_first()?;
+    let (area, rest) = rest.split_at_checked(usize::from(*area_length))?;
+    let (name, rest) = rest.split_at_checked(usize::from(*name_length))?;
+    Some(((area, name), rest))
+}
+
+// A font definition whose number has `size` bytes.
+#[tactic(auto, unfolding(crate::specs::Reading::definition_at))]
+fn definition(bytes: &[u8], size: usize) -> Option<(FontDefinition<'_>, &[u8])>
+    requires low { 1 ≤ size }
+    requires high { size ≤ 4 }
+    ensures { option_map (λ found. (view_definition found.0, found.1.now)) result ≡ definition_at size bytes.now }
+{
+    let (number, rest) = code_number(bytes, size)?;
+    let ((check_sum, size, design_size), rest) = three(rest)?;
+    let ((area, name), rest) = names(rest)?;
+    let font = FontDefinition { number, check_sum, size, design_size, area, name };
+    Some((font, rest))
+}
+
+// A special or a font definition, by its code from 239 to 246.
+#[tactic(auto, unfolding(crate::specs::Reading::long_at))]
+fn long(operation: u8, rest: &[u8]) -> Option<(Op<'_>, &[u8])>
+    requires low { 239 ≤ operation }
+    requires high { operation ≤ 246 }
+    ensures { option_map (λ found. (view found.0, found.1.now)) result ≡ long_at operation rest.now }
+{
+    if operation < 243 {
+        return text(rest, usize::from(operation - 238));
+    }
+    let (font, rest) = definition(rest, usize::from(operation - 242))?;
+    Some((Op::FontDef(font), rest))
+}
+
+// A text behind its length of one byte.
+#[tactic(auto, unfolding(crate::specs::Reading::comment_at))]
+fn comment(bytes: &[u8]) -> Option<(&[u8], &[u8])>
+    ensures { option_map (λ found. (found.0.now, found.1.now)) result ≡ comment_at bytes.now }
+{
+    let (count, rest) = bytes.split_first()?;
+    rest.split_at_checked(usize::from(*count))
+}
+
+// The preamble, behind its code.
+#[tactic(auto, unfolding(crate::specs::Reading::pre_at))]
+fn pre(bytes: &[u8]) -> Option<(Op<'_>, &[u8])>
+    ensures { option_map (λ found. (view found.0, found.1.now)) result ≡ pre_at bytes.now }
+{
+    let (id, rest) = bytes.split_first()?;
+    let ((num, den, mag), rest) = three(rest)?;
+    let (comment, rest) = comment(rest)?;
+    Some((Op::Pre { id: *id, units: Units { num, den, mag }, comment }, rest))
+}
+
+// The beginning of the postamble, behind its code.
+#[tactic(auto, unfolding(crate::specs::Reading::post_at))]
+fn post(bytes: &[u8]) -> Option<(Op<'_>, &[u8])>
+    ensures { option_map (λ found. (view found.0, found.1.now)) result ≡ post_at bytes.now }
+{
+    let (last_bop, rest) = signed_number(bytes, 4)?;
+    let ((num, den, mag), rest) = three(rest)?;
+    let ((height_plus_depth, width), rest) = two(rest)?;
+    let ((stack_depth, pages), rest) = halves(rest)?;
+    let units = Units { num, den, mag };
+    Some((Op::Post(Postamble { last_bop, units, height_plus_depth, width, stack_depth, pages }), rest))
+}
+
+// The end of the postamble, behind its code.
+#[tactic(auto, unfolding(crate::specs::Reading::post_post_at))]
+fn post_post(bytes: &[u8]) -> Option<(Op<'_>, &[u8])>
+    ensures { option_map (λ found. (view found.0, found.1.now)) result ≡ post_post_at bytes.now }
+{
+    let (place, rest) = signed_number(bytes, 4)?;
+    let (id, rest) = rest.split_first()?;
+    Some((Op::PostPost { place, id: *id }, rest))
+}
+
+// What stands around the pages, by its code from 247.
+#[tactic(auto, unfolding(crate::specs::Reading::frame_at))]
+fn frame(operation: u8, rest: &[u8]) -> Option<(Op<'_>, &[u8])>
+    requires { 247 ≤ operation }
+    ensures { option_map (λ found. (view found.0, found.1.now)) result ≡ frame_at operation rest.now }
+{
+    match operation {
+        247 => pre(rest),
+        248 => post(rest),
+        249 => post_post(rest),
+        _ => None,
+    }
+}
+
+// The instruction at the front of some bytes, and the bytes behind it.
+#[tactic(auto, unfolding(crate::specs::Reading::read))]
+fn front(bytes: &[u8]) -> Option<(Op<'_>, &[u8])>
+    ensures { option_map (λ found. (view found.0, found.1.now)) result ≡ read bytes.now }
+{
+    let (operation, rest) = bytes.split_first()?;
+    match *operation {
+        0..=131 => character(*operation, rest),
+        132..=142 => plain(*operation, rest),
+        143..=156 => across(*operation, rest),
+        157..=170 => down(*operation, rest),
+        171..=238 => font(*operation, rest),
+        239..=246 => long(*operation, rest),
+        247..=255 => frame(*operation, rest),
+    }
+}
