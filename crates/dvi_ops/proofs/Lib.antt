@@ -4,3 +4,4 @@ pub mod ExampleFiles
 pub mod Appends
 pub mod Frames
 pub mod SameMeaning
+pub mod Layouts
