@@ -7,3 +7,5 @@ pub mod Numbers
 pub mod Fronts
 pub mod SpellsRead
 pub mod ReadSpells
+pub mod SameMeaning
+pub mod Layouts

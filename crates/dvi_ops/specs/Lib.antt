@@ -10,3 +10,5 @@ pub mod Tokens
 pub mod Fonts
 pub mod File
 pub mod Reading
+pub mod Layout
+pub mod Examples

@@ -5,6 +5,9 @@ mod fault;
 pub mod op;
 pub mod page_body;
 mod reading;
+pub mod dvi_file;
+pub mod op;
+pub mod page_body;
 mod spelling;
 
 pub use fault::OpFault;
