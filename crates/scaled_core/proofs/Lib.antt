@@ -1,3 +1,4 @@
 pub mod DigitLemmas
 pub mod ReadingLemmas
 pub mod TextLaws
+pub mod ReadingCases
