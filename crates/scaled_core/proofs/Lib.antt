@@ -2,3 +2,4 @@ pub mod DigitLemmas
 pub mod ReadingLemmas
 pub mod TextLaws
 pub mod ReadingCases
+pub mod PrintingLemmas
