@@ -3,3 +3,4 @@ pub mod ReadingLemmas
 pub mod TextLaws
 pub mod ReadingCases
 pub mod PrintingLemmas
+pub mod PrintedTexts

@@ -11,7 +11,7 @@ abbrev pub spread : ℕ → ℕ → ℕ
 spread places f = 10 ^ places * (10 * f + 5)
 
 -- five places always read back
-reads_back-5 : (f : ℕ) → reads_back f 5 ≡ true
+pub reads_back-5 : (f : ℕ) → reads_back f 5 ≡ true
 unfolding reads_back nearest_decimal nearest
 reads_back-5 f = eq-eqb _ f (omega arith)
 
@@ -85,29 +85,29 @@ rest-spread places f rest e = let s = spread-suc places f in omega arith
 abbrev pub NoneUpTo : ℕ → ℕ → Type 0
 NoneUpTo places f = (fewer : ℕ) → 0 < fewer → fewer ≤ places → reads_back f fewer ≡ false
 
-none_more : (places f : ℕ) → NoneUpTo places f → reads_back f (suc places) ≡ false → NoneUpTo (suc places) f
+pub none_more : (places f : ℕ) → NoneUpTo places f → reads_back f (suc places) ≡ false → NoneUpTo (suc places) f
 none_more places f none here fewer positive le = ⊎_elim
     (λ (low : fewer < suc places). none fewer positive (omega arith))
     (λ (high : suc places ≤ fewer). let e : fewer ≡ suc places = omega arith in rw e here)
     (cases_lt fewer (suc places))
 
-places-1 : (f : ℕ) → reads_back f 1 ≡ true → fraction_places f ≡ 1
+pub places-1 : (f : ℕ) → reads_back f 1 ≡ true → fraction_places f ≡ 1
 unfolding fraction_places
 places-1 f here = rw here refl
 
-places-2 : (f : ℕ) → NoneUpTo 1 f → reads_back f 2 ≡ true → fraction_places f ≡ 2
+pub places-2 : (f : ℕ) → NoneUpTo 1 f → reads_back f 2 ≡ true → fraction_places f ≡ 2
 unfolding fraction_places
 places-2 f none here = rw (none 1 (omega arith) (omega arith), here) refl
 
-places-3 : (f : ℕ) → NoneUpTo 2 f → reads_back f 3 ≡ true → fraction_places f ≡ 3
+pub places-3 : (f : ℕ) → NoneUpTo 2 f → reads_back f 3 ≡ true → fraction_places f ≡ 3
 unfolding fraction_places
 places-3 f none here = rw (none 1 (omega arith) (omega arith), none 2 (omega arith) (omega arith), here) refl
 
-places-4 : (f : ℕ) → NoneUpTo 3 f → reads_back f 4 ≡ true → fraction_places f ≡ 4
+pub places-4 : (f : ℕ) → NoneUpTo 3 f → reads_back f 4 ≡ true → fraction_places f ≡ 4
 unfolding fraction_places
 places-4 f none here = rw (none 1 (omega arith) (omega arith), none 2 (omega arith) (omega arith), none 3 (omega arith) (omega arith), here) refl
 
-places-5 : (f : ℕ) → NoneUpTo 4 f → fraction_places f ≡ 5
+pub places-5 : (f : ℕ) → NoneUpTo 4 f → fraction_places f ≡ 5
 unfolding fraction_places
 places-5 f none = rw (none 1 (omega arith) (omega arith), none 2 (omega arith) (omega arith), none 3 (omega arith) (omega arith), none 4 (omega arith) (omega arith)) refl
 

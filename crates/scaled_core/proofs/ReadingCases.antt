@@ -1,7 +1,7 @@
 -- What reading a text gives, case by case.
 use Rattle.std.proofs.Common.{◌≡◌, ℕ, ℤ, pos, negsuc, neg_ℤ, ◌≤ℤ◌, ◌≤◌, Bool, true, false, List, Option, Some, None, Result, Ok, Err, ◌⊎◌, ⊎_elim, inl, inr, leb, ◌↔◌, subst, sym, ◌∙◌, ap, refl, arith, unsigned_abs}
 use Rattle.std.specs.Result.{IfOk}
-use Rattle.std.proofs.lemmas.Bool.{leb-true, leb-false, cases_Bool}
+use Rattle.std.proofs.lemmas.Bool.{leb-true, le-leb, leb-false, cases_Bool}
 use Rattle.std.proofs.lemmas.Int.{ints}
 use Rattle.scaled_core.specs.declared.fault.DimenFault.{DimenFault}
 use Rattle.scaled_core.specs.declared.fault.DimenFault.TheVariants.{TooLarge, NotADimension}
@@ -44,6 +44,10 @@ fitted-yes z e = rw e refl
 fitted-no : (z : ℤ) → leb (unsigned_abs z) 1073741823 ≡ false → fitted (Some z) ≡ Err TooLarge
 unfolding fitted
 fitted-no z e = rw e refl
+
+-- a value that fits is read
+pub fitted-fits : (z : ℤ) → Fits z → fitted (Some z) ≡ Ok z
+fitted-fits z fits = fitted-yes z (le-leb _ _ (abs-le_from_fits z fits))
 
 fitted-nothing : fitted None ≡ Err NotADimension
 unfolding fitted
