@@ -29,8 +29,8 @@ prefix_len_step c xs e = rw e (one-add (prefix_len is_ascii_digit xs))
 prefix_len-digits : (xs ys : List ℕ) → all_ascii_digits xs ≡ true → NoDigitFirst ys → prefix_len is_ascii_digit (xs ++ ys) ≡ length xs
 prefix_len-digits [] ys h none = none
 prefix_len-digits (c ∷ cs) ys h none =
-  let p = and_parts (is_ascii_digit c) (all_ascii_digits cs) h in
-  prefix_len_step c (cs ++ ys) p.0 ∙ ap suc (prefix_len-digits cs ys p.1 none)
+    let p = and_parts (is_ascii_digit c) (all_ascii_digits cs) h in
+    prefix_len_step c (cs ++ ys) p.0 ∙ ap suc (prefix_len-digits cs ys p.1 none)
 
 -- digits are read whole where no digit follows
 pub front_digits-append : (xs ys : List ℕ) → all_ascii_digits xs ≡ true → NoDigitFirst ys → front_digits (xs ++ ys) ≡ xs
@@ -138,8 +138,8 @@ body-no_sign : (whole : List ℕ) (fraction : Option (List ℕ)) (u : LengthUnit
 body-no_sign [] None u h = unit-no_sign u
 body-no_sign [] (Some ds) u h = no_sign 46 (ds ++ unit_text u) (omega arith) (omega arith)
 body-no_sign (c ∷ cs) fraction u h =
-  let r = digit_code c (and_parts (is_ascii_digit c) (all_ascii_digits cs) h).0 in
-  no_sign c (cs ++ (fraction_text fraction ++ unit_text u)) (omega arith) (omega arith)
+    let r = digit_code c (and_parts (is_ascii_digit c) (all_ascii_digits cs) h).0 in
+    no_sign c (cs ++ (fraction_text fraction ++ unit_text u)) (omega arith) (omega arith)
 
 -- the sign is a minus
 abbrev is_minus : Sign → Bool
@@ -176,21 +176,20 @@ measured-some negative (c ∷ cs) fraction u h = rw (ne_eqb (suc (length cs)) 0 
 pub dimension_value-parts : (p : DimensionParts) → all_ascii_digits p.whole ≡ true → all_ascii_digits (fraction_digits p.fraction) ≡ true → 0 < length p.whole + length (fraction_digits p.fraction) → dimension_value (parts_text p) ≡ Some (parts_value p)
 unfolding dimension_value
 dimension_value-parts p w f some =
-  let rest = fraction_text p.fraction ++ unit_text p.unit in
-  let body = p.whole ++ rest in
-  let no_sign_first = body-no_sign p.whole p.fraction p.unit w in
-  let no_digit = fraction-no_digit p.fraction p.unit in
-  let number : behind_sign (parts_text p) ≡ body = behind_sign-text p.sign body no_sign_first in
-  let front : front_digits (behind_sign (parts_text p)) ≡ p.whole = ap front_digits number ∙ front_digits-append p.whole rest w no_digit in
-  let behind : behind_digits (behind_sign (parts_text p)) ≡ rest = ap behind_digits number ∙ behind_digits-append p.whole rest w no_digit in
-  let points : point_digits (behind_digits (behind_sign (parts_text p))) ≡ fraction_digits p.fraction = ap point_digits behind ∙ point_digits-text p.fraction p.unit f in
-  let unit : unit_named (behind_fraction (behind_digits (behind_sign (parts_text p)))) ≡ Some p.unit = ap unit_named (ap behind_fraction behind ∙ behind_fraction-text p.fraction p.unit f) ∙ unit_named-text p.unit in
-  rw (is_negative-text p.sign body no_sign_first, front, points, unit) (measured-some (is_minus p.sign) p.whole (fraction_digits p.fraction) p.unit some ∙ ap Some (with_minus-sign p.sign (scaled_points p.unit (digits_value 10 p.whole) (decimal_fraction (fraction_digits p.fraction)))))
+    let rest = fraction_text p.fraction ++ unit_text p.unit in
+    let body = p.whole ++ rest in
+    let no_sign_first = body-no_sign p.whole p.fraction p.unit w in
+    let no_digit = fraction-no_digit p.fraction p.unit in
+    let number : behind_sign (parts_text p) ≡ body = behind_sign-text p.sign body no_sign_first in
+    let front : front_digits (behind_sign (parts_text p)) ≡ p.whole = ap front_digits number ∙ front_digits-append p.whole rest w no_digit in
+    let behind : behind_digits (behind_sign (parts_text p)) ≡ rest = ap behind_digits number ∙ behind_digits-append p.whole rest w no_digit in
+    let points : point_digits (behind_digits (behind_sign (parts_text p))) ≡ fraction_digits p.fraction = ap point_digits behind ∙ point_digits-text p.fraction p.unit f in
+    let unit : unit_named (behind_fraction (behind_digits (behind_sign (parts_text p)))) ≡ Some p.unit = ap unit_named (ap behind_fraction behind ∙ behind_fraction-text p.fraction p.unit f) ∙ unit_named-text p.unit in
+    rw (is_negative-text p.sign body no_sign_first, front, points, unit) (measured-some (is_minus p.sign) p.whole (fraction_digits p.fraction) p.unit some ∙ ap Some (with_minus-sign p.sign (scaled_points p.unit (digits_value 10 p.whole) (decimal_fraction (fraction_digits p.fraction)))))
 
 -- a dimension text has the value that the function gives
 pub dimension_value-from_text : (text : List ℕ) (value : ℤ) → IsDimensionText text value → dimension_value text ≡ Some value
 dimension_value-from_text text value d = ap dimension_value d.text_is ∙ dimension_value-parts d.parts d.whole d.fraction d.some_digit ∙ ap Some (sym d.value_is)
-
 
 -- From the text to its parts.
 
@@ -288,8 +287,8 @@ measured-no_digit negative unit = refl
 
 measured_value : (negative : Bool) (whole fraction : List ℕ) (u : LengthUnit) (value : ℤ) → 0 < length whole + length fraction → measured negative whole fraction (Some u) ≡ Some value → IsMeasured negative whole fraction (Some u) value
 measured_value negative whole fraction u value some h =
-  let e = measured-some negative whole fraction u some in
-  record { found = u; unit_is = refl; some_digit = some; value_is = cc }
+    let e = measured-some negative whole fraction u some in
+    record { found = u; unit_is = refl; some_digit = some; value_is = cc }
 
 measured_parts : (negative : Bool) (whole fraction : List ℕ) (unit : Option LengthUnit) (value : ℤ) → measured negative whole fraction unit ≡ Some value → IsMeasured negative whole fraction unit value
 measured_parts negative whole fraction None value h = let e = measured-no_unit negative whole fraction in absurd (cc)
@@ -304,16 +303,16 @@ value_by_sign negative sign whole read written u e f = rw (e, f) (with_minus-sig
 pub IsDimensionText-from_value : (text : List ℕ) (value : ℤ) → dimension_value text ≡ Some value → IsDimensionText text value
 unfolding dimension_value
 IsDimensionText-from_value text value h =
-  let number = behind_sign text in
-  let rest = behind_digits number in
-  let name = behind_fraction rest in
-  let m = measured_parts (is_negative text) (front_digits number) (point_digits rest) (unit_named name) value h in
-  let points = point_digits-at rest in
-  record {
-    parts = record { sign = sign_of text; whole = front_digits number; fraction = fraction_at rest; unit = m.found };
-    whole = front_digits-digits number;
-    fraction = rw (← points) (point_digits-digits rest);
-    some_digit = rw (← points) m.some_digit;
-    text_is = text_by_sign text ∙ ap (λ (x : List ℕ). sign_text (sign_of text) ++ x) (text_by_digits number ∙ ap (λ (x : List ℕ). front_digits number ++ x) (text_by_fraction rest ∙ ap (λ (x : List ℕ). fraction_text (fraction_at rest) ++ x) (named_text name m.found m.unit_is)));
-    value_is = m.value_is ∙ value_by_sign (is_negative text) (sign_of text) (front_digits number) (point_digits rest) (fraction_digits (fraction_at rest)) m.found (is_negative-sign_of text) points;
-  }
+    let number = behind_sign text in
+    let rest = behind_digits number in
+    let name = behind_fraction rest in
+    let m = measured_parts (is_negative text) (front_digits number) (point_digits rest) (unit_named name) value h in
+    let points = point_digits-at rest in
+    record {
+      parts = record { sign = sign_of text; whole = front_digits number; fraction = fraction_at rest; unit = m.found };
+      whole = front_digits-digits number;
+      fraction = rw (← points) (point_digits-digits rest);
+      some_digit = rw (← points) m.some_digit;
+      text_is = text_by_sign text ∙ ap (λ (x : List ℕ). sign_text (sign_of text) ++ x) (text_by_digits number ∙ ap (λ (x : List ℕ). front_digits number ++ x) (text_by_fraction rest ∙ ap (λ (x : List ℕ). fraction_text (fraction_at rest) ++ x) (named_text name m.found m.unit_is)));
+      value_is = m.value_is ∙ value_by_sign (is_negative text) (sign_of text) (front_digits number) (point_digits rest) (fraction_digits (fraction_at rest)) m.found (is_negative-sign_of text) points;
+    }

@@ -3,6 +3,7 @@ use Rattle.std.specs.Prelude.{◌≡◌, ℕ, ℤ, pos, neg_ℤ, ◌+◌, ◌*�
 use Rattle.std.specs.Str.{all_ascii_digits}
 use Rattle.std.specs.Str.Parse.{digits_value}
 use Rattle.scaled_core.specs.declared.units.LengthUnit.{LengthUnit}
+use Rattle.scaled_core.specs.Dimensions.{Fits}
 use Rattle.scaled_core.specs.Rounding.{nearest}
 use Rattle.scaled_core.specs.Units.{unit_text, scaled_points}
 
@@ -58,3 +59,13 @@ pub record IsDimensionText (text : List ℕ) (value : ℤ) : Type 0 where
   pub some_digit : 0 < length parts.whole + length (fraction_digits parts.fraction)
   pub text_is : text ≡ parts_text parts
   pub value_is : value ≡ parts_value parts
+
+-- the text writes a dimension that does not fit (own)
+pub record IsTooLargeText (text : List ℕ) : Type 0 where
+  pub value : ℤ
+  pub written : IsDimensionText text value
+  pub misfit : Fits value → ⊥
+
+-- the text writes no dimension (own)
+abbrev pub IsNoDimension : List ℕ → Type 0
+IsNoDimension text = (value : ℤ) → IsDimensionText text value → ⊥

@@ -9,5 +9,4 @@ ghost use Rattle.scaled_core.specs.ParsedTexts.{dimension_value};
 pub fn value_of_a_text()
     ensures { (text : List ℕ) → (value : ℤ) →
         (IsDimensionText text value ↔ (dimension_value text ≡ Some value)) }
-{
-}
+{}

@@ -1,13 +1,13 @@
 //! Reading dimensions.
 
-ghost use Rattle.std.specs.Prelude.{◌≡◌, ◌+◌, ◌*◌, ◌^◌, ◌<◌, ◌≤◌, ℤ, IsTrue, IfOk, length, min, unsigned_abs};
+ghost use Rattle.std.specs.Prelude.{◌≡◌, ◌↔◌, Err, ◌+◌, ◌*◌, ◌^◌, ◌<◌, ◌≤◌, ℤ, IsTrue, IfOk, length, min, unsigned_abs};
 ghost use Rattle.std.specs.Option.{SomeIff};
 ghost use Rattle.std.specs.List.{prefix_len};
 ghost use Rattle.std.specs.Char.{is_ascii_digit};
 ghost use Rattle.std.specs.Str.{all_ascii_digits};
 ghost use Rattle.std.specs.Str.Parse.{digits_value};
 ghost use Rattle.scaled_core.specs.Dimensions.{Fits};
-ghost use Rattle.scaled_core.specs.DimensionTexts.{IsDimensionText, decimal_fraction};
+ghost use Rattle.scaled_core.specs.DimensionTexts.{IsDimensionText, IsNoDimension, IsTooLargeText, decimal_fraction};
 ghost use Rattle.scaled_core.specs.Rounding.{nearest};
 ghost use Rattle.scaled_core.specs.ParsedTexts.{fitted, measured, behind_digits, behind_fraction, behind_sign, front_digits, is_negative, point_digits, read_dimension, with_minus};
 
@@ -18,8 +18,11 @@ use crate::units::LengthUnit;
 
 /// The dimension that a text writes: an optional sign, digits with at most one `.` among them (at least one digit) and, with
 /// no space before it, a unit of pt, in, pc, cm, mm, bp, dd, cc, sp (TeX: The Program, part 26, scan_dimen). Takes no memory.
-#[tactic(auto, unfolding(crate::specs::ParsedTexts::read_dimension, crate::specs::ParsedTexts::dimension_value))]
 pub fn parse_dimen(text: &[u8]) -> Result<Dimen, DimenFault>
+    ensures ok { IfOk result (λ d. IsDimensionText text.now d) }
+    ensures fits { IfOk result (λ d. Fits d) }
+    ensures too_large { (result ≡ Err DimenFault.TooLarge) ↔ IsTooLargeText text.now }
+    ensures not_a_dimension { (result ≡ Err DimenFault.NotADimension) ↔ IsNoDimension text.now }
     ensures value { result ≡ read_dimension text.now }
 {
     let (negative, number) = after_sign(text);
