@@ -37,9 +37,9 @@ pub cut_is : (n : ℕ) (bytes a x : List ℕ) → cut n bytes ≡ got a x → (b
 cut_is n bytes a x e = go (nat_le n (length bytes)) refl e where
   go : (b : Bool) → nat_le n (length bytes) ≡ b → cond b (got (take n bytes) (drop n bytes)) None ≡ got a x → (bytes ≡ a ++ x) × (length a ≡ n)
   go true t f =
-    let front : take n bytes ≡ a = same_first (take n bytes) a (drop n bytes) x f in
-    let rest : drop n bytes ≡ x = same_rest (take n bytes) a (drop n bytes) x f in
-    (rw (← front, ← rest) (sym (take-append-drop n bytes)), rw (← front) (length-take-le n bytes (leb-true n (length bytes) t)))
+      let front : take n bytes ≡ a = same_first (take n bytes) a (drop n bytes) x f in
+      let rest : drop n bytes ≡ x = same_rest (take n bytes) a (drop n bytes) x f in
+      (rw (← front, ← rest) (sym (take-append-drop n bytes)), rw (← front) (length-take-le n bytes (leb-true n (length bytes) t)))
   go false t f = cc
 
 -- what was made was made of something

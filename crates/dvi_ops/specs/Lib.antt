@@ -11,4 +11,3 @@ pub mod Fonts
 pub mod File
 pub mod Reading
 pub mod Layout
-pub mod Examples

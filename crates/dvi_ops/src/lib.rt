@@ -1,17 +1,13 @@
 //! The instructions of a DVI file: their table, the page body and the file as definitions, and the calls that spell and read one instruction.
 #![tactic(auto)]
 
+pub mod dvi_file;
 mod fault;
 pub mod op;
 pub mod page_body;
 mod reading;
-pub mod dvi_file;
-pub mod op;
-pub mod page_body;
 mod spelling;
 
 pub use fault::OpFault;
 pub use op::{FontDefinition, Op, Postamble, Units};
 pub use spelling::spell;
-
-pub mod dvi_file;

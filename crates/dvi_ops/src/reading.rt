@@ -7,9 +7,8 @@ ghost use Rattle.dvi_ops.specs.Reading.{bop_at, char_at, code_at, comment_at, de
 ghost use Rattle.dvi_ops.specs.Table.{code, signed};
 ghost use Rattle.dvi_ops.specs.View.{definition as view_definition, view};
 
-use byteorder::{BigEndian, ByteOrder};
-
 use crate::op::{FontDefinition, Op, Postamble, Units};
+use byteorder::{BigEndian, ByteOrder};
 
 // What the bytes say as a signed number.
 fn signed_of(operand: &[u8]) -> i32
@@ -254,7 +253,14 @@ fn definition(bytes: &[u8], size: usize) -> Option<(FontDefinition<'_>, &[u8])>
     let (number, rest) = code_number(bytes, size)?;
     let ((check_sum, size, design_size), rest) = three(rest)?;
     let ((area, name), rest) = names(rest)?;
-    let font = FontDefinition { number, check_sum, size, design_size, area, name };
+    let font = FontDefinition {
+        number,
+        check_sum,
+        size,
+        design_size,
+        area,
+        name,
+    };
     Some((font, rest))
 }
 
@@ -289,7 +295,14 @@ fn pre(bytes: &[u8]) -> Option<(Op<'_>, &[u8])>
     let (id, rest) = bytes.split_first()?;
     let ((num, den, mag), rest) = three(rest)?;
     let (comment, rest) = comment(rest)?;
-    Some((Op::Pre { id: *id, units: Units { num, den, mag }, comment }, rest))
+    Some((
+        Op::Pre {
+            id: *id,
+            units: Units { num, den, mag },
+            comment,
+        },
+        rest,
+    ))
 }
 
 // The beginning of the postamble, behind its code.
@@ -302,7 +315,17 @@ fn post(bytes: &[u8]) -> Option<(Op<'_>, &[u8])>
     let ((height_plus_depth, width), rest) = two(rest)?;
     let ((stack_depth, pages), rest) = halves(rest)?;
     let units = Units { num, den, mag };
-    Some((Op::Post(Postamble { last_bop, units, height_plus_depth, width, stack_depth, pages }), rest))
+    Some((
+        Op::Post(Postamble {
+            last_bop,
+            units,
+            height_plus_depth,
+            width,
+            stack_depth,
+            pages,
+        }),
+        rest,
+    ))
 }
 
 // The end of the postamble, behind its code.
