@@ -1,3 +1,4 @@
 pub mod Sums
 pub mod Drawings
 pub mod Places
+pub mod Spelled

@@ -70,3 +70,23 @@ fitting b e = last_of_three _ _ _ e
 pub body-is : (b : BoxNode) → flat (body_of (page_of b)) ≡ flat (drawn (pos 0) (pos 0) (marks_behind b (pos 0) b.height [] (nodes_of b.list)))
 unfolding body_of marks_of_box
 body-is b = refl
+
+pub first_of_three : (a b c : Bool) → not (a && (b && c)) ≡ false → a ≡ true
+first_of_three true b c all = refl
+first_of_three false b c all = cc
+
+pub second_of_three : (a b c : Bool) → not (a && (b && c)) ≡ false → b ≡ true
+second_of_three true true c all = refl
+second_of_three true false c all = cc
+second_of_three false b c all = cc
+
+-- How far a page that is not huge reaches down, and to the right.
+pub fits_down : (b : BoxNode) → is_huge (page_of b) ≡ false → fits (b.height +ℤ b.depth) ≡ true
+unfolding is_huge
+fits_down b e =
+    first_of_three (fits (b.height +ℤ b.depth)) (fits (pos 0 +ℤ b.width)) (list_all fits (numbers_behind b (pos 0) b.height [] (nodes_of b.list))) e
+
+pub fits_right : (b : BoxNode) → is_huge (page_of b) ≡ false → fits (pos 0 +ℤ b.width) ≡ true
+unfolding is_huge
+fits_right b e =
+    second_of_three (fits (b.height +ℤ b.depth)) (fits (pos 0 +ℤ b.width)) (list_all fits (numbers_behind b (pos 0) b.height [] (nodes_of b.list))) e

@@ -8,3 +8,4 @@ pub mod Machine
 pub mod StateCode
 pub mod Drawing
 pub mod Placing
+pub mod Draft

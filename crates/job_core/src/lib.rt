@@ -9,6 +9,7 @@ mod nest;
 mod pack;
 mod plan;
 mod registers;
+mod writer;
 
 pub use command::{Answer, Command, Refusal, Register, Reply, Sizes, Summary};
 pub use device::{Device, DeviceFault, Memory};

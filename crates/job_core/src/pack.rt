@@ -100,7 +100,7 @@ fn greatest_depth(nodes: &[Node]) -> Dimen
 }
 
 /// The greater of two dimensions.
-fn higher(a: Dimen, b: Dimen) -> Dimen
+pub fn higher(a: Dimen, b: Dimen) -> Dimen
     ensures { result ≡ int_max a b }
 {
     if a.get() < b.get() { b } else { a }

@@ -51,7 +51,7 @@ fn size_where(whole: Dimen, size: RuleSize) -> Dimen
 
 /// The sum of two dimensions, where it fits.
 #[tactic(auto, using(crate::proofs::Sums::dimension_fits))]
-fn sum(a: Dimen, b: Dimen) -> Option<Dimen>
+pub fn sum(a: Dimen, b: Dimen) -> Option<Dimen>
     ensures value { IfSome result (λ sum. sum ≡ a +ℤ b) }
     ensures fits { is_some result ≡ fits (a +ℤ b) }
     ensures first { fits a ≡ true }
