@@ -2,3 +2,4 @@ pub mod Sums
 pub mod Drawings
 pub mod Places
 pub mod Spelled
+pub mod Tellings

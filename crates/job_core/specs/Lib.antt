@@ -9,3 +9,4 @@ pub mod StateCode
 pub mod Drawing
 pub mod Placing
 pub mod Draft
+pub mod Runs

@@ -94,3 +94,18 @@ impl Device for Memory {
         self.failures
     }
 }
+
+/// Hands the device all bytes, piece after piece. Where it fails, what it took is a beginning of them that is not all.
+pub fn write_all<D: Device>(device: &mut D, bytes: &[u8]) -> Result<(), DeviceFault>
+    requires { D.failed device.old + 1 < 2 ^ 64 }
+    ensures taken { OnOk result (D.told device.new ≡ grown (D.told device.old) bytes.now) }
+    ensures stands { OnOk result (D.failed device.new ≡ D.failed device.old) }
+    ensures front { OnErr result (GrowsByFront (D.told device.old) (D.told device.new) bytes.now) }
+    ensures counted { OnErr result (D.failed device.new ≡ D.failed device.old + 1) }
+{
+    let mut sent = 0;
+    while sent < bytes.len() {
+        sent += device.write(&bytes[sent..])?;
+    }
+    Ok(())
+}

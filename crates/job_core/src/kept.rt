@@ -1,14 +1,14 @@
 //! What a job keeps, but for its device and its bytes.
 
-ghost use Rattle.std.specs.Prelude.{◌≡◌, ◌<◌, ◌≤◌, ◌+◌, ◌^◌, true, false, None, Some, Ok, IfOk, OnOk, OnErr, length, option_copied};
+ghost use Rattle.std.specs.Prelude.{◌≡◌, ◌<◌, ◌≤◌, ◌+◌, ◌^◌, true, false, None, Some, Ok, IfOk, IfErr, OnOk, OnErr, length, option_copied};
 ghost use Rattle.job_core.specs.declared.command.Command.TheVariants as commands;
-ghost use Rattle.job_core.specs.Machine.{first_state, held_in, checks, first_of, reply_to, state_after, sizes_of};
+ghost use Rattle.job_core.specs.Machine.{first_state, held_in, checks, first_of, reply_to, state_after, after, sizes_of};
 
 use crate::command::{Answer, Refusal, Register, Reply, Sizes};
 use crate::font_file::FontFile;
 use crate::nest::Nest;
-use crate::pack;
 use crate::registers::Registers;
+use crate::{pack, plan};
 use node_core::{BoxNode, Node, Rule, RuleSize};
 use scaled_core::Dimen;
 use std::alloc::{AllocError, Global};
@@ -176,6 +176,42 @@ impl Kept {
     {
         self.registers.put(register, None);
         Ok(Answer::Done)
+    }
+
+    /// The box in a register that may be shipped now, or why it may not.
+    pub fn admitted(&self, register: Register) -> Result<&BoxNode, Refusal>
+        requires { self.now.over ≡ false }
+        ensures shown { IfOk result (λ shown. held_in self.now.registers register ≡ Some shown.now) }
+        ensures ok { OnOk result (first_of (checks self.now (commands.Ship register)) ≡ None) }
+        ensures err { IfErr result (λ refusal. first_of (checks self.now (commands.Ship register)) ≡ Some refusal) }
+    {
+        let Some(shown) = self.registers.get(register) else {
+            return Err(Refusal::VoidBox);
+        };
+        if self.pages >= 1 {
+            return Err(Refusal::TooManyPages);
+        }
+        if self.shipped.saturating_add(shown.count()) > 16_777_216 {
+            return Err(Refusal::TooMuchShipped);
+        }
+        if plan::makes_huge_page(shown) {
+            return Err(Refusal::HugePage);
+        }
+        Ok(shown)
+    }
+
+    /// Counts the page of the box in a register, and makes it void. It answers the number of pages.
+    pub fn count_page(&mut self, register: Register) -> u32
+        requires { first_of (checks self.old (commands.Ship register)) ≡ None }
+        ensures number { result ≡ self.old.pages + 1 }
+        ensures state { self.new ≡ after self.old (commands.Ship register) }
+    {
+        if let Some(shown) = self.registers.get(register) {
+            self.shipped += shown.count();
+        }
+        self.pages += 1;
+        self.registers.put(register, None);
+        self.pages
     }
 }
 
