@@ -3,3 +3,4 @@ pub mod Drawings
 pub mod Places
 pub mod Spelled
 pub mod Tellings
+pub mod PageBytes

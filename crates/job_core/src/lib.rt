@@ -4,6 +4,7 @@
 pub mod command;
 pub mod device;
 pub mod font_file;
+pub mod job;
 mod kept;
 mod nest;
 mod pack;
