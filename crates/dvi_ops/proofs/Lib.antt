@@ -3,3 +3,4 @@ pub mod Numbers
 pub mod Fronts
 pub mod SpellsRead
 pub mod ReadSpells
+pub mod FrontLaws

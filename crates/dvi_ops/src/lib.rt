@@ -2,10 +2,12 @@
 #![tactic(auto)]
 
 mod fault;
+pub mod laws;
 pub mod op;
 mod reading;
 mod spelling;
 
 pub use fault::OpFault;
 pub use op::{FontDefinition, Op, Postamble, Units};
+pub use reading::next;
 pub use spelling::spell;

@@ -1,15 +1,15 @@
 //! The instruction at the front of some bytes.
 
-ghost use Rattle.std.specs.Prelude.{◌≡◌, ◌≤◌, ◌<◌, ◌+◌, ◌-◌, ◌++◌, ◌^◌, [], ◌∷◌, length, pos, OnOk, OnErr, option_map};
+ghost use Rattle.std.specs.Prelude.{◌≡◌, ◌≤◌, ◌<◌, ◌+◌, ◌-◌, ◌++◌, ◌^◌, [], ◌∷◌, length, option_map, pos, slice_index, take, IfOk, OnErr, ◌↔◌, ℕ};
 ghost use Rattle.byteorder.specs.Endian.{big_number};
-ghost use Rattle.dvi_ops.specs.Instruction.{Across, Downward};
+ghost use Rattle.dvi_ops.specs.Instruction.{Across, Downward, Instruction};
 ghost use Rattle.dvi_ops.specs.Reading.{bop_at, char_at, code_at, comment_at, definition_at, font_at, frame_at, half_at, halves_at, long_at, movement_at, names_at, plain_at, post_at, post_post_at, pre_at, read, signed_at, text_at, three_at, two_at, words};
-ghost use Rattle.dvi_ops.specs.Table.{code, signed};
+ghost use Rattle.dvi_ops.specs.Table.{Spells, code, signed};
 ghost use Rattle.dvi_ops.specs.View.{definition as view_definition, view};
 
-use byteorder::{BigEndian, ByteOrder};
-
+use crate::fault::OpFault;
 use crate::op::{FontDefinition, Op, Postamble, Units};
+use byteorder::{BigEndian, ByteOrder};
 
 // What the bytes say as a signed number.
 fn signed_of(operand: &[u8]) -> i32
@@ -254,7 +254,14 @@ fn definition(bytes: &[u8], size: usize) -> Option<(FontDefinition<'_>, &[u8])>
     let (number, rest) = code_number(bytes, size)?;
     let ((check_sum, size, design_size), rest) = three(rest)?;
     let ((area, name), rest) = names(rest)?;
-    let font = FontDefinition { number, check_sum, size, design_size, area, name };
+    let font = FontDefinition {
+        number,
+        check_sum,
+        size,
+        design_size,
+        area,
+        name,
+    };
     Some((font, rest))
 }
 
@@ -289,7 +296,14 @@ fn pre(bytes: &[u8]) -> Option<(Op<'_>, &[u8])>
     let (id, rest) = bytes.split_first()?;
     let ((num, den, mag), rest) = three(rest)?;
     let (comment, rest) = comment(rest)?;
-    Some((Op::Pre { id: *id, units: Units { num, den, mag }, comment }, rest))
+    Some((
+        Op::Pre {
+            id: *id,
+            units: Units { num, den, mag },
+            comment,
+        },
+        rest,
+    ))
 }
 
 // The beginning of the postamble, behind its code.
@@ -302,7 +316,17 @@ fn post(bytes: &[u8]) -> Option<(Op<'_>, &[u8])>
     let ((height_plus_depth, width), rest) = two(rest)?;
     let ((stack_depth, pages), rest) = halves(rest)?;
     let units = Units { num, den, mag };
-    Some((Op::Post(Postamble { last_bop, units, height_plus_depth, width, stack_depth, pages }), rest))
+    Some((
+        Op::Post(Postamble {
+            last_bop,
+            units,
+            height_plus_depth,
+            width,
+            stack_depth,
+            pages,
+        }),
+        rest,
+    ))
 }
 
 // The end of the postamble, behind its code.
@@ -343,5 +367,32 @@ fn front(bytes: &[u8]) -> Option<(Op<'_>, &[u8])>
         171..=238 => font(*operation, rest),
         239..=246 => long(*operation, rest),
         247..=255 => frame(*operation, rest),
+    }
+}
+
+// Why no instruction stands at the front of some bytes.
+fn fault_of(bytes: &[u8]) -> OpFault
+    ensures { (result ≡ OpFault.Opcode) ↔ (250 ≤ slice_index bytes.now 0) }
+{
+    match bytes.first() {
+        Some(250..=255) => OpFault::Opcode,
+        _ => OpFault::Truncated,
+    }
+}
+
+/// Reads the instruction at the front of some bytes, and says how many bytes spell it (DVItype, 15 to 18). Where no front of the bytes spells an instruction,
+/// the fault is `Opcode` if the first byte is 250 to 255, else `Truncated`. It takes no memory.
+pub fn next(bytes: &[u8]) -> Result<(Op<'_>, usize), OpFault>
+    ensures length { IfOk result (λ found. found.1 ≤ length bytes.now) }
+    // The first bytes spell the instruction.
+    ensures found { IfOk result (λ found. Spells (view found.0) (take found.1 bytes.now)) }
+    // A fault comes only where no front of the bytes spells an instruction.
+    ensures none { OnErr result ((i : Instruction) (size : ℕ) → Spells i (take size bytes.now) → ⊥) }
+    // The fault is Opcode exactly where the first byte is 250 to 255.
+    ensures opcode { (result ≡ Err OpFault.Opcode) ↔ (250 ≤ slice_index bytes.now 0) }
+{
+    match front(bytes) {
+        Some((op, rest)) => Ok((op, bytes.len() - rest.len())),
+        None => Err(fault_of(bytes)),
     }
 }
