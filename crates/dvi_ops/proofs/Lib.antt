@@ -4,3 +4,4 @@ pub mod Fronts
 pub mod SpellsRead
 pub mod ReadSpells
 pub mod FrontLaws
+pub mod Spelled
