@@ -1,12 +1,12 @@
 -- What is read at the front of some bytes, field by field: a field that stands there is read, and what was read stands there.
-use Rattle.std.proofs.Common.{ℕ, zero, suc, ℤ, pos, ◌≡◌, ◌≤◌, ◌<◌, ◌+◌, ◌-◌, ◌*◌, List, [], ◌∷◌, ◌++◌, length, take, drop, nat_le, nat_lt, Bool, true, false, cond, Option, Some, None, arith, inl, inr, refl, sym, ap, ◌∙◌, subst, append_assoc}
+use Rattle.std.proofs.Common.{ℕ, zero, suc, ℤ, ◌≡◌, ◌≤◌, ◌<◌, ◌*◌, List, [], ◌∷◌, ◌++◌, length, take, drop, nat_le, nat_lt, Bool, true, false, cond, Some, None, arith, inl, inr, refl, sym, ap, ◌∙◌, subst}
 use Rattle.std.proofs.Math.Seq.{take-append_seam, drop-append_seam}
-use Rattle.std.proofs.lemmas.Bool.{cases_lt, le-leb, lt-ltb, le-ltb, leb-true, ltb-true, ltb-false}
+use Rattle.std.proofs.lemmas.Bool.{cases_lt, le-leb, lt-ltb, le-ltb, leb-true}
 use Rattle.std.proofs.lemmas.List.{length-append, length-drop, length-take-le, take-append-drop}
 use Rattle.byteorder.specs.Endian.{big_number, twos_complement}
 use Rattle.byteorder.specs.Numbers.{big_from-append, big_from-take}
-use Rattle.dvi_ops.specs.Reading.{Front, made, followed, cut, signed_at, code_at, half_at, byte_at, two_at, three_at, halves_at, words}
-use Rattle.dvi_ops.specs.Table.{signed, code, Says, SaysEach, SaysShort}
+use Rattle.dvi_ops.specs.Reading.{Front, made, followed, cut, signed_at, half_at, byte_at, two_at, three_at, halves_at, words}
+use Rattle.dvi_ops.specs.Table.{signed, Says, SaysEach, SaysShort}
 
 -- the two ways through a test
 pub split : {A G : Type 0} → (m n : ℕ) (x y r : A) → cond (nat_lt m n) x y ≡ r → (m < n → x ≡ r → G) → (n ≤ m → y ≡ r → G) → G

@@ -9,3 +9,6 @@ pub mod SpellsRead
 pub mod ReadSpells
 pub mod SameMeaning
 pub mod Layouts
+pub mod FrontLaws
+pub mod Spelled
+pub mod Shortest

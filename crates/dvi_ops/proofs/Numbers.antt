@@ -1,5 +1,5 @@
 -- What one to four bytes say.
-use Rattle.std.proofs.Common.{ℕ, zero, suc, ℤ, pos, negsuc, ◌≡◌, ◌≤◌, ◌<◌, ◌+◌, ◌-◌, ◌*◌, ◌^◌, List, [], ◌∷◌, length, drop, slice_index, ◌-ℤ◌, nat_lt, if◌then◌else◌, arith, inl, inr, true, false, refl, sym, ap, ◌∙◌}
+use Rattle.std.proofs.Common.{ℕ, zero, suc, ℤ, pos, ◌≡◌, ◌≤◌, ◌<◌, ◌+◌, ◌*◌, List, [], ◌∷◌, length, drop, slice_index, ◌-ℤ◌, nat_lt, if◌then◌else◌, arith, inl, inr, refl, sym, ap, ◌∙◌}
 use Rattle.std.proofs.lemmas.Bool.{cases_lt, lt-ltb, le-ltb}
 use Rattle.std.proofs.lemmas.Int.{ints}
 use Rattle.std.proofs.lemmas.List.{drop-drop, get_or-drop}
@@ -8,7 +8,7 @@ use Rattle.std.specs.Int.RustNames.{FitsSigned}
 use Rattle.byteorder.specs.Endian.{IsReadBy, big_number, twos_complement}
 use Rattle.byteorder.specs.Numbers.{big_from-lt}
 use Rattle.dvi_ops.specs.Reading.{words}
-use Rattle.dvi_ops.specs.Table.{signed, code}
+use Rattle.dvi_ops.specs.Table.{signed}
 
 -- one of four numbers
 pub four : (P : ℕ → Type 0) (n : ℕ) → 1 ≤ n → n ≤ 4 → P 1 → P 2 → P 3 → P 4 → P n

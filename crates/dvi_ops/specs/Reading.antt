@@ -1,7 +1,7 @@
 -- The instruction at the front of some bytes as a function, which the private parts of `next` compute (own). What it has to do with the table is on `next`.
-use Rattle.std.specs.Prelude.{◌≤◌, ◌<◌, ◌+◌, ◌-◌, ◌∷◌, [], List, length, take, drop, ℕ, zero, suc, ℤ, pos, nat_lt, nat_le, if◌then◌else◌, Option, Some, None}
+use Rattle.std.specs.Prelude.{◌-◌, ◌∷◌, [], List, length, take, drop, ℕ, zero, suc, ℤ, pos, nat_lt, nat_le, if◌then◌else◌, Option, Some, None}
 use Rattle.byteorder.specs.Endian.{big_number}
-use Rattle.dvi_ops.specs.Instruction.{Axis, Across, Downward, Register, First, Second, By, Set, Again, Definition, Units, Postamble, SetChar, PutChar, SetRule, PutRule, Nop, Move, FontNum, FontDef, Xxx, Instruction, Do, Push, Pop, Bop, Eop, Pre, Post, PostPost}
+use Rattle.dvi_ops.specs.Instruction.{Axis, Across, Downward, First, Second, By, Set, Again, Definition, SetChar, PutChar, SetRule, PutRule, Nop, Move, FontNum, FontDef, Xxx, Instruction, Do, Push, Pop, Bop, Eop, Pre, Post, PostPost}
 use Rattle.dvi_ops.specs.Table.{signed, code}
 
 -- Something at the front of some bytes, and the bytes behind it; none where the bytes end before.

@@ -3,6 +3,7 @@
 
 pub mod dvi_file;
 mod fault;
+pub mod laws;
 pub mod op;
 pub mod page_body;
 mod reading;
@@ -10,4 +11,5 @@ mod spelling;
 
 pub use fault::OpFault;
 pub use op::{FontDefinition, Op, Postamble, Units};
+pub use reading::next;
 pub use spelling::spell;

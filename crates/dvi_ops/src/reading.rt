@@ -1,12 +1,16 @@
 //! The instruction at the front of some bytes.
 
-ghost use Rattle.std.specs.Prelude.{◌≡◌, ◌≤◌, ◌<◌, ◌+◌, ◌-◌, ◌++◌, ◌^◌, [], ◌∷◌, length, pos, OnOk, OnErr, option_map};
+ghost use Rattle.std.specs.Prelude.{◌≡◌, ◌≤◌, ◌<◌, ◌+◌, ◌-◌, ◌++◌, ◌^◌, [], ◌∷◌, length, option_map, pos, slice_index, take, IfOk, OnErr, ◌↔◌, ℕ};
 ghost use Rattle.byteorder.specs.Endian.{big_number};
-ghost use Rattle.dvi_ops.specs.Instruction.{Across, Downward};
+ghost use Rattle.dvi_ops.specs.Instruction.{Across, Downward, Instruction};
 ghost use Rattle.dvi_ops.specs.Reading.{bop_at, char_at, code_at, comment_at, definition_at, font_at, frame_at, half_at, halves_at, long_at, movement_at, names_at, plain_at, post_at, post_post_at, pre_at, read, signed_at, text_at, three_at, two_at, words};
-ghost use Rattle.dvi_ops.specs.Table.{code, signed};
+ghost use Rattle.dvi_ops.specs.Table.{Spells, code, signed};
 ghost use Rattle.dvi_ops.specs.View.{definition as view_definition, view};
 
+<<<<<<< HEAD
+=======
+use crate::fault::OpFault;
+>>>>>>> daf8094868ef8a770bd3191f6597fad9c74553b8
 use crate::op::{FontDefinition, Op, Postamble, Units};
 use byteorder::{BigEndian, ByteOrder};
 
@@ -366,5 +370,32 @@ fn front(bytes: &[u8]) -> Option<(Op<'_>, &[u8])>
         171..=238 => font(*operation, rest),
         239..=246 => long(*operation, rest),
         247..=255 => frame(*operation, rest),
+    }
+}
+
+// Why no instruction stands at the front of some bytes.
+fn fault_of(bytes: &[u8]) -> OpFault
+    ensures { (result ≡ OpFault.Opcode) ↔ (250 ≤ slice_index bytes.now 0) }
+{
+    match bytes.first() {
+        Some(250..=255) => OpFault::Opcode,
+        _ => OpFault::Truncated,
+    }
+}
+
+/// Reads the instruction at the front of some bytes, and says how many bytes spell it (DVItype, 15 to 18). Where no front of the bytes spells an instruction,
+/// the fault is `Opcode` if the first byte is 250 to 255, else `Truncated`. It takes no memory.
+pub fn next(bytes: &[u8]) -> Result<(Op<'_>, usize), OpFault>
+    ensures length { IfOk result (λ found. found.1 ≤ length bytes.now) }
+    // The first bytes spell the instruction.
+    ensures found { IfOk result (λ found. Spells (view found.0) (take found.1 bytes.now)) }
+    // A fault comes only where no front of the bytes spells an instruction.
+    ensures none { OnErr result ((i : Instruction) (size : ℕ) → Spells i (take size bytes.now) → ⊥) }
+    // The fault is Opcode exactly where the first byte is 250 to 255.
+    ensures opcode { (result ≡ Err OpFault.Opcode) ↔ (250 ≤ slice_index bytes.now 0) }
+{
+    match front(bytes) {
+        Some((op, rest)) => Ok((op, bytes.len() - rest.len())),
+        None => Err(fault_of(bytes)),
     }
 }

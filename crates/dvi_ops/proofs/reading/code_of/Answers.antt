@@ -1,6 +1,5 @@
-use Rattle.std.proofs.Common.{◌≡◌, ◌<◌, ◌≤◌, length, nat_eq, false, arith}
+use Rattle.std.proofs.Common.{◌≡◌, ◌≤◌, length, nat_eq, false, arith}
 use Rattle.std.proofs.lemmas.Int.{ints}
-use Rattle.byteorder.specs.Endian.{big_number}
 use Rattle.dvi_ops.proofs.Numbers.{short_below}
 use Rattle.dvi_ops.proofs.reading.code_of.Goals as goal
 
