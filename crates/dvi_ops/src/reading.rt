@@ -7,10 +7,7 @@ ghost use Rattle.dvi_ops.specs.Reading.{bop_at, char_at, code_at, comment_at, de
 ghost use Rattle.dvi_ops.specs.Table.{Spells, code, signed};
 ghost use Rattle.dvi_ops.specs.View.{definition as view_definition, view};
 
-<<<<<<< HEAD
-=======
 use crate::fault::OpFault;
->>>>>>> daf8094868ef8a770bd3191f6597fad9c74553b8
 use crate::op::{FontDefinition, Op, Postamble, Units};
 use byteorder::{BigEndian, ByteOrder};
 
