@@ -5,3 +5,4 @@ pub mod SpellsRead
 pub mod ReadSpells
 pub mod FrontLaws
 pub mod Spelled
+pub mod Forests

@@ -3,3 +3,7 @@ pub mod Table
 pub mod View
 pub mod Spelling
 pub mod Reading
+pub mod Body
+pub mod Forest
+pub mod Walk
+pub mod Examples

@@ -11,3 +11,4 @@ pub use fault::OpFault;
 pub use op::{FontDefinition, Op, Postamble, Units};
 pub use reading::next;
 pub use spelling::spell;
+pub mod page_body;

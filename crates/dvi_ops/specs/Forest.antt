@@ -1,0 +1,48 @@
+-- The body of a page: instructions, and groups between push and pop (DVItype, 14).
+use Rattle.std.specs.Prelude.{◌++◌, [], ◌∷◌, ◌+◌, max, List, ℕ, Option, Some, None}
+use Rattle.dvi_ops.specs.Instruction.{Leaf, Instruction, Do, Push, Pop}
+use Rattle.dvi_ops.specs.Body.{Mark, Place, State, Meaning, Acts, only}
+
+-- Nothing; or an instruction and what follows it; or a group and what follows it.
+pub data Forest : Type 0 where
+  Empty : Forest
+  Then : Leaf → Forest → Forest
+  Group : Forest → Forest → Forest
+
+-- The instructions of a body in order, with a push before each group and a pop after it.
+abbrev pub flat : Forest → List Instruction
+flat Empty = []
+flat (Then i rest) = Do i ∷ flat rest
+flat (Group inner rest) = Push ∷ (flat inner ++ Pop ∷ flat rest)
+
+-- A meaning with more marks before its own.
+abbrev pub ahead : List Mark → Meaning → Meaning
+ahead marks None = None
+ahead marks (Some (more, s)) = Some (marks ++ more, s)
+
+-- A meaning, and behind it what begins at its state.
+abbrev pub and_then : Meaning → (State → Meaning) → Meaning
+and_then None next = None
+and_then (Some (marks, s)) next = ahead marks (next s)
+
+-- After a group the place is that from before it, and the font is that from its end (DVItype, 16).
+abbrev pub restored : Place → Meaning → Meaning
+restored p None = None
+restored p (Some (marks, s)) = Some (marks, record { place = p; font = s.font })
+
+-- The marks of a body, and the state after it.
+abbrev pub meaning : Acts → Forest → State → Meaning
+meaning does Empty s = only s
+meaning does (Then i rest) s = and_then (does i s) (λ t. meaning does rest t)
+meaning does (Group inner rest) s = and_then (restored s.place (meaning does inner s)) (λ t. meaning does rest t)
+
+-- How many groups are open at once.
+abbrev pub nests : Forest → ℕ
+nests Empty = 0
+nests (Then i rest) = nests rest
+nests (Group inner rest) = max (nests inner + 1) (nests rest)
+
+-- The marks alone.
+abbrev pub marks_of : Meaning → Option (List Mark)
+marks_of None = None
+marks_of (Some (marks, s)) = Some marks

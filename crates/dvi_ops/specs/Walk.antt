@@ -1,0 +1,15 @@
+-- The pass over the instructions of a body with a stack of places, as DVItype does it (DVItype, 14).
+use Rattle.std.specs.Prelude.{[], ◌∷◌, List, None}
+use Rattle.dvi_ops.specs.Instruction.{Instruction, Do, Push, Pop}
+use Rattle.dvi_ops.specs.Body.{Place, State, Meaning, Acts, only}
+use Rattle.dvi_ops.specs.Forest.{and_then}
+
+-- push saves the place, pop brings the last one back; the stack is empty at the end, and nothing is popped from an empty one.
+abbrev pub walk : Acts → List Instruction → List Place → State → Meaning
+walk does [] [] s = only s
+walk does [] (p ∷ stack) s = None
+walk does (Push ∷ rest) stack s = walk does rest (s.place ∷ stack) s
+walk does (Pop ∷ rest) [] s = None
+walk does (Pop ∷ rest) (p ∷ stack) s = walk does rest stack (record { place = p; font = s.font })
+walk does (Do i ∷ rest) stack s = and_then (does i s) (λ t. walk does rest stack t)
+walk does (i ∷ rest) stack s = None

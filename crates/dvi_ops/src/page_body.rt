@@ -1,0 +1,34 @@
+//! The body of a page: instructions and groups between push and pop, and what they mean (DVItype, 14 to 18).
+//!
+//! The functions here do nothing; their contracts are laws of the definitions, which writer and reader share.
+
+ghost use Rattle.std.specs.Prelude.{◌≡◌, [], List};
+ghost use Rattle.dvi_ops.specs.Instruction.{Instruction};
+ghost use Rattle.dvi_ops.specs.Body.{Acts, Mark, State, Widths, acts, kept, start};
+ghost use Rattle.dvi_ops.specs.Examples.{one_rule_body, one_rule_marks, saved_register_body, saved_register_marks, empty_rule_body, empty_rule_marks, too_far_body};
+ghost use Rattle.dvi_ops.specs.Forest.{Forest, flat, marks_of, meaning};
+ghost use Rattle.dvi_ops.specs.Walk.{walk};
+
+/// The pass with a stack of places gives each body its meaning, and none where it has none.
+pub fn pass_is_meaning()
+    ensures { (does : Acts) (f : Forest) (s : State) → walk does (flat f) [] s ≡ meaning does f s }
+{}
+
+/// Where the pass with a stack gives marks, the instructions are a body with this meaning.
+pub fn passed_is_body()
+    ensures { (does : Acts) (is : List Instruction) (s : State) (out : List Mark × State) → walk does is [] s ≡ Some out → (f : Forest) × (is ≡ flat f) × (meaning does f s ≡ Some out) }
+{}
+
+/// Instructions are one body at most.
+pub fn one_body()
+    ensures { (f g : Forest) → flat f ≡ flat g → f ≡ g }
+{}
+
+/// Bodies with known marks, whatever the widths of the fonts.
+pub fn known_bodies()
+    ensures one_rule { (widths : Widths) → marks_of (meaning (kept (acts widths)) one_rule_body start) ≡ Some one_rule_marks }
+    ensures saved_register { (widths : Widths) → marks_of (meaning (kept (acts widths)) saved_register_body start) ≡ Some saved_register_marks }
+    ensures empty_rule { (widths : Widths) → marks_of (meaning (kept (acts widths)) empty_rule_body start) ≡ Some empty_rule_marks }
+    ensures too_far { (widths : Widths) → marks_of (meaning (kept (acts widths)) too_far_body start) ≡ None }
+    ensures unbounded { (widths : Widths) → marks_of (meaning (acts widths) too_far_body start) ≡ Some [] }
+{}
