@@ -6,4 +6,7 @@ pub mod Reading
 pub mod Body
 pub mod Forest
 pub mod Walk
+pub mod Tokens
+pub mod Fonts
+pub mod File
 pub mod Examples
