@@ -6,3 +6,4 @@ pub mod ReadSpells
 pub mod FrontLaws
 pub mod Spelled
 pub mod Forests
+pub mod ExampleFiles

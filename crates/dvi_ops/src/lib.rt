@@ -11,4 +11,5 @@ pub use fault::OpFault;
 pub use op::{FontDefinition, Op, Postamble, Units};
 pub use reading::next;
 pub use spelling::spell;
+pub mod dvi_file;
 pub mod page_body;
