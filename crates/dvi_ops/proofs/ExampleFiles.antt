@@ -191,7 +191,7 @@ one_rule_is_file metrics =
       units = units_are;
       chain = refl;
       count = refl;
-      fonts = tt;
+      fonts = (tt, (tt, (tt, (tt, (tt, tt)))));
       closing = tt;
       depth = (lit≤ tt, tt);
       shows = refl;
@@ -208,7 +208,7 @@ two_page_is_file metrics =
       units = units_are;
       chain = refl;
       count = refl;
-      fonts = tt;
+      fonts = (tt, (tt, (tt, (tt, (tt, (tt, (tt, (tt, (tt, tt)))))))));
       closing = tt;
       depth = (lit≤ tt, (lit≤ tt, tt));
       shows = refl;
@@ -253,19 +253,46 @@ fonts_in_nested_boxes_is_file metrics tiny =
       chain = refl;
       count = refl;
       fonts = (
-        small_size,
         tt,
         (
-          large_size,
-          (large_agrees, tt),
+          (small_size, tt),
           (
-            refl,
+            (large_size, (large_agrees, tt)),
             (
-              refl,
+              tt,
               (
-                small_size,
-                (small_agrees, (small_agrees_with_itself, tt)),
-                (large_size, (large_agrees, (large_agrees_with_itself, (large_agrees, tt))), tt),
+                tt,
+                (
+                  refl,
+                  (
+                    tt,
+                    (
+                      tt,
+                      (
+                        refl,
+                        (
+                          tt,
+                          (
+                            tt,
+                            (
+                              tt,
+                              (
+                                tt,
+                                (
+                                  tt,
+                                  (
+                                    (small_size, (small_agrees, (small_agrees_with_itself, tt))),
+                                    ((large_size, (large_agrees, (large_agrees_with_itself, (large_agrees, tt)))), tt),
+                                  ),
+                                ),
+                              ),
+                            ),
+                          ),
+                        ),
+                      ),
+                    ),
+                  ),
+                ),
               ),
             ),
           ),

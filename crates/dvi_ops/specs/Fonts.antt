@@ -1,5 +1,5 @@
 -- The fonts of a file: where they are defined and selected, and what their metric files give (DVItype, 18).
-use Rattle.std.specs.Prelude.{◌≡◌, ◌^◌, ◌<ℤ◌, if◌then◌else◌, [], ◌∷◌, List, ℕ, ℤ, pos, Option, Some, None, IsSome}
+use Rattle.std.specs.Prelude.{◌≡◌, ◌^◌, ◌<ℤ◌, ◌++◌, if◌then◌else◌, [], ◌∷◌, List, ℕ, ℤ, pos, Option, Some, None, IsSome}
 use Rattle.std.specs.Ordering.{int_eq}
 use Rattle.std.specs.List.{flat_map, AllByRecursion}
 use Rattle.dvi_ops.specs.Instruction.{Definition, FontNum, FontDef, Instruction, Do}
@@ -34,13 +34,17 @@ IsSize z = (pos 0 <ℤ z) × (z <ℤ pos (2 ^ 27))
 abbrev pub AgreesWith : Definition → Definition → Type 0
 AgreesWith d e = d.number ≡ e.number → d ≡ e
 
--- Each definition has a size and agrees with those before it, and each selected font is defined before it (DVItype, 18).
--- `known` are the definitions before these instructions.
+-- A definition has a size and agrees with those before it; a selected font is defined before it (DVItype, 18).
+-- `known` are the definitions before this instruction.
+abbrev pub IsRightAfter : List Definition → Instruction → Type 0
+IsRightAfter known (Do (FontDef d)) = IsSize d.size × AllByRecursion (AgreesWith d) known
+IsRightAfter known (Do (FontNum f)) = IsSome (defined f known)
+IsRightAfter known i = Unit {0}
+
+-- This holds of each instruction. `known` are the definitions before them all.
 abbrev pub FontsAreRight : List Definition → List Instruction → Type 0
 FontsAreRight known [] = Unit {0}
-FontsAreRight known (Do (FontDef d) ∷ rest) = IsSize d.size × AllByRecursion (AgreesWith d) known × FontsAreRight (d ∷ known) rest
-FontsAreRight known (Do (FontNum f) ∷ rest) = IsSome (defined f known) × FontsAreRight known rest
-FontsAreRight known (i ∷ rest) = FontsAreRight known rest
+FontsAreRight known (i ∷ rest) = IsRightAfter known i × FontsAreRight (definition_of i ++ known) rest
 
 -- The widths of a font's characters by its name and its size, where its metric file was handed in and is good.
 abbrev pub Metrics : Type 0
