@@ -7,3 +7,4 @@ pub mod FrontLaws
 pub mod Spelled
 pub mod Forests
 pub mod ExampleFiles
+pub mod Appends

@@ -46,6 +46,11 @@ abbrev pub FontsAreRight : List Definition → List Instruction → Type 0
 FontsAreRight known [] = Unit {0}
 FontsAreRight known (i ∷ rest) = IsRightAfter known i × FontsAreRight (definition_of i ++ known) rest
 
+-- The definitions before and among these instructions, the last one first.
+abbrev pub known_after : List Definition → List Instruction → List Definition
+known_after known [] = known
+known_after known (i ∷ rest) = known_after (definition_of i ++ known) rest
+
 -- The widths of a font's characters by its name and its size, where its metric file was handed in and is good.
 abbrev pub Metrics : Type 0
 Metrics = List ℕ → ℤ → Option (ℤ → Option ℤ)
