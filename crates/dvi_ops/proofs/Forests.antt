@@ -1,6 +1,6 @@
 -- The pass with a stack is the meaning of the forest, and a list is the list of one forest at most.
 use Rattle.std.proofs.Common.{◌≡◌, ◌++◌, [], ◌∷◌, List, Some, None, refl, sym, ◌∙◌, ap, append_assoc, append-nil, subst}
-use Rattle.dvi_ops.specs.Instruction.{Leaf, Instruction, Do, Push, Pop}
+use Rattle.dvi_ops.specs.Instruction.{Leaf, Instruction, Do, Push, Pop, Eop}
 use Rattle.dvi_ops.specs.Body.{Mark, Place, State, Meaning, Acts, only}
 use Rattle.dvi_ops.specs.Forest.{Forest, Empty, Then, Group, flat, ahead, and_then, restored, meaning}
 use Rattle.dvi_ops.specs.Walk.{walk}
@@ -101,14 +101,19 @@ unfolding Opens
 walked_forest does is s out e =
     let found = walk_opens does is [] s out e in (found.0, found.1, sym (walk-meaning does found.0 s) ∙ (ap (λ is. walk does is [] s) (sym found.1) ∙ e))
 
--- A list that stands behind a forest's own: nothing, or a pop.
-Ends : List Instruction → Type 0
+-- A list that ends a body: it begins with no leaf and no push.
+pub Ends : List Instruction → Type 0
 Ends [] = Unit {0}
-Ends (Pop ∷ rest) = Unit {0}
-Ends (i ∷ rest) = ⊥
+Ends (Do i ∷ rest) = ⊥
+Ends (Push ∷ rest) = ⊥
+Ends (i ∷ rest) = Unit {0}
+
+pub ends_eop : (rest : List Instruction) → Ends (Eop ∷ rest)
+unfolding Ends
+ends_eop rest = tt
 
 -- Two forests with such lists behind their own are equal, and so are the lists behind them.
-flat_cut : (f g : Forest) (x y : List Instruction) → Ends x → Ends y → flat f ++ x ≡ flat g ++ y → (f ≡ g) × (x ≡ y)
+pub flat_cut : (f g : Forest) (x y : List Instruction) → Ends x → Ends y → flat f ++ x ≡ flat g ++ y → (f ≡ g) × (x ≡ y)
 unfolding Ends
 flat_cut Empty Empty x y ends ends' e = (refl, e)
 flat_cut Empty (Then i g) x y ends ends' e = absurd (subst Ends e ends)

@@ -8,3 +8,4 @@ pub mod Spelled
 pub mod Forests
 pub mod ExampleFiles
 pub mod Appends
+pub mod Frames
