@@ -5,11 +5,12 @@ mod fault;
 pub mod laws;
 pub mod op;
 mod reading;
+pub mod dvi_file;
+pub mod op;
+pub mod page_body;
 mod spelling;
 
 pub use fault::OpFault;
 pub use op::{FontDefinition, Op, Postamble, Units};
 pub use reading::next;
 pub use spelling::spell;
-pub mod dvi_file;
-pub mod page_body;
