@@ -9,3 +9,4 @@ pub mod Forests
 pub mod ExampleFiles
 pub mod Appends
 pub mod Frames
+pub mod SameMeaning

@@ -9,4 +9,5 @@ pub mod Walk
 pub mod Tokens
 pub mod Fonts
 pub mod File
+pub mod Layout
 pub mod Examples
