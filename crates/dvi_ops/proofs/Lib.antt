@@ -10,3 +10,4 @@ pub mod ExampleFiles
 pub mod Appends
 pub mod Frames
 pub mod SameMeaning
+pub mod Layouts
