@@ -72,11 +72,11 @@ tabled_agree table d e t u same = let first = t.listed in let second : table d.n
 agrees_with_all : (table : Table) (d : Definition) (known : List Definition) → IsTabled table d → AllByRecursion (IsTabled table) known → AllByRecursion (AgreesWith d) known
 agrees_with_all table d known t all = all_weaker (IsTabled table) (AgreesWith d) known (λ e u. tabled_agree table d e t u) all
 
-known_tabled : (table : Table) (known fonts : List Definition) → AllByRecursion (IsTabled table) known → AllByRecursion (IsTabled table) fonts → AllByRecursion (IsTabled table) (known_after known (define fonts))
+pub known_tabled : (table : Table) (known fonts : List Definition) → AllByRecursion (IsTabled table) known → AllByRecursion (IsTabled table) fonts → AllByRecursion (IsTabled table) (known_after known (define fonts))
 known_tabled table known [] p q = p
 known_tabled table known (d ∷ fonts) p (here, q) = known_tabled table (d ∷ known) fonts (here, p) q
 
-defined_right : (table : Table) (known fonts : List Definition) → AllByRecursion (IsTabled table) known → AllByRecursion (IsTabled table) fonts → FontsAreRight known (define fonts)
+pub defined_right : (table : Table) (known fonts : List Definition) → AllByRecursion (IsTabled table) known → AllByRecursion (IsTabled table) fonts → FontsAreRight known (define fonts)
 defined_right table known [] p q = tt
 defined_right table known (d ∷ fonts) p (here, q) = ((here.size, agrees_with_all table d known here p), defined_right table (d ∷ known) fonts (here, p) q)
 
@@ -94,7 +94,7 @@ pub IsPlaceUpTo : ℕ → ℤ → Type 0
 IsPlaceUpTo n (pos a) = a ≤ n
 IsPlaceUpTo n (negsuc a) = a ≡ 0
 
-place_fits : (n : ℕ) (z : ℤ) → IsPlaceUpTo n z → n < 2 ^ 31 → NumberFits z
+pub place_fits : (n : ℕ) (z : ℤ) → IsPlaceUpTo n z → n < 2 ^ 31 → NumberFits z
 unfolding IsPlaceUpTo
 place_fits n (pos a) p below = record { sfits = omega arith }
 place_fits n (negsuc a) p below = record { sfits = omega arith }

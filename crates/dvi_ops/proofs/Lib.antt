@@ -11,3 +11,4 @@ pub mod Appends
 pub mod Frames
 pub mod SameMeaning
 pub mod Layouts
+pub mod WholeFile

@@ -1,0 +1,190 @@
+-- What is written for good pages is a file of them.
+use Rattle.std.proofs.Common.{◌≡◌, ◌≤◌, ◌<◌, ◌+◌, ◌%◌, ◌^◌, ◌++◌, min, [], ◌∷◌, List, length, map, replicate, ℕ, ℤ, pos, Bool, true, false, if◌then◌else◌, Option, Some, IsSome, refl, sym, ◌∙◌, ap, ap₂, subst, subst₂, append_assoc, append-nil, lit<, arith}
+use Rattle.std.proofs.lemmas.Int.{ints}
+use Rattle.std.proofs.lemmas.Bool.Decides.{Decides-int_eq}
+use Rattle.std.specs.Ordering.{int_eq}
+use Rattle.std.specs.List.{flat_map, AllByRecursion}
+use Rattle.dvi_ops.specs.Instruction.{Definition, Postamble, FontDef, Instruction, Do, Post, PostPost}
+use Rattle.dvi_ops.specs.Table.{Spells}
+use Rattle.dvi_ops.specs.Spelling.{operand, spelling, HasSpelling, NumberFits, NumbersFit}
+use Rattle.dvi_ops.specs.Tokens.{IsSpelled, says, written, pointers}
+use Rattle.dvi_ops.specs.Fonts.{Metrics, definitions, selections, defined, FontsAreRight, font, font_in, width_in, widths_of}
+use Rattle.dvi_ops.specs.File.{Part, instructions, Page, depth_of, IsIdle, Frame, IsFile}
+use Rattle.dvi_ops.specs.Layout.{bytes_of, preamble, define, Sheet, Written, at_first, sheet_from, after, sheets_from, after_all, front_of, stop_of, ending_of, padding_after, Table, table_widths, IsWritable, IsTabled, IsGood, AreGood, IsClosing}
+use Rattle.dvi_ops.proofs.Appends.{all_weaker, all_both, all_map, fonts_append}
+use Rattle.dvi_ops.proofs.Layouts.{wrote, says-wrote, written-wrote, bytes_of-append, length-bytes_of-append, definitions-define, defined_right, place_fits, Fronts, first_front, next_front, page_with}
+use Rattle.dvi_ops.proofs.SameMeaning.{SameWidths, same_pages}
+
+-- What is written spells the instruction, where its numbers and lengths fit.
+abbrev pub WrittenIsSpelled : Type 0
+WrittenIsSpelled = (i : Instruction) → HasSpelling i → NumbersFit i → Spells i (spelling i)
+
+all_spelled : WrittenIsSpelled → (is : List Instruction) → AllByRecursion IsWritable is → AllByRecursion IsSpelled (map wrote is)
+all_spelled law [] w = tt
+all_spelled law (i ∷ is) (here, w) = (law i here.0 here.1, all_spelled law is w)
+
+-- Pages do not take bytes away.
+grows : (s : Written) (ps : List Sheet) → s.size ≤ (after_all s ps).size
+grows s [] = omega arith
+grows s (p ∷ ps) = let more = grows (after s p) ps in omega arith
+
+-- All pages, one after the other.
+all_fronts : (metrics : Metrics) (table : Table) (s : Written) (is : List Instruction) (parts : List Part) (pages : List Page) (ps : List Sheet) (more : List Page) →
+    Fronts metrics table s is parts pages → AreGood metrics table s ps more → (after_all s ps).size < 2 ^ 31 →
+    (all : List Part) × Fronts metrics table (after_all s ps) (is ++ sheets_from s ps) all (pages ++ more)
+all_fronts metrics table s is parts pages [] [] t good small =
+    (parts, subst₂ (λ is pages. Fronts metrics table s is parts pages) (sym (append-nil is)) (sym (append-nil pages)) t)
+all_fronts metrics table s is parts pages [] (page ∷ more) t good small = absurd good
+all_fronts metrics table s is parts pages (p ∷ ps) [] t good small = absurd good
+all_fronts metrics table s is parts pages (p ∷ ps) (page ∷ more) t (counts, good, rest) small =
+    let bound = grows (after s p) ps in
+    let next = next_front metrics table s is parts pages p page.marks t good (omega arith) in
+    let found = all_fronts metrics table (after s p) (is ++ sheet_from s.last p) _ (pages ++ (page_with p page.marks) ∷ []) ps more next rest small in
+    let same : page_with p page.marks ≡ page = ap (λ (counts : List ℤ). record { counts = counts; marks = page.marks }) (sym counts) in
+    (found.0, subst₂ (λ is pages. Fronts metrics table (after_all (after s p) ps) is found.0 pages) (append_assoc is (sheet_from s.last p) (sheets_from (after s p) ps)) (append_assoc pages (page_with p page.marks ∷ []) more ∙ ap (λ (page : Page). pages ++ (page ∷ more)) same) found.1)
+
+-- A definition of the postamble is the job's.
+closing_is_table : (table : Table) (closing : List Definition) (f : ℤ) → AllByRecursion (IsTabled table) closing → IsSome (defined f closing) → defined f closing ≡ table f
+closing_is_table table [] f all some = absurd cc
+closing_is_table table (d ∷ closing) f (here, all) some = by_test (int_eq f d.number) refl some (closing_is_table table closing f all)
+  where
+    by_test : (same : Bool) → int_eq f d.number ≡ same → IsSome (if same then Some d else defined f closing) → (IsSome (defined f closing) → defined f closing ≡ table f) → (if same then Some d else defined f closing) ≡ table f
+    by_test true e some later = sym (ap table ((Decides-int_eq f d.number).0 e) ∙ here.listed)
+    by_test false e some later = later some
+
+all_idle : (fonts : List Definition) → AllByRecursion IsIdle (define fonts)
+all_idle [] = tt
+all_idle (d ∷ fonts) = (tt, all_idle fonts)
+
+regroup : (a p t e bytes : List ℕ) → a ++ ((p ++ (t ++ (e ++ []))) ++ bytes) ≡ a ++ (p ++ (t ++ (e ++ bytes)))
+regroup a p t e bytes = simp (append_assoc, append-nil)
+
+module _ (law : WrittenIsSpelled) (metrics : Metrics) (table : Table) (s : Written) (is : List Instruction) (parts : List Part) (pages : List Page)
+    (tall wide : ℤ) (closing : List Definition) (padding : ℕ)
+    (t : Fronts metrics table s is parts pages) (c : IsClosing table s.known closing) (tall_fits : NumberFits tall) (wide_fits : NumberFits wide) (small : s.size < 2 ^ 31) (padded : 4 ≤ padding) where
+  stop : Postamble
+  stop = stop_of s tall wide (length pages)
+
+  whole_bytes : List ℕ
+  whole_bytes = bytes_of is ++ ending_of s stop closing padding
+
+  ending_is : spelling (PostPost (pos s.size) 2) ≡ spelling (PostPost (pos (length (written (map wrote is)))) 2)
+  ending_is = ap (λ n. spelling (PostPost (pos n) 2)) (t.size ∙ ap length (sym (written-wrote is)))
+
+  frame : Frame whole_bytes
+  unfolding stop whole_bytes
+  frame =
+      record {
+        front = map wrote is;
+        post = spelling (Post stop);
+        stop = stop;
+        tail = map wrote (define closing);
+        ending = spelling (PostPost (pos s.size) 2);
+        padding = padding;
+        whole =
+            ap (λ (behind : List ℕ). bytes_of is ++ ((spelling (Post stop) ++ behind) ++ replicate padding 223)) (bytes_of-append (define closing) (PostPost (pos s.size) 2 ∷ []))
+            ∙ (regroup (bytes_of is) (spelling (Post stop)) (bytes_of (define closing)) (spelling (PostPost (pos s.size) 2)) (replicate padding 223)
+            ∙ ap₂ (λ (a b : List ℕ). a ++ (spelling (Post stop) ++ (b ++ (spelling (PostPost (pos s.size) 2) ++ replicate padding 223)))) (sym (written-wrote is)) (sym (written-wrote (define closing))));
+        padded = padded;
+        front_spelled = all_spelled law is t.writable;
+        post_spelled = law (Post stop) tt (place_fits s.size s.last t.last small, (record { sfits = lit< tt }, record { sfits = lit< tt }, record { sfits = lit< tt }), tall_fits, wide_fits, deep, few);
+        tail_spelled = all_spelled law (define closing) (all_map IsWritable (λ d. Do (FontDef d)) closing (all_weaker (IsTabled table) (λ d. IsWritable (Do (FontDef d))) closing (λ d u. u.writable) c.tabled));
+        ending_spelled = subst (λ n. Spells (PostPost (pos n) 2) (spelling (PostPost (pos s.size) 2))) (t.size ∙ ap length (sym (written-wrote is))) (law (PostPost (pos s.size) 2) tt (record { sfits = small }));
+      }
+    where
+      deep : s.depth < 65536
+      deep = let shallow = t.shallow in omega arith
+
+      few : length pages % 65536 < 65536
+      few = omega arith
+
+  definitions_tail : definitions (says (map wrote (define closing))) ≡ closing
+  definitions_tail = ap definitions (says-wrote (define closing)) ∙ definitions-define closing
+
+  -- A font that was selected has a definition in the postamble, the job's.
+  closes : (f : ℤ) → IsSome (defined f s.known) → defined f closing ≡ table f
+  closes f some = closing_is_table table closing f c.tabled (c.each f some)
+
+  same_widths : (f : ℤ) → IsSome (defined f s.known) → SameWidths (widths_of metrics (definitions (says (map wrote (define closing))))) (table_widths metrics table) f
+  same_widths f some code =
+      ap (λ (fonts : List Definition). width_in (font_in metrics (defined f fonts)) code) definitions_tail ∙ ap (λ (d : Option Definition). width_in (font_in metrics d) code) (closes f some)
+
+  measured : (f : ℤ) → IsSome (defined f s.known) × IsSome (font_in metrics (table f)) → IsSome (font metrics (definitions (says (map wrote (define closing)))) f)
+  measured f (some, widths) =
+      subst (λ (d : Option Definition). IsSome (font_in metrics d)) (sym (ap (defined f) definitions_tail ∙ closes f some)) widths
+
+  file : IsFile metrics whole_bytes pages
+  unfolding frame stop
+  file =
+      record {
+        frame = frame;
+        comment = [];
+        parts = parts;
+        front_is = says-wrote is ∙ t.is_front;
+        tail_is = subst (AllByRecursion IsIdle) (sym (says-wrote (define closing))) (all_idle closing);
+        units = (omega (arith, ints), omega (arith, ints), omega (arith, ints));
+        chain = ap (λ (is : List Instruction). pointers is ++ s.last ∷ []) (says-wrote is) ∙ t.chain;
+        count = refl;
+        fonts =
+            subst₂ (λ (a b : List Instruction). FontsAreRight [] (a ++ b)) (sym (says-wrote is)) (sym (says-wrote (define closing)))
+            (fonts_append [] is (define closing) t.fonts (subst (λ (known : List Definition). FontsAreRight known (define closing)) (sym t.known) (defined_right table s.known closing t.tabled c.tabled)));
+        closing =
+            subst (λ (is : List Instruction). AllByRecursion (λ f. IsSome (font metrics (definitions (says (map wrote (define closing)))) f)) (selections is)) (sym (says-wrote is))
+            (all_weaker (λ f. IsSome (defined f s.known) × IsSome (font_in metrics (table f))) (λ f. IsSome (font metrics (definitions (says (map wrote (define closing)))) f)) (selections is) measured
+            (all_both (λ f. IsSome (defined f s.known)) (λ f. IsSome (font_in metrics (table f))) (selections is) t.chosen t.measured));
+        depth = all_weaker (λ part. depth_of part ≤ s.depth) (λ part. depth_of part ≤ min 1024 s.depth) parts (λ part shallow. (let most = t.shallow in omega arith)) t.depth;
+        shows =
+            same_pages (widths_of metrics (definitions (says (map wrote (define closing))))) (table_widths metrics table) parts
+            (all_weaker (λ f. IsSome (defined f s.known)) (SameWidths (widths_of metrics (definitions (says (map wrote (define closing))))) (table_widths metrics table)) (selections (flat_map instructions parts)) same_widths
+            (subst (λ (is : List Instruction). AllByRecursion (λ f. IsSome (defined f s.known)) (selections is)) t.is_front t.chosen))
+            ∙ t.shows;
+      }
+
+-- What is written for good pages, and then the postamble, is a file of these pages.
+pub whole_file : WrittenIsSpelled → (metrics : Metrics) (table : Table) (ps : List Sheet) (pages : List Page) (tall wide : ℤ) (closing : List Definition) (padding : ℕ) →
+    AreGood metrics table at_first ps pages → IsClosing table (after_all at_first ps).known closing → NumberFits tall → NumberFits wide → (after_all at_first ps).size < 2 ^ 31 → 4 ≤ padding →
+    IsFile metrics (front_of ps ++ ending_of (after_all at_first ps) (stop_of (after_all at_first ps) tall wide (length pages)) closing padding) pages
+unfolding whole_bytes stop
+whole_file law metrics table ps pages tall wide closing padding good closed tall_fits wide_fits small padded =
+    let all = all_fronts metrics table at_first (preamble ∷ []) [] [] ps pages (first_front metrics table) good small in
+    file law metrics table (after_all at_first ps) (preamble ∷ sheets_from at_first ps) all.0 pages tall wide closing padding all.1 closed tall_fits wide_fits small padded
+
+-- One page more: what the writer knows, what it writes, and that the pages are good.
+pub after_all-append : (s : Written) (ps qs : List Sheet) → after_all s (ps ++ qs) ≡ after_all (after_all s ps) qs
+after_all-append s [] qs = refl
+after_all-append s (p ∷ ps) qs = after_all-append (after s p) ps qs
+
+pub sheets_from-append : (s : Written) (ps qs : List Sheet) → sheets_from s (ps ++ qs) ≡ sheets_from s ps ++ sheets_from (after_all s ps) qs
+sheets_from-append s [] qs = refl
+sheets_from-append s (p ∷ ps) qs =
+    ap (λ (is : List Instruction). sheet_from s.last p ++ is) (sheets_from-append (after s p) ps qs) ∙ sym (append_assoc (sheet_from s.last p) (sheets_from (after s p) ps) (sheets_from (after_all (after s p) ps) qs))
+
+pub front_more : (ps : List Sheet) (p : Sheet) → front_of (ps ++ p ∷ []) ≡ front_of ps ++ bytes_of (sheet_from (after_all at_first ps).last p)
+front_more ps p =
+    ap (λ (is : List Instruction). bytes_of (preamble ∷ is)) (sheets_from-append at_first ps (p ∷ []) ∙ ap (λ (is : List Instruction). sheets_from at_first ps ++ is) (append-nil (sheet_from (after_all at_first ps).last p)))
+    ∙ bytes_of-append (preamble ∷ sheets_from at_first ps) (sheet_from (after_all at_first ps).last p)
+
+pub good_more : (metrics : Metrics) (table : Table) (s : Written) (ps : List Sheet) (pages : List Page) (p : Sheet) (page : Page) →
+    AreGood metrics table s ps pages → page.counts ≡ p.counts → IsGood metrics table (after_all s ps).known p page.marks → AreGood metrics table s (ps ++ p ∷ []) (pages ++ page ∷ [])
+good_more metrics table s [] [] p page are counts good = (counts, good, tt)
+good_more metrics table s [] (q ∷ pages) p page are counts good = absurd are
+good_more metrics table s (q ∷ ps) [] p page are counts good = absurd are
+good_more metrics table s (q ∷ ps) (first ∷ pages) p page (same, here, are) counts good = (same, here, good_more metrics table (after s q) ps pages p page are counts good)
+
+-- The number of bytes that the writer keeps is that of what it has written.
+pub size_of_front : (ps : List Sheet) → (after_all at_first ps).size ≡ length (front_of ps)
+unfolding spelling operand
+size_of_front ps = sized at_first (preamble ∷ []) ps refl
+  where
+    sized : (s : Written) (is : List Instruction) (ps : List Sheet) → s.size ≡ length (bytes_of is) → (after_all s ps).size ≡ length (bytes_of (is ++ sheets_from s ps))
+    sized s is [] e = e ∙ ap (λ (is : List Instruction). length (bytes_of is)) (sym (append-nil is))
+    sized s is (p ∷ ps) e =
+        sized (after s p) (is ++ sheet_from s.last p) ps (ap (λ n. n + length (bytes_of (sheet_from s.last p))) e ∙ sym (length-bytes_of-append is (sheet_from s.last p)))
+        ∙ ap (λ (is : List Instruction). length (bytes_of is)) (append_assoc is (sheet_from s.last p) (sheets_from (after s p) ps))
+
+-- There are four to seven bytes 223.
+pub padding_low : (n : ℕ) → 4 ≤ padding_after n
+padding_low n = omega arith
+
+pub padding_fills : (n : ℕ) → (n + padding_after n) % 4 ≡ 0
+padding_fills n = omega arith
