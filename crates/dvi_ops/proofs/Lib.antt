@@ -12,3 +12,4 @@ pub mod Frames
 pub mod SameMeaning
 pub mod Layouts
 pub mod WholeFile
+pub mod Ranges
