@@ -1,13 +1,12 @@
 //! The instructions of a DVI file: their table, the page body and the file as definitions, and the calls that spell and read one instruction.
 #![tactic(auto)]
 
+pub mod dvi_file;
 mod fault;
 pub mod laws;
 pub mod op;
-mod reading;
-pub mod dvi_file;
-pub mod op;
 pub mod page_body;
+mod reading;
 mod spelling;
 
 pub use fault::OpFault;
