@@ -59,6 +59,31 @@ all_idle (d ∷ fonts) = (tt, all_idle fonts)
 regroup : (a p t e bytes : List ℕ) → a ++ ((p ++ (t ++ (e ++ []))) ++ bytes) ≡ a ++ (p ++ (t ++ (e ++ bytes)))
 regroup a p t e bytes = simp (append_assoc, append-nil)
 
+-- The frame of what is written for instructions up to post, post, instructions behind it, and post_post.
+pub frame_of : WrittenIsSpelled → (is : List Instruction) (stop : Postamble) (tail : List Instruction) (place padding : ℕ) →
+    AllByRecursion IsWritable is → NumbersFit (Post stop) → AllByRecursion IsWritable tail → place ≡ length (bytes_of is) → place < 2 ^ 31 → 4 ≤ padding →
+    Frame (bytes_of is ++ (bytes_of (Post stop ∷ (tail ++ PostPost (pos place) 2 ∷ [])) ++ replicate padding 223))
+frame_of law is stop tail place padding front_fits stop_fits tail_fits at small padded =
+    let post = spelling (Post stop) in
+    let ending = spelling (PostPost (pos place) 2) in
+    record {
+      front = map wrote is;
+      post = post;
+      stop = stop;
+      tail = map wrote tail;
+      ending = ending;
+      padding = padding;
+      whole =
+          ap (λ (behind : List ℕ). bytes_of is ++ ((post ++ behind) ++ replicate padding 223)) (bytes_of-append tail (PostPost (pos place) 2 ∷ []))
+          ∙ (regroup (bytes_of is) post (bytes_of tail) ending (replicate padding 223)
+          ∙ ap₂ (λ (a b : List ℕ). a ++ (post ++ (b ++ (ending ++ replicate padding 223)))) (sym (written-wrote is)) (sym (written-wrote tail)));
+      padded = padded;
+      front_spelled = all_spelled law is front_fits;
+      post_spelled = law (Post stop) tt stop_fits;
+      tail_spelled = all_spelled law tail tail_fits;
+      ending_spelled = subst (λ n. Spells (PostPost (pos n) 2) ending) (at ∙ ap length (sym (written-wrote is))) (law (PostPost (pos place) 2) tt (record { sfits = small }));
+    }
+
 module _ (law : WrittenIsSpelled) (metrics : Metrics) (table : Table) (s : Written) (is : List Instruction) (parts : List Part) (pages : List Page)
     (tall wide : ℤ) (closing : List Definition) (padding : ℕ)
     (t : Fronts metrics table s is parts pages) (c : IsClosing table s.known closing) (tall_fits : NumberFits tall) (wide_fits : NumberFits wide) (small : s.size < 2 ^ 31) (padded : 4 ≤ padding) where
@@ -68,35 +93,19 @@ module _ (law : WrittenIsSpelled) (metrics : Metrics) (table : Table) (s : Writt
   whole_bytes : List ℕ
   whole_bytes = bytes_of is ++ ending_of s stop closing padding
 
-  ending_is : spelling (PostPost (pos s.size) 2) ≡ spelling (PostPost (pos (length (written (map wrote is)))) 2)
-  ending_is = ap (λ n. spelling (PostPost (pos n) 2)) (t.size ∙ ap length (sym (written-wrote is)))
+  stop_fits : NumbersFit (Post stop)
+  unfolding stop
+  stop_fits =
+      let shallow = t.shallow in
+      (place_fits s.size s.last t.last small, (record { sfits = lit< tt }, record { sfits = lit< tt }, record { sfits = lit< tt }), tall_fits, wide_fits, omega arith, omega arith)
+
+  -- What is written for definitions of the job.
+  closing_fits : AllByRecursion IsWritable (define closing)
+  closing_fits = all_map IsWritable (λ d. Do (FontDef d)) closing (all_weaker (IsTabled table) (λ d. IsWritable (Do (FontDef d))) closing (λ d u. u.writable) c.tabled)
 
   frame : Frame whole_bytes
-  unfolding stop whole_bytes
-  frame =
-      record {
-        front = map wrote is;
-        post = spelling (Post stop);
-        stop = stop;
-        tail = map wrote (define closing);
-        ending = spelling (PostPost (pos s.size) 2);
-        padding = padding;
-        whole =
-            ap (λ (behind : List ℕ). bytes_of is ++ ((spelling (Post stop) ++ behind) ++ replicate padding 223)) (bytes_of-append (define closing) (PostPost (pos s.size) 2 ∷ []))
-            ∙ (regroup (bytes_of is) (spelling (Post stop)) (bytes_of (define closing)) (spelling (PostPost (pos s.size) 2)) (replicate padding 223)
-            ∙ ap₂ (λ (a b : List ℕ). a ++ (spelling (Post stop) ++ (b ++ (spelling (PostPost (pos s.size) 2) ++ replicate padding 223)))) (sym (written-wrote is)) (sym (written-wrote (define closing))));
-        padded = padded;
-        front_spelled = all_spelled law is t.writable;
-        post_spelled = law (Post stop) tt (place_fits s.size s.last t.last small, (record { sfits = lit< tt }, record { sfits = lit< tt }, record { sfits = lit< tt }), tall_fits, wide_fits, deep, few);
-        tail_spelled = all_spelled law (define closing) (all_map IsWritable (λ d. Do (FontDef d)) closing (all_weaker (IsTabled table) (λ d. IsWritable (Do (FontDef d))) closing (λ d u. u.writable) c.tabled));
-        ending_spelled = subst (λ n. Spells (PostPost (pos n) 2) (spelling (PostPost (pos s.size) 2))) (t.size ∙ ap length (sym (written-wrote is))) (law (PostPost (pos s.size) 2) tt (record { sfits = small }));
-      }
-    where
-      deep : s.depth < 65536
-      deep = let shallow = t.shallow in omega arith
-
-      few : length pages % 65536 < 65536
-      few = omega arith
+  unfolding whole_bytes
+  frame = frame_of law is stop (define closing) s.size padding t.writable stop_fits closing_fits t.size small padded
 
   definitions_tail : definitions (says (map wrote (define closing))) ≡ closing
   definitions_tail = ap definitions (says-wrote (define closing)) ∙ definitions-define closing
@@ -114,7 +123,7 @@ module _ (law : WrittenIsSpelled) (metrics : Metrics) (table : Table) (s : Writt
       subst (λ (d : Option Definition). IsSome (font_in metrics d)) (sym (ap (defined f) definitions_tail ∙ closes f some)) widths
 
   file : IsFile metrics whole_bytes pages
-  unfolding frame stop
+  unfolding frame stop frame_of
   file =
       record {
         frame = frame;
