@@ -1,17 +1,17 @@
 -- The example files are what this writer writes for their pages, so they are files of these pages.
-use Rattle.std.proofs.Common.{◌≡◌, ◌<ℤ◌, ◌<◌, ◌≤◌, ◌^◌, ◌++◌, [], ◌∷◌, List, length, replicate, ℕ, zero, suc, ℤ, pos, negsuc, Option, Some, None, IsSome, Bool, true, false, if◌then◌else◌, refl, lit<, lit≤, subst, arith}
+use Rattle.std.proofs.Common.{◌≡◌, [], ◌∷◌, List, length, replicate, ℕ, zero, suc, ℤ, pos, Some, None, IsSome, Bool, true, false, if◌then◌else◌, refl, lit<, lit≤, arith}
 use Rattle.std.proofs.lemmas.Int.{ints}
 use Rattle.std.specs.Ordering.{int_eq}
 use Rattle.std.specs.List.{AllByRecursion}
-use Rattle.dvi_ops.specs.Instruction.{Axis, By, Definition, FontNum, SetChar, SetRule, Move, Leaf, Instruction, Do, Push, Pop, Eop}
+use Rattle.dvi_ops.specs.Instruction.{Definition}
 use Rattle.dvi_ops.specs.Spelling.{operand, signed_size, code_size, char_spelling, font_spelling, leaf_spelling, spelling, NumberFits}
 use Rattle.dvi_ops.specs.Body.{Mark, Glyph, State, Widths, acts, kept, start}
-use Rattle.dvi_ops.specs.Forest.{meaning, marks_of}
+use Rattle.dvi_ops.specs.Forest.{meaning}
 use Rattle.dvi_ops.specs.Fonts.{Metrics, defined}
 use Rattle.dvi_ops.specs.File.{IsFile}
-use Rattle.dvi_ops.specs.Layout.{Sheet, Written, at_first, after, after_all, front_of, stop_of, ending_of, Table, table_widths, IsWritable, IsTabled, IsGood, IsClosing}
+use Rattle.dvi_ops.specs.Layout.{Sheet, Table, table_widths, IsTabled, IsGood}
 use Rattle.dvi_ops.specs.Examples.{one_rule_body, one_rule_marks, one_rule_file, one_rule_pages, two_page_file, two_pages, fonts_in_nested_boxes_body, fonts_in_nested_boxes_file, fonts_in_nested_boxes_pages, tiny_name, GivesTiny}
-use Rattle.dvi_ops.proofs.WholeFile.{WrittenIsSpelled, whole_file}
+use Rattle.dvi_ops.proofs.WholeFile.{whole_file}
 
 abbrev zeros : List ℤ
 zeros = replicate 10 (pos 0)
@@ -42,20 +42,20 @@ all_fit : (n : ℕ) → AllByRecursion NumberFits (replicate n (pos 0))
 all_fit zero = tt
 all_fit (suc n) = (record { sfits = lit< tt }, all_fit n)
 
-pub one_rule_is_file : WrittenIsSpelled → (metrics : Metrics) → IsFile metrics one_rule_file one_rule_pages
+pub one_rule_is_file : (metrics : Metrics) → IsFile metrics one_rule_file one_rule_pages
 unfolding spelling leaf_spelling operand signed_size
-one_rule_is_file law metrics =
-    whole_file law metrics no_fonts (one_rule_sheet zeros ∷ []) one_rule_pages (pos 65536) (pos 65536) [] 7
+one_rule_is_file metrics =
+    whole_file metrics no_fonts (one_rule_sheet zeros ∷ []) one_rule_pages (pos 65536) (pos 65536) [] 7
     (refl, one_rule_good metrics [] zeros refl (all_fit 10), tt) (record { tabled = tt; each = λ f some. some }) (record { sfits = lit< tt }) (record { sfits = lit< tt }) (lit< tt) (lit≤ tt)
 
 seven : List ℤ
 seven = pos 7 ∷ replicate 9 (pos 0)
 
 -- The same page twice, the second with another count.
-pub two_page_is_file : WrittenIsSpelled → (metrics : Metrics) → IsFile metrics two_page_file two_pages
+pub two_page_is_file : (metrics : Metrics) → IsFile metrics two_page_file two_pages
 unfolding spelling leaf_spelling operand signed_size seven
-two_page_is_file law metrics =
-    whole_file law metrics no_fonts (one_rule_sheet zeros ∷ one_rule_sheet seven ∷ []) two_pages (pos 65536) (pos 65536) [] 4
+two_page_is_file metrics =
+    whole_file metrics no_fonts (one_rule_sheet zeros ∷ one_rule_sheet seven ∷ []) two_pages (pos 65536) (pos 65536) [] 4
     (refl, one_rule_good metrics [] zeros refl (all_fit 10), (refl, one_rule_good metrics [] seven refl (record { sfits = lit< tt }, all_fit 9), tt))
     (record { tabled = tt; each = λ f some. some }) (record { sfits = lit< tt }) (record { sfits = lit< tt }) (lit< tt) (lit≤ tt)
 
@@ -111,9 +111,9 @@ known_are_there f some = by_tests (int_eq f (pos 1)) (int_eq f (pos 0)) some
     by_tests false false some = some
 
 -- Two fonts, a group and three glyphs, where the metric files give their widths.
-pub fonts_in_nested_boxes_is_file : WrittenIsSpelled → (metrics : Metrics) → GivesTiny metrics → IsFile metrics fonts_in_nested_boxes_file fonts_in_nested_boxes_pages
+pub fonts_in_nested_boxes_is_file : (metrics : Metrics) → GivesTiny metrics → IsFile metrics fonts_in_nested_boxes_file fonts_in_nested_boxes_pages
 unfolding spelling leaf_spelling operand signed_size code_size char_spelling font_spelling
-fonts_in_nested_boxes_is_file law metrics tiny =
-    whole_file law metrics fonts (nested_sheet ∷ []) fonts_in_nested_boxes_pages (pos 983040) (pos 1638400) (small ∷ large ∷ []) 5
+fonts_in_nested_boxes_is_file metrics tiny =
+    whole_file metrics fonts (nested_sheet ∷ []) fonts_in_nested_boxes_pages (pos 983040) (pos 1638400) (small ∷ large ∷ []) 5
     (refl, nested_good metrics tiny, tt)
     (record { tabled = (small_tabled, (large_tabled, tt)); each = known_are_there }) (record { sfits = lit< tt }) (record { sfits = lit< tt }) (lit< tt) (lit≤ tt)

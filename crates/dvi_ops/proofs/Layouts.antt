@@ -100,7 +100,7 @@ place_fits n (pos a) p below = record { sfits = omega arith }
 place_fits n (negsuc a) p below = record { sfits = omega arith }
 
 -- How the writer's knowledge stands to what it has written.
-pub record Fronts (metrics : Metrics) (table : Table) (s : Written) (is : List Instruction) (parts : List Part) (pages : List Page) : Type 0 where
+pub record Knows (metrics : Metrics) (table : Table) (s : Written) (is : List Instruction) (parts : List Part) (pages : List Page) : Type 0 where
   pub writable : AllByRecursion IsWritable is
   pub is_front : is ≡ preamble ∷ flat_map instructions parts
   pub size : s.size ≡ length (bytes_of is)
@@ -116,9 +116,9 @@ pub record Fronts (metrics : Metrics) (table : Table) (s : Written) (is : List I
   pub shows : pages_of (kept (acts (table_widths metrics table))) parts ≡ Some pages
 
 -- At first there is the preamble.
-pub first_front : (metrics : Metrics) (table : Table) → Fronts metrics table at_first (preamble ∷ []) [] []
+pub knows_first : (metrics : Metrics) (table : Table) → Knows metrics table at_first (preamble ∷ []) [] []
 unfolding spelling operand IsPlaceUpTo
-first_front metrics table =
+knows_first metrics table =
     record {
       writable = ((lit< tt, (record { sfits = lit< tt }, record { sfits = lit< tt }, record { sfits = lit< tt })), tt);
       is_front = refl;
@@ -152,7 +152,7 @@ pages-define does [] rest = refl
 pages-define does (d ∷ fonts) rest = pages-define does fonts rest
 
 module _ (metrics : Metrics) (table : Table) (s : Written) (is : List Instruction) (parts : List Part) (pages : List Page) (p : Sheet) (marks : List Mark)
-    (t : Fronts metrics table s is parts pages) (g : IsGood metrics table s.known p marks) (small : s.size < 2 ^ 31) where
+    (t : Knows metrics table s is parts pages) (g : IsGood metrics table s.known p marks) (small : s.size < 2 ^ 31) where
   writable_next : AllByRecursion IsWritable (is ++ sheet_from s.last p)
   writable_next =
       all_append IsWritable is (sheet_from s.last p) t.writable
@@ -251,8 +251,8 @@ module _ (metrics : Metrics) (table : Table) (s : Written) (is : List Instructio
   last_next = omega (arith, length-bytes_of-append (define p.fresh) (page_from s.last p))
 
   -- One page more.
-  pub next_front : Fronts metrics table (after s p) (is ++ sheet_from s.last p) (parts ++ parts_of s.last p) (pages ++ page_with p marks ∷ [])
-  next_front =
+  pub knows_next : Knows metrics table (after s p) (is ++ sheet_from s.last p) (parts ++ parts_of s.last p) (pages ++ page_with p marks ∷ [])
+  knows_next =
       record {
         writable = writable_next;
         is_front = instructions_next;

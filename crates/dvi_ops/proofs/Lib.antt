@@ -6,7 +6,6 @@ pub mod ReadSpells
 pub mod FrontLaws
 pub mod Spelled
 pub mod Forests
-pub mod ExampleFiles
 pub mod Appends
 pub mod Frames
 pub mod SameMeaning

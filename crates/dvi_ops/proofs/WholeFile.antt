@@ -6,22 +6,19 @@ use Rattle.std.specs.Ordering.{int_eq}
 use Rattle.std.specs.List.{flat_map, AllByRecursion}
 use Rattle.dvi_ops.specs.Instruction.{Definition, Postamble, FontDef, Instruction, Do, Post, PostPost}
 use Rattle.dvi_ops.specs.Table.{Spells}
-use Rattle.dvi_ops.specs.Spelling.{operand, spelling, HasSpelling, NumberFits, NumbersFit}
-use Rattle.dvi_ops.specs.Tokens.{IsSpelled, says, written, pointers}
+use Rattle.dvi_ops.specs.Spelling.{operand, spelling, NumberFits, NumbersFit}
+use Rattle.dvi_ops.specs.Tokens.{IsSpelled, says, pointers}
 use Rattle.dvi_ops.specs.Fonts.{Metrics, definitions, selections, defined, FontsAreRight, font, font_in, width_in, widths_of}
 use Rattle.dvi_ops.specs.File.{Part, instructions, Page, depth_of, IsIdle, Frame, IsFile}
 use Rattle.dvi_ops.specs.Layout.{bytes_of, preamble, define, Sheet, Written, at_first, sheet_from, after, sheets_from, after_all, front_of, stop_of, ending_of, padding_after, Table, table_widths, IsWritable, IsTabled, IsGood, AreGood, IsClosing}
 use Rattle.dvi_ops.proofs.Appends.{all_weaker, all_both, all_map, fonts_append}
-use Rattle.dvi_ops.proofs.Layouts.{wrote, says-wrote, written-wrote, bytes_of-append, length-bytes_of-append, definitions-define, defined_right, place_fits, Fronts, first_front, next_front, page_with}
+use Rattle.dvi_ops.proofs.Layouts.{wrote, says-wrote, written-wrote, bytes_of-append, length-bytes_of-append, definitions-define, defined_right, place_fits, Knows, knows_first, knows_next, page_with}
+use Rattle.dvi_ops.proofs.Spelled.{written_is_spelled}
 use Rattle.dvi_ops.proofs.SameMeaning.{SameWidths, same_pages}
 
--- What is written spells the instruction, where its numbers and lengths fit.
-abbrev pub WrittenIsSpelled : Type 0
-WrittenIsSpelled = (i : Instruction) → HasSpelling i → NumbersFit i → Spells i (spelling i)
-
-all_spelled : WrittenIsSpelled → (is : List Instruction) → AllByRecursion IsWritable is → AllByRecursion IsSpelled (map wrote is)
-all_spelled law [] w = tt
-all_spelled law (i ∷ is) (here, w) = (law i here.0 here.1, all_spelled law is w)
+all_spelled : (is : List Instruction) → AllByRecursion IsWritable is → AllByRecursion IsSpelled (map wrote is)
+all_spelled [] w = tt
+all_spelled (i ∷ is) (here, w) = (written_is_spelled i here.0 here.1, all_spelled is w)
 
 -- Pages do not take bytes away.
 grows : (s : Written) (ps : List Sheet) → s.size ≤ (after_all s ps).size
@@ -29,19 +26,19 @@ grows s [] = omega arith
 grows s (p ∷ ps) = let more = grows (after s p) ps in omega arith
 
 -- All pages, one after the other.
-all_fronts : (metrics : Metrics) (table : Table) (s : Written) (is : List Instruction) (parts : List Part) (pages : List Page) (ps : List Sheet) (more : List Page) →
-    Fronts metrics table s is parts pages → AreGood metrics table s ps more → (after_all s ps).size < 2 ^ 31 →
-    (all : List Part) × Fronts metrics table (after_all s ps) (is ++ sheets_from s ps) all (pages ++ more)
-all_fronts metrics table s is parts pages [] [] t good small =
-    (parts, subst₂ (λ is pages. Fronts metrics table s is parts pages) (sym (append-nil is)) (sym (append-nil pages)) t)
-all_fronts metrics table s is parts pages [] (page ∷ more) t good small = absurd good
-all_fronts metrics table s is parts pages (p ∷ ps) [] t good small = absurd good
-all_fronts metrics table s is parts pages (p ∷ ps) (page ∷ more) t (counts, good, rest) small =
+knows_all : (metrics : Metrics) (table : Table) (s : Written) (is : List Instruction) (parts : List Part) (pages : List Page) (ps : List Sheet) (more : List Page) →
+    Knows metrics table s is parts pages → AreGood metrics table s ps more → (after_all s ps).size < 2 ^ 31 →
+    (all : List Part) × Knows metrics table (after_all s ps) (is ++ sheets_from s ps) all (pages ++ more)
+knows_all metrics table s is parts pages [] [] t good small =
+    (parts, subst₂ (λ is pages. Knows metrics table s is parts pages) (sym (append-nil is)) (sym (append-nil pages)) t)
+knows_all metrics table s is parts pages [] (page ∷ more) t good small = absurd good
+knows_all metrics table s is parts pages (p ∷ ps) [] t good small = absurd good
+knows_all metrics table s is parts pages (p ∷ ps) (page ∷ more) t (counts, good, rest) small =
     let bound = grows (after s p) ps in
-    let next = next_front metrics table s is parts pages p page.marks t good (omega arith) in
-    let found = all_fronts metrics table (after s p) (is ++ sheet_from s.last p) _ (pages ++ (page_with p page.marks) ∷ []) ps more next rest small in
+    let next = knows_next metrics table s is parts pages p page.marks t good (omega arith) in
+    let found = knows_all metrics table (after s p) (is ++ sheet_from s.last p) _ (pages ++ (page_with p page.marks) ∷ []) ps more next rest small in
     let same : page_with p page.marks ≡ page = ap (λ (counts : List ℤ). record { counts = counts; marks = page.marks }) (sym counts) in
-    (found.0, subst₂ (λ is pages. Fronts metrics table (after_all (after s p) ps) is found.0 pages) (append_assoc is (sheet_from s.last p) (sheets_from (after s p) ps)) (append_assoc pages (page_with p page.marks ∷ []) more ∙ ap (λ (page : Page). pages ++ (page ∷ more)) same) found.1)
+    (found.0, subst₂ (λ is pages. Knows metrics table (after_all (after s p) ps) is found.0 pages) (append_assoc is (sheet_from s.last p) (sheets_from (after s p) ps)) (append_assoc pages (page_with p page.marks ∷ []) more ∙ ap (λ (page : Page). pages ++ (page ∷ more)) same) found.1)
 
 -- A definition of the postamble is the job's.
 closing_is_table : (table : Table) (closing : List Definition) (f : ℤ) → AllByRecursion (IsTabled table) closing → IsSome (defined f closing) → defined f closing ≡ table f
@@ -60,10 +57,10 @@ regroup : (a p t e bytes : List ℕ) → a ++ ((p ++ (t ++ (e ++ []))) ++ bytes)
 regroup a p t e bytes = simp (append_assoc, append-nil)
 
 -- The frame of what is written for instructions up to post, post, instructions behind it, and post_post.
-pub frame_of : WrittenIsSpelled → (is : List Instruction) (stop : Postamble) (tail : List Instruction) (place padding : ℕ) →
+pub frame_of : (is : List Instruction) (stop : Postamble) (tail : List Instruction) (place padding : ℕ) →
     AllByRecursion IsWritable is → NumbersFit (Post stop) → AllByRecursion IsWritable tail → place ≡ length (bytes_of is) → place < 2 ^ 31 → 4 ≤ padding →
     Frame (bytes_of is ++ (bytes_of (Post stop ∷ (tail ++ PostPost (pos place) 2 ∷ [])) ++ replicate padding 223))
-frame_of law is stop tail place padding front_fits stop_fits tail_fits at small padded =
+frame_of is stop tail place padding front_fits stop_fits tail_fits at small padded =
     let post = spelling (Post stop) in
     let ending = spelling (PostPost (pos place) 2) in
     record {
@@ -78,15 +75,15 @@ frame_of law is stop tail place padding front_fits stop_fits tail_fits at small 
           ∙ (regroup (bytes_of is) post (bytes_of tail) ending (replicate padding 223)
           ∙ ap₂ (λ (a b : List ℕ). a ++ (post ++ (b ++ (ending ++ replicate padding 223)))) (sym (written-wrote is)) (sym (written-wrote tail)));
       padded = padded;
-      front_spelled = all_spelled law is front_fits;
-      post_spelled = law (Post stop) tt stop_fits;
-      tail_spelled = all_spelled law tail tail_fits;
-      ending_spelled = subst (λ n. Spells (PostPost (pos n) 2) ending) (at ∙ ap length (sym (written-wrote is))) (law (PostPost (pos place) 2) tt (record { sfits = small }));
+      front_spelled = all_spelled is front_fits;
+      post_spelled = written_is_spelled (Post stop) tt stop_fits;
+      tail_spelled = all_spelled tail tail_fits;
+      ending_spelled = subst (λ n. Spells (PostPost (pos n) 2) ending) (at ∙ ap length (sym (written-wrote is))) (written_is_spelled (PostPost (pos place) 2) tt (record { sfits = small }));
     }
 
-module _ (law : WrittenIsSpelled) (metrics : Metrics) (table : Table) (s : Written) (is : List Instruction) (parts : List Part) (pages : List Page)
+module _ (metrics : Metrics) (table : Table) (s : Written) (is : List Instruction) (parts : List Part) (pages : List Page)
     (tall wide : ℤ) (closing : List Definition) (padding : ℕ)
-    (t : Fronts metrics table s is parts pages) (c : IsClosing table s.known closing) (tall_fits : NumberFits tall) (wide_fits : NumberFits wide) (small : s.size < 2 ^ 31) (padded : 4 ≤ padding) where
+    (t : Knows metrics table s is parts pages) (c : IsClosing table s.known closing) (tall_fits : NumberFits tall) (wide_fits : NumberFits wide) (small : s.size < 2 ^ 31) (padded : 4 ≤ padding) where
   stop : Postamble
   stop = stop_of s tall wide (length pages)
 
@@ -105,7 +102,7 @@ module _ (law : WrittenIsSpelled) (metrics : Metrics) (table : Table) (s : Writt
 
   frame : Frame whole_bytes
   unfolding whole_bytes
-  frame = frame_of law is stop (define closing) s.size padding t.writable stop_fits closing_fits t.size small padded
+  frame = frame_of is stop (define closing) s.size padding t.writable stop_fits closing_fits t.size small padded
 
   definitions_tail : definitions (says (map wrote (define closing))) ≡ closing
   definitions_tail = ap definitions (says-wrote (define closing)) ∙ definitions-define closing
@@ -150,13 +147,13 @@ module _ (law : WrittenIsSpelled) (metrics : Metrics) (table : Table) (s : Writt
       }
 
 -- What is written for good pages, and then the postamble, is a file of these pages.
-pub whole_file : WrittenIsSpelled → (metrics : Metrics) (table : Table) (ps : List Sheet) (pages : List Page) (tall wide : ℤ) (closing : List Definition) (padding : ℕ) →
+pub whole_file : (metrics : Metrics) (table : Table) (ps : List Sheet) (pages : List Page) (tall wide : ℤ) (closing : List Definition) (padding : ℕ) →
     AreGood metrics table at_first ps pages → IsClosing table (after_all at_first ps).known closing → NumberFits tall → NumberFits wide → (after_all at_first ps).size < 2 ^ 31 → 4 ≤ padding →
     IsFile metrics (front_of ps ++ ending_of (after_all at_first ps) (stop_of (after_all at_first ps) tall wide (length pages)) closing padding) pages
 unfolding whole_bytes stop
-whole_file law metrics table ps pages tall wide closing padding good closed tall_fits wide_fits small padded =
-    let all = all_fronts metrics table at_first (preamble ∷ []) [] [] ps pages (first_front metrics table) good small in
-    file law metrics table (after_all at_first ps) (preamble ∷ sheets_from at_first ps) all.0 pages tall wide closing padding all.1 closed tall_fits wide_fits small padded
+whole_file metrics table ps pages tall wide closing padding good closed tall_fits wide_fits small padded =
+    let all = knows_all metrics table at_first (preamble ∷ []) [] [] ps pages (knows_first metrics table) good small in
+    file metrics table (after_all at_first ps) (preamble ∷ sheets_from at_first ps) all.0 pages tall wide closing padding all.1 closed tall_fits wide_fits small padded
 
 -- One page more: what the writer knows, what it writes, and that the pages are good.
 pub after_all-append : (s : Written) (ps qs : List Sheet) → after_all s (ps ++ qs) ≡ after_all (after_all s ps) qs
