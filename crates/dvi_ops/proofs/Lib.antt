@@ -13,3 +13,4 @@ pub mod Layouts
 pub mod WholeFile
 pub mod Ranges
 pub mod KnownFiles
+pub mod NoFiles

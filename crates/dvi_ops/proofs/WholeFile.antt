@@ -1,18 +1,19 @@
 -- What is written for good pages is a file of them.
-use Rattle.std.proofs.Common.{◌≡◌, ◌≤◌, ◌<◌, ◌+◌, ◌%◌, ◌^◌, ◌++◌, min, [], ◌∷◌, List, length, map, replicate, ℕ, ℤ, pos, Bool, true, false, if◌then◌else◌, Option, Some, IsSome, refl, sym, ◌∙◌, ap, ap₂, subst, subst₂, append_assoc, append-nil, lit<, arith}
+use Rattle.std.proofs.Common.{◌≡◌, ◌≤◌, ◌<◌, ◌+◌, ◌%◌, ◌^◌, ◌++◌, min, [], ◌∷◌, List, length, map, replicate, ℕ, suc, ℤ, pos, negsuc, Bool, true, false, if◌then◌else◌, Option, Some, IsSome, refl, sym, ◌∙◌, ap, ap₂, subst, subst₂, append_assoc, append-nil, lit<, arith}
 use Rattle.std.proofs.lemmas.Int.{ints}
 use Rattle.std.proofs.lemmas.Bool.Decides.{Decides-int_eq}
 use Rattle.std.specs.Ordering.{int_eq}
 use Rattle.std.specs.List.{flat_map, AllByRecursion}
-use Rattle.dvi_ops.specs.Instruction.{Definition, Postamble, FontDef, Instruction, Do, Post, PostPost}
+use Rattle.dvi_ops.specs.Instruction.{Definition, Postamble, FontDef, Instruction, Do, Pre, Post, PostPost}
 use Rattle.dvi_ops.specs.Table.{Spells}
 use Rattle.dvi_ops.specs.Spelling.{operand, spelling, NumberFits, NumbersFit}
-use Rattle.dvi_ops.specs.Tokens.{IsSpelled, says, pointers}
+use Rattle.dvi_ops.specs.Tokens.{Token, IsSpelled, says, places, pointers}
 use Rattle.dvi_ops.specs.Fonts.{Metrics, definitions, selections, defined, FontsAreRight, font, font_in, width_in, widths_of}
 use Rattle.dvi_ops.specs.File.{Part, instructions, Page, depth_of, IsIdle, Frame, IsFile}
-use Rattle.dvi_ops.specs.Layout.{bytes_of, preamble, define, Sheet, Written, at_first, sheet_from, after, sheets_from, after_all, front_of, stop_of, ending_of, padding_after, Table, table_widths, IsWritable, IsTabled, IsGood, AreGood, IsClosing}
+use Rattle.dvi_ops.specs.Layout.{bytes_of, preamble, define, Sheet, Written, at_first, sheet_from, after, sheets_from, after_all, front_of, whole_of, stop_of, ending_of, padding_after, Table, table_widths, IsWritable, IsTabled, IsGood, AreGood, IsClosing}
 use Rattle.dvi_ops.proofs.Appends.{all_weaker, all_both, all_map, fonts_append}
 use Rattle.dvi_ops.proofs.Layouts.{wrote, says-wrote, written-wrote, bytes_of-append, length-bytes_of-append, definitions-define, defined_right, place_fits, Knows, knows_first, knows_next, page_with}
+use Rattle.dvi_ops.proofs.Frames.{one_frame}
 use Rattle.dvi_ops.proofs.Spelled.{written_is_spelled}
 use Rattle.dvi_ops.proofs.SameMeaning.{SameWidths, same_pages}
 
@@ -81,6 +82,19 @@ frame_of is stop tail place padding front_fits stop_fits tail_fits at small padd
       ending_spelled = subst (λ n. Spells (PostPost (pos n) 2) ending) (at ∙ ap length (sym (written-wrote is))) (written_is_spelled (PostPost (pos place) 2) tt (record { sfits = small }));
     }
 
+-- What is known of a file whose bytes are those of these instructions.
+pub known_of_file : (is : List Instruction) (stop : Postamble) (place padding : ℕ) (metrics : Metrics) (pages : List Page) →
+    AllByRecursion IsWritable is → NumbersFit (Post stop) → place ≡ length (bytes_of is) → place < 2 ^ 31 → 4 ≤ padding →
+    IsFile metrics (bytes_of is ++ (bytes_of (Post stop ∷ PostPost (pos place) 2 ∷ []) ++ replicate padding 223)) pages →
+    (comment : List ℕ) × (parts : List Part) × (is ≡ Pre 2 stop.units comment ∷ flat_map instructions parts) × (pointers is ++ stop.last_bop ∷ [] ≡ negsuc 0 ∷ map pos (places 0 (map wrote is)))
+unfolding frame_of
+known_of_file is stop place padding metrics pages front_fits stop_fits at small padded f =
+    let g = frame_of is stop [] place padding front_fits stop_fits tt at small padded in
+    let same = one_frame _ f.frame g in
+    let start = subst₂ (λ (front : List Token) (stop : Postamble). says front ≡ Pre 2 stop.units f.comment ∷ flat_map instructions f.parts) same.front same.stop f.front_is in
+    let chain = subst₂ (λ (front : List Token) (stop : Postamble). pointers (says front) ++ stop.last_bop ∷ [] ≡ negsuc 0 ∷ map pos (places 0 front)) same.front same.stop f.chain in
+    (f.comment, f.parts, sym (says-wrote is) ∙ start, subst (λ (is' : List Instruction). pointers is' ++ stop.last_bop ∷ [] ≡ negsuc 0 ∷ map pos (places 0 (map wrote is))) (says-wrote is) chain)
+
 module _ (metrics : Metrics) (table : Table) (s : Written) (is : List Instruction) (parts : List Part) (pages : List Page)
     (tall wide : ℤ) (closing : List Definition) (padding : ℕ)
     (t : Knows metrics table s is parts pages) (c : IsClosing table s.known closing) (tall_fits : NumberFits tall) (wide_fits : NumberFits wide) (small : s.size < 2 ^ 31) (padded : 4 ≤ padding) where
@@ -146,14 +160,22 @@ module _ (metrics : Metrics) (table : Table) (s : Written) (is : List Instructio
             ∙ t.shows;
       }
 
+-- There are as many pages as sheets.
+same_length : (metrics : Metrics) (table : Table) (s : Written) (ps : List Sheet) (pages : List Page) → AreGood metrics table s ps pages → length pages ≡ length ps
+same_length metrics table s [] [] good = refl
+same_length metrics table s [] (page ∷ pages) good = absurd good
+same_length metrics table s (p ∷ ps) [] good = absurd good
+same_length metrics table s (p ∷ ps) (page ∷ pages) (counts, here, good) = ap suc (same_length metrics table (after s p) ps pages good)
+
 -- What is written for good pages, and then the postamble, is a file of these pages.
 pub whole_file : (metrics : Metrics) (table : Table) (ps : List Sheet) (pages : List Page) (tall wide : ℤ) (closing : List Definition) (padding : ℕ) →
     AreGood metrics table at_first ps pages → IsClosing table (after_all at_first ps).known closing → NumberFits tall → NumberFits wide → (after_all at_first ps).size < 2 ^ 31 → 4 ≤ padding →
-    IsFile metrics (front_of ps ++ ending_of (after_all at_first ps) (stop_of (after_all at_first ps) tall wide (length pages)) closing padding) pages
+    IsFile metrics (whole_of ps tall wide closing padding) pages
 unfolding whole_bytes stop
 whole_file metrics table ps pages tall wide closing padding good closed tall_fits wide_fits small padded =
     let all = knows_all metrics table at_first (preamble ∷ []) [] [] ps pages (knows_first metrics table) good small in
-    file metrics table (after_all at_first ps) (preamble ∷ sheets_from at_first ps) all.0 pages tall wide closing padding all.1 closed tall_fits wide_fits small padded
+    subst (λ count. IsFile metrics (front_of ps ++ ending_of (after_all at_first ps) (stop_of (after_all at_first ps) tall wide count) closing padding) pages) (same_length metrics table at_first ps pages good)
+    (file metrics table (after_all at_first ps) (preamble ∷ sheets_from at_first ps) all.0 pages tall wide closing padding all.1 closed tall_fits wide_fits small padded)
 
 -- One page more: what the writer knows, what it writes, and that the pages are good.
 pub after_all-append : (s : Written) (ps qs : List Sheet) → after_all s (ps ++ qs) ≡ after_all (after_all s ps) qs
