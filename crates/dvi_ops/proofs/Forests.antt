@@ -1,8 +1,8 @@
 -- The pass with a stack is the meaning of the forest, and a list is the list of one forest at most.
-use Rattle.std.proofs.Common.{◌≡◌, ◌++◌, [], ◌∷◌, List, Some, None, refl, sym, ◌∙◌, ap, append_assoc, append-nil, subst}
+use Rattle.std.proofs.Common.{◌≡◌, ◌++◌, [], ◌∷◌, List, Some, None, refl, sym, ◌∙◌, ap, append_assoc, append-nil, subst, max, arith}
 use Rattle.dvi_ops.specs.Instruction.{Leaf, Instruction, Do, Push, Pop, Eop}
 use Rattle.dvi_ops.specs.Body.{Mark, Place, State, Meaning, Acts, only}
-use Rattle.dvi_ops.specs.Forest.{Forest, Empty, Then, Group, flat, ahead, and_then, restored, meaning}
+use Rattle.dvi_ops.specs.Forest.{Forest, Empty, Then, Group, flat, ahead, and_then, restored, meaning, nests, beside}
 use Rattle.dvi_ops.specs.Walk.{walk}
 
 -- No marks before a meaning leave it as it is.
@@ -138,3 +138,24 @@ flat_cut (Group inner f) (Group inner' g) x y ends ends' e =
 pub one_forest : (f g : Forest) → flat f ≡ flat g → f ≡ g
 unfolding Ends
 one_forest f g e = (flat_cut f g [] [] tt tt (append-nil (flat f) ∙ (e ∙ sym (append-nil (flat g))))).0
+
+-- One body behind another: its instructions, its meaning, and how many pushes are open.
+pub flat-beside : (f g : Forest) → flat (beside f g) ≡ flat f ++ flat g
+flat-beside Empty g = refl
+flat-beside (Then i f) g = ap (λ (is : List Instruction). Do i ∷ is) (flat-beside f g)
+flat-beside (Group inner f) g =
+    ap (λ (is : List Instruction). Push ∷ (flat inner ++ Pop ∷ is)) (flat-beside f g) ∙ ap (λ (is : List Instruction). Push ∷ is) (sym (append_assoc (flat inner) (Pop ∷ flat f) (flat g)))
+
+pub meaning-beside : (does : Acts) (f g : Forest) (s : State) → meaning does (beside f g) s ≡ and_then (meaning does f s) (λ t. meaning does g t)
+meaning-beside does Empty g s = sym (ahead-nil (meaning does g s))
+meaning-beside does (Then i f) g s =
+    and_then-same (does i s) (λ t. meaning does (beside f g) t) (λ t. and_then (meaning does f t) (λ u. meaning does g u)) (λ t. meaning-beside does f g t)
+    ∙ sym (and_then-and_then (does i s) (λ t. meaning does f t) (λ u. meaning does g u))
+meaning-beside does (Group inner f) g s =
+    and_then-same (restored s.place (meaning does inner s)) (λ t. meaning does (beside f g) t) (λ t. and_then (meaning does f t) (λ u. meaning does g u)) (λ t. meaning-beside does f g t)
+    ∙ sym (and_then-and_then (restored s.place (meaning does inner s)) (λ t. meaning does f t) (λ u. meaning does g u))
+
+pub nests-beside : (f g : Forest) → nests (beside f g) ≡ max (nests f) (nests g)
+nests-beside Empty g = omega arith
+nests-beside (Then i f) g = nests-beside f g
+nests-beside (Group inner f) g = let later = nests-beside f g in omega arith

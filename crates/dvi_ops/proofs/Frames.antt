@@ -1,4 +1,4 @@
--- Where no spelling begins another, bytes have one list of instructions, one frame, and one list of pages.
+-- No spelling begins another, so bytes have one list of instructions, one frame, and one list of pages.
 use Rattle.std.proofs.Common.{◌≡◌, ◌+◌, ◌++◌, [], ◌∷◌, List, length, replicate, take, ℕ, zero, suc, pos, Some, refl, sym, ◌∙◌, ap, ap₂, subst, append_assoc, append-nil, length-append, arith, add-one}
 use Rattle.std.proofs.lemmas.List.{append_cancel_left, take_at, same_from_push, replicate_more}
 use Rattle.std.specs.List.{flat_map, AllByRecursion}
@@ -9,11 +9,8 @@ use Rattle.dvi_ops.specs.Tokens.{Token, IsSpelled, says, written}
 use Rattle.dvi_ops.specs.File.{Part, Idle, Defines, Shows, instructions, Page, pages_of, Frame, IsFile}
 use Rattle.dvi_ops.specs.Fonts.{Metrics, definitions, widths_of}
 use Rattle.dvi_ops.specs.Body.{acts, kept}
+use Rattle.dvi_ops.proofs.FrontLaws.{one_reading}
 use Rattle.dvi_ops.proofs.Forests.{flat_cut, ends_eop}
-
--- No spelling begins another.
-abbrev pub OneReading : Type 0
-OneReading = (i j : Instruction) (a b x y : List ℕ) → Spells i a → Spells j b → a ++ x ≡ b ++ y → (i ≡ j) × (a ≡ b)
 
 -- Two lists cut at the same place from the front, or at the same length from the end.
 pub one_cut : {X : Type 0} (a b x y : List X) → a ++ x ≡ b ++ y → length a ≡ length b → (a ≡ b) × (x ≡ y)
@@ -29,25 +26,25 @@ one_cut_back a b x y e same =
     one_cut a b x y e (omega arith)
 
 -- No spelling is empty.
-pub not_empty : OneReading → (i : Instruction) → Spells i [] → ⊥
-not_empty one i s =
-    let push : List ℕ = 141 ∷ [] in let same = one i Push [] push push [] s refl refl in let empty : [] ≡ push = same.1 in cc
+pub not_empty : (i : Instruction) → Spells i [] → ⊥
+not_empty i s =
+    let push : List ℕ = 141 ∷ [] in let same = one_reading i Push [] push push [] s refl refl in let empty : [] ≡ push = same.1 in cc
 
 -- What is spelled first in bytes, where other spelled instructions make up all of them.
-pub begins : OneReading → (ts us : List Token) (x : List ℕ) → AllByRecursion IsSpelled ts → AllByRecursion IsSpelled us → written ts ++ x ≡ written us →
+pub begins : (ts us : List Token) (x : List ℕ) → AllByRecursion IsSpelled ts → AllByRecursion IsSpelled us → written ts ++ x ≡ written us →
     (more : List Token) × (us ≡ ts ++ more) × AllByRecursion IsSpelled more × (written more ≡ x)
-begins one [] us x p q e = (us, refl, q, sym e)
-begins one (t ∷ ts) [] x (here, p) q e = absurd (begun t.bytes here (sym (append_assoc t.bytes (written ts) x) ∙ e))
+begins [] us x p q e = (us, refl, q, sym e)
+begins (t ∷ ts) [] x (here, p) q e = absurd (begun t.bytes here (sym (append_assoc t.bytes (written ts) x) ∙ e))
   where
     begun : (bytes : List ℕ) → Spells t.says bytes → bytes ++ (written ts ++ x) ≡ [] → ⊥
-    begun [] s e = not_empty one t.says s
+    begun [] s e = not_empty t.says s
     begun (b ∷ bytes) s e = cc
-begins one (t ∷ ts) (u ∷ us) x (here, p) (here', q) e =
-    let first = one t.says u.says t.bytes u.bytes (written ts ++ x) (written us) here here' (sym (append_assoc t.bytes (written ts) x) ∙ e) in
+begins (t ∷ ts) (u ∷ us) x (here, p) (here', q) e =
+    let first = one_reading t.says u.says t.bytes u.bytes (written ts ++ x) (written us) here here' (sym (append_assoc t.bytes (written ts) x) ∙ e) in
     let same_says : t.says ≡ u.says = first.0 in
     let same_bytes : t.bytes ≡ u.bytes = first.1 in
     let rest : written ts ++ x ≡ written us = append_cancel_left t.bytes (written ts ++ x) (written us) (sym (append_assoc t.bytes (written ts) x) ∙ (e ∙ ap (λ (b : List ℕ). b ++ written us) (sym same_bytes))) in
-    let found = begins one ts us x p q rest in
+    let found = begins ts us x p q rest in
     let same_token : t ≡ u = ap₂ (λ (i : Instruction) (b : List ℕ). record { says = i; bytes = b }) same_says same_bytes in
     let same_rest : us ≡ ts ++ found.0 = found.1 in
     (found.0, cc, found.2, found.3)
@@ -63,14 +60,14 @@ stuck (t ∷ ts) x (here, p) e none =
     absurd (none t.says (length t.bytes) (subst (λ bytes. Spells t.says bytes) (sym (take_at t.bytes (written ts) (length t.bytes) refl) ∙ ap (take (length t.bytes)) e) here))
 
 -- Bytes have one list of instructions.
-pub one_list : OneReading → (ts us : List Token) → AllByRecursion IsSpelled ts → AllByRecursion IsSpelled us → written ts ≡ written us → ts ≡ us
-one_list one ts us p q e =
-    let found = begins one ts us [] p q (append-nil (written ts) ∙ e) in
+pub one_list : (ts us : List Token) → AllByRecursion IsSpelled ts → AllByRecursion IsSpelled us → written ts ≡ written us → ts ≡ us
+one_list ts us p q e =
+    let found = begins ts us [] p q (append-nil (written ts) ∙ e) in
     let none = nothing found.0 found.2 found.3 in
     sym (found.1 ∙ (ap (λ (more : List Token). ts ++ more) none ∙ append-nil ts))
   where
     nothing : (more : List Token) → AllByRecursion IsSpelled more → written more ≡ [] → more ≡ []
-    nothing more p e = stuck more [] p e (λ i size s. not_empty one i (subst (λ bytes. Spells i bytes) (take_none size) s))
+    nothing more p e = stuck more [] p e (λ i size s. not_empty i (subst (λ bytes. Spells i bytes) (take_none size) s))
 
 -- A list that ends in 2 and then n times 223, from its end.
 trailing : List ℕ → ℕ → List ℕ
@@ -131,8 +128,8 @@ pub record SameFrame (bytes : List ℕ) (f g : Frame bytes) : Type 0 where
   pub padding : f.padding ≡ g.padding
 
 -- Bytes have one frame.
-pub one_frame : OneReading → (bytes : List ℕ) (f g : Frame bytes) → SameFrame bytes f g
-one_frame one bytes f g =
+pub one_frame : (bytes : List ℕ) (f g : Frame bytes) → SameFrame bytes f g
+one_frame bytes f g =
     let c = cut_of bytes f in
     let d = cut_of bytes g in
     let upto : List ℕ → List ℕ → List ℕ → List ℕ = λ a p t. a ++ (p ++ (t ++ 249 ∷ [])) in
@@ -143,15 +140,15 @@ one_frame one bytes f g =
     let place : pos (length (written f.front)) ≡ pos (length (written g.front)) = sym c.says_place.1 ∙ (ap (signed 4) operands.1 ∙ d.says_place.1) in
     let lengths : length (written f.front) ≡ length (written g.front) = cc in
     let fronts = one_cut (written f.front) (written g.front) (f.post ++ (written f.tail ++ 249 ∷ [])) (g.post ++ (written g.tail ++ 249 ∷ [])) operands.0 lengths in
-    let posts = one (Post f.stop) (Post g.stop) f.post g.post (written f.tail ++ 249 ∷ []) (written g.tail ++ 249 ∷ []) f.post_spelled g.post_spelled fronts.1 in
+    let posts = one_reading (Post f.stop) (Post g.stop) f.post g.post (written f.tail ++ 249 ∷ []) (written g.tail ++ 249 ∷ []) f.post_spelled g.post_spelled fronts.1 in
     let same_post : f.post ≡ g.post = posts.1 in
     let same_stop : Post f.stop ≡ Post g.stop = posts.0 in
     let behind : written f.tail ++ 249 ∷ [] ≡ written g.tail ++ 249 ∷ [] = append_cancel_left f.post _ _ (fronts.1 ∙ ap (λ (p : List ℕ). p ++ (written g.tail ++ 249 ∷ [])) (sym same_post)) in
     record {
-      front = one_list one f.front g.front f.front_spelled g.front_spelled fronts.0;
+      front = one_list f.front g.front f.front_spelled g.front_spelled fronts.0;
       post = same_post;
       stop = cc;
-      tail = one_list one f.tail g.tail f.tail_spelled g.tail_spelled (same_from_push (written f.tail) (written g.tail) 249 249 behind).0;
+      tail = one_list f.tail g.tail f.tail_spelled g.tail_spelled (same_from_push (written f.tail) (written g.tail) 249 249 behind).0;
       ending = c.ending ∙ (ap (λ (o : List ℕ). 249 ∷ (o ++ 2 ∷ [])) operands.1 ∙ sym d.ending);
       padding = trailer.1;
     }
@@ -186,9 +183,9 @@ one_parts (Shows counts pointer body ∷ ps) (Shows counts' pointer' body' ∷ q
     cc
 
 -- Bytes have one list of pages.
-pub one_list_of_pages : OneReading → (metrics : Metrics) (bytes : List ℕ) (pages others : List Page) → IsFile metrics bytes pages → IsFile metrics bytes others → pages ≡ others
-one_list_of_pages one metrics bytes pages others f g =
-    let same = one_frame one bytes f.frame g.frame in
+pub one_list_of_pages : (metrics : Metrics) (bytes : List ℕ) (pages others : List Page) → IsFile metrics bytes pages → IsFile metrics bytes others → pages ≡ others
+one_list_of_pages metrics bytes pages others f g =
+    let same = one_frame bytes f.frame g.frame in
     let fronts : Pre 2 f.frame.stop.units f.comment ∷ flat_map instructions f.parts ≡ Pre 2 g.frame.stop.units g.comment ∷ flat_map instructions g.parts =
     sym f.front_is ∙ (ap says same.front ∙ g.front_is) in
     let bodies : flat_map instructions f.parts ≡ flat_map instructions g.parts = cc in

@@ -72,11 +72,11 @@ tabled_agree table d e t u same = let first = t.listed in let second : table d.n
 agrees_with_all : (table : Table) (d : Definition) (known : List Definition) → IsTabled table d → AllByRecursion (IsTabled table) known → AllByRecursion (AgreesWith d) known
 agrees_with_all table d known t all = all_weaker (IsTabled table) (AgreesWith d) known (λ e u. tabled_agree table d e t u) all
 
-known_tabled : (table : Table) (known fonts : List Definition) → AllByRecursion (IsTabled table) known → AllByRecursion (IsTabled table) fonts → AllByRecursion (IsTabled table) (known_after known (define fonts))
+pub known_tabled : (table : Table) (known fonts : List Definition) → AllByRecursion (IsTabled table) known → AllByRecursion (IsTabled table) fonts → AllByRecursion (IsTabled table) (known_after known (define fonts))
 known_tabled table known [] p q = p
 known_tabled table known (d ∷ fonts) p (here, q) = known_tabled table (d ∷ known) fonts (here, p) q
 
-defined_right : (table : Table) (known fonts : List Definition) → AllByRecursion (IsTabled table) known → AllByRecursion (IsTabled table) fonts → FontsAreRight known (define fonts)
+pub defined_right : (table : Table) (known fonts : List Definition) → AllByRecursion (IsTabled table) known → AllByRecursion (IsTabled table) fonts → FontsAreRight known (define fonts)
 defined_right table known [] p q = tt
 defined_right table known (d ∷ fonts) p (here, q) = ((here.size, agrees_with_all table d known here p), defined_right table (d ∷ known) fonts (here, p) q)
 
@@ -94,13 +94,13 @@ pub IsPlaceUpTo : ℕ → ℤ → Type 0
 IsPlaceUpTo n (pos a) = a ≤ n
 IsPlaceUpTo n (negsuc a) = a ≡ 0
 
-place_fits : (n : ℕ) (z : ℤ) → IsPlaceUpTo n z → n < 2 ^ 31 → NumberFits z
+pub place_fits : (n : ℕ) (z : ℤ) → IsPlaceUpTo n z → n < 2 ^ 31 → NumberFits z
 unfolding IsPlaceUpTo
 place_fits n (pos a) p below = record { sfits = omega arith }
 place_fits n (negsuc a) p below = record { sfits = omega arith }
 
 -- How the writer's knowledge stands to what it has written.
-pub record Fronts (metrics : Metrics) (table : Table) (s : Written) (is : List Instruction) (parts : List Part) (pages : List Page) : Type 0 where
+pub record Knows (metrics : Metrics) (table : Table) (s : Written) (is : List Instruction) (parts : List Part) (pages : List Page) : Type 0 where
   pub writable : AllByRecursion IsWritable is
   pub is_front : is ≡ preamble ∷ flat_map instructions parts
   pub size : s.size ≡ length (bytes_of is)
@@ -116,9 +116,9 @@ pub record Fronts (metrics : Metrics) (table : Table) (s : Written) (is : List I
   pub shows : pages_of (kept (acts (table_widths metrics table))) parts ≡ Some pages
 
 -- At first there is the preamble.
-pub first_front : (metrics : Metrics) (table : Table) → Fronts metrics table at_first (preamble ∷ []) [] []
+pub knows_first : (metrics : Metrics) (table : Table) → Knows metrics table at_first (preamble ∷ []) [] []
 unfolding spelling operand IsPlaceUpTo
-first_front metrics table =
+knows_first metrics table =
     record {
       writable = ((lit< tt, (record { sfits = lit< tt }, record { sfits = lit< tt }, record { sfits = lit< tt })), tt);
       is_front = refl;
@@ -152,7 +152,7 @@ pages-define does [] rest = refl
 pages-define does (d ∷ fonts) rest = pages-define does fonts rest
 
 module _ (metrics : Metrics) (table : Table) (s : Written) (is : List Instruction) (parts : List Part) (pages : List Page) (p : Sheet) (marks : List Mark)
-    (t : Fronts metrics table s is parts pages) (g : IsGood metrics table s.known p marks) (small : s.size < 2 ^ 31) where
+    (t : Knows metrics table s is parts pages) (g : IsGood metrics table s.known p marks) (small : s.size < 2 ^ 31) where
   writable_next : AllByRecursion IsWritable (is ++ sheet_from s.last p)
   writable_next =
       all_append IsWritable is (sheet_from s.last p) t.writable
@@ -251,8 +251,8 @@ module _ (metrics : Metrics) (table : Table) (s : Written) (is : List Instructio
   last_next = omega (arith, length-bytes_of-append (define p.fresh) (page_from s.last p))
 
   -- One page more.
-  pub next_front : Fronts metrics table (after s p) (is ++ sheet_from s.last p) (parts ++ parts_of s.last p) (pages ++ page_with p marks ∷ [])
-  next_front =
+  pub knows_next : Knows metrics table (after s p) (is ++ sheet_from s.last p) (parts ++ parts_of s.last p) (pages ++ page_with p marks ∷ [])
+  knows_next =
       record {
         writable = writable_next;
         is_front = instructions_next;

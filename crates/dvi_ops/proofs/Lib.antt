@@ -12,3 +12,7 @@ pub mod Layouts
 pub mod FrontLaws
 pub mod Spelled
 pub mod Shortest
+pub mod WholeFile
+pub mod Ranges
+pub mod KnownFiles
+pub mod NoFiles

@@ -1,5 +1,5 @@
 -- Pages and files whose meaning is known, to hold the definitions against.
-use Rattle.std.specs.Prelude.{◌≡◌, [], ◌∷◌, List, replicate, codes, ℕ, ℤ, pos, Option, Some}
+use Rattle.std.specs.Prelude.{◌≡◌, [], ◌∷◌, ◌++◌, List, take, drop, replicate, codes, ℕ, ℤ, pos, Option, Some}
 use Rattle.dvi_ops.specs.Instruction.{Across, Downward, First, By, Set, Again, SetChar, SetRule, PutRule, Move, FontNum}
 use Rattle.dvi_ops.specs.Body.{Mark, Glyph, Rule}
 use Rattle.dvi_ops.specs.Forest.{Forest, Empty, Then, Group}
@@ -49,6 +49,18 @@ one_rule_file =
 
 abbrev pub one_rule_pages : List Page
 one_rule_pages = record { counts = replicate 10 (pos 0); marks = one_rule_marks } ∷ []
+
+-- The same bytes, but the bop names its own place 15 in the place of -1.
+abbrev pub self_naming_file : List ℕ
+self_naming_file = take 56 one_rule_file ++ (0x00 ∷ 0x00 ∷ 0x00 ∷ 0x0f ∷ drop 60 one_rule_file)
+
+-- The same bytes, but pop and three nops in the place of the movement.
+abbrev pub stray_pop_file : List ℕ
+stray_pop_file = take 60 one_rule_file ++ (0x8e ∷ 0x8a ∷ 0x8a ∷ 0x8a ∷ drop 64 one_rule_file)
+
+-- The same bytes up to the third of the bytes 223.
+abbrev pub short_file : List ℕ
+short_file = take 112 one_rule_file
 
 -- The file of two such pages, the second with 7 as its first count. Its bop points to the first page's.
 abbrev pub two_page_file : List ℕ

@@ -1,7 +1,7 @@
 -- The body of a page: instructions, and groups between push and pop (DVItype, 14).
-use Rattle.std.specs.Prelude.{◌++◌, [], ◌∷◌, ◌+◌, max, List, ℕ, Option, Some, None}
+use Rattle.std.specs.Prelude.{◌++◌, [], ◌∷◌, ◌+◌, max, List, ℕ, ℤ, IsTrue, Option, Some, None}
 use Rattle.dvi_ops.specs.Instruction.{Leaf, Instruction, Do, Push, Pop}
-use Rattle.dvi_ops.specs.Body.{Mark, Place, State, Meaning, Acts, only}
+use Rattle.dvi_ops.specs.Body.{Mark, Place, State, Meaning, Acts, only, in_range}
 
 -- Nothing; or an instruction and what follows it; or a group and what follows it.
 pub data Forest : Type 0 where
@@ -46,3 +46,23 @@ nests (Group inner rest) = max (nests inner + 1) (nests rest)
 abbrev pub marks_of : Meaning → Option (List Mark)
 marks_of None = None
 marks_of (Some (marks, s)) = Some marks
+
+-- One body behind another.
+abbrev pub beside : Forest → Forest → Forest
+beside Empty g = g
+beside (Then i f) g = Then i (beside f g)
+beside (Group inner f) g = Group inner (beside f g)
+
+-- The places (h, v) after each instruction and after each group, as far as there is a meaning.
+abbrev pub points_then : Meaning → (State → List (ℤ × ℤ)) → List (ℤ × ℤ)
+points_then None next = []
+points_then (Some (marks, s)) next = (s.place.h, s.place.v) ∷ next s
+
+abbrev pub points : Acts → Forest → State → List (ℤ × ℤ)
+points does Empty s = []
+points does (Then i rest) s = points_then (does i s) (λ t. points does rest t)
+points does (Group inner rest) s = points does inner s ++ points_then (restored s.place (meaning does inner s)) (λ t. points does rest t)
+
+-- A place in signed 32 bits.
+abbrev pub IsPoint : ℤ × ℤ → Type 0
+IsPoint (h, v) = IsTrue (in_range h) × IsTrue (in_range v)

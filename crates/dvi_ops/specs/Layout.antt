@@ -77,6 +77,11 @@ stop_of s tall wide count =
 abbrev pub ending_of : Written → Postamble → List Definition → (padding : ℕ) → List ℕ
 ending_of s stop closing padding = bytes_of (Post stop ∷ (define closing ++ PostPost (pos s.size) 2 ∷ [])) ++ replicate padding 223
 
+-- The whole file, with these greatest sizes, and these definitions in the postamble.
+abbrev pub whole_of : List Sheet → (tall wide : ℤ) → List Definition → (padding : ℕ) → List ℕ
+whole_of sheets tall wide closing padding =
+    front_of sheets ++ ending_of (after_all at_first sheets) (stop_of (after_all at_first sheets) tall wide (length sheets)) closing padding
+
 -- How many bytes 223 stand behind `size` bytes: 4 to 7, so that the number of bytes is a multiple of 4.
 abbrev pub padding_after : ℕ → ℕ
 padding_after size = 7 - (size + 3) % 4

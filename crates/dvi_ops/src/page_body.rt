@@ -2,11 +2,12 @@
 //!
 //! The functions here do nothing; their contracts are laws of the definitions, which writer and reader share.
 
-ghost use Rattle.std.specs.Prelude.{◌≡◌, [], List};
+ghost use Rattle.std.specs.Prelude.{◌≡◌, ◌++◌, max, [], List};
+ghost use Rattle.std.specs.List.{AllByRecursion};
 ghost use Rattle.dvi_ops.specs.Instruction.{Instruction};
 ghost use Rattle.dvi_ops.specs.Body.{Acts, Mark, State, Widths, acts, kept, start};
 ghost use Rattle.dvi_ops.specs.Examples.{one_rule_body, one_rule_marks, saved_register_body, saved_register_marks, empty_rule_body, empty_rule_marks, too_far_body};
-ghost use Rattle.dvi_ops.specs.Forest.{Forest, flat, marks_of, meaning};
+ghost use Rattle.dvi_ops.specs.Forest.{Forest, IsPoint, and_then, beside, flat, marks_of, meaning, nests, points};
 ghost use Rattle.dvi_ops.specs.Walk.{walk};
 
 /// The pass with a stack of places gives each body its meaning, and none where it has none.
@@ -22,6 +23,19 @@ pub fn passed_is_body()
 /// Instructions are one body at most.
 pub fn one_body()
     ensures { (f g : Forest) → flat f ≡ flat g → f ≡ g }
+{}
+
+/// What stands in one body behind another: their instructions, their meanings one after the other, the pushes of the deeper.
+pub fn one_behind_another()
+    ensures instructions { (f g : Forest) → flat (beside f g) ≡ flat f ++ flat g }
+    ensures marks { (does : Acts) (f g : Forest) (s : State) → meaning does (beside f g) s ≡ and_then (meaning does f s) (λ t. meaning does g t) }
+    ensures depth { (f g : Forest) → nests (beside f g) ≡ max (nests f) (nests g) }
+{}
+
+/// The meaning with h and v in signed 32 bits is the meaning where all places on the way are in that range, and there is none elsewhere.
+pub fn kept_where_in_range()
+    ensures within { (does : Acts) (f : Forest) (s : State) → AllByRecursion IsPoint (points does f s) → meaning (kept does) f s ≡ meaning does f s }
+    ensures back { (does : Acts) (f : Forest) (s : State) (out : List Mark × State) → IsPoint (s.place.h, s.place.v) → meaning (kept does) f s ≡ Some out → (meaning does f s ≡ Some out) × AllByRecursion IsPoint (points does f s) }
 {}
 
 /// Bodies with known marks, whatever the widths of the fonts.

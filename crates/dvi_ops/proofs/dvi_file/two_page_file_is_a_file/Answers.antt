@@ -1,4 +1,4 @@
-use Rattle.dvi_ops.proofs.ExampleFiles.{two_page_is_file}
+use Rattle.dvi_ops.proofs.KnownFiles.{two_page_is_file}
 use Rattle.dvi_ops.proofs.dvi_file.two_page_file_is_a_file.Goals as goal
 
 pub returns : goal.returns

@@ -1,0 +1,218 @@
+-- What is written for good pages is a file of them.
+use Rattle.std.proofs.Common.{◌≡◌, ◌≤◌, ◌<◌, ◌+◌, ◌%◌, ◌^◌, ◌++◌, min, [], ◌∷◌, List, length, map, replicate, ℕ, suc, ℤ, pos, negsuc, Bool, true, false, if◌then◌else◌, Option, Some, IsSome, refl, sym, ◌∙◌, ap, ap₂, subst, subst₂, append_assoc, append-nil, lit<, arith}
+use Rattle.std.proofs.lemmas.Int.{ints}
+use Rattle.std.proofs.lemmas.Bool.Decides.{Decides-int_eq}
+use Rattle.std.specs.Ordering.{int_eq}
+use Rattle.std.specs.List.{flat_map, AllByRecursion}
+use Rattle.dvi_ops.specs.Instruction.{Definition, Postamble, FontDef, Instruction, Do, Pre, Post, PostPost}
+use Rattle.dvi_ops.specs.Table.{Spells}
+use Rattle.dvi_ops.specs.Spelling.{operand, spelling, NumberFits, NumbersFit}
+use Rattle.dvi_ops.specs.Tokens.{Token, IsSpelled, says, places, pointers}
+use Rattle.dvi_ops.specs.Fonts.{Metrics, definitions, selections, defined, FontsAreRight, font, font_in, width_in, widths_of}
+use Rattle.dvi_ops.specs.File.{Part, instructions, Page, depth_of, IsIdle, Frame, IsFile}
+use Rattle.dvi_ops.specs.Layout.{bytes_of, preamble, define, Sheet, Written, at_first, sheet_from, after, sheets_from, after_all, front_of, whole_of, stop_of, ending_of, padding_after, Table, table_widths, IsWritable, IsTabled, IsGood, AreGood, IsClosing}
+use Rattle.dvi_ops.proofs.Appends.{all_weaker, all_both, all_map, fonts_append}
+use Rattle.dvi_ops.proofs.Layouts.{wrote, says-wrote, written-wrote, bytes_of-append, length-bytes_of-append, definitions-define, defined_right, place_fits, Knows, knows_first, knows_next, page_with}
+use Rattle.dvi_ops.proofs.Frames.{one_frame}
+use Rattle.dvi_ops.proofs.Spelled.{written_is_spelled}
+use Rattle.dvi_ops.proofs.SameMeaning.{SameWidths, same_pages}
+
+all_spelled : (is : List Instruction) → AllByRecursion IsWritable is → AllByRecursion IsSpelled (map wrote is)
+all_spelled [] w = tt
+all_spelled (i ∷ is) (here, w) = (written_is_spelled i here.0 here.1, all_spelled is w)
+
+-- Pages do not take bytes away.
+grows : (s : Written) (ps : List Sheet) → s.size ≤ (after_all s ps).size
+grows s [] = omega arith
+grows s (p ∷ ps) = let more = grows (after s p) ps in omega arith
+
+-- All pages, one after the other.
+knows_all : (metrics : Metrics) (table : Table) (s : Written) (is : List Instruction) (parts : List Part) (pages : List Page) (ps : List Sheet) (more : List Page) →
+    Knows metrics table s is parts pages → AreGood metrics table s ps more → (after_all s ps).size < 2 ^ 31 →
+    (all : List Part) × Knows metrics table (after_all s ps) (is ++ sheets_from s ps) all (pages ++ more)
+knows_all metrics table s is parts pages [] [] t good small =
+    (parts, subst₂ (λ is pages. Knows metrics table s is parts pages) (sym (append-nil is)) (sym (append-nil pages)) t)
+knows_all metrics table s is parts pages [] (page ∷ more) t good small = absurd good
+knows_all metrics table s is parts pages (p ∷ ps) [] t good small = absurd good
+knows_all metrics table s is parts pages (p ∷ ps) (page ∷ more) t (counts, good, rest) small =
+    let bound = grows (after s p) ps in
+    let next = knows_next metrics table s is parts pages p page.marks t good (omega arith) in
+    let found = knows_all metrics table (after s p) (is ++ sheet_from s.last p) _ (pages ++ (page_with p page.marks) ∷ []) ps more next rest small in
+    let same : page_with p page.marks ≡ page = ap (λ (counts : List ℤ). record { counts = counts; marks = page.marks }) (sym counts) in
+    (found.0, subst₂ (λ is pages. Knows metrics table (after_all (after s p) ps) is found.0 pages) (append_assoc is (sheet_from s.last p) (sheets_from (after s p) ps)) (append_assoc pages (page_with p page.marks ∷ []) more ∙ ap (λ (page : Page). pages ++ (page ∷ more)) same) found.1)
+
+-- A definition of the postamble is the job's.
+closing_is_table : (table : Table) (closing : List Definition) (f : ℤ) → AllByRecursion (IsTabled table) closing → IsSome (defined f closing) → defined f closing ≡ table f
+closing_is_table table [] f all some = absurd cc
+closing_is_table table (d ∷ closing) f (here, all) some = by_test (int_eq f d.number) refl some (closing_is_table table closing f all)
+  where
+    by_test : (same : Bool) → int_eq f d.number ≡ same → IsSome (if same then Some d else defined f closing) → (IsSome (defined f closing) → defined f closing ≡ table f) → (if same then Some d else defined f closing) ≡ table f
+    by_test true e some later = sym (ap table ((Decides-int_eq f d.number).0 e) ∙ here.listed)
+    by_test false e some later = later some
+
+all_idle : (fonts : List Definition) → AllByRecursion IsIdle (define fonts)
+all_idle [] = tt
+all_idle (d ∷ fonts) = (tt, all_idle fonts)
+
+regroup : (a p t e bytes : List ℕ) → a ++ ((p ++ (t ++ (e ++ []))) ++ bytes) ≡ a ++ (p ++ (t ++ (e ++ bytes)))
+regroup a p t e bytes = simp (append_assoc, append-nil)
+
+-- The frame of what is written for instructions up to post, post, instructions behind it, and post_post.
+pub frame_of : (is : List Instruction) (stop : Postamble) (tail : List Instruction) (place padding : ℕ) →
+    AllByRecursion IsWritable is → NumbersFit (Post stop) → AllByRecursion IsWritable tail → place ≡ length (bytes_of is) → place < 2 ^ 31 → 4 ≤ padding →
+    Frame (bytes_of is ++ (bytes_of (Post stop ∷ (tail ++ PostPost (pos place) 2 ∷ [])) ++ replicate padding 223))
+frame_of is stop tail place padding front_fits stop_fits tail_fits at small padded =
+    let post = spelling (Post stop) in
+    let ending = spelling (PostPost (pos place) 2) in
+    record {
+      front = map wrote is;
+      post = post;
+      stop = stop;
+      tail = map wrote tail;
+      ending = ending;
+      padding = padding;
+      whole =
+          ap (λ (behind : List ℕ). bytes_of is ++ ((post ++ behind) ++ replicate padding 223)) (bytes_of-append tail (PostPost (pos place) 2 ∷ []))
+          ∙ (regroup (bytes_of is) post (bytes_of tail) ending (replicate padding 223)
+          ∙ ap₂ (λ (a b : List ℕ). a ++ (post ++ (b ++ (ending ++ replicate padding 223)))) (sym (written-wrote is)) (sym (written-wrote tail)));
+      padded = padded;
+      front_spelled = all_spelled is front_fits;
+      post_spelled = written_is_spelled (Post stop) tt stop_fits;
+      tail_spelled = all_spelled tail tail_fits;
+      ending_spelled = subst (λ n. Spells (PostPost (pos n) 2) ending) (at ∙ ap length (sym (written-wrote is))) (written_is_spelled (PostPost (pos place) 2) tt (record { sfits = small }));
+    }
+
+-- What is known of a file whose bytes are those of these instructions.
+pub known_of_file : (is : List Instruction) (stop : Postamble) (place padding : ℕ) (metrics : Metrics) (pages : List Page) →
+    AllByRecursion IsWritable is → NumbersFit (Post stop) → place ≡ length (bytes_of is) → place < 2 ^ 31 → 4 ≤ padding →
+    IsFile metrics (bytes_of is ++ (bytes_of (Post stop ∷ PostPost (pos place) 2 ∷ []) ++ replicate padding 223)) pages →
+    (comment : List ℕ) × (parts : List Part) × (is ≡ Pre 2 stop.units comment ∷ flat_map instructions parts) × (pointers is ++ stop.last_bop ∷ [] ≡ negsuc 0 ∷ map pos (places 0 (map wrote is)))
+unfolding frame_of
+known_of_file is stop place padding metrics pages front_fits stop_fits at small padded f =
+    let g = frame_of is stop [] place padding front_fits stop_fits tt at small padded in
+    let same = one_frame _ f.frame g in
+    let start = subst₂ (λ (front : List Token) (stop : Postamble). says front ≡ Pre 2 stop.units f.comment ∷ flat_map instructions f.parts) same.front same.stop f.front_is in
+    let chain = subst₂ (λ (front : List Token) (stop : Postamble). pointers (says front) ++ stop.last_bop ∷ [] ≡ negsuc 0 ∷ map pos (places 0 front)) same.front same.stop f.chain in
+    (f.comment, f.parts, sym (says-wrote is) ∙ start, subst (λ (is' : List Instruction). pointers is' ++ stop.last_bop ∷ [] ≡ negsuc 0 ∷ map pos (places 0 (map wrote is))) (says-wrote is) chain)
+
+module _ (metrics : Metrics) (table : Table) (s : Written) (is : List Instruction) (parts : List Part) (pages : List Page)
+    (tall wide : ℤ) (closing : List Definition) (padding : ℕ)
+    (t : Knows metrics table s is parts pages) (c : IsClosing table s.known closing) (tall_fits : NumberFits tall) (wide_fits : NumberFits wide) (small : s.size < 2 ^ 31) (padded : 4 ≤ padding) where
+  stop : Postamble
+  stop = stop_of s tall wide (length pages)
+
+  whole_bytes : List ℕ
+  whole_bytes = bytes_of is ++ ending_of s stop closing padding
+
+  stop_fits : NumbersFit (Post stop)
+  unfolding stop
+  stop_fits =
+      let shallow = t.shallow in
+      (place_fits s.size s.last t.last small, (record { sfits = lit< tt }, record { sfits = lit< tt }, record { sfits = lit< tt }), tall_fits, wide_fits, omega arith, omega arith)
+
+  -- What is written for definitions of the job.
+  closing_fits : AllByRecursion IsWritable (define closing)
+  closing_fits = all_map IsWritable (λ d. Do (FontDef d)) closing (all_weaker (IsTabled table) (λ d. IsWritable (Do (FontDef d))) closing (λ d u. u.writable) c.tabled)
+
+  frame : Frame whole_bytes
+  unfolding whole_bytes
+  frame = frame_of is stop (define closing) s.size padding t.writable stop_fits closing_fits t.size small padded
+
+  definitions_tail : definitions (says (map wrote (define closing))) ≡ closing
+  definitions_tail = ap definitions (says-wrote (define closing)) ∙ definitions-define closing
+
+  -- A font that was selected has a definition in the postamble, the job's.
+  closes : (f : ℤ) → IsSome (defined f s.known) → defined f closing ≡ table f
+  closes f some = closing_is_table table closing f c.tabled (c.each f some)
+
+  same_widths : (f : ℤ) → IsSome (defined f s.known) → SameWidths (widths_of metrics (definitions (says (map wrote (define closing))))) (table_widths metrics table) f
+  same_widths f some code =
+      ap (λ (fonts : List Definition). width_in (font_in metrics (defined f fonts)) code) definitions_tail ∙ ap (λ (d : Option Definition). width_in (font_in metrics d) code) (closes f some)
+
+  measured : (f : ℤ) → IsSome (defined f s.known) × IsSome (font_in metrics (table f)) → IsSome (font metrics (definitions (says (map wrote (define closing)))) f)
+  measured f (some, widths) =
+      subst (λ (d : Option Definition). IsSome (font_in metrics d)) (sym (ap (defined f) definitions_tail ∙ closes f some)) widths
+
+  file : IsFile metrics whole_bytes pages
+  unfolding frame stop frame_of
+  file =
+      record {
+        frame = frame;
+        comment = [];
+        parts = parts;
+        front_is = says-wrote is ∙ t.is_front;
+        tail_is = subst (AllByRecursion IsIdle) (sym (says-wrote (define closing))) (all_idle closing);
+        units = (omega (arith, ints), omega (arith, ints), omega (arith, ints));
+        chain = ap (λ (is : List Instruction). pointers is ++ s.last ∷ []) (says-wrote is) ∙ t.chain;
+        count = refl;
+        fonts =
+            subst₂ (λ (a b : List Instruction). FontsAreRight [] (a ++ b)) (sym (says-wrote is)) (sym (says-wrote (define closing)))
+            (fonts_append [] is (define closing) t.fonts (subst (λ (known : List Definition). FontsAreRight known (define closing)) (sym t.known) (defined_right table s.known closing t.tabled c.tabled)));
+        closing =
+            subst (λ (is : List Instruction). AllByRecursion (λ f. IsSome (font metrics (definitions (says (map wrote (define closing)))) f)) (selections is)) (sym (says-wrote is))
+            (all_weaker (λ f. IsSome (defined f s.known) × IsSome (font_in metrics (table f))) (λ f. IsSome (font metrics (definitions (says (map wrote (define closing)))) f)) (selections is) measured
+            (all_both (λ f. IsSome (defined f s.known)) (λ f. IsSome (font_in metrics (table f))) (selections is) t.chosen t.measured));
+        depth = all_weaker (λ part. depth_of part ≤ s.depth) (λ part. depth_of part ≤ min 1024 s.depth) parts (λ part shallow. (let most = t.shallow in omega arith)) t.depth;
+        shows =
+            same_pages (widths_of metrics (definitions (says (map wrote (define closing))))) (table_widths metrics table) parts
+            (all_weaker (λ f. IsSome (defined f s.known)) (SameWidths (widths_of metrics (definitions (says (map wrote (define closing))))) (table_widths metrics table)) (selections (flat_map instructions parts)) same_widths
+            (subst (λ (is : List Instruction). AllByRecursion (λ f. IsSome (defined f s.known)) (selections is)) t.is_front t.chosen))
+            ∙ t.shows;
+      }
+
+-- There are as many pages as sheets.
+same_length : (metrics : Metrics) (table : Table) (s : Written) (ps : List Sheet) (pages : List Page) → AreGood metrics table s ps pages → length pages ≡ length ps
+same_length metrics table s [] [] good = refl
+same_length metrics table s [] (page ∷ pages) good = absurd good
+same_length metrics table s (p ∷ ps) [] good = absurd good
+same_length metrics table s (p ∷ ps) (page ∷ pages) (counts, here, good) = ap suc (same_length metrics table (after s p) ps pages good)
+
+-- What is written for good pages, and then the postamble, is a file of these pages.
+pub whole_file : (metrics : Metrics) (table : Table) (ps : List Sheet) (pages : List Page) (tall wide : ℤ) (closing : List Definition) (padding : ℕ) →
+    AreGood metrics table at_first ps pages → IsClosing table (after_all at_first ps).known closing → NumberFits tall → NumberFits wide → (after_all at_first ps).size < 2 ^ 31 → 4 ≤ padding →
+    IsFile metrics (whole_of ps tall wide closing padding) pages
+unfolding whole_bytes stop
+whole_file metrics table ps pages tall wide closing padding good closed tall_fits wide_fits small padded =
+    let all = knows_all metrics table at_first (preamble ∷ []) [] [] ps pages (knows_first metrics table) good small in
+    subst (λ count. IsFile metrics (front_of ps ++ ending_of (after_all at_first ps) (stop_of (after_all at_first ps) tall wide count) closing padding) pages) (same_length metrics table at_first ps pages good)
+    (file metrics table (after_all at_first ps) (preamble ∷ sheets_from at_first ps) all.0 pages tall wide closing padding all.1 closed tall_fits wide_fits small padded)
+
+-- One page more: what the writer knows, what it writes, and that the pages are good.
+pub after_all-append : (s : Written) (ps qs : List Sheet) → after_all s (ps ++ qs) ≡ after_all (after_all s ps) qs
+after_all-append s [] qs = refl
+after_all-append s (p ∷ ps) qs = after_all-append (after s p) ps qs
+
+pub sheets_from-append : (s : Written) (ps qs : List Sheet) → sheets_from s (ps ++ qs) ≡ sheets_from s ps ++ sheets_from (after_all s ps) qs
+sheets_from-append s [] qs = refl
+sheets_from-append s (p ∷ ps) qs =
+    ap (λ (is : List Instruction). sheet_from s.last p ++ is) (sheets_from-append (after s p) ps qs) ∙ sym (append_assoc (sheet_from s.last p) (sheets_from (after s p) ps) (sheets_from (after_all (after s p) ps) qs))
+
+pub front_more : (ps : List Sheet) (p : Sheet) → front_of (ps ++ p ∷ []) ≡ front_of ps ++ bytes_of (sheet_from (after_all at_first ps).last p)
+front_more ps p =
+    ap (λ (is : List Instruction). bytes_of (preamble ∷ is)) (sheets_from-append at_first ps (p ∷ []) ∙ ap (λ (is : List Instruction). sheets_from at_first ps ++ is) (append-nil (sheet_from (after_all at_first ps).last p)))
+    ∙ bytes_of-append (preamble ∷ sheets_from at_first ps) (sheet_from (after_all at_first ps).last p)
+
+pub good_more : (metrics : Metrics) (table : Table) (s : Written) (ps : List Sheet) (pages : List Page) (p : Sheet) (page : Page) →
+    AreGood metrics table s ps pages → page.counts ≡ p.counts → IsGood metrics table (after_all s ps).known p page.marks → AreGood metrics table s (ps ++ p ∷ []) (pages ++ page ∷ [])
+good_more metrics table s [] [] p page are counts good = (counts, good, tt)
+good_more metrics table s [] (q ∷ pages) p page are counts good = absurd are
+good_more metrics table s (q ∷ ps) [] p page are counts good = absurd are
+good_more metrics table s (q ∷ ps) (first ∷ pages) p page (same, here, are) counts good = (same, here, good_more metrics table (after s q) ps pages p page are counts good)
+
+-- The number of bytes that the writer keeps is that of what it has written.
+pub size_of_front : (ps : List Sheet) → (after_all at_first ps).size ≡ length (front_of ps)
+unfolding spelling operand
+size_of_front ps = sized at_first (preamble ∷ []) ps refl
+  where
+    sized : (s : Written) (is : List Instruction) (ps : List Sheet) → s.size ≡ length (bytes_of is) → (after_all s ps).size ≡ length (bytes_of (is ++ sheets_from s ps))
+    sized s is [] e = e ∙ ap (λ (is : List Instruction). length (bytes_of is)) (sym (append-nil is))
+    sized s is (p ∷ ps) e =
+        sized (after s p) (is ++ sheet_from s.last p) ps (ap (λ n. n + length (bytes_of (sheet_from s.last p))) e ∙ sym (length-bytes_of-append is (sheet_from s.last p)))
+        ∙ ap (λ (is : List Instruction). length (bytes_of is)) (append_assoc is (sheet_from s.last p) (sheets_from (after s p) ps))
+
+-- There are four to seven bytes 223.
+pub padding_low : (n : ℕ) → 4 ≤ padding_after n
+padding_low n = omega arith
+
+pub padding_fills : (n : ℕ) → (n + padding_after n) % 4 ≡ 0
+padding_fills n = omega arith
