@@ -1,5 +1,5 @@
 -- How a job and the machine that it stands for move together.
-use Rattle.std.proofs.Common.{◌≡◌, ◌≢◌, ℕ, zero, suc, ◌+◌, ◌*◌, ◌≤◌, ◌<◌, ◌^◌, Bool, true, false, List, [], ◌∷◌, ◌++◌, length, length-append, Option, Some, None, Result, Ok, Err, refl, ap, sym, ◌∙◌, subst, arith, cond}
+use Rattle.std.proofs.Common.{◌≡◌, ◌≢◌, ℕ, zero, suc, ◌+◌, ◌*◌, ◌≤◌, ◌<◌, ◌^◌, Bool, true, false, List, [], ◌∷◌, ◌++◌, length, length-append, Option, Some, None, Result, Ok, Err, refl, ap, sym, ◌∙◌, subst, arith, cond, lit≤}
 use Rattle.std.specs.Prelude.{nat_le, nat_lt, is_none, IfSome, if◌then◌else◌, pos}
 use Rattle.std.proofs.lemmas.Bool.{leb-false, ltb-false}
 use Rattle.node_core.specs.declared.tree.BoxNode.{BoxNode}
@@ -10,8 +10,10 @@ use Rattle.job_core.specs.declared.command.Command.TheVariants.{OpenHbox, End, R
 use Rattle.job_core.specs.declared.command.Refusal.{Refusal}
 use Rattle.job_core.specs.declared.command.Refusal.TheVariants.{OutOfMemory, JobOver, VoidBox, TooManyPages, TooMuchShipped, HugePage}
 use Rattle.job_core.specs.Reply.{Reply}
+use Rattle.job_core.specs.NamedBytes.{NamedBytes}
+use Rattle.dvi_ops.specs.Spelling.{spelling, operand}
 use Rattle.job_core.specs.Marks.{Page}
-use Rattle.job_core.specs.Machine.{State, Machine, checks, first_of, reply_to, after, state_by, state_after, new_pages, pages_of, page_of, held_in, count_in, is_huge_in, step, stopped, most_shipped, most_pages}
+use Rattle.job_core.specs.Machine.{State, Machine, checks, first_of, reply_to, after, state_by, state_after, new_pages, pages_of, page_of, held_in, count_in, is_huge_in, step, stopped, most_shipped, most_pages, first_state}
 use Rattle.job_core.specs.Draft.{Draft, sheet_of, with_page, with_pages, first_draft, draft_of}
 use Rattle.job_core.specs.Runs.{TakesMemory, Seen, Steps, Replies, LacksMemory, Holds, KeepsTo}
 use Rattle.job_core.specs.Room.{HasRoom}
@@ -180,3 +182,8 @@ roomy s draft (Ship r) room = cases (first_of (checks s (Ship r))) refl
 -- There is room for a page and the end: every place is below 2^31.
 pub small_enough : (s : State) (draft : Draft) → HasRoom s draft → length draft.bytes < 2 ^ 31
 small_enough s draft room = omega (arith, room.nodes, room.pages, room.bytes)
+
+-- There is room in a new job.
+pub first_room : (files : List NamedBytes) → HasRoom (first_state files) first_draft
+unfolding spelling operand
+first_room files = record { nodes = omega arith; pages = omega arith; bytes = lit≤ tt }
