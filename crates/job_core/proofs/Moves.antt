@@ -15,7 +15,7 @@ use Rattle.dvi_ops.specs.Spelling.{spelling, operand}
 use Rattle.job_core.specs.Marks.{Page}
 use Rattle.job_core.specs.Machine.{State, Machine, checks, first_of, reply_to, after, state_by, state_after, new_pages, pages_of, page_of, held_in, count_in, is_huge_in, step, stopped, most_shipped, most_pages, first_state}
 use Rattle.job_core.specs.Draft.{Draft, sheet_of, with_page, with_pages, first_draft, draft_of}
-use Rattle.job_core.specs.Runs.{TakesMemory, Seen, Steps, Replies, LacksMemory, Holds, KeepsTo}
+use Rattle.job_core.specs.Runs.{TakesMemory, Seen, Steps, Replies, LacksMemory, Run, Holds, KeepsTo, RunsTo}
 use Rattle.job_core.specs.Room.{HasRoom}
 use Rattle.job_core.proofs.PageBytes.{page_bytes}
 
@@ -187,3 +187,23 @@ small_enough s draft room = omega (arith, room.nodes, room.pages, room.bytes)
 pub first_room : (files : List NamedBytes) → HasRoom (first_state files) first_draft
 unfolding spelling operand
 first_room files = record { nodes = omega arith; pages = omega arith; bytes = lit≤ tt }
+
+-- A run of one command more.
+pub run_more :
+    (m : Machine) (n : ℕ) (commands : List Command) (replies : List Reply) (middle : Machine) (i : ℕ) (command : Command) (reply : Reply) (next : Machine) (k : ℕ)
+    → Run m n commands replies middle i → Steps middle i command reply next k → Run m n (commands ++ command ∷ []) (replies ++ reply ∷ []) next k
+run_more m n [] [] middle i command reply next k run goes =
+    let P : Machine → ℕ → Type 0 = λ x j. Steps x j command reply next k in
+    (next, k, subst (λ x. P x n) run.0 (subst (P middle) run.1 goes), (refl, refl))
+run_more m n [] (r ∷ replies) middle i command reply next k run goes = absurd run
+run_more m n (c ∷ commands) [] middle i command reply next k run goes = absurd run
+run_more m n (c ∷ commands) (r ∷ replies) middle i command reply next k run goes =
+    (run.0, run.1, run.2, run_more run.0 run.1 commands replies middle i command reply next k run.3 goes)
+
+pub runs_more :
+    (old middle new : Seen) (commands : List Command) (replies : List Reply) (command : Command) (reply : Reply)
+    → RunsTo old commands replies middle → KeepsTo middle command reply new → RunsTo old (commands ++ command ∷ []) (replies ++ reply ∷ []) new
+runs_more old middle new commands replies command reply ran keeps m holds =
+    let first = ran m holds in
+    let last = keeps first.0 first.2 in
+    (last.0, run_more m old.failed commands replies first.0 middle.failed command reply last.0 new.failed first.1 last.1, last.2)

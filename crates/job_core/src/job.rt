@@ -119,6 +119,23 @@ impl<D: Device> Job<D> {
         reply
     }
 
+    /// Does what the commands say, one after the other, and appends a reply for each. It makes room for all replies first: refused,
+    /// it has done nothing.
+    pub fn run(&mut self, commands: &[Command], replies: &mut Vec<Reply>) -> Result<(), AllocError>
+        ensures ran { OnOk result ((added : List AReply) × (replies.new.items ≡ replies.old.items ++ added) × RunsTo self.old commands.now added self.new) }
+        ensures none { OnErr result (self.new ≡ self.old) }
+        ensures cut { OnErr result (replies.new.items ≡ replies.old.items) }
+    {
+        replies.reserve(commands.len())?;
+        for command in commands {
+            let reply = self.step(command);
+            let Ok(()) = replies.push(reply) else {
+                unreachable!()
+            };
+        }
+        Ok(())
+    }
+
     /// The device.
     pub fn into_device(self) -> D
         ensures told { D.told result ≡ self.told }
