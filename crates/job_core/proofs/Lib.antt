@@ -5,3 +5,4 @@ pub mod Spelled
 pub mod Tellings
 pub mod PageBytes
 pub mod Moves
+pub mod Endings

@@ -9,3 +9,7 @@ grown (Some told) bytes = Some (told ++ bytes)
 -- What is told has grown by a beginning of the bytes that is not all of them.
 abbrev pub GrowsByFront : Option (List ℕ) → Option (List ℕ) → List ℕ → Type 0
 GrowsByFront old new bytes = (n : ℕ) × (n < length bytes) × (new ≡ grown old (take n bytes))
+
+-- The bytes are a beginning of others.
+abbrev pub IsFrontOf : List ℕ → List ℕ → Type 0
+IsFrontOf front whole = (n : ℕ) × (front ≡ take n whole)

@@ -83,8 +83,11 @@ impl<D: Device> Model for Job<D> {
 }
 
 impl<D: Device> Job<D> {
-    ghost use Rattle.std.specs.Prelude.{◌≡◌, ◌<◌, ◌+◌, ◌^◌, ◌++◌, [], List, ℕ, IfOk, IfErr, OnOk, OnErr, IfSome, true};
-    ghost use Rattle.job_core.specs.Machine.{first_machine};
+    ghost use Rattle.std.specs.Prelude.{◌≡◌, ◌<◌, ◌+◌, ◌^◌, ◌++◌, [], List, ℕ, IfOk, IfErr, OnOk, OnErr, IfSome, Err, length, true};
+    ghost use Rattle.job_core.specs.Machine.{Machine, first_machine};
+    ghost use Rattle.job_core.specs.Draft.{file_of};
+    ghost use Rattle.job_core.specs.Told.{IsFrontOf};
+    ghost use Rattle.job_core.specs.declared.command.Refusal.{Refusal};
     ghost use Rattle.job_core.specs.Reply.{Reply as AReply};
     ghost use Rattle.job_core.specs.Runs.{Holds, KeepsTo, RunsTo, FinishesTo};
 
@@ -134,6 +137,38 @@ impl<D: Device> Job<D> {
             };
         }
         Ok(())
+    }
+
+    /// Ends the job: where there are pages, their file goes to the device. All memory is taken before that.
+    pub fn finish(&mut self) -> Result<Summary, Refusal>
+        ensures finished { FinishesTo self.old result self.new }
+        ensures file { (m : Machine) → Holds self.old m → OnOk result (IfSome self.new.told (λ bytes. bytes ≡ file_of m.pages)) }
+        ensures size { IfOk result (λ summary. (m : Machine) → Holds self.old m → IfSome self.new.told (λ bytes. summary.bytes ≡ length bytes)) }
+        ensures front { result ≡ Err Refusal.Device → (m : Machine) → Holds self.old m → IfSome self.new.told (λ bytes. IsFrontOf bytes (file_of m.pages)) }
+    {
+        if self.kept.is_over() {
+            return Err(Refusal::JobOver);
+        }
+        if self.kept.is_open() {
+            return Err(Refusal::ListsOpen);
+        }
+        let pages = self.kept.pages();
+        if pages == 0 {
+            self.kept.stop();
+            return Ok(Summary { pages: 0, bytes: 0 });
+        }
+        let Ok(()) = self.writer.close(pages) else {
+            return Err(Refusal::OutOfMemory);
+        };
+        self.kept.stop();
+        let bytes = self.writer.bytes();
+        let Ok(()) = write_all(&mut self.device, bytes) else {
+            return Err(Refusal::Device);
+        };
+        Ok(Summary {
+            pages,
+            bytes: bytes.len() as u64,
+        })
     }
 
     /// The device.

@@ -1,6 +1,6 @@
 //! What a job keeps, but for its device and its bytes.
 
-ghost use Rattle.std.specs.Prelude.{◌≡◌, ◌<◌, ◌≤◌, ◌+◌, ◌^◌, true, false, None, Some, Ok, IfOk, IfErr, OnOk, OnErr, length, option_copied};
+ghost use Rattle.std.specs.Prelude.{◌≡◌, ◌==◌, ◌<◌, ◌≤◌, ◌+◌, ◌^◌, not, true, false, None, Some, Ok, IfOk, IfErr, OnOk, OnErr, length, option_copied};
 ghost use Rattle.job_core.specs.declared.command.Command.TheVariants as commands;
 ghost use Rattle.job_core.specs.Machine.{first_state, held_in, checks, first_of, reply_to, state_after, after, sizes_of};
 
@@ -79,6 +79,20 @@ impl Kept {
         ensures { self.new ≡ record self.old { over = true } }
     {
         self.over = true;
+    }
+
+    /// Whether a list is open.
+    pub fn is_open(&self) -> bool
+        ensures { result ≡ not (length self.now.nest == 0) }
+    {
+        self.nest.len() != 0
+    }
+
+    /// How many pages were shipped.
+    pub fn pages(&self) -> u32
+        ensures { result ≡ self.now.pages }
+    {
+        self.pages
     }
 
     /// Opens a horizontal list.

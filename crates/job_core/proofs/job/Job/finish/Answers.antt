@@ -1,0 +1,27 @@
+use Rattle.std.proofs.Common.{◌≡◌, ◌≢◌, false, length, refl, ap, sym, ◌∙◌, arith}
+use Rattle.std.specs.Prelude.{not, ◌==◌}
+use Rattle.job_core.proofs.Endings.{may_finish, over_refused, open_refused, finished, losing}
+use Rattle.job_core.proofs.job.Job.finish.Goals as goal
+
+pub returns-then-is_over-clause-finished : goal.returns-then-is_over-clause-finished
+returns-then-is_over-clause-finished g c = rw (← c.self.view_is) (over_refused _ (sym c.is_over.ensures ∙ c.if-is_over.true))
+
+pub returns-then-is_open-clause-finished : goal.returns-then-is_open-clause-finished
+returns-then-is_open-clause-finished g c =
+    rw (← c.self.view_is) (open_refused _ (sym c.is_over.ensures ∙ c.if-is_over.false) (sym c.is_open.ensures ∙ c.if-is_open.true))
+
+pub returns-then-pages-eq0-clause-finished : goal.returns-then-pages-eq0-clause-finished
+returns-then-pages-eq0-clause-finished g c =
+    let may = may_finish c.self.inside.kept (sym c.is_over.ensures ∙ c.if-is_over.false) (sym c.is_open.ensures ∙ c.if-is_open.false) in
+    rw (← c.self.view_is) (finished _ _ (record { pages = 0; bytes = 0 }) may c.stop.ensures (sym c.if-pages-eq0.true ∙ c.pages-pages.ensures) refl)
+
+pub returns-clause-finished : goal.returns-clause-finished
+returns-clause-finished g c =
+    let may = may_finish c.self.inside.kept (sym c.is_over.ensures ∙ c.if-is_over.false) (sym c.is_open.ensures ∙ c.if-is_open.false) in
+    rw (← c.self.view_is) (finished _ _ (record { pages = c.pages-pages.result; bytes = length c.bytes-bytes.result.now }) may c.stop-2.ensures c.pages-pages.ensures c.in-Ok-write_all.ensures.stands)
+
+pub returns-in_default-write_all-clause-finished : goal.returns-in_default-write_all-clause-finished
+returns-in_default-write_all-clause-finished g c =
+    let may = may_finish c.self.inside.kept (sym c.is_over.ensures ∙ c.if-is_over.false) (sym c.is_open.ensures ∙ c.if-is_open.false) in
+    let some : c.self.inside.kept.pages ≢ 0 = λ none. c.if-pages-eq0.false (c.pages-pages.ensures ∙ none) in
+    rw (← c.self.view_is) (losing _ _ may some c.stop-2.ensures (omega (arith, c.in_default-write_all.ensures.counted)))
