@@ -1,1 +1,2 @@
+-- Lemmas on lists of nodes.
 pub mod NodeLemmas

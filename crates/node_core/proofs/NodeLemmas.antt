@@ -5,16 +5,19 @@ use Rattle.node_core.specs.declared.tree.Node.TheVariants.{Kern, Rule}
 use Rattle.node_core.specs.Items.{kern, rule, Items, none, leaf, items_count, items_depth}
 use Rattle.node_core.specs.Nodes.{items_of, nodes_of}
 
+-- A list of nodes is the nodes of its items.
 pub nodes_of-items_of : (nodes : List Node) → nodes_of (items_of nodes) ≡ nodes
 nodes_of-items_of [] = refl
 nodes_of-items_of ((Kern width) ∷ rest) = ap (λ nodes. Kern width ∷ nodes) (nodes_of-items_of rest)
 nodes_of-items_of ((Rule sizes) ∷ rest) = ap (λ nodes. Rule sizes ∷ nodes) (nodes_of-items_of rest)
 
+-- Items are the items of their nodes.
 pub items_of-nodes_of : (items : Items) → items_of (nodes_of items) ≡ items
 items_of-nodes_of none = refl
 items_of-nodes_of (leaf (kern width) rest) = ap (leaf (kern width)) (items_of-nodes_of rest)
 items_of-nodes_of (leaf (rule sizes) rest) = ap (leaf (rule sizes)) (items_of-nodes_of rest)
 
+-- As long as no node holds others, the items are as many as the nodes.
 pub items_count-is : (items : Items) → items_count items ≡ length (nodes_of items)
 items_count-is none = refl
 items_count-is (leaf (kern width) rest) = omega (arith, items_count-is rest)
@@ -25,4 +28,5 @@ pub items_depth-is : (items : Items) → items_depth items ≡ 0
 items_depth-is none = refl
 items_depth-is (leaf x rest) = items_depth-is rest
 
+-- What the methods of a list and of a box use.
 pub ruleset nodes = (nodes_of-items_of, items_of-nodes_of, items_count-is, items_depth-is)

@@ -1,3 +1,4 @@
+-- The trees that contracts see, how the logic stores them, and the nodes that they are.
 pub mod Items
 pub mod Codes
 pub mod Nodes

@@ -5,22 +5,22 @@ use Rattle.node_core.specs.declared.tree.Node.TheVariants.{Kern, Rule}
 use Rattle.node_core.specs.declared.tree.BoxNode.{BoxNode}
 use Rattle.node_core.specs.Items.{kern, rule, Items, none, leaf, items_depth, items_count}
 
--- The items that a list of nodes is.
+-- The items that a list of nodes is (own).
 abbrev pub items_of : List Node → Items
 items_of [] = none
 items_of ((Kern width) ∷ rest) = leaf (kern width) (items_of rest)
 items_of ((Rule sizes) ∷ rest) = leaf (rule sizes) (items_of rest)
 
--- The nodes that items are.
+-- The nodes that items are (own).
 abbrev pub nodes_of : Items → List Node
 nodes_of none = []
 nodes_of (leaf (kern width) rest) = Kern width ∷ nodes_of rest
 nodes_of (leaf (rule sizes) rest) = Rule sizes ∷ nodes_of rest
 
--- The depth of a box: 1 if no box stands in it.
+-- The depth of a box: 1 if no box stands in it (own).
 abbrev pub box_depth : BoxNode → ℕ
 box_depth b = items_depth b.list + 1
 
--- The box itself and every item in it.
+-- The count of a box: itself and every item in it (own).
 abbrev pub box_count : BoxNode → ℕ
 box_count b = items_count b.list + 1

@@ -1,4 +1,6 @@
 //! Nodes: the items of TeX's lists, boxes of them, and their trees.
+//!
+//! A copy of a list or a box is an equal tree. Sizes are dimensions: whole numbers of scaled points.
 #![tactic(auto)]
 
 pub mod tree;

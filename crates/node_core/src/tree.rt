@@ -1,4 +1,7 @@
 //! Nodes, lists of nodes and boxes.
+//!
+//! A list is seen as its items, a tree without pointers and capacities; so two lists, nodes or boxes are equal in a clause exactly where they are
+//! the same tree. `nodes_of` gives the nodes of a list in order.
 
 ghost use Rattle.std.specs.Prelude.{◌≡◌, ◌==◌, ℕ, ◌+◌, List, [], ◌∷◌, ◌++◌, length, OnOk, OnErr, IfOk, IfErr, min};
 ghost use Rattle.node_core.specs.Items.{Items, none, items_depth, items_count};
@@ -11,9 +14,9 @@ use std::marker::Model;
 /// An item of a list (TeX: The Program, part 10).
 #[derive(Debug, Drop)]
 pub enum Node {
-    /// An explicit kern.
+    /// An explicit kern: so much space, in scaled points; a negative one goes back.
     Kern(Dimen),
-    /// A rule.
+    /// A rule: a filled rectangle.
     Rule(Rule),
 }
 
@@ -22,7 +25,7 @@ pub enum Node {
 pub enum RuleSize {
     /// That of the box whose list the rule stands in.
     Running,
-    /// A size of its own.
+    /// A size of its own, in scaled points.
     Fixed(Dimen),
 }
 
@@ -30,28 +33,34 @@ pub enum RuleSize {
 #[derive(Clone, Copy, Debug, PartialEq, Eq)]
 pub struct Rule {
     pub width: RuleSize,
+    /// How far it goes above the baseline.
     pub height: RuleSize,
+    /// How far it goes below the baseline.
     pub depth: RuleSize,
 }
 
 /// Which way a list goes.
 #[derive(Clone, Copy, Debug, PartialEq, Eq)]
 pub enum Kind {
+    /// From left to right, as in an hbox.
     Horizontal,
+    /// From top to bottom, as in a vbox.
     Vertical,
 }
 
-/// A box: its sizes and the list that is set in it.
+/// A box: its sizes, in scaled points, and the list that is set in it (TeX: The Program, part 10).
 #[derive(Debug, Drop)]
 pub struct BoxNode {
     pub kind: Kind,
     pub width: Dimen,
+    /// How far it goes above its reference point.
     pub height: Dimen,
+    /// How far it goes below its reference point.
     pub depth: Dimen,
     pub list: NodeList,
 }
 
-/// A list of nodes.
+/// A list of nodes, in order.
 #[derive(Debug, Drop)]
 pub struct NodeList {
     nodes: Vec<Node>,
@@ -80,22 +89,25 @@ impl NodeList {
         }
     }
 
-    /// The list of these nodes.
+    /// The list of these nodes. It takes no memory.
+    #[tactic(auto, using(crate::proofs::NodeLemmas::nodes))]
     pub fn from_vec(nodes: Vec<Node>) -> NodeList
-        ensures { result ≡ items_of nodes.items }
+        ensures items { result ≡ items_of nodes.items }
+        ensures nodes { nodes_of result ≡ nodes.items }
     {
         NodeList { nodes }
     }
 
-    /// The nodes of the list.
+    /// The nodes of the list, as the vector that it kept.
     #[tactic(auto, using(crate::proofs::NodeLemmas::nodes))]
     pub fn into_vec(self) -> Vec<Node>
         ensures { result.items ≡ nodes_of self }
     {
-        self.nodes
+        let NodeList { nodes } = self;
+        nodes
     }
 
-    /// The nodes of the list.
+    /// The nodes of the list, lent.
     #[tactic(auto, using(crate::proofs::NodeLemmas::nodes))]
     pub fn as_slice(&self) -> &[Node]
         ensures { result.now ≡ nodes_of self.now }
@@ -119,7 +131,7 @@ impl NodeList {
         self.nodes.is_empty()
     }
 
-    /// Puts a node behind the others. A refused growth hands it back.
+    /// Puts a node behind the others. A refused growth hands it back and leaves the list as it was.
     #[tactic(auto, using(crate::proofs::NodeLemmas::nodes))]
     pub fn push(&mut self, node: Node) -> Result<(), AllocFailed<Node>>
         ensures ok { OnOk result (self.new ≡ items_of (nodes_of self.old ++ node ∷ [])) }
@@ -133,7 +145,7 @@ impl NodeList {
         }
     }
 
-    /// An equal list in memory of its own.
+    /// An equal list in memory of its own; refused only where a growth is.
     #[tactic(auto, using(crate::proofs::NodeLemmas::nodes))]
     pub fn copy(&self, alloc: Global) -> Result<NodeList, AllocError>
         ensures { IfOk result (λ copy. copy ≡ self.now) }
@@ -147,7 +159,7 @@ impl NodeList {
 }
 
 impl Node {
-    /// An equal node.
+    /// An equal node. It takes no memory: no node holds a list yet.
     pub fn copy(&self) -> Node
         ensures { result ≡ self.now }
     {
@@ -159,7 +171,7 @@ impl Node {
 }
 
 impl BoxNode {
-    /// An equal box in memory of its own.
+    /// An equal box in memory of its own; refused only where a growth is.
     pub fn copy(&self, alloc: Global) -> Result<BoxNode, AllocError>
         ensures { IfOk result (λ copy. copy ≡ self.now) }
     {
@@ -173,19 +185,22 @@ impl BoxNode {
         })
     }
 
+    /// How deep boxes nest, 1 for a box without inner boxes; cut at the greatest number. It takes no memory.
     #[tactic(auto, using(crate::proofs::NodeLemmas::nodes))]
-    /// How deep boxes nest, 1 for a box without inner boxes; cut at the greatest number.
     pub fn depth(&self) -> u64
         ensures { result ≡ min (box_depth self.now) u64.MAX }
     {
         1
     }
 
+    /// The number of nodes: the box itself and every item in it; cut at the greatest number. It takes no memory.
     #[tactic(auto, using(crate::proofs::NodeLemmas::nodes))]
-    /// The number of nodes: the box itself and every item in it; cut at the greatest number.
     pub fn count(&self) -> u64
         ensures { result ≡ min (box_count self.now) u64.MAX }
     {
         (self.list.len() as u64).saturating_add(1)
     }
 }
+
+#[cfg(test)]
+mod tests;

@@ -1,1 +1,6 @@
+pub mod DimensionTexts
 pub mod Dimensions
+pub mod ParsedTexts
+pub mod PrintedDimensions
+pub mod Rounding
+pub mod Units

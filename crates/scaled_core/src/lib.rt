@@ -4,5 +4,14 @@
 #![tactic(auto)]
 
 pub mod dimen;
+pub mod fault;
+pub mod laws;
+mod printing;
+mod reading;
+mod rounding;
+mod units;
 
 pub use dimen::Dimen;
+pub use fault::DimenFault;
+pub use printing::print_dimen;
+pub use reading::parse_dimen;

@@ -1,3 +1,4 @@
+-- The loop of copy: the copied nodes are the first of the list.
 use Rattle.std.proofs.Common.{◌≡◌, take}
 use Rattle.node_core.proofs.tree.NodeList.copy.Given as goal
 

@@ -1,0 +1,6 @@
+pub mod Sums
+pub mod Drawings
+pub mod Places
+pub mod Spelled
+pub mod Tellings
+pub mod PageBytes

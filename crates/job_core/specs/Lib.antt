@@ -1,0 +1,12 @@
+pub mod Told
+pub mod Held
+pub mod NamedBytes
+pub mod Packing
+pub mod Marks
+pub mod Reply
+pub mod Machine
+pub mod StateCode
+pub mod Drawing
+pub mod Placing
+pub mod Draft
+pub mod Runs

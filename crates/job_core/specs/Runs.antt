@@ -1,0 +1,78 @@
+-- Runs of the machine, with what it does not choose: want of memory and a device that fails (own).
+use Rattle.std.specs.Prelude.{◌≡◌, ◌≢◌, ◌<◌, ◌==◌, [], ◌∷◌, ℕ, Bool, true, false, not, List, length, Option, Some, None, IfSome, Result, Ok, Err}
+use Rattle.node_core.specs.declared.tree.BoxNode.{BoxNode}
+use Rattle.job_core.specs.declared.command.Command.{Command}
+use Rattle.job_core.specs.declared.command.Command.TheVariants.{OpenHbox, End, Rule, Kern, Measure, Void, Ship}
+use Rattle.job_core.specs.declared.command.Refusal.{Refusal}
+use Rattle.job_core.specs.declared.command.Refusal.TheVariants.{OutOfMemory, Device, ListsOpen, JobOver}
+use Rattle.job_core.specs.declared.command.Summary.{Summary}
+use Rattle.job_core.specs.Reply.{Reply}
+use Rattle.job_core.specs.Marks.{Page}
+use Rattle.job_core.specs.Draft.{Draft, draft_of}
+use Rattle.job_core.specs.Machine.{State, Machine, checks, first_of, reply_to, step, stopped}
+
+-- The commands for which memory may be wanted.
+abbrev pub TakesMemory : Command → Type 0
+TakesMemory (OpenHbox r) = Unit {0}
+TakesMemory End = ⊥
+TakesMemory (Rule rule) = Unit {0}
+TakesMemory (Kern width) = Unit {0}
+TakesMemory (Measure r) = ⊥
+TakesMemory (Void r) = ⊥
+TakesMemory (Ship r) = Unit {0}
+
+abbrev pub IsShip : Command → Type 0
+IsShip (Ship r) = Unit {0}
+IsShip command = ⊥
+
+-- A machine takes a command, replies and goes on, while the device's count of failures goes from n to k. It replies as the table
+-- says; or memory was wanted for a command that is accepted, and it stays; or the device failed in an accepted ship, and it stops.
+pub data Steps (m : Machine) (n : ℕ) (command : Command) (reply : Reply) (next : Machine) (k : ℕ) : Type 0 where
+  Replies : reply ≡ reply_to m.state command → next ≡ step m command → k ≡ n → Steps m n command reply next k
+  LacksMemory : reply ≡ Err OutOfMemory → TakesMemory command → first_of (checks m.state command) ≡ None → next ≡ m → k ≡ n → Steps m n command reply next k
+  LosesDevice : reply ≡ Err Device → IsShip command → first_of (checks m.state command) ≡ None → next ≡ stopped m → n < k → Steps m n command reply next k
+
+-- A machine takes the commands one after the other, one reply a command.
+abbrev pub Run : Machine → ℕ → List Command → List Reply → Machine → ℕ → Type 0
+Run m n [] [] next k = (next ≡ m) × (k ≡ n)
+Run m n [] (reply ∷ replies) next k = ⊥
+Run m n (command ∷ commands) [] next k = ⊥
+Run m n (command ∷ commands) (reply ∷ replies) next k =
+    (middle : Machine) × (i : ℕ) × Steps m n command reply middle i × Run middle i commands replies next k
+
+-- The refusals of the end of a job, in their order.
+abbrev pub finish_checks : State → List (Bool × Refusal)
+finish_checks m = (m.over, JobOver) ∷ (not (length m.nest == 0), ListsOpen) ∷ []
+
+-- The job is finished: with the number of pages; or refused; or memory was wanted, and it stays; or there are pages and the device failed.
+pub data Finishes (m : Machine) (n : ℕ) (result : Result Summary Refusal) (next : Machine) (k : ℕ) : Type 0 where
+  Finished : (summary : Summary) → result ≡ Ok summary → first_of (finish_checks m.state) ≡ None → summary.pages ≡ length m.pages → next ≡ stopped m → k ≡ n → Finishes m n result next k
+  Refuses : (refusal : Refusal) → result ≡ Err refusal → first_of (finish_checks m.state) ≡ Some refusal → next ≡ m → k ≡ n → Finishes m n result next k
+  WantsMemory : result ≡ Err OutOfMemory → first_of (finish_checks m.state) ≡ None → m.pages ≢ [] → next ≡ m → k ≡ n → Finishes m n result next k
+  LostDevice : result ≡ Err Device → first_of (finish_checks m.state) ≡ None → m.pages ≢ [] → next ≡ stopped m → n < k → Finishes m n result next k
+
+-- What a job is seen as: its kept state, its draft of the file, and of its device the bytes that it tells and how often it failed.
+pub record Seen : Type 0 where
+  pub state : State
+  pub draft : Draft
+  pub told : Option (List ℕ)
+  pub failed : ℕ
+
+-- A job stands for a machine: it keeps the machine's state, and until it is over the draft of its pages; no byte has gone out by then.
+pub record Holds (job : Seen) (m : Machine) : Type 0 where
+  pub state : job.state ≡ m.state
+  pub count : m.state.pages ≡ length m.pages
+  pub draft : m.state.over ≡ false → job.draft ≡ draft_of m.pages
+  pub told : m.state.over ≡ false → IfSome job.told (λ bytes. bytes ≡ [])
+
+-- Each machine that the job stood for has stepped to one that it stands for.
+abbrev pub KeepsTo : Seen → Command → Reply → Seen → Type 0
+KeepsTo old command reply new = (m : Machine) → Holds old m → (next : Machine) × Steps m old.failed command reply next new.failed × Holds new next
+
+-- Each machine that the job stood for has run to one that it stands for.
+abbrev pub RunsTo : Seen → List Command → List Reply → Seen → Type 0
+RunsTo old commands replies new = (m : Machine) → Holds old m → (next : Machine) × Run m old.failed commands replies next new.failed × Holds new next
+
+-- Each machine that the job stood for is finished as one that it stands for.
+abbrev pub FinishesTo : Seen → Result Summary Refusal → Seen → Type 0
+FinishesTo old result new = (m : Machine) → Holds old m → (next : Machine) × Finishes m old.failed result next new.failed × Holds new next

@@ -1,0 +1,39 @@
+-- How the logic stores the state of a machine (own).
+use Rattle.std.specs.Prelude.{ℕ, ℤ, Bool, List, Option, refl}
+use Rattle.std.specs.Coded.{Coded, code_by, coded×, coded_ℕ, coded_ℤ, coded_bool, coded_list, coded_option}
+use Rattle.node_core.specs.declared.tree.BoxNode.{BoxNode}
+use Rattle.node_core.specs.contracts.tree.BoxNode as box_node
+use Rattle.job_core.specs.declared.nest.OpenList.{OpenList}
+use Rattle.job_core.specs.contracts.nest.OpenList as open_list
+use Rattle.job_core.specs.NamedBytes.{NamedBytes}
+use Rattle.job_core.specs.Machine.{State}
+use Rattle.job_core.specs.Draft.{Draft}
+use Rattle.job_core.specs.Runs.{Seen}
+
+abbrev pub coded_named : Coded NamedBytes
+coded_named =
+    code_by (List ℕ × List ℕ) (coded× (coded_list coded_ℕ) (coded_list coded_ℕ)) (λ f. (f.name, f.bytes)) (λ p. record { name = p.0; bytes = p.1 }) (λ _. refl)
+
+-- The state as a pair of pairs.
+abbrev pub Parts : Type 0
+Parts = (List NamedBytes × List OpenList) × (List (Option BoxNode) × ((ℕ × ℕ) × Bool))
+
+abbrev pub coded_parts : Coded Parts
+coded_parts =
+    coded× (coded× (coded_list coded_named) (coded_list open_list.the_row.coded))
+    (coded× (coded_list (coded_option box_node.the_row.coded)) (coded× (coded× coded_ℕ coded_ℕ) coded_bool))
+
+abbrev pub coded_state : Coded State
+coded_state =
+    code_by Parts coded_parts (λ s. ((s.files, s.nest), (s.registers, ((s.shipped, s.pages), s.over))))
+    (λ p. record { files = p.0.0; nest = p.0.1; registers = p.1.0; shipped = p.1.1.0.0; pages = p.1.1.0.1; over = p.1.1.1 }) (λ _. refl)
+
+abbrev pub coded_draft : Coded Draft
+coded_draft =
+    code_by ((List ℕ × ℤ) × (ℤ × ℤ)) (coded× (coded× (coded_list coded_ℕ) coded_ℤ) (coded× coded_ℤ coded_ℤ)) (λ d. ((d.bytes, d.last), (d.tall, d.wide)))
+    (λ p. record { bytes = p.0.0; last = p.0.1; tall = p.1.0; wide = p.1.1 }) (λ _. refl)
+
+abbrev pub coded_seen : Coded Seen
+coded_seen =
+    code_by ((State × Draft) × (Option (List ℕ) × ℕ)) (coded× (coded× coded_state coded_draft) (coded× (coded_option (coded_list coded_ℕ)) coded_ℕ))
+    (λ s. ((s.state, s.draft), (s.told, s.failed))) (λ p. record { state = p.0.0; draft = p.0.1; told = p.1.0; failed = p.1.1 }) (λ _. refl)

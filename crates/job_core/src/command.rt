@@ -1,0 +1,136 @@
+//! What a job is told, and what it answers.
+
+ghost use Rattle.std.specs.Prelude.{◌≡◌, ◌<◌};
+ghost use Rattle.std.specs.Option.{SomeIff};
+
+use node_core::{Kind, Rule};
+use scaled_core::Dimen;
+use std::marker::Model;
+use thiserror::Error;
+
+/// The number of a box register: 0 to 255.
+#[derive(Clone, Copy, Debug, PartialEq, Eq)]
+pub struct Register {
+    number: u16,
+}
+
+impl Model for Register {
+    ghost use Rattle.std.specs.Prelude.{ℕ, ◌<◌};
+
+    ghost Value = { ℕ };
+
+    ghost view = { λ register. register.number };
+
+    ghost invariant = { λ register. register.number < 256 };
+
+    ghost inverse = { λ n. record { number = n } };
+}
+
+impl Register {
+    /// The register of number 0.
+    pub const FIRST: Register = Register { number: 0 };
+
+    /// The register of that number, or None exactly where there is none.
+    pub fn try_new(number: u64) -> Option<Register>
+        ensures { SomeIff result (number < 256) number }
+    {
+        if number < 256 {
+            Some(Register {
+                number: number as u16,
+            })
+        } else {
+            None
+        }
+    }
+
+    /// The number of the register.
+    pub fn number(self) -> usize
+        ensures value { result ≡ self }
+        ensures small { result < 256 }
+    {
+        self.number as usize
+    }
+}
+
+/// A command to a job.
+#[derive(Clone, Copy, Debug, PartialEq, Eq)]
+pub enum Command {
+    /// Opens a horizontal list whose box goes into a register.
+    OpenHbox(Register),
+    /// Packs the innermost open list and puts the box into its register.
+    End,
+    /// Appends a rule to the innermost open list.
+    Rule(Rule),
+    /// Appends an explicit kern to the innermost open list.
+    Kern(Dimen),
+    /// Tells what a register holds.
+    Measure(Register),
+    /// Makes a register void.
+    Void(Register),
+    /// Makes a page of the box in a register, which becomes void.
+    Ship(Register),
+}
+
+/// Width, height and depth of a box, in scaled points.
+#[derive(Clone, Copy, Debug, PartialEq, Eq)]
+pub struct Sizes {
+    pub width: Dimen,
+    pub height: Dimen,
+    pub depth: Dimen,
+}
+
+/// What a command that was accepted answers.
+#[derive(Clone, Copy, Debug, PartialEq, Eq)]
+pub enum Answer {
+    /// Nothing but that it is done.
+    Done,
+    /// The sizes of the box that was packed, and the badness of its setting.
+    Packed(Sizes, u32),
+    /// The kind and the sizes of the box in the register.
+    Measured(Kind, Sizes),
+    /// The register is void.
+    MeasuredVoid,
+    /// The number of pages that were shipped so far.
+    Shipped(u32),
+}
+
+/// Why a command or the end of the job was refused.
+#[derive(Clone, Copy, Debug, PartialEq, Eq, Error)]
+pub enum Refusal {
+    #[error("a growth of memory was refused")]
+    OutOfMemory,
+    #[error("a size or total does not fit")]
+    DimensionTooLarge,
+    #[error("a list is needed and none is open")]
+    NoOpenList,
+    #[error("the command does not belong in this kind of list")]
+    WrongMode,
+    #[error("an open list would exceed 65536 items")]
+    ListTooLong,
+    #[error("more than 64 lists would be open")]
+    TooDeep,
+    #[error("a place or size of the page does not fit")]
+    HugePage,
+    #[error("as many pages as there can be are shipped already")]
+    TooManyPages,
+    #[error("more than 16777216 nodes would be shipped in the job")]
+    TooMuchShipped,
+    #[error("the job is to be finished while a list is open")]
+    ListsOpen,
+    #[error("the device failed during this call")]
+    Device,
+    #[error("the job was finished, or the device failed before")]
+    JobOver,
+    #[error("the register is void")]
+    VoidBox,
+}
+
+/// What a job answers to a command.
+pub type Reply = Result<Answer, Refusal>;
+
+/// What a finished job tells: how many pages it shipped, and how many bytes the device took.
+#[derive(Clone, Copy, Debug, PartialEq, Eq)]
+pub struct Summary {
+    pub pages: u32,
+    pub bytes: u64,
+}

@@ -1,0 +1,17 @@
+//! The job: a list of commands is run, and what is shipped goes to a device.
+#![tactic(auto)]
+
+pub mod command;
+pub mod device;
+pub mod font_file;
+pub mod job;
+mod kept;
+mod nest;
+mod pack;
+mod plan;
+mod registers;
+mod writer;
+
+pub use command::{Answer, Command, Refusal, Register, Reply, Sizes, Summary};
+pub use device::{Device, DeviceFault, Memory};
+pub use font_file::FontFile;

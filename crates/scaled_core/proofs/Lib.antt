@@ -1,0 +1,6 @@
+pub mod DigitLemmas
+pub mod ReadingLemmas
+pub mod TextLaws
+pub mod ReadingCases
+pub mod PrintingLemmas
+pub mod PrintedTexts

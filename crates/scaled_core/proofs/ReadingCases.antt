@@ -1,0 +1,145 @@
+-- What reading a text gives, case by case.
+use Rattle.std.proofs.Common.{◌≡◌, ℕ, ℤ, pos, negsuc, neg_ℤ, ◌≤ℤ◌, ◌≤◌, Bool, true, false, List, Option, Some, None, Result, Ok, Err, ◌⊎◌, ⊎_elim, inl, inr, leb, ◌↔◌, subst, sym, ◌∙◌, ap, refl, arith, unsigned_abs}
+use Rattle.std.specs.Result.{IfOk}
+use Rattle.std.proofs.lemmas.Bool.{leb-true, le-leb, leb-false, cases_Bool}
+use Rattle.std.proofs.lemmas.Int.{ints}
+use Rattle.scaled_core.specs.declared.fault.DimenFault.{DimenFault}
+use Rattle.scaled_core.specs.declared.fault.DimenFault.TheVariants.{TooLarge, NotADimension}
+use Rattle.scaled_core.specs.Dimensions.{Fits, Within}
+use Rattle.scaled_core.specs.DimensionTexts.{IsDimensionText, IsTooLargeText, IsNoDimension}
+use Rattle.scaled_core.specs.ParsedTexts.{dimension_value, fitted, read_dimension}
+use Rattle.scaled_core.proofs.TextLaws.{dimension_value-from_text, IsDimensionText-from_value}
+
+-- a number fits where its absolute value does
+pub Fits-from_abs : (z : ℤ) → unsigned_abs z ≤ 1073741823 → Fits z
+Fits-from_abs (pos n) h = record { low = omega (arith, ints); high = omega (arith, ints) }
+Fits-from_abs (negsuc n) h = record { low = omega (arith, ints); high = omega (arith, ints) }
+
+pub abs-le_from_fits : (z : ℤ) → Fits z → unsigned_abs z ≤ 1073741823
+abs-le_from_fits (pos n) h = omega (arith, ints, h.low, h.high)
+abs-le_from_fits (negsuc n) h = omega (arith, ints, h.low, h.high)
+
+-- the text's dimension, which fits, is what was read
+pub record ReadsDimension (text : List ℕ) (r : Result ℤ DimenFault) : Type 0 where
+  pub value : ℤ
+  pub written : IsDimensionText text value
+  pub fits : Fits value
+  pub read : r ≡ Ok value
+
+pub record ReadsTooLarge (text : List ℕ) (r : Result ℤ DimenFault) : Type 0 where
+  pub large : IsTooLargeText text
+  pub read : r ≡ Err TooLarge
+
+pub record ReadsNothing (text : List ℕ) (r : Result ℤ DimenFault) : Type 0 where
+  pub none : IsNoDimension text
+  pub read : r ≡ Err NotADimension
+
+abbrev pub Reads : List ℕ → Result ℤ DimenFault → Type 0
+Reads text r = ReadsDimension text r ⊎ (ReadsTooLarge text r ⊎ ReadsNothing text r)
+
+fitted-yes : (z : ℤ) → leb (unsigned_abs z) 1073741823 ≡ true → fitted (Some z) ≡ Ok z
+unfolding fitted
+fitted-yes z e = rw e refl
+
+fitted-no : (z : ℤ) → leb (unsigned_abs z) 1073741823 ≡ false → fitted (Some z) ≡ Err TooLarge
+unfolding fitted
+fitted-no z e = rw e refl
+
+-- a value that fits is read
+pub fitted-fits : (z : ℤ) → Fits z → fitted (Some z) ≡ Ok z
+fitted-fits z fits = fitted-yes z (le-leb _ _ (abs-le_from_fits z fits))
+
+fitted-nothing : fitted None ≡ Err NotADimension
+unfolding fitted
+fitted-nothing = refl
+
+no_value : (text : List ℕ) → dimension_value text ≡ None → IsNoDimension text
+no_value text e value written = let f = dimension_value-from_text text value written in absurd (cc)
+
+reads_by : (text : List ℕ) (r : Result ℤ DimenFault) (v : Option ℤ) → dimension_value text ≡ v → r ≡ fitted v → Reads text r
+reads_by text r None e h = inr (inr (record { none = no_value text e; read = h ∙ fitted-nothing }))
+reads_by text r (Some z) e h = ⊎_elim
+    (λ (yes : leb (unsigned_abs z) 1073741823 ≡ true). inl (record { value = z; written = IsDimensionText-from_value text z e; fits = Fits-from_abs z (leb-true _ _ yes); read = h ∙ fitted-yes z yes }))
+    (λ (no : leb (unsigned_abs z) 1073741823 ≡ false). inr (inl (record {
+      large = record { value = z; written = IsDimensionText-from_value text z e; misfit = λ fit. absurd (omega (arith, leb-false _ _ no, abs-le_from_fits z fit)) };
+      read = h ∙ fitted-no z no;
+    })))
+    (cases_Bool (leb (unsigned_abs z) 1073741823))
+
+-- reading a text gives one of the three
+pub reads : (text : List ℕ) (r : Result ℤ DimenFault) → r ≡ read_dimension text → Reads text r
+unfolding read_dimension
+reads text r h = reads_by text r (dimension_value text) refl h
+
+IfOk-by : (r : Result ℤ DimenFault) (P : ℤ → Type 0) → ((z : ℤ) → r ≡ Ok z → P z) → IfOk r P
+IfOk-by (Ok z) P h = h z refl
+IfOk-by (Err e) P h = tt
+
+same_value : (text : List ℕ) (y z : ℤ) → IsDimensionText text y → IsDimensionText text z → y ≡ z
+same_value text y z p q = let a = dimension_value-from_text text y p in let b = dimension_value-from_text text z q in cc
+
+-- a number that was read
+pub record IsRead (text : List ℕ) (z : ℤ) : Type 0 where
+  pub written : IsDimensionText text z
+  pub fits : Fits z
+
+along : (text : List ℕ) (y z : ℤ) → y ≡ z → IsDimensionText text y → Fits y → IsRead text z
+along text y z e p q = let P : ℤ → Type 0 = λ x. IsRead text x in subst P e (record { written = p; fits = q })
+
+was_read : (text : List ℕ) (r : Result ℤ DimenFault) (z : ℤ) → r ≡ Ok z → Reads text r → IsRead text z
+was_read text r z e cases = ⊎_elim
+    (λ (w : ReadsDimension text r). let a = w.read in let q : w.value ≡ z = cc in along text w.value z q w.written w.fits)
+    (λ (v : ReadsTooLarge text r ⊎ ReadsNothing text r). ⊎_elim
+    (λ (w : ReadsTooLarge text r). let a = w.read in absurd (cc))
+    (λ (w : ReadsNothing text r). let a = w.read in absurd (cc)) v)
+    cases
+
+was_too_large : (text : List ℕ) (r : Result ℤ DimenFault) → r ≡ Err TooLarge → Reads text r → IsTooLargeText text
+was_too_large text r e cases = ⊎_elim
+    (λ (w : ReadsDimension text r). let a = w.read in absurd (cc))
+    (λ (v : ReadsTooLarge text r ⊎ ReadsNothing text r). ⊎_elim
+    (λ (w : ReadsTooLarge text r). w.large)
+    (λ (w : ReadsNothing text r). let a = w.read in absurd (cc)) v)
+    cases
+
+was_none : (text : List ℕ) (r : Result ℤ DimenFault) → r ≡ Err NotADimension → Reads text r → IsNoDimension text
+was_none text r e cases = ⊎_elim
+    (λ (w : ReadsDimension text r). let a = w.read in absurd (cc))
+    (λ (v : ReadsTooLarge text r ⊎ ReadsNothing text r). ⊎_elim
+    (λ (w : ReadsTooLarge text r). let a = w.read in absurd (cc))
+    (λ (w : ReadsNothing text r). w.none) v)
+    cases
+
+is_too_large : (text : List ℕ) (r : Result ℤ DimenFault) → IsTooLargeText text → Reads text r → r ≡ Err TooLarge
+is_too_large text r t cases = ⊎_elim
+    (λ (w : ReadsDimension text r).
+    let q = same_value text w.value t.value w.written t.written in
+    absurd (t.misfit (along text w.value t.value q w.written w.fits).fits))
+    (λ (v : ReadsTooLarge text r ⊎ ReadsNothing text r). ⊎_elim
+    (λ (w : ReadsTooLarge text r). w.read)
+    (λ (w : ReadsNothing text r). absurd (w.none t.value t.written)) v)
+    cases
+
+is_none : (text : List ℕ) (r : Result ℤ DimenFault) → IsNoDimension text → Reads text r → r ≡ Err NotADimension
+is_none text r n cases = ⊎_elim
+    (λ (w : ReadsDimension text r). absurd (n w.value w.written))
+    (λ (v : ReadsTooLarge text r ⊎ ReadsNothing text r). ⊎_elim
+    (λ (w : ReadsTooLarge text r). absurd (n w.large.value w.large.written))
+    (λ (w : ReadsNothing text r). w.read) v)
+    cases
+
+-- what was read is the text's dimension
+pub reads-ok : (text : List ℕ) (r : Result ℤ DimenFault) → r ≡ read_dimension text → IfOk r (λ d. IsDimensionText text d)
+reads-ok text r h = IfOk-by r (λ d. IsDimensionText text d) (λ z e. (was_read text r z e (reads text r h)).written)
+
+-- and fits
+pub reads-fits : (text : List ℕ) (r : Result ℤ DimenFault) → r ≡ read_dimension text → IfOk r (λ d. Fits d)
+reads-fits text r h = IfOk-by r (λ d. Fits d) (λ z e. (was_read text r z e (reads text r h)).fits)
+
+-- it is refused as too large exactly where its value does not fit
+pub reads-too_large : (text : List ℕ) (r : Result ℤ DimenFault) → r ≡ read_dimension text → (r ≡ Err TooLarge) ↔ IsTooLargeText text
+reads-too_large text r h = (λ e. was_too_large text r e (reads text r h), λ t. is_too_large text r t (reads text r h))
+
+-- and as no dimension exactly where it is none
+pub reads-not_a_dimension : (text : List ℕ) (r : Result ℤ DimenFault) → r ≡ read_dimension text → (r ≡ Err NotADimension) ↔ IsNoDimension text
+reads-not_a_dimension text r h = (λ e. was_none text r e (reads text r h), λ n. is_none text r n (reads text r h))

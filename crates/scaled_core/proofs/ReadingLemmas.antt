@@ -1,0 +1,71 @@
+-- The value of a text whose whole part is cut at 2 ^ 30, above which nothing fits.
+use Rattle.std.proofs.Common.{◌≡◌, ℕ, ℤ, pos, neg_ℤ, ◌+◌, ◌*◌, ◌/◌, ◌^◌, ◌<◌, ◌≤◌, Bool, true, false, Some, None, Ok, Err, zero, suc, ◌⊎◌, ⊎_elim, min, sym, ◌∙◌, refl, arith, unsigned_abs}
+use Rattle.std.proofs.Math.Nat.{mul-le-mul, le-div_iff_mul-le}
+use Rattle.std.proofs.lemmas.Bool.{cases_lt}
+use Rattle.std.proofs.lemmas.Bool.Decides.{nat_tests}
+use Rattle.std.proofs.lemmas.Int.{ints}
+use Rattle.scaled_core.specs.declared.units.LengthUnit.{LengthUnit}
+use Rattle.scaled_core.specs.declared.units.LengthUnit.TheVariants.{Point, Inch, Pica, Centimeter, Millimeter, BigPoint, DidotPoint, Cicero, ScaledPoint}
+use Rattle.scaled_core.specs.declared.fault.DimenFault.TheVariants.{TooLarge, NotADimension}
+use Rattle.scaled_core.specs.Units.{of_points, scaled_points}
+use Rattle.scaled_core.specs.Dimensions.{Fits, Within}
+use Rattle.scaled_core.specs.ParsedTexts.{fitted, with_minus}
+
+-- the sign does not change the size
+pub unsigned_abs-with_minus : (negative : Bool) (size : ℕ) → unsigned_abs (with_minus negative size) ≡ size
+unsigned_abs-with_minus true zero = refl
+unsigned_abs-with_minus true (suc n) = refl
+unsigned_abs-with_minus false n = refl
+
+fitted_large : (value : ℤ) (size : ℕ) → unsigned_abs value ≡ size → 2 ^ 30 ≤ size → fitted (Some value) ≡ Err TooLarge
+unfolding fitted
+fitted_large value size e h = grind (arith, nat_tests)
+
+fitted_small : (value : ℤ) (size : ℕ) → unsigned_abs value ≡ size → size ≤ 1073741823 → fitted (Some value) ≡ Ok value
+unfolding fitted
+fitted_small value size e h = grind (arith, nat_tests)
+
+-- a size from 2 ^ 30 on does not fit
+pub fitted-large : (negative : Bool) (size : ℕ) → 2 ^ 30 ≤ size → fitted (Some (with_minus negative size)) ≡ Err TooLarge
+fitted-large negative size h = fitted_large _ size (unsigned_abs-with_minus negative size) h
+
+-- and one below fits
+pub fitted-small : (negative : Bool) (size : ℕ) → size ≤ 1073741823 → fitted (Some (with_minus negative size)) ≡ Ok (with_minus negative size)
+fitted-small negative size h = fitted_small _ size (unsigned_abs-with_minus negative size) h
+
+-- what is no text of a dimension is refused as that
+pub fitted-none : fitted None ≡ Err NotADimension
+unfolding fitted
+fitted-none = refl
+
+-- a unit of a point or more: n of them are no less than n scaled points
+pub of_points-le : (n f num den : ℕ) → 0 < den → den ≤ num → n ≤ of_points n f num den
+unfolding of_points
+of_points-le n f num den positive h =
+    let scaled : n * den ≤ (65536 * n + f) * num = omega (arith, mul-le-mul {n₁ = n} {m₁ = den} {n₂ = 65536 * n + f} {m₂ = num} (omega arith) h) in
+    (le-div_iff_mul-le {k = den} {x = n} {y = (65536 * n + f) * num} positive).1 scaled
+
+-- n units are no less than n scaled points
+pub scaled_points-le : (unit : LengthUnit) (n f : ℕ) → n ≤ scaled_points unit n f
+scaled_points-le Point n f = of_points-le n f 1 1 (omega arith) (omega arith)
+scaled_points-le Inch n f = of_points-le n f 7227 100 (omega arith) (omega arith)
+scaled_points-le Pica n f = of_points-le n f 12 1 (omega arith) (omega arith)
+scaled_points-le Centimeter n f = of_points-le n f 7227 254 (omega arith) (omega arith)
+scaled_points-le Millimeter n f = of_points-le n f 7227 2540 (omega arith) (omega arith)
+scaled_points-le BigPoint n f = of_points-le n f 7227 7200 (omega arith) (omega arith)
+scaled_points-le DidotPoint n f = of_points-le n f 1238 1157 (omega arith) (omega arith)
+scaled_points-le Cicero n f = of_points-le n f 14856 1157 (omega arith) (omega arith)
+scaled_points-le ScaledPoint n f = omega arith
+
+-- so the whole part can be cut at 2 ^ 30
+pub fitted-capped : (negative : Bool) (unit : LengthUnit) (n f : ℕ) → fitted (Some (with_minus negative (scaled_points unit (min n (2 ^ 30)) f))) ≡ fitted (Some (with_minus negative (scaled_points unit n f)))
+fitted-capped negative unit n f = ⊎_elim
+    (λ (low : n < 2 ^ 30). let e : min n (2 ^ 30) ≡ n = omega arith in rw e refl)
+    (λ (high : 2 ^ 30 ≤ n).
+    let e : min n (2 ^ 30) ≡ 2 ^ 30 = omega arith in
+    rw e (fitted-large negative _ (omega (arith, scaled_points-le unit (2 ^ 30) f)) ∙ sym (fitted-large negative _ (omega (arith, scaled_points-le unit n f)))))
+    (cases_lt n (2 ^ 30))
+
+pub ruleset measuring = (fitted-capped, fitted-none)
+
+pub ruleset fitting = (fitted-large, fitted-small)

@@ -1,0 +1,79 @@
+-- The value of a text as a function: its parts from the left (TeX: The Program, part 26, scan_dimen).
+use Rattle.std.specs.Prelude.{◌==◌, ℕ, ℤ, pos, neg_ℤ, ◌+◌, Bool, true, false, ◌&&◌, if◌then◌else◌, List, [], ◌∷◌, Option, None, Some, Result, Ok, Err, codes, length, drop, option_map, unsigned_abs, nat_le}
+use Rattle.std.specs.List.{prefix_len, take_while}
+use Rattle.std.specs.Char.{is_ascii_digit}
+use Rattle.std.specs.Str.{bytes_eq}
+use Rattle.std.specs.Str.Parse.{digits_value}
+use Rattle.scaled_core.specs.declared.units.LengthUnit.{LengthUnit}
+use Rattle.scaled_core.specs.declared.units.LengthUnit.TheVariants.{Point, Inch, Pica, Centimeter, Millimeter, BigPoint, DidotPoint, Cicero, ScaledPoint}
+use Rattle.scaled_core.specs.declared.fault.DimenFault.{DimenFault}
+use Rattle.scaled_core.specs.declared.fault.DimenFault.TheVariants.{TooLarge, NotADimension}
+use Rattle.scaled_core.specs.DimensionTexts.{decimal_fraction}
+use Rattle.scaled_core.specs.Units.{scaled_points, unit_text}
+
+-- the unit of that name
+unfoldable pub unit_named : List ℕ → Option LengthUnit
+unit_named text =
+    if bytes_eq text (codes "pt") then Some Point
+    else (if bytes_eq text (codes "in") then Some Inch
+    else (if bytes_eq text (codes "pc") then Some Pica
+    else (if bytes_eq text (codes "cm") then Some Centimeter
+    else (if bytes_eq text (codes "mm") then Some Millimeter
+    else (if bytes_eq text (codes "bp") then Some BigPoint
+    else (if bytes_eq text (codes "dd") then Some DidotPoint
+    else (if bytes_eq text (codes "cc") then Some Cicero
+    else (if bytes_eq text (codes "sp") then Some ScaledPoint
+    else None))))))))
+
+-- a minus stands first
+unfoldable pub is_negative : List ℕ → Bool
+is_negative [] = false
+is_negative (c ∷ cs) = c == 45
+
+-- the text behind an optional sign
+unfoldable pub behind_sign : List ℕ → List ℕ
+behind_sign [] = []
+behind_sign (c ∷ cs) = if c == 45 then cs else (if c == 43 then cs else c ∷ cs)
+
+-- the digits from the front on
+unfoldable pub front_digits : List ℕ → List ℕ
+front_digits text = take_while is_ascii_digit text
+
+-- what stands behind them
+unfoldable pub behind_digits : List ℕ → List ℕ
+behind_digits text = drop (prefix_len is_ascii_digit text) text
+
+-- the digits behind a point that stands first, or none
+unfoldable pub point_digits : List ℕ → List ℕ
+point_digits [] = []
+point_digits (c ∷ cs) = if c == 46 then front_digits cs else []
+
+-- the text behind an optional point and its digits
+unfoldable pub behind_fraction : List ℕ → List ℕ
+behind_fraction [] = []
+behind_fraction (c ∷ cs) = if c == 46 then behind_digits cs else c ∷ cs
+
+abbrev pub with_minus : Bool → ℕ → ℤ
+with_minus true n = neg_ℤ (pos n)
+with_minus false n = pos n
+
+-- the value of a number of that sign, those digits before and behind the point, and that unit; none where there is no digit or no unit
+unfoldable pub measured : Bool → List ℕ → List ℕ → Option LengthUnit → Option ℤ
+measured negative whole fraction unit =
+    if (length whole == 0) && (length fraction == 0) then None
+    else option_map (λ u. with_minus negative (scaled_points u (digits_value 10 whole) (decimal_fraction fraction))) unit
+
+-- the number of scaled points that a dimension text writes; none exactly where the text is no dimension
+unfoldable pub dimension_value : List ℕ → Option ℤ
+dimension_value text =
+    let number = behind_sign text in
+    measured (is_negative text) (front_digits number) (point_digits (behind_digits number)) (unit_named (behind_fraction (behind_digits number)))
+
+-- the dimension of that value, if there is one and it fits
+unfoldable pub fitted : Option ℤ → Result ℤ DimenFault
+fitted None = Err NotADimension
+fitted (Some value) = if nat_le (unsigned_abs value) 1073741823 then Ok value else Err TooLarge
+
+-- what reading a text gives: its dimension, or why there is none
+unfoldable pub read_dimension : List ℕ → Result ℤ DimenFault
+read_dimension text = fitted (dimension_value text)

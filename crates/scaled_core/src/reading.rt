@@ -1,0 +1,146 @@
+//! Reading dimensions.
+
+ghost use Rattle.std.specs.Prelude.{◌≡◌, ◌↔◌, Err, ◌+◌, ◌*◌, ◌^◌, ◌<◌, ◌≤◌, ℤ, IsTrue, IfOk, length, min, unsigned_abs};
+ghost use Rattle.std.specs.Option.{SomeIff};
+ghost use Rattle.std.specs.List.{prefix_len};
+ghost use Rattle.std.specs.Char.{is_ascii_digit};
+ghost use Rattle.std.specs.Str.{all_ascii_digits};
+ghost use Rattle.std.specs.Str.Parse.{digits_value};
+ghost use Rattle.scaled_core.specs.Dimensions.{Fits};
+ghost use Rattle.scaled_core.specs.DimensionTexts.{IsDimensionText, IsNoDimension, IsTooLargeText, decimal_fraction};
+ghost use Rattle.scaled_core.specs.Rounding.{nearest};
+ghost use Rattle.scaled_core.specs.ParsedTexts.{fitted, measured, behind_digits, behind_fraction, behind_sign, front_digits, is_negative, point_digits, read_dimension, with_minus};
+
+use crate::dimen::Dimen;
+use crate::fault::DimenFault;
+use crate::rounding::nearest;
+use crate::units::LengthUnit;
+
+/// The dimension that a text writes: an optional sign, digits with at most one `.` among them (at least one digit) and, with
+/// no space before it, a unit of pt, in, pc, cm, mm, bp, dd, cc, sp (TeX: The Program, part 26, scan_dimen). Takes no memory.
+pub fn parse_dimen(text: &[u8]) -> Result<Dimen, DimenFault>
+    ensures ok { IfOk result (λ d. IsDimensionText text.now d) }
+    ensures fits { IfOk result (λ d. Fits d) }
+    ensures too_large { (result ≡ Err DimenFault.TooLarge) ↔ IsTooLargeText text.now }
+    ensures not_a_dimension { (result ≡ Err DimenFault.NotADimension) ↔ IsNoDimension text.now }
+    ensures value { result ≡ read_dimension text.now }
+{
+    let (negative, number) = after_sign(text);
+    let (whole, behind) = digits_first(number);
+    let (fraction, name) = fraction_first(behind);
+    measured(negative, whole, fraction, LengthUnit::from_name(name))
+}
+
+/// The dimension of that sign, those digits before and behind the point, and that unit.
+#[tactic(auto, using(crate::proofs::ReadingLemmas::measuring), unfolding(crate::specs::ParsedTexts::measured))]
+fn measured(
+    negative: bool,
+    whole: &[u8],
+    fraction: &[u8],
+    unit: Option<LengthUnit>,
+) -> Result<Dimen, DimenFault>
+    requires whole { IsTrue (all_ascii_digits whole.now) }
+    requires fraction { IsTrue (all_ascii_digits fraction.now) }
+    ensures { result ≡ fitted (measured negative whole.now fraction.now unit) }
+{
+    if whole.is_empty() && fraction.is_empty() {
+        return Err(DimenFault::NotADimension);
+    }
+    match unit {
+        Some(unit) => fitting(
+            negative,
+            unit.size(digits_number(whole, 1 << 30), fraction_value(fraction)),
+        ),
+        None => Err(DimenFault::NotADimension),
+    }
+}
+
+/// Whether a minus stands first, and the text behind the sign.
+#[tactic(auto, unfolding(crate::specs::ParsedTexts::is_negative, crate::specs::ParsedTexts::behind_sign))]
+fn after_sign(text: &[u8]) -> (bool, &[u8])
+    ensures sign { result.0 ≡ is_negative text.now }
+    ensures behind { result.1.now ≡ behind_sign text.now }
+{
+    match text {
+        [b'-', behind @ ..] => (true, behind),
+        [b'+', behind @ ..] => (false, behind),
+        _ => (false, text),
+    }
+}
+
+/// The digits from the front on, and the text behind them.
+#[tactic(auto, using(crate::proofs::DigitLemmas::digits), unfolding(crate::specs::ParsedTexts::front_digits, crate::specs::ParsedTexts::behind_digits))]
+fn digits_first(text: &[u8]) -> (&[u8], &[u8])
+    ensures digits { result.0.now ≡ front_digits text.now }
+    ensures all { IsTrue (all_ascii_digits result.0.now) }
+    ensures behind { result.1.now ≡ behind_digits text.now }
+{
+    text.split_at(digit_count(text))
+}
+
+/// How many digits stand at the front.
+fn digit_count(text: &[u8]) -> usize
+    ensures count { result ≡ prefix_len is_ascii_digit text.now }
+    ensures within { result ≤ length text.now }
+{
+    text.iter().take_while(|c| c.is_ascii_digit()).count()
+}
+
+/// The digits behind a point that stands first, and the text behind them.
+#[tactic(auto, unfolding(crate::specs::ParsedTexts::point_digits, crate::specs::ParsedTexts::behind_fraction))]
+fn fraction_first(text: &[u8]) -> (&[u8], &[u8])
+    ensures digits { result.0.now ≡ point_digits text.now }
+    ensures all { IsTrue (all_ascii_digits result.0.now) }
+    ensures behind { result.1.now ≡ behind_fraction text.now }
+{
+    match text {
+        [b'.', behind @ ..] => digits_first(behind),
+        _ => text.split_at(0),
+    }
+}
+
+/// The number that digits write, or `most` where it is greater.
+#[tactic(auto, using(crate::proofs::DigitLemmas::digits))]
+fn digits_number(digits: &[u8], most: u64) -> u64
+    requires digits { IsTrue (all_ascii_digits digits.now) }
+    requires most { most ≤ 10 ^ 17 }
+    ensures { result ≡ min (digits_value 10 digits.now) most }
+{
+    let mut value: u64 = 0;
+    for digit in digits {
+        value = (10 * value + u64::from(*digit - b'0')).min(most);
+    }
+    value
+}
+
+/// The fraction that the digits behind a point write, in 65536ths.
+#[tactic(auto, using(crate::proofs::DigitLemmas::digits), unfolding(crate::specs::DimensionTexts::decimal_fraction))]
+fn fraction_value(digits: &[u8]) -> u64
+    requires { IsTrue (all_ascii_digits digits.now) }
+    ensures value { result ≡ decimal_fraction digits.now }
+    ensures small { result ≤ 65536 }
+{
+    short_fraction(&digits[..usize::min(17, digits.len())])
+}
+
+/// The fraction that at most 17 digits behind a point write, in 65536ths.
+#[tactic(auto, using(crate::proofs::DigitLemmas::fractions))]
+fn short_fraction(digits: &[u8]) -> u64
+    requires digits { IsTrue (all_ascii_digits digits.now) }
+    requires short { length digits.now ≤ 17 }
+    ensures value { result ≡ nearest (digits_value 10 digits.now * 65536) (10 ^ length digits.now) }
+    ensures small { result ≤ 65536 }
+{
+    let value = u128::from(digits_number(digits, 100_000_000_000_000_000));
+    nearest(value * 65536, 10u128.pow(digits.len() as u32)) as u64
+}
+
+/// The dimension of that size and sign, if it fits.
+#[tactic(auto, using(crate::proofs::ReadingLemmas::fitting))]
+fn fitting(negative: bool, size: u64) -> Result<Dimen, DimenFault>
+    requires { size < 2 ^ 62 }
+    ensures { result ≡ fitted (Some (with_minus negative size)) }
+{
+    let size = size as i64;
+    Dimen::try_new(if negative { -size } else { size }).ok_or(DimenFault::TooLarge)
+}
