@@ -1,16 +1,15 @@
 -- What is written spells the instruction.
-use Rattle.std.proofs.Common.{ℕ, zero, suc, ℤ, pos, negsuc, ◌≡◌, ◌≤◌, ◌<◌, ◌+◌, ◌-◌, ◌*◌, ◌%◌, ◌^◌, ◌-ℤ◌, List, [], ◌∷◌, ◌++◌, length, slice_index, nat_lt, if◌then◌else◌, arith, inl, inr, refl, sym, ap, subst, ◌∙◌, append-nil}
+use Rattle.std.proofs.Common.{ℕ, suc, ℤ, pos, negsuc, ◌≡◌, ◌≤◌, ◌<◌, ◌-◌, ◌*◌, ◌%◌, ◌^◌, ◌-ℤ◌, List, [], ◌∷◌, ◌++◌, length, nat_lt, if◌then◌else◌, arith, inl, inr, refl, sym, ap, ◌∙◌, append-nil}
 use Rattle.std.proofs.lemmas.Bool.{cases_lt, lt-ltb, le-ltb}
 use Rattle.std.proofs.lemmas.Int.{ints}
 use Rattle.std.specs.Int.{w32, cast_unsigned, bytes_high_first}
 use Rattle.std.specs.Int.Signed.{mag}
-use Rattle.std.specs.Int.RustNames.{FitsSigned}
 use Rattle.std.specs.List.{AllByRecursion, flat_map}
 use Rattle.byteorder.specs.Endian.{big_number}
 use Rattle.byteorder.specs.Numbers.{big_from-bytes, length-bytes_high_first}
-use Rattle.dvi_ops.specs.Instruction.{Axis, Across, Downward, Register, First, Second, By, Set, Again, Definition, Units, Postamble, Leaf, SetChar, PutChar, SetRule, PutRule, Nop, Move, FontNum, FontDef, Xxx, Instruction, Do, Push, Pop, Bop, Eop, Pre, Post, PostPost}
-use Rattle.dvi_ops.specs.Spelling.{HasSpelling, LeafFits, NumberFits, NumbersFit, UnitsFit, bytes_for, char_spelling, code_size, coded, coded_number, coded_signed, definition_bytes, font_spelling, leaf_spelling, operand, post_bytes, signed_size, spelling, text_spelling, units_bytes}
-use Rattle.dvi_ops.specs.Table.{signed, code, IsCoded, Says, SaysShort, SaysEach, SaysUnits, SaysDefinition, SpellsLeaf, Spells, plain_code, register_code}
+use Rattle.dvi_ops.specs.Instruction.{By, Set, Again, Definition, Units, Leaf, SetChar, PutChar, SetRule, PutRule, Nop, Move, FontNum, FontDef, Xxx, Instruction, Do, Push, Pop, Bop, Eop, Pre, Post, PostPost}
+use Rattle.dvi_ops.specs.Spelling.{HasSpelling, LeafFits, NumberFits, NumbersFit, UnitsFit, bytes_for, char_spelling, code_size, coded_number, coded_signed, definition_bytes, font_spelling, leaf_spelling, operand, signed_size, spelling, text_spelling, units_bytes}
+use Rattle.dvi_ops.specs.Table.{signed, code, IsCoded, Says, SaysShort, SaysEach, SaysUnits, SpellsLeaf, Spells, plain_code, register_code}
 use Rattle.dvi_ops.proofs.Numbers.{four}
 
 -- an operand has its bytes, and they say the number's low bytes
@@ -136,9 +135,17 @@ text_spelled text bound = elim (cases_lt (length text) 256) [
 
 pub definition_spelled : (d : Definition) → LeafFits (FontDef d) → SpellsLeaf (FontDef d) (coded_number 242 d.number ++ definition_bytes d)
 definition_spelled d fits =
-    let (n, number, low, high, whole, len, value) = number_coded 242 d.number fits.0 in
-    (n, number, definition_bytes d, low, high, ap (λ (r : List ℕ). r ++ definition_bytes d) whole, len, value,
-    (operand 4 d.check_sum, operand 4 d.size, operand 4 d.design_size, refl, word_says d.check_sum fits.1, word_says d.size fits.2, word_says d.design_size fits.3))
+    let (n, number, low, high, whole, len, value) = number_coded 242 d.number fits.0 in (
+      n,
+      number,
+      definition_bytes d,
+      low,
+      high,
+      ap (λ (r : List ℕ). r ++ definition_bytes d) whole,
+      len,
+      value,
+      (operand 4 d.check_sum, operand 4 d.size, operand 4 d.design_size, refl, word_says d.check_sum fits.1, word_says d.size fits.2, word_says d.design_size fits.3),
+    )
 
 leaf_spelled : (leaf : Leaf) → HasSpelling (Do leaf) → LeafFits leaf → SpellsLeaf leaf (leaf_spelling leaf)
 unfolding leaf_spelling
@@ -163,7 +170,19 @@ written_is_spelled Eop has fits = refl
 written_is_spelled Push has fits = refl
 written_is_spelled Pop has fits = refl
 written_is_spelled (Pre id units comment) has fits = (units_bytes units, refl, units_say units fits)
-written_is_spelled (Post p) has fits =
-    (operand 4 p.last_bop, units_bytes p.units, operand 4 p.height_plus_depth, operand 4 p.width, operand 2 (pos p.stack_depth), operand 2 (pos p.pages), refl,
-    word_says p.last_bop fits.0, units_say p.units fits.1, word_says p.height_plus_depth fits.2, word_says p.width fits.3, half_says p.stack_depth fits.4, half_says p.pages fits.5)
+written_is_spelled (Post p) has fits = (
+  operand 4 p.last_bop,
+  units_bytes p.units,
+  operand 4 p.height_plus_depth,
+  operand 4 p.width,
+  operand 2 (pos p.stack_depth),
+  operand 2 (pos p.pages),
+  refl,
+  word_says p.last_bop fits.0,
+  units_say p.units fits.1,
+  word_says p.height_plus_depth fits.2,
+  word_says p.width fits.3,
+  half_says p.stack_depth fits.4,
+  half_says p.pages fits.5,
+)
 written_is_spelled (PostPost place id) has fits = (operand 4 place, refl, word_says place fits)

@@ -127,3 +127,14 @@ NumbersFit (Pre id units comment) = UnitsFit units
 NumbersFit (Post p) =
     NumberFits p.last_bop × UnitsFit p.units × NumberFits p.height_plus_depth × NumberFits p.width × (p.stack_depth < 65536) × (p.pages < 65536)
 NumbersFit (PostPost place id) = NumberFits place
+
+-- A special holds up to 255 bytes, so that xxx1 spells it; any other instruction.
+abbrev pub HasShortText : Instruction → Type 0
+HasShortText (Do (Xxx text)) = length text < 256
+HasShortText i = Unit {0}
+
+-- What stands in a body, but for specials and font definitions.
+abbrev pub IsBrief : Leaf → Type 0
+IsBrief (FontDef d) = ⊥
+IsBrief (Xxx text) = ⊥
+IsBrief leaf = Unit {0}

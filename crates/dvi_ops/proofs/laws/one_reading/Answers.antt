@@ -1,5 +1,5 @@
-use Rattle.dvi_ops.proofs.FrontLaws as front
+use Rattle.dvi_ops.proofs.FrontLaws as lemmas
 use Rattle.dvi_ops.proofs.laws.one_reading.Goals as goal
 
 pub returns : goal.returns
-returns c = front.one_reading
+returns c = lemmas.one_reading
