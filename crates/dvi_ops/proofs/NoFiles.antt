@@ -11,7 +11,7 @@ use Rattle.dvi_ops.specs.File.{Part, Idle, Defines, Shows, instructions, Page, I
 use Rattle.dvi_ops.specs.Layout.{scaled_points, preamble, IsWritable}
 use Rattle.dvi_ops.specs.Examples.{self_naming_file, stray_pop_file, short_file, one_rule_file}
 use Rattle.dvi_ops.proofs.Frames.{one_trailer, cut_of}
-use Rattle.dvi_ops.proofs.WholeFile.{known_of_file}
+use Rattle.dvi_ops.proofs.WholeFile.{facts_of_written}
 
 -- More bytes 223 at the end.
 pub padding_grows : (metrics : Metrics) (bytes : List ℕ) (pages : List Page) → IsFile metrics bytes pages → IsFile metrics (bytes ++ 223 ∷ []) pages
@@ -78,8 +78,8 @@ self_naming_fits =
 pub self_naming_is_none : (metrics : Metrics) (pages : List Page) → IsFile metrics self_naming_file pages → ⊥
 unfolding spelling leaf_spelling operand signed_size
 self_naming_is_none metrics pages f =
-    let found = known_of_file self_naming one_rule_stop 74 7 metrics pages self_naming_fits stop_fits refl (lit< tt) (lit≤ tt) f in
-    differ found.3
+    let found = facts_of_written self_naming one_rule_stop [] 74 7 metrics pages self_naming_fits stop_fits tt refl (lit< tt) (lit≤ tt) f in
+    differ found.chain
   where
     differ : pos 15 ∷ pos 15 ∷ [] ≡ negsuc 0 ∷ pos 15 ∷ [] → ⊥
     differ e = cc
@@ -103,9 +103,9 @@ no_pop_first counts pointer rest (Shows counts' pointer' (Group inner body) ∷ 
 pub stray_pop_is_none : (metrics : Metrics) (pages : List Page) → IsFile metrics stray_pop_file pages → ⊥
 unfolding spelling leaf_spelling operand signed_size
 stray_pop_is_none metrics pages f =
-    let found = known_of_file stray_pop one_rule_stop 74 7 metrics pages stray_pop_fits stop_fits refl (lit< tt) (lit≤ tt) f in
-    let body : Bop zeros (negsuc 0) ∷ Pop ∷ Do Nop ∷ Do Nop ∷ Do Nop ∷ Do (SetRule (pos 65536) (pos 65536)) ∷ Eop ∷ [] ≡ flat_map instructions found.1 = tails found.2 in
-    no_pop_first zeros (negsuc 0) _ found.1 body
+    let found = facts_of_written stray_pop one_rule_stop [] 74 7 metrics pages stray_pop_fits stop_fits tt refl (lit< tt) (lit≤ tt) f in
+    let body : Bop zeros (negsuc 0) ∷ Pop ∷ Do Nop ∷ Do Nop ∷ Do Nop ∷ Do (SetRule (pos 65536) (pos 65536)) ∷ Eop ∷ [] ≡ flat_map instructions found.parts = tails found.front_is in
+    no_pop_first zeros (negsuc 0) _ found.parts body
   where
     tails : {X : Type 0} {x y : X} {xs ys : List X} → x ∷ xs ≡ y ∷ ys → xs ≡ ys
     tails e = cc
