@@ -1,13 +1,13 @@
 -- What is written for good pages is a file of them.
-use Rattle.std.proofs.Common.{◌≡◌, ◌≤◌, ◌<◌, ◌+◌, ◌%◌, ◌^◌, ◌++◌, min, [], ◌∷◌, List, length, map, replicate, ℕ, suc, ℤ, pos, negsuc, Bool, true, false, if◌then◌else◌, Option, Some, IsSome, refl, sym, ◌∙◌, ap, ap₂, subst, subst₂, append_assoc, append-nil, lit<, arith}
+use Rattle.std.proofs.Common.{◌≡◌, ◌≤◌, ◌<◌, ◌+◌, ◌%◌, ◌^◌, ◌++◌, min, [], ◌∷◌, List, length, map, replicate, ℕ, suc, ℤ, pos, Bool, true, false, if◌then◌else◌, Option, Some, IsSome, refl, sym, ◌∙◌, ap, ap₂, subst, subst₂, append_assoc, append-nil, lit<, arith}
 use Rattle.std.proofs.lemmas.Int.{ints}
 use Rattle.std.proofs.lemmas.Bool.Decides.{Decides-int_eq}
 use Rattle.std.specs.Ordering.{int_eq}
 use Rattle.std.specs.List.{flat_map, AllByRecursion}
-use Rattle.dvi_ops.specs.Instruction.{Definition, Postamble, FontDef, Instruction, Do, Pre, Post, PostPost}
+use Rattle.dvi_ops.specs.Instruction.{Definition, Postamble, FontDef, Instruction, Do, Post, PostPost}
 use Rattle.dvi_ops.specs.Table.{Spells}
 use Rattle.dvi_ops.specs.Spelling.{operand, spelling, NumberFits, NumbersFit}
-use Rattle.dvi_ops.specs.Tokens.{Token, IsSpelled, says, places, pointers}
+use Rattle.dvi_ops.specs.Tokens.{IsSpelled, says, pointers}
 use Rattle.dvi_ops.specs.Fonts.{Metrics, definitions, selections, defined, FontsAreRight, font, font_in, width_in, widths_of}
 use Rattle.dvi_ops.specs.File.{Part, instructions, Page, depth_of, IsIdle, Frame, IsFile}
 use Rattle.dvi_ops.specs.Layout.{bytes_of, preamble, define, Sheet, Written, at_first, sheet_from, after, sheets_from, after_all, front_of, whole_of, stop_of, ending_of, padding_after, Table, table_widths, IsWritable, IsTabled, IsGood, AreGood, IsClosing}

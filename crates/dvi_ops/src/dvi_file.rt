@@ -1,7 +1,7 @@
 //! A DVI file of these pages: laws of the definition that writer and reader share (DVItype, 13 to 20).
 
 ghost use Rattle.std.specs.Prelude.{◌≡◌, ◌++◌, ◌<◌, ◌≤◌, ◌+◌, ◌%◌, ◌^◌, [], ◌∷◌, List, length, ℕ, ℤ};
-ghost use Rattle.dvi_ops.specs.Examples.{one_rule_file, one_rule_pages, two_page_file, two_pages, fonts_in_nested_boxes_file, fonts_in_nested_boxes_pages, self_naming_file, stray_pop_file, short_file, GivesTiny};
+ghost use Rattle.dvi_ops.specs.Examples.{one_rule_file, one_rule_pages, two_page_file, two_pages, fonts_in_nested_boxes_file, fonts_in_nested_boxes_pages, self_naming_file, stray_pop_file, short_file, miscounted_file, undefined_font_file, shallow_file, GivesTiny};
 ghost use Rattle.dvi_ops.specs.File.{IsFile, Page};
 ghost use Rattle.dvi_ops.specs.Fonts.{Metrics};
 ghost use Rattle.dvi_ops.specs.Instruction.{Definition};
@@ -64,9 +64,13 @@ pub fn fonts_in_nested_boxes_is_a_file()
     ensures { (metrics : Metrics) → GivesTiny metrics → IsFile metrics fonts_in_nested_boxes_file fonts_in_nested_boxes_pages }
 {}
 
-/// Bytes that are no file, whatever the pages: a first page that names itself as the page before it, a pop without a push, three bytes 223 alone.
+/// Bytes that are no file, whatever the pages: a first page that names itself as the page before it, a pop without a push, three bytes 223 alone,
+/// a wrong number of pages, a selected font without a definition, more open pushes than post says.
 pub fn what_is_no_file()
     ensures pointer { (metrics : Metrics) (pages : List Page) → ¬ IsFile metrics self_naming_file pages }
     ensures pop { (metrics : Metrics) (pages : List Page) → ¬ IsFile metrics stray_pop_file pages }
     ensures padding { (metrics : Metrics) (pages : List Page) → ¬ IsFile metrics short_file pages }
+    ensures count { (metrics : Metrics) (pages : List Page) → ¬ IsFile metrics miscounted_file pages }
+    ensures font { (metrics : Metrics) (pages : List Page) → ¬ IsFile metrics undefined_font_file pages }
+    ensures depth { (metrics : Metrics) (pages : List Page) → ¬ IsFile metrics shallow_file pages }
 {}
