@@ -31,8 +31,8 @@ digit_test c low high = and_from _ _ (le-leb 48 c low) (le-leb c 57 high)
 digits-from_AllDigits : (ds : List ℕ) → AllDigits 10 ds → all_ascii_digits ds ≡ true
 digits-from_AllDigits [] h = refl
 digits-from_AllDigits (c ∷ cs) h =
-  let r = digit_from_value c h.0 in
-  and_from _ _ (digit_test c r.0 r.1) (digits-from_AllDigits cs h.1)
+    let r = digit_from_value c h.0 in
+    and_from _ _ (digit_test c r.0 r.1) (digits-from_AllDigits cs h.1)
 
 -- the decimal of a number is digits of that number
 pub decimal-digits : (n : ℕ) → n < 2 ^ 64 → all_ascii_digits (decimal n) ≡ true
@@ -61,11 +61,11 @@ length-last_digits (suc count) n = length-append (last_digits count (n / 10)) ((
 pub digits_value-last_digits : (count n : ℕ) → n < 10 ^ count → digits_value 10 (last_digits count n) ≡ n
 digits_value-last_digits zero n h = omega arith
 digits_value-last_digits (suc count) n h =
-  let p = pow-suc 10 count in
-  let front = digits_value-last_digits count (n / 10) (omega arith) in
-  let push = digits_value_push 10 (last_digits count (n / 10)) (48 + n % 10) in
-  let digit : digit_value (48 + n % 10) + 48 ≡ 48 + n % 10 = digit_value_digit (48 + n % 10) (omega arith, omega arith) in
-  push ∙ omega arith
+    let p = pow-suc 10 count in
+    let front = digits_value-last_digits count (n / 10) (omega arith) in
+    let push = digits_value_push 10 (last_digits count (n / 10)) (48 + n % 10) in
+    let digit : digit_value (48 + n % 10) + 48 ≡ 48 + n % 10 = digit_value_digit (48 + n % 10) (omega arith, omega arith) in
+    push ∙ omega arith
 
 -- The fraction.
 
@@ -81,22 +81,22 @@ none_yet f fewer positive le = absurd (omega arith)
 
 found : (f places : ℕ) → fraction_places f ≡ suc places → places < 5 → reads_back f (suc places) ≡ true → NoneUpTo places f → IsFewest f (fraction_places f)
 found f places e short reads none =
-  let P : ℕ → Type 0 = λ n. IsFewest f n in
-  subst P (sym e) (record { positive = omega arith; most = omega arith; reads = reads; fewest = λ fewer positive lt. none fewer positive (omega arith) })
+    let P : ℕ → Type 0 = λ n. IsFewest f n in
+    subst P (sym e) (record { positive = omega arith; most = omega arith; reads = reads; fewest = λ fewer positive lt. none fewer positive (omega arith) })
 
 pub fewest : (f : ℕ) → IsFewest f (fraction_places f)
 fewest f =
-  ⊎_elim (λ (yes : reads_back f 1 ≡ true). found f 0 (places-1 f yes) (omega arith) yes (none_yet f))
+    ⊎_elim (λ (yes : reads_back f 1 ≡ true). found f 0 (places-1 f yes) (omega arith) yes (none_yet f))
     (λ (no1 : reads_back f 1 ≡ false). let n1 = none_more 0 f (none_yet f) no1 in
-      ⊎_elim (λ (yes : reads_back f 2 ≡ true). found f 1 (places-2 f n1 yes) (omega arith) yes n1)
-        (λ (no2 : reads_back f 2 ≡ false). let n2 = none_more 1 f n1 no2 in
-          ⊎_elim (λ (yes : reads_back f 3 ≡ true). found f 2 (places-3 f n2 yes) (omega arith) yes n2)
-            (λ (no3 : reads_back f 3 ≡ false). let n3 = none_more 2 f n2 no3 in
-              ⊎_elim (λ (yes : reads_back f 4 ≡ true). found f 3 (places-4 f n3 yes) (omega arith) yes n3)
-                (λ (no4 : reads_back f 4 ≡ false). let n4 = none_more 3 f n3 no4 in found f 4 (places-5 f n4) (omega arith) (reads_back-5 f) n4)
-                (cases_Bool (reads_back f 4)))
-            (cases_Bool (reads_back f 3)))
-        (cases_Bool (reads_back f 2)))
+    ⊎_elim (λ (yes : reads_back f 2 ≡ true). found f 1 (places-2 f n1 yes) (omega arith) yes n1)
+    (λ (no2 : reads_back f 2 ≡ false). let n2 = none_more 1 f n1 no2 in
+    ⊎_elim (λ (yes : reads_back f 3 ≡ true). found f 2 (places-3 f n2 yes) (omega arith) yes n2)
+    (λ (no3 : reads_back f 3 ≡ false). let n3 = none_more 2 f n2 no3 in
+    ⊎_elim (λ (yes : reads_back f 4 ≡ true). found f 3 (places-4 f n3 yes) (omega arith) yes n3)
+    (λ (no4 : reads_back f 4 ≡ false). let n4 = none_more 3 f n3 no4 in found f 4 (places-5 f n4) (omega arith) (reads_back-5 f) n4)
+    (cases_Bool (reads_back f 4)))
+    (cases_Bool (reads_back f 3)))
+    (cases_Bool (reads_back f 2)))
     (cases_Bool (reads_back f 1))
 
 reads_back-nearest : (f places : ℕ) → reads_back f places ≡ true → nearest (nearest_decimal f places * 65536) (10 ^ places) ≡ f
@@ -117,19 +117,19 @@ decimal-below v d f positive small e = ⊎_elim
 fraction_of_digits : (ds : List ℕ) (places v f : ℕ) → places ≤ 17 → length ds ≡ places → digits_value 10 ds ≡ v → nearest (v * 65536) (10 ^ places) ≡ f → decimal_fraction ds ≡ f
 unfolding decimal_fraction
 fraction_of_digits ds places v f short len value e =
-  let whole : take 17 ds ≡ ds = take_all 17 ds (omega arith) in
-  rw (whole, len, value) e
+    let whole : take 17 ds ≡ ds = take_all 17 ds (omega arith) in
+    rw (whole, len, value) e
 
 -- the printed fraction reads back
 pub decimal_fraction-shortest : (f : ℕ) → f < 65536 → decimal_fraction (shortest_fraction f) ≡ f
 unfolding shortest_fraction
 decimal_fraction-shortest f small =
-  let w = fewest f in
-  let k = fraction_places f in
-  let v = nearest_decimal f k in
-  let e = reads_back-nearest f k w.reads in
-  let below = decimal-below v (10 ^ k) f (ten_power k) small e in
-  fraction_of_digits (last_digits k v) k v f (omega (arith, w.most)) (length-last_digits k v) (digits_value-last_digits k v below) e
+    let w = fewest f in
+    let k = fraction_places f in
+    let v = nearest_decimal f k in
+    let e = reads_back-nearest f k w.reads in
+    let below = decimal-below v (10 ^ k) f (ten_power k) small e in
+    fraction_of_digits (last_digits k v) k v f (omega (arith, w.most)) (length-last_digits k v) (digits_value-last_digits k v below) e
 
 pub shortest_fraction-digits : (f : ℕ) → all_ascii_digits (shortest_fraction f) ≡ true
 unfolding shortest_fraction
@@ -149,14 +149,14 @@ size_by_parts n q f e g = rw (e, g) (of_points-whole n)
 
 printed_value : (sign : Sign) (n : ℕ) → n < 2 ^ 64 → parts_value (printed_parts sign n) ≡ signed sign n
 printed_value sign n small =
-  let q = digits_value-decimal (n / 65536) (omega arith) in
-  let f = decimal_fraction-shortest (n % 65536) (omega arith) in
-  ap (signed sign) (size_by_parts n (digits_value 10 (decimal (n / 65536))) (decimal_fraction (shortest_fraction (n % 65536))) q f)
+    let q = digits_value-decimal (n / 65536) (omega arith) in
+    let f = decimal_fraction-shortest (n % 65536) (omega arith) in
+    ap (signed sign) (size_by_parts n (digits_value 10 (decimal (n / 65536))) (decimal_fraction (shortest_fraction (n % 65536))) q f)
 
 printed_reads : (sign : Sign) (n : ℕ) → n < 2 ^ 64 → dimension_value (parts_text (printed_parts sign n)) ≡ Some (signed sign n)
 printed_reads sign n small =
-  dimension_value-parts (printed_parts sign n) (decimal-digits (n / 65536) (omega arith)) (shortest_fraction-digits (n % 65536)) (omega (arith, decimal-some (n / 65536) (omega arith)))
-  ∙ ap Some (printed_value sign n small)
+    dimension_value-parts (printed_parts sign n) (decimal-digits (n / 65536) (omega arith)) (shortest_fraction-digits (n % 65536)) (omega (arith, decimal-some (n / 65536) (omega arith)))
+    ∙ ap Some (printed_value sign n small)
 
 size_text-parts : (n : ℕ) → size_text n ++ codes "pt" ≡ parts_text (printed_parts unsigned n)
 unfolding size_text
@@ -209,11 +209,11 @@ length-shortest f = length-last_digits (fraction_places f) (nearest_decimal f (f
 
 fewest_le : (f : ℕ) (ds : List ℕ) → 0 < length ds → length ds < fraction_places f → decimal_fraction ds ≡ f → ⊥
 fewest_le f ds some fewer e =
-  let w = fewest f in
-  let short : length ds < 5 = omega (arith, w.most) in
-  let reads = reads_any f (length ds) (digits_value 10 ds) some short (sym (decimal_fraction-short ds (omega arith)) ∙ e) in
-  let not = w.fewest (length ds) some fewer in
-  absurd (cc)
+    let w = fewest f in
+    let short : length ds < 5 = omega (arith, w.most) in
+    let reads = reads_any f (length ds) (digits_value 10 ds) some short (sym (decimal_fraction-short ds (omega arith)) ∙ e) in
+    let not = w.fewest (length ds) some fewer in
+    absurd (cc)
 
 -- digits that read as f are no fewer than the printed ones
 pub shortest-le : (f : ℕ) (ds : List ℕ) → 0 < length ds → decimal_fraction ds ≡ f → length (shortest_fraction f) ≤ length ds

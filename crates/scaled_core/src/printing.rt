@@ -46,7 +46,8 @@ fn push_size(size: u32, out: &mut Vec<u8>) -> Result<(), AllocError>
     push_fraction(size % 65536, out)
 }
 
-/// Appends the digits behind the point of that many 65536ths, or a front of them.
+/// Appends the digits behind the point of that many 65536ths, or a front of them: digit by digit, until what is left is less
+/// than half a 65536th, and five at most.
 fn push_fraction(fraction: u32, out: &mut Vec<u8>) -> Result<(), AllocError>
     requires { fraction < 65536 }
     ensures ok { OnOk result (out.new.items ≡ out.old.items ++ shortest_fraction fraction) }
@@ -55,9 +56,9 @@ fn push_fraction(fraction: u32, out: &mut Vec<u8>) -> Result<(), AllocError>
     let mut rest = 10 * fraction + 5;
     let mut unit = 10;
     for _ in 0..5u32 {
-        let digit = rounded_last(rest, unit);
-        out.push(b'0' + (digit / 65536) as u8)?;
-        rest = 10 * (digit % 65536);
+        let left = rounded_last(rest, unit);
+        out.push(b'0' + (left / 65536) as u8)?;
+        rest = 10 * (left % 65536);
         unit *= 10;
         if rest <= unit {
             return Ok(());
@@ -76,4 +77,33 @@ fn rounded_last(rest: u32, unit: u32) -> u32
         return rest + 32768 - 50000;
     }
     rest
+}
+
+#[cfg(test)]
+mod tests {
+    use super::*;
+    use crate::reading::parse_dimen;
+    use std::test::Fail;
+
+    #[test]
+    fn prints_and_reads_back(rt: HostRuntime) -> Result<(), Fail> {
+        for (value, text) in [
+            (10, "0.00015"),
+            (1_073_741_823, "16383.99998"),
+            (65536, "1.0"),
+            (-65536, "-1.0"),
+            (0, "0.0"),
+            (-1, "-0.00002"),
+            (655_360, "10.0"),
+            (33_000, "0.50354"),
+        ] {
+            let dimension = Dimen::try_new(value).expect(&rt, "it fits");
+            let mut out = Vec::from_slice(rt.alloc(), b"size ")?;
+            print_dimen(dimension, &mut out)?;
+            assert_eq!(rt; &out[5..], text.as_bytes());
+            out.extend_from_slice(b"pt")?;
+            assert_eq!(rt; parse_dimen(&out[5..]), Ok(dimension), "at {text}");
+        }
+        Ok(())
+    }
 }

@@ -144,3 +144,68 @@ fn fitting(negative: bool, size: u64) -> Result<Dimen, DimenFault>
     let size = size as i64;
     Dimen::try_new(if negative { -size } else { size }).ok_or(DimenFault::TooLarge)
 }
+
+#[cfg(test)]
+mod tests {
+    use super::*;
+
+    #[test]
+    fn reads_dimensions(rt: HostRuntime) {
+        for (text, value) in [
+            ("1in", 4_736_286),
+            ("1cm", 1_864_679),
+            ("1bp", 65_781),
+            ("6.5in", 30_785_863),
+            ("16383.99999pt", 1_073_741_823),
+            ("1mm", 186_467),
+            ("1pc", 786_432),
+            ("1dd", 70_124),
+            ("1cc", 841_489),
+            ("-1pt", -65_536),
+            ("+5.pt", 327_680),
+            (".5pt", 32_768),
+            ("0.00000762939453125pt", 1),
+            ("0.00000762939453124pt", 0),
+            ("1.9sp", 1),
+            ("-1073741823sp", -1_073_741_823),
+            ("00000000000000000000000000000000000000001pt", 65_536),
+        ] {
+            let read = parse_dimen(text.as_bytes()).map(|d| d.get());
+            assert_eq!(rt; read, Ok(value), "at {text}");
+        }
+    }
+
+    #[test]
+    fn refuses_what_does_not_fit(rt: HostRuntime) {
+        let digits = [b'9'; 200];
+        assert_eq!(rt; parse_dimen(&digits), Err(DimenFault::NotADimension));
+        for text in [
+            "16384pt",
+            "16383.999999pt",
+            "-16384pt",
+            "1073741824sp",
+            "227in",
+            "99999999999999999999999999999999999999999999999999999999999999999999999999999999pt",
+        ] {
+            assert_eq!(rt;
+                parse_dimen(text.as_bytes()),
+                Err(DimenFault::TooLarge),
+                "at {text}"
+            );
+        }
+    }
+
+    #[test]
+    fn refuses_other_texts(rt: HostRuntime) {
+        for text in [
+            "", "1", "pt", ".pt", "-.in", "1 pt", "1,5pt", "1.2.3pt", "--1pt", "1PT", "1ptx",
+            "1fil", " 1pt",
+        ] {
+            assert_eq!(rt;
+                parse_dimen(text.as_bytes()),
+                Err(DimenFault::NotADimension),
+                "at {text}"
+            );
+        }
+    }
+}
