@@ -4,3 +4,4 @@ pub mod Places
 pub mod Spelled
 pub mod Tellings
 pub mod PageBytes
+pub mod Moves

@@ -10,3 +10,4 @@ pub mod Drawing
 pub mod Placing
 pub mod Draft
 pub mod Runs
+pub mod Room

@@ -6,7 +6,7 @@ ghost use Rattle.job_core.specs.Reply.{Reply as AReply};
 ghost use Rattle.job_core.specs.Told.{grown, GrowsByFront};
 ghost use Rattle.job_core.specs.Draft.{with_pages, whole, draft_of};
 ghost use Rattle.job_core.specs.Machine.{Machine, first_machine, checks, first_of, reply_to, state_after, state_by, new_pages};
-ghost use Rattle.job_core.specs.Runs.{Holds, KeepsTo, RunsTo, FinishesTo};
+ghost use Rattle.job_core.specs.Runs.{TakesMemory, Holds, KeepsTo, RunsTo, FinishesTo};
 
 use crate::command::{Answer, Command, Refusal, Register, Reply, Summary};
 use crate::device::{Device, write_all};
@@ -33,4 +33,102 @@ fn ship(kept: &mut Kept, writer: &mut Writer, register: Register) -> Result<Repl
     }
     let pages = kept.count_page(register);
     Ok(Ok(Answer::Shipped(pages)))
+}
+
+/// Does what a command says, but for the device.
+fn obey(kept: &mut Kept, writer: &mut Writer, command: &Command) -> Result<Reply, AllocError>
+    requires { kept.old.over ≡ false → length writer.old.bytes < 2 ^ 31 }
+    ensures reply { IfOk result (λ reply. reply ≡ reply_to kept.old command.now) }
+    ensures state { OnOk result (kept.new ≡ state_after kept.old command.now) }
+    ensures draft { OnOk result (writer.new ≡ state_by (first_of (checks kept.old command.now)) writer.old (with_pages writer.old (new_pages kept.old command.now))) }
+    ensures takes { OnErr result (TakesMemory command.now) }
+    ensures admitted { OnErr result (first_of (checks kept.old command.now) ≡ None) }
+    ensures err { OnErr result (kept.new ≡ kept.old) }
+    ensures same { OnErr result (writer.new ≡ writer.old) }
+{
+    if kept.is_over() {
+        return Ok(Err(Refusal::JobOver));
+    }
+    match *command {
+        Command::OpenHbox(into) => kept.open_hbox(into),
+        Command::End => Ok(kept.end()),
+        Command::Rule(rule) => kept.append_rule(rule),
+        Command::Kern(width) => kept.append_kern(width),
+        Command::Measure(register) => Ok(kept.measure(register)),
+        Command::Void(register) => Ok(kept.void(register)),
+        Command::Ship(register) => ship(kept, writer, register),
+    }
+}
+
+/// A job: what it keeps, the draft of its file, and the device that the file goes to.
+pub struct Job<D: Device> {
+    kept: Kept,
+    writer: Writer,
+    device: D,
+}
+
+impl<D: Device> Model for Job<D> {
+    ghost use Rattle.std.specs.Prelude.{◌≡◌, ◌<◌, ◌+◌, ◌^◌, false};
+    ghost use Rattle.job_core.specs.Runs.{Seen};
+    ghost use Rattle.job_core.specs.Room.{HasRoom};
+    ghost use Rattle.job_core.specs.StateCode.{coded_seen};
+
+    ghost Value = { Seen };
+
+    ghost coded = { coded_seen };
+
+    ghost view = { λ job. record { state = job.kept; draft = job.writer; told = D.told job.device; failed = D.failed job.device } };
+
+    ghost invariant = { λ job. (job.kept.over ≡ false → HasRoom job.kept job.writer) × (job.kept.over ≡ false → D.failed job.device + 1 < 2 ^ 64) };
+}
+
+impl<D: Device> Job<D> {
+    ghost use Rattle.std.specs.Prelude.{◌≡◌, ◌<◌, ◌+◌, ◌^◌, ◌++◌, [], List, ℕ, IfOk, IfErr, OnOk, OnErr, IfSome, true};
+    ghost use Rattle.job_core.specs.Machine.{first_machine};
+    ghost use Rattle.job_core.specs.Reply.{Reply as AReply};
+    ghost use Rattle.job_core.specs.Runs.{Holds, KeepsTo, RunsTo, FinishesTo};
+
+    /// A new job. It copies the font files. Where memory is refused, it hands the device back.
+    pub fn new(alloc: Global, device: D, files: &[FontFile]) -> Result<Job<D>, D>
+        requires countable { D.failed device + 1 < 2 ^ 64 }
+        requires fresh { IfSome (D.told device) (λ bytes. bytes ≡ []) }
+        ensures ok { IfOk result (λ job. Holds job (first_machine files.now)) }
+        ensures failed { IfOk result (λ job. job.failed ≡ D.failed device) }
+        ensures back { IfErr result (λ back. back ≡ device) }
+    {
+        let Ok(kept) = Kept::new(alloc, files) else {
+            return Err(device);
+        };
+        let Ok(writer) = Writer::new(alloc) else {
+            return Err(device);
+        };
+        Ok(Job {
+            kept,
+            writer,
+            device,
+        })
+    }
+
+    /// Does what a command says, and answers it.
+    pub fn step(&mut self, command: &Command) -> Result<Answer, Refusal>
+        ensures { KeepsTo self.old command.now result self.new }
+    {
+        let Ok(reply) = obey(&mut self.kept, &mut self.writer, command) else {
+            return Err(Refusal::OutOfMemory);
+        };
+        reply
+    }
+
+    /// The device.
+    pub fn into_device(self) -> D
+        ensures told { D.told result ≡ self.told }
+        ensures failed { D.failed result ≡ self.failed }
+    {
+        let Job {
+            kept: _kept,
+            writer: _writer,
+            device,
+        } = self;
+        device
+    }
 }
