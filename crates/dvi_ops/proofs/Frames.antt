@@ -1,13 +1,13 @@
 -- No spelling begins another, so bytes have one list of instructions, one frame, and one list of pages.
-use Rattle.std.proofs.Common.{◌≡◌, ◌+◌, ◌++◌, [], ◌∷◌, List, length, replicate, take, ℕ, zero, suc, pos, Some, refl, sym, ◌∙◌, ap, ap₂, subst, append_assoc, append-nil, length-append, arith, add-one}
+use Rattle.std.proofs.Common.{◌≡◌, ◌+◌, ◌++◌, [], ◌∷◌, List, length, replicate, take, ℕ, zero, suc, pos, Some, refl, sym, ◌∙◌, ap, ap₂, subst, append_assoc, append-nil, length-append, arith, add-one, ◌≤◌, ◌%◌, min, map, negsuc, IsSome}
 use Rattle.std.proofs.lemmas.List.{append_cancel_left, take_at, same_from_push, replicate_more}
 use Rattle.std.specs.List.{flat_map, AllByRecursion}
-use Rattle.dvi_ops.specs.Instruction.{Instruction, Push, Eop, Pre, Post}
+use Rattle.dvi_ops.specs.Instruction.{Postamble, Instruction, Push, Eop, Pre, Post}
 use Rattle.dvi_ops.specs.Table.{Spells, signed}
 use Rattle.dvi_ops.specs.Forest.{flat}
-use Rattle.dvi_ops.specs.Tokens.{Token, IsSpelled, says, written}
-use Rattle.dvi_ops.specs.File.{Part, Idle, Defines, Shows, instructions, Page, pages_of, Frame, IsFile}
-use Rattle.dvi_ops.specs.Fonts.{Metrics, definitions, widths_of}
+use Rattle.dvi_ops.specs.Tokens.{Token, IsSpelled, says, written, places, pointers}
+use Rattle.dvi_ops.specs.File.{Part, Idle, Defines, Shows, instructions, Page, pages_of, depth_of, IsIdle, AreUnits, Frame, IsFile}
+use Rattle.dvi_ops.specs.Fonts.{Metrics, FontsAreRight, definitions, selections, font, widths_of}
 use Rattle.dvi_ops.specs.Body.{acts, kept}
 use Rattle.dvi_ops.proofs.FrontLaws.{one_reading}
 use Rattle.dvi_ops.proofs.Forests.{flat_cut, ends_eop}
@@ -194,3 +194,59 @@ one_list_of_pages metrics bytes pages others f g =
     sym f.shows
     ∙ (ap₂ (λ (tail : List Token) (parts : List Part). pages_of (kept (acts (widths_of metrics (definitions (says tail))))) parts) same.tail parts ∙ g.shows) in
     cc
+
+-- What is wanted of the instructions of a frame, for a file of these pages.
+pub record Facts (metrics : Metrics) (front : List Token) (stop : Postamble) (tail : List Token) (pages : List Page) : Type 0 where
+  pub comment : List ℕ
+  pub parts : List Part
+  pub front_is : says front ≡ Pre 2 stop.units comment ∷ flat_map instructions parts
+  pub tail_is : AllByRecursion IsIdle (says tail)
+  pub units : AreUnits stop.units
+  pub chain : pointers (says front) ++ stop.last_bop ∷ [] ≡ negsuc 0 ∷ map pos (places 0 front)
+  pub count : stop.pages ≡ length pages % 65536
+  pub fonts : FontsAreRight [] (says front ++ says tail)
+  pub closing : AllByRecursion (λ f. IsSome (font metrics (definitions (says tail)) f)) (selections (says front))
+  pub depth : AllByRecursion (λ part. depth_of part ≤ min 1024 stop.stack_depth) parts
+  pub shows : pages_of (kept (acts (widths_of metrics (definitions (says tail))))) parts ≡ Some pages
+
+pub facts_of : (metrics : Metrics) (bytes : List ℕ) (pages : List Page) (f : IsFile metrics bytes pages) → Facts metrics f.frame.front f.frame.stop f.frame.tail pages
+facts_of metrics bytes pages f =
+    record {
+      comment = f.comment;
+      parts = f.parts;
+      front_is = f.front_is;
+      tail_is = f.tail_is;
+      units = f.units;
+      chain = f.chain;
+      count = f.count;
+      fonts = f.fonts;
+      closing = f.closing;
+      depth = f.depth;
+      shows = f.shows;
+    }
+
+-- Where bytes are a file, this holds of every frame that they have.
+pub facts_at : (metrics : Metrics) (bytes : List ℕ) (pages : List Page) → IsFile metrics bytes pages → (g : Frame bytes) → Facts metrics g.front g.stop g.tail pages
+facts_at metrics bytes pages f g =
+    let same = one_frame bytes f.frame g in
+    subst (λ (front : List Token). Facts metrics front g.stop g.tail pages) same.front
+    (subst (λ (stop : Postamble). Facts metrics f.frame.front stop g.tail pages) same.stop
+    (subst (λ (tail : List Token). Facts metrics f.frame.front f.frame.stop tail pages) same.tail (facts_of metrics bytes pages f)))
+
+-- Where it holds of one frame, the bytes are a file.
+pub file_at : (metrics : Metrics) (bytes : List ℕ) (pages : List Page) (g : Frame bytes) → Facts metrics g.front g.stop g.tail pages → IsFile metrics bytes pages
+file_at metrics bytes pages g f =
+    record {
+      frame = g;
+      comment = f.comment;
+      parts = f.parts;
+      front_is = f.front_is;
+      tail_is = f.tail_is;
+      units = f.units;
+      chain = f.chain;
+      count = f.count;
+      fonts = f.fonts;
+      closing = f.closing;
+      depth = f.depth;
+      shows = f.shows;
+    }

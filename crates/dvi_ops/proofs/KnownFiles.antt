@@ -13,7 +13,7 @@ use Rattle.dvi_ops.specs.Layout.{Sheet, Table, table_widths, IsTabled, IsGood}
 use Rattle.dvi_ops.specs.Examples.{one_rule_body, one_rule_marks, one_rule_file, one_rule_pages, two_page_file, two_pages, fonts_in_nested_boxes_body, fonts_in_nested_boxes_file, fonts_in_nested_boxes_pages, tiny_name, GivesTiny}
 use Rattle.dvi_ops.proofs.WholeFile.{whole_file}
 
-abbrev zeros : List ℤ
+abbrev pub zeros : List ℤ
 zeros = replicate 10 (pos 0)
 
 no_fonts : Table
@@ -38,7 +38,7 @@ one_rule_good metrics known counts ten fit =
       shows = refl;
     }
 
-all_fit : (n : ℕ) → AllByRecursion NumberFits (replicate n (pos 0))
+pub all_fit : (n : ℕ) → AllByRecursion NumberFits (replicate n (pos 0))
 all_fit zero = tt
 all_fit (suc n) = (record { sfits = lit< tt }, all_fit n)
 
@@ -60,19 +60,19 @@ two_page_is_file metrics =
     (record { tabled = tt; each = λ f some. some }) (record { sfits = lit< tt }) (record { sfits = lit< tt }) (lit< tt) (lit≤ tt)
 
 -- The font tiny at 10pt and at 20pt.
-abbrev small : Definition
+abbrev pub small : Definition
 small = record { number = pos 0; check_sum = pos 0; size = pos 655360; design_size = pos 655360; area = []; name = tiny_name }
 
-abbrev large : Definition
+abbrev pub large : Definition
 large = record { number = pos 1; check_sum = pos 0; size = pos 1310720; design_size = pos 655360; area = []; name = tiny_name }
 
 abbrev fonts : Table
 fonts f = defined f (small ∷ large ∷ [])
 
-small_tabled : IsTabled fonts small
+pub small_tabled : IsTabled fonts small
 small_tabled = record { listed = refl; size = (omega (arith, ints), omega (arith, ints)); writable = ((lit< tt, lit< tt), (record { sfits = lit< tt }, record { sfits = lit< tt }, record { sfits = lit< tt }, record { sfits = lit< tt })) }
 
-large_tabled : IsTabled fonts large
+pub large_tabled : IsTabled fonts large
 large_tabled = record { listed = refl; size = (omega (arith, ints), omega (arith, ints)); writable = ((lit< tt, lit< tt), (record { sfits = lit< tt }, record { sfits = lit< tt }, record { sfits = lit< tt }, record { sfits = lit< tt })) }
 
 abbrev nested_sheet : Sheet

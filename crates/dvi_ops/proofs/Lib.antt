@@ -1,8 +1,4 @@
-pub mod Forests
 pub mod Operands
-pub mod ExampleFiles
-pub mod Appends
-pub mod Frames
 pub mod Numbers
 pub mod Fronts
 pub mod SpellsRead
@@ -11,6 +7,9 @@ pub mod SameMeaning
 pub mod Layouts
 pub mod FrontLaws
 pub mod Spelled
+pub mod Forests
+pub mod Appends
+pub mod Frames
 pub mod Shortest
 pub mod WholeFile
 pub mod Ranges

@@ -1,17 +1,19 @@
 -- Bytes that are no file, and bytes that stay one.
-use Rattle.std.proofs.Common.{◌≡◌, ◌+◌, ◌++◌, [], ◌∷◌, List, replicate, take, ℕ, zero, suc, ℤ, pos, negsuc, refl, lit<, lit≤, sym, ◌∙◌, ap, append_assoc, arith}
+use Rattle.std.proofs.Common.{◌≡◌, ◌+◌, ◌++◌, ◌≤◌, ◌<◌, ◌%◌, ◌^◌, min, [], ◌∷◌, List, length, replicate, take, ℕ, ℤ, pos, negsuc, refl, lit<, lit≤, sym, ◌∙◌, ap, subst, true, false, append_assoc, arith}
 use Rattle.std.proofs.lemmas.List.{replicate_more}
 use Rattle.std.specs.List.{flat_map, AllByRecursion}
-use Rattle.dvi_ops.specs.Instruction.{Downward, By, Postamble, SetRule, Nop, Move, Instruction, Do, Pop, Bop, Eop, Post}
-use Rattle.dvi_ops.specs.Spelling.{operand, signed_size, leaf_spelling, spelling, NumberFits, NumbersFit}
+use Rattle.dvi_ops.specs.Instruction.{Across, Downward, FontNum, FontDef, SetChar, By, Postamble, SetRule, Nop, Move, Instruction, Do, Push, Pop, Bop, Eop, Post}
+use Rattle.dvi_ops.specs.Spelling.{operand, signed_size, code_size, char_spelling, font_spelling, leaf_spelling, spelling, NumbersFit}
 use Rattle.dvi_ops.specs.Forest.{Empty, Then, Group}
-use Rattle.dvi_ops.specs.Tokens.{Token, written}
+use Rattle.dvi_ops.specs.Tokens.{Token, written, pointers}
 use Rattle.dvi_ops.specs.Fonts.{Metrics}
-use Rattle.dvi_ops.specs.File.{Part, Idle, Defines, Shows, instructions, Page, IsFile}
+use Rattle.dvi_ops.specs.File.{Part, Idle, Defines, Shows, instructions, Page, depth_of, IsFile}
 use Rattle.dvi_ops.specs.Layout.{scaled_points, preamble, IsWritable}
-use Rattle.dvi_ops.specs.Examples.{self_naming_file, stray_pop_file, short_file, one_rule_file}
-use Rattle.dvi_ops.proofs.Frames.{one_trailer, cut_of}
-use Rattle.dvi_ops.proofs.WholeFile.{known_of_file}
+use Rattle.dvi_ops.specs.Examples.{fonts_in_nested_boxes_body, self_naming_file, stray_pop_file, short_file, miscounted_file, undefined_font_file, shallow_file, one_rule_file}
+use Rattle.dvi_ops.proofs.KnownFiles.{zeros, all_fit, small, large, small_tabled, large_tabled}
+use Rattle.dvi_ops.proofs.Appends.{length-pages}
+use Rattle.dvi_ops.proofs.Frames.{one_trailer, cut_of, one_parts}
+use Rattle.dvi_ops.proofs.WholeFile.{facts_of_written}
 
 -- More bytes 223 at the end.
 pub padding_grows : (metrics : Metrics) (bytes : List ℕ) (pages : List Page) → IsFile metrics bytes pages → IsFile metrics (bytes ++ 223 ∷ []) pages
@@ -50,22 +52,15 @@ padding_grows metrics bytes pages f =
         (written front ++ (post ++ (written tail ++ (ending ++ replicate n 223)))) ++ 223 ∷ [] ≡ written front ++ (post ++ (written tail ++ (ending ++ replicate (n + 1) 223)))
     more front post tail ending n = simp append_assoc (ap (λ (bytes : List ℕ). written front ++ (post ++ (written tail ++ (ending ++ bytes)))) (replicate_more n 223))
 
--- What post says in all three files.
-abbrev one_rule_stop : Postamble
-one_rule_stop = record { last_bop = pos 15; units = scaled_points; height_plus_depth = pos 65536; width = pos 65536; stack_depth = 0; pages = 1 }
+-- What post says in a file of one rule.
+abbrev one_rule_stop : ℕ → Postamble
+one_rule_stop count = record { last_bop = pos 15; units = scaled_points; height_plus_depth = pos 65536; width = pos 65536; stack_depth = 0; pages = count }
 
-stop_fits : NumbersFit (Post one_rule_stop)
-stop_fits = (record { sfits = lit< tt }, (record { sfits = lit< tt }, record { sfits = lit< tt }, record { sfits = lit< tt }), record { sfits = lit< tt }, record { sfits = lit< tt }, lit< tt, lit< tt)
+stop_fits : (count : ℕ) → count < 65536 → NumbersFit (Post (one_rule_stop count))
+stop_fits count below = (record { sfits = lit< tt }, (record { sfits = lit< tt }, record { sfits = lit< tt }, record { sfits = lit< tt }), record { sfits = lit< tt }, record { sfits = lit< tt }, lit< tt, below)
 
 preamble_fits : IsWritable preamble
 preamble_fits = (lit< tt, (record { sfits = lit< tt }, record { sfits = lit< tt }, record { sfits = lit< tt }))
-
-all_fit : (n : ℕ) → AllByRecursion NumberFits (replicate n (pos 0))
-all_fit zero = tt
-all_fit (suc n) = (record { sfits = lit< tt }, all_fit n)
-
-abbrev zeros : List ℤ
-zeros = replicate 10 (pos 0)
 
 -- A first page that names itself.
 abbrev self_naming : List Instruction
@@ -78,8 +73,8 @@ self_naming_fits =
 pub self_naming_is_none : (metrics : Metrics) (pages : List Page) → IsFile metrics self_naming_file pages → ⊥
 unfolding spelling leaf_spelling operand signed_size
 self_naming_is_none metrics pages f =
-    let found = known_of_file self_naming one_rule_stop 74 7 metrics pages self_naming_fits stop_fits refl (lit< tt) (lit≤ tt) f in
-    differ found.3
+    let found = facts_of_written self_naming (one_rule_stop 1) [] 74 7 metrics pages self_naming_fits (stop_fits 1 (lit< tt)) tt refl (lit< tt) (lit≤ tt) f in
+    differ found.chain
   where
     differ : pos 15 ∷ pos 15 ∷ [] ≡ negsuc 0 ∷ pos 15 ∷ [] → ⊥
     differ e = cc
@@ -92,6 +87,9 @@ stray_pop_fits : AllByRecursion IsWritable stray_pop
 stray_pop_fits =
     (preamble_fits, ((tt, (refl, all_fit 10, record { sfits = lit< tt })), ((tt, tt), ((tt, tt), ((tt, tt), ((tt, tt), ((tt, (record { sfits = lit< tt }, record { sfits = lit< tt })), ((tt, tt), tt))))))))
 
+tails : {X : Type 0} {x y : X} {xs ys : List X} → x ∷ xs ≡ y ∷ ys → xs ≡ ys
+tails e = cc
+
 no_pop_first : (counts : List ℤ) (pointer : ℤ) (rest : List Instruction) (parts : List Part) → Bop counts pointer ∷ Pop ∷ rest ≡ flat_map instructions parts → ⊥
 no_pop_first counts pointer rest [] e = cc
 no_pop_first counts pointer rest (Idle ∷ parts) e = cc
@@ -103,12 +101,9 @@ no_pop_first counts pointer rest (Shows counts' pointer' (Group inner body) ∷ 
 pub stray_pop_is_none : (metrics : Metrics) (pages : List Page) → IsFile metrics stray_pop_file pages → ⊥
 unfolding spelling leaf_spelling operand signed_size
 stray_pop_is_none metrics pages f =
-    let found = known_of_file stray_pop one_rule_stop 74 7 metrics pages stray_pop_fits stop_fits refl (lit< tt) (lit≤ tt) f in
-    let body : Bop zeros (negsuc 0) ∷ Pop ∷ Do Nop ∷ Do Nop ∷ Do Nop ∷ Do (SetRule (pos 65536) (pos 65536)) ∷ Eop ∷ [] ≡ flat_map instructions found.1 = tails found.2 in
-    no_pop_first zeros (negsuc 0) _ found.1 body
-  where
-    tails : {X : Type 0} {x y : X} {xs ys : List X} → x ∷ xs ≡ y ∷ ys → xs ≡ ys
-    tails e = cc
+    let found = facts_of_written stray_pop (one_rule_stop 1) [] 74 7 metrics pages stray_pop_fits (stop_fits 1 (lit< tt)) tt refl (lit< tt) (lit≤ tt) f in
+    let body : Bop zeros (negsuc 0) ∷ Pop ∷ Do Nop ∷ Do Nop ∷ Do Nop ∷ Do (SetRule (pos 65536) (pos 65536)) ∷ Eop ∷ [] ≡ flat_map instructions found.parts = tails found.front_is in
+    no_pop_first zeros (negsuc 0) _ found.parts body
 
 -- Three bytes 223 alone.
 pub short_is_none : (metrics : Metrics) (pages : List Page) → IsFile metrics short_file pages → ⊥
@@ -116,4 +111,64 @@ short_is_none metrics pages f =
     let cut = cut_of short_file f.frame in
     let three : f.frame.padding ≡ 3 = (one_trailer _ (take 108 one_rule_file) f.frame.padding 3 (sym cut.whole ∙ refl)).1 in
     let four = f.frame.padded in
+    omega arith
+
+-- A post that counts two pages.
+abbrev one_rule : List Instruction
+one_rule = preamble ∷ Bop zeros (negsuc 0) ∷ Do (Move Downward (By (pos 65536))) ∷ Do (SetRule (pos 65536) (pos 65536)) ∷ Eop ∷ []
+
+one_rule_fits : AllByRecursion IsWritable one_rule
+one_rule_fits =
+    (preamble_fits, ((tt, (refl, all_fit 10, record { sfits = lit< tt })), ((tt, record { sfits = lit< tt }), ((tt, (record { sfits = lit< tt }, record { sfits = lit< tt })), ((tt, tt), tt)))))
+
+pub miscounted_is_none : (metrics : Metrics) (pages : List Page) → IsFile metrics miscounted_file pages → ⊥
+unfolding spelling leaf_spelling operand signed_size
+miscounted_is_none metrics pages f =
+    let found = facts_of_written one_rule (one_rule_stop 2) [] 74 7 metrics pages one_rule_fits (stop_fits 2 (lit< tt)) tt refl (lit< tt) (lit≤ tt) f in
+    let bops = length-pages _ found.parts pages found.shows in
+    let one : 1 ≡ length pages = ap (λ (is : List Instruction). length (pointers is)) found.front_is ∙ bops in
+    let two : 2 ≡ length pages % 65536 = found.count in
+    omega arith
+
+-- The file of two fonts, with these instructions in its page and this depth in post.
+abbrev nested : (second : ℤ) → List Instruction
+nested second =
+    preamble ∷ Do (FontDef small) ∷ Do (FontDef large) ∷ Bop zeros (negsuc 0) ∷ Do (Move Downward (By (pos 655360))) ∷ Do (FontNum (pos 0)) ∷ Do (SetChar (pos 99)) ∷ Push ∷
+    Do (FontNum second) ∷ Do (SetChar (pos 98)) ∷ Pop ∷ Do (Move Across (By (pos 655360))) ∷ Do (SetChar (pos 99)) ∷ Eop ∷ []
+
+abbrev nested_stop : ℕ → Postamble
+nested_stop depth = record { last_bop = pos 55; units = scaled_points; height_plus_depth = pos 983040; width = pos 1638400; stack_depth = depth; pages = 1 }
+
+nested_fits : (second : ℕ) → second < 2 ^ 31 → AllByRecursion IsWritable (nested (pos second))
+nested_fits second below =
+    (preamble_fits, (small_tabled.writable, (large_tabled.writable, ((tt, (refl, all_fit 10, record { sfits = lit< tt })), ((tt, record { sfits = lit< tt }), ((tt, record { sfits = lit< tt }), ((tt, record { sfits = lit< tt }), ((tt, tt), ((tt, record { sfits = below }), ((tt, record { sfits = lit< tt }), ((tt, tt), ((tt, record { sfits = lit< tt }), ((tt, record { sfits = lit< tt }), ((tt, tt), tt))))))))))))))
+
+nested_stop_fits : (depth : ℕ) → depth < 65536 → NumbersFit (Post (nested_stop depth))
+nested_stop_fits depth below = (record { sfits = lit< tt }, (record { sfits = lit< tt }, record { sfits = lit< tt }, record { sfits = lit< tt }), record { sfits = lit< tt }, record { sfits = lit< tt }, below, lit< tt)
+
+abbrev nested_tail : List Instruction
+nested_tail = Do (FontDef small) ∷ Do (FontDef large) ∷ []
+
+nested_tail_fits : AllByRecursion IsWritable nested_tail
+nested_tail_fits = (small_tabled.writable, (large_tabled.writable, tt))
+
+-- A font that is selected and has no definition.
+pub undefined_font_is_none : (metrics : Metrics) (pages : List Page) → IsFile metrics undefined_font_file pages → ⊥
+unfolding spelling leaf_spelling operand signed_size code_size char_spelling font_spelling
+undefined_font_is_none metrics pages f =
+    let found = facts_of_written (nested (pos 2)) (nested_stop 1) nested_tail 116 5 metrics pages (nested_fits 2 (lit< tt)) (nested_stop_fits 1 (lit< tt)) nested_tail_fits refl (lit< tt) (lit≤ tt) f in
+    differ found.fonts.1.1.1.1.1.1.1.1.0
+  where
+    differ : false ≡ true → ⊥
+    differ e = cc
+
+-- A push that post does not count.
+pub shallow_is_none : (metrics : Metrics) (pages : List Page) → IsFile metrics shallow_file pages → ⊥
+unfolding spelling leaf_spelling operand signed_size code_size char_spelling font_spelling
+shallow_is_none metrics pages f =
+    let found = facts_of_written (nested (pos 1)) (nested_stop 0) nested_tail 116 5 metrics pages (nested_fits 1 (lit< tt)) (nested_stop_fits 0 (lit< tt)) nested_tail_fits refl (lit< tt) (lit≤ tt) f in
+    let parts : List Part = Defines small ∷ Defines large ∷ Shows zeros (negsuc 0) fonts_in_nested_boxes_body ∷ [] in
+    let same : parts ≡ found.parts = one_parts parts found.parts (tails found.front_is) in
+    let depth = subst (AllByRecursion (λ part. depth_of part ≤ min 1024 0)) (sym same) found.depth in
+    let one : 1 ≤ 0 = depth.1.1.0 in
     omega arith

@@ -1,19 +1,19 @@
 -- What is written for good pages is a file of them.
-use Rattle.std.proofs.Common.{◌≡◌, ◌≤◌, ◌<◌, ◌+◌, ◌%◌, ◌^◌, ◌++◌, min, [], ◌∷◌, List, length, map, replicate, ℕ, suc, ℤ, pos, negsuc, Bool, true, false, if◌then◌else◌, Option, Some, IsSome, refl, sym, ◌∙◌, ap, ap₂, subst, subst₂, append_assoc, append-nil, lit<, arith}
+use Rattle.std.proofs.Common.{◌≡◌, ◌≤◌, ◌<◌, ◌+◌, ◌%◌, ◌^◌, ◌++◌, min, [], ◌∷◌, List, length, map, replicate, ℕ, suc, ℤ, pos, Bool, true, false, if◌then◌else◌, Option, Some, IsSome, refl, sym, ◌∙◌, ap, ap₂, subst, subst₂, append_assoc, append-nil, lit<, arith}
 use Rattle.std.proofs.lemmas.Int.{ints}
 use Rattle.std.proofs.lemmas.Bool.Decides.{Decides-int_eq}
 use Rattle.std.specs.Ordering.{int_eq}
 use Rattle.std.specs.List.{flat_map, AllByRecursion}
-use Rattle.dvi_ops.specs.Instruction.{Definition, Postamble, FontDef, Instruction, Do, Pre, Post, PostPost}
+use Rattle.dvi_ops.specs.Instruction.{Definition, Postamble, FontDef, Instruction, Do, Post, PostPost}
 use Rattle.dvi_ops.specs.Table.{Spells}
 use Rattle.dvi_ops.specs.Spelling.{operand, spelling, NumberFits, NumbersFit}
-use Rattle.dvi_ops.specs.Tokens.{Token, IsSpelled, says, places, pointers}
+use Rattle.dvi_ops.specs.Tokens.{IsSpelled, says, pointers}
 use Rattle.dvi_ops.specs.Fonts.{Metrics, definitions, selections, defined, FontsAreRight, font, font_in, width_in, widths_of}
 use Rattle.dvi_ops.specs.File.{Part, instructions, Page, depth_of, IsIdle, Frame, IsFile}
 use Rattle.dvi_ops.specs.Layout.{bytes_of, preamble, define, Sheet, Written, at_first, sheet_from, after, sheets_from, after_all, front_of, whole_of, stop_of, ending_of, padding_after, Table, table_widths, IsWritable, IsTabled, IsGood, AreGood, IsClosing}
 use Rattle.dvi_ops.proofs.Appends.{all_weaker, all_both, all_map, fonts_append}
 use Rattle.dvi_ops.proofs.Layouts.{wrote, says-wrote, written-wrote, bytes_of-append, length-bytes_of-append, definitions-define, defined_right, place_fits, Knows, knows_first, knows_next, page_with}
-use Rattle.dvi_ops.proofs.Frames.{one_frame}
+use Rattle.dvi_ops.proofs.Frames.{Facts, facts_at}
 use Rattle.dvi_ops.proofs.Spelled.{written_is_spelled}
 use Rattle.dvi_ops.proofs.SameMeaning.{SameWidths, same_pages}
 
@@ -82,18 +82,13 @@ frame_of is stop tail place padding front_fits stop_fits tail_fits at small padd
       ending_spelled = subst (λ n. Spells (PostPost (pos n) 2) ending) (at ∙ ap length (sym (written-wrote is))) (written_is_spelled (PostPost (pos place) 2) tt (record { sfits = small }));
     }
 
--- What is known of a file whose bytes are those of these instructions.
-pub known_of_file : (is : List Instruction) (stop : Postamble) (place padding : ℕ) (metrics : Metrics) (pages : List Page) →
-    AllByRecursion IsWritable is → NumbersFit (Post stop) → place ≡ length (bytes_of is) → place < 2 ^ 31 → 4 ≤ padding →
-    IsFile metrics (bytes_of is ++ (bytes_of (Post stop ∷ PostPost (pos place) 2 ∷ []) ++ replicate padding 223)) pages →
-    (comment : List ℕ) × (parts : List Part) × (is ≡ Pre 2 stop.units comment ∷ flat_map instructions parts) × (pointers is ++ stop.last_bop ∷ [] ≡ negsuc 0 ∷ map pos (places 0 (map wrote is)))
+-- What is known where such bytes are a file.
+pub facts_of_written : (is : List Instruction) (stop : Postamble) (tail : List Instruction) (place padding : ℕ) (metrics : Metrics) (pages : List Page) →
+    AllByRecursion IsWritable is → NumbersFit (Post stop) → AllByRecursion IsWritable tail → place ≡ length (bytes_of is) → place < 2 ^ 31 → 4 ≤ padding →
+    IsFile metrics (bytes_of is ++ (bytes_of (Post stop ∷ (tail ++ PostPost (pos place) 2 ∷ [])) ++ replicate padding 223)) pages → Facts metrics (map wrote is) stop (map wrote tail) pages
 unfolding frame_of
-known_of_file is stop place padding metrics pages front_fits stop_fits at small padded f =
-    let g = frame_of is stop [] place padding front_fits stop_fits tt at small padded in
-    let same = one_frame _ f.frame g in
-    let start = subst₂ (λ (front : List Token) (stop : Postamble). says front ≡ Pre 2 stop.units f.comment ∷ flat_map instructions f.parts) same.front same.stop f.front_is in
-    let chain = subst₂ (λ (front : List Token) (stop : Postamble). pointers (says front) ++ stop.last_bop ∷ [] ≡ negsuc 0 ∷ map pos (places 0 front)) same.front same.stop f.chain in
-    (f.comment, f.parts, sym (says-wrote is) ∙ start, subst (λ (is' : List Instruction). pointers is' ++ stop.last_bop ∷ [] ≡ negsuc 0 ∷ map pos (places 0 (map wrote is))) (says-wrote is) chain)
+facts_of_written is stop tail place padding metrics pages front_fits stop_fits tail_fits at small padded f =
+    facts_at metrics _ pages f (frame_of is stop tail place padding front_fits stop_fits tail_fits at small padded)
 
 module _ (metrics : Metrics) (table : Table) (s : Written) (is : List Instruction) (parts : List Part) (pages : List Page)
     (tall wide : ℤ) (closing : List Definition) (padding : ℕ)

@@ -1,4 +1,4 @@
--- What an instruction in the body of a page does: which marks it makes, and how it changes the place and the font (DVItype, 14 to 18).
+-- What an instruction in the body of a page does: which marks it makes, and how it changes the place and the font (DVItype, 14 and 15).
 use Rattle.std.specs.Prelude.{◌+ℤ◌, ◌^◌, ◌&&◌, if◌then◌else◌, [], ◌∷◌, List, ℤ, pos, negsuc, Bool, nat_lt, int_lt, Option, Some, None}
 use Rattle.dvi_ops.specs.Instruction.{Axis, Across, Downward, Register, First, Second, Step, By, Set, Again, Leaf, SetChar, PutChar, SetRule, PutRule, Nop, Move, FontNum, FontDef, Xxx}
 
@@ -66,19 +66,19 @@ abbrev pub put_in : Register → ℤ → Pair → Pair
 put_in First z held = record held { first = z }
 put_in Second z held = record held { second = z }
 
--- How far a movement goes (DVItype, 16).
+-- How far a movement goes (DVItype, 15).
 abbrev pub amount : Pair → Step → ℤ
 amount held (By z) = z
 amount held (Set register z) = z
 amount held (Again register) = held_in register held
 
--- What the registers of its direction hold after a movement (DVItype, 16).
+-- What the registers of its direction hold after a movement (DVItype, 15).
 abbrev pub held_after : Pair → Step → Pair
 held_after held (By z) = held
 held_after held (Set register z) = put_in register z held
 held_after held (Again register) = held
 
--- The place after a movement: h grows across, v downward (DVItype, 16).
+-- The place after a movement: h grows across, v downward (DVItype, 15).
 abbrev pub moved : Axis → Step → Place → Place
 moved Across step p =
     record { h = p.h +ℤ amount p.held.across step; v = p.v; held = record { across = held_after p.held.across step; down = p.held.down } }
@@ -109,7 +109,7 @@ abbrev pub set_glyph : Option (Mark × ℤ) → State → Meaning
 set_glyph None s = None
 set_glyph (Some (mark, width)) s = Some (mark ∷ [], right s width)
 
--- What an instruction does, with these widths (DVItype, 15 to 18). set_rule adds its width to h in any case.
+-- What an instruction does, with these widths (DVItype, 15). set_rule adds its width to h in any case.
 -- A special has no mark here, and a font definition only makes a font known.
 abbrev pub acts : Widths → Acts
 acts widths (SetChar c) s = set_glyph (glyph widths c s.place s.font) s

@@ -62,6 +62,10 @@ stray_pop_file = take 60 one_rule_file ++ (0x8e ∷ 0x8a ∷ 0x8a ∷ 0x8a ∷ d
 abbrev pub short_file : List ℕ
 short_file = take 112 one_rule_file
 
+-- The same bytes, but post says that there are two pages.
+abbrev pub miscounted_file : List ℕ
+miscounted_file = take 102 one_rule_file ++ (0x02 ∷ drop 103 one_rule_file)
+
 -- The file of two such pages, the second with 7 as its first count. Its bop points to the first page's.
 abbrev pub two_page_file : List ℕ
 two_page_file =
@@ -112,6 +116,14 @@ fonts_in_nested_boxes_pages =
       counts = replicate 10 (pos 0);
       marks = Glyph (pos 0) (pos 99) (pos 0) (pos 655360) ∷ Glyph (pos 1) (pos 98) (pos 327680) (pos 655360) ∷ Glyph (pos 1) (pos 99) (pos 983040) (pos 655360) ∷ [];
     } ∷ []
+
+-- The same bytes, but fnt_num 2 in the place of fnt_num 1: font 2 has no definition.
+abbrev pub undefined_font_file : List ℕ
+undefined_font_file = take 107 fonts_in_nested_boxes_file ++ (0xad ∷ drop 108 fonts_in_nested_boxes_file)
+
+-- The same bytes, but post says that no push is open in any page.
+abbrev pub shallow_file : List ℕ
+shallow_file = take 142 fonts_in_nested_boxes_file ++ (0x00 ∷ drop 143 fonts_in_nested_boxes_file)
 
 abbrev pub tiny_name : List ℕ
 tiny_name = codes "tiny"

@@ -1,4 +1,4 @@
--- A DVI file of these pages (DVItype, 13 to 19).
+-- A DVI file of these pages (DVItype, 13 to 20).
 use Rattle.std.specs.Prelude.{◌≡◌, ◌≤◌, ◌<ℤ◌, ◌%◌, ◌++◌, min, [], ◌∷◌, List, length, map, replicate, ℕ, ℤ, pos, negsuc, Option, Some, None, IsSome}
 use Rattle.std.specs.List.{flat_map, AllByRecursion}
 use Rattle.dvi_ops.specs.Instruction.{Definition, Units, Postamble, Nop, FontDef, Instruction, Do, Bop, Eop, Pre, Post, PostPost}
@@ -8,7 +8,7 @@ use Rattle.dvi_ops.specs.Forest.{Forest, flat, meaning, nests}
 use Rattle.dvi_ops.specs.Tokens.{Token, IsSpelled, says, written, places, pointers}
 use Rattle.dvi_ops.specs.Fonts.{Metrics, FontsAreRight, definitions, selections, font, widths_of}
 
--- What stands between the preamble and the postamble: a nop, a font definition, or a page (DVItype, 13).
+-- What stands between the preamble and the postamble: a nop, a font definition, or a page (DVItype, 14 and 15).
 pub data Part : Type 0 where
   Idle : Part
   Defines : Definition → Part
@@ -54,7 +54,7 @@ abbrev pub AreUnits : Units → Type 0
 AreUnits u = (pos 0 <ℤ u.num) × (pos 0 <ℤ u.den) × (pos 0 <ℤ u.mag)
 
 -- Which instructions the bytes spell: those up to post, post, those after it, and post_post, which names post's place and the version 2;
--- then four or more bytes 223 to the end (DVItype, 19).
+-- then four or more bytes 223 to the end (DVItype, 19 and 20).
 pub record Frame (bytes : List ℕ) : Type 0 where
   pub front : List Token
   pub post : List ℕ
@@ -72,22 +72,22 @@ pub record Frame (bytes : List ℕ) : Type 0 where
 -- The bytes are a DVI file of these pages, with these metric files.
 pub record IsFile (metrics : Metrics) (bytes : List ℕ) (pages : List Page) : Type 0 where
   pub frame : Frame bytes
-  -- A preamble of version 2; then nops, font definitions and pages; after the postamble's post nops and font definitions (DVItype, 13 and 19).
+  -- A preamble of version 2; then nops, font definitions and pages; after the postamble's post nops and font definitions (DVItype, 14, 17 and 19).
   pub comment : List ℕ
   pub parts : List Part
   pub front_is : says frame.front ≡ Pre 2 frame.stop.units comment ∷ flat_map instructions parts
   pub tail_is : AllByRecursion IsIdle (says frame.tail)
-  -- num, den and mag are positive, and the same in preamble and postamble (DVItype, 15 and 17).
+  -- num, den and mag are positive, and the same in preamble and postamble (DVItype, 17 and 19).
   pub units : AreUnits frame.stop.units
-  -- The first bop names -1, each other the bop before it, and post the last (DVItype, 15 and 17).
+  -- The first bop names -1, each other the bop before it, and post the last (DVItype, 15 and 19).
   pub chain : pointers (says frame.front) ++ frame.stop.last_bop ∷ [] ≡ negsuc 0 ∷ map pos (places 0 frame.front)
-  -- post has the number of pages modulo 65536 (DVItype, 17).
+  -- post has the number of pages modulo 65536 (DVItype, 19).
   pub count : frame.stop.pages ≡ length pages % 65536
   -- Sizes and agreement of all definitions, and each font's before its selection (DVItype, 18).
   pub fonts : FontsAreRight [] (says frame.front ++ says frame.tail)
   -- A selected font is defined in the postamble too (DVItype, 19), and its metric file was handed in.
   pub closing : AllByRecursion (λ f. IsSome (font metrics (definitions (says frame.tail)) f)) (selections (says frame.front))
-  -- No more pushes are open than post says (DVItype, 17), and no more than 1024 (own).
+  -- No more pushes are open than post says (DVItype, 19), and no more than 1024 (own).
   pub depth : AllByRecursion (λ part. depth_of part ≤ min 1024 frame.stop.stack_depth) parts
   -- The pages, with h and v in signed 32 bits.
   pub shows : pages_of (kept (acts (widths_of metrics (definitions (says frame.tail))))) parts ≡ Some pages

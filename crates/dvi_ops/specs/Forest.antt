@@ -1,4 +1,4 @@
--- The body of a page: instructions, and groups between push and pop (DVItype, 14).
+-- The body of a page: instructions, and groups between push and pop (DVItype, 14 and 15).
 use Rattle.std.specs.Prelude.{◌++◌, [], ◌∷◌, ◌+◌, max, List, ℕ, ℤ, IsTrue, Option, Some, None}
 use Rattle.dvi_ops.specs.Instruction.{Leaf, Instruction, Do, Push, Pop}
 use Rattle.dvi_ops.specs.Body.{Mark, Place, State, Meaning, Acts, only, in_range}
@@ -25,7 +25,7 @@ abbrev pub and_then : Meaning → (State → Meaning) → Meaning
 and_then None next = None
 and_then (Some (marks, s)) next = ahead marks (next s)
 
--- After a group the place is that from before it, and the font is that from its end (DVItype, 16).
+-- After a group the place is that from before it, and the font is that from its end (DVItype, 15: pop).
 abbrev pub restored : Place → Meaning → Meaning
 restored p None = None
 restored p (Some (marks, s)) = Some (marks, record { place = p; font = s.font })

@@ -1,13 +1,13 @@
 pub mod Instruction
 pub mod Table
+pub mod View
+pub mod Spelling
+pub mod Reading
 pub mod Body
 pub mod Forest
 pub mod Walk
-pub mod Examples
-pub mod View
-pub mod Spelling
 pub mod Tokens
 pub mod Fonts
 pub mod File
-pub mod Reading
 pub mod Layout
+pub mod Examples

@@ -1,4 +1,4 @@
--- The pass over the instructions of a body with a stack of places, as DVItype does it (DVItype, 14).
+-- The pass over the instructions of a body with a stack of places, as DVItype itself does it (DVItype, 15: push and pop).
 use Rattle.std.specs.Prelude.{[], ◌∷◌, List, None}
 use Rattle.dvi_ops.specs.Instruction.{Instruction, Do, Push, Pop}
 use Rattle.dvi_ops.specs.Body.{Place, State, Meaning, Acts, only}

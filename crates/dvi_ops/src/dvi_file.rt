@@ -1,7 +1,7 @@
-//! A DVI file of these pages: laws of the definition that writer and reader share (DVItype, 13 to 19).
+//! A DVI file of these pages: laws of the definition that writer and reader share (DVItype, 13 to 20).
 
 ghost use Rattle.std.specs.Prelude.{◌≡◌, ◌++◌, ◌<◌, ◌≤◌, ◌+◌, ◌%◌, ◌^◌, [], ◌∷◌, List, length, ℕ, ℤ};
-ghost use Rattle.dvi_ops.specs.Examples.{one_rule_file, one_rule_pages, two_page_file, two_pages, fonts_in_nested_boxes_file, fonts_in_nested_boxes_pages, self_naming_file, stray_pop_file, short_file, GivesTiny};
+ghost use Rattle.dvi_ops.specs.Examples.{one_rule_file, one_rule_pages, two_page_file, two_pages, fonts_in_nested_boxes_file, fonts_in_nested_boxes_pages, self_naming_file, stray_pop_file, short_file, miscounted_file, undefined_font_file, shallow_file, GivesTiny};
 ghost use Rattle.dvi_ops.specs.File.{IsFile, Page};
 ghost use Rattle.dvi_ops.specs.Fonts.{Metrics};
 ghost use Rattle.dvi_ops.specs.Instruction.{Definition};
@@ -10,7 +10,8 @@ ghost use Rattle.dvi_ops.specs.Spelling.{NumberFits};
 
 /// Bytes are a file of one list of pages at most.
 pub fn one_file()
-    ensures { (metrics : Metrics) (bytes : List ℕ) (pages others : List Page) → IsFile metrics bytes pages → IsFile metrics bytes others → pages ≡ others }
+    ensures { (metrics : Metrics) (bytes : List ℕ) (pages others : List Page)
+        → IsFile metrics bytes pages → IsFile metrics bytes others → pages ≡ others }
 {}
 
 /// What this writer writes for good pages, with the postamble behind them, is a file of these pages: any number of pages and fonts, any greatest sizes.
@@ -25,7 +26,8 @@ pub fn whole_is_file()
 
 /// What a page adds to what was written before it: its own bytes, behind the others. A good page behind good ones makes good pages.
 pub fn pages_are_added()
-    ensures bytes { (sheets : List Sheet) (p : Sheet) → front_of (sheets ++ p ∷ []) ≡ front_of sheets ++ bytes_of (sheet_from (after_all at_first sheets).last p) }
+    ensures bytes { (sheets : List Sheet) (p : Sheet)
+        → front_of (sheets ++ p ∷ []) ≡ front_of sheets ++ bytes_of (sheet_from (after_all at_first sheets).last p) }
     ensures state { (s : Written) (sheets : List Sheet) (p : Sheet) → after_all s (sheets ++ p ∷ []) ≡ after (after_all s sheets) p }
     ensures size { (sheets : List Sheet) → (after_all at_first sheets).size ≡ length (front_of sheets) }
     ensures good { (metrics : Metrics) (table : Table) (s : Written) (sheets : List Sheet) (pages : List Page) (p : Sheet) (page : Page)
@@ -43,7 +45,8 @@ pub fn padding_is_right()
 
 /// A file with more bytes 223 at its end is a file of the same pages.
 pub fn padding_may_grow()
-    ensures { (metrics : Metrics) (bytes : List ℕ) (pages : List Page) → IsFile metrics bytes pages → IsFile metrics (bytes ++ 223 ∷ []) pages }
+    ensures { (metrics : Metrics) (bytes : List ℕ) (pages : List Page)
+        → IsFile metrics bytes pages → IsFile metrics (bytes ++ 223 ∷ []) pages }
 {}
 
 /// The 116 bytes of the file of one rule are a file of one page with that rule.
@@ -61,9 +64,13 @@ pub fn fonts_in_nested_boxes_is_a_file()
     ensures { (metrics : Metrics) → GivesTiny metrics → IsFile metrics fonts_in_nested_boxes_file fonts_in_nested_boxes_pages }
 {}
 
-/// Bytes that are no file, whatever the pages: a first page that names itself as the page before it, a pop without a push, three bytes 223 alone.
+/// Bytes that are no file, whatever the pages: a first page that names itself as the page before it, a pop without a push, three bytes 223 alone,
+/// a wrong number of pages, a selected font without a definition, more open pushes than post says.
 pub fn what_is_no_file()
     ensures pointer { (metrics : Metrics) (pages : List Page) → ¬ IsFile metrics self_naming_file pages }
     ensures pop { (metrics : Metrics) (pages : List Page) → ¬ IsFile metrics stray_pop_file pages }
     ensures padding { (metrics : Metrics) (pages : List Page) → ¬ IsFile metrics short_file pages }
+    ensures count { (metrics : Metrics) (pages : List Page) → ¬ IsFile metrics miscounted_file pages }
+    ensures font { (metrics : Metrics) (pages : List Page) → ¬ IsFile metrics undefined_font_file pages }
+    ensures depth { (metrics : Metrics) (pages : List Page) → ¬ IsFile metrics shallow_file pages }
 {}

@@ -1,4 +1,4 @@
-//! The body of a page: instructions and groups between push and pop, and what they mean (DVItype, 14 to 18).
+//! The body of a page: instructions and groups between push and pop, and what they mean (DVItype, 14 and 15).
 //!
 //! The functions here do nothing; their contracts are laws of the definitions, which writer and reader share.
 
@@ -17,7 +17,8 @@ pub fn pass_is_meaning()
 
 /// Where the pass with a stack gives marks, the instructions are a body with this meaning.
 pub fn passed_is_body()
-    ensures { (does : Acts) (is : List Instruction) (s : State) (out : List Mark × State) → walk does is [] s ≡ Some out → (f : Forest) × (is ≡ flat f) × (meaning does f s ≡ Some out) }
+    ensures { (does : Acts) (is : List Instruction) (s : State) (out : List Mark × State) → walk does is [] s ≡ Some out
+        → (f : Forest) × (is ≡ flat f) × (meaning does f s ≡ Some out) }
 {}
 
 /// Instructions are one body at most.
@@ -28,14 +29,18 @@ pub fn one_body()
 /// What stands in one body behind another: their instructions, their meanings one after the other, the pushes of the deeper.
 pub fn one_behind_another()
     ensures instructions { (f g : Forest) → flat (beside f g) ≡ flat f ++ flat g }
-    ensures marks { (does : Acts) (f g : Forest) (s : State) → meaning does (beside f g) s ≡ and_then (meaning does f s) (λ t. meaning does g t) }
+    ensures marks { (does : Acts) (f g : Forest) (s : State)
+        → meaning does (beside f g) s ≡ and_then (meaning does f s) (λ t. meaning does g t) }
     ensures depth { (f g : Forest) → nests (beside f g) ≡ max (nests f) (nests g) }
 {}
 
 /// The meaning with h and v in signed 32 bits is the meaning where all places on the way are in that range, and there is none elsewhere.
 pub fn kept_where_in_range()
-    ensures within { (does : Acts) (f : Forest) (s : State) → AllByRecursion IsPoint (points does f s) → meaning (kept does) f s ≡ meaning does f s }
-    ensures back { (does : Acts) (f : Forest) (s : State) (out : List Mark × State) → IsPoint (s.place.h, s.place.v) → meaning (kept does) f s ≡ Some out → (meaning does f s ≡ Some out) × AllByRecursion IsPoint (points does f s) }
+    ensures within { (does : Acts) (f : Forest) (s : State)
+        → AllByRecursion IsPoint (points does f s) → meaning (kept does) f s ≡ meaning does f s }
+    ensures back { (does : Acts) (f : Forest) (s : State) (out : List Mark × State)
+        → IsPoint (s.place.h, s.place.v) → meaning (kept does) f s ≡ Some out
+        → (meaning does f s ≡ Some out) × AllByRecursion IsPoint (points does f s) }
 {}
 
 /// Bodies with known marks, whatever the widths of the fonts.

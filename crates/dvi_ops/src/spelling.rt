@@ -1,9 +1,11 @@
 //! The one spelling of an instruction.
 
 ghost use Rattle.std.specs.Prelude.{◌≡◌, ◌≤◌, ◌<◌, ◌+◌, ◌++◌, ◌^◌, [], ◌∷◌, length, pos, OnOk, OnErr};
-ghost use Rattle.std.specs.List.{flat_map};
+ghost use Rattle.std.specs.List.{AllByRecursion, flat_map};
 ghost use Rattle.byteorder.specs.Endian.{big_bytes};
-ghost use Rattle.dvi_ops.specs.Spelling.{HasSpelling, char_spelling, code_size, coded, coded_signed, definition_spelling, font_spelling, leaf_spelling, operand, post_bytes, signed_size, spelling, text_spelling, units_bytes};
+ghost use Rattle.dvi_ops.specs.Instruction.{FontDef, Post};
+ghost use Rattle.dvi_ops.specs.Spelling.{HasSpelling, LeafFits, NumberFits, NumbersFit, UnitsFit, char_spelling, code_size, coded, coded_signed, definition_spelling, font_spelling, leaf_spelling, operand, post_bytes, signed_size, spelling, text_spelling, units_bytes};
+ghost use Rattle.dvi_ops.specs.Table.{Spells};
 ghost use Rattle.dvi_ops.specs.View.{definition, postamble, units as view_units, view};
 
 use crate::op::{FontDefinition, Op, Postamble, Units};
@@ -145,19 +147,33 @@ fn append_text(out: &mut Vec<u8>, text: &[u8]) -> Result<(), AllocError>
 // The twelve bytes of the units.
 #[tactic(auto, unfolding(crate::specs::Spelling::operand))]
 fn units_of(units: &Units) -> [u8; 12]
-    ensures { result ≡ units_bytes (view_units units.now) }
+    ensures bytes { result ≡ units_bytes (view_units units.now) }
+    ensures fits { UnitsFit (view_units units.now) }
 {
     let mut bytes = [0; 12];
     BigEndian::write_i32_into(&[units.num, units.den, units.mag], &mut bytes);
     bytes
 }
 
+// Each count is in the range of its type. (The loop reads each; it does nothing else.)
+fn counts_fit(counts: &[i32; 10])
+    ensures ten { length counts.now ≡ 10 }
+    ensures fits { AllByRecursion NumberFits counts.now }
+{
+    for count in counts {
+        let _count = *count;
+    }
+}
+
 // Appends the beginning of a page.
 #[tactic(auto, unfolding(crate::specs::Spelling::operand))]
 fn append_bop(out: &mut Vec<u8>, counts: &[i32; 10], pointer: i32) -> Result<(), AllocError>
     ensures ok { OnOk result (out.new.items ≡ out.old.items ++ 139 ∷ (flat_map (operand 4) counts.now ++ operand 4 pointer)) }
+    ensures ten { length counts.now ≡ 10 }
+    ensures fits { AllByRecursion NumberFits counts.now }
     ensures err { OnErr result (out.new.items ≡ out.old.items) }
 {
+    counts_fit(counts);
     let mut bytes = [0; 40];
     BigEndian::write_i32_into(counts, &mut bytes);
     append(out, &[&[139], &bytes, &word(pointer)])
@@ -169,6 +185,7 @@ fn append_definition(out: &mut Vec<u8>, font: &FontDefinition<'_>) -> Result<(),
     requires area { length font.now.area.now < 256 }
     requires name { length font.now.name.now < 256 }
     ensures ok { OnOk result (out.new.items ≡ out.old.items ++ definition_spelling (definition font.now)) }
+    ensures fits { LeafFits (FontDef (definition font.now)) }
     ensures err { OnErr result (out.new.items ≡ out.old.items) }
 {
     let size = size_of_code(font.number);
@@ -192,6 +209,7 @@ fn append_definition(out: &mut Vec<u8>, font: &FontDefinition<'_>) -> Result<(),
 fn append_pre(out: &mut Vec<u8>, id: u8, units: &Units, comment: &[u8]) -> Result<(), AllocError>
     requires { length comment.now < 256 }
     ensures ok { OnOk result (out.new.items ≡ out.old.items ++ 247 ∷ id ∷ (units_bytes (view_units units.now) ++ (length comment.now ∷ comment.now))) }
+    ensures fits { UnitsFit (view_units units.now) }
     ensures err { OnErr result (out.new.items ≡ out.old.items) }
 {
     append(
@@ -208,7 +226,9 @@ fn append_pre(out: &mut Vec<u8>, id: u8, units: &Units, comment: &[u8]) -> Resul
 // Two numbers of two bytes.
 #[tactic(auto, unfolding(crate::specs::Spelling::operand))]
 fn two_halves(first: u16, second: u16) -> [u8; 4]
-    ensures { result ≡ operand 2 (pos first) ++ operand 2 (pos second) }
+    ensures bytes { result ≡ operand 2 (pos first) ++ operand 2 (pos second) }
+    ensures first_fits { first < 65536 }
+    ensures second_fits { second < 65536 }
 {
     let mut bytes = [0; 4];
     BigEndian::write_u16_into(&[first, second], &mut bytes);
@@ -218,6 +238,7 @@ fn two_halves(first: u16, second: u16) -> [u8; 4]
 // Appends the beginning of the postamble.
 fn append_post(out: &mut Vec<u8>, post: &Postamble) -> Result<(), AllocError>
     ensures ok { OnOk result (out.new.items ≡ out.old.items ++ 248 ∷ post_bytes (postamble post.now)) }
+    ensures fits { NumbersFit (Post (postamble post.now)) }
     ensures err { OnErr result (out.new.items ≡ out.old.items) }
 {
     append(
@@ -239,6 +260,8 @@ fn append_post(out: &mut Vec<u8>, post: &Postamble) -> Result<(), AllocError>
 pub fn spell(op: &Op<'_>, out: &mut Vec<u8>) -> Result<(), AllocError>
     requires { HasSpelling (view op.now) }
     ensures ok { OnOk result (out.new.items ≡ out.old.items ++ spelling (view op.now)) }
+    // What is written spells the instruction.
+    ensures spelled { Spells (view op.now) (spelling (view op.now)) }
     ensures err { OnErr result (out.new.items ≡ out.old.items) }
 {
     match op {

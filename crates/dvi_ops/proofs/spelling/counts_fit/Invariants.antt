@@ -1,0 +1,8 @@
+use Rattle.std.proofs.Common.{take}
+use Rattle.std.specs.List.{AllByRecursion}
+use Rattle.dvi_ops.specs.Spelling.{NumberFits}
+use Rattle.dvi_ops.proofs.spelling.counts_fit.Given as goal
+
+-- the counts so far
+abbrev pub invariant-loop-count : goal.invariant-loop-count
+invariant-loop-count l = AllByRecursion NumberFits (take l.count-index l.counts)
