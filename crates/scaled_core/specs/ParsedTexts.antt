@@ -1,5 +1,5 @@
 -- The value of a text as a function: its parts from the left (TeX: The Program, part 26, scan_dimen).
-use Rattle.std.specs.Prelude.{◌==◌, ℕ, ℤ, pos, neg_ℤ, ◌+◌, Bool, true, false, ◌&&◌, if◌then◌else◌, List, [], ◌∷◌, Option, None, Some, Result, Ok, Err, codes, length, drop, option_map, unsigned_abs, nat_le}
+use Rattle.std.specs.Prelude.{◌==◌, ℕ, ℤ, pos, neg_ℤ, Bool, true, false, ◌&&◌, if◌then◌else◌, List, [], ◌∷◌, Option, None, Some, Result, Ok, Err, codes, length, drop, option_map, unsigned_abs, nat_le}
 use Rattle.std.specs.List.{prefix_len, take_while}
 use Rattle.std.specs.Char.{is_ascii_digit}
 use Rattle.std.specs.Str.{bytes_eq}
@@ -9,7 +9,7 @@ use Rattle.scaled_core.specs.declared.units.LengthUnit.TheVariants.{Point, Inch,
 use Rattle.scaled_core.specs.declared.fault.DimenFault.{DimenFault}
 use Rattle.scaled_core.specs.declared.fault.DimenFault.TheVariants.{TooLarge, NotADimension}
 use Rattle.scaled_core.specs.DimensionTexts.{decimal_fraction}
-use Rattle.scaled_core.specs.Units.{scaled_points, unit_text}
+use Rattle.scaled_core.specs.Units.{scaled_points}
 
 -- the unit of that name
 unfoldable pub unit_named : List ℕ → Option LengthUnit
