@@ -4,3 +4,4 @@ pub mod TextLaws
 pub mod ReadingCases
 pub mod PrintingLemmas
 pub mod PrintedTexts
+pub mod PrintScaled

@@ -1,17 +1,17 @@
 -- A printed text reads back as the number that it was printed from, and no fraction with fewer digits does.
-use Rattle.std.proofs.Common.{append_assoc, ◌≡◌, ℕ, ℤ, pos, negsuc, neg_ℤ, ◌+◌, ◌*◌, ◌/◌, ◌%◌, ◌^◌, ◌<◌, ◌≤◌, zero, suc, Bool, true, false, eqb, ◌&&◌, List, [], ◌∷◌, ◌++◌, Some, Ok, length, take, ◌⊎◌, ⊎_elim, subst, sym, ◌∙◌, ap, refl, arith, decimal, codes, length-append}
+use Rattle.std.proofs.Common.{append_assoc, ◌≡◌, ℕ, ℤ, pos, negsuc, ◌+◌, ◌*◌, ◌/◌, ◌%◌, ◌^◌, ◌<◌, ◌≤◌, zero, suc, true, false, List, [], ◌∷◌, ◌++◌, Some, Ok, length, take, ⊎_elim, subst, sym, ◌∙◌, ap, refl, arith, decimal, codes, length-append}
 use Rattle.std.specs.Char.{is_ascii_digit, digit_value}
 use Rattle.std.specs.Str.{all_ascii_digits}
 use Rattle.std.specs.Str.Parse.{AllDigits, digits_value}
-use Rattle.std.proofs.lemmas.Bool.{cases_Bool, cases_lt, eq-eqb, eqb-true, le-leb, and_from, and_parts, false≢true}
+use Rattle.std.proofs.lemmas.Bool.{cases_Bool, cases_lt, eq-eqb, eqb-true, le-leb, and_from, and_parts}
 use Rattle.std.proofs.lemmas.Int.Digits.{digits_value_push}
 use Rattle.std.proofs.lemmas.Str.{digit_value_digit}
 use Rattle.std.proofs.lemmas.Str.Parse.{digit_from_value}
 use Rattle.std.proofs.lemmas.Fmt.{decimal_is_IsNumeral}
 use Rattle.std.proofs.lemmas.List.{take_all}
-use Rattle.std.proofs.Math.Nat.{le-div_iff_mul-le, div-lt_iff_lt-mul, pow-suc, mul-le-mul_left}
+use Rattle.std.proofs.Math.Nat.{le-div_iff_mul-le, pow-suc}
 use Rattle.scaled_core.specs.Dimensions.{Fits}
-use Rattle.scaled_core.specs.DimensionTexts.{Sign, unsigned, minus, DimensionParts, signed, fraction_digits, parts_text, parts_value, IsDimensionText, decimal_fraction}
+use Rattle.scaled_core.specs.DimensionTexts.{Sign, unsigned, minus, DimensionParts, signed, parts_text, parts_value, decimal_fraction}
 use Rattle.scaled_core.specs.ParsedTexts.{dimension_value, fitted, read_dimension}
 use Rattle.scaled_core.specs.PrintedDimensions.{last_digits, nearest_decimal, reads_back, fraction_places, shortest_fraction, size_text, dimension_text}
 use Rattle.scaled_core.specs.Rounding.{nearest}

@@ -1,5 +1,5 @@
 -- The digits that printing makes one by one are those of the shortest decimal that reads back.
-use Rattle.std.proofs.Common.{append_assoc, ◌≡◌, ◌≢◌, ℕ, ◌+◌, ◌-◌, ◌*◌, ◌/◌, ◌%◌, ◌^◌, ◌<◌, ◌≤◌, zero, suc, Bool, true, false, cond, ltb, eqb, List, [], ◌∷◌, ◌++◌, ◌⊎◌, ⊎_elim, subst, sym, ◌∙◌, ap, refl, arith}
+use Rattle.std.proofs.Common.{append_assoc, ◌≡◌, ℕ, ◌+◌, ◌-◌, ◌*◌, ◌/◌, ◌%◌, ◌^◌, ◌<◌, ◌≤◌, zero, suc, true, false, cond, ltb, List, [], ◌∷◌, ◌++◌, ⊎_elim, subst, sym, ◌∙◌, ap, refl, arith}
 use Rattle.std.proofs.Math.Numerals.{add-one}
 use Rattle.std.proofs.lemmas.Bool.{cases_lt, eq-eqb, le-ltb, lt-ltb, ne_eqb}
 use Rattle.std.proofs.Math.Nat.{pow-suc, pow-le-pow_right}

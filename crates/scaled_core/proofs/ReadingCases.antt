@@ -1,11 +1,11 @@
 -- What reading a text gives, case by case.
-use Rattle.std.proofs.Common.{◌≡◌, ℕ, ℤ, pos, negsuc, neg_ℤ, ◌≤ℤ◌, ◌≤◌, Bool, true, false, List, Option, Some, None, Result, Ok, Err, ◌⊎◌, ⊎_elim, inl, inr, leb, ◌↔◌, subst, sym, ◌∙◌, ap, refl, arith, unsigned_abs}
+use Rattle.std.proofs.Common.{◌≡◌, ℕ, ℤ, pos, negsuc, ◌≤◌, true, false, List, Option, Some, None, Result, Ok, Err, ◌⊎◌, ⊎_elim, inl, inr, leb, ◌↔◌, subst, ◌∙◌, refl, arith, unsigned_abs}
 use Rattle.std.specs.Result.{IfOk}
 use Rattle.std.proofs.lemmas.Bool.{leb-true, le-leb, leb-false, cases_Bool}
 use Rattle.std.proofs.lemmas.Int.{ints}
 use Rattle.scaled_core.specs.declared.fault.DimenFault.{DimenFault}
 use Rattle.scaled_core.specs.declared.fault.DimenFault.TheVariants.{TooLarge, NotADimension}
-use Rattle.scaled_core.specs.Dimensions.{Fits, Within}
+use Rattle.scaled_core.specs.Dimensions.{Fits}
 use Rattle.scaled_core.specs.DimensionTexts.{IsDimensionText, IsTooLargeText, IsNoDimension}
 use Rattle.scaled_core.specs.ParsedTexts.{dimension_value, fitted, read_dimension}
 use Rattle.scaled_core.proofs.TextLaws.{dimension_value-from_text, IsDimensionText-from_value}

@@ -1,14 +1,12 @@
 -- The value of a text whose whole part is cut at 2 ^ 30, above which nothing fits.
-use Rattle.std.proofs.Common.{◌≡◌, ℕ, ℤ, pos, neg_ℤ, ◌+◌, ◌*◌, ◌/◌, ◌^◌, ◌<◌, ◌≤◌, Bool, true, false, Some, None, Ok, Err, zero, suc, ◌⊎◌, ⊎_elim, min, sym, ◌∙◌, refl, arith, unsigned_abs}
+use Rattle.std.proofs.Common.{◌≡◌, ℕ, ℤ, ◌+◌, ◌*◌, ◌^◌, ◌<◌, ◌≤◌, Bool, true, false, Some, None, Ok, Err, zero, suc, ⊎_elim, min, sym, ◌∙◌, refl, arith, unsigned_abs}
 use Rattle.std.proofs.Math.Nat.{mul-le-mul, le-div_iff_mul-le}
 use Rattle.std.proofs.lemmas.Bool.{cases_lt}
 use Rattle.std.proofs.lemmas.Bool.Decides.{nat_tests}
-use Rattle.std.proofs.lemmas.Int.{ints}
 use Rattle.scaled_core.specs.declared.units.LengthUnit.{LengthUnit}
 use Rattle.scaled_core.specs.declared.units.LengthUnit.TheVariants.{Point, Inch, Pica, Centimeter, Millimeter, BigPoint, DidotPoint, Cicero, ScaledPoint}
 use Rattle.scaled_core.specs.declared.fault.DimenFault.TheVariants.{TooLarge, NotADimension}
 use Rattle.scaled_core.specs.Units.{of_points, scaled_points}
-use Rattle.scaled_core.specs.Dimensions.{Fits, Within}
 use Rattle.scaled_core.specs.ParsedTexts.{fitted, with_minus}
 
 -- the sign does not change the size

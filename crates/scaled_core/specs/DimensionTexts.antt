@@ -1,5 +1,5 @@
 -- Texts of dimensions and their values (TeX: The Program, parts 7 and 26, scan_dimen).
-use Rattle.std.specs.Prelude.{◌≡◌, ℕ, ℤ, pos, neg_ℤ, ◌+◌, ◌*◌, ◌^◌, ◌<◌, IsTrue, List, [], ◌++◌, Option, None, Some, codes, length, take, unwrap_or}
+use Rattle.std.specs.Prelude.{◌≡◌, ℕ, ℤ, pos, neg_ℤ, ◌+◌, ◌*◌, ◌^◌, ◌<◌, IsTrue, List, [], ◌++◌, Option, None, Some, codes, length, take}
 use Rattle.std.specs.Str.{all_ascii_digits}
 use Rattle.std.specs.Str.Parse.{digits_value}
 use Rattle.scaled_core.specs.declared.units.LengthUnit.{LengthUnit}

@@ -1,6 +1,6 @@
 -- The value of a text as a function: its parts from the left (TeX: The Program, part 26, scan_dimen).
-use Rattle.std.specs.Prelude.{◌==◌, ℕ, ℤ, pos, neg_ℤ, ◌+◌, Bool, true, false, ◌&&◌, if◌then◌else◌, List, [], ◌∷◌, Option, None, Some, Result, Ok, Err, codes, length, drop, option_map, unsigned_abs, nat_le}
-use Rattle.std.specs.List.{prefix_len, take_while}
+use Rattle.std.specs.Prelude.{◌==◌, ℕ, ℤ, pos, neg_ℤ, Bool, true, false, ◌&&◌, if◌then◌else◌, List, [], ◌∷◌, Option, None, Some, Result, Ok, Err, length, drop, option_map, unsigned_abs, nat_le}
+use Rattle.std.specs.List.{find, prefix_len, take_while}
 use Rattle.std.specs.Char.{is_ascii_digit}
 use Rattle.std.specs.Str.{bytes_eq}
 use Rattle.std.specs.Str.Parse.{digits_value}
@@ -11,19 +11,12 @@ use Rattle.scaled_core.specs.declared.fault.DimenFault.TheVariants.{TooLarge, No
 use Rattle.scaled_core.specs.DimensionTexts.{decimal_fraction}
 use Rattle.scaled_core.specs.Units.{scaled_points, unit_text}
 
--- the unit of that name
+abbrev pub units : List LengthUnit
+units = Point ∷ Inch ∷ Pica ∷ Centimeter ∷ Millimeter ∷ BigPoint ∷ DidotPoint ∷ Cicero ∷ ScaledPoint ∷ []
+
+-- the unit that is written so
 unfoldable pub unit_named : List ℕ → Option LengthUnit
-unit_named text =
-    if bytes_eq text (codes "pt") then Some Point
-    else (if bytes_eq text (codes "in") then Some Inch
-    else (if bytes_eq text (codes "pc") then Some Pica
-    else (if bytes_eq text (codes "cm") then Some Centimeter
-    else (if bytes_eq text (codes "mm") then Some Millimeter
-    else (if bytes_eq text (codes "bp") then Some BigPoint
-    else (if bytes_eq text (codes "dd") then Some DidotPoint
-    else (if bytes_eq text (codes "cc") then Some Cicero
-    else (if bytes_eq text (codes "sp") then Some ScaledPoint
-    else None))))))))
+unit_named text = find (λ u. bytes_eq text (unit_text u)) units
 
 -- a minus stands first
 unfoldable pub is_negative : List ℕ → Bool

@@ -1,5 +1,5 @@
 -- The printed texts of dimensions (TeX: The Program, part 7, print_scaled).
-use Rattle.std.specs.Prelude.{◌==◌, ℕ, ℤ, pos, negsuc, ◌+◌, ◌*◌, ◌/◌, ◌%◌, ◌^◌, zero, suc, Bool, List, [], ◌∷◌, ◌++◌, codes, unwrap_or, decimal}
+use Rattle.std.specs.Prelude.{◌==◌, ℕ, ℤ, pos, negsuc, if◌then◌else◌, nat_lt, nat_le, ◌+◌, ◌-◌, ◌*◌, ◌/◌, ◌%◌, ◌^◌, zero, suc, Bool, List, [], ◌∷◌, ◌++◌, codes, unwrap_or, decimal}
 use Rattle.std.specs.List.{find}
 use Rattle.scaled_core.specs.Rounding.{nearest}
 
@@ -32,3 +32,11 @@ size_text n = decimal (n / 65536) ++ (codes "." ++ shortest_fraction (n % 65536)
 unfoldable pub dimension_text : ℤ → List ℕ
 dimension_text (pos n) = size_text n
 dimension_text (negsuc n) = codes "-" ++ size_text (suc n)
+
+-- TeX's own rule for the digits behind the point, five turns at most, from what is left and a unit: the law `print_scaled_digits` says that they are those of `shortest_fraction` (TeX: The Program, part 7, print_scaled)
+unfoldable pub print_scaled : ℕ → ℕ → ℕ → List ℕ
+print_scaled zero s delta = []
+print_scaled (suc turns) s delta =
+    let left = if nat_lt 65536 delta then s + 32768 - 50000 else s in
+    let next = 10 * (left % 65536) in
+    (48 + left / 65536) ∷ (if nat_le next (10 * delta) then [] else print_scaled turns next (10 * delta))

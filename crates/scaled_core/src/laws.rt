@@ -1,10 +1,10 @@
 //! Laws of the definitions, each on a function that does nothing.
 
-ghost use Rattle.std.specs.Prelude.{◌≡◌, ◌↔◌, ◌++◌, ◌<◌, ◌≤◌, ℕ, ℤ, pos, negsuc, List, Some, Ok, codes, length};
+ghost use Rattle.std.specs.Prelude.{◌≡◌, ◌↔◌, ◌++◌, ◌+◌, ◌*◌, ◌<◌, ◌≤◌, ℕ, ℤ, pos, negsuc, List, Some, Ok, codes, length};
 ghost use Rattle.scaled_core.specs.Dimensions.{Fits};
 ghost use Rattle.scaled_core.specs.DimensionTexts.{IsDimensionText, decimal_fraction};
 ghost use Rattle.scaled_core.specs.ParsedTexts.{dimension_value, read_dimension};
-ghost use Rattle.scaled_core.specs.PrintedDimensions.{dimension_text, shortest_fraction};
+ghost use Rattle.scaled_core.specs.PrintedDimensions.{dimension_text, print_scaled, shortest_fraction};
 
 /// A text writes a dimension exactly where `dimension_value` gives one, and it is the one that it gives: each text has at most
 /// one value.
@@ -23,6 +23,11 @@ pub fn printed_reads_back()
 pub fn printed_is_shortest()
     ensures { (f : ℕ) → (digits : List ℕ) → 0 < length digits → decimal_fraction digits ≡ f →
         length (shortest_fraction f) ≤ length digits }
+{}
+
+/// The printed digits behind the point are those of TeX's own rule (TeX: The Program, part 7, print_scaled).
+pub fn print_scaled_digits()
+    ensures { (f : ℕ) → f < 65536 → print_scaled 5 (10 * f + 5) 10 ≡ shortest_fraction f }
 {}
 
 /// An inch is 4736286 scaled points.

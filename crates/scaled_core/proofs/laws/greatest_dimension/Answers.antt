@@ -1,4 +1,4 @@
-use Rattle.std.proofs.Common.{refl, decimal}
+use Rattle.std.proofs.Common.{refl}
 use Rattle.std.specs.Fmt.{digits}
 use Rattle.scaled_core.specs.Rounding.{nearest}
 use Rattle.scaled_core.specs.Units.{of_points}

@@ -1,4 +1,4 @@
-use Rattle.std.proofs.Common.{◌≡◌, ◌^◌, min, take}
+use Rattle.std.proofs.Common.{◌≡◌, min, take}
 use Rattle.std.specs.Str.Parse.{digits_value}
 use Rattle.scaled_core.proofs.reading.digits_number.Given as goal
 
