@@ -1,4 +1,4 @@
--- The instructions of a DVI file, without the lengths of their operands (DVItype, 13 to 18).
+-- The instructions of a DVI file, without the lengths of their operands (DVItype, 13 to 20).
 use Rattle.std.specs.Prelude.{ℕ, ℤ, List}
 
 -- The two directions: h moves across with the registers w and x, v moves downward with y and z (DVItype, 14).
@@ -26,13 +26,13 @@ pub record Definition : Type 0 where
   pub area : List ℕ
   pub name : List ℕ
 
--- How DVI units are measured: num / den times 10^-7 metres, enlarged by mag / 1000 (DVItype, 15).
+-- How DVI units are measured: num / den times 10^-7 metres, enlarged by mag / 1000 (DVItype, 17).
 pub record Units : Type 0 where
   pub num : ℤ
   pub den : ℤ
   pub mag : ℤ
 
--- What post says of the whole file (DVItype, 17).
+-- What post says of the whole file (DVItype, 19).
 pub record Postamble : Type 0 where
   pub last_bop : ℤ
   pub units : Units

@@ -1,4 +1,4 @@
--- The table of instructions: which bytes spell which instruction, with every length of an operand that the table has (DVItype, 15 to 18).
+-- The table of instructions: which bytes spell which instruction, with every length of an operand that the table has (DVItype, 15 to 20).
 -- Numbers have their highest byte first. A byte is a number below 256; lengths and codes are said where they stand.
 use Rattle.std.specs.Prelude.{◌≡◌, ◌⊎◌, ◌≤◌, ◌<◌, ◌+◌, ◌++◌, ◌∷◌, [], List, length, ℕ, ℤ, pos, ◌==◌, if◌then◌else◌}
 use Rattle.byteorder.specs.Endian.{big_number, twos_complement}

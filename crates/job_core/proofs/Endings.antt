@@ -24,6 +24,7 @@ stops old new m holds goes =
     record {
       state = goes ∙ ap (λ (s : State). record s { over = true }) holds.state;
       count = holds.count;
+      pages = holds.pages;
       draft = λ running. absurd (true_or_false refl running);
       told = λ running. absurd (true_or_false refl running);
     }

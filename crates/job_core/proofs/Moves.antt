@@ -1,6 +1,7 @@
 -- How a job and the machine that it stands for move together.
 use Rattle.std.proofs.Common.{◌≡◌, ◌≢◌, ℕ, zero, suc, ◌+◌, ◌*◌, ◌≤◌, ◌<◌, ◌^◌, Bool, true, false, List, [], ◌∷◌, ◌++◌, length, length-append, Option, Some, None, Result, Ok, Err, refl, ap, sym, ◌∙◌, subst, arith, cond, lit≤}
 use Rattle.std.specs.Prelude.{nat_le, nat_lt, is_none, IfSome, if◌then◌else◌, pos}
+use Rattle.std.specs.List.{AllByRecursion}
 use Rattle.std.proofs.lemmas.Bool.{leb-false, ltb-false}
 use Rattle.node_core.specs.declared.tree.BoxNode.{BoxNode}
 use Rattle.node_core.specs.Nodes.{box_count}
@@ -15,7 +16,7 @@ use Rattle.dvi_ops.specs.Spelling.{spelling, operand}
 use Rattle.job_core.specs.Marks.{Page}
 use Rattle.job_core.specs.Machine.{State, Machine, checks, first_of, reply_to, after, state_by, state_after, new_pages, pages_of, page_of, held_in, count_in, is_huge_in, step, stopped, most_shipped, most_pages, first_state}
 use Rattle.job_core.specs.Draft.{Draft, sheet_of, with_page, with_pages, first_draft, draft_of}
-use Rattle.job_core.specs.Runs.{TakesMemory, Seen, Steps, Replies, LacksMemory, Run, Holds, KeepsTo, RunsTo}
+use Rattle.job_core.specs.Runs.{TakesMemory, IsShipped, Seen, Steps, Replies, LacksMemory, Run, Holds, KeepsTo, RunsTo}
 use Rattle.job_core.specs.Room.{HasRoom}
 use Rattle.job_core.proofs.PageBytes.{page_bytes}
 
@@ -99,6 +100,30 @@ counted :
 counted s command pages None is count = omega (arith, after-pages s command is, length-append pages (new_pages s command))
 counted s command pages (Some refusal) is count = count
 
+shipped_append : (a b : List Page) → AllByRecursion IsShipped a → AllByRecursion IsShipped b → AllByRecursion IsShipped (a ++ b)
+shipped_append [] b all more = more
+shipped_append (x ∷ a) b all more = (all.0, shipped_append a b all.1 more)
+
+shipped_in : (held : Option BoxNode) → is_huge_in held ≡ false → AllByRecursion IsShipped (pages_of held)
+shipped_in None small = tt
+shipped_in (Some b) small = ((refl, small), tt)
+
+-- The pages that a command adds are those that ships make.
+new_shipped : (s : State) (command : Command) → first_of (checks s command) ≡ None → AllByRecursion IsShipped (new_pages s command)
+new_shipped s (OpenHbox r) none = tt
+new_shipped s End none = tt
+new_shipped s (Rule rule) none = tt
+new_shipped s (Kern width) none = tt
+new_shipped s (Measure r) none = tt
+new_shipped s (Void r) none = tt
+new_shipped s (Ship r) none = shipped_in (held_in s.registers r) (admitted s r none).small
+
+all_shipped :
+    (s : State) (command : Command) (pages : List Page) (refused : Option Refusal) → first_of (checks s command) ≡ refused → AllByRecursion IsShipped pages
+    → AllByRecursion IsShipped (state_by refused pages (pages ++ new_pages s command))
+all_shipped s command pages None is all = shipped_append pages (new_pages s command) all (new_shipped s command is)
+all_shipped s command pages (Some refusal) is all = all
+
 -- A job that replies as the table says keeps to the machine.
 pub replied :
     (old new : Seen) (command : Command) (reply : Reply)
@@ -114,6 +139,7 @@ replied old new command reply says goes drafts tells fails m holds = (
   record {
     state = goes ∙ ap (λ s. state_after s command) holds.state;
     count = counted m.state command m.pages (first_of (checks m.state command)) refl holds.count;
+    pages = all_shipped m.state command m.pages (first_of (checks m.state command)) refl holds.pages;
     draft = λ running.
         let ran : m.state.over ≡ false = sym (state_after-over m.state command) ∙ running in
         drafts (ap (λ (s : State). s.over) holds.state ∙ ran)

@@ -1,15 +1,15 @@
 -- Runs of the machine, with what it does not choose: want of memory and a device that fails (own).
 use Rattle.std.specs.Prelude.{◌≡◌, ◌≢◌, ◌<◌, ◌==◌, [], ◌∷◌, ℕ, Bool, true, false, not, List, length, Option, Some, None, IfSome, Result, Ok, Err}
-use Rattle.node_core.specs.declared.tree.BoxNode.{BoxNode}
+use Rattle.std.specs.List.{AllByRecursion}
 use Rattle.job_core.specs.declared.command.Command.{Command}
 use Rattle.job_core.specs.declared.command.Command.TheVariants.{OpenHbox, End, Rule, Kern, Measure, Void, Ship}
 use Rattle.job_core.specs.declared.command.Refusal.{Refusal}
 use Rattle.job_core.specs.declared.command.Refusal.TheVariants.{OutOfMemory, Device, ListsOpen, JobOver}
 use Rattle.job_core.specs.declared.command.Summary.{Summary}
 use Rattle.job_core.specs.Reply.{Reply}
-use Rattle.job_core.specs.Marks.{Page}
+use Rattle.job_core.specs.Marks.{Page, is_huge}
 use Rattle.job_core.specs.Draft.{Draft, draft_of}
-use Rattle.job_core.specs.Machine.{State, Machine, checks, first_of, reply_to, step, stopped}
+use Rattle.job_core.specs.Machine.{State, Machine, checks, first_of, reply_to, step, stopped, page_of}
 
 -- The commands for which memory may be wanted.
 abbrev pub TakesMemory : Command → Type 0
@@ -58,10 +58,15 @@ pub record Seen : Type 0 where
   pub told : Option (List ℕ)
   pub failed : ℕ
 
+-- A page that a ship makes: it is that of its box, and not huge.
+abbrev pub IsShipped : Page → Type 0
+IsShipped page = (page ≡ page_of page.shown) × (is_huge page ≡ false)
+
 -- A job stands for a machine: it keeps the machine's state, and until it is over the draft of its pages; no byte has gone out by then.
 pub record Holds (job : Seen) (m : Machine) : Type 0 where
   pub state : job.state ≡ m.state
   pub count : m.state.pages ≡ length m.pages
+  pub pages : AllByRecursion IsShipped m.pages
   pub draft : m.state.over ≡ false → job.draft ≡ draft_of m.pages
   pub told : m.state.over ≡ false → IfSome job.told (λ bytes. bytes ≡ [])
 
