@@ -6,3 +6,4 @@ pub mod Tellings
 pub mod PageBytes
 pub mod Moves
 pub mod Endings
+pub mod Refusals

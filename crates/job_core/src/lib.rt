@@ -10,6 +10,7 @@ mod nest;
 mod pack;
 mod plan;
 mod registers;
+pub mod totality;
 mod writer;
 
 pub use command::{Answer, Command, Refusal, Register, Reply, Sizes, Summary};

@@ -1,0 +1,145 @@
+-- What a step of the machine can reply, and what a machine that is over does.
+use Rattle.std.proofs.Common.{◌≡◌, ◌≢◌, ℕ, ◌<◌, Bool, true, false, List, [], ◌∷◌, Option, Some, None, Result, Ok, Err, refl, ap, sym, ◌∙◌, subst}
+use Rattle.std.specs.Prelude.{if◌then◌else◌}
+use Rattle.std.specs.List.{AllByRecursion}
+use Rattle.job_core.specs.declared.command.Command.{Command}
+use Rattle.job_core.specs.declared.command.Command.TheVariants.{OpenHbox, End, Rule, Kern, Measure, Void, Ship}
+use Rattle.job_core.specs.declared.command.Answer.{Answer}
+use Rattle.job_core.specs.declared.command.Refusal.{Refusal}
+use Rattle.job_core.specs.declared.command.Refusal.TheVariants.{OutOfMemory, Device, JobOver, ListsOpen}
+use Rattle.job_core.specs.declared.command.Summary.{Summary}
+use Rattle.job_core.specs.Reply.{Reply}
+use Rattle.job_core.specs.Machine.{State, Machine, checks, first_of, reply_by, reply_to, answer_of, state_by, state_after, after, new_pages, step}
+use Rattle.job_core.specs.Runs.{finish_checks, Finishes, Finished, Refuses, WantsMemory, LostDevice, TakesMemory, IsShip, Steps, Replies, LacksMemory, LosesDevice, Run}
+
+-- None of the refusals is this one.
+abbrev LacksRefusal : Refusal → List (Bool × Refusal) → Type 0
+LacksRefusal r list = AllByRecursion (λ (check : Bool × Refusal). check.1 ≢ r) list
+
+lacked : (r : Refusal) (list : List (Bool × Refusal)) → LacksRefusal r list → first_of list ≢ Some r
+lacked r [] all is = cc
+lacked r ((true, s) ∷ rest) all is = all.0 (cc)
+lacked r ((false, s) ∷ rest) all is = lacked r rest all.1 is
+
+no_memory : (s : State) (command : Command) → LacksRefusal OutOfMemory (checks s command)
+no_memory s (OpenHbox r) = ((λ e. cc), ((λ e. cc), tt))
+no_memory s End = ((λ e. cc), ((λ e. cc), ((λ e. cc), tt)))
+no_memory s (Rule rule) = ((λ e. cc), ((λ e. cc), ((λ e. cc), ((λ e. cc), tt))))
+no_memory s (Kern width) = ((λ e. cc), ((λ e. cc), ((λ e. cc), tt)))
+no_memory s (Measure r) = ((λ e. cc), tt)
+no_memory s (Void r) = ((λ e. cc), tt)
+no_memory s (Ship r) = ((λ e. cc), ((λ e. cc), ((λ e. cc), ((λ e. cc), ((λ e. cc), tt)))))
+
+no_device : (s : State) (command : Command) → LacksRefusal Device (checks s command)
+no_device s (OpenHbox r) = ((λ e. cc), ((λ e. cc), tt))
+no_device s End = ((λ e. cc), ((λ e. cc), ((λ e. cc), tt)))
+no_device s (Rule rule) = ((λ e. cc), ((λ e. cc), ((λ e. cc), ((λ e. cc), tt))))
+no_device s (Kern width) = ((λ e. cc), ((λ e. cc), ((λ e. cc), tt)))
+no_device s (Measure r) = ((λ e. cc), tt)
+no_device s (Void r) = ((λ e. cc), tt)
+no_device s (Ship r) = ((λ e. cc), ((λ e. cc), ((λ e. cc), ((λ e. cc), ((λ e. cc), tt)))))
+
+-- A reply that refuses comes from a check that holds.
+refused_by : (refused : Option Refusal) (answer : Answer) (r : Refusal) → Err r ≡ reply_by refused answer → refused ≡ Some r
+refused_by None answer r is = cc
+refused_by (Some s) answer r is = cc
+
+refuses : (s : State) (command : Command) (r : Refusal) → Err r ≡ reply_to s command → first_of (checks s command) ≡ Some r
+refuses s command r is = refused_by (first_of (checks s command)) (answer_of s command) r is
+
+stays : (m : Machine) (command : Command) (r : Refusal) → first_of (checks m.state command) ≡ Some r → step m command ≡ m
+stays m command r is = rw is refl
+
+pub unchanged : (m next : Machine) (n k : ℕ) (command : Command) (r : Refusal) → r ≢ Device → Steps m n command (Err r) next k → next ≡ m
+unchanged m next n k command r other (Replies says goes counts) = goes ∙ stays m command r (refuses m.state command r says)
+unchanged m next n k command r other (LacksMemory says takes may goes counts) = goes
+unchanged m next n k command r other (LosesDevice says ships may goes counts) = absurd (other (cc))
+
+pub takes_memory : (m next : Machine) (n k : ℕ) (command : Command) → Steps m n command (Err OutOfMemory) next k → TakesMemory command
+takes_memory m next n k command (Replies says goes counts) =
+    absurd (lacked OutOfMemory (checks m.state command) (no_memory m.state command) (refuses m.state command OutOfMemory says))
+takes_memory m next n k command (LacksMemory says takes may goes counts) = takes
+takes_memory m next n k command (LosesDevice says ships may goes counts) = cc
+
+pub counted_fault : (m next : Machine) (n k : ℕ) (command : Command) → Steps m n command (Err Device) next k → n < k
+counted_fault m next n k command (Replies says goes counts) =
+    absurd (lacked Device (checks m.state command) (no_device m.state command) (refuses m.state command Device says))
+counted_fault m next n k command (LacksMemory says takes may goes counts) = cc
+counted_fault m next n k command (LosesDevice says ships may goes counts) = counts
+
+-- Where the job is over, the first check of each command holds.
+over_first : (s : State) (command : Command) → s.over ≡ true → first_of (checks s command) ≡ Some JobOver
+over_first s command over = rw over refl
+
+over_step : (m next : Machine) (n k : ℕ) (command : Command) (reply : Reply) → m.state.over ≡ true → Steps m n command reply next k
+    → (reply ≡ Err JobOver) × ((next ≡ m) × (k ≡ n))
+over_step m next n k command reply over (Replies says goes counts) =
+    let first = over_first m.state command over in
+    (says ∙ ap (λ refused. reply_by refused (answer_of m.state command)) first, (goes ∙ stays m command JobOver first, counts))
+over_step m next n k command reply over (LacksMemory says takes may goes counts) = absurd (never (sym may ∙ over_first m.state command over))
+  where
+    never : None ≡ Some JobOver → ⊥
+    never e = cc
+over_step m next n k command reply over (LosesDevice says ships may goes counts) = absurd (never' (sym may ∙ over_first m.state command over))
+  where
+    never' : None ≡ Some JobOver → ⊥
+    never' e = cc
+
+pub over_run : (m next : Machine) (n k : ℕ) (commands : List Command) (replies : List Reply) → m.state.over ≡ true → Run m n commands replies next k
+    → AllByRecursion (λ reply. reply ≡ Err JobOver) replies × (next ≡ m) × (k ≡ n)
+over_run m next n k [] [] over run = (tt, run.0, run.1)
+over_run m next n k [] (reply ∷ replies) over run = absurd run
+over_run m next n k (command ∷ commands) [] over run = absurd run
+over_run m next n k (command ∷ commands) (reply ∷ replies) over run =
+    let first = over_step m run.0 n run.1 command reply over run.2 in
+    let still : run.0.state.over ≡ true = ap (λ (x : Machine). x.state.over) first.1.0 ∙ over in
+    let rest = over_run run.0 next run.1 k commands replies still run.3 in
+    ((first.0, rest.0), rest.1 ∙ first.1.0, rest.2 ∙ first.1.1)
+
+over_last : (s : State) → s.over ≡ true → first_of (finish_checks s) ≡ Some JobOver
+over_last s over = rw over refl
+
+none_is_some : {r : Refusal} → None ≡ Some r → ⊥
+none_is_some e = cc
+
+pub over_finish : (m next : Machine) (n k : ℕ) (result : Result Summary Refusal) → m.state.over ≡ true → Finishes m n result next k
+    → (result ≡ Err JobOver) × (next ≡ m) × (k ≡ n)
+over_finish m next n k result over (Finished summary says may counts goes fails) = absurd (none_is_some (sym may ∙ over_last m.state over))
+over_finish m next n k result over (Refuses refusal says is goes fails) =
+    let same : refusal ≡ JobOver = some_same (sym is ∙ over_last m.state over) in
+    (says ∙ ap Err same, goes, fails)
+  where
+    some_same : {r s : Refusal} → Some r ≡ Some s → r ≡ s
+    some_same e = cc
+over_finish m next n k result over (WantsMemory says may some goes fails) = absurd (none_is_some (sym may ∙ over_last m.state over))
+over_finish m next n k result over (LostDevice says may some goes fails) = absurd (none_is_some (sym may ∙ over_last m.state over))
+
+-- An end that is refused.
+abbrev ended : Refusal → Result Summary Refusal
+ended r = Err r
+
+err_same : {r s : Refusal} → ended r ≡ ended s → r ≡ s
+err_same e = cc
+
+no_other : (s : State) (r : Refusal) → r ≢ JobOver → r ≢ ListsOpen → first_of (finish_checks s) ≢ Some r
+no_other s r over nested is = lacked r (finish_checks s) ((λ e. over (sym e)), ((λ e. nested (sym e)), tt)) is
+
+pub memory_for_pages : (m next : Machine) (n k : ℕ) → Finishes m n (Err OutOfMemory) next k → m.pages ≢ []
+memory_for_pages m next n k (Finished summary says may counts goes fails) = cc
+memory_for_pages m next n k (Refuses refusal says is goes fails) =
+    absurd (no_other m.state OutOfMemory (λ e. cc) (λ e. cc) (is ∙ ap Some (err_same (sym says))))
+memory_for_pages m next n k (WantsMemory says may some goes fails) = some
+memory_for_pages m next n k (LostDevice says may some goes fails) = cc
+
+pub device_counted : (m next : Machine) (n k : ℕ) → Finishes m n (Err Device) next k → n < k
+device_counted m next n k (Finished summary says may counts goes fails) = cc
+device_counted m next n k (Refuses refusal says is goes fails) =
+    absurd (no_other m.state Device (λ e. cc) (λ e. cc) (is ∙ ap Some (err_same (sym says))))
+device_counted m next n k (WantsMemory says may some goes fails) = cc
+device_counted m next n k (LostDevice says may some goes fails) = fails
+
+pub end_unchanged : (m next : Machine) (n k : ℕ) (r : Refusal) → r ≢ Device → Finishes m n (Err r) next k → next ≡ m
+end_unchanged m next n k r other (Finished summary says may counts goes fails) = cc
+end_unchanged m next n k r other (Refuses refusal says is goes fails) = goes
+end_unchanged m next n k r other (WantsMemory says may some goes fails) = goes
+end_unchanged m next n k r other (LostDevice says may some goes fails) = absurd (other (err_same says))
