@@ -61,6 +61,7 @@ fn obey(kept: &mut Kept, writer: &mut Writer, command: &Command) -> Result<Reply
 }
 
 /// A job: what it keeps, the draft of its file, and the device that the file goes to.
+#[derive(Drop)]
 pub struct Job<D: Device> {
     kept: Kept,
     writer: Writer,
@@ -184,3 +185,6 @@ impl<D: Device> Job<D> {
         device
     }
 }
+
+#[cfg(test)]
+mod tests;
