@@ -255,7 +255,8 @@ fn append_post(out: &mut Vec<u8>, post: &Postamble) -> Result<(), AllocError>
 }
 
 /// Appends the spelling of an instruction: the fewest bytes for every instruction whose operand may have several lengths; of xxx the first form for up to 255
-/// bytes, else the last (DVItype, 15 to 18). Where memory is refused, `out` is as it was.
+/// bytes, else the last (DVItype, 15 to 18). Each length has to fit its field: areas, names and comments have up to 255 bytes, specials fewer than 2^32.
+/// Where memory is refused, `out` is as it was.
 #[tactic(auto, unfolding(crate::specs::Spelling::spelling, crate::specs::Spelling::leaf_spelling))]
 pub fn spell(op: &Op<'_>, out: &mut Vec<u8>) -> Result<(), AllocError>
     requires { HasSpelling (view op.now) }
