@@ -1,10 +1,15 @@
 -- The items of a list as a tree, and its numbers (TeX: The Program, part 10).
 use Rattle.std.specs.Prelude.{ℕ, ℤ, ◌+◌}
+use Rattle.node_core.specs.declared.tree.Glue.{Glue}
+use Rattle.node_core.specs.declared.tree.Glyph.{Glyph}
 use Rattle.node_core.specs.declared.tree.Rule.{Rule}
 
--- An item that has no items of its own: a kern of an amount, or a rule (TeX: The Program, part 10).
+-- An item that has no items of its own: a character of a font, a kern of a font, an explicit kern, glue, or a rule (TeX: The Program, part 10).
 pub data Leaf : Type 0 where
+  glyph : Glyph → Leaf
+  font_kern : ℤ → Leaf
   kern : ℤ → Leaf
+  glue : Glue → Leaf
   rule : Rule → Leaf
 
 -- The items of a list: none, or an item and those after it (own).

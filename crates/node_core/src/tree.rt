@@ -14,10 +14,45 @@ use std::marker::Model;
 /// An item of a list (TeX: The Program, part 10).
 #[derive(Debug, Drop)]
 pub enum Node {
+    /// A character of a font.
+    Glyph(Glyph),
+    /// A kern between two characters of a font.
+    FontKern(Dimen),
     /// An explicit kern: so much space, in scaled points; a negative one goes back.
     Kern(Dimen),
+    /// Glue: space that may stretch and shrink.
+    Glue(Glue),
     /// A rule: a filled rectangle.
     Rule(Rule),
+}
+
+/// A character of a font: the slot of the font, the code, and the sizes at the font's size, in scaled points.
+#[derive(Clone, Copy, Debug, PartialEq, Eq)]
+pub struct Glyph {
+    pub slot: u8,
+    pub code: u8,
+    pub width: Dimen,
+    pub height: Dimen,
+    pub depth: Dimen,
+}
+
+/// How strongly glue stretches or shrinks (TeX: The Program, part 10).
+#[derive(Clone, Copy, Debug, PartialEq, Eq)]
+pub enum Order {
+    Normal,
+    Fil,
+    Fill,
+    Filll,
+}
+
+/// Glue: its natural width, and how much it stretches and shrinks, each in an order (TeX: The Program, part 10).
+#[derive(Clone, Copy, Debug, PartialEq, Eq)]
+pub struct Glue {
+    pub width: Dimen,
+    pub stretch: Dimen,
+    pub stretch_order: Order,
+    pub shrink: Dimen,
+    pub shrink_order: Order,
 }
 
 /// A size of a rule.
@@ -164,7 +199,10 @@ impl Node {
         ensures { result ≡ self.now }
     {
         match self {
+            Node::Glyph(glyph) => Node::Glyph(*glyph),
+            Node::FontKern(width) => Node::FontKern(*width),
             Node::Kern(width) => Node::Kern(*width),
+            Node::Glue(glue) => Node::Glue(*glue),
             Node::Rule(rule) => Node::Rule(*rule),
         }
     }
