@@ -6,3 +6,6 @@ pub mod Tellings
 pub mod PageBytes
 pub mod Moves
 pub mod Endings
+pub mod DrawnMarks
+pub mod FileLaws
+pub mod FinishedFiles
