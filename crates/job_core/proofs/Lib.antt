@@ -9,3 +9,4 @@ pub mod Endings
 pub mod DrawnMarks
 pub mod FileLaws
 pub mod FinishedFiles
+pub mod ClosedFiles
