@@ -11,3 +11,6 @@ pub mod Placing
 pub mod Draft
 pub mod Runs
 pub mod Room
+pub mod Shown
+pub mod Closing
+pub mod Headline
