@@ -19,6 +19,7 @@ use Rattle.dvi_ops.specs.Layout.{bytes_of, preamble, scaled_points, Sheet, Writt
 use Rattle.dvi_ops.proofs.Layouts.{bytes_of-append}
 use Rattle.dvi_ops.proofs.WholeFile.{whole_file, padding_low}
 use Rattle.job_core.specs.Marks.{Page, marks_of_page, marks_of_box, marks_behind, is_huge}
+use Rattle.job_core.specs.Plain.{HasNoGlyph}
 use Rattle.job_core.specs.Drawing.{drawn, body_of}
 use Rattle.job_core.specs.Draft.{Draft, first_draft, with_page, with_pages, draft_of, sheet_of, reach_down, reach_right, closing, closed, whole, file_of}
 use Rattle.job_core.specs.Machine.{page_of}
@@ -60,13 +61,13 @@ drawn_good metrics known marks all =
     }
 
 -- The page of a box that a ship accepts can be written, and shows the marks of the box.
-page_good : (metrics : Metrics) (known : List Definition) (b : BoxNode) → is_huge (page_of b) ≡ false → IsGood metrics no_fonts known (sheet_of (page_of b)) (marks_of_page (page_of b))
+page_good : (metrics : Metrics) (known : List Definition) (b : BoxNode) → is_huge (page_of b) ≡ false → HasNoGlyph (nodes_of b.list) → IsGood metrics no_fonts known (sheet_of (page_of b)) (marks_of_page (page_of b))
 unfolding body_of marks_of_box
-page_good metrics known b small = drawn_good metrics known (marks_behind b (pos 0) b.height [] (nodes_of b.list)) (marks_drawn b (pos 0) b.height [] (nodes_of b.list) (fitting b small))
+page_good metrics known b small plain = drawn_good metrics known (marks_behind b (pos 0) b.height [] (nodes_of b.list)) (marks_drawn b (pos 0) b.height [] (nodes_of b.list) plain (fitting b small))
 
 pub shipped_good : (metrics : Metrics) (known : List Definition) (page : Page) → IsShipped page → IsGood metrics no_fonts known (sheet_of page) (marks_of_page page)
-shipped_good metrics known page (is, small) =
-    subst (λ p. IsGood metrics no_fonts known (sheet_of p) (marks_of_page p)) (sym is) (page_good metrics known page.shown (ap is_huge (sym is) ∙ small))
+shipped_good metrics known page (is, small, plain) =
+    subst (λ p. IsGood metrics no_fonts known (sheet_of p) (marks_of_page p)) (sym is) (page_good metrics known page.shown (ap is_huge (sym is) ∙ small) plain)
 
 pub pages_good : (metrics : Metrics) (s : Written) (pages : List Page) → AllByRecursion IsShipped pages → AreGood metrics no_fonts s (map sheet_of pages) (map shown_page pages)
 pages_good metrics s [] all = tt
@@ -149,7 +150,7 @@ abbrev HasReach : Page → Type 0
 HasReach page = Within 1073741823 (reach_down page) × Within 1073741823 (reach_right page)
 
 reaches : (page : Page) → IsShipped page → HasReach page
-reaches page (is, small) =
+reaches page (is, small, plain) =
     let b = page.shown in
     let fine : is_huge (page_of b) ≡ false = ap is_huge (sym is) ∙ small in
     subst HasReach (sym is) (fits_within (b.height +ℤ b.depth) (fits_down b fine), fits_within (pos 0 +ℤ b.width) (fits_right b fine))

@@ -12,3 +12,4 @@ pub mod FileLaws
 pub mod FinishedFiles
 pub mod ClosedFiles
 pub mod WholeRuns
+pub mod Plainness

@@ -14,10 +14,12 @@ use Rattle.job_core.specs.Reply.{Reply}
 use Rattle.job_core.specs.NamedBytes.{NamedBytes}
 use Rattle.dvi_ops.specs.Spelling.{spelling, operand}
 use Rattle.job_core.specs.Marks.{Page}
-use Rattle.job_core.specs.Machine.{State, Machine, checks, first_of, reply_to, after, state_by, state_after, new_pages, pages_of, page_of, held_in, count_in, is_huge_in, step, stopped, most_shipped, most_pages, first_state}
+use Rattle.job_core.specs.Machine.{State, Machine, checks, own_checks, first_of, reply_to, after, state_by, state_after, new_pages, pages_of, page_of, held_in, count_in, is_huge_in, step, stopped, most_shipped, most_pages, first_state}
 use Rattle.job_core.specs.Draft.{Draft, sheet_of, with_page, with_pages, first_draft, draft_of}
 use Rattle.job_core.specs.Runs.{TakesMemory, IsShipped, Seen, Steps, Replies, LacksMemory, Run, Holds, KeepsTo, RunsTo}
 use Rattle.job_core.specs.Room.{HasRoom}
+use Rattle.job_core.specs.Plain.{IsPlainHeld, IsPlain}
+use Rattle.job_core.proofs.Plainness.{plain_held, plain_after, plain_first}
 use Rattle.job_core.proofs.PageBytes.{page_bytes}
 
 -- The draft of pages, and of more pages behind them.
@@ -104,25 +106,39 @@ shipped_append : (a b : List Page) → AllByRecursion IsShipped a → AllByRecur
 shipped_append [] b all more = more
 shipped_append (x ∷ a) b all more = (all.0, shipped_append a b all.1 more)
 
-shipped_in : (held : Option BoxNode) → is_huge_in held ≡ false → AllByRecursion IsShipped (pages_of held)
-shipped_in None small = tt
-shipped_in (Some b) small = ((refl, small), tt)
+shipped_in : (held : Option BoxNode) → is_huge_in held ≡ false → IsPlainHeld held → AllByRecursion IsShipped (pages_of held)
+shipped_in None small plain = tt
+shipped_in (Some b) small plain = ((refl, small, plain), tt)
+
+plain_in : (s : State) (r : ℕ) (held : Option BoxNode) → IsPlain s → held_in s.registers r ≡ held → IsPlainHeld held
+plain_in s r None plain is = tt
+plain_in s r (Some b) plain is = plain_held s r b plain is
 
 -- The pages that a command adds are those that ships make.
-new_shipped : (s : State) (command : Command) → first_of (checks s command) ≡ None → AllByRecursion IsShipped (new_pages s command)
-new_shipped s (OpenHbox r) none = tt
-new_shipped s End none = tt
-new_shipped s (Rule rule) none = tt
-new_shipped s (Kern width) none = tt
-new_shipped s (Measure r) none = tt
-new_shipped s (Void r) none = tt
-new_shipped s (Ship r) none = shipped_in (held_in s.registers r) (admitted s r none).small
+new_shipped : (s : State) (command : Command) → first_of (checks s command) ≡ None → IsPlain s → AllByRecursion IsShipped (new_pages s command)
+new_shipped s (OpenHbox r) none plain = tt
+new_shipped s End none plain = tt
+new_shipped s (Rule rule) none plain = tt
+new_shipped s (Kern width) none plain = tt
+new_shipped s (Measure r) none plain = tt
+new_shipped s (Void r) none plain = tt
+new_shipped s (Ship r) none plain =
+    shipped_in (held_in s.registers r) (admitted s r none).small (plain_in s r (held_in s.registers r) plain refl)
+
+-- A job that is over accepts no command.
+runs_where : (s : State) (command : Command) → first_of (checks s command) ≡ None → s.over ≡ false
+runs_where s command none = by_over s.over none
+  where
+    by_over : (over : Bool) → (if over then Some JobOver else first_of (own_checks s command)) ≡ None → over ≡ false
+    by_over true none = cc
+    by_over false none = refl
 
 all_shipped :
-    (s : State) (command : Command) (pages : List Page) (refused : Option Refusal) → first_of (checks s command) ≡ refused → AllByRecursion IsShipped pages
-    → AllByRecursion IsShipped (state_by refused pages (pages ++ new_pages s command))
-all_shipped s command pages None is all = shipped_append pages (new_pages s command) all (new_shipped s command is)
-all_shipped s command pages (Some refusal) is all = all
+    (s : State) (command : Command) (pages : List Page) (refused : Option Refusal) → first_of (checks s command) ≡ refused → (s.over ≡ false → IsPlain s)
+    → AllByRecursion IsShipped pages → AllByRecursion IsShipped (state_by refused pages (pages ++ new_pages s command))
+all_shipped s command pages None is plain all =
+    shipped_append pages (new_pages s command) all (new_shipped s command is (plain (runs_where s command is)))
+all_shipped s command pages (Some refusal) is plain all = all
 
 -- A job that replies as the table says keeps to the machine.
 pub replied :
@@ -132,14 +148,15 @@ pub replied :
     → (old.state.over ≡ false → new.draft ≡ state_by (first_of (checks old.state command)) old.draft (with_pages old.draft (new_pages old.state command)))
     → new.told ≡ old.told
     → new.failed ≡ old.failed
+    → (old.state.over ≡ false → IsPlain old.state)
     → KeepsTo old command reply new
-replied old new command reply says goes drafts tells fails m holds = (
+replied old new command reply says goes drafts tells fails plain m holds = (
   step m command,
   Replies (says ∙ ap (λ s. reply_to s command) holds.state) refl fails,
   record {
     state = goes ∙ ap (λ s. state_after s command) holds.state;
     count = counted m.state command m.pages (first_of (checks m.state command)) refl holds.count;
-    pages = all_shipped m.state command m.pages (first_of (checks m.state command)) refl holds.pages;
+    pages = all_shipped m.state command m.pages (first_of (checks m.state command)) refl (subst (λ (s : State). s.over ≡ false → IsPlain s) holds.state plain) holds.pages;
     draft = λ running.
         let ran : m.state.over ≡ false = sym (state_after-over m.state command) ∙ running in
         drafts (ap (λ (s : State). s.over) holds.state ∙ ran)
@@ -169,6 +186,7 @@ steady_room s draft command None nodes pages none room =
     rw none (record {
       nodes = omega (arith, nodes, room.nodes);
       pages = omega (arith, pages, room.pages);
+      plain = plain_after s command room.plain;
       bytes = omega (arith, nodes, pages, room.bytes);
     })
 
@@ -186,6 +204,7 @@ shipped_room s draft r (Some b) is admits room =
     record {
       nodes = omega (arith, nodes);
       pages = omega (arith, pages);
+      plain = plain_after s (Ship r) room.plain;
       bytes = omega (arith, count, room.bytes, length-append draft.bytes (bytes_of (sheet_from draft.last (sheet_of (page_of b)))), page_bytes b draft.last);
     }
 
@@ -212,7 +231,7 @@ small_enough s draft room = omega (arith, room.nodes, room.pages, room.bytes)
 -- There is room in a new job.
 pub first_room : (files : List NamedBytes) → HasRoom (first_state files) first_draft
 unfolding spelling operand
-first_room files = record { nodes = omega arith; pages = omega arith; bytes = lit≤ tt }
+first_room files = record { nodes = omega arith; pages = omega arith; plain = plain_first files; bytes = lit≤ tt }
 
 -- A run of one command more.
 pub run_more :

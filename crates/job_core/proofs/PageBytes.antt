@@ -5,7 +5,7 @@ use Rattle.byteorder.specs.Numbers.{length-bytes_high_first}
 use Rattle.std.specs.Int.{w32, cast_unsigned}
 use Rattle.std.specs.List.{flat_map}
 use Rattle.node_core.specs.declared.tree.Node.{Node}
-use Rattle.node_core.specs.declared.tree.Node.TheVariants.{Kern, Rule}
+use Rattle.node_core.specs.declared.tree.Node.TheVariants.{Glyph, FontKern, Kern, Glue, Rule}
 use Rattle.node_core.specs.declared.tree.BoxNode.{BoxNode}
 use Rattle.node_core.specs.Nodes.{nodes_of, box_count}
 use Rattle.node_core.proofs.NodeLemmas.{items_count-is}
@@ -84,7 +84,10 @@ one_mark h v height width = cases (int_lt (pos 0) height && int_lt (pos 0) width
     cases false = omega arith
 
 few_marks_of : (b : BoxNode) (h v : ℤ) (x : Node) → length (mark_of b h v x) ≤ 1
+few_marks_of b h v (Glyph glyph) = omega arith
+few_marks_of b h v (FontKern width) = omega arith
 few_marks_of b h v (Kern width) = omega arith
+few_marks_of b h v (Glue glue) = omega arith
 few_marks_of b h v (Rule rule) =
     one_mark h (v +ℤ size_in b.depth rule.depth) (size_in b.height rule.height +ℤ size_in b.depth rule.depth) (own_size rule.width)
 

@@ -14,3 +14,4 @@ pub mod Room
 pub mod Shown
 pub mod Closing
 pub mod Headline
+pub mod Plain

@@ -2,7 +2,7 @@
 use Rattle.std.specs.Prelude.{◌+ℤ◌, ◌&&◌, ℤ, pos, Bool, not, int_lt, if◌then◌else◌, List, [], ◌∷◌, ◌++◌}
 use Rattle.std.specs.List.{list_all}
 use Rattle.node_core.specs.declared.tree.Node.{Node}
-use Rattle.node_core.specs.declared.tree.Node.TheVariants.{Kern, Rule}
+use Rattle.node_core.specs.declared.tree.Node.TheVariants.{Glyph, FontKern, Kern, Glue, Rule}
 use Rattle.node_core.specs.declared.tree.RuleSize.{RuleSize}
 use Rattle.node_core.specs.declared.tree.RuleSize.TheVariants.{Running, Fixed}
 use Rattle.node_core.specs.declared.tree.BoxNode.{BoxNode}
@@ -21,9 +21,12 @@ size_in whole (Fixed size) = size
 abbrev pub rule_mark : (h v height width : ℤ) → List Mark
 rule_mark h v height width = if int_lt (pos 0) height && int_lt (pos 0) width then marks.Rule h v height width ∷ [] else []
 
--- The mark of an item that stands at (h, v) in a horizontal list of a box: a rule's corner is its depth below the baseline.
+-- The mark of an item that stands at (h, v) in a horizontal list of a box: a glyph stands there, a rule's corner is its depth below the baseline.
 abbrev pub mark_of : BoxNode → (h v : ℤ) → Node → List Mark
+mark_of b h v (Glyph glyph) = marks.Glyph (pos glyph.slot) (pos glyph.code) h v ∷ []
+mark_of b h v (FontKern width) = []
 mark_of b h v (Kern width) = []
+mark_of b h v (Glue glue) = []
 mark_of b h v (Rule rule) =
     rule_mark h (v +ℤ size_in b.depth rule.depth) (size_in b.height rule.height +ℤ size_in b.depth rule.depth) (own_size rule.width)
 
@@ -39,7 +42,10 @@ marks_of_box b h v = marks_behind b h v [] (nodes_of b.list)
 
 -- The numbers of an item that stands at (h, v): its place, the place after it, and of a rule its corner and its height plus depth.
 abbrev pub numbers_of : BoxNode → (h v : ℤ) → Node → List ℤ
+numbers_of b h v (Glyph glyph) = h ∷ v ∷ (h +ℤ glyph.width) ∷ []
+numbers_of b h v (FontKern width) = h ∷ v ∷ (h +ℤ width) ∷ []
 numbers_of b h v (Kern width) = h ∷ v ∷ (h +ℤ width) ∷ []
+numbers_of b h v (Glue glue) = h ∷ v ∷ (h +ℤ glue.width) ∷ []
 numbers_of b h v (Rule rule) =
     h ∷ v ∷ (h +ℤ own_size rule.width) ∷ (v +ℤ size_in b.depth rule.depth)
     ∷ (size_in b.height rule.height +ℤ size_in b.depth rule.depth) ∷ []

@@ -2,7 +2,7 @@
 use Rattle.std.specs.Prelude.{◌+ℤ◌, ℕ, ℤ, pos, negsuc, Bool, nat_le, nat_lt, List, [], ◌∷◌}
 use Rattle.std.specs.Int.{int_max}
 use Rattle.node_core.specs.declared.tree.Node.{Node}
-use Rattle.node_core.specs.declared.tree.Node.TheVariants.{Kern, Rule}
+use Rattle.node_core.specs.declared.tree.Node.TheVariants.{Glyph, FontKern, Kern, Glue, Rule}
 use Rattle.node_core.specs.declared.tree.RuleSize.{RuleSize}
 use Rattle.node_core.specs.declared.tree.RuleSize.TheVariants.{Running, Fixed}
 use Rattle.node_core.specs.declared.tree.BoxNode.{BoxNode}
@@ -22,17 +22,26 @@ own_size (Fixed size) = size
 
 -- How far an item moves what follows it in a horizontal list: its width.
 abbrev pub advance : Node → ℤ
+advance (Glyph glyph) = glyph.width
+advance (FontKern width) = width
 advance (Kern width) = width
+advance (Glue glue) = glue.width
 advance (Rule rule) = own_size rule.width
 
 -- How far an item of a horizontal list stands above the baseline.
 abbrev pub above : Node → ℤ
+above (Glyph glyph) = glyph.height
+above (FontKern width) = pos 0
 above (Kern width) = pos 0
+above (Glue glue) = pos 0
 above (Rule rule) = own_size rule.height
 
 -- How far it stands below.
 abbrev pub below : Node → ℤ
+below (Glyph glyph) = glyph.depth
+below (FontKern width) = pos 0
 below (Kern width) = pos 0
+below (Glue glue) = pos 0
 below (Rule rule) = own_size rule.depth
 
 -- The sum of a size over a list.

@@ -8,6 +8,8 @@ use Rattle.job_core.specs.declared.command.Refusal.TheVariants.{OutOfMemory, Dev
 use Rattle.job_core.specs.declared.command.Summary.{Summary}
 use Rattle.job_core.specs.Reply.{Reply}
 use Rattle.job_core.specs.Marks.{Page, is_huge}
+use Rattle.node_core.specs.Nodes.{nodes_of}
+use Rattle.job_core.specs.Plain.{HasNoGlyph}
 use Rattle.job_core.specs.Draft.{Draft, draft_of}
 use Rattle.job_core.specs.Machine.{State, Machine, checks, first_of, reply_to, step, stopped, page_of}
 
@@ -58,9 +60,9 @@ pub record Seen : Type 0 where
   pub told : Option (List ℕ)
   pub failed : ℕ
 
--- A page that a ship makes: it is that of its box, and not huge.
+-- A page that a ship makes: it is that of its box, is not huge, and has no glyph yet.
 abbrev pub IsShipped : Page → Type 0
-IsShipped page = (page ≡ page_of page.shown) × (is_huge page ≡ false)
+IsShipped page = (page ≡ page_of page.shown) × (is_huge page ≡ false) × HasNoGlyph (nodes_of page.shown.list)
 
 -- A job stands for a machine: it keeps the machine's state, and until it is over the draft of its pages; no byte has gone out by then.
 pub record Holds (job : Seen) (m : Machine) : Type 0 where

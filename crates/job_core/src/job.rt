@@ -4,6 +4,7 @@ ghost use Rattle.std.specs.Prelude.{◌≡◌, ◌≢◌, ◌<◌, ◌≤◌, �
 ghost use Rattle.job_core.specs.declared.command.Command.TheVariants as commands;
 ghost use Rattle.job_core.specs.Reply.{Reply as AReply};
 ghost use Rattle.job_core.specs.Told.{grown, GrowsByFront};
+ghost use Rattle.job_core.specs.Plain.{IsPlain};
 ghost use Rattle.job_core.specs.Draft.{with_pages, whole, draft_of};
 ghost use Rattle.job_core.specs.Machine.{Machine, first_machine, checks, first_of, reply_to, state_after, state_by, new_pages};
 ghost use Rattle.job_core.specs.Runs.{TakesMemory, Holds, KeepsTo, RunsTo, FinishesTo};
@@ -21,6 +22,7 @@ use std::marker::Model;
 /// Ships the box in a register: its page is added to the draft.
 fn ship(kept: &mut Kept, writer: &mut Writer, register: Register) -> Result<Reply, AllocError>
     requires running { kept.old.over ≡ false }
+    requires plain { IsPlain kept.old }
     requires room { length writer.old.bytes < 2 ^ 31 }
     ensures reply { IfOk result (λ reply. reply ≡ reply_to kept.old (commands.Ship register)) }
     ensures state { OnOk result (kept.new ≡ state_after kept.old (commands.Ship register)) }
@@ -39,7 +41,8 @@ fn ship(kept: &mut Kept, writer: &mut Writer, register: Register) -> Result<Repl
 
 /// Does what a command says, but for the device.
 fn obey(kept: &mut Kept, writer: &mut Writer, command: &Command) -> Result<Reply, AllocError>
-    requires { kept.old.over ≡ false → length writer.old.bytes < 2 ^ 31 }
+    requires room { kept.old.over ≡ false → length writer.old.bytes < 2 ^ 31 }
+    requires plain { kept.old.over ≡ false → IsPlain kept.old }
     ensures reply { IfOk result (λ reply. reply ≡ reply_to kept.old command.now) }
     ensures state { OnOk result (kept.new ≡ state_after kept.old command.now) }
     ensures draft { OnOk result (writer.new ≡ state_by (first_of (checks kept.old command.now)) writer.old (with_pages writer.old (new_pages kept.old command.now))) }

@@ -2,6 +2,8 @@
 
 ghost use Rattle.std.specs.Prelude.{◌≡◌, ◌==◌, ◌<◌, ◌≤◌, ◌+◌, ◌^◌, not, true, false, None, Some, Ok, IfOk, IfErr, OnOk, OnErr, length, option_copied};
 ghost use Rattle.job_core.specs.declared.command.Command.TheVariants as commands;
+ghost use Rattle.node_core.specs.Nodes.{nodes_of};
+ghost use Rattle.job_core.specs.Plain.{HasNoGlyph, IsPlain};
 ghost use Rattle.job_core.specs.Machine.{first_state, held_in, checks, first_of, reply_to, state_after, after, sizes_of};
 
 use crate::command::{Answer, Refusal, Register, Reply, Sizes};
@@ -193,8 +195,11 @@ impl Kept {
     }
 
     /// The box in a register that may be shipped now, or why it may not.
+    #[tactic(auto, using(crate::proofs::Plainness::plain_held))]
     pub fn admitted(&self, register: Register) -> Result<&BoxNode, Refusal>
-        requires { self.now.over ≡ false }
+        requires running { self.now.over ≡ false }
+        requires plain { IsPlain self.now }
+        ensures plain { IfOk result (λ shown. HasNoGlyph (nodes_of shown.now.list)) }
         ensures shown { IfOk result (λ shown. held_in self.now.registers register ≡ Some shown.now) }
         ensures ok { OnOk result (first_of (checks self.now (commands.Ship register)) ≡ None) }
         ensures err { IfErr result (λ refusal. first_of (checks self.now (commands.Ship register)) ≡ Some refusal) }

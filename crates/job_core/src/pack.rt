@@ -36,7 +36,10 @@ pub fn advance_of(node: &Node) -> Dimen
     ensures { result ≡ advance node.now }
 {
     match node {
+        Node::Glyph(glyph) => glyph.width,
+        Node::FontKern(width) => *width,
         Node::Kern(width) => *width,
+        Node::Glue(glue) => glue.width,
         Node::Rule(rule) => counted(rule.width),
     }
 }
@@ -45,8 +48,9 @@ fn height_of(node: &Node) -> Dimen
     ensures { result ≡ above node.now }
 {
     match node {
-        Node::Kern(_) => Dimen::ZERO,
+        Node::Glyph(glyph) => glyph.height,
         Node::Rule(rule) => counted(rule.height),
+        _ => Dimen::ZERO,
     }
 }
 
@@ -54,8 +58,9 @@ fn depth_of(node: &Node) -> Dimen
     ensures { result ≡ below node.now }
 {
     match node {
-        Node::Kern(_) => Dimen::ZERO,
+        Node::Glyph(glyph) => glyph.depth,
         Node::Rule(rule) => counted(rule.depth),
+        _ => Dimen::ZERO,
     }
 }
 

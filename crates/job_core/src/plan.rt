@@ -11,6 +11,7 @@ ghost use Rattle.job_core.specs.Packing.{fits, advance};
 ghost use Rattle.job_core.specs.Marks.{size_in, rule_mark, mark_of, marks_of_box, numbers_of, numbers_behind, is_huge};
 ghost use Rattle.job_core.specs.Drawing.{drawn, body_of};
 ghost use Rattle.job_core.specs.Machine.{page_of};
+ghost use Rattle.job_core.specs.Plain.{is_glyph, HasNoGlyph};
 ghost use Rattle.job_core.specs.Placing.{marks_in, makes, movement, unless_zero};
 ghost use Rattle.node_core.specs.declared.tree.Node.TheVariants as nodes;
 
@@ -103,18 +104,30 @@ fn visible(mark: RuleMark) -> Option<RuleMark>
     Some(mark)
 }
 
-/// An item at a place of a horizontal list; None exactly where one of its numbers does not fit.
+/// An item without a mark, at a place of a horizontal list; None exactly where the place after it does not fit.
+fn place_space(h: Dimen, v: Dimen, width: Dimen) -> Option<PlacedItem>
+    ensures fits { is_some result ≡ list_all fits (h ∷ v ∷ (h +ℤ width) ∷ []) }
+    ensures mark { IfSome result (λ s. marks_in s.mark ≡ []) }
+    ensures next { IfSome result (λ s. s.next ≡ h +ℤ width) }
+    ensures edge { IfSome result (λ s. IfSome s.mark (λ m. m.end ≡ m.h +ℤ m.width)) }
+{
+    let _on_the_baseline = v.get();
+    let next = sum(h, width)?;
+    Some(PlacedItem { mark: None, next })
+}
+
+/// An item at a place of a horizontal list; None exactly where one of its numbers does not fit. No glyph is drawn yet.
 fn place_item(shown: &BoxNode, h: Dimen, v: Dimen, node: &Node) -> Option<PlacedItem>
     ensures fits { is_some result ≡ list_all fits (numbers_of shown.now h v node.now) }
-    ensures mark { IfSome result (λ s. marks_in s.mark ≡ mark_of shown.now h v node.now) }
+    ensures mark { is_glyph node.now ≡ false → IfSome result (λ s. marks_in s.mark ≡ mark_of shown.now h v node.now) }
     ensures next { IfSome result (λ s. s.next ≡ h +ℤ advance node.now) }
     ensures edge { IfSome result (λ s. IfSome s.mark (λ m. m.end ≡ m.h +ℤ m.width)) }
 {
     match node {
-        Node::Kern(width) => {
-            let next = sum(h, *width)?;
-            Some(PlacedItem { mark: None, next })
-        }
+        Node::Glyph(glyph) => place_space(h, v, glyph.width),
+        Node::FontKern(width) => place_space(h, v, *width),
+        Node::Kern(width) => place_space(h, v, *width),
+        Node::Glue(glue) => place_space(h, v, glue.width),
         Node::Rule(rule) => place_rule(shown, h, v, *rule),
     }
 }
@@ -235,7 +248,8 @@ pub fn makes_huge_page(shown: &BoxNode) -> bool
 /// The instructions that draw the page of a box.
 #[tactic(auto, unfolding(crate::specs::Drawing::body_of))]
 pub fn plan(alloc: Global, shown: &BoxNode) -> Result<Vec<Op<'static>>, AllocError>
-    requires { is_huge (page_of shown.now) ≡ false }
+    requires huge { is_huge (page_of shown.now) ≡ false }
+    requires plain { HasNoGlyph (nodes_of shown.now.list) }
     ensures { IfOk result (λ ops. map view ops.items ≡ flat (body_of (page_of shown.now))) }
 {
     let v = shown.height;

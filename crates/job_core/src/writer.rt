@@ -8,11 +8,12 @@ ghost use Rattle.dvi_ops.specs.Layout.{bytes_of, preamble, scaled_points, paddin
 ghost use Rattle.dvi_ops.specs.Spelling.{HasSpelling};
 ghost use Rattle.dvi_ops.specs.View.{view};
 ghost use Rattle.std.specs.List.{AllByRecursion};
-ghost use Rattle.node_core.specs.Nodes.{box_count};
+ghost use Rattle.node_core.specs.Nodes.{box_count, nodes_of};
 ghost use Rattle.job_core.specs.Packing.{fits};
 ghost use Rattle.job_core.specs.Marks.{is_huge};
 ghost use Rattle.job_core.specs.Machine.{page_of};
 ghost use Rattle.job_core.specs.Drawing.{body_of};
+ghost use Rattle.job_core.specs.Plain.{HasNoGlyph};
 ghost use Rattle.job_core.specs.Draft.{Draft, first_draft, with_page, whole, closed};
 
 use crate::{pack, plan};
@@ -64,7 +65,8 @@ fn append_all(bytes: &mut Vec<u8>, ops: &[Op<'_>]) -> Result<(), AllocError>
 
 /// The instructions of a page, from bop to eop, behind a bop at a place (or -1).
 fn page_ops(alloc: Global, shown: &BoxNode, last: i32) -> Result<Vec<Op<'static>>, AllocError>
-    requires { is_huge (page_of shown.now) ≡ false }
+    requires huge { is_huge (page_of shown.now) ≡ false }
+    requires plain { HasNoGlyph (nodes_of shown.now.list) }
     ensures { IfOk result (λ ops. map view ops.items ≡ Bop (replicate 10 (pos 0)) last ∷ (flat (body_of (page_of shown.now)) ++ Eop ∷ [])) }
 {
     let body = plan::plan(alloc, shown)?;
@@ -124,6 +126,7 @@ impl Writer {
     #[tactic(auto, unfolding(crate::specs::Draft::with_page))]
     pub fn add_page(&mut self, shown: &BoxNode) -> Result<(), AllocError>
         requires huge { is_huge (page_of shown.now) ≡ false }
+        requires plain { HasNoGlyph (nodes_of shown.now.list) }
         requires room { length self.old.bytes < 2 ^ 31 }
         ensures ok { OnOk result (self.new ≡ with_page self.old (page_of shown.now)) }
         ensures err { OnErr result (self.new ≡ self.old) }

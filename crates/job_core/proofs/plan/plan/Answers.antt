@@ -10,12 +10,14 @@ use Rattle.job_core.specs.Drawing.{drawn}
 use Rattle.dvi_ops.specs.Forest.{flat}
 use Rattle.job_core.proofs.Sums.{total_more}
 use Rattle.job_core.proofs.Places.{fits_more, marks_more, rest_of_and, fitting, body-is}
+use Rattle.node_core.specs.Nodes.{nodes_of}
+use Rattle.job_core.proofs.Plainness.{plain_at}
 use Rattle.job_core.proofs.plan.plan.Goals as goal
 
 pub loop-node-init : goal.loop-node-init
 loop-node-init c = record {
   place = refl;
-  left = rw c.as_slice-node-items.ensures (fitting c.args.shown.now c.requires);
+  left = rw c.as_slice-node-items.ensures (fitting c.args.shown.now c.requires.huge);
   makes = c.new-drawing.ensures (marks_behind c.args.shown.now (pos 0) c.args.shown.now.height [] c.as_slice-node-items.result.now);
 }
 
@@ -27,7 +29,8 @@ loop-node-preserved c =
     let x = c.node-item.result in
     let more = total_more advance xs i x c.loop-node-test.true c.node-item.is in
     let fits_here = rw c.loop-node.invariant.place at c.in-Some.ensures.fits in
-    let mark_here = rw c.loop-node.invariant.place at c.in-Some.ensures.mark in
+    let plain = plain_at (nodes_of b.list) i x c.requires.plain (rw c.as_slice-node-items.ensures at c.loop-node-test.true) (rw c.as_slice-node-items.ensures at c.node-item.is) in
+    let mark_here = rw c.loop-node.invariant.place at (c.in-Some.ensures.mark plain) in
     record {
       place = omega (arith, ints, more, c.in-Some.ensures.next, c.loop-node.invariant.place);
       left = rest_of_and _ _ _ fits_here

@@ -15,4 +15,4 @@ invariant_of-self-2 g c =
 pub returns : goal.returns
 returns g c =
     rw (← c.self.view_is)
-    (replied _ _ c.args.command.now c.in-Ok.reply c.in-Ok.ensures.reply c.in-Ok.ensures.state (λ running. c.in-Ok.ensures.draft) refl refl)
+    (replied _ _ c.args.command.now c.in-Ok.reply c.in-Ok.ensures.reply c.in-Ok.ensures.state (λ running. c.in-Ok.ensures.draft) refl refl (λ running. (c.self.invariant.0 running).plain))
