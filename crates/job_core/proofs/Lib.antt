@@ -7,3 +7,6 @@ pub mod PageBytes
 pub mod Moves
 pub mod Endings
 pub mod Refusals
+pub mod DrawnMarks
+pub mod FileLaws
+pub mod FinishedFiles

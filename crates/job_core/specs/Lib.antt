@@ -11,3 +11,4 @@ pub mod Placing
 pub mod Draft
 pub mod Runs
 pub mod Room
+pub mod Shown

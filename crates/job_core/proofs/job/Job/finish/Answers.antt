@@ -1,6 +1,9 @@
 use Rattle.std.proofs.Common.{◌≡◌, ◌≢◌, false, length, refl, ap, sym, ◌∙◌, arith}
 use Rattle.std.specs.Prelude.{not, ◌==◌}
 use Rattle.job_core.proofs.Endings.{may_finish, over_refused, open_refused, finished, losing}
+use Rattle.job_core.specs.Told.{grown}
+use Rattle.job_core.specs.Draft.{whole}
+use Rattle.job_core.proofs.FinishedFiles.{filed_pages}
 use Rattle.job_core.proofs.job.Job.finish.Goals as goal
 
 pub returns-then-is_over-clause-finished : goal.returns-then-is_over-clause-finished
@@ -25,3 +28,12 @@ returns-in_default-write_all-clause-finished g c =
     let may = may_finish c.self.inside.kept (sym c.is_over.ensures ∙ c.if-is_over.false) (sym c.is_open.ensures ∙ c.if-is_open.false) in
     let some : c.self.inside.kept.pages ≢ 0 = λ none. c.if-pages-eq0.false (c.pages-pages.ensures ∙ none) in
     rw (← c.self.view_is) (losing _ _ may some c.stop-2.ensures (omega (arith, c.in_default-write_all.ensures.counted)))
+
+pub returns-clause-dvi : goal.returns-clause-dvi
+returns-clause-dvi g c =
+    let running = sym c.is_over.ensures ∙ c.if-is_over.false in
+    let room = c.self.invariant.0 running in
+    let some : c.self.inside.kept.pages ≢ 0 = λ none. c.if-pages-eq0.false (c.pages-pages.ensures ∙ none) in
+    let bytes = c.bytes-bytes.ensures ∙ (c.in-Ok.ensures.ok ∙ ap (whole c.self.inside.writer) c.pages-pages.ensures) in
+    rw (← c.self.view_is)
+    (λ m metrics holds. filed_pages _ _ m metrics holds running room some (c.in-Ok-write_all.ensures.taken ∙ ap (grown (g.D.Device.told c.self.inside.device)) bytes))

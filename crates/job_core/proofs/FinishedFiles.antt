@@ -1,0 +1,38 @@
+-- What a job's device tells behind the end is a DVI file of the machine's pages.
+use Rattle.std.proofs.Common.{◌≡◌, ◌≢◌, ℕ, ◌<◌, ◌^◌, List, length, Option, Some, None, refl, ap, sym, ◌∙◌, subst}
+use Rattle.std.specs.Prelude.{false, IfSome}
+use Rattle.dvi_ops.specs.Fonts.{Metrics}
+use Rattle.job_core.specs.Told.{grown}
+use Rattle.job_core.specs.Machine.{State, Machine}
+use Rattle.job_core.specs.Draft.{Draft, draft_of, file_of, whole}
+use Rattle.job_core.specs.Runs.{Seen, Holds}
+use Rattle.job_core.specs.Room.{HasRoom}
+use Rattle.job_core.specs.Shown.{IsFileOf}
+use Rattle.job_core.proofs.Moves.{small_enough}
+use Rattle.job_core.proofs.Endings.{filed, unfiled}
+use Rattle.job_core.proofs.FileLaws.{file_shows}
+
+-- What holds of bytes that are told holds of what they are equal to.
+told_is : (told : Option (List ℕ)) (file : List ℕ) (P : List ℕ → Type 0) → IfSome told (λ bytes. bytes ≡ file) → P file → IfSome told P
+told_is None file P is holds = tt
+told_is (Some bytes) file P is holds = subst P (sym is) holds
+
+-- The draft of the machine's pages is short, where there is room.
+short : (old : Seen) (m : Machine) → Holds old m → old.state.over ≡ false → HasRoom old.state old.draft → length (draft_of m.pages).bytes < 2 ^ 31
+short old m holds running room =
+    let ran : m.state.over ≡ false = sym (ap (λ (s : State). s.over) holds.state) ∙ running in
+    subst (λ (d : Draft). length d.bytes < 2 ^ 31) (holds.draft ran) (small_enough old.state old.draft room)
+
+-- Where all was taken, it is a DVI file of the pages.
+pub filed_pages :
+    (old : Seen) (new : Option (List ℕ)) (m : Machine) (metrics : Metrics) → Holds old m → old.state.over ≡ false → HasRoom old.state old.draft
+    → old.state.pages ≢ 0 → new ≡ grown old.told (whole old.draft old.state.pages) → IfSome new (λ bytes. IsFileOf metrics bytes m.pages)
+filed_pages old new m metrics holds running room some told =
+    told_is new (file_of m.pages) (λ bytes. IsFileOf metrics bytes m.pages) (filed old (record old { told = new }) m holds running some told) (file_shows metrics m.pages holds.pages (short old m holds running room))
+
+-- Where there are no pages, nothing was taken.
+pub filed_none :
+    (old : Seen) (m : Machine) (metrics : Metrics) → Holds old m → old.state.over ≡ false → HasRoom old.state old.draft → old.state.pages ≡ 0
+    → IfSome old.told (λ bytes. IsFileOf metrics bytes m.pages)
+filed_none old m metrics holds running room none =
+    told_is old.told (file_of m.pages) (λ bytes. IsFileOf metrics bytes m.pages) (unfiled old m holds running none) (file_shows metrics m.pages holds.pages (short old m holds running room))
