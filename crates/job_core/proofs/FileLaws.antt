@@ -131,17 +131,17 @@ whole-is draft s front count laid =
     ∙ ap₂ (λ (a b : List ℕ). a ++ (b ++ fill)) laid.bytes (ap₂ end (closing-is draft s front count laid) (sym laid.size))
 
 -- The greatest of a size of some pages, and a number.
-pub farthest : (Page → ℤ) → ℤ → List Page → ℤ
+abbrev pub farthest : (Page → ℤ) → ℤ → List Page → ℤ
 farthest size z [] = z
 farthest size z (page ∷ pages) = farthest size (int_max z (size page)) pages
 
 pub tall-is : (draft : Draft) (pages : List Page) → (with_pages draft pages).tall ≡ farthest reach_down draft.tall pages
-unfolding with_page farthest
+unfolding with_page
 tall-is draft [] = refl
 tall-is draft (page ∷ pages) = tall-is (with_page draft page) pages
 
 pub wide-is : (draft : Draft) (pages : List Page) → (with_pages draft pages).wide ≡ farthest reach_right draft.wide pages
-unfolding with_page farthest
+unfolding with_page
 wide-is draft [] = refl
 wide-is draft (page ∷ pages) = wide-is (with_page draft page) pages
 
@@ -156,7 +156,6 @@ reaches page (is, small) =
 
 farthest_within : (size : Page → ℤ) (z : ℤ) (pages : List Page) → Within 1073741823 z → ((page : Page) → IsShipped page → Within 1073741823 (size page)) → AllByRecursion IsShipped pages
     → Within 1073741823 (farthest size z pages)
-unfolding farthest
 farthest_within size z [] fit fits all = fit
 farthest_within size z (page ∷ pages) fit fits (here, all) =
     let other = fits page here in

@@ -1,6 +1,7 @@
 -- What a job's device tells behind the end is a DVI file of the machine's pages.
-use Rattle.std.proofs.Common.{◌≡◌, ◌≢◌, ℕ, ◌<◌, ◌^◌, List, length, Option, Some, None, refl, ap, sym, ◌∙◌, subst}
+use Rattle.std.proofs.Common.{◌≡◌, ◌≢◌, ℕ, ◌<◌, ◌^◌, List, [], length, Option, Some, None, refl, ap, sym, ◌∙◌, subst}
 use Rattle.std.specs.Prelude.{false, IfSome}
+use Rattle.std.proofs.lemmas.List.{nil_from_length}
 use Rattle.dvi_ops.specs.Fonts.{Metrics}
 use Rattle.job_core.specs.Told.{grown}
 use Rattle.job_core.specs.Machine.{State, Machine}
@@ -8,9 +9,11 @@ use Rattle.job_core.specs.Draft.{Draft, draft_of, file_of, whole}
 use Rattle.job_core.specs.Runs.{Seen, Holds}
 use Rattle.job_core.specs.Room.{HasRoom}
 use Rattle.job_core.specs.Shown.{IsFileOf}
+use Rattle.job_core.specs.Closing.{IsClosedFor}
 use Rattle.job_core.proofs.Moves.{small_enough}
 use Rattle.job_core.proofs.Endings.{filed, unfiled}
 use Rattle.job_core.proofs.FileLaws.{file_shows}
+use Rattle.job_core.proofs.ClosedFiles.{file_closes}
 
 -- What holds of bytes that are told holds of what they are equal to.
 told_is : (told : Option (List ℕ)) (file : List ℕ) (P : List ℕ → Type 0) → IfSome told (λ bytes. bytes ≡ file) → P file → IfSome told P
@@ -36,3 +39,15 @@ pub filed_none :
     → IfSome old.told (λ bytes. IsFileOf metrics bytes m.pages)
 filed_none old m metrics holds running room none =
     told_is old.told (file_of m.pages) (λ bytes. IsFileOf metrics bytes m.pages) (unfiled old m holds running none) (file_shows metrics m.pages holds.pages (short old m holds running room))
+
+-- Where all was taken, it ends as the file of the pages does.
+pub filed_end :
+    (old : Seen) (new : Option (List ℕ)) (m : Machine) → Holds old m → old.state.over ≡ false → HasRoom old.state old.draft
+    → old.state.pages ≢ 0 → new ≡ grown old.told (whole old.draft old.state.pages) → m.pages ≢ [] → IfSome new (λ bytes. IsClosedFor bytes m.pages)
+filed_end old new m holds running room some told pages =
+    told_is new (file_of m.pages) (λ bytes. IsClosedFor bytes m.pages) (filed old (record old { told = new }) m holds running some told)
+    (file_closes m.pages pages holds.pages (short old m holds running room))
+
+-- A machine without pages has none.
+pub no_pages : (old : Seen) (m : Machine) → Holds old m → old.state.pages ≡ 0 → m.pages ≡ []
+no_pages old m holds none = nil_from_length m.pages (sym holds.count ∙ (sym (ap (λ (s : State). s.pages) holds.state) ∙ none))

@@ -10,3 +10,4 @@ pub mod Refusals
 pub mod DrawnMarks
 pub mod FileLaws
 pub mod FinishedFiles
+pub mod ClosedFiles

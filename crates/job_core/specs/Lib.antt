@@ -12,3 +12,4 @@ pub mod Draft
 pub mod Runs
 pub mod Room
 pub mod Shown
+pub mod Closing

@@ -8,6 +8,7 @@ ghost use Rattle.job_core.specs.Draft.{with_pages, whole, draft_of};
 ghost use Rattle.job_core.specs.Machine.{Machine, first_machine, checks, first_of, reply_to, state_after, state_by, new_pages};
 ghost use Rattle.job_core.specs.Runs.{TakesMemory, Holds, KeepsTo, RunsTo, FinishesTo};
 ghost use Rattle.job_core.specs.Shown.{FilesPages};
+ghost use Rattle.job_core.specs.Closing.{ClosesFile};
 
 use crate::command::{Answer, Command, Refusal, Register, Reply, Summary};
 use crate::device::{Device, write_all};
@@ -93,6 +94,7 @@ impl<D: Device> Job<D> {
     ghost use Rattle.job_core.specs.Reply.{Reply as AReply};
     ghost use Rattle.job_core.specs.Runs.{Holds, KeepsTo, RunsTo, FinishesTo};
     ghost use Rattle.job_core.specs.Shown.{FilesPages};
+    ghost use Rattle.job_core.specs.Closing.{ClosesFile};
 
     /// A new job. It copies the font files. Where memory is refused, it hands the device back.
     pub fn new(alloc: Global, device: D, files: &[FontFile]) -> Result<Job<D>, D>
@@ -147,6 +149,7 @@ impl<D: Device> Job<D> {
         ensures finished { FinishesTo self.old result self.new }
         ensures file { (m : Machine) → Holds self.old m → OnOk result (IfSome self.new.told (λ bytes. bytes ≡ file_of m.pages)) }
         ensures dvi { FilesPages self.old result self.new }
+        ensures end { ClosesFile self.old result self.new }
         ensures size { IfOk result (λ summary. (m : Machine) → Holds self.old m → IfSome self.new.told (λ bytes. summary.bytes ≡ length bytes)) }
         ensures front { result ≡ Err Refusal.Device → (m : Machine) → Holds self.old m → IfSome self.new.told (λ bytes. IsFrontOf bytes (file_of m.pages)) }
     {

@@ -1,0 +1,33 @@
+-- How the finished file ends (TeX: The Program, part 32; DVItype, 19 and 20).
+use Rattle.std.specs.Prelude.{◌≡◌, ◌≢◌, ◌≤◌, ◌≤ℤ◌, ◌%◌, [], ◌∷◌, ℕ, ℤ, pos, List, length, map, Result, OnOk, IfSome}
+use Rattle.std.specs.List.{AllByRecursion, Contains}
+use Rattle.dvi_ops.specs.File.{Frame}
+use Rattle.job_core.specs.declared.command.Refusal.{Refusal}
+use Rattle.job_core.specs.declared.command.Summary.{Summary}
+use Rattle.job_core.specs.Marks.{Page}
+use Rattle.job_core.specs.Draft.{reach_down, reach_right}
+use Rattle.job_core.specs.Machine.{Machine}
+use Rattle.job_core.specs.Runs.{Seen, Holds}
+
+-- The greatest number of a list: none is above it, and it is one of them.
+pub record IsGreatestOf (numbers : List ℤ) (greatest : ℤ) : Type 0 where
+  pub bounds : AllByRecursion (λ z. z ≤ℤ greatest) numbers
+  pub reached : Contains numbers greatest
+
+-- The bytes end as a file of these pages does. Their frame is that of the DVI definition.
+pub record IsClosedFor (bytes : List ℕ) (pages : List Page) : Type 0 where
+  pub frame : Frame bytes
+  -- post has the greatest reaches of the pages down and to the right, at least 0.
+  pub tall : IsGreatestOf (pos 0 ∷ map reach_down pages) frame.stop.height_plus_depth
+  pub wide : IsGreatestOf (pos 0 ∷ map reach_right pages) frame.stop.width
+  -- post has the greatest number of open pushes: no page opens one yet.
+  pub deep : frame.stop.stack_depth ≡ 0
+  -- Four to seven bytes 223 fill the length up to a multiple of 4.
+  pub least : 4 ≤ frame.padding
+  pub most : frame.padding ≤ 7
+  pub fills : length bytes % 4 ≡ 0
+
+-- Where the end succeeds, what the device has taken ends so, unless there are no pages.
+abbrev pub ClosesFile : Seen → Result Summary Refusal → Seen → Type 0
+ClosesFile old result new =
+    (m : Machine) → Holds old m → m.pages ≢ [] → OnOk result (IfSome new.told (λ bytes. IsClosedFor bytes m.pages))
