@@ -11,3 +11,4 @@ pub mod DrawnMarks
 pub mod FileLaws
 pub mod FinishedFiles
 pub mod ClosedFiles
+pub mod WholeRuns

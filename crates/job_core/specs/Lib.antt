@@ -13,3 +13,4 @@ pub mod Runs
 pub mod Room
 pub mod Shown
 pub mod Closing
+pub mod Headline

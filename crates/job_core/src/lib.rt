@@ -6,6 +6,7 @@ pub mod device;
 pub mod font_file;
 pub mod job;
 mod kept;
+pub mod laws;
 mod nest;
 mod pack;
 mod plan;

@@ -1,0 +1,63 @@
+-- Runs one behind another, and a job from its beginning to its end.
+use Rattle.std.proofs.Common.{◌≡◌, ℕ, List, [], ◌∷◌, ◌++◌, length, Result, Ok, Err, refl, sym, subst}
+use Rattle.std.specs.Prelude.{IfOk, IfSome}
+use Rattle.job_core.specs.declared.command.Command.{Command}
+use Rattle.job_core.specs.declared.command.Refusal.{Refusal}
+use Rattle.job_core.specs.declared.command.Summary.{Summary}
+use Rattle.job_core.specs.Reply.{Reply}
+use Rattle.job_core.specs.NamedBytes.{NamedBytes}
+use Rattle.job_core.specs.Machine.{Machine, first_machine}
+use Rattle.job_core.specs.Runs.{Seen, Run, Holds, KeepsTo, RunsTo, FinishesTo}
+use Rattle.job_core.specs.Shown.{FilesPages}
+use Rattle.job_core.specs.Headline.{IsDone}
+
+run_behind :
+    (m : Machine) (n : ℕ) (commands : List Command) (replies : List Reply) (middle : Machine) (i : ℕ) (more : List Command) (others : List Reply) (next : Machine) (k : ℕ)
+    → Run m n commands replies middle i → Run middle i more others next k → Run m n (commands ++ more) (replies ++ others) next k
+run_behind m n [] [] middle i more others next k (same, count) later =
+    subst (λ x. Run x n more others next k) same (subst (λ j. Run middle j more others next k) count later)
+run_behind m n [] (r ∷ replies) middle i more others next k run later = absurd run
+run_behind m n (c ∷ commands) [] middle i more others next k run later = absurd run
+run_behind m n (c ∷ commands) (r ∷ replies) middle i more others next k run later =
+    (run.0, run.1, run.2, run_behind run.0 run.1 commands replies middle i more others next k run.3 later)
+
+pub runs_behind :
+    (old middle new : Seen) (commands more : List Command) (replies others : List Reply)
+    → RunsTo old commands replies middle → RunsTo middle more others new → RunsTo old (commands ++ more) (replies ++ others) new
+runs_behind old middle new commands more replies others ran later m holds =
+    let first = ran m holds in
+    let last = later first.0 first.2 in
+    (last.0, run_behind m old.failed commands replies first.0 middle.failed more others last.0 new.failed first.1 last.1, last.2)
+
+pub no_run : (job : Seen) → RunsTo job [] [] job
+no_run job m holds = (m, (refl, refl), holds)
+
+pub one_run : (old new : Seen) (command : Command) (reply : Reply) → KeepsTo old command reply new → RunsTo old (command ∷ []) (reply ∷ []) new
+one_run old new command reply keeps m holds =
+    let next = keeps m holds in
+    (next.0, (next.0, new.failed, next.1, (refl, refl)), next.2)
+
+sized : (result : Result Summary Refusal) (run ended : Seen) (m : Machine) → Holds run m
+    → IfOk result (λ summary. (m : Machine) → Holds run m → IfSome ended.told (λ bytes. summary.bytes ≡ length bytes))
+    → IfOk result (λ summary. IfSome ended.told (λ bytes. summary.bytes ≡ length bytes))
+sized (Ok summary) run ended m holds size = size m holds
+sized (Err refusal) run ended m holds size = tt
+
+pub done :
+    (files : List NamedBytes) (commands : List Command) (replies : List Reply) (result : Result Summary Refusal) (new run ended : Seen)
+    → Holds new (first_machine files) → RunsTo new commands replies run → FinishesTo run result ended → FilesPages run result ended
+    → IfOk result (λ summary. (m : Machine) → Holds run m → IfSome ended.told (λ bytes. summary.bytes ≡ length bytes))
+    → IsDone files commands replies result new run ended
+done files commands replies result new run ended begins runs finishes files_pages size =
+    let goes = runs (first_machine files) begins in
+    let ends = finishes goes.0 goes.2 in
+    record {
+      machine = goes.0;
+      answers = goes.1;
+      state = goes.2.state;
+      last = ends.0;
+      finished = ends.1;
+      over = ends.2.state;
+      file = λ metrics. files_pages goes.0 metrics goes.2;
+      size = sized result run ended goes.0 goes.2 size;
+    }

@@ -1,0 +1,25 @@
+-- A job from its beginning to its end (own).
+use Rattle.std.specs.Prelude.{◌≡◌, List, length, Result, IfOk, OnOk, IfSome}
+use Rattle.dvi_ops.specs.Fonts.{Metrics}
+use Rattle.job_core.specs.declared.command.Command.{Command}
+use Rattle.job_core.specs.declared.command.Refusal.{Refusal}
+use Rattle.job_core.specs.declared.command.Summary.{Summary}
+use Rattle.job_core.specs.Reply.{Reply}
+use Rattle.job_core.specs.NamedBytes.{NamedBytes}
+use Rattle.job_core.specs.Machine.{Machine, first_machine}
+use Rattle.job_core.specs.Runs.{Seen, Run, Finishes}
+use Rattle.job_core.specs.Shown.{IsFileOf}
+
+-- A job that was new with these files has taken the commands, replied, and was ended with this result.
+pub record IsDone (files : List NamedBytes) (commands : List Command) (replies : List Reply) (result : Result Summary Refusal) (new run ended : Seen) : Type 0 where
+  -- The replies are a run of the machine, one a command, and the job has kept the state of that machine.
+  pub machine : Machine
+  pub answers : Run (first_machine files) new.failed commands replies machine run.failed
+  pub state : run.state ≡ machine.state
+  -- The result is an end of that machine.
+  pub last : Machine
+  pub finished : Finishes machine run.failed result last ended.failed
+  pub over : ended.state ≡ last.state
+  -- Where the end succeeds, the device has taken a DVI file of exactly the pages of that machine, and the summary has its length.
+  pub file : (metrics : Metrics) → OnOk result (IfSome ended.told (λ bytes. IsFileOf metrics bytes machine.pages))
+  pub size : IfOk result (λ summary. IfSome ended.told (λ bytes. summary.bytes ≡ length bytes))

@@ -1,0 +1,34 @@
+//! What holds of a job from its beginning to its end, as the contracts of functions that do nothing.
+
+ghost use Rattle.std.specs.Prelude.{◌≡◌, ◌++◌, [], ◌∷◌, List, length, Result, IfOk, IfSome};
+ghost use Rattle.job_core.specs.declared.command.Command.{Command};
+ghost use Rattle.job_core.specs.declared.command.Refusal.{Refusal};
+ghost use Rattle.job_core.specs.declared.command.Summary.{Summary};
+ghost use Rattle.job_core.specs.Reply.{Reply};
+ghost use Rattle.job_core.specs.NamedBytes.{NamedBytes};
+ghost use Rattle.job_core.specs.Machine.{Machine, first_machine};
+ghost use Rattle.job_core.specs.Runs.{Seen, Holds, KeepsTo, RunsTo, FinishesTo};
+ghost use Rattle.job_core.specs.Shown.{FilesPages};
+ghost use Rattle.job_core.specs.Headline.{IsDone};
+
+/// After any list of commands, each answer and the kept state are the abstract machine's, and the finished file, where every write
+/// succeeded, is by the DVI definition a well-formed file of exactly the machine's pages in order: the same rules, in the same order, at
+/// the same scaled points, under the same ten counts.
+///
+/// What it rests on is what `Job::new`, `Job::run` and `Job::finish` ensure, in this order.
+pub fn headline()
+    ensures { (files : List NamedBytes) (commands : List Command) (replies : List Reply) (result : Result Summary Refusal) (new run ended : Seen)
+        → Holds new (first_machine files)
+        → RunsTo new commands replies run
+        → FinishesTo run result ended → FilesPages run result ended
+        → IfOk result (λ summary. (m : Machine) → Holds run m → IfSome ended.told (λ bytes. summary.bytes ≡ length bytes))
+        → IsDone files commands replies result new run ended }
+{}
+
+/// Calls of `Job::step` and `Job::run` one after the other are one run of all their commands.
+pub fn runs_are_joined()
+    ensures none { (job : Seen) → RunsTo job [] [] job }
+    ensures step { (old new : Seen) (command : Command) (reply : Reply) → KeepsTo old command reply new → RunsTo old (command ∷ []) (reply ∷ []) new }
+    ensures behind { (old middle new : Seen) (commands more : List Command) (replies others : List Reply)
+        → RunsTo old commands replies middle → RunsTo middle more others new → RunsTo old (commands ++ more) (replies ++ others) new }
+{}
