@@ -84,7 +84,7 @@ laid_out_first : IsLaidOut first_draft at_first (bytes_of (preamble ∷ []))
 unfolding spelling operand
 laid_out_first = record { bytes = refl; last = refl; size = refl; depth = refl; known = refl }
 
-no_pushes : (page : Page) → nests (body_of page) ≡ 0
+pub no_pushes : (page : Page) → nests (body_of page) ≡ 0
 unfolding body_of
 no_pushes page = nests-drawn (pos 0) (pos 0) (marks_of_page page)
 
