@@ -1,24 +1,24 @@
 -- The end of the file that the writer writes for pages that ships make.
-use Rattle.std.proofs.Common.{◌≡◌, ◌≢◌, ℕ, zero, suc, ◌+◌, ◌≤◌, ◌<◌, ◌%◌, ◌^◌, List, [], ◌∷◌, ◌++◌, length, map, replicate, refl, ap, ap₂, sym, ◌∙◌, subst, arith, lit<, lit≤, length-append, append_assoc, append-nil}
-use Rattle.std.specs.Prelude.{ℤ, pos, negsuc, ◌≤ℤ◌, Bool, true, false, if◌then◌else◌, int_lt, cond, None}
+use Rattle.std.proofs.Common.{◌≡◌, ◌≢◌, ℕ, zero, suc, ◌+◌, ◌≤◌, ◌<◌, ◌%◌, ◌^◌, List, [], ◌∷◌, ◌++◌, length, map, replicate, refl, ap, ap₂, sym, ◌∙◌, subst, arith, lit<, length-append, append_assoc, append-nil}
+use Rattle.std.specs.Prelude.{ℤ, pos, negsuc, ◌≤ℤ◌, Bool, true, false, int_lt, cond, None}
 use Rattle.std.specs.Int.{int_max}
 use Rattle.std.specs.List.{AllByRecursion, Contains, flat_map}
 use Rattle.std.proofs.lemmas.Int.{ints, clamps}
-use Rattle.std.proofs.lemmas.List.{length-map, length-replicate}
+use Rattle.std.proofs.lemmas.List.{length-replicate}
 use Rattle.dvi_ops.specs.Instruction.{Instruction, Eop, Post, PostPost, Postamble, Pre}
 use Rattle.dvi_ops.specs.Forest.{flat}
 use Rattle.dvi_ops.specs.File.{Part, Shows, instructions, depth_of, Frame}
 use Rattle.dvi_ops.specs.Spelling.{spelling, NumberFits, NumbersFit, UnitsFit}
 use Rattle.dvi_ops.specs.Table.{Spells}
 use Rattle.dvi_ops.specs.Tokens.{IsSpelled}
-use Rattle.dvi_ops.specs.Layout.{bytes_of, preamble, scaled_points, Written, at_first, sheet_from, after, sheets_from, after_all, front_of, stop_of, ending_of, padding_after, IsWritable}
+use Rattle.dvi_ops.specs.Layout.{bytes_of, preamble, scaled_points, Written, at_first, sheet_from, after, sheets_from, after_all, front_of, stop_of, padding_after, IsWritable}
 use Rattle.dvi_ops.proofs.Appends.{all_append}
 use Rattle.dvi_ops.proofs.Layouts.{wrote, says-wrote, written-wrote}
 use Rattle.dvi_ops.proofs.Spelled.{written_is_spelled}
 use Rattle.dvi_ops.proofs.WholeFile.{padding_low, padding_fills, size_of_front}
 use Rattle.job_core.specs.Marks.{Page}
 use Rattle.job_core.specs.Drawing.{body_of}
-use Rattle.job_core.specs.Draft.{Draft, first_draft, draft_of, sheet_of, reach_down, reach_right, closed, whole, file_of}
+use Rattle.job_core.specs.Draft.{first_draft, draft_of, sheet_of, reach_down, reach_right, closed, whole, file_of}
 use Rattle.job_core.specs.Runs.{IsShipped}
 use Rattle.job_core.specs.Closing.{IsGreatestOf, IsClosedFor}
 use Rattle.job_core.proofs.FileLaws.{farthest, tall-is, wide-is, tall_fits, wide_fits, shipped_good, laid_out, whole-is, no_pushes}
