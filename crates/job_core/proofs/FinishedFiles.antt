@@ -1,5 +1,5 @@
 -- What a job's device tells behind the end is a DVI file of the machine's pages.
-use Rattle.std.proofs.Common.{◌≡◌, ◌≢◌, ℕ, ◌<◌, ◌^◌, List, [], length, Option, Some, None, refl, ap, sym, ◌∙◌, subst}
+use Rattle.std.proofs.Common.{◌≡◌, ◌≢◌, ℕ, ◌<◌, ◌^◌, List, [], length, Option, Some, None, ap, sym, ◌∙◌, subst}
 use Rattle.std.specs.Prelude.{false, IfSome}
 use Rattle.std.proofs.lemmas.List.{nil_from_length}
 use Rattle.dvi_ops.specs.Fonts.{Metrics}

@@ -1,7 +1,9 @@
 -- How the finished file ends (TeX: The Program, part 32; DVItype, 19 and 20).
 use Rattle.std.specs.Prelude.{◌≡◌, ◌≢◌, ◌≤◌, ◌≤ℤ◌, ◌%◌, [], ◌∷◌, ℕ, ℤ, pos, List, length, map, Result, OnOk, IfSome}
-use Rattle.std.specs.List.{AllByRecursion, Contains}
-use Rattle.dvi_ops.specs.File.{Frame}
+use Rattle.std.specs.List.{AllByRecursion, Contains, flat_map}
+use Rattle.dvi_ops.specs.Instruction.{Pre}
+use Rattle.dvi_ops.specs.Tokens.{says}
+use Rattle.dvi_ops.specs.File.{Part, instructions, depth_of, Frame}
 use Rattle.job_core.specs.declared.command.Refusal.{Refusal}
 use Rattle.job_core.specs.declared.command.Summary.{Summary}
 use Rattle.job_core.specs.Marks.{Page}
@@ -14,14 +16,16 @@ pub record IsGreatestOf (numbers : List ℤ) (greatest : ℤ) : Type 0 where
   pub bounds : AllByRecursion (λ z. z ≤ℤ greatest) numbers
   pub reached : Contains numbers greatest
 
--- The bytes end as a file of these pages does. Their frame is that of the DVI definition.
+-- The bytes end as a file of these pages does. Their frame and their parts are those of the DVI definition.
 pub record IsClosedFor (bytes : List ℕ) (pages : List Page) : Type 0 where
   pub frame : Frame bytes
+  pub parts : List Part
+  pub front_is : says frame.front ≡ Pre 2 frame.stop.units [] ∷ flat_map instructions parts
   -- post has the greatest reaches of the pages down and to the right, at least 0.
   pub tall : IsGreatestOf (pos 0 ∷ map reach_down pages) frame.stop.height_plus_depth
   pub wide : IsGreatestOf (pos 0 ∷ map reach_right pages) frame.stop.width
-  -- post has the greatest number of open pushes: no page opens one yet.
-  pub deep : frame.stop.stack_depth ≡ 0
+  -- It has the greatest number of pushes that are open at once.
+  pub deep : IsGreatestOf (pos 0 ∷ map (λ part. pos (depth_of part)) parts) (pos frame.stop.stack_depth)
   -- Four to seven bytes 223 fill the length up to a multiple of 4.
   pub least : 4 ≤ frame.padding
   pub most : frame.padding ≤ 7

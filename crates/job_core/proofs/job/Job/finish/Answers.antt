@@ -1,5 +1,4 @@
-use Rattle.std.proofs.Common.{◌≡◌, ◌≢◌, false, length, refl, ap, sym, ◌∙◌, arith}
-use Rattle.std.specs.Prelude.{not, ◌==◌}
+use Rattle.std.proofs.Common.{◌≢◌, length, refl, ap, sym, ◌∙◌, arith}
 use Rattle.job_core.proofs.Endings.{may_finish, over_refused, open_refused, finished, losing}
 use Rattle.job_core.specs.Told.{grown}
 use Rattle.job_core.specs.Draft.{whole}
