@@ -8,5 +8,5 @@ pub record Fraction : Type 0 where
   pub den : ℤ
 
 -- that fraction of an amount, rounded to the nearest whole number, halves away from zero (own)
-unfoldable pub fraction_of : Fraction → ℤ → ℤ
-fraction_of f amount = rounded (f.num *ℤ amount) (unsigned_abs f.den)
+unfoldable pub round_times : Fraction → ℤ → ℤ
+round_times f amount = rounded (f.num *ℤ amount) (unsigned_abs f.den)

@@ -63,6 +63,7 @@ pub fn nearest_number()
 {}
 
 /// Halves are rounded away from zero, and other fractions to the nearest whole number.
+#[tactic(auto, unfolding(crate::specs::Rounding::rounded, crate::specs::Rounding::nearest))]
 pub fn rounded_fractions()
     ensures half { rounded (pos 1) 2 ≡ pos 1 }
     ensures minus_half { rounded (negsuc 0) 2 ≡ negsuc 0 }
@@ -79,6 +80,7 @@ pub fn one_badness()
 
 /// Glue that is stretched by all that it can stretch has badness 100; where it cannot stretch, 10000. From 7230585 on, the ratio
 /// is a quotient by `s / 297`, and where `s` is too small for that, it is `t` itself.
+#[tactic(auto, unfolding(crate::specs::Badness::badness_of, crate::specs::Badness::badness_ratio, crate::specs::Badness::ratio_badness, crate::specs::Rounding::nearest))]
 pub fn badness_values()
     ensures whole { badness_of (pos 65536) (pos 65536) ≡ 100 }
     ensures nothing { badness_of (pos 0) (pos 0) ≡ 0 }
