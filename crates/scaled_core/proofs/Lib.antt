@@ -5,3 +5,5 @@ pub mod ReadingCases
 pub mod PrintingLemmas
 pub mod PrintedTexts
 pub mod PrintScaled
+pub mod RoundingLaws
+pub mod BadnessLaws

@@ -1,10 +1,12 @@
 //! Laws of the definitions, each on a function that does nothing.
 
-ghost use Rattle.std.specs.Prelude.{◌≡◌, ◌↔◌, ◌++◌, ◌+◌, ◌*◌, ◌<◌, ◌≤◌, ℕ, ℤ, pos, negsuc, List, Some, Ok, codes, length};
+ghost use Rattle.std.specs.Prelude.{◌≡◌, ◌↔◌, ◌++◌, ◌+◌, ◌*◌, ◌<◌, ◌≤◌, ◌≤ℤ◌, ℕ, ℤ, pos, negsuc, List, Some, Ok, codes, length};
 ghost use Rattle.scaled_core.specs.Dimensions.{Fits};
 ghost use Rattle.scaled_core.specs.DimensionTexts.{IsDimensionText, decimal_fraction};
 ghost use Rattle.scaled_core.specs.ParsedTexts.{dimension_value, read_dimension};
 ghost use Rattle.scaled_core.specs.PrintedDimensions.{dimension_text, print_scaled, shortest_fraction};
+ghost use Rattle.scaled_core.specs.Rounding.{IsNearest, IsRounded, nearest, rounded};
+ghost use Rattle.scaled_core.specs.Badness.{IsBadness, badness_of};
 
 /// A text writes a dimension exactly where `dimension_value` gives one, and it is the one that it gives: each text has at most
 /// one value.
@@ -51,4 +53,38 @@ pub fn printed_texts()
     ensures five { dimension_text (pos 10) ≡ codes "0.00015" }
     ensures one { dimension_text (pos 65536) ≡ codes "1.0" }
     ensures minus { dimension_text (negsuc 65535) ≡ codes "-1.0" }
+{}
+
+/// A whole number is nearest to a fraction exactly where it is the one that `nearest` or `rounded` gives: there is one, for each
+/// denominator above 0.
+pub fn nearest_number()
+    ensures upward { (n : ℕ) → (d : ℕ) → (q : ℕ) → 0 < d → (IsNearest n d q ↔ (q ≡ nearest n d)) }
+    ensures away_from_zero { (x : ℤ) → (d : ℕ) → (q : ℤ) → 0 < d → (IsRounded x d q ↔ (q ≡ rounded x d)) }
+{}
+
+/// Halves are rounded away from zero, and other fractions to the nearest whole number.
+#[tactic(auto, unfolding(crate::specs::Rounding::rounded, crate::specs::Rounding::nearest))]
+pub fn rounded_fractions()
+    ensures half { rounded (pos 1) 2 ≡ pos 1 }
+    ensures minus_half { rounded (negsuc 0) 2 ≡ negsuc 0 }
+    ensures third { rounded (pos 1) 3 ≡ pos 0 }
+    ensures two_thirds { rounded (pos 2) 3 ≡ pos 1 }
+    ensures minus_two_thirds { rounded (negsuc 1) 3 ≡ negsuc 0 }
+{}
+
+/// A number is the badness of `t` for `s` exactly where it is the one that `badness_of` gives: there is one, for each `t` not
+/// below 0.
+pub fn one_badness()
+    ensures { (t : ℤ) → (s : ℤ) → (b : ℕ) → pos 0 ≤ℤ t → (IsBadness t s b ↔ (b ≡ badness_of t s)) }
+{}
+
+/// Glue that is stretched by all that it can stretch has badness 100; where it cannot stretch, 10000. From 7230585 on, the ratio
+/// is a quotient by `s / 297`, and where `s` is too small for that, it is `t` itself.
+#[tactic(auto, unfolding(crate::specs::Badness::badness_of, crate::specs::Badness::badness_ratio, crate::specs::Badness::ratio_badness, crate::specs::Rounding::nearest))]
+pub fn badness_values()
+    ensures whole { badness_of (pos 65536) (pos 65536) ≡ 100 }
+    ensures nothing { badness_of (pos 0) (pos 0) ≡ 0 }
+    ensures rigid { badness_of (pos 1) (pos 0) ≡ 10000 }
+    ensures small_stretch { badness_of (pos 7230585) (pos 1663496) ≡ 10000 }
+    ensures large_stretch { badness_of (pos 7230585) (pos 1663497) ≡ 8189 }
 {}

@@ -1,17 +1,21 @@
-//! Scaled arithmetic: dimensions, and their texts.
+//! Scaled arithmetic: dimensions and their texts, badness, and exact fractions.
 //!
 //! All quantities are whole numbers of scaled points, of which 65536 make a printer's point.
 #![tactic(auto)]
 
 pub mod dimen;
 pub mod fault;
+mod glue;
 pub mod laws;
 mod printing;
+pub mod ratio;
 mod reading;
 mod rounding;
 mod units;
 
 pub use dimen::Dimen;
 pub use fault::DimenFault;
+pub use glue::badness;
 pub use printing::print_dimen;
+pub use ratio::Ratio;
 pub use reading::parse_dimen;

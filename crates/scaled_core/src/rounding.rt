@@ -1,16 +1,34 @@
 //! Rounding.
 
-ghost use Rattle.std.specs.Prelude.{◌≡◌, ◌*◌, ◌^◌, ◌<◌};
-ghost use Rattle.scaled_core.specs.Rounding.{IsNearest, nearest};
+ghost use Rattle.std.specs.Prelude.{◌≡◌, ◌*◌, ◌^◌, ◌<◌, ◌≤◌, unsigned_abs};
+ghost use Rattle.scaled_core.specs.Dimensions.{Within};
+ghost use Rattle.scaled_core.specs.Rounding.{IsNearest, IsRounded, nearest, rounded};
 
 /// The whole number nearest to `n / d`, halves upward.
 #[tactic(auto, unfolding(crate::specs::Rounding::nearest))]
 pub fn nearest(n: u128, d: u128) -> u128
-    requires n { n < 2 ^ 126 }
+    requires n { n ≤ 2 ^ 126 }
     requires d { d < 2 ^ 126 }
     requires not_zero { 0 < d }
     ensures nearest { IsNearest n d result }
     ensures value { result ≡ nearest n d }
+    ensures small { result ≤ n }
 {
     (2 * n + d) / (2 * d)
+}
+
+/// The whole number nearest to `x / d`, halves away from zero.
+#[tactic(auto, unfolding(crate::specs::Rounding::rounded))]
+pub fn rounded(x: i128, d: u64) -> i128
+    requires x { unsigned_abs x ≤ 2 ^ 126 }
+    requires d { 0 < d }
+    ensures nearest { IsRounded x d result }
+    ensures value { result ≡ rounded x d }
+    ensures small { Within (2 ^ 126) result }
+{
+    let size = nearest(x.unsigned_abs(), u128::from(d)) as i128;
+    if x < 0 {
+        return -size;
+    }
+    size
 }
