@@ -1,1 +1,2 @@
 pub mod ScalingLemmas
+pub mod TableLemmas

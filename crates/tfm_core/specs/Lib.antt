@@ -1,1 +1,4 @@
+pub mod MetricFile
+pub mod Rules
 pub mod Scaling
+pub mod Words

@@ -1,6 +1,11 @@
 //! Font metric files, and fonts at a size (TFtoPL; TeX: The Program, part 30).
 #![tactic(auto)]
 
+mod entries;
+pub mod fault;
+mod places;
+pub mod record;
 pub mod scaling;
 
+pub use fault::{FontFault, TfmCause, TfmFault};
 pub use scaling::{FontSize, scaled};

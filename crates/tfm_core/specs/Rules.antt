@@ -1,0 +1,135 @@
+-- The rules of a metric file, each as a test that says where it is broken (TeX: The Program, part 30).
+use Rattle.std.specs.Prelude.{◌≡◌, ◌==◌, ◌&&◌, ◌||◌, ◌+◌, ◌-◌, ◌*◌, ◌/◌, ◌<◌, ℕ, ℤ, pos, Bool, true, false, not, List, [], ◌∷◌, Option, Some, None, Result, Ok, Err, if◌then◌else◌, int_lt, length, drop, take, nat_le, nat_lt, slice_get, unsigned_abs, IsTrue, IsFalse}
+use Rattle.std.specs.List.{AllByRecursion, enumerate_from, find, list_any}
+use Rattle.std.specs.Ordering.{int_eq}
+use Rattle.tfm_core.specs.declared.fault.TfmCause.{TfmCause}
+use Rattle.tfm_core.specs.declared.fault.TfmCause.TheVariants.{TooShort, Counts, DesignSize, CharInfo, FixWord, LigKern}
+use Rattle.tfm_core.specs.declared.record.CharInfo.{CharInfo as Info}
+use Rattle.tfm_core.specs.declared.record.Counts.{Counts as Numbers}
+use Rattle.tfm_core.specs.declared.record.LigKernStep.{LigKernStep}
+use Rattle.tfm_core.specs.declared.record.Tag.{Tag}
+use Rattle.tfm_core.specs.declared.record.Tag.TheVariants.{Plain, Program, Larger, Recipe}
+use Rattle.tfm_core.specs.MetricFile.{MetricFile, StandsIn, character_count, counts_in, end_place, record_in}
+use Rattle.tfm_core.specs.Scaling.{is_fix_word}
+
+-- TooShort: fewer than 24 bytes, or than the file's words
+unfoldable pub is_too_short : List ℕ → Bool
+is_too_short bytes = nat_lt (length bytes) 24 || nat_lt (length bytes) (4 * (counts_in bytes).file)
+
+abbrev pub twelve : Numbers → List ℕ
+twelve c =
+    c.file ∷ c.header ∷ c.first ∷ c.last ∷ c.widths ∷ c.heights ∷ c.depths ∷ c.italics ∷ c.steps ∷ c.kerns ∷ c.recipes ∷ c.parameters ∷ []
+
+-- Counts: one of the twelve is 32768 or more; or bc > ec + 1, ec > 255, lh < 2 or no width, height, depth or italic;
+-- or the tables do not fill the file
+unfoldable pub breaks_counts : Numbers → Bool
+breaks_counts c =
+    list_any (nat_le 32768) (twelve c)
+    || (nat_lt (c.last + 1) c.first || nat_lt 255 c.last || nat_lt c.header 2)
+    || (c.widths == 0 || c.heights == 0 || c.depths == 0 || c.italics == 0)
+    || not (c.file == end_place c)
+
+-- DesignSize: the word is negative, or its sixteenth is below 65536
+unfoldable pub breaks_design_size : ℤ → Bool
+breaks_design_size word = int_lt word (pos 0) || nat_lt (unsigned_abs word / 16) 65536
+
+-- a program begins past the steps
+abbrev pub begins_past : ℕ → Tag → Bool
+begins_past steps (Program start) = nat_le steps start
+begins_past steps Plain = false
+begins_past steps (Larger c) = false
+begins_past steps (Recipe r) = false
+
+-- an index of a character is past its table, or its program begins past the steps
+unfoldable pub breaks_character : MetricFile → Info → Bool
+breaks_character file c =
+    nat_le (length file.widths) c.width
+    || nat_le (length file.heights) c.height
+    || nat_le (length file.depths) c.depth
+    || nat_le (length file.italics) c.italic
+    || begins_past (length file.steps) c.tag
+
+-- CharInfo: of some character, also of one that is not there
+unfoldable pub breaks_char_info : MetricFile → Bool
+breaks_char_info file = list_any (breaks_character file) file.characters
+
+-- some word is no fix word
+unfoldable pub has_other_word : List ℤ → Bool
+has_other_word words = list_any (λ word. not (is_fix_word word)) words
+
+-- the first word is not 0
+abbrev pub begins_otherwise : List ℤ → Bool
+begins_otherwise [] = false
+begins_otherwise (word ∷ words) = not (int_eq word (pos 0))
+
+-- the parameters 2, 3 and 4, as far as there are any: space, stretch and shrink; parameters count from 1
+abbrev pub space_words : List ℤ → List ℤ
+space_words parameters = take 3 (drop 1 parameters)
+
+-- FixWord: a width, height, depth, italic, kern or parameter 2, 3, 4 is no fix word, or entry 0 of one of the first four tables is not 0
+unfoldable pub breaks_fix_word : MetricFile → Bool
+breaks_fix_word file =
+    (has_other_word file.widths || has_other_word file.heights || has_other_word file.depths || has_other_word file.italics)
+    || (has_other_word file.kerns || has_other_word (space_words file.parameters))
+    || (begins_otherwise file.widths || begins_otherwise file.heights || begins_otherwise file.depths || begins_otherwise file.italics)
+
+-- what the file says of a code, from the first one on
+abbrev pub info_at : ℕ → List Info → ℕ → Option Info
+info_at first characters code = if nat_lt code first then None else slice_get characters (code - first)
+
+-- the character is there: the file says something of it, with a width index that is not 0
+abbrev pub has_width : Option Info → Bool
+has_width None = false
+has_width (Some c) = not (c.width == 0)
+
+unfoldable pub is_there : ℕ → List Info → ℕ → Bool
+is_there first characters code = has_width (info_at first characters code)
+
+-- a step number k of those steps and kerns: a restart past the steps; or a kern past the kerns, a ligature with a character that is not
+-- there, or a next step past the steps
+unfoldable pub breaks_step : MetricFile → ℕ × LigKernStep → Bool
+breaks_step file (k, s) =
+    if nat_lt 128 s.skip then nat_le (length file.steps) (256 * s.op + s.remainder)
+    else ((nat_le 128 s.op && nat_le (length file.kerns) (256 * (s.op - 128) + s.remainder))
+    || ((s.op == 0) && not (is_there file.counts.first file.characters s.remainder))
+    || (nat_lt s.skip 128 && nat_le (length file.steps) (k + s.skip + 1)))
+
+-- LigKern: of some step
+unfoldable pub breaks_lig_kern : MetricFile → Bool
+breaks_lig_kern file = list_any (breaks_step file) (enumerate_from 0 file.steps)
+
+-- the rule of that name is broken
+abbrev pub is_broken : List ℕ → TfmCause → Bool
+is_broken bytes TooShort = is_too_short bytes
+is_broken bytes Counts = breaks_counts (counts_in bytes)
+is_broken bytes DesignSize = breaks_design_size (record_in bytes).design_word
+is_broken bytes CharInfo = breaks_char_info (record_in bytes)
+is_broken bytes FixWord = breaks_fix_word (record_in bytes)
+is_broken bytes LigKern = breaks_lig_kern (record_in bytes)
+
+-- the rules before that one, in the order in which they are named
+abbrev pub rules_before : TfmCause → List TfmCause
+rules_before TooShort = []
+rules_before Counts = TooShort ∷ []
+rules_before DesignSize = TooShort ∷ Counts ∷ []
+rules_before CharInfo = TooShort ∷ Counts ∷ DesignSize ∷ []
+rules_before FixWord = TooShort ∷ Counts ∷ DesignSize ∷ CharInfo ∷ []
+rules_before LigKern = TooShort ∷ Counts ∷ DesignSize ∷ CharInfo ∷ FixWord ∷ []
+
+-- the bytes break that rule and none before it
+pub record IsFirstBroken (bytes : List ℕ) (cause : TfmCause) : Type 0 where
+  pub broken : IsTrue (is_broken bytes cause)
+  pub kept : AllByRecursion (λ before. IsFalse (is_broken bytes before)) (rules_before cause)
+
+-- the bytes are a metric file with that record: each entry stands at its place, and no rule is broken
+pub record IsMetricFile (bytes : List ℕ) (file : MetricFile) : Type 0 where
+  pub stands : StandsIn bytes file
+  pub kept : (cause : TfmCause) → IsFalse (is_broken bytes cause)
+
+-- the first broken rule, if one is
+unfoldable pub first_broken : List ℕ → Option TfmCause
+first_broken bytes = find (is_broken bytes) (TooShort ∷ Counts ∷ DesignSize ∷ CharInfo ∷ FixWord ∷ LigKern ∷ [])
+
+-- what the bytes hold: the record, or the first broken rule
+unfoldable pub metric_file : List ℕ → Result MetricFile TfmCause
+metric_file bytes = elim (first_broken bytes) [ None ↦ Ok (record_in bytes) | Some cause ↦ Err cause ]
