@@ -20,14 +20,21 @@ abbrev pub twelve : Numbers → List ℕ
 twelve c =
     c.file ∷ c.header ∷ c.first ∷ c.last ∷ c.widths ∷ c.heights ∷ c.depths ∷ c.italics ∷ c.steps ∷ c.kerns ∷ c.recipes ∷ c.parameters ∷ []
 
--- Counts: one of the twelve is 32768 or more; or bc > ec + 1, ec > 255, lh < 2 or no width, height, depth or italic;
--- or the tables do not fill the file
+-- one of the twelve is 32768 or more
+unfoldable pub has_large_number : Numbers → Bool
+has_large_number c = list_any (nat_le 32768) (twelve c)
+
+-- the first code is above the last by more than 1, or the last is above 255
+unfoldable pub has_wrong_codes : Numbers → Bool
+has_wrong_codes c = nat_lt (c.last + 1) c.first || nat_lt 255 c.last
+
+-- the header has fewer than 2 words, or there is no width, height, depth or italic
+unfoldable pub lacks_a_table : Numbers → Bool
+lacks_a_table c = nat_lt c.header 2 || c.widths == 0 || c.heights == 0 || c.depths == 0 || c.italics == 0
+
+-- Counts: one of those, or the tables do not fill the file
 unfoldable pub breaks_counts : Numbers → Bool
-breaks_counts c =
-    list_any (nat_le 32768) (twelve c)
-    || (nat_lt (c.last + 1) c.first || nat_lt 255 c.last || nat_lt c.header 2)
-    || (c.widths == 0 || c.heights == 0 || c.depths == 0 || c.italics == 0)
-    || not (c.file == end_place c)
+breaks_counts c = has_large_number c || has_wrong_codes c || lacks_a_table c || not (c.file == end_place c)
 
 -- DesignSize: the word is negative, or its sixteenth is below 65536
 unfoldable pub breaks_design_size : ℤ → Bool
@@ -66,12 +73,22 @@ begins_otherwise (word ∷ words) = not (int_eq word (pos 0))
 abbrev pub space_words : List ℤ → List ℤ
 space_words parameters = take 3 (drop 1 parameters)
 
--- FixWord: a width, height, depth, italic, kern or parameter 2, 3, 4 is no fix word, or entry 0 of one of the first four tables is not 0
+-- a width, height, depth or italic is no fix word
+unfoldable pub has_other_size : MetricFile → Bool
+has_other_size file = has_other_word file.widths || has_other_word file.heights || has_other_word file.depths || has_other_word file.italics
+
+-- a kern or a parameter 2, 3, 4 is no fix word
+unfoldable pub has_other_distance : MetricFile → Bool
+has_other_distance file = has_other_word file.kerns || has_other_word (space_words file.parameters)
+
+-- entry 0 of the widths, heights, depths or italics is not 0
+unfoldable pub begins_wrong : MetricFile → Bool
+begins_wrong file =
+    begins_otherwise file.widths || begins_otherwise file.heights || begins_otherwise file.depths || begins_otherwise file.italics
+
+-- FixWord: one of those
 unfoldable pub breaks_fix_word : MetricFile → Bool
-breaks_fix_word file =
-    (has_other_word file.widths || has_other_word file.heights || has_other_word file.depths || has_other_word file.italics)
-    || (has_other_word file.kerns || has_other_word (space_words file.parameters))
-    || (begins_otherwise file.widths || begins_otherwise file.heights || begins_otherwise file.depths || begins_otherwise file.italics)
+breaks_fix_word file = has_other_size file || has_other_distance file || begins_wrong file
 
 -- what the file says of a code, from the first one on
 abbrev pub info_at : ℕ → List Info → ℕ → Option Info
@@ -85,14 +102,17 @@ has_width (Some c) = not (c.width == 0)
 unfoldable pub is_there : ℕ → List Info → ℕ → Bool
 is_there first characters code = has_width (info_at first characters code)
 
--- a step number k of those steps and kerns: a restart past the steps; or a kern past the kerns, a ligature with a character that is not
--- there, or a next step past the steps
+-- a step gives a kern past the kerns, or a ligature with a character that is not there
+unfoldable pub names_past : MetricFile → LigKernStep → Bool
+names_past file s =
+    if nat_le 128 s.op then nat_le (length file.kerns) (256 * (s.op - 128) + s.remainder)
+    else ((s.op == 0) && not (is_there file.counts.first file.characters s.remainder))
+
+-- step k is a restart past the steps; or it is none, and it names past, or the next step is past the steps
 unfoldable pub breaks_step : MetricFile → ℕ × LigKernStep → Bool
 breaks_step file (k, s) =
     if nat_lt 128 s.skip then nat_le (length file.steps) (256 * s.op + s.remainder)
-    else ((nat_le 128 s.op && nat_le (length file.kerns) (256 * (s.op - 128) + s.remainder))
-    || ((s.op == 0) && not (is_there file.counts.first file.characters s.remainder))
-    || (nat_lt s.skip 128 && nat_le (length file.steps) (k + s.skip + 1)))
+    else (names_past file s || (nat_lt s.skip 128 && nat_le (length file.steps) (k + s.skip + 1)))
 
 -- LigKern: of some step
 unfoldable pub breaks_lig_kern : MetricFile → Bool
@@ -130,6 +150,10 @@ pub record IsMetricFile (bytes : List ℕ) (file : MetricFile) : Type 0 where
 unfoldable pub first_broken : List ℕ → Option TfmCause
 first_broken bytes = find (is_broken bytes) (TooShort ∷ Counts ∷ DesignSize ∷ CharInfo ∷ FixWord ∷ LigKern ∷ [])
 
+abbrev pub record_unless : MetricFile → Option TfmCause → Result MetricFile TfmCause
+record_unless file None = Ok file
+record_unless file (Some cause) = Err cause
+
 -- what the bytes hold: the record, or the first broken rule
 unfoldable pub metric_file : List ℕ → Result MetricFile TfmCause
-metric_file bytes = elim (first_broken bytes) [ None ↦ Ok (record_in bytes) | Some cause ↦ Err cause ]
+metric_file bytes = record_unless (record_in bytes) (first_broken bytes)

@@ -5,6 +5,7 @@ mod entries;
 pub mod fault;
 mod places;
 pub mod record;
+mod rules;
 pub mod scaling;
 
 pub use fault::{FontFault, TfmCause, TfmFault};

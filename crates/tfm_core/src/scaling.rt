@@ -84,7 +84,7 @@ fn kept_size(size: FontSize) -> u32
 
 /// Whether the first byte of a word is 0 or 255.
 #[tactic(auto, unfolding(crate::specs::Scaling::is_fix_word))]
-fn is_fix_word(word: i32) -> bool
+pub fn is_fix_word(word: i32) -> bool
     ensures value { result ≡ is_fix_word word }
 {
     matches!(word.cast_unsigned() / (1 << 24), 0 | 255)
