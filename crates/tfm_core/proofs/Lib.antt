@@ -1,2 +1,4 @@
+pub mod ReadingLemmas
+pub mod RuleLemmas
 pub mod ScalingLemmas
 pub mod TableLemmas

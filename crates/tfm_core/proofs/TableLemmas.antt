@@ -1,7 +1,7 @@
 -- Tables of a metric file.
-use Rattle.std.proofs.Common.{◌≡◌, ℤ, ℕ, ◌+◌, ◌*◌, ◌<◌, List, [], ◌∷◌, ◌++◌, length, get_or, map, take, drop, ap, ◌-◌, refl}
+use Rattle.std.proofs.Common.{◌≡◌, ℤ, ℕ, ◌+◌, ◌*◌, ◌<◌, List, [], ◌∷◌, ◌++◌, length, get_or, map, take, drop, ap, ◌-◌, refl, sym, subst, ◌∙◌}
 use Rattle.std.specs.List.{range_with_len}
-use Rattle.std.proofs.lemmas.List.{take_rest}
+use Rattle.std.proofs.lemmas.List.{same_lists, take_rest}
 use Rattle.std.proofs.lemmas.List.FromFn.{map-range_with_len_more, length-map-range_with_len, get_or-map-range_with_len}
 use Rattle.tfm_core.specs.Words.{IsTable, from_word, signed_word, table}
 use Rattle.tfm_core.specs.MetricFile.{MetricFile, char_info, character_count, lig_kern_step, places_of, record_with}
@@ -29,6 +29,13 @@ IsTable-table entry bytes place count = record {
   length_is = length-map-range_with_len (λ i. entry (from_word bytes i)) place count;
   each = λ k past h. get_or-map-range_with_len (λ i. entry (from_word bytes i)) place count k (place + k) past h refl;
 }
+
+-- and no others
+pub table-unique : {X : Type 0} (entry : List ℕ → X) (bytes : List ℕ) (place count : ℕ) (entries : List X) → IsTable entry bytes place count entries → entries ≡ table entry bytes place count
+table-unique entry bytes place count entries h =
+    let t = IsTable-table entry bytes place count in
+    let long = h.length_is in
+    same_lists entries (table entry bytes place count) (long ∙ sym t.length_is) (λ k d l. let below : k < count = subst (λ (n : ℕ). k < n) long l in h.each k d below ∙ sym (t.each k d below))
 
 -- a table with its next entry behind it, which was read from the rest of the bytes
 pub table_pushed : {X : Type 0} (entry : List ℕ → X) (bytes : List ℕ) (place k : ℕ) (old new : List X) (x : X) → new ≡ old ++ x ∷ [] → old ≡ table entry bytes place k → x ≡ entry (take (length bytes - 4 * (place + k)) (drop (4 * (place + k)) bytes)) → new ≡ table entry bytes place (k + 1)

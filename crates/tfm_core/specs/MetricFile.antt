@@ -1,5 +1,5 @@
 -- A metric file: its record, and where each entry of the record stands in the bytes (TFtoPL, 8 to 13).
-use Rattle.std.specs.Prelude.{◌≡◌, ◌==◌, ◌+◌, ◌-◌, ◌*◌, ◌/◌, ◌%◌, ℕ, ℤ, List, if◌then◌else◌, slice_index}
+use Rattle.std.specs.Prelude.{◌≡◌, ◌==◌, ◌+◌, ◌-◌, ◌*◌, ◌/◌, ◌%◌, ℕ, ℤ, List, length, ◌≤◌, if◌then◌else◌, slice_index}
 use Rattle.tfm_core.specs.declared.record.Counts.{Counts}
 use Rattle.tfm_core.specs.declared.record.CharInfo.{CharInfo}
 use Rattle.tfm_core.specs.declared.record.LigKernStep.{LigKernStep}
@@ -114,11 +114,24 @@ places_of c = record {
   end = end_place c;
 }
 
+-- the bytes have room for the twelve numbers, the first two words of the header and all tables
+pub record HasTables (bytes : List ℕ) : Type 0 where
+  pub numbers : 24 ≤ length bytes
+  pub header : 2 ≤ (counts_in bytes).header
+  pub tables : 4 * end_place (counts_in bytes) ≤ length bytes
+
+-- the header's words 0 and 1
+abbrev pub check_sum_in : List ℕ → ℤ
+check_sum_in bytes = signed_word (from_word bytes 6)
+
+abbrev pub design_word_in : List ℕ → ℤ
+design_word_in bytes = signed_word (from_word bytes 7)
+
 -- each entry of the record is what stands at its place in the bytes (TFtoPL, 8 to 13)
 pub record StandsIn (bytes : List ℕ) (file : MetricFile) : Type 0 where
   pub counts : file.counts ≡ counts_in bytes
-  pub check_sum : file.check_sum ≡ signed_word (from_word bytes 6)
-  pub design_word : file.design_word ≡ signed_word (from_word bytes 7)
+  pub check_sum : file.check_sum ≡ check_sum_in bytes
+  pub design_word : file.design_word ≡ design_word_in bytes
   pub characters : IsTable char_info bytes (characters_place file.counts) (character_count file.counts) file.characters
   pub widths : IsTable signed_word bytes (widths_place file.counts) file.counts.widths file.widths
   pub heights : IsTable signed_word bytes (heights_place file.counts) file.counts.heights file.heights
@@ -132,8 +145,8 @@ pub record StandsIn (bytes : List ℕ) (file : MetricFile) : Type 0 where
 unfoldable pub record_with : Counts → List ℕ → MetricFile
 record_with counts bytes = record {
   counts = counts;
-  check_sum = signed_word (from_word bytes 6);
-  design_word = signed_word (from_word bytes 7);
+  check_sum = check_sum_in bytes;
+  design_word = design_word_in bytes;
   characters = table char_info bytes (characters_place counts) (character_count counts);
   widths = table signed_word bytes (widths_place counts) counts.widths;
   heights = table signed_word bytes (heights_place counts) counts.heights;

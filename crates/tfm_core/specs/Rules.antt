@@ -9,7 +9,7 @@ use Rattle.tfm_core.specs.declared.record.Counts.{Counts as Numbers}
 use Rattle.tfm_core.specs.declared.record.LigKernStep.{LigKernStep}
 use Rattle.tfm_core.specs.declared.record.Tag.{Tag}
 use Rattle.tfm_core.specs.declared.record.Tag.TheVariants.{Plain, Program, Larger, Recipe}
-use Rattle.tfm_core.specs.MetricFile.{MetricFile, StandsIn, character_count, counts_in, end_place, record_in}
+use Rattle.tfm_core.specs.MetricFile.{MetricFile, StandsIn, character_count, counts_in, design_word_in, end_place, record_in}
 use Rattle.tfm_core.specs.Scaling.{is_fix_word}
 
 -- TooShort: fewer than 24 bytes, or than the file's words
@@ -122,7 +122,7 @@ breaks_lig_kern file = list_any (breaks_step file) (enumerate_from 0 file.steps)
 abbrev pub is_broken : List ℕ → TfmCause → Bool
 is_broken bytes TooShort = is_too_short bytes
 is_broken bytes Counts = breaks_counts (counts_in bytes)
-is_broken bytes DesignSize = breaks_design_size (record_in bytes).design_word
+is_broken bytes DesignSize = breaks_design_size (design_word_in bytes)
 is_broken bytes CharInfo = breaks_char_info (record_in bytes)
 is_broken bytes FixWord = breaks_fix_word (record_in bytes)
 is_broken bytes LigKern = breaks_lig_kern (record_in bytes)
@@ -149,6 +149,25 @@ pub record IsMetricFile (bytes : List ℕ) (file : MetricFile) : Type 0 where
 -- the first broken rule, if one is
 unfoldable pub first_broken : List ℕ → Option TfmCause
 first_broken bytes = find (is_broken bytes) (TooShort ∷ Counts ∷ DesignSize ∷ CharInfo ∷ FixWord ∷ LigKern ∷ [])
+
+-- the first broken one of the rules that need no table
+unfoldable pub broken_in_front : List ℕ → Option TfmCause
+broken_in_front bytes = find (is_broken bytes) (TooShort ∷ Counts ∷ DesignSize ∷ [])
+
+-- the first broken one of the other rules
+unfoldable pub broken_in_tables : MetricFile → Option TfmCause
+broken_in_tables file =
+    if breaks_char_info file then Some CharInfo
+    else (if breaks_fix_word file then Some FixWord
+    else (if breaks_lig_kern file then Some LigKern
+    else None))
+
+-- a record that keeps the rules, but for those of its places
+pub record KeepsRules (file : MetricFile) : Type 0 where
+  pub design_size : breaks_design_size file.design_word ≡ false
+  pub char_info : breaks_char_info file ≡ false
+  pub fix_word : breaks_fix_word file ≡ false
+  pub lig_kern : breaks_lig_kern file ≡ false
 
 abbrev pub record_unless : MetricFile → Option TfmCause → Result MetricFile TfmCause
 record_unless file None = Ok file

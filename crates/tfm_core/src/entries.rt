@@ -96,7 +96,7 @@ fn table<E: Entry>(
 }
 
 /// The signed number in word k.
-fn word(bytes: &[u8], k: usize) -> i32
+pub fn word(bytes: &[u8], k: usize) -> i32
     requires { 4 * (k + 1) ≤ length bytes.now }
     ensures value { result ≡ signed_word (from_word bytes.now k) }
     ensures fits { FitsSigned w32 result }

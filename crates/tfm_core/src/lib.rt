@@ -7,6 +7,8 @@ mod places;
 pub mod record;
 mod rules;
 pub mod scaling;
+pub mod tfm;
 
 pub use fault::{FontFault, TfmCause, TfmFault};
 pub use scaling::{FontSize, scaled};
+pub use tfm::Tfm;
