@@ -1,5 +1,5 @@
 -- The rules of a metric file, each as a test that says where it is broken (TeX: The Program, part 30).
-use Rattle.std.specs.Prelude.{◌≡◌, ◌==◌, ◌&&◌, ◌||◌, ◌+◌, ◌-◌, ◌*◌, ◌/◌, ◌<◌, ℕ, ℤ, pos, Bool, true, false, not, List, [], ◌∷◌, Option, Some, None, Result, Ok, Err, if◌then◌else◌, int_lt, length, drop, take, nat_le, nat_lt, slice_get, unsigned_abs, IsTrue, IsFalse}
+use Rattle.std.specs.Prelude.{◌≡◌, ◌==◌, ◌&&◌, ◌||◌, ◌+◌, ◌-◌, ◌*◌, ◌/◌, ◌<◌, ℕ, ℤ, pos, Bool, true, false, not, List, [], ◌∷◌, Option, Some, None, Result, Ok, Err, if◌then◌else◌, int_lt, length, drop, take, nat_le, nat_lt, slice_get, unsigned_abs, is_none, IsTrue, IsFalse}
 use Rattle.std.specs.List.{AllByRecursion, enumerate_from, find, list_any}
 use Rattle.std.specs.Ordering.{int_eq}
 use Rattle.tfm_core.specs.declared.fault.TfmCause.{TfmCause}
@@ -90,29 +90,27 @@ begins_wrong file =
 unfoldable pub breaks_fix_word : MetricFile → Bool
 breaks_fix_word file = has_other_size file || has_other_distance file || begins_wrong file
 
--- what the file says of a code, from the first one on
-abbrev pub info_at : ℕ → List Info → ℕ → Option Info
-info_at first characters code = if nat_lt code first then None else slice_get characters (code - first)
+-- the character is there where its width index is not 0 (TFtoPL, 11)
+abbrev pub with_width : Option Info → Option Info
+with_width None = None
+with_width (Some c) = if c.width == 0 then None else Some c
 
--- the character is there: the file says something of it, with a width index that is not 0
-abbrev pub has_width : Option Info → Bool
-has_width None = false
-has_width (Some c) = not (c.width == 0)
+-- the character of a code, if it is there; the list begins with the first code
+unfoldable pub character_at : ℕ → List Info → ℕ → Option Info
+character_at first characters code = if nat_lt code first then None else with_width (slice_get characters (code - first))
 
-unfoldable pub is_there : ℕ → List Info → ℕ → Bool
-is_there first characters code = has_width (info_at first characters code)
-
--- a step gives a kern past the kerns, or a ligature with a character that is not there
-unfoldable pub names_past : MetricFile → LigKernStep → Bool
-names_past file s =
-    if nat_le 128 s.op then nat_le (length file.kerns) (256 * (s.op - 128) + s.remainder)
-    else ((s.op == 0) && not (is_there file.counts.first file.characters s.remainder))
+-- a step gives a kern past that many kerns, or a ligature with a character that is not there
+unfoldable pub names_past : ℕ → List Info → ℕ → LigKernStep → Bool
+names_past first characters kerns s =
+    if nat_le 128 s.op then nat_le kerns (256 * (s.op - 128) + s.remainder)
+    else ((s.op == 0) && is_none (character_at first characters s.remainder))
 
 -- step k is a restart past the steps; or it is none, and it names past, or the next step is past the steps
 unfoldable pub breaks_step : MetricFile → ℕ × LigKernStep → Bool
 breaks_step file (k, s) =
     if nat_lt 128 s.skip then nat_le (length file.steps) (256 * s.op + s.remainder)
-    else (names_past file s || (nat_lt s.skip 128 && nat_le (length file.steps) (k + s.skip + 1)))
+    else (names_past file.counts.first file.characters (length file.kerns) s
+    || (nat_lt s.skip 128 && nat_le (length file.steps) (k + s.skip + 1)))
 
 -- LigKern: of some step
 unfoldable pub breaks_lig_kern : MetricFile → Bool

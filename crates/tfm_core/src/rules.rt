@@ -1,7 +1,7 @@
 //! The rules of a metric file (TeX: The Program, part 30).
 
 ghost use Rattle.std.specs.Prelude.{◌≡◌, ◌+◌, ◌<◌, length};
-ghost use Rattle.tfm_core.specs.Rules.{begins_otherwise, begins_past, begins_wrong, breaks_char_info, breaks_character, breaks_counts, breaks_design_size, breaks_fix_word, breaks_lig_kern, breaks_step, has_large_number, has_other_distance, has_other_size, has_other_word, has_wrong_codes, info_at, is_there, is_too_short, lacks_a_table, names_past, space_words};
+ghost use Rattle.tfm_core.specs.Rules.{begins_otherwise, begins_past, begins_wrong, breaks_char_info, breaks_character, breaks_counts, breaks_design_size, breaks_fix_word, breaks_lig_kern, breaks_step, character_at, has_large_number, has_other_distance, has_other_size, has_other_word, has_wrong_codes, is_too_short, lacks_a_table, names_past, space_words};
 
 use crate::entries::{Entries, counts};
 use crate::places::places_of;
@@ -107,23 +107,17 @@ fn space_words(parameters: &[i32]) -> &[i32]
     &parameters[1..usize::min(4, parameters.len())]
 }
 
-/// The character of that code, from the first code on.
-fn info_at(first: u16, characters: &[CharInfo], code: u8) -> Option<CharInfo>
-    ensures { result ≡ info_at first characters.now code }
+/// The character of that code, if it is there; the list begins with the first code.
+#[tactic(auto, unfolding(crate::specs::Rules::character_at))]
+pub fn character_at(first: u16, characters: &[CharInfo], code: u8) -> Option<CharInfo>
+    ensures { result ≡ character_at first characters.now code }
 {
     let place = u16::from(code).checked_sub(first)?;
-    characters.get(usize::from(place)).copied()
-}
-
-/// Whether that character is there.
-#[tactic(auto, unfolding(crate::specs::Rules::is_there))]
-pub fn is_there(first: u16, characters: &[CharInfo], code: u8) -> bool
-    ensures { result ≡ is_there first characters.now code }
-{
-    match info_at(first, characters, code) {
-        Some(c) => c.width != 0,
-        None => false,
+    let info = *characters.get(usize::from(place))?;
+    if info.width == 0 {
+        return None;
     }
+    Some(info)
 }
 
 #[tactic(auto, unfolding(crate::specs::Rules::breaks_character))]
@@ -189,17 +183,19 @@ fn breaks_step(file: &Entries, k: usize, s: LigKernStep) -> bool
     if 128 < s.skip {
         return file.steps.len() <= 256 * usize::from(s.op) + usize::from(s.remainder);
     }
-    names_past(file, s) || s.skip < 128 && file.steps.len() <= k + usize::from(s.skip) + 1
+    names_past(file.counts.first, &file.characters, file.kerns.len(), s)
+        || s.skip < 128 && file.steps.len() <= k + usize::from(s.skip) + 1
 }
 
+/// Whether a step gives a kern past that many, or a ligature with a character that is not there.
 #[tactic(auto, unfolding(crate::specs::Rules::names_past))]
-fn names_past(file: &Entries, s: LigKernStep) -> bool
-    ensures { result ≡ names_past file.now s }
+fn names_past(first: u16, characters: &[CharInfo], kerns: usize, s: LigKernStep) -> bool
+    ensures { result ≡ names_past first characters.now kerns s }
 {
     if 128 <= s.op {
-        return file.kerns.len() <= 256 * usize::from(s.op - 128) + usize::from(s.remainder);
+        return kerns <= 256 * usize::from(s.op - 128) + usize::from(s.remainder);
     }
-    s.op == 0 && !is_there(file.counts.first, &file.characters, s.remainder)
+    s.op == 0 && character_at(first, characters, s.remainder).is_none()
 }
 
 /// Whether some step does.
