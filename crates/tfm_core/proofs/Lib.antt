@@ -1,3 +1,4 @@
+pub mod ProgramLemmas
 pub mod ReadingLemmas
 pub mod RuleLemmas
 pub mod ScalingLemmas

@@ -1,4 +1,5 @@
 pub mod MetricFile
+pub mod Program
 pub mod Rules
 pub mod Scaling
 pub mod Words

@@ -4,6 +4,7 @@
 mod entries;
 pub mod fault;
 mod places;
+mod program;
 pub mod record;
 mod rules;
 pub mod scaling;
