@@ -3,6 +3,7 @@
 
 mod entries;
 pub mod fault;
+pub mod font;
 mod places;
 mod program;
 pub mod record;
@@ -11,5 +12,6 @@ pub mod scaling;
 pub mod tfm;
 
 pub use fault::{FontFault, TfmCause, TfmFault};
+pub use font::{Font, GlyphSize, Space, Step};
 pub use scaling::{FontSize, scaled};
 pub use tfm::Tfm;

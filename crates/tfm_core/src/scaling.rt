@@ -101,7 +101,7 @@ fn floor(fix: i32, kept: u32) -> i64
 
 /// A fix word at a size.
 #[tactic(auto, using(crate::proofs::ScalingLemmas::scaling))]
-fn scaled_fix(fix: i32, size: FontSize) -> i64
+pub fn scaled_fix(fix: i32, size: FontSize) -> i64
     ensures floor { IsScaled fix size result }
     ensures value { result ≡ scaled_by size fix }
 {
