@@ -1,3 +1,4 @@
+pub mod FontLemmas
 pub mod ProgramLemmas
 pub mod ReadingLemmas
 pub mod RuleLemmas

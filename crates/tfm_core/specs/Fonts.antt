@@ -1,5 +1,5 @@
 -- A metric file at a size (TeX: The Program, part 30).
-use Rattle.std.specs.Prelude.{◌≡◌, ◌&&◌, ◌||◌, ◌+◌, ◌-◌, ◌*◌, ℕ, ℤ, pos, Bool, true, not, List, Option, Some, None, if◌then◌else◌, get_or, int_div, is_none, length, map, nat_le, nat_lt, slice_get, unsigned_abs, unwrap_or}
+use Rattle.std.specs.Prelude.{◌≡◌, ◌&&◌, ◌||◌, ◌+◌, ◌-◌, ◌*◌, ◌<◌, ℕ, ℤ, pos, Bool, true, not, List, Option, Some, None, if◌then◌else◌, IsSome, get_or, int_div, is_none, length, map, nat_le, nat_lt, slice_get, unsigned_abs, unwrap_or}
 use Rattle.std.specs.List.{list_all}
 use Rattle.std.specs.Option.{option_and_then, option_map}
 use Rattle.tfm_core.specs.declared.font.GlyphSize.{GlyphSize}
@@ -115,9 +115,17 @@ step_of font code following = option_and_then (action_of font) (matching_step fo
 unfoldable pub has_sizes : SizedFont → CharInfo → Bool
 has_sizes font c = nat_lt c.width (length font.widths) && nat_lt c.height (length font.heights) && nat_lt c.depth (length font.depths)
 
+pub record HasSizes (font : SizedFont) (c : CharInfo) : Type 0 where
+  pub width : c.width < length font.widths
+  pub height : c.height < length font.heights
+  pub depth : c.depth < length font.depths
+
 -- a step that may be for a character gives a kern or a character that is there
 unfoldable pub has_action : SizedFont → LigKernStep → Bool
 has_action font s = nat_lt 128 s.skip || not (names_past font.first font.characters (length font.kerns) s)
+
+pub record HasAction (font : SizedFont) (s : LigKernStep) : Type 0 where
+  pub given : IsSome (action_of font s)
 
 -- this holds of all characters and steps
 pub record IsWhole (font : SizedFont) : Type 0 where

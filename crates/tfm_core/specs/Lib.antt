@@ -1,3 +1,4 @@
+pub mod FontView
 pub mod Fonts
 pub mod MetricFile
 pub mod Program

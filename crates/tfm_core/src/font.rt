@@ -1,13 +1,16 @@
 //! Fonts: metric files at a size (TeX: The Program, part 30).
 
-ghost use Rattle.std.specs.Prelude.{◌≡◌, ◌↔◌, ℤ, Err, IfOk, IsSome, IsTrue, OnOk, false, true};
+ghost use Rattle.std.specs.Prelude.{◌≡◌, ◌↔◌, ℤ, Err, IfOk, IfSome, IsSome, IsTrue, OnOk, false, true};
 ghost use Rattle.tfm_core.specs.declared.fault.FontFault.TheVariants.{DimensionTooLarge};
-ghost use Rattle.tfm_core.specs.Fonts.{action_of, are_dimens_at, chosen_size, fits_at, font_at, glyph_of, is_dimen_at, is_space_at, matching_step, space_at, step_of};
+ghost use Rattle.tfm_core.specs.Fonts.{HasAction, HasSizes, action_of, are_dimens_at, chosen_size, fits_at, font_at, glyph_of, is_dimen_at, is_space_at, matching_step, sizes_of, space_at, step_of};
+ghost use Rattle.tfm_core.specs.Rules.{character_at};
 ghost use Rattle.tfm_core.specs.Scaling.{scaled as scaled_by};
 
 use crate::entries::Entries;
 use crate::fault::FontFault;
+use crate::program::first_for;
 use crate::record::{CharInfo, LigKernStep};
+use crate::rules::character_at;
 use crate::scaling::{FontSize, scaled_fix};
 use crate::tfm::Tfm;
 use scaled_core::Dimen;
@@ -56,37 +59,15 @@ pub struct Font {
 }
 
 impl Model for Font {
-    ghost use Rattle.tfm_core.specs.Fonts.{SizedFont, IsWhole};
+    ghost use Rattle.tfm_core.specs.Fonts.{SizedFont};
 
     ghost Value = { SizedFont };
 
-    ghost view = { λ f. record {
-      size = f.size;
-      check_sum = f.check_sum;
-      design_size = f.design_size;
-      first = f.first;
-      characters = f.characters.items;
-      widths = f.widths.items;
-      heights = f.heights.items;
-      depths = f.depths.items;
-      steps = f.steps.items;
-      kerns = f.kerns.items;
-      space = f.space;
-    } };
+    ghost use Rattle.tfm_core.specs.FontView.{font_view, font_is_whole};
 
-    ghost invariant = { λ f. IsWhole (record {
-      size = f.size;
-      check_sum = f.check_sum;
-      design_size = f.design_size;
-      first = f.first;
-      characters = f.characters.items;
-      widths = f.widths.items;
-      heights = f.heights.items;
-      depths = f.depths.items;
-      steps = f.steps.items;
-      kerns = f.kerns.items;
-      space = f.space;
-    }) };
+    ghost view = { font_view };
+
+    ghost invariant = { font_is_whole };
 }
 
 impl Font {
@@ -116,5 +97,73 @@ impl Font {
         ensures { result ≡ self.now.space }
     {
         self.space
+    }
+
+    /// A character that is there.
+    #[tactic(auto, using(crate::proofs::FontLemmas::glyphs))]
+    fn character(&self, code: u8) -> Option<CharInfo>
+        ensures value { result ≡ character_at self.now.first self.now.characters code }
+        ensures sizes { IfSome result (HasSizes self.now) }
+    {
+        character_at(self.first, &self.characters, code)
+    }
+
+    /// The sizes that a character names.
+    fn sizes(&self, info: CharInfo) -> GlyphSize
+        requires { HasSizes self.now info }
+        ensures { result ≡ sizes_of self.now info }
+    {
+        GlyphSize {
+            width: self.widths[usize::from(info.width)],
+            height: self.heights[usize::from(info.height)],
+            depth: self.depths[usize::from(info.depth)],
+        }
+    }
+
+    /// The sizes of a character, or None where it is not there. Takes no memory.
+    #[tactic(auto, unfolding(crate::specs::Fonts::glyph_of))]
+    pub fn glyph(&self, code: u8) -> Option<GlyphSize>
+        ensures { result ≡ glyph_of self.now code }
+    {
+        let info = self.character(code)?;
+        Some(self.sizes(info))
+    }
+
+    /// The first step of a character's program that is for the following one.
+    #[tactic(auto, using(crate::proofs::FontLemmas::steps), unfolding(crate::specs::Fonts::matching_step))]
+    fn matching_step(&self, code: u8, following: u8) -> Option<LigKernStep>
+        ensures value { result ≡ matching_step self.now code following }
+        ensures action { IfSome result (HasAction self.now) }
+    {
+        match self.character(code) {
+            Some(info) => first_for(&self.steps, info.tag, following),
+            None => None,
+        }
+    }
+
+    /// What stands between a character and the following one: the first step of its program that is for it; None where there is
+    /// none (TFtoPL, 13). Takes no memory.
+    #[tactic(auto, unfolding(crate::specs::Fonts::step_of))]
+    pub fn step(&self, code: u8, following: u8) -> Option<Step>
+        ensures value { result ≡ step_of self.now code following }
+        ensures found { IsSome result ↔ IsSome (matching_step self.now code following) }
+    {
+        let step = self.matching_step(code, following)?;
+        self.action(step)
+    }
+
+    /// What a step gives.
+    #[tactic(auto, unfolding(crate::specs::Fonts::action_of))]
+    fn action(&self, step: LigKernStep) -> Option<Step>
+        ensures { result ≡ action_of self.now step }
+    {
+        if 128 <= step.op {
+            let kern = 256 * usize::from(step.op - 128) + usize::from(step.remainder);
+            return Some(Step::Kern(*self.kerns.get(kern)?));
+        }
+        if character_at(self.first, &self.characters, step.remainder).is_none() {
+            return None;
+        }
+        Some(Step::Ligature(step.remainder))
     }
 }
