@@ -3,4 +3,5 @@ pub mod ProgramLemmas
 pub mod ReadingLemmas
 pub mod RuleLemmas
 pub mod ScalingLemmas
+pub mod SizeLemmas
 pub mod TableLemmas

@@ -1,10 +1,13 @@
 -- What kept and broken rules say.
-use Rattle.std.proofs.Common.{◌≡◌, ℕ, ◌+◌, ◌*◌, ◌<◌, ◌≤◌, Bool, true, false, ◌||◌, not, cond, List, length, Option, Some, None, refl, arith, eqb, ltb}
+use Rattle.std.proofs.Common.{◌≡◌, ℕ, ◌+◌, ◌*◌, ◌<◌, ◌≤◌, Bool, true, false, ◌||◌, not, cond, List, length, Option, Some, None, refl, arith, eqb, ltb, ℤ, pos, negsuc, ◌/◌, ◌^◌, to_z, of_z, SFits, w32}
+use Rattle.std.specs.Int.RustNames.{int_div}
+use Rattle.std.proofs.lemmas.Int.{ints, quot_fits, to_z-of_z}
+use Rattle.tfm_core.specs.Scaling.{IsFontSize}
 use Rattle.std.proofs.lemmas.Bool.Decides.{nat_tests}
 use Rattle.std.proofs.lemmas.Bool.{eqb-true, ltb-false}
 use Rattle.tfm_core.specs.declared.record.Counts.{Counts}
 use Rattle.tfm_core.specs.MetricFile.{HasTables, counts_in, end_place}
-use Rattle.tfm_core.specs.Rules.{breaks_counts, has_large_number, has_wrong_codes, is_too_short, lacks_a_table}
+use Rattle.tfm_core.specs.Rules.{breaks_counts, breaks_design_size, has_large_number, has_wrong_codes, is_too_short, lacks_a_table}
 
 -- both parts of a test joined by `||` fail
 pub or_false : (a b : Bool) → (a || b) ≡ false → (a ≡ false) × (b ≡ false)
@@ -61,3 +64,19 @@ HasTables-from_kept bytes h k = record {
 }
 
 pub ruleset room = (long_for_numbers, long_for_header, HasTables-from_kept)
+
+design_size_is_size : (word : ℤ) → SFits w32 word → breaks_design_size word ≡ false → IsFontSize (int_div word (pos 16))
+unfolding breaks_design_size
+design_size_is_size (pos n) fits h =
+    let large : 65536 ≤ n / 16 = ltb-false (n / 16) 65536 (or_false _ _ h).1 in
+    let small : n < 2 ^ 31 = fits.sfits in
+    record {
+      positive = omega (arith, ints);
+      below = omega (arith, ints);
+    }
+design_size_is_size (negsuc n) fits h = absurd (cc)
+
+-- the design size of a file that keeps its rule is a font's size
+pub IsFontSize-from_design_word : (word : ℤ) → SFits w32 word → breaks_design_size word ≡ false → IsFontSize (to_z w32 (of_z w32 (int_div (to_z w32 (of_z w32 word)) (pos 16))))
+IsFontSize-from_design_word word fits h =
+    rw (to_z-of_z w32 word fits) (rw (to_z-of_z w32 (int_div word (pos 16)) (quot_fits w32 word (pos 16) fits (omega (arith, ints)))) (design_size_is_size word fits h))

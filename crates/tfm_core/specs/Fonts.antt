@@ -1,5 +1,5 @@
 -- A metric file at a size (TeX: The Program, part 30).
-use Rattle.std.specs.Prelude.{◌≡◌, ◌&&◌, ◌||◌, ◌+◌, ◌-◌, ◌*◌, ◌<◌, ℕ, ℤ, pos, Bool, true, not, List, Option, Some, None, if◌then◌else◌, IsSome, get_or, int_div, is_none, length, map, nat_le, nat_lt, slice_get, unsigned_abs, unwrap_or}
+use Rattle.std.specs.Prelude.{◌≡◌, ◌&&◌, ◌||◌, ◌+◌, ◌-◌, ◌*◌, ◌<◌, ℕ, ℤ, pos, Bool, true, not, List, Option, Some, None, if◌then◌else◌, IsSome, get_or, is_none, length, map, nat_le, nat_lt, slice_get, unsigned_abs, unwrap_or}
 use Rattle.std.specs.List.{list_all}
 use Rattle.std.specs.Option.{option_and_then, option_map}
 use Rattle.tfm_core.specs.declared.font.GlyphSize.{GlyphSize}
@@ -11,11 +11,7 @@ use Rattle.tfm_core.specs.declared.record.LigKernStep.{LigKernStep}
 use Rattle.tfm_core.specs.MetricFile.{MetricFile}
 use Rattle.tfm_core.specs.Program.{first_for, info_program}
 use Rattle.tfm_core.specs.Rules.{character_at, names_past}
-use Rattle.tfm_core.specs.Scaling.{scaled}
-
--- the design size in scaled points: the header's word 1 is in 2^20ths of a point (TFtoPL, 10)
-abbrev pub design_size_of : ℤ → ℤ
-design_size_of word = int_div word (pos 16)
+use Rattle.tfm_core.specs.Scaling.{design_size_of, scaled}
 
 -- the size that is asked for, or the design size
 abbrev pub chosen_size : MetricFile → Option ℤ → ℤ

@@ -1,5 +1,5 @@
 -- Scaling of the words of a metric file by the size of a font (TeX: The Program, part 30).
-use Rattle.std.specs.Prelude.{◌≡◌, ◌==◌, ◌||◌, ◌^◌, ◌+◌, ◌-◌, ◌*◌, ◌/◌, ◌%◌, ◌<◌, ◌≤◌, ◌+ℤ◌, ◌*ℤ◌, ◌≤ℤ◌, ◌<ℤ◌, ℕ, ℤ, pos, Bool, Option, Some, None, if◌then◌else◌, nat_lt, unsigned_abs}
+use Rattle.std.specs.Prelude.{◌≡◌, ◌==◌, ◌||◌, ◌^◌, ◌+◌, ◌-◌, ◌*◌, ◌/◌, ◌%◌, ◌<◌, ◌≤◌, ◌+ℤ◌, ◌*ℤ◌, ◌≤ℤ◌, ◌<ℤ◌, ℕ, ℤ, pos, Bool, Option, Some, None, if◌then◌else◌, int_div, nat_lt, unsigned_abs}
 use Rattle.std.specs.Int.{w32, cast_unsigned, int_div_euclid}
 
 -- a font's size in scaled points: positive and below 2^27 (TeX: The Program, part 30)
@@ -49,3 +49,7 @@ scaled size fix = int_div_euclid (fix *ℤ pos (kept_size size)) (pos (2 ^ 20))
 -- a word at a size, where it is a fix word
 unfoldable pub scaled_word : ℤ → ℤ → Option ℤ
 scaled_word size word = if is_fix_word word then Some (scaled size word) else None
+
+-- the design size in scaled points: the header's word 1 is in 2^20ths of a point (TFtoPL, 10)
+abbrev pub design_size_of : ℤ → ℤ
+design_size_of word = int_div word (pos 16)

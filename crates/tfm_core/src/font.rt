@@ -1,8 +1,8 @@
 //! Fonts: metric files at a size (TeX: The Program, part 30).
 
-ghost use Rattle.std.specs.Prelude.{◌≡◌, ◌↔◌, ℤ, Err, IfOk, IfSome, IsSome, IsTrue, OnOk, false, true};
+ghost use Rattle.std.specs.Prelude.{◌≡◌, ◌≤◌, ◌↔◌, map, ℤ, Err, IfOk, IfSome, IsSome, IsTrue, OnOk, false, true};
 ghost use Rattle.tfm_core.specs.declared.fault.FontFault.TheVariants.{DimensionTooLarge};
-ghost use Rattle.tfm_core.specs.Fonts.{HasAction, HasSizes, action_of, are_dimens_at, chosen_size, fits_at, font_at, glyph_of, is_dimen_at, is_space_at, matching_step, sizes_of, space_at, step_of};
+ghost use Rattle.tfm_core.specs.Fonts.{HasAction, HasSizes, action_of, are_dimens_at, chosen_size, fits_at, font_at, glyph_of, is_dimen_at, is_space_at, matching_step, parameter, sizes_of, space_at, step_of};
 ghost use Rattle.tfm_core.specs.Rules.{character_at};
 ghost use Rattle.tfm_core.specs.Scaling.{scaled as scaled_by};
 
@@ -68,6 +68,100 @@ impl Model for Font {
     ghost view = { font_view };
 
     ghost invariant = { font_is_whole };
+}
+
+/// Whether a word is below 2^30 scaled points at a size.
+#[tactic(auto, unfolding(crate::specs::Fonts::is_dimen_at))]
+fn is_dimen_at(size: FontSize, word: i32) -> bool
+    ensures { result ≡ is_dimen_at size word }
+{
+    scaled_fix(word, size).unsigned_abs() <= 1_073_741_823
+}
+
+/// Whether all of these words are.
+#[tactic(auto, unfolding(crate::specs::Fonts::are_dimens_at))]
+fn are_dimens_at(size: FontSize, words: &[i32]) -> bool
+    ensures { result ≡ are_dimens_at size words.now }
+{
+    words.iter().all(|word| is_dimen_at(size, *word))
+}
+
+/// Parameter n, from 1 on, or 0 where it is missing.
+fn parameter(n: usize, parameters: &[i32]) -> i32
+    requires { 1 ≤ n }
+    ensures { result ≡ parameter n parameters.now }
+{
+    parameters.get(n - 1).copied().unwrap_or(0)
+}
+
+/// Whether the sizes of the space are.
+#[tactic(auto, unfolding(crate::specs::Fonts::is_space_at))]
+fn is_space_at(size: FontSize, parameters: &[i32]) -> bool
+    ensures { result ≡ is_space_at size parameters.now }
+{
+    is_dimen_at(size, parameter(2, parameters))
+        && is_dimen_at(size, parameter(3, parameters))
+        && is_dimen_at(size, parameter(4, parameters))
+}
+
+/// Whether all sizes of the font are.
+#[tactic(auto, unfolding(crate::specs::Fonts::fits_at))]
+fn fits_at(file: &Entries, size: FontSize) -> bool
+    ensures { result ≡ fits_at file.now size }
+{
+    are_dimens_at(size, &file.widths)
+        && are_dimens_at(size, &file.heights)
+        && are_dimens_at(size, &file.depths)
+        && are_dimens_at(size, &file.kerns)
+        && is_space_at(size, &file.parameters)
+}
+
+/// A word at a size.
+#[tactic(auto, using(crate::proofs::SizeLemmas::dimensions))]
+fn dimension(size: FontSize, word: i32) -> Dimen
+    requires { is_dimen_at size word ≡ true }
+    ensures { result ≡ scaled_by size word }
+{
+    match Dimen::try_new(scaled_fix(word, size)) {
+        Some(dimension) => dimension,
+        None => unreachable!(),
+    }
+}
+
+/// Words at a size.
+#[tactic(auto, using(crate::proofs::SizeLemmas::tables))]
+fn dimensions(alloc: Global, size: FontSize, words: &[i32]) -> Result<Vec<Dimen>, AllocError>
+    requires { are_dimens_at size words.now ≡ true }
+    ensures { IfOk result (λ dimensions. dimensions.items ≡ map (scaled_by size) words.now) }
+{
+    let mut dimensions = Vec::with_capacity(alloc, words.len())?;
+    for word in words {
+        dimensions.push(dimension(size, *word))?;
+    }
+    Ok(dimensions)
+}
+
+/// Parameter n at a size.
+#[tactic(auto, using(crate::proofs::SizeLemmas::tables))]
+fn parameter_at(size: FontSize, n: usize, parameters: &[i32]) -> Dimen
+    requires number { 1 ≤ n }
+    requires fits { is_dimen_at size (parameter n parameters.now) ≡ true }
+    ensures { result ≡ scaled_by size (parameter n parameters.now) }
+{
+    dimension(size, parameter(n, parameters))
+}
+
+/// The space at a size.
+#[tactic(auto, using(crate::proofs::SizeLemmas::spaces), unfolding(crate::specs::Fonts::space_at))]
+fn space_at(size: FontSize, parameters: &[i32]) -> Space
+    requires { is_space_at size parameters.now ≡ true }
+    ensures { result ≡ space_at size parameters.now }
+{
+    Space {
+        width: parameter_at(size, 2, parameters),
+        stretch: parameter_at(size, 3, parameters),
+        shrink: parameter_at(size, 4, parameters),
+    }
 }
 
 impl Font {

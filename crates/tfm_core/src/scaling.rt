@@ -1,9 +1,10 @@
 //! Sizes of fonts, and the scaling of words of a metric file (TeX: The Program, part 30).
 
-ghost use Rattle.std.specs.Prelude.{◌≡◌, ◌↔◌, ◌^◌, ◌+◌, ◌*ℤ◌, ◌<◌, ◌≤ℤ◌, ◌<ℤ◌, ℤ, pos, IsTrue, IsSome, IfSome, FitsSigned, unsigned_abs};
+ghost use Rattle.std.specs.Prelude.{◌≡◌, ◌↔◌, ◌^◌, ◌+◌, ◌*ℤ◌, ◌<◌, ◌≤ℤ◌, ◌<ℤ◌, ℤ, false, pos, IsTrue, IsSome, IfSome, FitsSigned, unsigned_abs};
 ghost use Rattle.std.specs.Int.{w64, int_div_euclid};
 ghost use Rattle.std.specs.Option.{SomeIff};
-ghost use Rattle.tfm_core.specs.Scaling.{IsFontSize, IsCleared, IsScaled, is_fix_word, cleared_bits, kept_size, scaled_word};
+ghost use Rattle.tfm_core.specs.Rules.{breaks_design_size};
+ghost use Rattle.tfm_core.specs.Scaling.{design_size_of, IsFontSize, IsCleared, IsScaled, is_fix_word, cleared_bits, kept_size, scaled_word};
 ghost use Rattle.tfm_core.specs.Scaling.{scaled as scaled_by};
 
 use std::marker::Model;
@@ -39,6 +40,14 @@ impl FontSize {
             return None;
         }
         Some(FontSize { size: size as i32 })
+    }
+
+    /// The size that the header of a metric file names (TFtoPL, 10).
+    pub(crate) fn from_design_word(word: i32) -> FontSize
+        requires { breaks_design_size word ≡ false }
+        ensures { result ≡ design_size_of word }
+    {
+        FontSize { size: word / 16 }
     }
 
     /// The number of scaled points.

@@ -4,11 +4,13 @@ ghost use Rattle.std.specs.Prelude.{◌≡◌, ◌*◌, ◌≤◌, ℕ, ℤ, Non
 ghost use Rattle.tfm_core.specs.declared.fault.TfmCause.{TfmCause};
 ghost use Rattle.tfm_core.specs.declared.fault.TfmFault.TheVariants.{Bad};
 ghost use Rattle.tfm_core.specs.MetricFile.{HasTables};
-ghost use Rattle.tfm_core.specs.Rules.{IsFirstBroken, IsMetricFile, broken_in_front, broken_in_tables, metric_file};
+ghost use Rattle.tfm_core.specs.Scaling.{design_size_of};
+ghost use Rattle.tfm_core.specs.Rules.{IsFirstBroken, IsMetricFile, KeepsRules, broken_in_front, broken_in_tables, metric_file};
 
 use crate::entries::{Entries, counts, word};
 use crate::fault::{TfmCause, TfmFault};
 use crate::rules;
+use crate::scaling::FontSize;
 use std::alloc::{AllocError, Global};
 use std::marker::Model;
 
@@ -80,6 +82,30 @@ impl Tfm {
             Ok(Err(cause)) => Err(TfmFault::Bad(cause)),
             Err(_) => Err(TfmFault::OutOfMemory),
         }
+    }
+}
+
+impl Tfm {
+    /// The check sum: the header's word 0.
+    pub fn check_sum(&self) -> i32
+        ensures { result ≡ self.now.check_sum }
+    {
+        self.entries.check_sum
+    }
+
+    /// The design size in scaled points.
+    pub fn design_size(&self) -> FontSize
+        ensures { result ≡ design_size_of self.now.design_word }
+    {
+        FontSize::from_design_word(self.entries.design_word)
+    }
+
+    /// The record, which keeps the rules.
+    pub(crate) fn entries(&self) -> &Entries
+        ensures value { result.now ≡ self.now }
+        ensures kept { KeepsRules self.now }
+    {
+        &self.entries
     }
 }
 
