@@ -5,3 +5,4 @@ pub mod RuleLemmas
 pub mod ScalingLemmas
 pub mod SizeLemmas
 pub mod TableLemmas
+pub mod WholeLemmas

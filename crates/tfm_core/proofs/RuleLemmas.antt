@@ -68,7 +68,7 @@ pub ruleset room = (long_for_numbers, long_for_header, HasTables-from_kept)
 design_size_is_size : (word : ℤ) → SFits w32 word → breaks_design_size word ≡ false → IsFontSize (int_div word (pos 16))
 unfolding breaks_design_size
 design_size_is_size (pos n) fits h =
-    let large : 65536 ≤ n / 16 = ltb-false (n / 16) 65536 (or_false _ _ h).1 in
+    let large : 65536 ≤ n / 16 = ltb-false (n / 16) 65536 (or_false (ltb n 0) (ltb (n / 16) 65536) h).1 in
     let small : n < 2 ^ 31 = fits.sfits in
     record {
       positive = omega (arith, ints);

@@ -3,7 +3,7 @@
 ghost use Rattle.std.specs.Prelude.{◌≡◌, ◌≤◌, ◌↔◌, map, ℤ, Err, IfOk, IfSome, IsSome, IsTrue, OnOk, false, true};
 ghost use Rattle.tfm_core.specs.declared.fault.FontFault.TheVariants.{DimensionTooLarge};
 ghost use Rattle.tfm_core.specs.Fonts.{HasAction, HasSizes, action_of, are_dimens_at, chosen_size, fits_at, font_at, glyph_of, is_dimen_at, is_space_at, matching_step, parameter, sizes_of, space_at, step_of};
-ghost use Rattle.tfm_core.specs.Rules.{character_at};
+ghost use Rattle.tfm_core.specs.Rules.{KeepsRules, character_at};
 ghost use Rattle.tfm_core.specs.Scaling.{scaled as scaled_by};
 
 use crate::entries::Entries;
@@ -68,6 +68,16 @@ impl Model for Font {
     ghost view = { font_view };
 
     ghost invariant = { font_is_whole };
+}
+
+/// The size that is asked for, or the design size.
+fn chosen_size(tfm: &Tfm, size: Option<FontSize>) -> FontSize
+    ensures { result ≡ chosen_size tfm.now size }
+{
+    match size {
+        Some(size) => size,
+        None => tfm.design_size(),
+    }
 }
 
 /// Whether a word is below 2^30 scaled points at a size.
@@ -164,7 +174,48 @@ fn space_at(size: FontSize, parameters: &[i32]) -> Space
     }
 }
 
+/// The font, whose sizes fit.
+#[tactic(auto, using(crate::proofs::WholeLemmas::whole), unfolding(crate::specs::Fonts::font_at))]
+fn font_at(alloc: Global, file: &Entries, size: FontSize) -> Result<Font, AllocError>
+    requires kept { KeepsRules file.now }
+    requires fits { fits_at file.now size ≡ true }
+    ensures { IfOk result (λ font. font ≡ font_at file.now size) }
+{
+    Ok(Font {
+        size,
+        check_sum: file.check_sum,
+        design_size: FontSize::from_design_word(file.design_word),
+        first: file.counts.first,
+        characters: file.characters.to_vec(alloc)?,
+        widths: dimensions(alloc, size, &file.widths)?,
+        heights: dimensions(alloc, size, &file.heights)?,
+        depths: dimensions(alloc, size, &file.depths)?,
+        steps: file.steps.to_vec(alloc)?,
+        kerns: dimensions(alloc, size, &file.kerns)?,
+        space: space_at(size, &file.parameters),
+    })
+}
+
 impl Font {
+    /// The font of a metric file at that size, or at its design size (TeX: The Program, part 30).
+    ///
+    /// `DimensionTooLarge` comes exactly where a width, height, depth, kern or a size of the space is not below 2^30 scaled points.
+    /// It takes memory for its tables.
+    pub fn at_size(alloc: Global, tfm: &Tfm, size: Option<FontSize>) -> Result<Font, FontFault>
+        ensures ok { IfOk result (λ font. font ≡ font_at tfm.now (chosen_size tfm.now size)) }
+        ensures fits { OnOk result (fits_at tfm.now (chosen_size tfm.now size) ≡ true) }
+        ensures refused { result ≡ Err DimensionTooLarge → fits_at tfm.now (chosen_size tfm.now size) ≡ false }
+    {
+        let size = chosen_size(tfm, size);
+        if !fits_at(tfm.entries(), size) {
+            return Err(FontFault::DimensionTooLarge);
+        }
+        match font_at(alloc, tfm.entries(), size) {
+            Ok(font) => Ok(font),
+            Err(_) => Err(FontFault::OutOfMemory),
+        }
+    }
+
     /// The size in scaled points.
     pub fn size(&self) -> FontSize
         ensures { result ≡ self.now.size }
