@@ -1,3 +1,4 @@
+pub mod LawLemmas
 pub mod FontLemmas
 pub mod ProgramLemmas
 pub mod ReadingLemmas

@@ -229,6 +229,10 @@ pub read-from_IsFirstBroken : (bytes : List ℕ) (cause : TfmCause) → IsFirstB
 unfolding metric_file
 read-from_IsFirstBroken bytes cause h = ap (record_unless (record_in bytes)) (first-from_IsFirstBroken bytes cause h)
 
+-- bytes that break a rule hold no record
+pub no_record : (bytes : List ℕ) (cause : TfmCause) (file : MetricFile) → metric_file bytes ≡ Err cause → IsMetricFile bytes file → ⊥
+no_record bytes cause file h k = let e = read-from_IsMetricFile bytes file k in cc
+
 pub ruleset relations = (IsMetricFile-from_read, IsFirstBroken-from_read)
 
 pub ruleset reading = (metric_file-front, metric_file-tables)

@@ -90,6 +90,14 @@ sizes_of font c = record {
 unfoldable pub glyph_of : SizedFont → ℕ → Option GlyphSize
 glyph_of font code = option_map (sizes_of font) (character_at font.first font.characters code)
 
+-- the words that a character names, at a size
+abbrev pub sizes_in : MetricFile → ℤ → CharInfo → GlyphSize
+sizes_in file size c = record {
+  width = scaled size (get_or file.widths c.width (pos 0));
+  height = scaled size (get_or file.heights c.height (pos 0));
+  depth = scaled size (get_or file.depths c.depth (pos 0));
+}
+
 -- the first step of a character's program that is for the following character
 unfoldable pub matching_step : SizedFont → ℕ → ℕ → Option LigKernStep
 matching_step font code following =

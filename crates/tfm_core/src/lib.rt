@@ -4,6 +4,7 @@
 mod entries;
 pub mod fault;
 pub mod font;
+pub mod laws;
 mod places;
 mod program;
 pub mod record;

@@ -3,7 +3,7 @@
 ghost use Rattle.std.specs.Prelude.{◌≡◌, ◌*◌, ◌≤◌, ℕ, ℤ, None, Ok, Err, IfOk, length};
 ghost use Rattle.tfm_core.specs.declared.fault.TfmCause.{TfmCause};
 ghost use Rattle.tfm_core.specs.declared.fault.TfmFault.TheVariants.{Bad};
-ghost use Rattle.tfm_core.specs.MetricFile.{HasTables};
+ghost use Rattle.tfm_core.specs.MetricFile.{HasTables, MetricFile};
 ghost use Rattle.tfm_core.specs.Scaling.{design_size_of};
 ghost use Rattle.tfm_core.specs.Rules.{IsFirstBroken, IsMetricFile, KeepsRules, broken_in_front, broken_in_tables, metric_file};
 
@@ -74,6 +74,7 @@ impl Tfm {
     pub fn read(alloc: Global, bytes: &[u8]) -> Result<Tfm, TfmFault>
         ensures ok { IfOk result (λ tfm. IsMetricFile bytes.now tfm) }
         ensures bad { (cause : TfmCause) → result ≡ Err (Bad cause) → IsFirstBroken bytes.now cause }
+        ensures none { (cause : TfmCause) (file : MetricFile) → result ≡ Err (Bad cause) → IsMetricFile bytes.now file → ⊥ }
         ensures value { IfOk result (λ tfm. metric_file bytes.now ≡ Ok tfm) }
         ensures refused { (cause : TfmCause) → result ≡ Err (Bad cause) → metric_file bytes.now ≡ Err cause }
     {
