@@ -1,0 +1,3 @@
+pub mod ScriptLines
+pub mod Names
+pub mod Reading

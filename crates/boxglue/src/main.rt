@@ -1,0 +1,13 @@
+//! Boxglue: a typesetter of command scripts with TeX's model of boxes and glue.
+#![tactic(auto)]
+
+mod cause;
+mod fields;
+mod lines;
+mod name;
+
+use std::io;
+
+fn main(rt: HostRuntime) -> io::Result<()> {
+    println!(rt; "boxglue")
+}
