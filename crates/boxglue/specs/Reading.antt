@@ -1,5 +1,5 @@
 -- What the functions that read a script compute (own).
-use Rattle.std.specs.Prelude.{◌≡◌, ◌==◌, ℕ, ℤ, pos, negsuc, Bool, true, false, not, ◌&&◌, if◌then◌else◌, List, [], ◌∷◌, Option, None, Some, Result, Ok, Err, codes, drop, take, length, nat_lt}
+use Rattle.std.specs.Prelude.{◌≡◌, ◌==◌, ℕ, ℤ, pos, negsuc, Bool, true, false, not, ◌&&◌, if◌then◌else◌, List, [], ◌∷◌, ◌++◌, ◌+◌, Option, None, Some, Result, Ok, Err, codes, drop, take, length, nat_lt}
 use Rattle.std.specs.List.{prefix_len, list_all}
 use Rattle.std.specs.Char.{digit_value}
 use Rattle.std.specs.Str.{bytes_eq}
@@ -12,10 +12,13 @@ use Rattle.job_core.specs.declared.command.Command.{Command}
 use Rattle.job_core.specs.declared.command.Command.TheVariants.{OpenHbox, End, Rule, Kern, Measure, Void, Ship}
 use Rattle.boxglue.specs.declared.cause.Cause.{Cause}
 use Rattle.boxglue.specs.declared.cause.Cause.TheVariants.{Byte, Word, Missing, Extra, Number, Dimension}
+use Rattle.boxglue.specs.declared.script.Line.{Line}
+use Rattle.boxglue.specs.declared.script.ScriptFault.{ScriptFault}
+use Rattle.boxglue.specs.declared.script.ScriptFault.TheVariants.{OutOfMemory, BadScript}
 use Rattle.boxglue.specs.declared.name.Name.{Name}
 use Rattle.boxglue.specs.declared.name.Name.TheVariants as names
 use Rattle.boxglue.specs.Names.{name_of}
-use Rattle.boxglue.specs.ScriptLines.{is_space}
+use Rattle.boxglue.specs.ScriptLines.{is_space, is_printable, is_passed_over, fields_of}
 
 -- a byte before the end of a line, and of a field
 abbrev pub in_line : ℕ → Bool
@@ -159,3 +162,32 @@ command_by (Ok word) fields = named_by (name_of word) fields
 -- the command that the fields of a line say, or the cause at the first bad one from the left
 unfoldable pub command_of : List (List ℕ) → Result Command Cause
 command_of fields = command_by (first_of fields) (rest_of fields)
+
+-- the command that a line says, or why it says none
+unfoldable pub line_of : List ℕ → Result Command Cause
+line_of line = if list_all is_printable line then command_of (fields_of line) else Err Byte
+
+abbrev pub Found : Type 0
+Found = Result (List Line) ScriptFault
+
+-- what is found behind some lines
+abbrev pub prefixed : List Line → Found → Found
+prefixed found (Err fault) = Err fault
+prefixed found (Ok more) = Ok (found ++ more)
+
+abbrev pub reads_by : ℕ → Result Command Cause → Found → Found
+reads_by number (Err cause) more = Err (BadScript number cause)
+reads_by number (Ok command) more = prefixed (record { number = number; command = command } ∷ []) more
+
+-- what the lines from that number on say
+abbrev pub reads : ℕ → List (List ℕ) → Found
+reads number [] = Ok []
+reads number (line ∷ rest) = if is_passed_over line then reads (number + 1) rest else reads_by number (line_of line) (reads (number + 1) rest)
+
+-- reading goes on behind a line
+abbrev pub ReadsOn : ℕ → List ℕ → List Line → List Line → Type 0
+ReadsOn number line old new = (rest : List (List ℕ)) → prefixed old (reads number (line ∷ rest)) ≡ prefixed new (reads (number + 1) rest)
+
+-- or ends at it
+abbrev pub StopsAt : ℕ → List ℕ → List Line → ScriptFault → Type 0
+StopsAt number line old fault = (rest : List (List ℕ)) → prefixed old (reads number (line ∷ rest)) ≡ Err fault

@@ -5,6 +5,7 @@ mod cause;
 mod fields;
 mod lines;
 mod name;
+mod script;
 
 use std::io;
 
