@@ -30,7 +30,7 @@ digits_pass : (digits : List ℕ) → AllDigits 10 digits → list_all is_decima
 digits_pass [] h = refl
 digits_pass (c ∷ digits) h = rw (lt-ltb (digit_value c) 10 h.0) (digits_pass digits h.1)
 
-numeral : (digits : List ℕ) → is_numeral digits ≡ true → IsNumeral 10 digits
+pub numeral : (digits : List ℕ) → is_numeral digits ≡ true → IsNumeral 10 digits
 numeral digits h =
     let parts = and_parts (nat_lt 0 (length digits)) (list_all is_decimal digits) h in
     (ltb-true 0 (length digits) parts.0, all_digits digits parts.1)

@@ -1,3 +1,6 @@
 pub mod ScriptLines
 pub mod Names
+pub mod Grammar
+pub mod Causes
+pub mod Script
 pub mod Reading

@@ -1,9 +1,8 @@
 //! Reading a script.
 
-ghost use Rattle.std.specs.Prelude.{◌≡◌, ◌⊎◌, ℕ, ◌+◌, ◌<◌, List, ◌∷◌, Ok, Err, IfOk, OnOk, IfErr, length};
-ghost use Rattle.std.specs.Str.Lines.{lines};
-ghost use Rattle.boxglue.specs.ScriptLines.{is_passed_over};
-ghost use Rattle.boxglue.specs.Reading.{line_of, reads, prefixed, ReadsOn, StopsAt};
+ghost use Rattle.std.specs.Prelude.{◌≡◌, ◌⊎◌, List, IfOk, OnOk, IfErr};
+ghost use Rattle.boxglue.specs.Script.{IsScript, Explains};
+ghost use Rattle.boxglue.specs.Reading.{line_of, ReadsOn, StopsAt};
 
 use crate::cause::Cause;
 use crate::fields::Fields;
@@ -29,10 +28,14 @@ pub enum ScriptFault {
     BadScript { line: usize, cause: Cause },
 }
 
-/// The lines of a script text, one for each that is neither empty nor a comment.
+/// The lines of a script text that say commands, each with its number. A text with a line that is neither passed over nor says a
+/// command is refused whole, and its first such line is named. A line feed ends a line, and one carriage return right before it
+/// is not of the line; a line that is empty or begins with `%` is passed over but counts.
+#[tactic(auto, using(crate::proofs::ScriptLaws::reading))]
 pub fn read_script(alloc: Global, text: &[u8]) -> Result<Vec<Line>, ScriptFault>
-    ensures ok { IfOk result (λ found. reads 1 (lines text.now) ≡ Ok found.items) }
-    ensures bad { IfErr result (λ fault. (fault ≡ ScriptFault.OutOfMemory) ⊎ (reads 1 (lines text.now) ≡ Err fault)) }
+    ensures lines { IfOk result (λ found. IsScript text.now found.items) }
+    ensures only { IfOk result (λ found. (others : List Line) → IsScript text.now others → others ≡ found.items) }
+    ensures refused { IfErr result (λ fault. Explains text.now fault) }
 {
     let mut found = Vec::new(alloc);
     let mut rest = text;
