@@ -4,3 +4,4 @@ pub mod Grammar
 pub mod Causes
 pub mod Script
 pub mod Reading
+pub mod Texts

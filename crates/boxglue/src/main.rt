@@ -6,6 +6,7 @@ mod fields;
 mod lines;
 mod name;
 mod script;
+mod texts;
 
 use std::io;
 
