@@ -95,7 +95,7 @@ unfoldable pub end_line : Result Summary Refusal → List ℕ
 end_line end = codes "end: " ++ (summary_text end ++ line_feed)
 
 -- the lines that answer the lines of a script
-unfoldable pub answer_lines : List Line → List (Result Answer Refusal) → List ℕ
+abbrev pub answer_lines : List Line → List (Result Answer Refusal) → List ℕ
 answer_lines lines replies = flat_map (λ p. answer_line p.0 p.1) (zip lines replies)
 
 -- all texts of a script that was run: an answer for each line that says a command, and the end
@@ -118,6 +118,10 @@ unfoldable pub byte_text : ℕ → ℕ → ℕ → List ℕ
 byte_text count index byte =
     hexadecimal_digit (byte / 16) ∷ hexadecimal_digit (byte % 16) ∷ (if ends_line count index then line_feed else [])
 
+-- some of so many bytes, the first of them at this index
+abbrev pub bytes_text : ℕ → ℕ → List ℕ → List ℕ
+bytes_text count index bytes = flat_map (λ p. byte_text count p.0 p.1) (enumerate_from index bytes)
+
 -- bytes in lines of sixteen, two digits each
 unfoldable pub hexadecimal_text : List ℕ → List ℕ
-hexadecimal_text bytes = flat_map (λ p. byte_text (length bytes) p.0 p.1) (enumerate_from 0 bytes)
+hexadecimal_text bytes = bytes_text (length bytes) 0 bytes

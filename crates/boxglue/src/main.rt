@@ -3,6 +3,7 @@
 
 mod cause;
 mod fields;
+mod hexadecimal;
 mod lines;
 mod name;
 mod script;
