@@ -5,3 +5,4 @@ pub mod Causes
 pub mod Script
 pub mod Reading
 pub mod Texts
+pub mod Runs

@@ -6,7 +6,10 @@ mod fields;
 mod hexadecimal;
 mod lines;
 mod name;
+mod run;
 mod script;
+#[cfg(test)]
+mod tests;
 mod texts;
 
 use std::io;
