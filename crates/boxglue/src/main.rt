@@ -4,6 +4,7 @@
 mod cause;
 mod fields;
 mod hexadecimal;
+mod input;
 mod lines;
 mod name;
 mod run;
