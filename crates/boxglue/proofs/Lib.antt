@@ -5,3 +5,4 @@ pub mod FieldLaws
 pub mod CommandLaws
 pub mod CauseLaws
 pub mod ScriptLaws
+pub mod RunLaws

@@ -1,11 +1,23 @@
--- Runs of a script (own).
-use Rattle.std.specs.Prelude.{◌≡◌, ◌&&◌, ℕ, Bool, true, false, List, map, Result, is_ok}
+-- Runs of a script and what is written of them (own).
+use Rattle.std.specs.Prelude.{◌≡◌, ◌⊎◌, ◌&&◌, ◌++◌, ℕ, Bool, true, false, List, [], length, map, Option, Some, IfSome, Result, Ok, Err, IfOk, OnOk, is_ok}
 use Rattle.std.specs.List.{list_all}
+use Rattle.std.specs.Io.KnownBytes.{Appends, Keeps}
 use Rattle.job_core.specs.declared.command.Command.{Command}
 use Rattle.job_core.specs.declared.command.Refusal.{Refusal}
+use Rattle.job_core.specs.declared.command.Refusal.TheVariants as refusals
 use Rattle.job_core.specs.declared.command.Summary.{Summary}
 use Rattle.job_core.specs.Reply.{Reply}
+use Rattle.job_core.specs.NamedBytes.{NamedBytes}
+use Rattle.job_core.specs.Told.{IsFrontOf}
+use Rattle.job_core.specs.Draft.{file_of}
+use Rattle.job_core.specs.Machine.{Machine, first_machine}
+use Rattle.job_core.specs.Runs.{Run, Finishes}
+use Rattle.boxglue.specs.declared.cause.Cause.{Cause}
 use Rattle.boxglue.specs.declared.script.Line.{Line}
+use Rattle.boxglue.specs.declared.run.RunFault.{RunFault}
+use Rattle.boxglue.specs.declared.run.RunFault.TheVariants.{Memory, Answers}
+use Rattle.boxglue.specs.Script.{IsScript, IsFirstBad}
+use Rattle.boxglue.specs.Texts.{answers_text, bad_script_text, hexadecimal_text}
 
 -- the commands of some lines
 abbrev pub commands_of : List Line → List Command
@@ -14,3 +26,55 @@ commands_of lines = map (λ line. line.command) lines
 -- nothing was refused
 abbrev pub is_accepted : List Reply → Result Summary Refusal → Bool
 is_accepted replies end = list_all is_ok replies && is_ok end
+
+-- a new job with these font files took these commands and gave these replies, and was then finished with this end; its device's
+-- count of failures went from n to k, and the device then told these bytes: the file of the pages, or the front of it that it took
+pub record WasRun (files : List NamedBytes) (n : ℕ) (commands : List Command) (replies : List Reply) (end : Result Summary Refusal) (k : ℕ) (told : Option (List ℕ)) : Type 0 where
+  pub middle : Machine
+  pub failed : ℕ
+  pub ran : Run (first_machine files) n commands replies middle failed
+  pub last : Machine
+  pub finished : Finishes middle failed end last k
+  pub file : OnOk end (IfSome told (λ bytes. bytes ≡ file_of middle.pages))
+  pub size : IfOk end (λ summary. IfSome told (λ bytes. summary.bytes ≡ length bytes))
+  pub front : end ≡ Err refusals.Device → IfSome told (λ bytes. IsFrontOf bytes (file_of middle.pages))
+  pub silent : last.state.over ≡ false → IfSome told (λ bytes. bytes ≡ [])
+
+-- a script was run, and its answers were written
+pub record RanScript (text : List ℕ) (files : List NamedBytes) (n k : ℕ) (told old new : Option (List ℕ)) (fine : Bool) : Type 0 where
+  pub lines : List Line
+  pub replies : List Reply
+  pub end : Result Summary Refusal
+  pub script : IsScript text lines
+  pub run : WasRun files n (commands_of lines) replies end k told
+  pub wrote : Appends old new (answers_text lines replies end)
+  pub fine_is : fine ≡ is_accepted replies end
+
+-- a bad script was refused, and its one line was written
+pub record RefusedScript (text : List ℕ) (old new : Option (List ℕ)) (fine : Bool) : Type 0 where
+  pub number : ℕ
+  pub cause : Cause
+  pub bad : IsFirstBad text number cause
+  pub wrote : Appends old new (bad_script_text number cause)
+  pub fine_is : fine ≡ false
+
+-- a device that has told no byte and failed as often as before: nothing was run on it
+pub record IsUntouched (n k : ℕ) (told : Option (List ℕ)) : Type 0 where
+  pub silent : IfSome told (λ bytes. bytes ≡ [])
+  pub failed_is : k ≡ n
+
+-- what is known of a device where a script did not come to its answers: nothing was run on it, or the whole script was
+abbrev pub IsLeft : List ℕ → List NamedBytes → (n k : ℕ) → Option (List ℕ) → Type 0
+IsLeft text files n k told =
+    IsUntouched n k told
+    ⊎ ((lines : List Line) × (replies : List Reply) × (end : Result Summary Refusal) × IsScript text lines × WasRun files n (commands_of lines) replies end k told)
+
+-- the device that a fault hands back
+abbrev pub device_of : {D : Type 0} → RunFault D → D
+device_of (Memory device) = device
+device_of (Answers device) = device
+
+-- where memory was refused, nothing was written
+abbrev pub WritesNothing : {D : Type 0} → RunFault D → Option (List ℕ) → Option (List ℕ) → Type 0
+WritesNothing (Memory device) old new = Keeps old new
+WritesNothing (Answers device) old new = Unit {0}
