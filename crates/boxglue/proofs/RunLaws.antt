@@ -1,5 +1,5 @@
 -- A job that runs the commands of a script and is finished.
-use Rattle.std.proofs.Common.{◌≡◌, ◌⊎◌, inl, inr, ℕ, Bool, true, false, List, [], ◌∷◌, ◌++◌, length, Option, Some, None, IfSome, Result, Ok, Err, IfOk, OnOk, OnErr, is_err, refl, sym, ◌∙◌, ap, subst}
+use Rattle.std.proofs.Common.{◌≡◌, ◌⊎◌, inl, inr, ℕ, Bool, true, false, List, [], ◌∷◌, ◌++◌, length, Option, Some, None, IfSome, Result, Ok, Err, IfOk, OnOk, OnErr, is_err, refl, sym, ◌∙◌, ap, subst, ⊎_elim, append_assoc}
 use Rattle.job_core.specs.declared.command.Command.{Command}
 use Rattle.job_core.specs.declared.command.Refusal.{Refusal}
 use Rattle.job_core.specs.declared.command.Refusal.TheVariants as refusals
@@ -10,7 +10,11 @@ use Rattle.job_core.specs.Told.{IsFrontOf}
 use Rattle.job_core.specs.Draft.{file_of}
 use Rattle.job_core.specs.Machine.{Machine, first_machine}
 use Rattle.job_core.specs.Runs.{Run, Finishes, Seen, Holds, RunsTo, FinishesTo}
-use Rattle.boxglue.specs.Runs.{WasRun, IsUntouched}
+use Rattle.job_core.specs.Held.{Held}
+use Rattle.std.specs.Io.KnownBytes.{Appends}
+use Rattle.std.proofs.lemmas.List.{append-nil}
+use Rattle.boxglue.specs.Texts.{answers_text, bad_script_text, hexadecimal_text}
+use Rattle.boxglue.specs.Runs.{WasRun, IsUntouched, RanScript, RefusedScript, RanInMemory}
 
 pub on_err : {A E : Type 0} {P : Type 0} (r : Result A E) → is_err r ≡ true → OnErr r P → P
 on_err (Ok x) e h = absurd (cc)
@@ -60,3 +64,51 @@ same_run files n n' commands commands' replies replies' end k k' told told' a b 
 -- all replies are those that a run added to none
 pub added_to_none : (old new added : List Reply) → old ≡ [] → new ≡ old ++ added → new ≡ added
 added_to_none old new added e h = h ∙ (rw e refl)
+
+-- one text behind another
+appends_both : (old mid new : Option (List ℕ)) (a b : List ℕ) → Appends old mid a → Appends mid new b → Appends old new (a ++ b)
+appends_both None mid new a b h i = tt
+appends_both (Some xs) None new a b h i = absurd h
+appends_both (Some xs) (Some ys) None a b h i = absurd i
+appends_both (Some xs) (Some ys) (Some zs) a b h i = i ∙ ap (λ (l : List ℕ). l ++ b) h ∙ append_assoc xs a b
+
+no_lines : hexadecimal_text [] ≡ []
+unfolding hexadecimal_text
+no_lines = refl
+
+ran_in_memory : (text : List ℕ) (files : List NamedBytes) (old mid new : Option (List ℕ)) (fine : Bool) (memory : Held) → RanScript text files 0 memory.failures (Some memory.bytes) old mid fine → Appends mid new (hexadecimal_text memory.bytes) → RanInMemory text files old new fine
+ran_in_memory text files old mid new fine memory ran h = record {
+  lines = ran.lines;
+  replies = ran.replies;
+  end = ran.end;
+  failed = memory.failures;
+  bytes = memory.bytes;
+  script = ran.script;
+  run = ran.run;
+  wrote = appends_both old mid new _ _ ran.wrote h;
+  fine_is = ran.fine_is;
+}
+
+refused_in_memory : (text : List ℕ) (old mid new : Option (List ℕ)) (fine : Bool) → RefusedScript text old mid fine → Appends mid new [] → RefusedScript text old new fine
+refused_in_memory text old mid new fine refused h =
+    let P : List ℕ → Type 0 = λ bytes. Appends old new bytes in
+    record {
+      number = refused.number;
+      cause = refused.cause;
+      bad = refused.bad;
+      fine_is = refused.fine_is;
+      wrote = subst P (append-nil (bad_script_text refused.number refused.cause)) (appends_both old mid new _ [] refused.wrote h);
+    }
+
+-- the answers, and then the bytes of the memory
+pub answered_in_memory : (text : List ℕ) (files : List NamedBytes) (old mid new : Option (List ℕ)) (fine : Bool) (start memory : Held) (bytes : List ℕ) → start ≡ record { bytes = []; failures = 0 }
+    → RanScript text files start.failures memory.failures (Some memory.bytes) old mid fine ⊎ (RefusedScript text old mid fine × (memory ≡ start))
+    → bytes ≡ hexadecimal_text memory.bytes → Appends mid new bytes → RanInMemory text files old new fine ⊎ RefusedScript text old new fine
+answered_in_memory text files old mid new fine start memory bytes fresh answers is h = ⊎_elim
+    (λ (ran : RanScript text files start.failures memory.failures (Some memory.bytes) old mid fine).
+    let P : ℕ → Type 0 = λ n. RanScript text files n memory.failures (Some memory.bytes) old mid fine in
+    inl (ran_in_memory text files old mid new fine memory (subst P (ap (λ (m : Held). m.failures) fresh) ran) (rw (← is) h)))
+    (λ (refused : RefusedScript text old mid fine × (memory ≡ start)).
+    let nothing : bytes ≡ [] = is ∙ ap (λ (m : Held). hexadecimal_text m.bytes) refused.1 ∙ ap (λ (m : Held). hexadecimal_text m.bytes) fresh ∙ no_lines in
+    inr (refused_in_memory text old mid new fine refused.0 (rw (← nothing) h)))
+    answers

@@ -78,3 +78,15 @@ device_of (Answers device) = device
 abbrev pub WritesNothing : {D : Type 0} → RunFault D → Option (List ℕ) → Option (List ℕ) → Type 0
 WritesNothing (Memory device) old new = Keeps old new
 WritesNothing (Answers device) old new = Unit {0}
+
+-- a script was run on a device in memory, and its answers and then the bytes that the device took were written
+pub record RanInMemory (text : List ℕ) (files : List NamedBytes) (old new : Option (List ℕ)) (fine : Bool) : Type 0 where
+  pub lines : List Line
+  pub replies : List Reply
+  pub end : Result Summary Refusal
+  pub failed : ℕ
+  pub bytes : List ℕ
+  pub script : IsScript text lines
+  pub run : WasRun files 0 (commands_of lines) replies end failed (Some bytes)
+  pub wrote : Appends old new (answers_text lines replies end ++ hexadecimal_text bytes)
+  pub fine_is : fine ≡ is_accepted replies end

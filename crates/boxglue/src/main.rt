@@ -6,6 +6,7 @@ mod fields;
 mod hexadecimal;
 mod input;
 mod lines;
+mod memory_run;
 mod name;
 mod run;
 mod script;
