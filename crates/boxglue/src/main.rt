@@ -8,6 +8,7 @@ mod input;
 mod lines;
 mod memory_run;
 mod name;
+mod program;
 mod run;
 mod script;
 #[cfg(test)]
@@ -15,7 +16,18 @@ mod tests;
 mod texts;
 
 use std::io;
+use std::process::ExitCode;
 
-fn main(rt: HostRuntime) -> io::Result<()> {
-    println!(rt; "boxglue")
+/// The program takes no words: a script from standard input, answers to standard output.
+fn main(rt: HostRuntime) -> io::Result<ExitCode> {
+    if std::env::args(&rt)?.count() > 1 {
+        return Ok(ExitCode::from(2));
+    }
+    let status = program::answer_input(
+        rt.alloc(),
+        &mut rt.reader(),
+        &mut rt.stdout(),
+        &mut rt.stderr(),
+    );
+    Ok(ExitCode::from(status))
 }
