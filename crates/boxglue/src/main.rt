@@ -9,6 +9,8 @@ mod lines;
 mod memory_run;
 mod name;
 mod program;
+#[cfg(test)]
+mod row_tests;
 mod run;
 mod script;
 #[cfg(test)]
