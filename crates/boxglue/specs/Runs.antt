@@ -63,16 +63,25 @@ pub record IsUntouched (n k : ℕ) (told : Option (List ℕ)) : Type 0 where
   pub silent : IfSome told (λ bytes. bytes ≡ [])
   pub failed_is : k ≡ n
 
--- what is known of a device where a script did not come to its answers: nothing was run on it, or the whole script was
-abbrev pub IsLeft : List ℕ → List NamedBytes → (n k : ℕ) → Option (List ℕ) → Type 0
-IsLeft text files n k told =
-    IsUntouched n k told
-    ⊎ ((lines : List Line) × (replies : List Reply) × (end : Result Summary Refusal) × IsScript text lines × WasRun files n (commands_of lines) replies end k told)
+-- a script was run, with some replies and some end
+abbrev pub WasRunWhole : List ℕ → List NamedBytes → (n k : ℕ) → Option (List ℕ) → Type 0
+WasRunWhole text files n k told =
+    (lines : List Line) × (replies : List Reply) × (end : Result Summary Refusal) × IsScript text lines × WasRun files n (commands_of lines) replies end k told
+
+-- the text is no script
+abbrev pub IsBad : List ℕ → Type 0
+IsBad text = (number : ℕ) × (cause : Cause) × IsFirstBad text number cause
 
 -- the device that a fault hands back
 abbrev pub device_of : {D : Type 0} → RunFault D → D
 device_of (Memory device) = device
 device_of (Answers device) = device
+
+-- what is known of the device that a fault hands back: nothing was run on it, or the whole script was; where only the answers are
+-- missing, nothing was run only if the text is no script
+abbrev pub IsLeft : {D : Type 0} → RunFault D → List ℕ → List NamedBytes → (n k : ℕ) → Option (List ℕ) → Type 0
+IsLeft (Memory device) text files n k told = IsUntouched n k told ⊎ WasRunWhole text files n k told
+IsLeft (Answers device) text files n k told = (IsUntouched n k told × IsBad text) ⊎ WasRunWhole text files n k told
 
 -- where memory was refused, nothing was written
 abbrev pub WritesNothing : {D : Type 0} → RunFault D → Option (List ℕ) → Option (List ℕ) → Type 0

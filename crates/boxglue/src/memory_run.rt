@@ -20,7 +20,7 @@ pub fn run_memory<W: Write>(
     ensures answers { IfOk result (λ fine.
         RanInMemory text.now files.now (W.contents writer.old) (W.contents writer.new) fine
         ⊎ RefusedScript text.now (W.contents writer.old) (W.contents writer.new) fine) }
-    ensures left { IfErr result (λ fault. IsLeft text.now files.now 0 (device_of fault).failures (Some (device_of fault).bytes)) }
+    ensures left { IfErr result (λ fault. IsLeft fault text.now files.now 0 (device_of fault).failures (Some (device_of fault).bytes)) }
 {
     let (fine, memory) = run_script(alloc, text, files, Memory::new(alloc), writer)?;
     let Ok(bytes) = hexadecimal_text(alloc, memory.bytes()) else {

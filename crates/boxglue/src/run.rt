@@ -11,13 +11,16 @@ use job_core::job::Job;
 use job_core::{Command, Device, FontFile, Refusal, Reply, Summary};
 use std::alloc::{AllocError, Global};
 use std::io::Write;
+use thiserror::Error;
 
 /// Why the answers of a script are not there. Each hands the device back.
-#[derive(Debug, Drop)]
+#[derive(Debug, Drop, Error)]
 pub enum RunFault<D> {
     /// A growth of memory was refused: nothing was run, or all was run and the job was finished.
+    #[error("a growth of memory was refused")]
     Memory(D),
     /// The writer of answers failed.
+    #[error("the answers could not be written")]
     Answers(D),
 }
 
@@ -36,7 +39,7 @@ pub fn run_script<D: Device, W: Write>(
         RanScript text.now files.now (D.failed device) (D.failed done.1) (D.told done.1) (W.contents writer.old) (W.contents writer.new) done.0
         ⊎ (RefusedScript text.now (W.contents writer.old) (W.contents writer.new) done.0 × (done.1 ≡ device))) }
     ensures left { IfErr result (λ fault.
-        IsLeft text.now files.now (D.failed device) (D.failed (device_of fault)) (D.told (device_of fault))) }
+        IsLeft fault text.now files.now (D.failed device) (D.failed (device_of fault)) (D.told (device_of fault))) }
     ensures unwritten { IfErr result (λ fault. WritesNothing fault (W.contents writer.old) (W.contents writer.new)) }
 {
     let lines = match read_script(alloc, text) {
