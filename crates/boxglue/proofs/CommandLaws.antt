@@ -1,0 +1,207 @@
+-- The function that reads a command gives the commands of the grammar.
+use Rattle.std.proofs.Common.{◌≡◌, ◌==◌, ℕ, ℤ, Bool, true, false, if◌then◌else◌, List, [], ◌∷◌, ◌++◌, Option, Some, None, Result, Ok, Err, codes, refl, ap, sym, ◌∙◌, subst, ⊎_elim}
+use Rattle.std.specs.Str.{bytes_eq}
+use Rattle.node_core.specs.declared.tree.RuleSize.{RuleSize}
+use Rattle.job_core.specs.declared.command.Command.{Command}
+use Rattle.job_core.specs.declared.command.Command.TheVariants.{OpenHbox, End, Rule, Kern, Measure, Void, Ship}
+use Rattle.boxglue.specs.declared.cause.Cause.{Cause}
+use Rattle.boxglue.specs.declared.cause.Cause.TheVariants.{Byte, Word, Missing, Extra, Number, Dimension}
+use Rattle.boxglue.specs.declared.name.Name.{Name}
+use Rattle.boxglue.specs.declared.name.Name.TheVariants as names
+use Rattle.boxglue.specs.Names.{name_of}
+use Rattle.boxglue.specs.Grammar.{IsRegister, IsDimension, IsSize, Says}
+use Rattle.boxglue.specs.Reading.{first_of, rest_of, as_word, word_first, some_or, register_of, as_register, register_first, dimension_or, as_dimension, dimension_first, map_ok, size_of, as_size, size_first, ended, and_right, last_register, last_dimension, right_and, hbox_of, rule_by, rule_of, command_named, named_by, command_by, command_of}
+use Rattle.scaled_core.specs.declared.fault.DimenFault.{DimenFault}
+use Rattle.scaled_core.specs.ParsedTexts.{read_dimension}
+use Rattle.boxglue.proofs.FieldLaws.{same_bytes, bytes_same, names_register, register_named, reads_dimension, dimension_read, gives_size, size_given}
+
+-- how a name is written
+abbrev pub name_text : Name → List ℕ
+name_text names.Hbox = codes "hbox"
+name_text names.End = codes "end"
+name_text names.Rule = codes "rule"
+name_text names.Kern = codes "kern"
+name_text names.Measure = codes "measure"
+name_text names.Void = codes "void"
+name_text names.Ship = codes "ship"
+
+one_name : (b : Bool) (word text : List ℕ) (here : Name) (later : Option Name) (name : Name) → bytes_eq word text ≡ b → text ≡ name_text here → (later ≡ Some name → word ≡ name_text name) → (if b then Some here else later) ≡ Some name → word ≡ name_text name
+one_name true word text here later name e t more h =
+    let same : here ≡ name = cc in
+    same_bytes word text e ∙ t ∙ ap name_text same
+one_name false word text here later name e t more h = more h
+
+-- a word that is a name is written so
+pub name_written : (word : List ℕ) (name : Name) → name_of word ≡ Some name → word ≡ name_text name
+unfolding name_of
+name_written word name h =
+    one_name _ word (codes "hbox") names.Hbox _ name refl refl
+    (one_name _ word (codes "end") names.End _ name refl refl
+    (one_name _ word (codes "rule") names.Rule _ name refl refl
+    (one_name _ word (codes "kern") names.Kern _ name refl refl
+    (one_name _ word (codes "measure") names.Measure _ name refl refl
+    (one_name _ word (codes "void") names.Void _ name refl refl
+    (one_name _ word (codes "ship") names.Ship None name refl refl (λ e. absurd (cc)))))))) h
+
+pub name_read : (name : Name) → name_of (name_text name) ≡ Some name
+unfolding name_of
+name_read names.Hbox = refl
+name_read names.End = refl
+name_read names.Rule = refl
+name_read names.Kern = refl
+name_read names.Measure = refl
+name_read names.Void = refl
+name_read names.Ship = refl
+
+-- the command that a name begins
+pub named : (name : Name) (rest : List (List ℕ)) → command_of (name_text name ∷ rest) ≡ command_named name rest
+unfolding command_of
+named name rest = rw (name_read name) refl
+
+-- what follows a last register
+pub register_alone : (make : ℕ → Command) (r : List ℕ) (n : ℕ) → IsRegister r n → map_ok make (last_register (r ∷ [])) ≡ Ok (make n)
+unfolding last_register register_first
+register_alone make r n h = rw (register_named r n h) refl
+
+-- the fields of a command are read as it
+pub complete : (fields : List (List ℕ)) (command : Command) → Says fields command → command_of fields ≡ Ok command
+unfolding command_named hbox_of rule_of word_first size_first last_dimension dimension_first
+complete fields (OpenHbox n) (r, e, h) = rw e (named names.Hbox (codes "into" ∷ r ∷ []) ∙ register_alone OpenHbox r n h)
+complete fields End e = rw e (named names.End [])
+complete fields (Rule sizes) (w, h, d, e, width, height, depth) =
+    rw e (named names.Rule (w ∷ h ∷ d ∷ []) ∙ (rw (size_given w sizes.width width, size_given h sizes.height height, size_given d sizes.depth depth) refl))
+complete fields (Kern z) (d, e, h) = rw e (named names.Kern (d ∷ []) ∙ (rw (dimension_read d z h) refl))
+complete fields (Measure n) (r, e, h) = rw e (named names.Measure (r ∷ []) ∙ register_alone Measure r n h)
+complete fields (Void n) (r, e, h) = rw e (named names.Void (r ∷ []) ∙ register_alone Void r n h)
+complete fields (Ship n) (r, e, h) = rw e (named names.Ship (r ∷ []) ∙ register_alone Ship r n h)
+
+-- no field is left where the end was read
+pub nothing_after : {A : Type 0} (r : Result A Cause) (rest : List (List ℕ)) (x : A) → and_right r (ended rest) ≡ Ok x → (rest ≡ []) × (r ≡ Ok x)
+nothing_after (Err cause) rest x h = absurd (cc)
+nothing_after (Ok y) [] x h = (refl, h)
+nothing_after (Ok y) (field ∷ rest) x h = absurd (cc)
+
+register_in : (r : List ℕ) (o : Option ℕ) (n : ℕ) → register_of r ≡ o → some_or Number o ≡ Ok n → IsRegister r n
+register_in r None n e h = absurd (cc)
+register_in r (Some m) n e h = names_register r n (cc)
+
+-- one register and nothing else was read
+pub register_last : (rest : List (List ℕ)) (n : ℕ) → last_register rest ≡ Ok n → (r : List ℕ) × (rest ≡ r ∷ []) × IsRegister r n
+unfolding last_register register_first
+register_last [] n h = absurd (cc)
+register_last (r ∷ rest) n h =
+    let after = nothing_after (some_or Number (register_of r)) rest n h in
+    (r, ap (λ (xs : List (List ℕ)). r ∷ xs) after.0, register_in r (register_of r) n refl after.1)
+
+dimension_in : (d : List ℕ) (o : Result ℤ DimenFault) (z : ℤ) → read_dimension d ≡ o → dimension_or o ≡ Ok z → IsDimension d z
+dimension_in d (Err fault) z e h = absurd (cc)
+dimension_in d (Ok y) z e h = reads_dimension d z (cc)
+
+-- one dimension and nothing else was read
+pub dimension_last : (rest : List (List ℕ)) (z : ℤ) → last_dimension rest ≡ Ok z → (d : List ℕ) × (rest ≡ d ∷ []) × IsDimension d z
+unfolding last_dimension dimension_first
+dimension_last [] z h = absurd (cc)
+dimension_last (d ∷ rest) z h =
+    let after = nothing_after (dimension_or (read_dimension d)) rest z h in
+    (d, ap (λ (xs : List (List ℕ)). d ∷ xs) after.0, dimension_in d (read_dimension d) z refl after.1)
+
+-- one size was read
+pub size_read : (fields : List (List ℕ)) (size : RuleSize) → size_first fields ≡ Ok size → (field : List ℕ) × (fields ≡ field ∷ rest_of fields) × IsSize field size
+unfolding size_first
+size_read [] size h = absurd (cc)
+size_read (field ∷ rest) size h = (field, refl, gives_size field size h)
+
+nothing_left : (fields : List (List ℕ)) (u : Unit {0}) → ended fields ≡ Ok u → fields ≡ []
+nothing_left [] u h = refl
+nothing_left (field ∷ rest) u h = absurd (cc)
+
+-- what was read of a rule
+pub record RuleRead (a b c : Result RuleSize Cause) (e : Result (Unit {0}) Cause) (command : Command) : Type 0 where
+  pub width : RuleSize
+  pub height : RuleSize
+  pub depth : RuleSize
+  pub width_is : a ≡ Ok width
+  pub height_is : b ≡ Ok height
+  pub depth_is : c ≡ Ok depth
+  pub end : e ≡ Ok tt
+  pub command_is : command ≡ Rule (record { width = width; height = height; depth = depth })
+
+rule_read : (a b c : Result RuleSize Cause) (e : Result (Unit {0}) Cause) (command : Command) → rule_by a b c e ≡ Ok command → RuleRead a b c e command
+rule_read (Err cause) b c e command h = absurd (cc)
+rule_read (Ok width) (Err cause) c e command h = absurd (cc)
+rule_read (Ok width) (Ok height) (Err cause) e command h = absurd (cc)
+rule_read (Ok width) (Ok height) (Ok depth) (Err cause) command h = absurd (cc)
+rule_read (Ok w) (Ok h) (Ok d) (Ok tt) command e = record { width = w; height = h; depth = d; width_is = refl; height_is = refl; depth_is = refl; end = refl; command_is = cc }
+
+made : {A : Type 0} (make : A → Command) (r : Result A Cause) (command : Command) → map_ok make r ≡ Ok command → (x : A) × (r ≡ Ok x) × (make x ≡ command)
+made make (Err cause) command h = absurd (cc)
+made make (Ok x) command h = (x, refl, cc)
+
+along : (fields : List (List ℕ)) (c d : Command) → c ≡ d → Says fields c → Says fields d
+along fields c d e h = let P : Command → Type 0 = λ x. Says fields x in subst P e h
+
+behind_hbox : (w : List ℕ) (rest : List (List ℕ)) (r : List ℕ) → w ≡ codes "into" → rest ≡ r ∷ [] → codes "hbox" ∷ w ∷ rest ≡ codes "hbox" ∷ codes "into" ∷ r ∷ []
+behind_hbox w rest r e f = rw (e, f) refl
+
+says_hbox : (w : List ℕ) (rest : List (List ℕ)) (command : Command) (b : Bool) → bytes_eq w (codes "into") ≡ b → hbox_of (w ∷ rest) ≡ Ok command → Says (codes "hbox" ∷ w ∷ rest) command
+unfolding hbox_of word_first
+says_hbox w rest command true e h =
+    let make = made OpenHbox (last_register rest) command (rw e at h) in
+    let last = register_last rest make.0 make.1 in
+    along (codes "hbox" ∷ w ∷ rest) (OpenHbox make.0) command make.2 (last.0, behind_hbox w rest last.0 (same_bytes w (codes "into") e) last.1, last.2)
+says_hbox w rest command false e h = let s : Err Word ≡ Ok command = rw e at h in absurd (cc)
+
+no_hbox : (command : Command) → hbox_of [] ≡ Ok command → ⊥
+unfolding hbox_of word_first
+no_hbox command h = cc
+
+says_alone : (name : List ℕ) (rest : List (List ℕ)) (make : ℕ → Command) (command : Command) → ((r : List ℕ) (n : ℕ) → IsRegister r n → Says (name ∷ r ∷ []) (make n)) → map_ok make (last_register rest) ≡ Ok command → Says (name ∷ rest) command
+says_alone name rest make command says h =
+    let m = made make (last_register rest) command h in
+    let last = register_last rest m.0 m.1 in
+    along _ _ _ m.2 (let P : List (List ℕ) → Type 0 = λ xs. Says (name ∷ xs) (make m.0) in subst P (sym last.1) (says last.0 m.0 last.2))
+
+says_end : (rest : List (List ℕ)) (command : Command) → right_and (ended rest) (Ok End) ≡ Ok command → Says (codes "end" ∷ rest) command
+says_end [] command h = let e : End ≡ command = cc in along _ _ _ e refl
+says_end (field ∷ rest) command h = absurd (cc)
+
+says_kern : (rest : List (List ℕ)) (command : Command) → map_ok Kern (last_dimension rest) ≡ Ok command → Says (codes "kern" ∷ rest) command
+says_kern rest command h =
+    let m = made Kern (last_dimension rest) command h in
+    let last = dimension_last rest m.0 m.1 in
+    along (codes "kern" ∷ rest) (Kern m.0) command m.2 (last.0, ap (λ (xs : List (List ℕ)). codes "kern" ∷ xs) last.1, last.2)
+
+says_rule : (rest : List (List ℕ)) (command : Command) → rule_of rest ≡ Ok command → Says (codes "rule" ∷ rest) command
+unfolding rule_of
+says_rule rest command h =
+    let r = rule_read _ _ _ _ command h in
+    let w = size_read rest r.width r.width_is in
+    let h = size_read (rest_of rest) r.height r.height_is in
+    let d = size_read (rest_of (rest_of rest)) r.depth r.depth_is in
+    let last = nothing_left (rest_of (rest_of (rest_of rest))) tt r.end in
+    let all : rest ≡ w.0 ∷ h.0 ∷ d.0 ∷ [] = cc in
+    along _ _ _ (sym r.command_is) (w.0, h.0, d.0, ap (λ (xs : List (List ℕ)). codes "rule" ∷ xs) all, w.2, h.2, d.2)
+
+says_named : (name : Name) (rest : List (List ℕ)) (command : Command) → command_named name rest ≡ Ok command → Says (name_text name ∷ rest) command
+unfolding command_named
+says_named names.Hbox [] command h = absurd (no_hbox command h)
+says_named names.Hbox (w ∷ rest) command h = says_hbox w rest command _ refl h
+says_named names.End rest command h = says_end rest command h
+says_named names.Rule rest command h = says_rule rest command h
+says_named names.Kern rest command h = says_kern rest command h
+says_named names.Measure rest command h = says_alone (codes "measure") rest Measure command (λ r n is. (r, refl, is)) h
+says_named names.Void rest command h = says_alone (codes "void") rest Void command (λ r n is. (r, refl, is)) h
+says_named names.Ship rest command h = says_alone (codes "ship") rest Ship command (λ r n is. (r, refl, is)) h
+
+says_by : (word : List ℕ) (rest : List (List ℕ)) (command : Command) (o : Option Name) → name_of word ≡ o → named_by o rest ≡ Ok command → Says (word ∷ rest) command
+says_by word rest command None e h = absurd (cc)
+says_by word rest command (Some name) e h =
+    let written = name_written word name e in
+    let P : List ℕ → Type 0 = λ w. Says (w ∷ rest) command in
+    subst P (sym written) (says_named name rest command h)
+
+-- what is read as a command says it
+pub sound : (fields : List (List ℕ)) (command : Command) → command_of fields ≡ Ok command → Says fields command
+unfolding command_of
+sound [] command h = absurd (cc)
+sound (word ∷ rest) command h = says_by word rest command (name_of word) refl h

@@ -1,0 +1,71 @@
+-- What is wrong with a line that says no command (own).
+use Rattle.std.specs.Prelude.{◌≡◌, ◌⊎◌, ℕ, Bool, true, false, List, [], ◌∷◌, ◌++◌, codes, Option, Some}
+use Rattle.std.specs.List.{list_all}
+use Rattle.node_core.specs.declared.tree.RuleSize.{RuleSize}
+use Rattle.job_core.specs.declared.command.Command.{Command}
+use Rattle.boxglue.specs.declared.cause.Cause.{Cause}
+use Rattle.boxglue.specs.declared.cause.Cause.TheVariants.{Byte, Word, Missing, Extra, Number, Dimension}
+use Rattle.boxglue.specs.declared.name.Name.{Name}
+use Rattle.boxglue.specs.Names.{name_of}
+use Rattle.boxglue.specs.ScriptLines.{is_printable, fields_of}
+use Rattle.boxglue.specs.Grammar.{IsRegister, IsSize, Says}
+
+-- the fields say some command
+abbrev pub SaysSome : List (List ℕ) → Type 0
+SaysSome fields = (command : Command) × Says fields command
+
+-- the fields begin some that say a command
+abbrev pub Begins : List (List ℕ) → Type 0
+Begins fields = (more : List (List ℕ)) × SaysSome (fields ++ more)
+
+-- one of the words of the grammar
+abbrev pub IsWord : List ℕ → Type 0
+IsWord field = ((name : Name) × (name_of field ≡ Some name)) ⊎ (field ≡ codes "into")
+
+abbrev pub NamesRegister : List ℕ → Type 0
+NamesRegister field = (n : ℕ) × IsRegister field n
+
+abbrev pub GivesSize : List ℕ → Type 0
+GivesSize field = (size : RuleSize) × IsSize field size
+
+-- a field is bad where one of that kind belongs: with a right one in its place the fields up to it begin a command, and with it they do not
+pub record HasBad (IsRight : List ℕ → Type 0) (fields : List (List ℕ)) : Type 0 where
+  pub front : List (List ℕ)
+  pub field : List ℕ
+  pub rest : List (List ℕ)
+  pub split : fields ≡ front ++ field ∷ rest
+  pub right : List ℕ
+  pub is_right : IsRight right
+  pub wanted : Begins (front ++ right ∷ [])
+  pub bad : Begins (front ++ field ∷ []) → ⊥
+
+-- a field is missing: the fields begin a command and do not say one
+pub record LacksField (fields : List (List ℕ)) : Type 0 where
+  pub begins : Begins fields
+  pub incomplete : SaysSome fields → ⊥
+
+-- a field is too many: those before it say a command, and with it they do not begin one
+pub record HasExtra (fields : List (List ℕ)) : Type 0 where
+  pub front : List (List ℕ)
+  pub field : List ℕ
+  pub rest : List (List ℕ)
+  pub split : fields ≡ front ++ field ∷ rest
+  pub whole : SaysSome front
+  pub bad : Begins (front ++ field ∷ []) → ⊥
+
+-- the cause holds of the fields
+abbrev pub IsFieldCause : Cause → List (List ℕ) → Type 0
+IsFieldCause Byte fields = ⊥
+IsFieldCause Word fields = HasBad IsWord fields
+IsFieldCause Missing fields = LacksField fields
+IsFieldCause Extra fields = HasExtra fields
+IsFieldCause Number fields = HasBad NamesRegister fields
+IsFieldCause Dimension fields = HasBad GivesSize fields
+
+-- each byte of the line is printable, 32 to 126
+abbrev pub IsPrintable : List ℕ → Type 0
+IsPrintable line = list_all is_printable line ≡ true
+
+-- the cause holds of the line: a byte is not printable, or all are and it holds of the fields
+abbrev pub IsCause : Cause → List ℕ → Type 0
+IsCause cause line = ((cause ≡ Byte) × (list_all is_printable line ≡ false)) ⊎ (IsPrintable line × IsFieldCause cause (fields_of line))

@@ -1,0 +1,23 @@
+-- The lines of a script and their fields (own). The lines of a text are those of std's word `lines`.
+use Rattle.std.specs.Prelude.{◌==◌, ℕ, Bool, true, false, not, ◌&&◌, List, [], ◌∷◌, nat_le, length}
+use Rattle.std.specs.List.{filter, slice_split}
+
+-- a byte that a command may have
+abbrev pub is_printable : ℕ → Bool
+is_printable byte = nat_le 32 byte && nat_le byte 126
+
+-- a line that counts but says nothing: an empty one, or one whose first byte is `%`
+abbrev pub is_passed_over : List ℕ → Bool
+is_passed_over [] = true
+is_passed_over (byte ∷ line) = byte == 37
+
+abbrev pub is_filled : List ℕ → Bool
+is_filled [] = false
+is_filled (byte ∷ bytes) = true
+
+abbrev pub is_space : ℕ → Bool
+is_space byte = byte == 32
+
+-- the fields of a line: its parts between spaces that are not empty
+unfoldable pub fields_of : List ℕ → List (List ℕ)
+fields_of line = filter is_filled (slice_split is_space line)

@@ -1,0 +1,127 @@
+-- The texts of answers (own).
+use Rattle.std.specs.Prelude.{◌≡◌, ◌==◌, ℕ, ℤ, ◌+◌, ◌/◌, ◌%◌, Bool, ◌||◌, true, false, if◌then◌else◌, List, [], ◌∷◌, ◌++◌, Result, Ok, Err, codes, decimal, length, nat_lt}
+use Rattle.std.specs.List.{flat_map, zip, enumerate_from}
+use Rattle.scaled_core.specs.PrintedDimensions.{dimension_text}
+use Rattle.node_core.specs.declared.tree.Kind.{Kind}
+use Rattle.node_core.specs.declared.tree.Kind.TheVariants.{Horizontal, Vertical}
+use Rattle.job_core.specs.declared.command.Sizes.{Sizes}
+use Rattle.job_core.specs.declared.command.Answer.{Answer}
+use Rattle.job_core.specs.declared.command.Answer.TheVariants.{Done, Packed, Measured, MeasuredVoid, Shipped}
+use Rattle.job_core.specs.declared.command.Refusal.{Refusal}
+use Rattle.job_core.specs.declared.command.Refusal.TheVariants.{OutOfMemory, DimensionTooLarge, NoOpenList, WrongMode, ListTooLong, TooDeep, HugePage, TooManyPages, TooMuchShipped, ListsOpen, Device, JobOver, VoidBox}
+use Rattle.job_core.specs.declared.command.Summary.{Summary}
+use Rattle.boxglue.specs.declared.cause.Cause.{Cause}
+use Rattle.boxglue.specs.declared.cause.Cause.TheVariants.{Byte, Word, Missing, Extra, Number, Dimension}
+use Rattle.boxglue.specs.declared.script.Line.{Line}
+
+-- the number of a refusal
+abbrev pub refusal_number : Refusal → ℕ
+refusal_number OutOfMemory = 1
+refusal_number DimensionTooLarge = 3
+refusal_number NoOpenList = 7
+refusal_number WrongMode = 8
+refusal_number ListTooLong = 10
+refusal_number TooDeep = 11
+refusal_number HugePage = 14
+refusal_number TooManyPages = 15
+refusal_number TooMuchShipped = 16
+refusal_number ListsOpen = 17
+refusal_number Device = 18
+refusal_number JobOver = 19
+refusal_number VoidBox = 21
+
+-- and its name
+abbrev pub refusal_name : Refusal → List ℕ
+refusal_name OutOfMemory = codes "OutOfMemory"
+refusal_name DimensionTooLarge = codes "DimensionTooLarge"
+refusal_name NoOpenList = codes "NoOpenList"
+refusal_name WrongMode = codes "WrongMode"
+refusal_name ListTooLong = codes "ListTooLong"
+refusal_name TooDeep = codes "TooDeep"
+refusal_name HugePage = codes "HugePage"
+refusal_name TooManyPages = codes "TooManyPages"
+refusal_name TooMuchShipped = codes "TooMuchShipped"
+refusal_name ListsOpen = codes "ListsOpen"
+refusal_name Device = codes "Device"
+refusal_name JobOver = codes "JobOver"
+refusal_name VoidBox = codes "VoidBox"
+
+abbrev pub cause_name : Cause → List ℕ
+cause_name Byte = codes "Byte"
+cause_name Word = codes "Word"
+cause_name Missing = codes "Missing"
+cause_name Extra = codes "Extra"
+cause_name Number = codes "Number"
+cause_name Dimension = codes "Dimension"
+
+abbrev pub kind_name : Kind → List ℕ
+kind_name Horizontal = codes "hbox"
+kind_name Vertical = codes "vbox"
+
+abbrev pub line_feed : List ℕ
+line_feed = 10 ∷ []
+
+-- a dimension in points
+unfoldable pub points_text : ℤ → List ℕ
+points_text dimension = dimension_text dimension ++ codes "pt"
+
+unfoldable pub sizes_text : Sizes → List ℕ
+sizes_text sizes = points_text sizes.width ++ (codes " " ++ (points_text sizes.height ++ (codes " " ++ points_text sizes.depth)))
+
+unfoldable pub refusal_text : Refusal → List ℕ
+refusal_text refusal = codes "refused " ++ (decimal (refusal_number refusal) ++ (codes " " ++ refusal_name refusal))
+
+unfoldable pub answer_text : Answer → List ℕ
+answer_text Done = codes "ok"
+answer_text (Packed sizes badness) = codes "packed " ++ (sizes_text sizes ++ (codes " badness " ++ decimal badness))
+answer_text (Measured kind sizes) = codes "measured " ++ (kind_name kind ++ (codes " " ++ sizes_text sizes))
+answer_text MeasuredVoid = codes "measured void"
+answer_text (Shipped pages) = codes "shipped " ++ decimal pages
+
+abbrev pub reply_text : Result Answer Refusal → List ℕ
+reply_text (Ok answer) = answer_text answer
+reply_text (Err refusal) = refusal_text refusal
+
+-- the line that answers a line of a script
+unfoldable pub answer_line : Line → Result Answer Refusal → List ℕ
+answer_line line reply = decimal line.number ++ (codes ": " ++ (reply_text reply ++ line_feed))
+
+abbrev pub summary_text : Result Summary Refusal → List ℕ
+summary_text (Ok summary) = codes "pages " ++ (decimal summary.pages ++ (codes " bytes " ++ decimal summary.bytes))
+summary_text (Err refusal) = refusal_text refusal
+
+-- the last line
+unfoldable pub end_line : Result Summary Refusal → List ℕ
+end_line end = codes "end: " ++ (summary_text end ++ line_feed)
+
+-- the lines that answer the lines of a script
+abbrev pub answer_lines : List Line → List (Result Answer Refusal) → List ℕ
+answer_lines lines replies = flat_map (λ p. answer_line p.0 p.1) (zip lines replies)
+
+-- all texts of a script that was run: an answer for each line that says a command, and the end
+unfoldable pub answers_text : List Line → List (Result Answer Refusal) → Result Summary Refusal → List ℕ
+answers_text lines replies end = answer_lines lines replies ++ end_line end
+
+-- the text for a bad script
+unfoldable pub bad_script_text : ℕ → Cause → List ℕ
+bad_script_text number cause = codes "refused 2 BadScript " ++ (decimal number ++ (codes " " ++ (cause_name cause ++ line_feed)))
+
+-- a lower case hexadecimal digit
+abbrev pub hexadecimal_digit : ℕ → ℕ
+hexadecimal_digit n = if nat_lt n 10 then 48 + n else 87 + n
+
+-- whether a line feed stands behind this byte of so many: behind each sixteenth and behind the last
+abbrev pub ends_line : ℕ → ℕ → Bool
+ends_line count index = (index % 16 == 15) || (index + 1 == count)
+
+unfoldable pub byte_text : ℕ → ℕ → ℕ → List ℕ
+byte_text count index byte =
+    hexadecimal_digit (byte / 16) ∷ hexadecimal_digit (byte % 16) ∷ (if ends_line count index then line_feed else [])
+
+-- some of so many bytes, the first of them at this index
+abbrev pub bytes_text : ℕ → ℕ → List ℕ → List ℕ
+bytes_text count index bytes = flat_map (λ p. byte_text count p.0 p.1) (enumerate_from index bytes)
+
+-- bytes in lines of sixteen, two digits each
+unfoldable pub hexadecimal_text : List ℕ → List ℕ
+hexadecimal_text bytes = bytes_text (length bytes) 0 bytes

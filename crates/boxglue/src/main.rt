@@ -1,0 +1,35 @@
+//! Boxglue: a typesetter of command scripts with TeX's model of boxes and glue.
+#![tactic(auto)]
+
+mod cause;
+mod fields;
+mod hexadecimal;
+mod input;
+mod lines;
+mod memory_run;
+mod name;
+mod program;
+#[cfg(test)]
+mod row_tests;
+mod run;
+mod script;
+#[cfg(test)]
+mod tests;
+mod texts;
+
+use std::io;
+use std::process::ExitCode;
+
+/// The program takes no words: a script from standard input, answers to standard output.
+fn main(rt: HostRuntime) -> io::Result<ExitCode> {
+    if std::env::args(&rt)?.count() > 1 {
+        return Ok(ExitCode::from(2));
+    }
+    let status = program::answer_input(
+        rt.alloc(),
+        &mut rt.reader(),
+        &mut rt.stdout(),
+        &mut rt.stderr(),
+    );
+    Ok(ExitCode::from(status))
+}
