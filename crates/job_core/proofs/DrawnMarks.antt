@@ -1,5 +1,5 @@
 -- What is drawn for marks has these marks, by the meaning of instructions, and can be spelled.
-use Rattle.std.proofs.Common.{◌≡◌, zero, suc, ◌^◌, List, [], ◌∷◌, ◌++◌, refl, ap, sym, ◌∙◌, subst, arith}
+use Rattle.std.proofs.Common.{◌≡◌, ℕ, zero, suc, ◌≤◌, ◌<◌, ◌^◌, List, [], ◌∷◌, ◌++◌, refl, ap, sym, ◌∙◌, subst, arith}
 use Rattle.std.specs.Prelude.{ℤ, pos, negsuc, ◌+ℤ◌, ◌-ℤ◌, ◌≤ℤ◌, neg_ℤ, Bool, true, false, ◌&&◌, if◌then◌else◌, int_lt, Option, Some, None}
 use Rattle.std.specs.List.{list_all, AllByRecursion}
 use Rattle.std.proofs.lemmas.Int.{ints}
@@ -7,7 +7,7 @@ use Rattle.std.proofs.lemmas.Bool.{leb-true, ltb-true, lt-ltb}
 use Rattle.std.proofs.lemmas.List.Folds.{list_all-append}
 use Rattle.scaled_core.specs.Dimensions.{Within}
 use Rattle.node_core.specs.declared.tree.Node.{Node}
-use Rattle.node_core.specs.declared.tree.Node.TheVariants.{Kern, Rule}
+use Rattle.node_core.specs.declared.tree.Node.TheVariants.{Glyph, FontKern, Kern, Glue, Rule}
 use Rattle.node_core.specs.declared.tree.BoxNode.{BoxNode}
 use Rattle.dvi_ops.specs.Instruction.{Axis, Across, Downward, SetRule}
 use Rattle.dvi_ops.specs.Body as body
@@ -19,6 +19,7 @@ use Rattle.dvi_ops.specs.Layout.{IsWritable}
 use Rattle.dvi_ops.proofs.Appends.{all_append}
 use Rattle.job_core.specs.Packing.{fits, own_size, total, advance}
 use Rattle.job_core.specs.Marks.{size_in, rule_mark, mark_of, marks_behind, numbers_of, numbers_behind}
+use Rattle.job_core.specs.Plain.{is_glyph, HasNoGlyph}
 use Rattle.job_core.specs.Drawing.{moved_by, drawn}
 use Rattle.job_core.proofs.Places.{first_of_and, rest_of_and}
 
@@ -184,21 +185,24 @@ rule_drawn h v corner height width all = by_test (int_lt (pos 0) height && int_l
         (record { h = fit.0; v = fit.1.1.0; end = fit.1.0; tall = fit.1.1.1; positive = is }, tt)
 
 -- The mark of an item can be drawn where its numbers fit.
-mark_drawn : (b : BoxNode) (h v : ℤ) (x : Node) → list_all fits (numbers_of b h v x) ≡ true → AllByRecursion IsDrawn (mark_of b h v x)
-mark_drawn b h v (Kern width) all = tt
-mark_drawn b h v (Rule rule) all =
+mark_drawn : (b : BoxNode) (h v : ℤ) (x : Node) → is_glyph x ≡ false → list_all fits (numbers_of b h v x) ≡ true → AllByRecursion IsDrawn (mark_of b h v x)
+mark_drawn b h v (Glyph glyph) plain all = cc
+mark_drawn b h v (FontKern width) plain all = tt
+mark_drawn b h v (Kern width) plain all = tt
+mark_drawn b h v (Glue glue) plain all = tt
+mark_drawn b h v (Rule rule) plain all =
     rule_drawn h v (v +ℤ size_in b.depth rule.depth) (size_in b.height rule.height +ℤ size_in b.depth rule.depth) (own_size rule.width) all
 
 -- All marks of a list can be drawn where all its numbers fit.
 pub marks_drawn :
-    (b : BoxNode) (h v : ℤ) (before after : List Node) → list_all fits (numbers_behind b h v before after) ≡ true
+    (b : BoxNode) (h v : ℤ) (before after : List Node) → HasNoGlyph after → list_all fits (numbers_behind b h v before after) ≡ true
     → AllByRecursion IsDrawn (marks_behind b h v before after)
-marks_drawn b h v before [] all = tt
-marks_drawn b h v before (x ∷ after) all =
+marks_drawn b h v before [] plain all = tt
+marks_drawn b h v before (x ∷ after) plain all =
     let here = numbers_of b (h +ℤ total advance before) v x in
     let rest = numbers_behind b h v (before ++ x ∷ []) after in
     let both : (list_all fits here && list_all fits rest) ≡ true = sym (list_all-append fits here rest) ∙ all in
     let first = first_of_and (list_all fits here) (list_all fits rest) both in
     all_append IsDrawn (mark_of b (h +ℤ total advance before) v x) (marks_behind b h v (before ++ x ∷ []) after)
-    (mark_drawn b (h +ℤ total advance before) v x first)
-    (marks_drawn b h v (before ++ x ∷ []) after (rest_of_and (list_all fits here) (list_all fits rest) true (sym first) both))
+    (mark_drawn b (h +ℤ total advance before) v x plain.0 first)
+    (marks_drawn b h v (before ++ x ∷ []) after plain.1 (rest_of_and (list_all fits here) (list_all fits rest) true (sym first) both))

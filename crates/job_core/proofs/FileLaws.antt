@@ -1,6 +1,6 @@
 -- What the writer writes for pages that ships make is a DVI file of them.
-use Rattle.std.proofs.Common.{◌≡◌, ℕ, zero, suc, ◌<◌, ◌%◌, ◌^◌, List, [], ◌∷◌, ◌++◌, length, map, replicate, refl, ap, ap₂, sym, ◌∙◌, subst, arith, append_assoc, append-nil, length-append}
-use Rattle.std.specs.Prelude.{ℤ, pos, ◌+ℤ◌, false, None, IsSome}
+use Rattle.std.proofs.Common.{◌≡◌, ◌≢◌, ℕ, zero, suc, ◌+◌, ◌≤◌, ◌<◌, ◌%◌, ◌^◌, List, [], ◌∷◌, ◌++◌, length, map, replicate, refl, ap, ap₂, sym, ◌∙◌, subst, subst₂, arith, append_assoc, append-nil, length-append, max}
+use Rattle.std.specs.Prelude.{ℤ, pos, negsuc, ◌+ℤ◌, ◌≤ℤ◌, Bool, true, false, Option, Some, None, IsSome}
 use Rattle.std.specs.Int.{int_max}
 use Rattle.std.specs.List.{AllByRecursion}
 use Rattle.std.proofs.lemmas.Int.{ints, clamps}
@@ -9,15 +9,17 @@ use Rattle.scaled_core.specs.Dimensions.{Within}
 use Rattle.node_core.specs.declared.tree.BoxNode.{BoxNode}
 use Rattle.node_core.specs.Nodes.{nodes_of}
 use Rattle.dvi_ops.specs.Instruction.{Definition, Instruction, Post, PostPost, Postamble}
-use Rattle.dvi_ops.specs.Body.{Mark, start}
+use Rattle.dvi_ops.specs.Body.{Mark, Registers, Pair, start}
 use Rattle.dvi_ops.specs.Forest.{flat, nests}
-use Rattle.dvi_ops.specs.Fonts.{Metrics, selections, defined}
+use Rattle.dvi_ops.specs.Fonts.{Metrics, definitions, selections, defined, font_in}
+use Rattle.dvi_ops.specs.File as file
 use Rattle.dvi_ops.specs.File.{IsFile}
 use Rattle.dvi_ops.specs.Spelling.{spelling, operand, NumberFits}
-use Rattle.dvi_ops.specs.Layout.{bytes_of, preamble, scaled_points, Written, at_first, sheet_from, after, sheets_from, after_all, front_of, stop_of, ending_of, whole_of, padding_after, Table, table_widths, IsGood, AreGood, IsClosing}
+use Rattle.dvi_ops.specs.Layout.{bytes_of, preamble, scaled_points, Sheet, Written, at_first, sheet_from, after, sheets_from, after_all, front_of, stop_of, ending_of, whole_of, padding_after, Table, table_widths, IsGood, AreGood, IsClosing}
 use Rattle.dvi_ops.proofs.Layouts.{bytes_of-append}
 use Rattle.dvi_ops.proofs.WholeFile.{whole_file, padding_low}
 use Rattle.job_core.specs.Marks.{Page, marks_of_page, marks_of_box, marks_behind, is_huge}
+use Rattle.job_core.specs.Plain.{HasNoGlyph}
 use Rattle.job_core.specs.Drawing.{drawn, body_of}
 use Rattle.job_core.specs.Draft.{Draft, first_draft, with_page, with_pages, draft_of, sheet_of, reach_down, reach_right, closing, closed, whole, file_of}
 use Rattle.job_core.specs.Machine.{page_of}
@@ -59,13 +61,13 @@ drawn_good metrics known marks all =
     }
 
 -- The page of a box that a ship accepts can be written, and shows the marks of the box.
-page_good : (metrics : Metrics) (known : List Definition) (b : BoxNode) → is_huge (page_of b) ≡ false → IsGood metrics no_fonts known (sheet_of (page_of b)) (marks_of_page (page_of b))
+page_good : (metrics : Metrics) (known : List Definition) (b : BoxNode) → is_huge (page_of b) ≡ false → HasNoGlyph (nodes_of b.list) → IsGood metrics no_fonts known (sheet_of (page_of b)) (marks_of_page (page_of b))
 unfolding body_of marks_of_box
-page_good metrics known b small = drawn_good metrics known (marks_behind b (pos 0) b.height [] (nodes_of b.list)) (marks_drawn b (pos 0) b.height [] (nodes_of b.list) (fitting b small))
+page_good metrics known b small plain = drawn_good metrics known (marks_behind b (pos 0) b.height [] (nodes_of b.list)) (marks_drawn b (pos 0) b.height [] (nodes_of b.list) plain (fitting b small))
 
 pub shipped_good : (metrics : Metrics) (known : List Definition) (page : Page) → IsShipped page → IsGood metrics no_fonts known (sheet_of page) (marks_of_page page)
-shipped_good metrics known page (is, small) =
-    subst (λ p. IsGood metrics no_fonts known (sheet_of p) (marks_of_page p)) (sym is) (page_good metrics known page.shown (ap is_huge (sym is) ∙ small))
+shipped_good metrics known page (is, small, plain) =
+    subst (λ p. IsGood metrics no_fonts known (sheet_of p) (marks_of_page p)) (sym is) (page_good metrics known page.shown (ap is_huge (sym is) ∙ small) plain)
 
 pub pages_good : (metrics : Metrics) (s : Written) (pages : List Page) → AllByRecursion IsShipped pages → AreGood metrics no_fonts s (map sheet_of pages) (map shown_page pages)
 pages_good metrics s [] all = tt
@@ -148,7 +150,7 @@ abbrev HasReach : Page → Type 0
 HasReach page = Within 1073741823 (reach_down page) × Within 1073741823 (reach_right page)
 
 reaches : (page : Page) → IsShipped page → HasReach page
-reaches page (is, small) =
+reaches page (is, small, plain) =
     let b = page.shown in
     let fine : is_huge (page_of b) ≡ false = ap is_huge (sym is) ∙ small in
     subst HasReach (sym is) (fits_within (b.height +ℤ b.depth) (fits_down b fine), fits_within (pos 0 +ℤ b.width) (fits_right b fine))
