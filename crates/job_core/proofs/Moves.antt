@@ -11,7 +11,7 @@ use Rattle.job_core.specs.declared.command.Command.TheVariants.{OpenHbox, End, R
 use Rattle.job_core.specs.declared.command.Refusal.{Refusal}
 use Rattle.job_core.specs.declared.command.Refusal.TheVariants.{OutOfMemory, JobOver, VoidBox, TooManyPages, TooMuchShipped, HugePage}
 use Rattle.job_core.specs.Reply.{Reply}
-use Rattle.job_core.specs.NamedBytes.{NamedBytes}
+use Rattle.tfm_core.specs.NamedBytes.{NamedBytes}
 use Rattle.dvi_ops.specs.Spelling.{spelling, operand}
 use Rattle.job_core.specs.Marks.{Page}
 use Rattle.job_core.specs.Machine.{State, Machine, checks, own_checks, first_of, reply_to, after, state_by, state_after, new_pages, pages_of, page_of, held_in, count_in, is_huge_in, step, stopped, most_shipped, most_pages, first_state}

@@ -11,7 +11,7 @@ use Rattle.node_core.proofs.NodeLemmas.{nodes_of-items_of}
 use Rattle.job_core.specs.declared.nest.OpenList.{OpenList}
 use Rattle.job_core.specs.declared.command.Command.{Command}
 use Rattle.job_core.specs.declared.command.Command.TheVariants.{OpenHbox, End, Rule, Kern, Measure, Void, Ship}
-use Rattle.job_core.specs.NamedBytes.{NamedBytes}
+use Rattle.tfm_core.specs.NamedBytes.{NamedBytes}
 use Rattle.job_core.specs.Packing.{packed}
 use Rattle.job_core.specs.Plain.{is_glyph, HasNoGlyph, IsPlainList, IsPlainHeld, IsPlain}
 use Rattle.job_core.specs.Machine.{State, first_state, innermost, outer, with_node, held_in, with_packed, after}

@@ -5,7 +5,7 @@ use Rattle.job_core.specs.declared.command.Command.{Command}
 use Rattle.job_core.specs.declared.command.Refusal.{Refusal}
 use Rattle.job_core.specs.declared.command.Summary.{Summary}
 use Rattle.job_core.specs.Reply.{Reply}
-use Rattle.job_core.specs.NamedBytes.{NamedBytes}
+use Rattle.tfm_core.specs.NamedBytes.{NamedBytes}
 use Rattle.job_core.specs.Machine.{Machine, first_machine}
 use Rattle.job_core.specs.Runs.{Seen, Run, Finishes}
 use Rattle.job_core.specs.Shown.{IsFileOf}

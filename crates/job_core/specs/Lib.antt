@@ -1,6 +1,5 @@
 pub mod Told
 pub mod Held
-pub mod NamedBytes
 pub mod Packing
 pub mod Marks
 pub mod Reply

@@ -18,7 +18,7 @@ use Rattle.job_core.specs.declared.command.Refusal.TheVariants.{DimensionTooLarg
 use Rattle.job_core.specs.Reply.{Reply}
 use Rattle.job_core.specs.Packing.{fits, packed, total, advance}
 use Rattle.job_core.specs.Marks.{Page, is_huge}
-use Rattle.job_core.specs.NamedBytes.{NamedBytes}
+use Rattle.tfm_core.specs.NamedBytes.{NamedBytes}
 
 -- What commands read and change: the font files; the open lists, the outermost first; the registers by number; how many nodes
 -- and pages were shipped; and whether the job is over.

@@ -5,7 +5,7 @@ use Rattle.node_core.specs.declared.tree.BoxNode.{BoxNode}
 use Rattle.node_core.specs.contracts.tree.BoxNode as box_node
 use Rattle.job_core.specs.declared.nest.OpenList.{OpenList}
 use Rattle.job_core.specs.contracts.nest.OpenList as open_list
-use Rattle.job_core.specs.NamedBytes.{NamedBytes}
+use Rattle.tfm_core.specs.NamedBytes.{NamedBytes}
 use Rattle.job_core.specs.Machine.{State}
 use Rattle.job_core.specs.Draft.{Draft}
 use Rattle.job_core.specs.Runs.{Seen}

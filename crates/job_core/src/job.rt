@@ -13,11 +13,11 @@ ghost use Rattle.job_core.specs.Closing.{ClosesFile};
 
 use crate::command::{Answer, Command, Refusal, Register, Reply, Summary};
 use crate::device::{Device, write_all};
-use crate::font_file::FontFile;
 use crate::kept::Kept;
 use crate::writer::Writer;
 use std::alloc::{AllocError, Global};
 use std::marker::Model;
+use tfm_core::FontFile;
 
 /// Ships the box in a register: its page is added to the draft.
 fn ship(kept: &mut Kept, writer: &mut Writer, register: Register) -> Result<Reply, AllocError>

@@ -7,7 +7,6 @@ ghost use Rattle.job_core.specs.Plain.{HasNoGlyph, IsPlain};
 ghost use Rattle.job_core.specs.Machine.{first_state, held_in, checks, first_of, reply_to, state_after, after, sizes_of};
 
 use crate::command::{Answer, Refusal, Register, Reply, Sizes};
-use crate::font_file::FontFile;
 use crate::nest::Nest;
 use crate::registers::Registers;
 use crate::{pack, plan};
@@ -15,6 +14,7 @@ use node_core::{BoxNode, Node, Rule, RuleSize};
 use scaled_core::Dimen;
 use std::alloc::{AllocError, Global};
 use std::marker::Model;
+use tfm_core::FontFile;
 
 /// The kept state: font files, open lists, registers and numbers.
 #[derive(Debug, Drop)]

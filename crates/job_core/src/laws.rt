@@ -5,7 +5,7 @@ ghost use Rattle.job_core.specs.declared.command.Command.{Command};
 ghost use Rattle.job_core.specs.declared.command.Refusal.{Refusal};
 ghost use Rattle.job_core.specs.declared.command.Summary.{Summary};
 ghost use Rattle.job_core.specs.Reply.{Reply};
-ghost use Rattle.job_core.specs.NamedBytes.{NamedBytes};
+ghost use Rattle.tfm_core.specs.NamedBytes.{NamedBytes};
 ghost use Rattle.job_core.specs.Machine.{Machine, first_machine};
 ghost use Rattle.job_core.specs.Runs.{Seen, Holds, KeepsTo, RunsTo, FinishesTo};
 ghost use Rattle.job_core.specs.Shown.{FilesPages};

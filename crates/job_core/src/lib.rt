@@ -3,7 +3,6 @@
 
 pub mod command;
 pub mod device;
-pub mod font_file;
 pub mod job;
 mod kept;
 pub mod laws;
@@ -16,4 +15,4 @@ mod writer;
 
 pub use command::{Answer, Command, Refusal, Register, Reply, Sizes, Summary};
 pub use device::{Device, DeviceFault, Memory};
-pub use font_file::FontFile;
+pub use tfm_core::FontFile;

@@ -5,3 +5,4 @@ pub mod Program
 pub mod Rules
 pub mod Scaling
 pub mod Words
+pub mod NamedBytes

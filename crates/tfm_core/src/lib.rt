@@ -4,6 +4,7 @@
 mod entries;
 pub mod fault;
 pub mod font;
+pub mod font_file;
 pub mod laws;
 mod places;
 mod program;
@@ -16,5 +17,6 @@ pub mod tfm;
 
 pub use fault::{FontFault, TfmCause, TfmFault};
 pub use font::{Font, GlyphSize, Space, Step};
+pub use font_file::FontFile;
 pub use scaling::{FontSize, scaled};
 pub use tfm::Tfm;

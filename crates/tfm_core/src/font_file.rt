@@ -1,7 +1,7 @@
 //! Font files that are handed in by name.
 
 ghost use Rattle.std.specs.Prelude.{◌≡◌, IfOk};
-ghost use Rattle.job_core.specs.NamedBytes.{NamedBytes};
+ghost use Rattle.tfm_core.specs.NamedBytes.{NamedBytes};
 
 use std::alloc::{AllocError, Global};
 use std::marker::Model;
@@ -14,7 +14,7 @@ pub struct FontFile {
 }
 
 impl Model for FontFile {
-    ghost use Rattle.job_core.specs.NamedBytes.{NamedBytes};
+    ghost use Rattle.tfm_core.specs.NamedBytes.{NamedBytes};
 
     ghost Value = { NamedBytes };
 
