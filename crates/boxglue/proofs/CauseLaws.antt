@@ -1,5 +1,5 @@
 -- The cause that the function names holds of the fields.
-use Rattle.std.proofs.Common.{◌≡◌, ◌==◌, ◌⊎◌, inl, inr, ℕ, ℤ, pos, ◌<◌, Bool, true, false, if◌then◌else◌, List, [], ◌∷◌, ◌++◌, Option, Some, None, Result, Ok, Err, codes, refl, ap, sym, ◌∙◌, subst, append_assoc, arith}
+use Rattle.std.proofs.Common.{◌≡◌, inl, inr, ℕ, ℤ, pos, Bool, true, false, List, [], ◌∷◌, ◌++◌, Option, Some, None, Result, Ok, Err, codes, refl, ap, sym, ◌∙◌, subst, append_assoc}
 use Rattle.std.specs.Str.{bytes_eq}
 use Rattle.std.proofs.lemmas.List.{append-nil}
 use Rattle.node_core.specs.declared.tree.RuleSize.{RuleSize}
@@ -7,18 +7,17 @@ use Rattle.node_core.specs.declared.tree.RuleSize.TheVariants.{Running, Fixed}
 use Rattle.job_core.specs.declared.command.Command.{Command}
 use Rattle.job_core.specs.declared.command.Command.TheVariants.{OpenHbox, End, Rule, Kern, Measure, Void, Ship}
 use Rattle.boxglue.specs.declared.cause.Cause.{Cause}
-use Rattle.boxglue.specs.declared.cause.Cause.TheVariants.{Byte, Word, Missing, Extra, Number, Dimension}
+use Rattle.boxglue.specs.declared.cause.Cause.TheVariants.{Word, Missing, Extra, Number, Dimension}
 use Rattle.boxglue.specs.declared.name.Name.{Name}
 use Rattle.boxglue.specs.declared.name.Name.TheVariants as names
 use Rattle.boxglue.specs.Names.{name_of}
-use Rattle.boxglue.specs.Grammar.{IsRegister, IsDimension, IsSize, Says}
 use Rattle.boxglue.specs.Causes.{SaysSome, Begins, IsWord, NamesRegister, GivesSize, HasBad, LacksField, HasExtra, IsFieldCause}
-use Rattle.boxglue.specs.Reading.{first_of, rest_of, as_word, word_first, some_or, register_of, as_register, register_first, dimension_or, as_dimension, dimension_first, map_ok, size_of, as_size, size_first, ended, and_right, last_register, last_dimension, right_and, hbox_of, rule_by, rule_of, command_named, named_by, command_by, command_of, is_numeral, register_number}
+use Rattle.boxglue.specs.Reading.{word_first, some_or, register_of, register_first, dimension_or, dimension_first, map_ok, size_of, size_first, ended, and_right, last_register, last_dimension, right_and, hbox_of, rule_of, command_named, named_by, command_of}
 use Rattle.scaled_core.specs.declared.fault.DimenFault.{DimenFault}
 use Rattle.scaled_core.specs.Rounding.{nearest}
 use Rattle.scaled_core.specs.DimensionTexts.{decimal_fraction}
 use Rattle.scaled_core.specs.ParsedTexts.{read_dimension, dimension_value, fitted, measured, unit_named, is_negative, behind_sign, front_digits, behind_digits, point_digits, behind_fraction}
-use Rattle.boxglue.proofs.FieldLaws.{same_bytes, bytes_same, names_register, register_named, reads_dimension, dimension_read, gives_size, size_given}
+use Rattle.boxglue.proofs.FieldLaws.{same_bytes, names_register, reads_dimension}
 use Rattle.boxglue.proofs.CommandLaws.{name_text, name_written, name_read, named, complete, sound}
 
 -- reading fails

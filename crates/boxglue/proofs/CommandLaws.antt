@@ -1,19 +1,19 @@
 -- The function that reads a command gives the commands of the grammar.
-use Rattle.std.proofs.Common.{◌≡◌, ◌==◌, ℕ, ℤ, Bool, true, false, if◌then◌else◌, List, [], ◌∷◌, ◌++◌, Option, Some, None, Result, Ok, Err, codes, refl, ap, sym, ◌∙◌, subst, ⊎_elim}
+use Rattle.std.proofs.Common.{◌≡◌, ℕ, ℤ, Bool, true, false, if◌then◌else◌, List, [], ◌∷◌, Option, Some, None, Result, Ok, Err, codes, refl, ap, sym, ◌∙◌, subst}
 use Rattle.std.specs.Str.{bytes_eq}
 use Rattle.node_core.specs.declared.tree.RuleSize.{RuleSize}
 use Rattle.job_core.specs.declared.command.Command.{Command}
 use Rattle.job_core.specs.declared.command.Command.TheVariants.{OpenHbox, End, Rule, Kern, Measure, Void, Ship}
 use Rattle.boxglue.specs.declared.cause.Cause.{Cause}
-use Rattle.boxglue.specs.declared.cause.Cause.TheVariants.{Byte, Word, Missing, Extra, Number, Dimension}
+use Rattle.boxglue.specs.declared.cause.Cause.TheVariants.{Word, Number}
 use Rattle.boxglue.specs.declared.name.Name.{Name}
 use Rattle.boxglue.specs.declared.name.Name.TheVariants as names
 use Rattle.boxglue.specs.Names.{name_of}
 use Rattle.boxglue.specs.Grammar.{IsRegister, IsDimension, IsSize, Says}
-use Rattle.boxglue.specs.Reading.{first_of, rest_of, as_word, word_first, some_or, register_of, as_register, register_first, dimension_or, as_dimension, dimension_first, map_ok, size_of, as_size, size_first, ended, and_right, last_register, last_dimension, right_and, hbox_of, rule_by, rule_of, command_named, named_by, command_by, command_of}
+use Rattle.boxglue.specs.Reading.{rest_of, word_first, some_or, register_of, register_first, dimension_or, dimension_first, map_ok, size_first, ended, and_right, last_register, last_dimension, right_and, hbox_of, rule_by, rule_of, command_named, named_by, command_of}
 use Rattle.scaled_core.specs.declared.fault.DimenFault.{DimenFault}
 use Rattle.scaled_core.specs.ParsedTexts.{read_dimension}
-use Rattle.boxglue.proofs.FieldLaws.{same_bytes, bytes_same, names_register, register_named, reads_dimension, dimension_read, gives_size, size_given}
+use Rattle.boxglue.proofs.FieldLaws.{same_bytes, names_register, register_named, reads_dimension, dimension_read, gives_size, size_given}
 
 -- how a name is written
 abbrev pub name_text : Name → List ℕ

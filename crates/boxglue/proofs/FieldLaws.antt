@@ -1,7 +1,7 @@
 -- What the functions that read one field say.
-use Rattle.std.proofs.Common.{◌≡◌, ◌==◌, ℕ, ℤ, pos, negsuc, ◌+◌, ◌<◌, ◌≤◌, Bool, true, false, List, [], ◌∷◌, Option, Some, None, Result, Ok, Err, codes, refl, ap, sym, ◌∙◌, arith, nat_lt, ⊎_elim, subst, unsigned_abs}
+use Rattle.std.proofs.Common.{◌≡◌, ℕ, ℤ, pos, negsuc, ◌<◌, Bool, true, false, List, Some, None, Result, Ok, Err, codes, refl, ap, sym, ◌∙◌, arith, nat_lt, subst, unsigned_abs}
 use Rattle.std.specs.Str.{bytes_eq}
-use Rattle.std.specs.Str.Parse.{IsNumeral, without_leading_sign, signed_digits_value}
+use Rattle.std.specs.Str.Parse.{without_leading_sign, signed_digits_value}
 use Rattle.std.proofs.lemmas.Bool.{ltb-true, lt-ltb, le-leb}
 use Rattle.std.proofs.lemmas.Slice.Eq.{bytes_eq-Decides}
 use Rattle.scaled_core.specs.declared.fault.DimenFault.{DimenFault}
@@ -10,8 +10,6 @@ use Rattle.scaled_core.proofs.ReadingCases.{reads-ok, reads-fits, abs-le_from_fi
 use Rattle.scaled_core.proofs.TextLaws.{dimension_value-from_text}
 use Rattle.node_core.specs.declared.tree.RuleSize.{RuleSize}
 use Rattle.node_core.specs.declared.tree.RuleSize.TheVariants.{Running, Fixed}
-use Rattle.boxglue.specs.declared.cause.Cause.{Cause}
-use Rattle.boxglue.specs.declared.cause.Cause.TheVariants.{Byte, Word, Missing, Extra, Number, Dimension}
 use Rattle.boxglue.specs.Grammar.{IsRegister, IsDimension, IsSize}
 use Rattle.boxglue.specs.Reading.{register_of, register_number, is_numeral, size_of, map_ok, dimension_or}
 use Rattle.boxglue.proofs.Registers.{numeral, number_names}

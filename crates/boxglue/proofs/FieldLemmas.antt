@@ -1,10 +1,10 @@
 -- The first field of a line.
-use Rattle.std.proofs.Common.{◌≡◌, ◌==◌, ℕ, ◌+◌, ◌-◌, ◌<◌, ◌≤◌, suc, Bool, true, false, cond, not, List, [], ◌∷◌, ◌++◌, length, take, drop, get_or, refl, ap, sym, ◌∙◌, arith, ⊎_elim}
+use Rattle.std.proofs.Common.{◌≡◌, ℕ, ◌+◌, ◌<◌, ◌≤◌, Bool, true, false, List, [], ◌∷◌, length, take, drop, get_or, refl, ap, sym, ◌∙◌, arith, ⊎_elim}
 use Rattle.std.proofs.Math.Numerals.{one-add}
-use Rattle.std.specs.List.{slice_split, onto_first, filter, prefix_len, position_or_len, before_first, after_first}
+use Rattle.std.specs.List.{slice_split, filter, prefix_len}
 use Rattle.std.proofs.lemmas.List.Splits.{slice_split_first, slice_split_none, slice_split-cons_yes}
 use Rattle.std.proofs.lemmas.List.Sums.{fails_before_first, passes_at_first}
-use Rattle.std.proofs.lemmas.List.{drop_more, length-take, take_all, drop_all}
+use Rattle.std.proofs.lemmas.List.{drop_more, take_all, drop_all}
 use Rattle.std.proofs.lemmas.Bool.{cases_lt}
 use Rattle.boxglue.specs.ScriptLines.{fields_of, is_space, is_filled}
 use Rattle.boxglue.specs.Reading.{front_field, behind_field, without_spaces, in_field}

@@ -1,5 +1,5 @@
 -- A job that runs the commands of a script and is finished.
-use Rattle.std.proofs.Common.{◌≡◌, ◌⊎◌, inl, inr, ℕ, Bool, true, false, List, [], ◌∷◌, ◌++◌, length, Option, Some, None, IfSome, Result, Ok, Err, IfOk, OnOk, OnErr, is_err, refl, sym, ◌∙◌, ap, subst, ⊎_elim, append_assoc}
+use Rattle.std.proofs.Common.{◌≡◌, ◌⊎◌, inl, inr, ℕ, Bool, true, false, List, [], ◌++◌, length, Option, Some, None, IfSome, Result, Ok, Err, IfOk, OnOk, OnErr, is_err, refl, sym, ◌∙◌, ap, subst, ⊎_elim, append_assoc}
 use Rattle.job_core.specs.declared.command.Command.{Command}
 use Rattle.job_core.specs.declared.command.Refusal.{Refusal}
 use Rattle.job_core.specs.declared.command.Refusal.TheVariants as refusals
@@ -9,11 +9,11 @@ use Rattle.tfm_core.specs.NamedBytes.{NamedBytes}
 use Rattle.job_core.specs.Told.{IsFrontOf}
 use Rattle.job_core.specs.Draft.{file_of}
 use Rattle.job_core.specs.Machine.{Machine, first_machine}
-use Rattle.job_core.specs.Runs.{Run, Finishes, Seen, Holds, RunsTo, FinishesTo}
+use Rattle.job_core.specs.Runs.{Seen, Holds, RunsTo, FinishesTo}
 use Rattle.job_core.specs.Held.{Held}
 use Rattle.std.specs.Io.KnownBytes.{Appends}
 use Rattle.std.proofs.lemmas.List.{append-nil}
-use Rattle.boxglue.specs.Texts.{answers_text, bad_script_text, hexadecimal_text}
+use Rattle.boxglue.specs.Texts.{bad_script_text, hexadecimal_text}
 use Rattle.boxglue.specs.Runs.{WasRun, IsUntouched, RanScript, RefusedScript, RanInMemory}
 
 pub on_err : {A E : Type 0} {P : Type 0} (r : Result A E) → is_err r ≡ true → OnErr r P → P

@@ -1,19 +1,19 @@
 -- The function that reads lines gives the lines of the script.
-use Rattle.std.proofs.Common.{◌≡◌, ◌==◌, ◌⊎◌, inl, inr, ⊎_elim, ℕ, ◌+◌, Bool, true, false, if◌then◌else◌, List, [], ◌∷◌, ◌++◌, length, Result, Ok, Err, refl, ap, sym, ◌∙◌, subst, arith}
+use Rattle.std.proofs.Common.{◌≡◌, inl, inr, ⊎_elim, ℕ, ◌+◌, Bool, true, false, List, [], ◌∷◌, ◌++◌, length, Result, Ok, Err, refl, ap, sym, ◌∙◌, subst, arith}
 use Rattle.std.specs.List.{list_all, AllByRecursion}
 use Rattle.std.specs.Str.Lines.{lines}
 use Rattle.std.proofs.lemmas.List.{append-nil}
 use Rattle.job_core.specs.declared.command.Command.{Command}
 use Rattle.boxglue.specs.declared.cause.Cause.{Cause}
-use Rattle.boxglue.specs.declared.cause.Cause.TheVariants.{Byte, Word, Missing, Extra, Number, Dimension}
+use Rattle.boxglue.specs.declared.cause.Cause.TheVariants.{Byte}
 use Rattle.boxglue.specs.declared.script.Line.{Line}
 use Rattle.boxglue.specs.declared.script.ScriptFault.{ScriptFault}
 use Rattle.boxglue.specs.declared.script.ScriptFault.TheVariants.{OutOfMemory, BadScript}
 use Rattle.boxglue.specs.ScriptLines.{is_passed_over, is_printable, fields_of}
 use Rattle.boxglue.specs.Grammar.{Says}
-use Rattle.boxglue.specs.Causes.{IsPrintable, IsFieldCause, IsCause}
+use Rattle.boxglue.specs.Causes.{IsPrintable, IsCause}
 use Rattle.boxglue.specs.Script.{IsPassedOver, SaysLine, SayFrom, IsScript, IsRightLine, IsFirstBad, Explains}
-use Rattle.boxglue.specs.Reading.{command_of, line_of, Found, prefixed, reads_by, reads}
+use Rattle.boxglue.specs.Reading.{line_of, Found, prefixed, reads_by, reads}
 use Rattle.boxglue.proofs.CommandLaws.{complete, sound}
 use Rattle.boxglue.proofs.CauseLaws.{cause_holds}
 

@@ -1,5 +1,5 @@
 -- What is wrong with a line that says no command (own).
-use Rattle.std.specs.Prelude.{◌≡◌, ◌⊎◌, ℕ, Bool, true, false, List, [], ◌∷◌, ◌++◌, codes, Option, Some}
+use Rattle.std.specs.Prelude.{◌≡◌, ◌⊎◌, ℕ, true, false, List, [], ◌∷◌, ◌++◌, codes, Some}
 use Rattle.std.specs.List.{list_all}
 use Rattle.node_core.specs.declared.tree.RuleSize.{RuleSize}
 use Rattle.job_core.specs.declared.command.Command.{Command}

@@ -1,5 +1,5 @@
 -- The grammar of the commands of a script (own).
-use Rattle.std.specs.Prelude.{◌≡◌, ◌<◌, ℕ, ℤ, pos, Bool, true, false, List, [], ◌∷◌, codes}
+use Rattle.std.specs.Prelude.{◌≡◌, ◌<◌, ℕ, ℤ, pos, List, [], ◌∷◌, codes}
 use Rattle.std.specs.Str.Parse.{IsNumeral, without_leading_sign, signed_digits_value}
 use Rattle.scaled_core.specs.Dimensions.{Fits}
 use Rattle.scaled_core.specs.DimensionTexts.{IsDimensionText}

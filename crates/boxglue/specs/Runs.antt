@@ -1,5 +1,5 @@
 -- Runs of a script and what is written of them (own).
-use Rattle.std.specs.Prelude.{◌≡◌, ◌⊎◌, ◌&&◌, ◌++◌, ℕ, Bool, true, false, List, [], length, map, Option, Some, IfSome, Result, Ok, Err, IfOk, OnOk, is_ok}
+use Rattle.std.specs.Prelude.{◌≡◌, ◌⊎◌, ◌&&◌, ◌++◌, ℕ, Bool, false, List, [], length, map, Option, Some, IfSome, Result, Err, IfOk, OnOk, is_ok}
 use Rattle.std.specs.List.{list_all}
 use Rattle.std.specs.Io.KnownBytes.{Appends, Keeps}
 use Rattle.job_core.specs.declared.command.Command.{Command}

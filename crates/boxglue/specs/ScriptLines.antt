@@ -1,5 +1,5 @@
 -- The lines of a script and their fields (own). The lines of a text are those of std's word `lines`.
-use Rattle.std.specs.Prelude.{◌==◌, ℕ, Bool, true, false, not, ◌&&◌, List, [], ◌∷◌, nat_le, length}
+use Rattle.std.specs.Prelude.{◌==◌, ℕ, Bool, true, false, ◌&&◌, List, [], ◌∷◌, nat_le}
 use Rattle.std.specs.List.{filter, slice_split}
 
 -- a byte that a command may have

@@ -1,5 +1,5 @@
 -- The texts of answers (own).
-use Rattle.std.specs.Prelude.{◌≡◌, ◌==◌, ℕ, ℤ, ◌+◌, ◌/◌, ◌%◌, Bool, ◌||◌, true, false, if◌then◌else◌, List, [], ◌∷◌, ◌++◌, Result, Ok, Err, codes, decimal, length, nat_lt}
+use Rattle.std.specs.Prelude.{◌==◌, ℕ, ℤ, ◌+◌, ◌/◌, ◌%◌, Bool, ◌||◌, if◌then◌else◌, List, [], ◌∷◌, ◌++◌, Result, Ok, Err, codes, decimal, length, nat_lt}
 use Rattle.std.specs.List.{flat_map, zip, enumerate_from}
 use Rattle.scaled_core.specs.PrintedDimensions.{dimension_text}
 use Rattle.node_core.specs.declared.tree.Kind.{Kind}

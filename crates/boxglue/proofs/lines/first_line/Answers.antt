@@ -1,7 +1,6 @@
 -- The first line with its line feed, and the last one without.
-use Rattle.std.proofs.Common.{◌≡◌, ◌+◌, ◌-◌, ◌<◌, ◌≤◌, ◌∷◌, length, take, drop, refl, ap, sym, ◌∙◌, arith}
-use Rattle.std.specs.Str.Lines.{lines, strip_carriage_return}
-use Rattle.std.proofs.lemmas.List.{take_rest, drop-drop, length-drop}
+use Rattle.std.proofs.Common.{refl, ◌∙◌, arith}
+use Rattle.std.proofs.lemmas.List.{take_rest, drop-drop}
 use Rattle.boxglue.proofs.LineLemmas.{lines-first, lines-last}
 use Rattle.boxglue.proofs.lines.first_line.Goals as goal
 

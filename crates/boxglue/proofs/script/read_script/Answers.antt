@@ -1,8 +1,6 @@
 -- What was found is what the text says.
-use Rattle.std.proofs.Common.{◌≡◌, Ok, arith}
+use Rattle.std.proofs.Common.{arith}
 use Rattle.std.proofs.lemmas.Bool.Decides.{nat_tests}
-use Rattle.std.specs.Str.Lines.{lines}
-use Rattle.boxglue.specs.Reading.{reads}
 use Rattle.boxglue.proofs.ScriptLaws.{read_whole, script_read, script_one}
 use Rattle.boxglue.proofs.script.read_script.Goals as goal
 

@@ -1,5 +1,5 @@
 -- What was found, and what the rest of the text says.
-use Rattle.std.proofs.Common.{◌≡◌, ℕ, ◌+◌, ◌≤◌, length}
+use Rattle.std.proofs.Common.{◌≡◌, ◌+◌, ◌≤◌, length}
 use Rattle.std.specs.Str.Lines.{lines}
 use Rattle.boxglue.specs.Reading.{reads, prefixed}
 use Rattle.boxglue.proofs.script.read_script.Given as goal

@@ -1,5 +1,5 @@
 -- No line is left.
-use Rattle.std.proofs.Common.{◌≡◌, ◌++◌, ◌⊎◌, ⊎_elim, inl, inr, List, [], ◌∷◌, length, Result, refl, sym, ◌∙◌, ap, arith, ℕ}
+use Rattle.std.proofs.Common.{◌≡◌, ◌++◌, inl, inr, List, [], ◌∷◌, length, Result, refl, sym, ◌∙◌, ap, arith, ℕ}
 use Rattle.std.proofs.lemmas.List.{append-nil}
 use Rattle.job_core.specs.declared.command.Answer.{Answer}
 use Rattle.job_core.specs.declared.command.Refusal.{Refusal}

@@ -1,5 +1,5 @@
 -- What is there, and what the lines ahead give.
-use Rattle.std.proofs.Common.{◌≡◌, ◌++◌, length, drop}
+use Rattle.std.proofs.Common.{◌≡◌, ◌++◌}
 use Rattle.boxglue.specs.Texts.{answer_lines}
 use Rattle.boxglue.proofs.texts.push_answer_lines.Given as goal
 
