@@ -7,7 +7,9 @@ use Rattle.job_core.specs.declared.command.Summary.{Summary}
 use Rattle.job_core.specs.Reply.{Reply}
 use Rattle.tfm_core.specs.NamedBytes.{NamedBytes}
 use Rattle.job_core.specs.Told.{IsFrontOf}
+use Rattle.dvi_ops.specs.Fonts.{Metrics}
 use Rattle.job_core.specs.Draft.{file_of}
+use Rattle.job_core.specs.Shown.{IsFileOf}
 use Rattle.job_core.specs.Machine.{Machine, first_machine}
 use Rattle.job_core.specs.Runs.{Seen, Holds, RunsTo, FinishesTo}
 use Rattle.job_core.specs.Held.{Held}
@@ -37,11 +39,12 @@ size_at (Err refusal) told run m holds h = h
 
 pub was_run : (files : List NamedBytes) (commands : List Command) (replies : List Reply) (end : Result Summary Refusal) (job run done : Seen)
     → Holds job (first_machine files) → RunsTo job commands replies run → FinishesTo run end done
+    → ((m : Machine) (metrics : Metrics) → Holds run m → OnOk end (IfSome done.told (λ bytes. IsFileOf metrics bytes m.pages)))
     → ((m : Machine) → Holds run m → OnOk end (IfSome done.told (λ bytes. bytes ≡ file_of m.pages)))
     → IfOk end (λ summary. (m : Machine) → Holds run m → IfSome done.told (λ bytes. summary.bytes ≡ length bytes))
     → (end ≡ Err refusals.Device → (m : Machine) → Holds run m → IfSome done.told (λ bytes. IsFrontOf bytes (file_of m.pages)))
     → WasRun files job.failed commands replies end done.failed done.told
-was_run files commands replies end job run done holds runs finishes file size front =
+was_run files commands replies end job run done holds runs finishes dvi file size front =
     let middle = runs (first_machine files) holds in
     let last = finishes middle.0 middle.2 in
     record {
@@ -50,6 +53,7 @@ was_run files commands replies end job run done holds runs finishes file size fr
       ran = middle.1;
       last = last.0;
       finished = last.1;
+      dvi = λ metrics. dvi middle.0 metrics middle.2;
       file = file middle.0 middle.2;
       size = size_at end done.told run middle.0 middle.2 size;
       front = λ e. front e middle.0 middle.2;

@@ -9,7 +9,9 @@ use Rattle.job_core.specs.declared.command.Summary.{Summary}
 use Rattle.job_core.specs.Reply.{Reply}
 use Rattle.tfm_core.specs.NamedBytes.{NamedBytes}
 use Rattle.job_core.specs.Told.{IsFrontOf}
+use Rattle.dvi_ops.specs.Fonts.{Metrics}
 use Rattle.job_core.specs.Draft.{file_of}
+use Rattle.job_core.specs.Shown.{IsFileOf}
 use Rattle.job_core.specs.Machine.{Machine, first_machine}
 use Rattle.job_core.specs.Runs.{Run, Finishes}
 use Rattle.boxglue.specs.declared.cause.Cause.{Cause}
@@ -28,13 +30,15 @@ abbrev pub is_accepted : List Reply → Result Summary Refusal → Bool
 is_accepted replies end = list_all is_ok replies && is_ok end
 
 -- a new job with these font files took these commands and gave these replies, and was then finished with this end; its device's
--- count of failures went from n to k, and the device then told these bytes: the file of the pages, or the front of it that it took
+-- count of failures went from n to k, and the device then told these bytes: a DVI file of exactly the machine's pages, by the definition
+-- of DVI files alone, which is the one that this writer lays out; or the front of it that it took
 pub record WasRun (files : List NamedBytes) (n : ℕ) (commands : List Command) (replies : List Reply) (end : Result Summary Refusal) (k : ℕ) (told : Option (List ℕ)) : Type 0 where
   pub middle : Machine
   pub failed : ℕ
   pub ran : Run (first_machine files) n commands replies middle failed
   pub last : Machine
   pub finished : Finishes middle failed end last k
+  pub dvi : (metrics : Metrics) → OnOk end (IfSome told (λ bytes. IsFileOf metrics bytes middle.pages))
   pub file : OnOk end (IfSome told (λ bytes. bytes ≡ file_of middle.pages))
   pub size : IfOk end (λ summary. IfSome told (λ bytes. summary.bytes ≡ length bytes))
   pub front : end ≡ Err refusals.Device → IfSome told (λ bytes. IsFrontOf bytes (file_of middle.pages))
