@@ -22,7 +22,10 @@ use std::process::ExitCode;
 
 /// The program takes no words: a script from standard input, answers to standard output.
 fn main(rt: HostRuntime) -> io::Result<ExitCode> {
-    if std::env::args(&rt)?.count() > 1 {
+    let Ok(words) = std::env::args(&rt) else {
+        return Ok(ExitCode::from(program::refuse_memory(&mut rt.stdout())));
+    };
+    if words.count() > 1 {
         return Ok(ExitCode::from(2));
     }
     let status = program::answer_input(

@@ -45,7 +45,7 @@ fn answer_script<W: Write>(alloc: Global, text: &[u8], output: &mut W) -> u8
 }
 
 /// Says that memory was refused, and answers the exit status.
-fn refuse_memory<W: Write>(output: &mut W) -> u8
+pub fn refuse_memory<W: Write>(output: &mut W) -> u8
     ensures { result ≡ 1 }
 {
     let _ = output.write_all(b"refused 1 OutOfMemory\n");
