@@ -1,13 +1,12 @@
 -- Characters and steps of a font.
-use Rattle.std.proofs.Common.{◌≡◌, ℕ, ℤ, pos, zero, suc, ◌+◌, ◌-◌, ◌*◌, ◌<◌, ◌≤◌, Bool, true, false, ◌&&◌, ◌||◌, not, cond, eqb, ltb, leb, List, [], ◌∷◌, Option, Some, None, length, get_or, refl, ap, sym, ◌∙◌, arith, subst, inl, inr, ◌⊎◌, ⊎_elim}
+use Rattle.std.proofs.Common.{◌≡◌, ℕ, ℤ, pos, zero, suc, ◌+◌, ◌-◌, ◌*◌, Bool, true, false, ◌&&◌, ◌||◌, not, cond, eqb, ltb, leb, List, [], ◌∷◌, Option, Some, None, length, refl, ap, sym, subst, inl, inr, ◌⊎◌, ⊎_elim}
 use Rattle.std.specs.List.{find, list_all, slice_get}
-use Rattle.std.specs.Option.{IfSome, IsSome, is_none, option_and_then, option_map, option_map_or}
+use Rattle.std.specs.Option.{IfSome, IsSome, is_none, option_map}
 use Rattle.std.proofs.lemmas.Bool.{ltb-true, leb-true, leb-false, le-ltb}
 use Rattle.std.proofs.lemmas.Option.{option_and_then_some, slice_get-get_or}
-use Rattle.std.proofs.lemmas.Bool.Decides.{nat_tests}
 use Rattle.tfm_core.specs.declared.record.CharInfo.{CharInfo}
 use Rattle.tfm_core.specs.declared.record.LigKernStep.{LigKernStep}
-use Rattle.tfm_core.specs.Fonts.{HasAction, HasSizes, IsWhole, SizedFont, action_of, has_action, has_sizes, matching_step, step_of}
+use Rattle.tfm_core.specs.Fonts.{HasAction, HasSizes, IsWhole, SizedFont, action_of, has_action, has_sizes, matching_step}
 use Rattle.tfm_core.specs.Program.{first_for, info_program, is_for, is_step_for}
 use Rattle.tfm_core.proofs.ProgramLemmas.{first_for-none}
 use Rattle.tfm_core.specs.declared.font.Step.TheVariants.{Kern, Ligature}

@@ -1,11 +1,9 @@
 -- The steps that a program takes.
-use Rattle.std.proofs.Common.{◌≡◌, ℕ, zero, suc, ◌+◌, ◌*◌, ◌<◌, ◌≤◌, Bool, true, false, cond, ltb, List, [], ◌∷◌, Option, Some, None, length, refl, ap, sym, ◌∙◌, arith, ⊎_elim, subst}
-use Rattle.std.specs.List.{find, slice_get}
-use Rattle.std.specs.Option.{option_and_then, option_map_or}
+use Rattle.std.proofs.Common.{◌≡◌, ℕ, zero, suc, ◌+◌, ◌<◌, ◌≤◌, Bool, true, false, cond, ltb, List, [], ◌∷◌, Some, None, refl, ap, ◌∙◌, arith, ⊎_elim}
+use Rattle.std.specs.List.{slice_get}
 use Rattle.std.proofs.lemmas.Bool.{cases_lt, lt-ltb, le-ltb}
-use Rattle.std.proofs.lemmas.Option.{slice_get_past}
 use Rattle.tfm_core.specs.declared.record.LigKernStep.{LigKernStep}
-use Rattle.tfm_core.specs.Program.{Takes, past, last, next, first_for, is_for, is_step_for, taken, taken_from}
+use Rattle.tfm_core.specs.Program.{first_for, is_for, taken, taken_from}
 
 -- past the steps nothing is taken
 taken_from-past : (j k : ℕ) (steps : List LigKernStep) → slice_get steps k ≡ None → taken_from j k steps ≡ []

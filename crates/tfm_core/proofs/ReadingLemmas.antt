@@ -1,14 +1,14 @@
 -- What reading finds: the record, or the first broken rule.
-use Rattle.std.proofs.Common.{◌≡◌, ℕ, ℤ, Bool, true, false, cond, List, [], ◌∷◌, Option, Some, None, Result, Ok, Err, refl, ap, ◌∙◌, sym, subst, inl, inr, ◌⊎◌, ⊎_elim}
+use Rattle.std.proofs.Common.{◌≡◌, ℕ, ℤ, Bool, true, false, cond, List, Option, Some, None, Result, Ok, Err, refl, ap, ◌∙◌, sym, subst, inl, inr, ◌⊎◌, ⊎_elim}
 use Rattle.tfm_core.specs.declared.fault.TfmCause.{TfmCause}
 use Rattle.tfm_core.specs.declared.fault.TfmCause.TheVariants.{TooShort, Counts, DesignSize, CharInfo, FixWord, LigKern}
 use Rattle.tfm_core.specs.declared.record.CharInfo.{CharInfo as Info}
 use Rattle.tfm_core.specs.declared.record.Counts.{Counts as Numbers}
 use Rattle.tfm_core.specs.declared.record.LigKernStep.{LigKernStep}
-use Rattle.tfm_core.specs.MetricFile.{MetricFile, StandsIn, char_info, counts_in, lig_kern_step, design_word_in, record_in, record_with}
+use Rattle.tfm_core.specs.MetricFile.{MetricFile, StandsIn, char_info, counts_in, lig_kern_step, record_in, record_with}
 use Rattle.tfm_core.specs.Words.{signed_word}
 use Rattle.tfm_core.proofs.TableLemmas.{IsTable-table, table-unique}
-use Rattle.tfm_core.specs.Rules.{IsFirstBroken, IsMetricFile, KeepsRules, broken_in_front, broken_in_tables, breaks_char_info, breaks_counts, breaks_design_size, breaks_fix_word, breaks_lig_kern, first_broken, is_broken, is_too_short, metric_file, record_unless}
+use Rattle.tfm_core.specs.Rules.{IsFirstBroken, IsMetricFile, KeepsRules, broken_in_front, broken_in_tables, breaks_char_info, breaks_design_size, breaks_fix_word, breaks_lig_kern, first_broken, is_broken, metric_file, record_unless}
 
 -- the six tests in their order
 abbrev chosen : Bool → Bool → Bool → Bool → Bool → Bool → Option TfmCause

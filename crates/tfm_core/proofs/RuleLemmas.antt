@@ -1,5 +1,5 @@
 -- What kept and broken rules say.
-use Rattle.std.proofs.Common.{◌≡◌, ℕ, ◌+◌, ◌*◌, ◌<◌, ◌≤◌, Bool, true, false, ◌||◌, not, cond, List, length, Option, Some, None, refl, arith, eqb, ltb, ℤ, pos, negsuc, ◌/◌, ◌^◌, to_z, of_z, SFits, w32}
+use Rattle.std.proofs.Common.{◌≡◌, ℕ, ◌*◌, ◌<◌, ◌≤◌, Bool, true, false, ◌||◌, not, List, length, refl, arith, eqb, ltb, ℤ, pos, negsuc, ◌/◌, ◌^◌, to_z, of_z, SFits, w32}
 use Rattle.std.specs.Int.RustNames.{int_div}
 use Rattle.std.proofs.lemmas.Int.{ints, quot_fits, to_z-of_z}
 use Rattle.tfm_core.specs.Scaling.{IsFontSize}

@@ -1,10 +1,9 @@
 -- Sizes of a font that fit.
-use Rattle.std.proofs.Common.{◌≡◌, ℕ, ℤ, pos, negsuc, ◌+◌, ◌<◌, ◌≤◌, ◌≤ℤ◌, Bool, true, false, ◌&&◌, List, [], ◌∷◌, Option, Some, None, length, get_or, map, take, refl, arith, suc, zero, subst, unsigned_abs, leb}
-use Rattle.std.specs.List.{list_all}
-use Rattle.std.proofs.lemmas.Bool.{leb-true, leb-false}
+use Rattle.std.proofs.Common.{◌≡◌, ℕ, ℤ, pos, negsuc, ◌<◌, ◌≤◌, true, List, length, get_or, arith, suc, unsigned_abs, leb}
+use Rattle.std.proofs.lemmas.Bool.{leb-true}
 use Rattle.std.proofs.lemmas.Int.{ints, to_z-of_z}
 use Rattle.std.proofs.lemmas.Option.{slice_get-get_or}
-use Rattle.scaled_core.specs.Dimensions.{Fits, Within}
+use Rattle.scaled_core.specs.Dimensions.{Fits}
 use Rattle.tfm_core.specs.Fonts.{are_dimens_at, is_dimen_at, is_space_at, parameter}
 use Rattle.tfm_core.specs.Scaling.{scaled}
 use Rattle.tfm_core.proofs.FontLemmas.{and_true, list_all-at}

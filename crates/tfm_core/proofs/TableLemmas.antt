@@ -1,10 +1,9 @@
 -- Tables of a metric file.
-use Rattle.std.proofs.Common.{◌≡◌, ℤ, ℕ, ◌+◌, ◌*◌, ◌<◌, List, [], ◌∷◌, ◌++◌, length, get_or, map, take, drop, ap, ◌-◌, refl, sym, subst, ◌∙◌}
-use Rattle.std.specs.List.{range_with_len}
+use Rattle.std.proofs.Common.{◌≡◌, ℤ, ℕ, ◌+◌, ◌*◌, ◌<◌, List, [], ◌∷◌, ◌++◌, length, take, drop, ap, ◌-◌, refl, sym, subst, ◌∙◌}
 use Rattle.std.proofs.lemmas.List.{same_lists, take_rest}
 use Rattle.std.proofs.lemmas.List.FromFn.{map-range_with_len_more, length-map-range_with_len, get_or-map-range_with_len}
 use Rattle.tfm_core.specs.Words.{IsTable, from_word, signed_word, table}
-use Rattle.tfm_core.specs.MetricFile.{MetricFile, char_info, character_count, lig_kern_step, places_of, record_with}
+use Rattle.tfm_core.specs.MetricFile.{char_info, character_count, lig_kern_step, places_of, record_with}
 use Rattle.tfm_core.specs.declared.places.Places.{Places}
 use Rattle.tfm_core.specs.declared.record.CharInfo.{CharInfo}
 use Rattle.tfm_core.specs.declared.record.Counts.{Counts}

@@ -1,4 +1,4 @@
--- A metric file: its record, and where each entry of the record stands in the bytes (TFtoPL, 8 to 13).
+-- A metric file: its record, and where each entry of the record stands in the bytes (TFtoPL, 8 to 15).
 use Rattle.std.specs.Prelude.{◌≡◌, ◌==◌, ◌+◌, ◌-◌, ◌*◌, ◌/◌, ◌%◌, ℕ, ℤ, List, length, ◌≤◌, if◌then◌else◌, slice_index}
 use Rattle.tfm_core.specs.declared.record.Counts.{Counts}
 use Rattle.tfm_core.specs.declared.record.CharInfo.{CharInfo}
@@ -52,7 +52,7 @@ lig_kern_step bytes = record {
   remainder = slice_index bytes 3;
 }
 
--- the record of a metric file; of the header the first two words, and no extensible recipes, which nothing uses (TFtoPL, 8 to 13)
+-- the record of a metric file; of the header the first two words, and no extensible recipes, which nothing uses (TFtoPL, 8 to 15)
 pub record MetricFile : Type 0 where
   pub counts : Counts
   pub check_sum : ℤ
@@ -68,7 +68,7 @@ pub record MetricFile : Type 0 where
 
 -- Where each table begins, in words: behind the twelve halfwords the header, then one table behind the other (TFtoPL, 8).
 
--- ec - bc + 1
+-- ec - bc + 1 (TFtoPL, 8)
 abbrev pub character_count : Counts → ℕ
 character_count c = c.last + 1 - c.first
 
@@ -100,7 +100,7 @@ parameters_place c = kerns_place c + c.kerns + c.recipes
 abbrev pub end_place : Counts → ℕ
 end_place c = parameters_place c + c.parameters
 
--- all these places
+-- all these places (TFtoPL, 8)
 unfoldable pub places_of : Counts → Places
 places_of c = record {
   characters = characters_place c;
@@ -114,20 +114,20 @@ places_of c = record {
   end = end_place c;
 }
 
--- the bytes have room for the twelve numbers, the first two words of the header and all tables
+-- the bytes have room for the twelve numbers, the first two words of the header and all tables (TFtoPL, 8)
 pub record HasTables (bytes : List ℕ) : Type 0 where
   pub numbers : 24 ≤ length bytes
   pub header : 2 ≤ (counts_in bytes).header
   pub tables : 4 * end_place (counts_in bytes) ≤ length bytes
 
--- the header's words 0 and 1
+-- the header's words 0 and 1: the check sum, and the design size in 2^20ths of a point (TFtoPL, 10)
 abbrev pub check_sum_in : List ℕ → ℤ
 check_sum_in bytes = signed_word (from_word bytes 6)
 
 abbrev pub design_word_in : List ℕ → ℤ
 design_word_in bytes = signed_word (from_word bytes 7)
 
--- each entry of the record is what stands at its place in the bytes (TFtoPL, 8 to 13)
+-- each entry of the record is what stands at its place in the bytes (TFtoPL, 8 to 15)
 pub record StandsIn (bytes : List ℕ) (file : MetricFile) : Type 0 where
   pub counts : file.counts ≡ counts_in bytes
   pub check_sum : file.check_sum ≡ check_sum_in bytes
@@ -141,7 +141,7 @@ pub record StandsIn (bytes : List ℕ) (file : MetricFile) : Type 0 where
   pub kerns : IsTable signed_word bytes (kerns_place file.counts) file.counts.kerns file.kerns
   pub parameters : IsTable signed_word bytes (parameters_place file.counts) file.counts.parameters file.parameters
 
--- the record with these counts that stands in the bytes
+-- the record with these counts that stands in the bytes (TFtoPL, 8 to 15)
 unfoldable pub record_with : Counts → List ℕ → MetricFile
 record_with counts bytes = record {
   counts = counts;
@@ -157,6 +157,6 @@ record_with counts bytes = record {
   parameters = table signed_word bytes (parameters_place counts) counts.parameters;
 }
 
--- the record that stands in the bytes
+-- the record that stands in the bytes (TFtoPL, 8 to 15)
 abbrev pub record_in : List ℕ → MetricFile
 record_in bytes = record_with (counts_in bytes) bytes

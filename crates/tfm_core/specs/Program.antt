@@ -6,40 +6,41 @@ use Rattle.tfm_core.specs.declared.record.CharInfo.{CharInfo}
 use Rattle.tfm_core.specs.declared.record.LigKernStep.{LigKernStep}
 use Rattle.tfm_core.specs.declared.record.Tag.{Tag}
 use Rattle.tfm_core.specs.declared.record.Tag.TheVariants.{Plain, Program, Larger, Recipe}
-use Rattle.tfm_core.specs.Rules.{character_at}
 
 -- the numbers of the steps that are taken from step k on, rising: a step whose skip is below 128 is followed by the one skip + 1 steps
--- later, one whose skip is 128 or more is the last, and so is one behind which there are no steps
+-- later, one whose skip is 128 or more is the last, and so is one behind which there are no steps (TFtoPL, 13)
 pub data Takes (steps : List LigKernStep) : ℕ → List ℕ → Type 0 where
   past : {k : ℕ} → length steps ≤ k → Takes steps k []
   last : {k : ℕ} {s : LigKernStep} → slice_get steps k ≡ Some s → 128 ≤ s.skip → Takes steps k (k ∷ [])
   next : {k : ℕ} {s : LigKernStep} {later : List ℕ} → slice_get steps k ≡ Some s → s.skip < 128 → Takes steps (k + (s.skip + 1)) later → Takes steps k (k ∷ later)
 
--- those numbers: `pass` steps are passed over, and the steps in hand count from k
+-- those numbers: `pass` steps are passed over, and the steps in hand count from k (own)
 abbrev pub taken_from : ℕ → ℕ → List LigKernStep → List ℕ
 taken_from k pass [] = []
 taken_from k zero (s ∷ rest) = k ∷ (if nat_lt s.skip 128 then taken_from (k + 1) s.skip rest else [])
 taken_from k (suc pass) (s ∷ rest) = taken_from (k + 1) pass rest
 
+-- those from step k on (own)
 unfoldable pub taken : List LigKernStep → ℕ → List ℕ
 taken steps k = taken_from 0 k steps
 
--- the step from which the program is taken: a first step whose skip is above 128 names another one
+-- the step from which the program is taken: a first step whose skip is above 128 names another one (TFtoPL, 13)
 abbrev pub restart : ℕ → Option LigKernStep → ℕ
 restart k None = k
 restart k (Some s) = if nat_lt 128 s.skip then 256 * s.op + s.remainder else k
 
+-- the step from which the program of step k is taken (TFtoPL, 13)
 unfoldable pub first_step : List LigKernStep → ℕ → ℕ
 first_step steps k = restart k (slice_get steps k)
 
--- the numbers of the steps of a tag's program, rising
+-- the numbers of the steps of a tag's program, rising (TFtoPL, 11 and 13)
 abbrev pub tag_program : List LigKernStep → Tag → List ℕ
 tag_program steps (Program k) = taken steps (first_step steps k)
 tag_program steps Plain = []
 tag_program steps (Larger c) = []
 tag_program steps (Recipe r) = []
 
--- those of a character that is there
+-- those of a character that is there (TFtoPL, 11 and 13)
 abbrev pub info_program : List LigKernStep → Option CharInfo → List ℕ
 info_program steps None = []
 info_program steps (Some c) = tag_program steps c.tag
@@ -52,6 +53,6 @@ is_for following s = (s.next == following) && nat_le s.skip 128 && ((s.op == 0) 
 abbrev pub is_step_for : List LigKernStep → ℕ → ℕ → Bool
 is_step_for steps following k = option_map_or (is_for following) (slice_get steps k) false
 
--- the first of these steps that is for the following character
+-- the first of these steps that is for the following character (TFtoPL, 13)
 unfoldable pub first_for : List LigKernStep → ℕ → List ℕ → Option LigKernStep
 first_for steps following ks = option_and_then (slice_get steps) (find (is_step_for steps following) ks)

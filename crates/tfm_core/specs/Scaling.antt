@@ -1,5 +1,5 @@
 -- Scaling of the words of a metric file by the size of a font (TeX: The Program, part 30).
-use Rattle.std.specs.Prelude.{◌≡◌, ◌==◌, ◌||◌, ◌^◌, ◌+◌, ◌-◌, ◌*◌, ◌/◌, ◌%◌, ◌<◌, ◌≤◌, ◌+ℤ◌, ◌*ℤ◌, ◌≤ℤ◌, ◌<ℤ◌, ℕ, ℤ, pos, Bool, Option, Some, None, if◌then◌else◌, int_div, nat_lt, unsigned_abs}
+use Rattle.std.specs.Prelude.{◌≡◌, ◌==◌, ◌||◌, ◌^◌, ◌+◌, ◌-◌, ◌/◌, ◌%◌, ◌<◌, ◌≤◌, ◌+ℤ◌, ◌*ℤ◌, ◌≤ℤ◌, ◌<ℤ◌, ℕ, ℤ, pos, Bool, Option, Some, None, if◌then◌else◌, int_div, nat_lt, unsigned_abs}
 use Rattle.std.specs.Int.{w32, cast_unsigned, int_div_euclid}
 
 -- a font's size in scaled points: positive and below 2^27 (TeX: The Program, part 30)
@@ -7,7 +7,7 @@ pub record IsFontSize (size : ℤ) : Type 0 where
   pub positive : pos 0 <ℤ size
   pub below : size <ℤ pos (2 ^ 27)
 
--- the highest of the four bytes of a signed word
+-- the highest of the four bytes of a signed word (TFtoPL, 8)
 abbrev pub first_byte : ℤ → ℕ
 first_byte word = cast_unsigned w32 word / 2 ^ 24
 
@@ -29,7 +29,7 @@ pub record IsScaled (fix size q : ℤ) : Type 0 where
   pub low : (q *ℤ pos (2 ^ 20)) ≤ℤ (fix *ℤ kept)
   pub high : (fix *ℤ kept) <ℤ ((q +ℤ pos 1) *ℤ pos (2 ^ 20))
 
--- that j of a size below 2^27
+-- that j of a size below 2^27 (TeX: The Program, part 30)
 unfoldable pub cleared_bits : ℕ → ℕ
 cleared_bits size =
     if nat_lt size (2 ^ 23) then 0
@@ -38,15 +38,15 @@ cleared_bits size =
     else (if nat_lt size (2 ^ 26) then 3
     else 4)))
 
--- the size with those bits cleared
+-- the size with those bits cleared (TeX: The Program, part 30)
 unfoldable pub kept_size : ℤ → ℕ
 kept_size size = unsigned_abs size - unsigned_abs size % 2 ^ cleared_bits (unsigned_abs size)
 
--- a fix word at a size
+-- a fix word at a size, by one floor (TeX: The Program, part 30)
 unfoldable pub scaled : ℤ → ℤ → ℤ
 scaled size fix = int_div_euclid (fix *ℤ pos (kept_size size)) (pos (2 ^ 20))
 
--- a word at a size, where it is a fix word
+-- a word at a size, where it is a fix word (TeX: The Program, part 30)
 unfoldable pub scaled_word : ℤ → ℤ → Option ℤ
 scaled_word size word = if is_fix_word word then Some (scaled size word) else None
 

@@ -1,4 +1,4 @@
-//! The entries of a metric file (TFtoPL, 8 to 13).
+//! The entries of a metric file (TFtoPL, 8 to 15).
 
 /// The twelve numbers at the front of a metric file.
 #[derive(Clone, Copy, Debug, PartialEq, Eq)]

@@ -67,7 +67,7 @@ fn broken_in_tables(file: &Entries) -> Option<TfmCause>
 }
 
 impl Tfm {
-    /// The metric file that the bytes hold; bytes behind its last word are ignored (TFtoPL, 8 to 13).
+    /// The metric file that the bytes hold; bytes behind its last word are ignored (TFtoPL, 8 to 15).
     ///
     /// `Bad` names the first broken rule. It takes memory for its tables.
     #[tactic(auto, using(crate::proofs::ReadingLemmas::relations))]

@@ -1,4 +1,4 @@
-use Rattle.std.proofs.Common.{Some, None, sym, ◌∙◌}
+use Rattle.std.proofs.Common.{sym, ◌∙◌}
 use Rattle.tfm_core.proofs.ReadingLemmas.{held_tables, KeepsRules-from_none}
 use Rattle.tfm_core.proofs.tfm.file_in.Goals as goal
 
