@@ -19,6 +19,7 @@ pub fn is_too_short(bytes: &[u8]) -> bool
     bytes.len() < 4 * usize::from(counts(bytes).file)
 }
 
+/// Whether one of the twelve is 32768 or more.
 #[tactic(auto, unfolding(crate::specs::Rules::has_large_number))]
 fn has_large_number(c: Counts) -> bool
     ensures { result ≡ has_large_number c }
@@ -40,6 +41,7 @@ fn has_large_number(c: Counts) -> bool
     numbers.iter().any(|n| 32768 <= *n)
 }
 
+/// Whether the codes of the first and the last character are wrong.
 #[tactic(auto, unfolding(crate::specs::Rules::has_wrong_codes))]
 fn has_wrong_codes(c: Counts) -> bool
     ensures { result ≡ has_wrong_codes c }
@@ -47,6 +49,7 @@ fn has_wrong_codes(c: Counts) -> bool
     usize::from(c.last) + 1 < usize::from(c.first) || 255 < c.last
 }
 
+/// Whether the header or one of the first four tables is too short.
 #[tactic(auto, unfolding(crate::specs::Rules::lacks_a_table))]
 fn lacks_a_table(c: Counts) -> bool
     ensures { result ≡ lacks_a_table c }
@@ -73,6 +76,7 @@ pub fn breaks_design_size(word: i32) -> bool
     word < 0 || word.unsigned_abs() / 16 < 65536
 }
 
+/// Whether a program begins past the steps.
 fn begins_past(steps: usize, tag: Tag) -> bool
     ensures { result ≡ begins_past steps tag }
 {
@@ -82,6 +86,7 @@ fn begins_past(steps: usize, tag: Tag) -> bool
     }
 }
 
+/// Whether some word is no fix word.
 #[tactic(auto, unfolding(crate::specs::Rules::has_other_word))]
 fn has_other_word(words: &[i32]) -> bool
     ensures { result ≡ has_other_word words.now }
@@ -89,6 +94,7 @@ fn has_other_word(words: &[i32]) -> bool
     words.iter().any(|word| !is_fix_word(*word))
 }
 
+/// Whether the first word is not 0.
 fn begins_otherwise(words: &[i32]) -> bool
     ensures { result ≡ begins_otherwise words.now }
 {
@@ -98,6 +104,7 @@ fn begins_otherwise(words: &[i32]) -> bool
     }
 }
 
+/// The parameters 2, 3 and 4, as far as there are any.
 fn space_words(parameters: &[i32]) -> &[i32]
     ensures { result.now ≡ space_words parameters.now }
 {
@@ -120,6 +127,7 @@ pub fn character_at(first: u16, characters: &[CharInfo], code: u8) -> Option<Cha
     Some(info)
 }
 
+/// Whether a character names an entry that is not in its table.
 #[tactic(auto, unfolding(crate::specs::Rules::breaks_character))]
 fn breaks_character(file: &Entries, c: CharInfo) -> bool
     ensures { result ≡ breaks_character file.now c }
@@ -147,6 +155,7 @@ pub fn breaks_fix_word(file: &Entries) -> bool
     has_other_size(file) || has_other_distance(file) || begins_wrong(file)
 }
 
+/// Whether a width, height, depth or italic is no fix word.
 #[tactic(auto, unfolding(crate::specs::Rules::has_other_size))]
 fn has_other_size(file: &Entries) -> bool
     ensures { result ≡ has_other_size file.now }
@@ -157,6 +166,7 @@ fn has_other_size(file: &Entries) -> bool
         || has_other_word(&file.italics)
 }
 
+/// Whether a kern or a size of the space is no fix word.
 #[tactic(auto, unfolding(crate::specs::Rules::has_other_distance))]
 fn has_other_distance(file: &Entries) -> bool
     ensures { result ≡ has_other_distance file.now }
@@ -164,6 +174,7 @@ fn has_other_distance(file: &Entries) -> bool
     has_other_word(&file.kerns) || has_other_word(space_words(&file.parameters))
 }
 
+/// Whether one of the first four tables does not begin with 0.
 #[tactic(auto, unfolding(crate::specs::Rules::begins_wrong))]
 fn begins_wrong(file: &Entries) -> bool
     ensures { result ≡ begins_wrong file.now }
