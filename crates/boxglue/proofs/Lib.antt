@@ -6,3 +6,4 @@ pub mod CommandLaws
 pub mod CauseLaws
 pub mod ScriptLaws
 pub mod RunLaws
+pub mod RowLaws

@@ -6,3 +6,4 @@ pub mod Script
 pub mod Reading
 pub mod Texts
 pub mod Runs
+pub mod Rows

@@ -5,6 +5,7 @@ mod cause;
 mod fields;
 mod hexadecimal;
 mod input;
+mod laws;
 mod lines;
 mod memory_run;
 mod name;
