@@ -1,0 +1,71 @@
+-- The bits of a size that do not count, and the floor of the product.
+use Rattle.std.proofs.Common.{◌≡◌, ℕ, ℤ, pos, negsuc, ◌+◌, ◌-◌, ◌*◌, ◌/◌, ◌%◌, ◌^◌, ◌<◌, ◌≤◌, ◌+ℤ◌, ◌*ℤ◌, ◌≤ℤ◌, ◌<ℤ◌, zero, suc, refl, ⊎_elim, arith, unsigned_abs, ◌∙◌, to_z, of_z, SFits, w64}
+use Rattle.std.proofs.lemmas.Bool.{cases_lt, lt-ltb, le-ltb}
+use Rattle.std.proofs.lemmas.Bool.Decides.{nat_tests}
+use Rattle.std.proofs.lemmas.Int.{ints, to_z-of_z}
+use Rattle.std.proofs.Math.Nat.{pow-le-pow_right}
+use Rattle.std.specs.Int.{int_div_euclid}
+use Rattle.tfm_core.specs.Scaling.{IsFontSize, IsCleared, IsScaled, cleared_bits, kept_size, scaled}
+
+power_least : (size k i : ℕ) → i < k → 2 ^ (22 + k) ≤ size → 2 ^ (23 + i) ≤ size
+power_least size k i h p =
+    let below : 2 ^ (23 + i) ≤ 2 ^ (22 + k) = pow-le-pow_right {n = 2} (omega arith) {i = 23 + i} {j = 22 + k} (omega arith) in
+    omega arith
+
+cleared_from : (size j : ℕ) → size < 2 ^ (23 + j) → 2 ^ (22 + j) ≤ size → IsCleared size j
+cleared_from size j below above = record { below = below; least = λ i h. power_least size j i h above }
+
+-- the number of bits by its table is the least
+pub IsCleared-cleared_bits : (size : ℕ) → size < 2 ^ 27 → IsCleared size (cleared_bits size)
+unfolding cleared_bits
+IsCleared-cleared_bits size fits =
+    ⊎_elim
+    (λ (h : size < 2 ^ 23). let e = lt-ltb size _ h in rw e (record { below = h; least = λ i l. absurd (omega arith) }))
+    (λ (a : 2 ^ 23 ≤ size). let ea = le-ltb size _ a in rw ea (⊎_elim
+    (λ (h : size < 2 ^ 24). let e = lt-ltb size _ h in rw e (cleared_from size 1 h a))
+    (λ (b : 2 ^ 24 ≤ size). let eb = le-ltb size _ b in rw eb (⊎_elim
+    (λ (h : size < 2 ^ 25). let e = lt-ltb size _ h in rw e (cleared_from size 2 h b))
+    (λ (c : 2 ^ 25 ≤ size). let ec = le-ltb size _ c in rw ec (⊎_elim
+    (λ (h : size < 2 ^ 26). let e = lt-ltb size _ h in rw e (cleared_from size 3 h c))
+    (λ (d : 2 ^ 26 ≤ size). let ed = le-ltb size _ d in rw ed (cleared_from size 4 fits d))
+    (cases_lt size (2 ^ 26))))
+    (cases_lt size (2 ^ 25))))
+    (cases_lt size (2 ^ 24))))
+    (cases_lt size (2 ^ 23))
+
+-- of a font's size
+pub IsCleared-from_font_size : (size : ℤ) → IsFontSize size → IsCleared (unsigned_abs size) (cleared_bits (unsigned_abs size))
+IsCleared-from_font_size (pos n) h = IsCleared-cleared_bits n (omega (arith, ints, h.positive, h.below))
+IsCleared-from_font_size (negsuc n) h = absurd (omega (arith, ints, h.positive))
+
+-- the floor of a quotient by 2^20
+pub floor_low : (a : ℤ) → ((int_div_euclid a (pos (2 ^ 20)) *ℤ pos (2 ^ 20)) ≤ℤ a)
+floor_low (pos n) = omega (arith, ints)
+floor_low (negsuc n) = omega (arith, ints)
+
+pub floor_high : (a : ℤ) → (a <ℤ ((int_div_euclid a (pos (2 ^ 20)) +ℤ pos 1) *ℤ pos (2 ^ 20)))
+floor_high (pos n) = omega (arith, ints)
+floor_high (negsuc n) = omega (arith, ints)
+
+-- the floor of the definition is the one that `scaled` computes
+pub IsScaled-scaled : (fix size : ℤ) → IsCleared (unsigned_abs size) (cleared_bits (unsigned_abs size)) → IsScaled fix size (scaled size fix)
+unfolding scaled kept_size
+IsScaled-scaled fix size cleared = record {
+  j = cleared_bits (unsigned_abs size);
+  kept = pos (kept_size size);
+  cleared = cleared;
+  kept_is = refl;
+  low = floor_low (fix *ℤ pos (kept_size size));
+  high = floor_high (fix *ℤ pos (kept_size size));
+}
+
+-- the same of a number that a call gave
+pub IsScaled-from_floor : (fix size q : ℤ) → SFits w64 q → q ≡ int_div_euclid (fix *ℤ pos (kept_size size)) (pos (2 ^ 20)) → IsCleared (unsigned_abs size) (cleared_bits (unsigned_abs size)) → IsScaled fix size (to_z w64 (of_z w64 q))
+unfolding scaled
+IsScaled-from_floor fix size q fits e cleared = rw (to_z-of_z w64 q fits) (rw e (IsScaled-scaled fix size cleared))
+
+pub scaled-from_floor : (fix size q : ℤ) → SFits w64 q → q ≡ int_div_euclid (fix *ℤ pos (kept_size size)) (pos (2 ^ 20)) → to_z w64 (of_z w64 q) ≡ scaled size fix
+unfolding scaled
+scaled-from_floor fix size q fits e = to_z-of_z w64 q fits ∙ e
+
+pub ruleset scaling = (IsCleared-from_font_size, IsScaled-from_floor, scaled-from_floor)

@@ -1,0 +1,137 @@
+-- A metric file at a size (TeX: The Program, part 30).
+use Rattle.std.specs.Prelude.{◌≡◌, ◌&&◌, ◌||◌, ◌+◌, ◌-◌, ◌*◌, ◌<◌, ℕ, ℤ, pos, Bool, true, not, List, Option, Some, None, if◌then◌else◌, IsSome, get_or, is_none, length, map, nat_le, nat_lt, slice_get, unsigned_abs, unwrap_or}
+use Rattle.std.specs.List.{list_all}
+use Rattle.std.specs.Option.{option_and_then, option_map}
+use Rattle.tfm_core.specs.declared.font.GlyphSize.{GlyphSize}
+use Rattle.tfm_core.specs.declared.font.Space.{Space}
+use Rattle.tfm_core.specs.declared.font.Step.{Step}
+use Rattle.tfm_core.specs.declared.font.Step.TheVariants.{Kern, Ligature}
+use Rattle.tfm_core.specs.declared.record.CharInfo.{CharInfo}
+use Rattle.tfm_core.specs.declared.record.LigKernStep.{LigKernStep}
+use Rattle.tfm_core.specs.MetricFile.{MetricFile}
+use Rattle.tfm_core.specs.Program.{first_for, info_program}
+use Rattle.tfm_core.specs.Rules.{character_at, names_past}
+use Rattle.tfm_core.specs.Scaling.{design_size_of, scaled}
+
+-- the size that is asked for, or the design size
+abbrev pub chosen_size : MetricFile → Option ℤ → ℤ
+chosen_size file size = unwrap_or size (design_size_of file.design_word)
+
+-- parameter n, which counts from 1; one that is missing is 0 (own)
+abbrev pub parameter : ℕ → List ℤ → ℤ
+parameter n parameters = get_or parameters (n - 1) (pos 0)
+
+-- a font: what a metric file says of its characters and steps, with its sizes in scaled points
+pub record SizedFont : Type 0 where
+  pub size : ℤ
+  pub check_sum : ℤ
+  pub design_size : ℤ
+  pub first : ℕ
+  pub characters : List CharInfo
+  pub widths : List ℤ
+  pub heights : List ℤ
+  pub depths : List ℤ
+  pub steps : List LigKernStep
+  pub kerns : List ℤ
+  pub space : Space
+
+-- the space between words: parameters 2, 3 and 4 (TFtoPL, 12)
+unfoldable pub space_at : ℤ → List ℤ → Space
+space_at size parameters = record {
+  width = scaled size (parameter 2 parameters);
+  stretch = scaled size (parameter 3 parameters);
+  shrink = scaled size (parameter 4 parameters);
+}
+
+-- the metric file at that size (TeX: The Program, part 30)
+unfoldable pub font_at : MetricFile → ℤ → SizedFont
+font_at file size = record {
+  size = size;
+  check_sum = file.check_sum;
+  design_size = design_size_of file.design_word;
+  first = file.counts.first;
+  characters = file.characters;
+  widths = map (scaled size) file.widths;
+  heights = map (scaled size) file.heights;
+  depths = map (scaled size) file.depths;
+  steps = file.steps;
+  kerns = map (scaled size) file.kerns;
+  space = space_at size file.parameters;
+}
+
+-- a word's size in scaled points is below 2^30
+unfoldable pub is_dimen_at : ℤ → ℤ → Bool
+is_dimen_at size word = nat_le (unsigned_abs (scaled size word)) 1073741823
+
+-- and so are all of them
+unfoldable pub are_dimens_at : ℤ → List ℤ → Bool
+are_dimens_at size words = list_all (is_dimen_at size) words
+
+-- and so is the space
+unfoldable pub is_space_at : ℤ → List ℤ → Bool
+is_space_at size parameters =
+    is_dimen_at size (parameter 2 parameters) && is_dimen_at size (parameter 3 parameters) && is_dimen_at size (parameter 4 parameters)
+
+-- each width, height, depth and kern of the font and its space is below 2^30 scaled points
+unfoldable pub fits_at : MetricFile → ℤ → Bool
+fits_at file size =
+    are_dimens_at size file.widths && are_dimens_at size file.heights && are_dimens_at size file.depths
+    && are_dimens_at size file.kerns && is_space_at size file.parameters
+
+-- the sizes that a character names
+abbrev pub sizes_of : SizedFont → CharInfo → GlyphSize
+sizes_of font c = record {
+  width = get_or font.widths c.width (pos 0);
+  height = get_or font.heights c.height (pos 0);
+  depth = get_or font.depths c.depth (pos 0);
+}
+
+-- the sizes of a character, if it is there
+unfoldable pub glyph_of : SizedFont → ℕ → Option GlyphSize
+glyph_of font code = option_map (sizes_of font) (character_at font.first font.characters code)
+
+-- the words that a character names, at a size
+abbrev pub sizes_in : MetricFile → ℤ → CharInfo → GlyphSize
+sizes_in file size c = record {
+  width = scaled size (get_or file.widths c.width (pos 0));
+  height = scaled size (get_or file.heights c.height (pos 0));
+  depth = scaled size (get_or file.depths c.depth (pos 0));
+}
+
+-- the first step of a character's program that is for the following character
+unfoldable pub matching_step : SizedFont → ℕ → ℕ → Option LigKernStep
+matching_step font code following =
+    first_for font.steps following (info_program font.steps (character_at font.first font.characters code))
+
+-- what a step that is for the following character gives: with an operation of 128 or more the kern of that number, else the ligature,
+-- whose character is there
+unfoldable pub action_of : SizedFont → LigKernStep → Option Step
+action_of font s =
+    if nat_le 128 s.op then option_map Kern (slice_get font.kerns (256 * (s.op - 128) + s.remainder))
+    else (if is_none (character_at font.first font.characters s.remainder) then None
+    else Some (Ligature s.remainder))
+
+-- what stands between two characters: a kern, or a ligature in their place
+unfoldable pub step_of : SizedFont → ℕ → ℕ → Option Step
+step_of font code following = option_and_then (action_of font) (matching_step font code following)
+
+-- a character's indices are within their tables
+unfoldable pub has_sizes : SizedFont → CharInfo → Bool
+has_sizes font c = nat_lt c.width (length font.widths) && nat_lt c.height (length font.heights) && nat_lt c.depth (length font.depths)
+
+pub record HasSizes (font : SizedFont) (c : CharInfo) : Type 0 where
+  pub width : c.width < length font.widths
+  pub height : c.height < length font.heights
+  pub depth : c.depth < length font.depths
+
+-- a step that may be for a character gives a kern or a character that is there
+unfoldable pub has_action : SizedFont → LigKernStep → Bool
+has_action font s = nat_lt 128 s.skip || not (names_past font.first font.characters (length font.kerns) s)
+
+pub record HasAction (font : SizedFont) (s : LigKernStep) : Type 0 where
+  pub given : IsSome (action_of font s)
+
+-- this holds of all characters and steps
+pub record IsWhole (font : SizedFont) : Type 0 where
+  pub characters : list_all (has_sizes font) font.characters ≡ true
+  pub steps : list_all (has_action font) font.steps ≡ true

@@ -1,0 +1,162 @@
+-- A metric file: its record, and where each entry of the record stands in the bytes (TFtoPL, 8 to 13).
+use Rattle.std.specs.Prelude.{◌≡◌, ◌==◌, ◌+◌, ◌-◌, ◌*◌, ◌/◌, ◌%◌, ℕ, ℤ, List, length, ◌≤◌, if◌then◌else◌, slice_index}
+use Rattle.tfm_core.specs.declared.record.Counts.{Counts}
+use Rattle.tfm_core.specs.declared.record.CharInfo.{CharInfo}
+use Rattle.tfm_core.specs.declared.record.LigKernStep.{LigKernStep}
+use Rattle.tfm_core.specs.declared.places.Places.{Places}
+use Rattle.tfm_core.specs.declared.record.Tag.{Tag}
+use Rattle.tfm_core.specs.declared.record.Tag.TheVariants.{Plain, Program, Larger, Recipe}
+use Rattle.tfm_core.specs.Words.{IsTable, table, from_word, halfword, signed_word}
+
+-- the twelve halfwords at the front: lf, lh, bc, ec, nw, nh, nd, ni, nl, nk, ne, np (TFtoPL, 8)
+unfoldable pub counts_in : List ℕ → Counts
+counts_in bytes = record {
+  file = halfword bytes 0;
+  header = halfword bytes 1;
+  first = halfword bytes 2;
+  last = halfword bytes 3;
+  widths = halfword bytes 4;
+  heights = halfword bytes 5;
+  depths = halfword bytes 6;
+  italics = halfword bytes 7;
+  steps = halfword bytes 8;
+  kerns = halfword bytes 9;
+  recipes = halfword bytes 10;
+  parameters = halfword bytes 11;
+}
+
+-- what the tag says; the remainder is the character's first step, its larger character or its recipe (TFtoPL, 11)
+abbrev pub tag_of : ℕ → ℕ → Tag
+tag_of tag remainder =
+    if tag == 0 then Plain
+    else (if tag == 1 then Program remainder
+    else (if tag == 2 then Larger remainder
+    else Recipe remainder))
+
+-- the four bytes of a character: width index, height index * 16 + depth index, italic index * 4 + tag, remainder (TFtoPL, 11)
+abbrev pub char_info : List ℕ → CharInfo
+char_info bytes = record {
+  width = slice_index bytes 0;
+  height = slice_index bytes 1 / 16;
+  depth = slice_index bytes 1 % 16;
+  italic = slice_index bytes 2 / 4;
+  tag = tag_of (slice_index bytes 2 % 4) (slice_index bytes 3);
+}
+
+-- the four bytes of a step of the ligature/kern program (TFtoPL, 13)
+abbrev pub lig_kern_step : List ℕ → LigKernStep
+lig_kern_step bytes = record {
+  skip = slice_index bytes 0;
+  next = slice_index bytes 1;
+  op = slice_index bytes 2;
+  remainder = slice_index bytes 3;
+}
+
+-- the record of a metric file; of the header the first two words, and no extensible recipes, which nothing uses (TFtoPL, 8 to 13)
+pub record MetricFile : Type 0 where
+  pub counts : Counts
+  pub check_sum : ℤ
+  pub design_word : ℤ
+  pub characters : List CharInfo
+  pub widths : List ℤ
+  pub heights : List ℤ
+  pub depths : List ℤ
+  pub italics : List ℤ
+  pub steps : List LigKernStep
+  pub kerns : List ℤ
+  pub parameters : List ℤ
+
+-- Where each table begins, in words: behind the twelve halfwords the header, then one table behind the other (TFtoPL, 8).
+
+-- ec - bc + 1
+abbrev pub character_count : Counts → ℕ
+character_count c = c.last + 1 - c.first
+
+abbrev pub characters_place : Counts → ℕ
+characters_place c = 6 + c.header
+
+abbrev pub widths_place : Counts → ℕ
+widths_place c = characters_place c + character_count c
+
+abbrev pub heights_place : Counts → ℕ
+heights_place c = widths_place c + c.widths
+
+abbrev pub depths_place : Counts → ℕ
+depths_place c = heights_place c + c.heights
+
+abbrev pub italics_place : Counts → ℕ
+italics_place c = depths_place c + c.depths
+
+abbrev pub steps_place : Counts → ℕ
+steps_place c = italics_place c + c.italics
+
+abbrev pub kerns_place : Counts → ℕ
+kerns_place c = steps_place c + c.steps
+
+-- the extensible recipes stand between kerns and parameters
+abbrev pub parameters_place : Counts → ℕ
+parameters_place c = kerns_place c + c.kerns + c.recipes
+
+abbrev pub end_place : Counts → ℕ
+end_place c = parameters_place c + c.parameters
+
+-- all these places
+unfoldable pub places_of : Counts → Places
+places_of c = record {
+  characters = characters_place c;
+  widths = widths_place c;
+  heights = heights_place c;
+  depths = depths_place c;
+  italics = italics_place c;
+  steps = steps_place c;
+  kerns = kerns_place c;
+  parameters = parameters_place c;
+  end = end_place c;
+}
+
+-- the bytes have room for the twelve numbers, the first two words of the header and all tables
+pub record HasTables (bytes : List ℕ) : Type 0 where
+  pub numbers : 24 ≤ length bytes
+  pub header : 2 ≤ (counts_in bytes).header
+  pub tables : 4 * end_place (counts_in bytes) ≤ length bytes
+
+-- the header's words 0 and 1
+abbrev pub check_sum_in : List ℕ → ℤ
+check_sum_in bytes = signed_word (from_word bytes 6)
+
+abbrev pub design_word_in : List ℕ → ℤ
+design_word_in bytes = signed_word (from_word bytes 7)
+
+-- each entry of the record is what stands at its place in the bytes (TFtoPL, 8 to 13)
+pub record StandsIn (bytes : List ℕ) (file : MetricFile) : Type 0 where
+  pub counts : file.counts ≡ counts_in bytes
+  pub check_sum : file.check_sum ≡ check_sum_in bytes
+  pub design_word : file.design_word ≡ design_word_in bytes
+  pub characters : IsTable char_info bytes (characters_place file.counts) (character_count file.counts) file.characters
+  pub widths : IsTable signed_word bytes (widths_place file.counts) file.counts.widths file.widths
+  pub heights : IsTable signed_word bytes (heights_place file.counts) file.counts.heights file.heights
+  pub depths : IsTable signed_word bytes (depths_place file.counts) file.counts.depths file.depths
+  pub italics : IsTable signed_word bytes (italics_place file.counts) file.counts.italics file.italics
+  pub steps : IsTable lig_kern_step bytes (steps_place file.counts) file.counts.steps file.steps
+  pub kerns : IsTable signed_word bytes (kerns_place file.counts) file.counts.kerns file.kerns
+  pub parameters : IsTable signed_word bytes (parameters_place file.counts) file.counts.parameters file.parameters
+
+-- the record with these counts that stands in the bytes
+unfoldable pub record_with : Counts → List ℕ → MetricFile
+record_with counts bytes = record {
+  counts = counts;
+  check_sum = check_sum_in bytes;
+  design_word = design_word_in bytes;
+  characters = table char_info bytes (characters_place counts) (character_count counts);
+  widths = table signed_word bytes (widths_place counts) counts.widths;
+  heights = table signed_word bytes (heights_place counts) counts.heights;
+  depths = table signed_word bytes (depths_place counts) counts.depths;
+  italics = table signed_word bytes (italics_place counts) counts.italics;
+  steps = table lig_kern_step bytes (steps_place counts) counts.steps;
+  kerns = table signed_word bytes (kerns_place counts) counts.kerns;
+  parameters = table signed_word bytes (parameters_place counts) counts.parameters;
+}
+
+-- the record that stands in the bytes
+abbrev pub record_in : List ℕ → MetricFile
+record_in bytes = record_with (counts_in bytes) bytes

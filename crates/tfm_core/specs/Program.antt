@@ -1,0 +1,57 @@
+-- The ligature/kern program of a character (TFtoPL, 13; TeX: The Program, part 30).
+use Rattle.std.specs.Prelude.{◌≡◌, ◌==◌, ◌&&◌, ◌||◌, ◌+◌, ◌*◌, ◌<◌, ◌≤◌, ℕ, zero, suc, Bool, false, List, [], ◌∷◌, Option, Some, None, if◌then◌else◌, length, nat_le, nat_lt, slice_get}
+use Rattle.std.specs.List.{find}
+use Rattle.std.specs.Option.{option_and_then, option_map_or}
+use Rattle.tfm_core.specs.declared.record.CharInfo.{CharInfo}
+use Rattle.tfm_core.specs.declared.record.LigKernStep.{LigKernStep}
+use Rattle.tfm_core.specs.declared.record.Tag.{Tag}
+use Rattle.tfm_core.specs.declared.record.Tag.TheVariants.{Plain, Program, Larger, Recipe}
+use Rattle.tfm_core.specs.Rules.{character_at}
+
+-- the numbers of the steps that are taken from step k on, rising: a step whose skip is below 128 is followed by the one skip + 1 steps
+-- later, one whose skip is 128 or more is the last, and so is one behind which there are no steps
+pub data Takes (steps : List LigKernStep) : ℕ → List ℕ → Type 0 where
+  past : {k : ℕ} → length steps ≤ k → Takes steps k []
+  last : {k : ℕ} {s : LigKernStep} → slice_get steps k ≡ Some s → 128 ≤ s.skip → Takes steps k (k ∷ [])
+  next : {k : ℕ} {s : LigKernStep} {later : List ℕ} → slice_get steps k ≡ Some s → s.skip < 128 → Takes steps (k + (s.skip + 1)) later → Takes steps k (k ∷ later)
+
+-- those numbers: `pass` steps are passed over, and the steps in hand count from k
+abbrev pub taken_from : ℕ → ℕ → List LigKernStep → List ℕ
+taken_from k pass [] = []
+taken_from k zero (s ∷ rest) = k ∷ (if nat_lt s.skip 128 then taken_from (k + 1) s.skip rest else [])
+taken_from k (suc pass) (s ∷ rest) = taken_from (k + 1) pass rest
+
+unfoldable pub taken : List LigKernStep → ℕ → List ℕ
+taken steps k = taken_from 0 k steps
+
+-- the step from which the program is taken: a first step whose skip is above 128 names another one
+abbrev pub restart : ℕ → Option LigKernStep → ℕ
+restart k None = k
+restart k (Some s) = if nat_lt 128 s.skip then 256 * s.op + s.remainder else k
+
+unfoldable pub first_step : List LigKernStep → ℕ → ℕ
+first_step steps k = restart k (slice_get steps k)
+
+-- the numbers of the steps of a tag's program, rising
+abbrev pub tag_program : List LigKernStep → Tag → List ℕ
+tag_program steps (Program k) = taken steps (first_step steps k)
+tag_program steps Plain = []
+tag_program steps (Larger c) = []
+tag_program steps (Recipe r) = []
+
+-- those of a character that is there
+abbrev pub info_program : List LigKernStep → Option CharInfo → List ℕ
+info_program steps None = []
+info_program steps (Some c) = tag_program steps c.tag
+
+-- a step is for that following character: its skip is at most 128, and its operation is a ligature or a kern; with an operation of 1 to
+-- 127 it is for none (own)
+unfoldable pub is_for : ℕ → LigKernStep → Bool
+is_for following s = (s.next == following) && nat_le s.skip 128 && ((s.op == 0) || nat_le 128 s.op)
+
+abbrev pub is_step_for : List LigKernStep → ℕ → ℕ → Bool
+is_step_for steps following k = option_map_or (is_for following) (slice_get steps k) false
+
+-- the first of these steps that is for the following character
+unfoldable pub first_for : List LigKernStep → ℕ → List ℕ → Option LigKernStep
+first_for steps following ks = option_and_then (slice_get steps) (find (is_step_for steps following) ks)

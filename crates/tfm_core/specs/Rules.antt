@@ -1,0 +1,176 @@
+-- The rules of a metric file, each as a test that says where it is broken (TeX: The Program, part 30).
+use Rattle.std.specs.Prelude.{◌≡◌, ◌==◌, ◌&&◌, ◌||◌, ◌+◌, ◌-◌, ◌*◌, ◌/◌, ◌<◌, ℕ, ℤ, pos, Bool, true, false, not, List, [], ◌∷◌, Option, Some, None, Result, Ok, Err, if◌then◌else◌, int_lt, length, drop, take, nat_le, nat_lt, slice_get, unsigned_abs, is_none, IsTrue, IsFalse}
+use Rattle.std.specs.List.{AllByRecursion, enumerate_from, find, list_any}
+use Rattle.std.specs.Ordering.{int_eq}
+use Rattle.tfm_core.specs.declared.fault.TfmCause.{TfmCause}
+use Rattle.tfm_core.specs.declared.fault.TfmCause.TheVariants.{TooShort, Counts, DesignSize, CharInfo, FixWord, LigKern}
+use Rattle.tfm_core.specs.declared.record.CharInfo.{CharInfo as Info}
+use Rattle.tfm_core.specs.declared.record.Counts.{Counts as Numbers}
+use Rattle.tfm_core.specs.declared.record.LigKernStep.{LigKernStep}
+use Rattle.tfm_core.specs.declared.record.Tag.{Tag}
+use Rattle.tfm_core.specs.declared.record.Tag.TheVariants.{Plain, Program, Larger, Recipe}
+use Rattle.tfm_core.specs.MetricFile.{MetricFile, StandsIn, character_count, counts_in, design_word_in, end_place, record_in}
+use Rattle.tfm_core.specs.Scaling.{is_fix_word}
+
+-- TooShort: fewer than 24 bytes, or than the file's words
+unfoldable pub is_too_short : List ℕ → Bool
+is_too_short bytes = nat_lt (length bytes) 24 || nat_lt (length bytes) (4 * (counts_in bytes).file)
+
+abbrev pub twelve : Numbers → List ℕ
+twelve c =
+    c.file ∷ c.header ∷ c.first ∷ c.last ∷ c.widths ∷ c.heights ∷ c.depths ∷ c.italics ∷ c.steps ∷ c.kerns ∷ c.recipes ∷ c.parameters ∷ []
+
+-- one of the twelve is 32768 or more
+unfoldable pub has_large_number : Numbers → Bool
+has_large_number c = list_any (nat_le 32768) (twelve c)
+
+-- the first code is above the last by more than 1, or the last is above 255
+unfoldable pub has_wrong_codes : Numbers → Bool
+has_wrong_codes c = nat_lt (c.last + 1) c.first || nat_lt 255 c.last
+
+-- the header has fewer than 2 words, or there is no width, height, depth or italic
+unfoldable pub lacks_a_table : Numbers → Bool
+lacks_a_table c = nat_lt c.header 2 || c.widths == 0 || c.heights == 0 || c.depths == 0 || c.italics == 0
+
+-- Counts: one of those, or the tables do not fill the file
+unfoldable pub breaks_counts : Numbers → Bool
+breaks_counts c = has_large_number c || has_wrong_codes c || lacks_a_table c || not (c.file == end_place c)
+
+-- DesignSize: the word is negative, or its sixteenth is below 65536
+unfoldable pub breaks_design_size : ℤ → Bool
+breaks_design_size word = int_lt word (pos 0) || nat_lt (unsigned_abs word / 16) 65536
+
+-- a program begins past the steps
+abbrev pub begins_past : ℕ → Tag → Bool
+begins_past steps (Program start) = nat_le steps start
+begins_past steps Plain = false
+begins_past steps (Larger c) = false
+begins_past steps (Recipe r) = false
+
+-- an index of a character is past its table, or its program begins past the steps
+unfoldable pub breaks_character : MetricFile → Info → Bool
+breaks_character file c =
+    nat_le (length file.widths) c.width
+    || nat_le (length file.heights) c.height
+    || nat_le (length file.depths) c.depth
+    || nat_le (length file.italics) c.italic
+    || begins_past (length file.steps) c.tag
+
+-- CharInfo: of some character, also of one that is not there
+unfoldable pub breaks_char_info : MetricFile → Bool
+breaks_char_info file = list_any (breaks_character file) file.characters
+
+-- some word is no fix word
+unfoldable pub has_other_word : List ℤ → Bool
+has_other_word words = list_any (λ word. not (is_fix_word word)) words
+
+-- the first word is not 0
+abbrev pub begins_otherwise : List ℤ → Bool
+begins_otherwise [] = false
+begins_otherwise (word ∷ words) = not (int_eq word (pos 0))
+
+-- the parameters 2, 3 and 4, as far as there are any: space, stretch and shrink; parameters count from 1
+abbrev pub space_words : List ℤ → List ℤ
+space_words parameters = take 3 (drop 1 parameters)
+
+-- a width, height, depth or italic is no fix word
+unfoldable pub has_other_size : MetricFile → Bool
+has_other_size file = has_other_word file.widths || has_other_word file.heights || has_other_word file.depths || has_other_word file.italics
+
+-- a kern or a parameter 2, 3, 4 is no fix word
+unfoldable pub has_other_distance : MetricFile → Bool
+has_other_distance file = has_other_word file.kerns || has_other_word (space_words file.parameters)
+
+-- entry 0 of the widths, heights, depths or italics is not 0
+unfoldable pub begins_wrong : MetricFile → Bool
+begins_wrong file =
+    begins_otherwise file.widths || begins_otherwise file.heights || begins_otherwise file.depths || begins_otherwise file.italics
+
+-- FixWord: one of those
+unfoldable pub breaks_fix_word : MetricFile → Bool
+breaks_fix_word file = has_other_size file || has_other_distance file || begins_wrong file
+
+-- the character is there where its width index is not 0 (TFtoPL, 11)
+abbrev pub with_width : Option Info → Option Info
+with_width None = None
+with_width (Some c) = if c.width == 0 then None else Some c
+
+-- the character of a code, if it is there; the list begins with the first code
+unfoldable pub character_at : ℕ → List Info → ℕ → Option Info
+character_at first characters code = if nat_lt code first then None else with_width (slice_get characters (code - first))
+
+-- a step gives a kern past that many kerns, or a ligature with a character that is not there
+unfoldable pub names_past : ℕ → List Info → ℕ → LigKernStep → Bool
+names_past first characters kerns s =
+    if nat_le 128 s.op then nat_le kerns (256 * (s.op - 128) + s.remainder)
+    else ((s.op == 0) && is_none (character_at first characters s.remainder))
+
+-- step k is a restart past the steps; or it is none, and it names past, or the next step is past the steps
+unfoldable pub breaks_step : MetricFile → ℕ × LigKernStep → Bool
+breaks_step file (k, s) =
+    if nat_lt 128 s.skip then nat_le (length file.steps) (256 * s.op + s.remainder)
+    else (names_past file.counts.first file.characters (length file.kerns) s
+    || (nat_lt s.skip 128 && nat_le (length file.steps) (k + s.skip + 1)))
+
+-- LigKern: of some step
+unfoldable pub breaks_lig_kern : MetricFile → Bool
+breaks_lig_kern file = list_any (breaks_step file) (enumerate_from 0 file.steps)
+
+-- the rule of that name is broken
+abbrev pub is_broken : List ℕ → TfmCause → Bool
+is_broken bytes TooShort = is_too_short bytes
+is_broken bytes Counts = breaks_counts (counts_in bytes)
+is_broken bytes DesignSize = breaks_design_size (design_word_in bytes)
+is_broken bytes CharInfo = breaks_char_info (record_in bytes)
+is_broken bytes FixWord = breaks_fix_word (record_in bytes)
+is_broken bytes LigKern = breaks_lig_kern (record_in bytes)
+
+-- the rules before that one, in the order in which they are named
+abbrev pub rules_before : TfmCause → List TfmCause
+rules_before TooShort = []
+rules_before Counts = TooShort ∷ []
+rules_before DesignSize = TooShort ∷ Counts ∷ []
+rules_before CharInfo = TooShort ∷ Counts ∷ DesignSize ∷ []
+rules_before FixWord = TooShort ∷ Counts ∷ DesignSize ∷ CharInfo ∷ []
+rules_before LigKern = TooShort ∷ Counts ∷ DesignSize ∷ CharInfo ∷ FixWord ∷ []
+
+-- the bytes break that rule and none before it
+pub record IsFirstBroken (bytes : List ℕ) (cause : TfmCause) : Type 0 where
+  pub broken : IsTrue (is_broken bytes cause)
+  pub kept : AllByRecursion (λ before. IsFalse (is_broken bytes before)) (rules_before cause)
+
+-- the bytes are a metric file with that record: each entry stands at its place, and no rule is broken
+pub record IsMetricFile (bytes : List ℕ) (file : MetricFile) : Type 0 where
+  pub stands : StandsIn bytes file
+  pub kept : (cause : TfmCause) → IsFalse (is_broken bytes cause)
+
+-- the first broken rule, if one is
+unfoldable pub first_broken : List ℕ → Option TfmCause
+first_broken bytes = find (is_broken bytes) (TooShort ∷ Counts ∷ DesignSize ∷ CharInfo ∷ FixWord ∷ LigKern ∷ [])
+
+-- the first broken one of the rules that need no table
+unfoldable pub broken_in_front : List ℕ → Option TfmCause
+broken_in_front bytes = find (is_broken bytes) (TooShort ∷ Counts ∷ DesignSize ∷ [])
+
+-- the first broken one of the other rules
+unfoldable pub broken_in_tables : MetricFile → Option TfmCause
+broken_in_tables file =
+    if breaks_char_info file then Some CharInfo
+    else (if breaks_fix_word file then Some FixWord
+    else (if breaks_lig_kern file then Some LigKern
+    else None))
+
+-- a record that keeps the rules, but for those of its places
+pub record KeepsRules (file : MetricFile) : Type 0 where
+  pub design_size : breaks_design_size file.design_word ≡ false
+  pub char_info : breaks_char_info file ≡ false
+  pub fix_word : breaks_fix_word file ≡ false
+  pub lig_kern : breaks_lig_kern file ≡ false
+
+abbrev pub record_unless : MetricFile → Option TfmCause → Result MetricFile TfmCause
+record_unless file None = Ok file
+record_unless file (Some cause) = Err cause
+
+-- what the bytes hold: the record, or the first broken rule
+unfoldable pub metric_file : List ℕ → Result MetricFile TfmCause
+metric_file bytes = record_unless (record_in bytes) (first_broken bytes)

@@ -1,0 +1,44 @@
+//! Laws of the definitions, each on a function that does nothing.
+
+ghost use Rattle.std.specs.Prelude.{◌≡◌, ◌↔◌, ℕ, ℤ, List, Option, Some, Ok, Err, IsSome, true};
+ghost use Rattle.std.specs.List.Sorted.{IsStrictlyIncreasing};
+ghost use Rattle.std.specs.Option.{option_map};
+ghost use Rattle.scaled_core.specs.Dimensions.{Fits};
+ghost use Rattle.tfm_core.specs.declared.fault.TfmCause.{TfmCause};
+ghost use Rattle.tfm_core.specs.declared.font.Step.TheVariants.{Ligature};
+ghost use Rattle.tfm_core.specs.declared.record.LigKernStep.{LigKernStep};
+ghost use Rattle.tfm_core.specs.Fonts.{SizedFont, font_at, glyph_of, is_dimen_at, sizes_in, step_of};
+ghost use Rattle.tfm_core.specs.MetricFile.{MetricFile};
+ghost use Rattle.tfm_core.specs.Program.{Takes, taken};
+ghost use Rattle.tfm_core.specs.Rules.{IsFirstBroken, IsMetricFile, character_at, metric_file};
+ghost use Rattle.tfm_core.specs.Scaling.{scaled};
+
+/// `metric_file` gives the one record that stands in the bytes where they keep all rules, and else the first broken rule.
+pub fn what_bytes_hold()
+    ensures record_of { (bytes : List ℕ) (file : MetricFile) → (metric_file bytes ≡ Ok file ↔ IsMetricFile bytes file) }
+    ensures cause { (bytes : List ℕ) (cause : TfmCause) → (metric_file bytes ≡ Err cause ↔ IsFirstBroken bytes cause) }
+{}
+
+/// `taken` gives the one list of the steps that are taken, and their numbers rise.
+pub fn steps_that_are_taken()
+    ensures list { (steps : List LigKernStep) (k : ℕ) (ks : List ℕ) → (Takes steps k ks ↔ (ks ≡ taken steps k)) }
+    ensures rising { (steps : List LigKernStep) (k : ℕ) → IsStrictlyIncreasing (taken steps k) }
+{}
+
+/// A ligature's character is there.
+pub fn ligatures_are_there()
+    ensures { (font : SizedFont) (code following character : ℕ) → step_of font code following ≡ Some (Ligature character) →
+        IsSome (glyph_of font character) }
+{}
+
+/// A character has the sizes of the metric file's words that it names, scaled by the size of the font; one size of a file gives a
+/// character one width.
+pub fn sizes_are_scaled_words()
+    ensures { (file : MetricFile) (size : ℤ) (code : ℕ) → glyph_of (font_at file size) code
+        ≡ option_map (sizes_in file size) (character_at file.counts.first file.characters code) }
+{}
+
+/// The test of a dimension says that it fits.
+pub fn dimensions_fit()
+    ensures { (size word : ℤ) → (is_dimen_at size word ≡ true ↔ Fits (scaled size word)) }
+{}

@@ -1,0 +1,18 @@
+//! Font metric files, and fonts at a size (TFtoPL; TeX: The Program, part 30).
+#![tactic(auto)]
+
+mod entries;
+pub mod fault;
+pub mod font;
+pub mod laws;
+mod places;
+mod program;
+pub mod record;
+mod rules;
+pub mod scaling;
+pub mod tfm;
+
+pub use fault::{FontFault, TfmCause, TfmFault};
+pub use font::{Font, GlyphSize, Space, Step};
+pub use scaling::{FontSize, scaled};
+pub use tfm::Tfm;

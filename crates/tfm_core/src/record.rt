@@ -1,0 +1,67 @@
+//! The entries of a metric file (TFtoPL, 8 to 13).
+
+/// The twelve numbers at the front of a metric file.
+#[derive(Clone, Copy, Debug, PartialEq, Eq)]
+pub struct Counts {
+    /// lf: the words of the file, of four bytes each.
+    pub file: u16,
+    /// lh: the words of the header.
+    pub header: u16,
+    /// bc: the code of the first character.
+    pub first: u16,
+    /// ec: the code of the last character.
+    pub last: u16,
+    /// nw: the widths.
+    pub widths: u16,
+    /// nh: the heights.
+    pub heights: u16,
+    /// nd: the depths.
+    pub depths: u16,
+    /// ni: the italic corrections.
+    pub italics: u16,
+    /// nl: the steps of the ligature/kern program.
+    pub steps: u16,
+    /// nk: the kerns.
+    pub kerns: u16,
+    /// ne: the extensible recipes.
+    pub recipes: u16,
+    /// np: the parameters.
+    pub parameters: u16,
+}
+
+/// What a character has beside its sizes.
+#[derive(Clone, Copy, Debug, PartialEq, Eq)]
+pub enum Tag {
+    /// Nothing.
+    Plain,
+    /// A ligature/kern program, with its first step.
+    Program(u8),
+    /// A larger character.
+    Larger(u8),
+    /// An extensible recipe.
+    Recipe(u8),
+}
+
+/// What a metric file says of a character: indices into its tables. Where the width index is 0, the character is not there.
+#[derive(Clone, Copy, Debug, PartialEq, Eq)]
+pub struct CharInfo {
+    pub width: u8,
+    pub height: u8,
+    pub depth: u8,
+    pub italic: u8,
+    pub tag: Tag,
+}
+
+/// A step of the ligature/kern program.
+#[derive(Clone, Copy, Debug, PartialEq, Eq)]
+pub struct LigKernStep {
+    /// How many steps are passed over to the next one; the program ends where it is 128 or more, and above 128 the step is no
+    /// more than a place to go on from.
+    pub skip: u8,
+    /// The character that has to follow.
+    pub next: u8,
+    /// 0 for a ligature, 128 and more for a kern; nothing else is used.
+    pub op: u8,
+    /// The ligature's character, or the lower part of the kern's number.
+    pub remainder: u8,
+}

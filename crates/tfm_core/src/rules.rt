@@ -1,0 +1,210 @@
+//! The rules of a metric file (TeX: The Program, part 30).
+
+ghost use Rattle.std.specs.Prelude.{◌≡◌, ◌+◌, ◌<◌, length};
+ghost use Rattle.tfm_core.specs.Rules.{begins_otherwise, begins_past, begins_wrong, breaks_char_info, breaks_character, breaks_counts, breaks_design_size, breaks_fix_word, breaks_lig_kern, breaks_step, character_at, has_large_number, has_other_distance, has_other_size, has_other_word, has_wrong_codes, is_too_short, lacks_a_table, names_past, space_words};
+
+use crate::entries::{Entries, counts};
+use crate::places::places_of;
+use crate::record::{CharInfo, Counts, LigKernStep, Tag};
+use crate::scaling::is_fix_word;
+
+/// Whether there are fewer bytes than the file says, or than its twelve numbers take.
+#[tactic(auto, unfolding(crate::specs::Rules::is_too_short))]
+pub fn is_too_short(bytes: &[u8]) -> bool
+    ensures { result ≡ is_too_short bytes.now }
+{
+    if bytes.len() < 24 {
+        return true;
+    }
+    bytes.len() < 4 * usize::from(counts(bytes).file)
+}
+
+#[tactic(auto, unfolding(crate::specs::Rules::has_large_number))]
+fn has_large_number(c: Counts) -> bool
+    ensures { result ≡ has_large_number c }
+{
+    let numbers = [
+        c.file,
+        c.header,
+        c.first,
+        c.last,
+        c.widths,
+        c.heights,
+        c.depths,
+        c.italics,
+        c.steps,
+        c.kerns,
+        c.recipes,
+        c.parameters,
+    ];
+    numbers.iter().any(|n| 32768 <= *n)
+}
+
+#[tactic(auto, unfolding(crate::specs::Rules::has_wrong_codes))]
+fn has_wrong_codes(c: Counts) -> bool
+    ensures { result ≡ has_wrong_codes c }
+{
+    usize::from(c.last) + 1 < usize::from(c.first) || 255 < c.last
+}
+
+#[tactic(auto, unfolding(crate::specs::Rules::lacks_a_table))]
+fn lacks_a_table(c: Counts) -> bool
+    ensures { result ≡ lacks_a_table c }
+{
+    c.header < 2 || c.widths == 0 || c.heights == 0 || c.depths == 0 || c.italics == 0
+}
+
+/// Whether the twelve numbers do not go together.
+#[tactic(auto, unfolding(crate::specs::Rules::breaks_counts, crate::specs::MetricFile::places_of))]
+pub fn breaks_counts(c: Counts) -> bool
+    ensures { result ≡ breaks_counts c }
+{
+    has_large_number(c)
+        || has_wrong_codes(c)
+        || lacks_a_table(c)
+        || usize::from(c.file) != places_of(c).end
+}
+
+/// Whether the design size is below one point.
+#[tactic(auto, unfolding(crate::specs::Rules::breaks_design_size))]
+pub fn breaks_design_size(word: i32) -> bool
+    ensures { result ≡ breaks_design_size word }
+{
+    word < 0 || word.unsigned_abs() / 16 < 65536
+}
+
+fn begins_past(steps: usize, tag: Tag) -> bool
+    ensures { result ≡ begins_past steps tag }
+{
+    match tag {
+        Tag::Program(start) => steps <= usize::from(start),
+        Tag::Plain | Tag::Larger(_) | Tag::Recipe(_) => false,
+    }
+}
+
+#[tactic(auto, unfolding(crate::specs::Rules::has_other_word))]
+fn has_other_word(words: &[i32]) -> bool
+    ensures { result ≡ has_other_word words.now }
+{
+    words.iter().any(|word| !is_fix_word(*word))
+}
+
+fn begins_otherwise(words: &[i32]) -> bool
+    ensures { result ≡ begins_otherwise words.now }
+{
+    match words {
+        [word, ..] => *word != 0,
+        [] => false,
+    }
+}
+
+fn space_words(parameters: &[i32]) -> &[i32]
+    ensures { result.now ≡ space_words parameters.now }
+{
+    if parameters.is_empty() {
+        return parameters;
+    }
+    &parameters[1..usize::min(4, parameters.len())]
+}
+
+/// The character of that code, if it is there; the list begins with the first code.
+#[tactic(auto, unfolding(crate::specs::Rules::character_at))]
+pub fn character_at(first: u16, characters: &[CharInfo], code: u8) -> Option<CharInfo>
+    ensures { result ≡ character_at first characters.now code }
+{
+    let place = u16::from(code).checked_sub(first)?;
+    let info = *characters.get(usize::from(place))?;
+    if info.width == 0 {
+        return None;
+    }
+    Some(info)
+}
+
+#[tactic(auto, unfolding(crate::specs::Rules::breaks_character))]
+fn breaks_character(file: &Entries, c: CharInfo) -> bool
+    ensures { result ≡ breaks_character file.now c }
+{
+    file.widths.len() <= usize::from(c.width)
+        || file.heights.len() <= usize::from(c.height)
+        || file.depths.len() <= usize::from(c.depth)
+        || file.italics.len() <= usize::from(c.italic)
+        || begins_past(file.steps.len(), c.tag)
+}
+
+/// Whether some character names an entry that is not in its table.
+#[tactic(auto, unfolding(crate::specs::Rules::breaks_char_info))]
+pub fn breaks_char_info(file: &Entries) -> bool
+    ensures { result ≡ breaks_char_info file.now }
+{
+    file.characters.iter().any(|c| breaks_character(file, *c))
+}
+
+/// Whether some number is too large, or a table does not begin with 0.
+#[tactic(auto, unfolding(crate::specs::Rules::breaks_fix_word))]
+pub fn breaks_fix_word(file: &Entries) -> bool
+    ensures { result ≡ breaks_fix_word file.now }
+{
+    has_other_size(file) || has_other_distance(file) || begins_wrong(file)
+}
+
+#[tactic(auto, unfolding(crate::specs::Rules::has_other_size))]
+fn has_other_size(file: &Entries) -> bool
+    ensures { result ≡ has_other_size file.now }
+{
+    has_other_word(&file.widths)
+        || has_other_word(&file.heights)
+        || has_other_word(&file.depths)
+        || has_other_word(&file.italics)
+}
+
+#[tactic(auto, unfolding(crate::specs::Rules::has_other_distance))]
+fn has_other_distance(file: &Entries) -> bool
+    ensures { result ≡ has_other_distance file.now }
+{
+    has_other_word(&file.kerns) || has_other_word(space_words(&file.parameters))
+}
+
+#[tactic(auto, unfolding(crate::specs::Rules::begins_wrong))]
+fn begins_wrong(file: &Entries) -> bool
+    ensures { result ≡ begins_wrong file.now }
+{
+    begins_otherwise(&file.widths)
+        || begins_otherwise(&file.heights)
+        || begins_otherwise(&file.depths)
+        || begins_otherwise(&file.italics)
+}
+
+/// Whether step k names a step, a kern or a character that is not there.
+#[tactic(auto, unfolding(crate::specs::Rules::breaks_step))]
+fn breaks_step(file: &Entries, k: usize, s: LigKernStep) -> bool
+    requires { k < length file.now.steps }
+    ensures { result ≡ breaks_step file.now (k, s) }
+{
+    if 128 < s.skip {
+        return file.steps.len() <= 256 * usize::from(s.op) + usize::from(s.remainder);
+    }
+    names_past(file.counts.first, &file.characters, file.kerns.len(), s)
+        || s.skip < 128 && file.steps.len() <= k + usize::from(s.skip) + 1
+}
+
+/// Whether a step gives a kern past that many, or a ligature with a character that is not there.
+#[tactic(auto, unfolding(crate::specs::Rules::names_past))]
+fn names_past(first: u16, characters: &[CharInfo], kerns: usize, s: LigKernStep) -> bool
+    ensures { result ≡ names_past first characters.now kerns s }
+{
+    if 128 <= s.op {
+        return kerns <= 256 * usize::from(s.op - 128) + usize::from(s.remainder);
+    }
+    s.op == 0 && character_at(first, characters, s.remainder).is_none()
+}
+
+/// Whether some step does.
+#[tactic(auto, unfolding(crate::specs::Rules::breaks_lig_kern))]
+pub fn breaks_lig_kern(file: &Entries) -> bool
+    ensures { result ≡ breaks_lig_kern file.now }
+{
+    file.steps
+        .iter()
+        .enumerate()
+        .any(|(k, s)| breaks_step(file, k, *s))
+}

@@ -1,0 +1,126 @@
+//! Metric files.
+
+ghost use Rattle.std.specs.Prelude.{◌≡◌, ◌*◌, ◌≤◌, ℕ, ℤ, None, Ok, Err, IfOk, length};
+ghost use Rattle.tfm_core.specs.declared.fault.TfmCause.{TfmCause};
+ghost use Rattle.tfm_core.specs.declared.fault.TfmFault.TheVariants.{Bad};
+ghost use Rattle.tfm_core.specs.MetricFile.{HasTables, MetricFile};
+ghost use Rattle.tfm_core.specs.Scaling.{design_size_of};
+ghost use Rattle.tfm_core.specs.Rules.{IsFirstBroken, IsMetricFile, KeepsRules, broken_in_front, broken_in_tables, metric_file};
+
+use crate::entries::{Entries, counts, word};
+use crate::fault::{TfmCause, TfmFault};
+use crate::rules;
+use crate::scaling::FontSize;
+use std::alloc::{AllocError, Global};
+use std::marker::Model;
+
+/// A metric file that keeps its rules.
+#[derive(Debug, Drop)]
+pub struct Tfm {
+    entries: Entries,
+}
+
+impl Model for Tfm {
+    ghost use Rattle.tfm_core.specs.MetricFile.{MetricFile};
+    ghost use Rattle.tfm_core.specs.Rules.{KeepsRules};
+
+    ghost Value = { MetricFile };
+
+    ghost view = { λ tfm. tfm.entries };
+
+    ghost invariant = { λ tfm. KeepsRules tfm.entries };
+}
+
+/// The first broken one of the rules that need no table.
+#[tactic(auto, using(crate::proofs::RuleLemmas::room), unfolding(crate::specs::Rules::broken_in_front))]
+fn broken_in_front(bytes: &[u8]) -> Option<TfmCause>
+    ensures value { result ≡ broken_in_front bytes.now }
+    ensures room { result ≡ None → HasTables bytes.now }
+{
+    if rules::is_too_short(bytes) {
+        return Some(TfmCause::TooShort);
+    }
+    if rules::breaks_counts(counts(bytes)) {
+        return Some(TfmCause::Counts);
+    }
+    if rules::breaks_design_size(word(bytes, 7)) {
+        return Some(TfmCause::DesignSize);
+    }
+    None
+}
+
+/// The first broken one of the other rules.
+#[tactic(auto, unfolding(crate::specs::Rules::broken_in_tables))]
+fn broken_in_tables(file: &Entries) -> Option<TfmCause>
+    ensures { result ≡ broken_in_tables file.now }
+{
+    if rules::breaks_char_info(file) {
+        return Some(TfmCause::CharInfo);
+    }
+    if rules::breaks_fix_word(file) {
+        return Some(TfmCause::FixWord);
+    }
+    if rules::breaks_lig_kern(file) {
+        return Some(TfmCause::LigKern);
+    }
+    None
+}
+
+impl Tfm {
+    /// The metric file that the bytes hold; bytes behind its last word are ignored (TFtoPL, 8 to 13).
+    ///
+    /// `Bad` names the first broken rule. It takes memory for its tables.
+    #[tactic(auto, using(crate::proofs::ReadingLemmas::relations))]
+    pub fn read(alloc: Global, bytes: &[u8]) -> Result<Tfm, TfmFault>
+        ensures ok { IfOk result (λ tfm. IsMetricFile bytes.now tfm) }
+        ensures bad { (cause : TfmCause) → result ≡ Err (Bad cause) → IsFirstBroken bytes.now cause }
+        ensures none { (cause : TfmCause) (file : MetricFile) → result ≡ Err (Bad cause) → IsMetricFile bytes.now file → ⊥ }
+        ensures value { IfOk result (λ tfm. metric_file bytes.now ≡ Ok tfm) }
+        ensures refused { (cause : TfmCause) → result ≡ Err (Bad cause) → metric_file bytes.now ≡ Err cause }
+    {
+        match file_in(alloc, bytes) {
+            Ok(Ok(tfm)) => Ok(tfm),
+            Ok(Err(cause)) => Err(TfmFault::Bad(cause)),
+            Err(_) => Err(TfmFault::OutOfMemory),
+        }
+    }
+}
+
+impl Tfm {
+    /// The check sum: the header's word 0.
+    pub fn check_sum(&self) -> i32
+        ensures { result ≡ self.now.check_sum }
+    {
+        self.entries.check_sum
+    }
+
+    /// The design size in scaled points.
+    pub fn design_size(&self) -> FontSize
+        ensures { result ≡ design_size_of self.now.design_word }
+    {
+        FontSize::from_design_word(self.entries.design_word)
+    }
+
+    /// The record, which keeps the rules.
+    pub(crate) fn entries(&self) -> &Entries
+        ensures value { result.now ≡ self.now }
+        ensures kept { KeepsRules self.now }
+    {
+        &self.entries
+    }
+}
+
+/// What the bytes hold.
+#[tactic(auto, using(crate::proofs::ReadingLemmas::reading))]
+fn file_in(alloc: Global, bytes: &[u8]) -> Result<Result<Tfm, TfmCause>, AllocError>
+    ensures { IfOk result (λ held. held ≡ metric_file bytes.now) }
+{
+    if let Some(cause) = broken_in_front(bytes) {
+        return Ok(Err(cause));
+    }
+    let entries = Entries::read(alloc, bytes, counts(bytes))?;
+    if let Some(cause) = broken_in_tables(&entries) {
+        return Ok(Err(cause));
+    }
+    Ok(Ok(Tfm { entries }))
+}
