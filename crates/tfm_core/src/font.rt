@@ -312,3 +312,6 @@ impl Font {
         Some(Step::Ligature(step.remainder))
     }
 }
+
+#[cfg(test)]
+mod tests;

@@ -9,6 +9,8 @@ mod places;
 mod program;
 pub mod record;
 mod rules;
+#[cfg(test)]
+mod samples;
 pub mod scaling;
 pub mod tfm;
 

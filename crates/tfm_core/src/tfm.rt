@@ -124,3 +124,6 @@ fn file_in(alloc: Global, bytes: &[u8]) -> Result<Result<Tfm, TfmCause>, AllocEr
     }
     Ok(Ok(Tfm { entries }))
 }
+
+#[cfg(test)]
+mod tests;
