@@ -1,1 +1,2 @@
 pub mod ShapingLemmas
+pub mod TextLemmas

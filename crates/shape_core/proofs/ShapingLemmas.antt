@@ -1,5 +1,5 @@
 -- Shaping, the relation and the function.
-use Rattle.std.proofs.Common.{◌≡◌, ◌↔◌, ℕ, ℤ, zero, suc, ◌+◌, ◌++◌, ◌<◌, List, [], ◌∷◌, Option, Some, None, Result, Ok, Err, length, take, drop, get_or, refl, ap, sym, ◌∙◌, subst, arith, is_some, append-nil}
+use Rattle.std.proofs.Common.{◌≡◌, ◌↔◌, ℕ, ℤ, ◌+◌, ◌++◌, ◌<◌, List, [], ◌∷◌, Option, Some, None, Result, Ok, Err, length, drop, get_or, refl, ap, sym, ◌∙◌, subst, arith, append-nil}
 use Rattle.std.specs.List.{slice_get}
 use Rattle.std.specs.Result.{IfOk, OnOk}
 use Rattle.shape_core.specs.declared.word.Missing.{Missing}

@@ -1,2 +1,3 @@
 pub mod Shaping
 pub mod Spaces
+pub mod Texts

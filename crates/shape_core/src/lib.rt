@@ -3,7 +3,14 @@
 
 pub mod laws;
 pub mod metrics;
+pub mod text;
 pub mod word;
 
 pub use metrics::Metrics;
+pub use text::{shape_character, shape_text};
 pub use word::{Missing, shape};
+
+#[cfg(test)]
+mod samples;
+#[cfg(test)]
+mod tests;

@@ -78,7 +78,7 @@ fn outcome_at<M: Metrics>(metrics: &M, code: u8, following: Option<u8>) -> Outco
 }
 
 /// Puts an item behind the others.
-fn push(node: Node, nodes: &mut Vec<Node>) -> Result<(), AllocError>
+pub(crate) fn push(node: Node, nodes: &mut Vec<Node>) -> Result<(), AllocError>
     ensures ok { OnOk result (nodes.new.items ≡ nodes.old.items ++ node ∷ []) }
     ensures err { OnErr result (nodes.new.items ≡ nodes.old.items) }
 {
@@ -143,6 +143,7 @@ fn shape_from<M: Metrics>(
 ) -> Result<Missing, AllocError>
     ensures ok { OnOk result (nodes.new.items ≡ nodes.old.items ++ items_from slot (M.sizes metrics.now) (M.steps metrics.now) code word.now) }
     ensures number { IfOk result (λ missing. missing.characters ≡ missing_from (M.sizes metrics.now) (M.steps metrics.now) code word.now) }
+    ensures few { IfOk result (λ missing. missing.characters ≤ length word.now + 1) }
     ensures front { take (length nodes.old.items) nodes.new.items ≡ nodes.old.items }
 {
     let mut characters = 0;
@@ -171,6 +172,7 @@ pub fn shape<M: Metrics>(
     ensures ok { OnOk result (nodes.new.items ≡ nodes.old.items ++ shaped_items slot (M.sizes metrics.now) (M.steps metrics.now) word.now) }
     ensures number { IfOk result (λ missing. missing.characters ≡ shaped_missing (M.sizes metrics.now) (M.steps metrics.now) word.now) }
     ensures shaping { IfOk result (λ missing. (items : List Node) × (nodes.new.items ≡ nodes.old.items ++ items) × Shaping slot (M.sizes metrics.now) (M.steps metrics.now) word.now items missing.characters) }
+    ensures few { IfOk result (λ missing. missing.characters ≤ length word.now) }
     ensures err { OnErr result (nodes.new.items ≡ nodes.old.items) }
 {
     let Some((first, rest)) = word.split_first() else {
