@@ -1,2 +1,3 @@
 pub mod ShapingLemmas
+pub mod CutLemmas
 pub mod TextLemmas

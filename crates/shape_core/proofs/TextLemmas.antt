@@ -1,5 +1,5 @@
 -- Parts of a text.
-use Rattle.std.proofs.Common.{◌≡◌, ℕ, suc, ◌+◌, ◌++◌, ◌<◌, ◌≤◌, Bool, true, false, not, cond, List, [], ◌∷◌, Option, length, take, drop, get_or, refl, ap, sym, ◌∙◌, arith, append_assoc}
+use Rattle.std.proofs.Common.{◌≡◌, ℕ, suc, ◌+◌, ◌++◌, ◌<◌, ◌≤◌, Bool, true, false, not, cond, List, [], ◌∷◌, Option, length, take, drop, get_or, refl, ap, sym, ◌∙◌, arith, append_assoc, append-nil}
 use Rattle.std.specs.List.{flat_map, prefix_len, sum_by}
 use Rattle.std.proofs.lemmas.List.Sums.{sum_by-cons}
 pub use Rattle.std.proofs.lemmas.List.Sums.{prefix_len-le-length}
@@ -9,22 +9,18 @@ use Rattle.node_core.specs.declared.tree.Glue.{Glue}
 use Rattle.node_core.specs.declared.tree.Node.{Node}
 use Rattle.tfm_core.specs.declared.font.GlyphSize.{GlyphSize}
 use Rattle.tfm_core.specs.declared.font.Step.{Step}
-use Rattle.shape_core.specs.Texts.{Part, spaces, word, is_space, joined, part_items, part_length, part_missing, part_of, parts_of, text_items, text_missing}
+use Rattle.shape_core.specs.Texts.{Part, spaces, word, is_other, is_space, joined, part_items, part_length, part_missing, part_of, parts_of, text_items, text_missing}
 
--- a character of a word
-abbrev pub is_other : ℕ → Bool
-is_other c = not (is_space c)
-
-drop_next : {X : Type 0} (n : ℕ) (x : X) (xs : List X) → drop (1 + n) (x ∷ xs) ≡ drop n xs
+pub drop_next : {X : Type 0} (n : ℕ) (x : X) (xs : List X) → drop (1 + n) (x ∷ xs) ≡ drop n xs
 drop_next n x xs = let e : 1 + n ≡ suc n = omega arith in rw e refl
 
-take_next : {X : Type 0} (n : ℕ) (x : X) (xs : List X) → take (1 + n) (x ∷ xs) ≡ x ∷ take n xs
+pub take_next : {X : Type 0} (n : ℕ) (x : X) (xs : List X) → take (1 + n) (x ∷ xs) ≡ x ∷ take n xs
 take_next n x xs = let e : 1 + n ≡ suc n = omega arith in rw e refl
 
-passes : (p : ℕ → Bool) (c : ℕ) (text : List ℕ) → p c ≡ true → prefix_len p (c ∷ text) ≡ 1 + prefix_len p text
+pub passes : (p : ℕ → Bool) (c : ℕ) (text : List ℕ) → p c ≡ true → prefix_len p (c ∷ text) ≡ 1 + prefix_len p text
 passes p c text e = ap (λ b. cond b (1 + prefix_len p text) 0) e
 
-stops : (p : ℕ → Bool) (c : ℕ) (text : List ℕ) → p c ≡ false → prefix_len p (c ∷ text) ≡ 0
+pub stops : (p : ℕ → Bool) (c : ℕ) (text : List ℕ) → p c ≡ false → prefix_len p (c ∷ text) ≡ 0
 stops p c text e = ap (λ b. cond b (1 + prefix_len p text) 0) e
 
 -- a space before a word
@@ -50,7 +46,7 @@ next_space c d text false h later =
     ap (joined c true) parts ∙ before_word c d (parts_of text) ∙ ap (λ p. spaces ∷ p) (sym parts) ∙ ap (λ t. spaces ∷ parts_of t) (sym front)
 
 -- a space begins a run of spaces
-parts_of-space : (c : ℕ) (text : List ℕ) → is_space c ≡ true → parts_of (c ∷ text) ≡ spaces ∷ parts_of (drop (prefix_len is_space text) text)
+pub parts_of-space : (c : ℕ) (text : List ℕ) → is_space c ≡ true → parts_of (c ∷ text) ≡ spaces ∷ parts_of (drop (prefix_len is_space text) text)
 parts_of-space c [] e = ap (λ b. joined c b []) e
 parts_of-space c (d ∷ text) e =
     ap (λ b. joined c b (parts_of (d ∷ text))) e ∙ next_space c d text (is_space d) refl (parts_of-space d text)
@@ -70,7 +66,7 @@ next_other c d text false h later =
     ∙ ap (λ n. word (c ∷ take n (d ∷ text)) ∷ parts_of (drop n (d ∷ text))) (sym length_is)
 
 -- another character begins a word
-parts_of-word : (c : ℕ) (text : List ℕ) → is_space c ≡ false → parts_of (c ∷ text) ≡ word (c ∷ take (prefix_len is_other text) text) ∷ parts_of (drop (prefix_len is_other text) text)
+pub parts_of-word : (c : ℕ) (text : List ℕ) → is_space c ≡ false → parts_of (c ∷ text) ≡ word (c ∷ take (prefix_len is_other text) text) ∷ parts_of (drop (prefix_len is_other text) text)
 parts_of-word c [] e = ap (λ b. joined c b []) e
 parts_of-word c (d ∷ text) e =
     ap (λ b. joined c b (parts_of (d ∷ text))) e ∙ next_other c d text (is_space d) refl (parts_of-word d text)
@@ -164,17 +160,17 @@ text_missing-none sizes steps (c ∷ text) h = absurd (omega arith)
 pub ruleset turns = (text_items-turn, text_items-none, text_missing-turn, text_missing-none)
 
 -- one turn of the loop
-pub text_items-part : (slot : ℕ) (sizes : ℕ → Option GlyphSize) (steps : ℕ → ℕ → Option Step) (blank : Glue) (text part rest : List ℕ) (all nodes new : List Node) → 0 < length text → part ≡ take (part_length text) text → rest ≡ drop (part_length text) text → new ≡ nodes ++ part_items slot sizes steps blank (part_of part) → all ≡ nodes ++ text_items slot sizes steps blank text → all ≡ new ++ text_items slot sizes steps blank rest
-text_items-part slot sizes steps blank text part rest all nodes new h p r e f =
+pub text_items-part : (slot : ℕ) (sizes : ℕ → Option GlyphSize) (steps : ℕ → ℕ → Option Step) (blank : Glue) (text part rest : List ℕ) (k : ℕ) (all nodes new : List Node) → 0 < length text → k ≡ part_length text → part ≡ take k text → rest ≡ drop k text → new ≡ nodes ++ part_items slot sizes steps blank (part_of part) → all ≡ nodes ++ text_items slot sizes steps blank text → all ≡ new ++ text_items slot sizes steps blank rest
+text_items-part slot sizes steps blank text part rest k all nodes new h l p r e f =
     let turned : text_items slot sizes steps blank text ≡ part_items slot sizes steps blank (part_of part) ++ text_items slot sizes steps blank rest =
-    rw (p, r) (text_items-turn slot sizes steps blank text h) in
+    rw (p, r, l) (text_items-turn slot sizes steps blank text h) in
     f ∙ ap (λ later. nodes ++ later) turned ∙ sym (append_assoc nodes (part_items slot sizes steps blank (part_of part)) (text_items slot sizes steps blank rest))
     ∙ ap (λ front. front ++ text_items slot sizes steps blank rest) (sym e)
 
-pub text_missing-part : (sizes : ℕ → Option GlyphSize) (steps : ℕ → ℕ → Option Step) (text part rest : List ℕ) (all n m : ℕ) → 0 < length text → part ≡ take (part_length text) text → rest ≡ drop (part_length text) text → m ≡ part_missing sizes steps (part_of part) → all ≡ n + text_missing sizes steps text → all ≡ (n + m) + text_missing sizes steps rest
-text_missing-part sizes steps text part rest all n m h p r e f =
+pub text_missing-part : (sizes : ℕ → Option GlyphSize) (steps : ℕ → ℕ → Option Step) (text part rest : List ℕ) (k all n m : ℕ) → 0 < length text → k ≡ part_length text → part ≡ take k text → rest ≡ drop k text → m ≡ part_missing sizes steps (part_of part) → all ≡ n + text_missing sizes steps text → all ≡ (n + m) + text_missing sizes steps rest
+text_missing-part sizes steps text part rest k all n m h l p r e f =
     let turned : text_missing sizes steps text ≡ part_missing sizes steps (part_of part) + text_missing sizes steps rest =
-    rw (p, r) (text_missing-turn sizes steps text h) in
+    rw (p, r, l) (text_missing-turn sizes steps text h) in
     omega (arith, turned, e, f)
 
 -- what was there stands in front of what is appended
@@ -182,3 +178,8 @@ pub front-kept : {X : Type 0} (old nodes more new : List X) → take (length old
 front-kept old nodes more new h e =
     let within : length old ≤ length nodes = omega (arith, ap length h, length-take (length old) nodes) in
     ap (take (length old)) e ∙ take-append-le (length old) nodes more within ∙ h
+
+-- the end of the loop
+pub text_items-end : (slot : ℕ) (sizes : ℕ → Option GlyphSize) (steps : ℕ → ℕ → Option Step) (blank : Glue) (text : List ℕ) (nodes all : List Node) → length text ≡ 0 → all ≡ nodes ++ text_items slot sizes steps blank text → nodes ≡ all
+text_items-end slot sizes steps blank text nodes all h e =
+    sym (e ∙ ap (λ later. nodes ++ later) (text_items-none slot sizes steps blank text h) ∙ append-nil nodes)

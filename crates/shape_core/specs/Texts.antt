@@ -1,6 +1,6 @@
 -- Texts: words with runs of spaces between them (own).
-use Rattle.std.specs.Prelude.{◌==◌, ℕ, Bool, true, false, not, List, [], ◌∷◌, Option, if◌then◌else◌, sum_by}
-use Rattle.std.specs.List.{flat_map, prefix_len}
+use Rattle.std.specs.Prelude.{◌≡◌, ◌==◌, ◌<◌, ◌++◌, ℕ, Bool, true, false, not, List, [], ◌∷◌, Option, if◌then◌else◌, length, sum_by, take}
+use Rattle.std.specs.List.{flat_map, list_all, prefix_len}
 use Rattle.node_core.specs.declared.tree.Glue.{Glue}
 use Rattle.node_core.specs.declared.tree.Node.{Node}
 use Rattle.node_core.specs.declared.tree.Node.TheVariants as node
@@ -15,6 +15,15 @@ pub data Part : Type 0 where
 
 abbrev pub is_space : ℕ → Bool
 is_space c = c == 32
+
+abbrev pub is_other : ℕ → Bool
+is_other c = not (is_space c)
+
+-- a text is cut into its parts: each is a space or more, or a word of a character or more, as long as it can be
+pub data IsCut : List ℕ → List Part → Type 0 where
+  nothing : IsCut [] []
+  spaces_first : (run rest : List ℕ) {text : List ℕ} {parts : List Part} → 0 < length run → list_all is_space run ≡ true → list_all is_other (take 1 rest) ≡ true → text ≡ run ++ rest → IsCut rest parts → IsCut text (spaces ∷ parts)
+  word_first : (w rest : List ℕ) {text : List ℕ} {parts : List Part} → 0 < length w → list_all is_other w ≡ true → list_all is_space (take 1 rest) ≡ true → text ≡ w ++ rest → IsCut rest parts → IsCut text (word w ∷ parts)
 
 -- the parts with a character before them: a space joins a run of spaces, and another character a word
 abbrev pub joined : ℕ → Bool → List Part → List Part
@@ -56,4 +65,4 @@ part_of (c ∷ text) = if is_space c then spaces else word (c ∷ text)
 -- how long the first part of a text is
 abbrev pub part_length : List ℕ → ℕ
 part_length [] = 0
-part_length (c ∷ text) = if is_space c then prefix_len is_space (c ∷ text) else prefix_len (λ d. not (is_space d)) (c ∷ text)
+part_length (c ∷ text) = if is_space c then prefix_len is_space (c ∷ text) else prefix_len is_other (c ∷ text)

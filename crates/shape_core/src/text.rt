@@ -1,9 +1,9 @@
 //! Texts: words with spaces between them.
 
-ghost use Rattle.std.specs.Prelude.{◌≡◌, ◌≤◌, ◌<◌, ◌++◌, ◌∷◌, [], not, length, take, OnOk, OnErr, IfOk};
+ghost use Rattle.std.specs.Prelude.{◌≡◌, ◌≤◌, ◌<◌, ◌++◌, ◌∷◌, [], length, take, OnOk, OnErr, IfOk};
 ghost use Rattle.std.specs.List.{prefix_len};
 ghost use Rattle.shape_core.specs.Shaping.{shaped_items, shaped_missing};
-ghost use Rattle.shape_core.specs.Texts.{is_space, part_items, part_length, part_missing, part_of, text_items, text_missing};
+ghost use Rattle.shape_core.specs.Texts.{is_other, is_space, part_items, part_length, part_missing, part_of, text_items, text_missing};
 
 use crate::metrics::Metrics;
 use crate::word::{Missing, push, shape};
@@ -22,7 +22,7 @@ fn space_count(text: &[u8]) -> usize
 /// How many characters stand before the first space of a text.
 #[tactic(auto, using(crate::proofs::TextLemmas::prefixes))]
 fn word_length(text: &[u8]) -> usize
-    ensures value { result ≡ prefix_len (λ c. not (is_space c)) text.now }
+    ensures value { result ≡ prefix_len is_other text.now }
     ensures within { result ≤ length text.now }
 {
     text.iter().take_while(|c| **c != b' ').count()

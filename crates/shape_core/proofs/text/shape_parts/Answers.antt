@@ -1,15 +1,12 @@
-use Rattle.std.proofs.Common.{◌≡◌, ◌<◌, ◌++◌, length, take, drop, ap, sym, ◌∙◌, append-nil, rules, arith}
-use Rattle.shape_core.proofs.TextLemmas.{front-kept, text_items-none, text_items-part, text_missing-none, text_missing-part}
+use Rattle.std.proofs.Common.{◌≡◌, ◌<◌, length, rules, arith}
+use Rattle.shape_core.proofs.TextLemmas.{front-kept, text_items-end, text_items-part, text_missing-none, text_missing-part}
 use Rattle.shape_core.proofs.text.shape_parts.Goals as goal
 
 pub loop-text-preserved : goal.loop-text-preserved
 loop-text-preserved g c =
-    let text = c.loop-text.text.now in
-    let some : 0 < length text = search rules in
-    let part = c.split_at.ensures.front ∙ ap (λ n. take n text) c.part_length.ensures.value in
-    let rest = c.split_at.ensures.back ∙ ap (λ n. drop n text) c.part_length.ensures.value in (
-      text_items-part _ _ _ _ text _ _ _ _ _ some part rest c.in_ok-characters.ensures.ok c.loop-text.invariant.0,
-      text_missing-part _ _ text _ _ _ _ _ some part rest c.in_ok-characters.ensures.number c.loop-text.invariant.1,
+    let some : 0 < length c.loop-text.text.now = search rules in (
+      text_items-part _ _ _ _ _ _ _ _ _ _ _ some c.part_length.ensures.value c.split_at.ensures.front c.split_at.ensures.back c.in_ok-characters.ensures.ok c.loop-text.invariant.0,
+      text_missing-part _ _ _ _ _ _ _ _ _ some c.part_length.ensures.value c.split_at.ensures.front c.split_at.ensures.back c.in_ok-characters.ensures.number c.loop-text.invariant.1,
       front-kept _ _ _ _ c.loop-text.invariant.2 c.in_ok-characters.ensures.ok,
       omega (arith, c.in_ok-characters.ensures.few, c.split_at.ensures.front_len, c.split_at.ensures.back_len, c.loop-text.invariant.3),
     )
@@ -17,7 +14,7 @@ loop-text-preserved g c =
 pub returns-clause-ok : goal.returns-clause-ok
 returns-clause-ok g c =
     let none : length c.loop-text.text.now ≡ 0 = search rules in
-    sym (c.loop-text.invariant.0 ∙ ap (λ later. c.loop-text.nodes.items ++ later) (text_items-none _ _ _ _ c.loop-text.text.now none) ∙ append-nil c.loop-text.nodes.items)
+    text_items-end _ _ _ _ c.loop-text.text.now _ _ none c.loop-text.invariant.0
 
 pub returns-clause-number : goal.returns-clause-number
 returns-clause-number g c =
