@@ -1,0 +1,3 @@
+pub mod ShapingLemmas
+pub mod CutLemmas
+pub mod TextLemmas

@@ -1,0 +1,115 @@
+-- Shaping, the relation and the function.
+use Rattle.std.proofs.Common.{◌≡◌, ◌↔◌, ℕ, ℤ, ◌+◌, ◌++◌, ◌<◌, List, [], ◌∷◌, Option, Some, None, Result, Ok, Err, length, drop, get_or, refl, ap, sym, ◌∙◌, subst, arith, append-nil}
+use Rattle.std.specs.List.{slice_get}
+use Rattle.std.specs.Result.{IfOk, OnOk}
+use Rattle.shape_core.specs.declared.word.Missing.{Missing}
+use Rattle.std.proofs.lemmas.List.{drop_more}
+use Rattle.node_core.specs.declared.tree.Node.{Node}
+use Rattle.node_core.specs.declared.tree.Node.TheVariants.{FontKern}
+use Rattle.tfm_core.specs.declared.font.GlyphSize.{GlyphSize}
+use Rattle.tfm_core.specs.declared.font.Step.{Step}
+use Rattle.tfm_core.specs.declared.font.Step.TheVariants.{Kern, Ligature}
+use Rattle.shape_core.specs.Shaping.{Shaping, empty, missing, alone, kern, ligature, glyph_node, items_from, missing_from, outcome_at, outcome_items, outcome_missing, outcome_next, outcome_of, shaped_items, shaped_missing, step_to}
+
+-- one turn of the loop
+items_from-drop : (slot : ℕ) (sizes : ℕ → Option GlyphSize) (steps : ℕ → ℕ → Option Step) (c : ℕ) (rest word : List ℕ) (d : ℕ) → rest ≡ d ∷ word → items_from slot sizes steps c rest ≡ outcome_items slot c (outcome_at sizes steps c (Some d)) ++ items_from slot sizes steps (outcome_next d (outcome_at sizes steps c (Some d))) word
+items_from-drop slot sizes steps c rest word d e = ap (items_from slot sizes steps c) e
+
+pub items_from-turn : (slot : ℕ) (sizes : ℕ → Option GlyphSize) (steps : ℕ → ℕ → Option Step) (c : ℕ) (word : List ℕ) (i : ℕ) → i < length word → items_from slot sizes steps c (drop i word) ≡ outcome_items slot c (outcome_at sizes steps c (Some (get_or word i 0))) ++ items_from slot sizes steps (outcome_next (get_or word i 0) (outcome_at sizes steps c (Some (get_or word i 0)))) (drop (i + 1) word)
+items_from-turn slot sizes steps c word i h =
+    items_from-drop slot sizes steps c (drop i word) (drop (i + 1) word) (get_or word i 0) (drop_more word i 0 h)
+
+pub missing_from-turn : (sizes : ℕ → Option GlyphSize) (steps : ℕ → ℕ → Option Step) (c : ℕ) (word : List ℕ) (i : ℕ) → i < length word → missing_from sizes steps c (drop i word) ≡ outcome_missing (outcome_at sizes steps c (Some (get_or word i 0))) + missing_from sizes steps (outcome_next (get_or word i 0) (outcome_at sizes steps c (Some (get_or word i 0)))) (drop (i + 1) word)
+missing_from-turn sizes steps c word i h = ap (missing_from sizes steps c) (drop_more word i 0 h)
+
+pub ruleset turns = (items_from-turn, missing_from-turn)
+
+-- what becomes of a character, by the cases of its shaping
+Shaping-case : (slot : ℕ) (sizes : ℕ → Option GlyphSize) (steps : ℕ → ℕ → Option Step) (c d : ℕ) (word : List ℕ) (size : Option GlyphSize) (step : Option Step) → sizes c ≡ size → step_to sizes steps c (Some d) ≡ step → ((e : ℕ) → Shaping slot sizes steps (e ∷ word) (items_from slot sizes steps e word) (missing_from sizes steps e word)) → Shaping slot sizes steps (c ∷ d ∷ word) (outcome_items slot c (outcome_of size step) ++ items_from slot sizes steps (outcome_next d (outcome_of size step)) word) (outcome_missing (outcome_of size step) + missing_from sizes steps (outcome_next d (outcome_of size step)) word)
+Shaping-case slot sizes steps c d word None step at behind later =
+    subst (λ n. Shaping slot sizes steps (c ∷ d ∷ word) (items_from slot sizes steps d word) n) (omega arith) (missing at (later d))
+Shaping-case slot sizes steps c d word (Some size) None at behind later =
+    subst (λ n. Shaping slot sizes steps (c ∷ d ∷ word) (glyph_node slot c size ∷ items_from slot sizes steps d word) n) (omega arith) (alone at behind (later d))
+Shaping-case slot sizes steps c d word (Some size) (Some (Kern width)) at behind later =
+    subst (λ n. Shaping slot sizes steps (c ∷ d ∷ word) (glyph_node slot c size ∷ FontKern width ∷ items_from slot sizes steps d word) n) (omega arith) (kern at behind (later d))
+Shaping-case slot sizes steps c d word (Some size) (Some (Ligature e)) at behind later =
+    subst (λ n. Shaping slot sizes steps (c ∷ d ∷ word) (items_from slot sizes steps e word) n) (omega arith) (ligature at behind (later e))
+
+Shaping-last : (slot : ℕ) (sizes : ℕ → Option GlyphSize) (steps : ℕ → ℕ → Option Step) (c : ℕ) (size : Option GlyphSize) → sizes c ≡ size → Shaping slot sizes steps (c ∷ []) (outcome_items slot c (outcome_of size None)) (outcome_missing (outcome_of size None))
+Shaping-last slot sizes steps c None at = missing at empty
+Shaping-last slot sizes steps c (Some size) at = alone at refl empty
+
+Shaping-from : (slot : ℕ) (sizes : ℕ → Option GlyphSize) (steps : ℕ → ℕ → Option Step) (c : ℕ) (word : List ℕ) → Shaping slot sizes steps (c ∷ word) (items_from slot sizes steps c word) (missing_from sizes steps c word)
+unfolding outcome_at
+Shaping-from slot sizes steps c [] = Shaping-last slot sizes steps c (sizes c) refl
+Shaping-from slot sizes steps c (d ∷ word) =
+    Shaping-case slot sizes steps c d word (sizes c) (step_to sizes steps c (Some d)) refl refl (λ e. Shaping-from slot sizes steps e word)
+
+-- the function gives a shaping
+pub Shaping-shaped : (slot : ℕ) (sizes : ℕ → Option GlyphSize) (steps : ℕ → ℕ → Option Step) (word : List ℕ) → Shaping slot sizes steps word (shaped_items slot sizes steps word) (shaped_missing sizes steps word)
+Shaping-shaped slot sizes steps [] = empty
+Shaping-shaped slot sizes steps (c ∷ word) = Shaping-from slot sizes steps c word
+
+-- the first character of a word that is shaped
+shaped-missing : (slot : ℕ) (sizes : ℕ → Option GlyphSize) (steps : ℕ → ℕ → Option Step) (c : ℕ) (word : List ℕ) → sizes c ≡ None → (shaped_items slot sizes steps (c ∷ word) ≡ shaped_items slot sizes steps word) × (shaped_missing sizes steps (c ∷ word) ≡ shaped_missing sizes steps word + 1)
+unfolding outcome_at
+shaped-missing slot sizes steps c [] at = (rw at refl, rw at refl)
+shaped-missing slot sizes steps c (d ∷ word) at = (rw at refl, rw at (omega arith))
+
+shaped-alone : (slot : ℕ) (sizes : ℕ → Option GlyphSize) (steps : ℕ → ℕ → Option Step) (c : ℕ) (size : GlyphSize) (word : List ℕ) → sizes c ≡ Some size → step_to sizes steps c (slice_get word 0) ≡ None → (shaped_items slot sizes steps (c ∷ word) ≡ glyph_node slot c size ∷ shaped_items slot sizes steps word) × (shaped_missing sizes steps (c ∷ word) ≡ shaped_missing sizes steps word)
+unfolding outcome_at
+shaped-alone slot sizes steps c size [] at behind = (rw at refl, rw at refl)
+shaped-alone slot sizes steps c size (d ∷ word) at behind = (rw (at, behind) refl, rw (at, behind) (omega arith))
+
+shaped-kern : (slot : ℕ) (sizes : ℕ → Option GlyphSize) (steps : ℕ → ℕ → Option Step) (c : ℕ) (size : GlyphSize) (width : ℤ) (word : List ℕ) → sizes c ≡ Some size → step_to sizes steps c (slice_get word 0) ≡ Some (Kern width) → (shaped_items slot sizes steps (c ∷ word) ≡ glyph_node slot c size ∷ FontKern width ∷ shaped_items slot sizes steps word) × (shaped_missing sizes steps (c ∷ word) ≡ shaped_missing sizes steps word)
+unfolding outcome_at
+shaped-kern slot sizes steps c size width [] at behind = absurd (cc)
+shaped-kern slot sizes steps c size width (d ∷ word) at behind = (rw (at, behind) refl, rw (at, behind) (omega arith))
+
+shaped-ligature : (slot : ℕ) (sizes : ℕ → Option GlyphSize) (steps : ℕ → ℕ → Option Step) (c d e : ℕ) (size : GlyphSize) (word : List ℕ) → sizes c ≡ Some size → step_to sizes steps c (Some d) ≡ Some (Ligature e) → (shaped_items slot sizes steps (c ∷ d ∷ word) ≡ shaped_items slot sizes steps (e ∷ word)) × (shaped_missing sizes steps (c ∷ d ∷ word) ≡ shaped_missing sizes steps (e ∷ word))
+unfolding outcome_at
+shaped-ligature slot sizes steps c d e size word at behind = (rw (at, behind) refl, rw (at, behind) (omega arith))
+
+-- and the only one
+pub shaped-unique : (slot : ℕ) (sizes : ℕ → Option GlyphSize) (steps : ℕ → ℕ → Option Step) {word : List ℕ} {items : List Node} {n : ℕ} → Shaping slot sizes steps word items n → (items ≡ shaped_items slot sizes steps word) × (n ≡ shaped_missing sizes steps word)
+shaped-unique slot sizes steps empty = (refl, refl)
+shaped-unique slot sizes steps (missing {c = c} {word = word} at rest) =
+    let same = shaped-missing slot sizes steps c word at in
+    let later = shaped-unique slot sizes steps rest in
+    (later.0 ∙ sym same.0, omega (arith, later.1, same.1))
+shaped-unique slot sizes steps (alone {c = c} {word = word} {size = size} at behind rest) =
+    let same = shaped-alone slot sizes steps c size word at behind in
+    let later = shaped-unique slot sizes steps rest in
+    (ap (λ items. glyph_node slot c size ∷ items) later.0 ∙ sym same.0, later.1 ∙ sym same.1)
+shaped-unique slot sizes steps (kern {c = c} {word = word} {size = size} {width = width} at behind rest) =
+    let same = shaped-kern slot sizes steps c size width word at behind in
+    let later = shaped-unique slot sizes steps rest in
+    (ap (λ items. glyph_node slot c size ∷ FontKern width ∷ items) later.0 ∙ sym same.0, later.1 ∙ sym same.1)
+shaped-unique slot sizes steps (ligature {c = c} {d = d} {e = e} {word = word} {size = size} at behind rest) =
+    let same = shaped-ligature slot sizes steps c d e size word at behind in
+    let later = shaped-unique slot sizes steps rest in
+    (later.0 ∙ sym same.0, later.1 ∙ sym same.1)
+
+Shaping-at : (slot : ℕ) (sizes : ℕ → Option GlyphSize) (steps : ℕ → ℕ → Option Step) (word : List ℕ) (items : List Node) (n : ℕ) → items ≡ shaped_items slot sizes steps word → n ≡ shaped_missing sizes steps word → Shaping slot sizes steps word items n
+Shaping-at slot sizes steps word items n e f =
+    subst (λ xs. Shaping slot sizes steps word xs n) (sym e) (subst (λ m. Shaping slot sizes steps word (shaped_items slot sizes steps word) m) (sym f) (Shaping-shaped slot sizes steps word))
+
+pub Shaping-is : (slot : ℕ) (sizes : ℕ → Option GlyphSize) (steps : ℕ → ℕ → Option Step) (word : List ℕ) (items : List Node) (n : ℕ) → (Shaping slot sizes steps word items n ↔ ((items ≡ shaped_items slot sizes steps word) × (n ≡ shaped_missing sizes steps word)))
+Shaping-is slot sizes steps word items n =
+    (λ s. shaped-unique slot sizes steps s, λ same. Shaping-at slot sizes steps word items n same.0 same.1)
+
+-- what was appended is a shaping
+Shaping-grown : (slot : ℕ) (sizes : ℕ → Option GlyphSize) (steps : ℕ → ℕ → Option Step) (word : List ℕ) (old new : List Node) (n : ℕ) → new ≡ old ++ shaped_items slot sizes steps word → n ≡ shaped_missing sizes steps word → (items : List Node) × (new ≡ old ++ items) × Shaping slot sizes steps word items n
+Shaping-grown slot sizes steps word old new n e f =
+    (shaped_items slot sizes steps word, e, Shaping-at slot sizes steps word (shaped_items slot sizes steps word) n refl f)
+
+pub Shaping-ok : {E : Type 0} (slot : ℕ) (sizes : ℕ → Option GlyphSize) (steps : ℕ → ℕ → Option Step) (word : List ℕ) (old new : List Node) (r : Result Missing E) → OnOk r (new ≡ old ++ shaped_items slot sizes steps word) → IfOk r (λ m. m.characters ≡ shaped_missing sizes steps word) → IfOk r (λ m. (items : List Node) × (new ≡ old ++ items) × Shaping slot sizes steps word items m.characters)
+Shaping-ok slot sizes steps word old new (Ok m) e f = Shaping-grown slot sizes steps word old new m.characters e f
+Shaping-ok slot sizes steps word old new (Err x) e f = tt
+
+-- nothing is a shaping of nothing
+pub Shaping-nothing : (slot : ℕ) (sizes : ℕ → Option GlyphSize) (steps : ℕ → ℕ → Option Step) (word : List ℕ) (old : List Node) → length word ≡ 0 → (items : List Node) × (old ≡ old ++ items) × Shaping slot sizes steps word items 0
+Shaping-nothing slot sizes steps [] old e = ([], sym (append-nil old), empty)
+Shaping-nothing slot sizes steps (c ∷ word) old e = absurd (omega arith)
+
+pub ruleset shapings = (Shaping-ok)

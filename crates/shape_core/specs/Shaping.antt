@@ -1,0 +1,88 @@
+-- Shaping of a word: its characters become glyphs, font kerns and ligatures (TeX: The Program, part 46; TFtoPL, 13).
+use Rattle.std.specs.Prelude.{◌≡◌, ◌+◌, ◌++◌, ℕ, ℤ, List, [], ◌∷◌, Option, Some, None, if◌then◌else◌, is_some, slice_get}
+use Rattle.node_core.specs.declared.tree.Node.{Node}
+use Rattle.node_core.specs.declared.tree.Node.TheVariants.{Glyph, FontKern}
+use Rattle.shape_core.specs.declared.word.Outcome.{Outcome}
+use Rattle.shape_core.specs.declared.word.Outcome.TheVariants.{Dropped, Alone, Kerned, Joined}
+use Rattle.tfm_core.specs.declared.font.GlyphSize.{GlyphSize}
+use Rattle.tfm_core.specs.declared.font.Step.{Step}
+use Rattle.tfm_core.specs.declared.font.Step.TheVariants.{Kern, Ligature}
+
+-- the glyph of a character
+abbrev pub glyph_node : ℕ → ℕ → GlyphSize → Node
+glyph_node slot code size = Glyph (record {
+  slot = slot;
+  code = code;
+  width = size.width;
+  height = size.height;
+  depth = size.depth;
+})
+
+-- what stands between a character and the one that follows it; nothing where none follows, and nothing where the one that follows is not
+-- in the font (own)
+abbrev pub step_to : (ℕ → Option GlyphSize) → (ℕ → ℕ → Option Step) → ℕ → Option ℕ → Option Step
+step_to sizes steps c None = None
+step_to sizes steps c (Some d) = if is_some (sizes d) then steps c d else None
+
+-- these are the items of a word, and so many of its characters are missing, by cases on the word:
+-- it is empty; its first character is not in the font, is dropped and counted (own); nothing stands between the first character and the
+-- next one; a kern stands there; a ligature's character stands for both
+pub data Shaping (slot : ℕ) (sizes : ℕ → Option GlyphSize) (steps : ℕ → ℕ → Option Step) : List ℕ → List Node → ℕ → Type 0 where
+  empty : Shaping slot sizes steps [] [] 0
+  missing : {c : ℕ} {word : List ℕ} {items : List Node} {n : ℕ} → sizes c ≡ None → Shaping slot sizes steps word items n → Shaping slot sizes steps (c ∷ word) items (n + 1)
+  alone : {c : ℕ} {word : List ℕ} {items : List Node} {n : ℕ} {size : GlyphSize} → sizes c ≡ Some size → step_to sizes steps c (slice_get word 0) ≡ None → Shaping slot sizes steps word items n → Shaping slot sizes steps (c ∷ word) (glyph_node slot c size ∷ items) n
+  kern : {c : ℕ} {word : List ℕ} {items : List Node} {n : ℕ} {size : GlyphSize} {width : ℤ} → sizes c ≡ Some size → step_to sizes steps c (slice_get word 0) ≡ Some (Kern width) → Shaping slot sizes steps word items n → Shaping slot sizes steps (c ∷ word) (glyph_node slot c size ∷ FontKern width ∷ items) n
+  ligature : {c d e : ℕ} {word : List ℕ} {items : List Node} {n : ℕ} {size : GlyphSize} → sizes c ≡ Some size → step_to sizes steps c (Some d) ≡ Some (Ligature e) → Shaping slot sizes steps (e ∷ word) items n → Shaping slot sizes steps (c ∷ d ∷ word) items n
+
+-- The same as a function: what becomes of a character, by its sizes and what stands behind it.
+abbrev pub outcome_of : Option GlyphSize → Option Step → Outcome
+outcome_of None step = Dropped
+outcome_of (Some size) None = Alone size
+outcome_of (Some size) (Some (Kern width)) = Kerned size width
+outcome_of (Some size) (Some (Ligature e)) = Joined e
+
+unfoldable pub outcome_at : (ℕ → Option GlyphSize) → (ℕ → ℕ → Option Step) → ℕ → Option ℕ → Outcome
+outcome_at sizes steps c following = outcome_of (sizes c) (step_to sizes steps c following)
+
+-- the items that it gives
+abbrev pub outcome_items : ℕ → ℕ → Outcome → List Node
+outcome_items slot c Dropped = []
+outcome_items slot c (Alone size) = glyph_node slot c size ∷ []
+outcome_items slot c (Kerned size width) = glyph_node slot c size ∷ FontKern width ∷ []
+outcome_items slot c (Joined e) = []
+
+-- how many characters are missing by it
+abbrev pub outcome_missing : Outcome → ℕ
+outcome_missing Dropped = 1
+outcome_missing (Alone size) = 0
+outcome_missing (Kerned size width) = 0
+outcome_missing (Joined e) = 0
+
+-- the character that the rest is shaped with, where d follows
+abbrev pub outcome_next : ℕ → Outcome → ℕ
+outcome_next d Dropped = d
+outcome_next d (Alone size) = d
+outcome_next d (Kerned size width) = d
+outcome_next d (Joined e) = e
+
+-- the items of a character and the word behind it
+abbrev pub items_from : ℕ → (ℕ → Option GlyphSize) → (ℕ → ℕ → Option Step) → ℕ → List ℕ → List Node
+items_from slot sizes steps c [] = outcome_items slot c (outcome_at sizes steps c None)
+items_from slot sizes steps c (d ∷ word) =
+    outcome_items slot c (outcome_at sizes steps c (Some d)) ++ items_from slot sizes steps (outcome_next d (outcome_at sizes steps c (Some d))) word
+
+-- how many of them are missing
+abbrev pub missing_from : (ℕ → Option GlyphSize) → (ℕ → ℕ → Option Step) → ℕ → List ℕ → ℕ
+missing_from sizes steps c [] = outcome_missing (outcome_at sizes steps c None)
+missing_from sizes steps c (d ∷ word) =
+    outcome_missing (outcome_at sizes steps c (Some d)) + missing_from sizes steps (outcome_next d (outcome_at sizes steps c (Some d))) word
+
+-- the items of a word
+abbrev pub shaped_items : ℕ → (ℕ → Option GlyphSize) → (ℕ → ℕ → Option Step) → List ℕ → List Node
+shaped_items slot sizes steps [] = []
+shaped_items slot sizes steps (c ∷ word) = items_from slot sizes steps c word
+
+-- how many of its characters are missing
+abbrev pub shaped_missing : (ℕ → Option GlyphSize) → (ℕ → ℕ → Option Step) → List ℕ → ℕ
+shaped_missing sizes steps [] = 0
+shaped_missing sizes steps (c ∷ word) = missing_from sizes steps c word

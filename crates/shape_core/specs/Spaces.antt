@@ -1,0 +1,14 @@
+-- The space of a font (TFtoPL, 12).
+use Rattle.node_core.specs.declared.tree.Glue.{Glue}
+use Rattle.node_core.specs.declared.tree.Order.TheVariants.{Normal}
+use Rattle.tfm_core.specs.declared.font.Space.{Space}
+
+-- the glue of a space: its stretch and its shrink are of the normal order (own)
+abbrev pub space_glue : Space → Glue
+space_glue space = record {
+  width = space.width;
+  stretch = space.stretch;
+  stretch_order = Normal;
+  shrink = space.shrink;
+  shrink_order = Normal;
+}

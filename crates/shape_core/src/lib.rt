@@ -1,0 +1,16 @@
+//! Words to items: glyphs, font kerns and ligatures (TeX: The Program, part 46; TFtoPL, 13).
+#![tactic(auto)]
+
+pub mod laws;
+pub mod metrics;
+pub mod text;
+pub mod word;
+
+pub use metrics::Metrics;
+pub use text::{shape_character, shape_text};
+pub use word::{Missing, shape};
+
+#[cfg(test)]
+mod samples;
+#[cfg(test)]
+mod tests;

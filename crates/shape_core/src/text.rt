@@ -1,0 +1,123 @@
+//! Texts: words with spaces between them.
+
+ghost use Rattle.std.specs.Prelude.{◌≡◌, ◌≤◌, ◌<◌, ◌++◌, ◌∷◌, [], length, take, OnOk, OnErr, IfOk};
+ghost use Rattle.std.specs.List.{prefix_len};
+ghost use Rattle.shape_core.specs.Shaping.{shaped_items, shaped_missing};
+ghost use Rattle.shape_core.specs.Texts.{is_other, is_space, part_items, part_length, part_missing, part_of, text_items, text_missing};
+
+use crate::metrics::Metrics;
+use crate::word::{Missing, push, shape};
+use node_core::Node;
+use std::alloc::AllocError;
+
+/// How many spaces a text begins with.
+#[tactic(auto, using(crate::proofs::TextLemmas::prefixes))]
+fn space_count(text: &[u8]) -> usize
+    ensures value { result ≡ prefix_len is_space text.now }
+    ensures within { result ≤ length text.now }
+{
+    text.iter().take_while(|c| **c == b' ').count()
+}
+
+/// How many characters stand before the first space of a text.
+#[tactic(auto, using(crate::proofs::TextLemmas::prefixes))]
+fn word_length(text: &[u8]) -> usize
+    ensures value { result ≡ prefix_len is_other text.now }
+    ensures within { result ≤ length text.now }
+{
+    text.iter().take_while(|c| **c != b' ').count()
+}
+
+/// How long the run of spaces or the word is that a text begins with.
+#[tactic(auto, using(crate::proofs::TextLemmas::lengths))]
+fn part_length(text: &[u8]) -> usize
+    requires { 0 < length text.now }
+    ensures value { result ≡ part_length text.now }
+    ensures some { 0 < result }
+    ensures within { result ≤ length text.now }
+{
+    if text[0] == b' ' {
+        return space_count(text);
+    }
+    word_length(text)
+}
+
+/// Appends the items of a run of spaces or of a word.
+#[tactic(auto, using(crate::proofs::TextLemmas::parts))]
+fn shape_part<M: Metrics>(
+    metrics: &M,
+    slot: u8,
+    part: &[u8],
+    nodes: &mut Vec<Node>,
+) -> Result<Missing, AllocError>
+    requires { 0 < length part.now }
+    ensures ok { OnOk result (nodes.new.items ≡ nodes.old.items ++ part_items slot (M.sizes metrics.now) (M.steps metrics.now) (M.blank metrics.now) (part_of part.now)) }
+    ensures number { IfOk result (λ missing. missing.characters ≡ part_missing (M.sizes metrics.now) (M.steps metrics.now) (part_of part.now)) }
+    ensures few { IfOk result (λ missing. missing.characters ≤ length part.now) }
+    ensures err { OnErr result (nodes.new.items ≡ nodes.old.items) }
+{
+    if part[0] == b' ' {
+        push(Node::Glue(metrics.space()), nodes)?;
+        return Ok(Missing { characters: 0 });
+    }
+    shape(metrics, slot, part, nodes)
+}
+
+/// Appends the items of a text, or a front of them.
+#[tactic(auto, using(crate::proofs::TextLemmas::turns))]
+fn shape_parts<M: Metrics>(
+    metrics: &M,
+    slot: u8,
+    mut text: &[u8],
+    nodes: &mut Vec<Node>,
+) -> Result<Missing, AllocError>
+    ensures ok { OnOk result (nodes.new.items ≡ nodes.old.items ++ text_items slot (M.sizes metrics.now) (M.steps metrics.now) (M.blank metrics.now) text.now) }
+    ensures number { IfOk result (λ missing. missing.characters ≡ text_missing (M.sizes metrics.now) (M.steps metrics.now) text.now) }
+    ensures few { IfOk result (λ missing. missing.characters ≤ length text.now) }
+    ensures front { take (length nodes.old.items) nodes.new.items ≡ nodes.old.items }
+{
+    let mut characters = 0;
+    while !text.is_empty() {
+        let (part, rest) = text.split_at(part_length(text));
+        characters += shape_part(metrics, slot, part, nodes)?.characters;
+        text = rest;
+    }
+    Ok(Missing { characters })
+}
+
+/// Appends the items of a text in the font of that slot, and gives how many of its characters are missing: each run of spaces is one
+/// glue of the font, and the words between them are shaped. Where memory is refused, `nodes` is as it was.
+pub fn shape_text<M: Metrics>(
+    metrics: &M,
+    slot: u8,
+    text: &[u8],
+    nodes: &mut Vec<Node>,
+) -> Result<Missing, AllocError>
+    ensures ok { OnOk result (nodes.new.items ≡ nodes.old.items ++ text_items slot (M.sizes metrics.now) (M.steps metrics.now) (M.blank metrics.now) text.now) }
+    ensures number { IfOk result (λ missing. missing.characters ≡ text_missing (M.sizes metrics.now) (M.steps metrics.now) text.now) }
+    ensures few { IfOk result (λ missing. missing.characters ≤ length text.now) }
+    ensures err { OnErr result (nodes.new.items ≡ nodes.old.items) }
+{
+    let held = nodes.len();
+    let shaped = shape_parts(metrics, slot, text, nodes);
+    if shaped.is_err() {
+        nodes.truncate(held);
+    }
+    shaped
+}
+
+/// Appends the glyph of one character in the font of that slot; it is missing where the font does not have it. A space is a character
+/// like others. Where memory is refused, `nodes` is as it was.
+pub fn shape_character<M: Metrics>(
+    metrics: &M,
+    slot: u8,
+    code: u8,
+    nodes: &mut Vec<Node>,
+) -> Result<Missing, AllocError>
+    ensures ok { OnOk result (nodes.new.items ≡ nodes.old.items ++ shaped_items slot (M.sizes metrics.now) (M.steps metrics.now) (code ∷ [])) }
+    ensures number { IfOk result (λ missing. missing.characters ≡ shaped_missing (M.sizes metrics.now) (M.steps metrics.now) (code ∷ [])) }
+    ensures few { IfOk result (λ missing. missing.characters ≤ 1) }
+    ensures err { OnErr result (nodes.new.items ≡ nodes.old.items) }
+{
+    shape(metrics, slot, &[code], nodes)
+}
