@@ -1,6 +1,6 @@
 -- What the writer writes for pages that ships make is a DVI file of them.
-use Rattle.std.proofs.Common.{◌≡◌, ◌≢◌, ℕ, zero, suc, ◌+◌, ◌≤◌, ◌<◌, ◌%◌, ◌^◌, List, [], ◌∷◌, ◌++◌, length, map, replicate, refl, ap, ap₂, sym, ◌∙◌, subst, subst₂, arith, append_assoc, append-nil, length-append, max}
-use Rattle.std.specs.Prelude.{ℤ, pos, negsuc, ◌+ℤ◌, ◌≤ℤ◌, Bool, true, false, Option, Some, None, IsSome}
+use Rattle.std.proofs.Common.{◌≡◌, ℕ, zero, suc, ◌<◌, ◌%◌, ◌^◌, List, [], ◌∷◌, ◌++◌, length, map, replicate, refl, ap, ap₂, sym, ◌∙◌, subst, arith, append_assoc, append-nil, length-append}
+use Rattle.std.specs.Prelude.{ℤ, pos, ◌+ℤ◌, false, None, IsSome}
 use Rattle.std.specs.Int.{int_max}
 use Rattle.std.specs.List.{AllByRecursion}
 use Rattle.std.proofs.lemmas.Int.{ints, clamps}
@@ -9,13 +9,12 @@ use Rattle.scaled_core.specs.Dimensions.{Within}
 use Rattle.node_core.specs.declared.tree.BoxNode.{BoxNode}
 use Rattle.node_core.specs.Nodes.{nodes_of}
 use Rattle.dvi_ops.specs.Instruction.{Definition, Instruction, Post, PostPost, Postamble}
-use Rattle.dvi_ops.specs.Body.{Mark, Registers, Pair, start}
+use Rattle.dvi_ops.specs.Body.{Mark, start}
 use Rattle.dvi_ops.specs.Forest.{flat, nests}
-use Rattle.dvi_ops.specs.Fonts.{Metrics, definitions, selections, defined, font_in}
-use Rattle.dvi_ops.specs.File as file
+use Rattle.dvi_ops.specs.Fonts.{Metrics, selections, defined}
 use Rattle.dvi_ops.specs.File.{IsFile}
 use Rattle.dvi_ops.specs.Spelling.{spelling, operand, NumberFits}
-use Rattle.dvi_ops.specs.Layout.{bytes_of, preamble, scaled_points, Sheet, Written, at_first, sheet_from, after, sheets_from, after_all, front_of, stop_of, ending_of, whole_of, padding_after, Table, table_widths, IsGood, AreGood, IsClosing}
+use Rattle.dvi_ops.specs.Layout.{bytes_of, preamble, scaled_points, Written, at_first, sheet_from, after, sheets_from, after_all, front_of, stop_of, ending_of, whole_of, padding_after, Table, table_widths, IsGood, AreGood, IsClosing}
 use Rattle.dvi_ops.proofs.Layouts.{bytes_of-append}
 use Rattle.dvi_ops.proofs.WholeFile.{whole_file, padding_low}
 use Rattle.job_core.specs.Marks.{Page, marks_of_page, marks_of_box, marks_behind, is_huge}

@@ -1,6 +1,6 @@
 -- How a job and the machine that it stands for move together.
-use Rattle.std.proofs.Common.{◌≡◌, ◌≢◌, ℕ, zero, suc, ◌+◌, ◌*◌, ◌≤◌, ◌<◌, ◌^◌, Bool, true, false, List, [], ◌∷◌, ◌++◌, length, length-append, Option, Some, None, Result, Ok, Err, refl, ap, sym, ◌∙◌, subst, arith, cond, lit≤}
-use Rattle.std.specs.Prelude.{nat_le, nat_lt, is_none, IfSome, if◌then◌else◌, pos}
+use Rattle.std.proofs.Common.{◌≡◌, ℕ, ◌+◌, ◌<◌, ◌^◌, Bool, true, false, List, [], ◌∷◌, ◌++◌, length, length-append, Option, Some, None, Err, refl, ap, sym, ◌∙◌, subst, arith, lit≤}
+use Rattle.std.specs.Prelude.{nat_le, nat_lt, is_none, if◌then◌else◌}
 use Rattle.std.specs.List.{AllByRecursion}
 use Rattle.std.proofs.lemmas.Bool.{leb-false, ltb-false}
 use Rattle.node_core.specs.declared.tree.BoxNode.{BoxNode}
@@ -14,9 +14,9 @@ use Rattle.job_core.specs.Reply.{Reply}
 use Rattle.tfm_core.specs.NamedBytes.{NamedBytes}
 use Rattle.dvi_ops.specs.Spelling.{spelling, operand}
 use Rattle.job_core.specs.Marks.{Page}
-use Rattle.job_core.specs.Machine.{State, Machine, checks, own_checks, first_of, reply_to, after, state_by, state_after, new_pages, pages_of, page_of, held_in, count_in, is_huge_in, step, stopped, most_shipped, most_pages, first_state}
+use Rattle.job_core.specs.Machine.{State, Machine, checks, own_checks, first_of, reply_to, after, state_by, state_after, new_pages, pages_of, page_of, held_in, count_in, is_huge_in, step, most_shipped, most_pages, first_state}
 use Rattle.job_core.specs.Draft.{Draft, sheet_of, with_page, with_pages, first_draft, draft_of}
-use Rattle.job_core.specs.Runs.{TakesMemory, IsShipped, Seen, Steps, Replies, LacksMemory, Run, Holds, KeepsTo, RunsTo}
+use Rattle.job_core.specs.Runs.{TakesMemory, IsShipped, Seen, Steps, Replies, LacksMemory, Run, KeepsTo, RunsTo}
 use Rattle.job_core.specs.Room.{HasRoom}
 use Rattle.job_core.specs.Plain.{IsPlainHeld, IsPlain}
 use Rattle.job_core.proofs.Plainness.{plain_held, plain_after, plain_first}

@@ -1,5 +1,5 @@
 -- How many bytes a page takes at most.
-use Rattle.std.proofs.Common.{◌≡◌, ℕ, zero, suc, ◌+◌, ◌*◌, ◌≤◌, ◌<◌, List, [], ◌∷◌, ◌++◌, length, replicate, refl, ap, sym, ◌∙◌, arith, length-append}
+use Rattle.std.proofs.Common.{◌≡◌, ℕ, zero, suc, ◌+◌, ◌*◌, ◌≤◌, List, [], ◌∷◌, ◌++◌, length, replicate, refl, ap, arith, length-append}
 use Rattle.std.specs.Prelude.{ℤ, pos, negsuc, ◌+ℤ◌, ◌-ℤ◌, Bool, true, false, nat_lt, int_lt, ◌&&◌, if◌then◌else◌}
 use Rattle.byteorder.specs.Numbers.{length-bytes_high_first}
 use Rattle.std.specs.Int.{w32, cast_unsigned}
@@ -9,11 +9,11 @@ use Rattle.node_core.specs.declared.tree.Node.TheVariants.{Glyph, FontKern, Kern
 use Rattle.node_core.specs.declared.tree.BoxNode.{BoxNode}
 use Rattle.node_core.specs.Nodes.{nodes_of, box_count}
 use Rattle.node_core.proofs.NodeLemmas.{items_count-is}
-use Rattle.dvi_ops.specs.Instruction.{Axis, Across, Downward, By, Move, SetRule, Instruction, Do, Bop, Eop}
+use Rattle.dvi_ops.specs.Instruction.{Axis, Across, Downward, By, Move, SetRule, Do, Bop, Eop}
 use Rattle.dvi_ops.specs.Body as body
 use Rattle.dvi_ops.specs.Body.{Mark}
 use Rattle.dvi_ops.specs.Forest.{flat}
-use Rattle.dvi_ops.specs.Spelling.{operand, bytes_for, signed_size, coded, spelling, leaf_spelling}
+use Rattle.dvi_ops.specs.Spelling.{operand, bytes_for, signed_size, spelling, leaf_spelling}
 use Rattle.dvi_ops.specs.Layout.{bytes_of, sheet_from}
 use Rattle.dvi_ops.proofs.Layouts.{length-bytes_of-append}
 use Rattle.job_core.specs.Packing.{own_size, total, advance}

@@ -1,12 +1,11 @@
 -- The items of a list, gone over one by one: what stands behind the first ones.
-use Rattle.std.proofs.Common.{◌≡◌, ℕ, suc, ◌+◌, ◌<◌, List, [], ◌∷◌, ◌++◌, length, take, drop, get_or, refl, ap, arith, sym, ◌∙◌, add-one, drop-cons}
+use Rattle.std.proofs.Common.{◌≡◌, ℕ, suc, ◌+◌, ◌<◌, List, [], ◌∷◌, ◌++◌, length, take, drop, get_or, refl, ap, sym, ◌∙◌, add-one, drop-cons}
 use Rattle.std.proofs.lemmas.List.{take_more}
 use Rattle.std.specs.Prelude.{ℤ, pos, ◌+ℤ◌, Bool, true, false, not, ◌&&◌}
 use Rattle.std.specs.List.{list_all}
 use Rattle.std.proofs.lemmas.List.Folds.{list_all-append}
 use Rattle.node_core.specs.declared.tree.Node.{Node}
 use Rattle.node_core.specs.declared.tree.BoxNode.{BoxNode}
-use Rattle.dvi_ops.specs.Body.{Mark}
 use Rattle.job_core.specs.Packing.{fits, total, advance}
 use Rattle.job_core.specs.Marks.{mark_of, marks_behind, numbers_of, numbers_behind, is_huge, marks_of_box}
 use Rattle.dvi_ops.specs.Forest.{flat}

@@ -1,11 +1,10 @@
 -- No command makes a glyph yet.
-use Rattle.std.proofs.Common.{◌≡◌, ℕ, zero, suc, ◌+◌, ◌-◌, ◌<◌, Bool, true, false, List, [], ◌∷◌, ◌++◌, length, take, set, get_or, replicate, Option, Some, None, refl, sym, subst, arith}
-use Rattle.std.specs.Prelude.{slice_get, slice_set, unwrap_or}
+use Rattle.std.proofs.Common.{◌≡◌, ℕ, zero, suc, ◌-◌, ◌<◌, false, List, [], ◌∷◌, ◌++◌, length, take, set, get_or, replicate, Option, Some, None, refl, sym, subst, arith}
+use Rattle.std.specs.Prelude.{slice_get, unwrap_or}
 use Rattle.std.specs.List.{AllByRecursion}
 use Rattle.node_core.specs.declared.tree.Node.{Node}
 use Rattle.node_core.specs.declared.tree.Node.TheVariants as nodes
 use Rattle.node_core.specs.declared.tree.BoxNode.{BoxNode}
-use Rattle.node_core.specs.Items.{Items, none}
 use Rattle.node_core.specs.Nodes.{items_of, nodes_of}
 use Rattle.node_core.proofs.NodeLemmas.{nodes_of-items_of}
 use Rattle.job_core.specs.declared.nest.OpenList.{OpenList}
@@ -14,7 +13,7 @@ use Rattle.job_core.specs.declared.command.Command.TheVariants.{OpenHbox, End, R
 use Rattle.tfm_core.specs.NamedBytes.{NamedBytes}
 use Rattle.job_core.specs.Packing.{packed}
 use Rattle.job_core.specs.Plain.{is_glyph, HasNoGlyph, IsPlainList, IsPlainHeld, IsPlain}
-use Rattle.job_core.specs.Machine.{State, first_state, innermost, outer, with_node, held_in, with_packed, after}
+use Rattle.job_core.specs.Machine.{State, first_state, innermost, with_node, held_in, with_packed, after}
 
 module _ {A : Type 0} (P : A → Type 0) where
   each_append : (xs ys : List A) → AllByRecursion P xs → AllByRecursion P ys → AllByRecursion P (xs ++ ys)

@@ -1,6 +1,5 @@
 -- What a step of the machine can reply, and what a machine that is over does.
-use Rattle.std.proofs.Common.{◌≡◌, ◌≢◌, ℕ, ◌<◌, Bool, true, false, List, [], ◌∷◌, Option, Some, None, Result, Ok, Err, refl, ap, sym, ◌∙◌, subst}
-use Rattle.std.specs.Prelude.{if◌then◌else◌}
+use Rattle.std.proofs.Common.{◌≡◌, ◌≢◌, ℕ, ◌<◌, Bool, true, false, List, [], ◌∷◌, Option, Some, None, Result, Err, refl, ap, sym, ◌∙◌}
 use Rattle.std.specs.List.{AllByRecursion}
 use Rattle.job_core.specs.declared.command.Command.{Command}
 use Rattle.job_core.specs.declared.command.Command.TheVariants.{OpenHbox, End, Rule, Kern, Measure, Void, Ship}
@@ -9,8 +8,8 @@ use Rattle.job_core.specs.declared.command.Refusal.{Refusal}
 use Rattle.job_core.specs.declared.command.Refusal.TheVariants.{OutOfMemory, Device, JobOver, ListsOpen}
 use Rattle.job_core.specs.declared.command.Summary.{Summary}
 use Rattle.job_core.specs.Reply.{Reply}
-use Rattle.job_core.specs.Machine.{State, Machine, checks, first_of, reply_by, reply_to, answer_of, state_by, state_after, after, new_pages, step}
-use Rattle.job_core.specs.Runs.{finish_checks, Finishes, Finished, Refuses, WantsMemory, LostDevice, TakesMemory, IsShip, Steps, Replies, LacksMemory, LosesDevice, Run}
+use Rattle.job_core.specs.Machine.{State, Machine, checks, first_of, reply_by, reply_to, answer_of, step}
+use Rattle.job_core.specs.Runs.{finish_checks, Finishes, Finished, Refuses, WantsMemory, LostDevice, TakesMemory, Steps, Replies, LacksMemory, LosesDevice, Run}
 
 -- None of the refusals is this one.
 abbrev LacksRefusal : Refusal → List (Bool × Refusal) → Type 0

@@ -1,5 +1,5 @@
 -- Which instructions can be spelled: all that the writer makes.
-use Rattle.std.proofs.Common.{◌≡◌, ℕ, zero, suc, ◌<◌, List, [], ◌∷◌, ◌++◌, length, map, get_or, refl, arith}
+use Rattle.std.proofs.Common.{ℕ, zero, suc, ◌<◌, List, [], ◌∷◌, ◌++◌, length, map, get_or, arith}
 use Rattle.std.specs.Prelude.{ℤ, pos, negsuc, ◌+ℤ◌, ◌-ℤ◌}
 use Rattle.std.specs.List.{AllByRecursion}
 use Rattle.dvi_ops.specs.declared.op.Op.{Op}

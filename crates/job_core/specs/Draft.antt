@@ -1,7 +1,7 @@
 -- What the writer keeps of the pages that were shipped, and the bytes that it writes (own).
-use Rattle.std.specs.Prelude.{◌+◌, ◌%◌, ◌++◌, ◌+ℤ◌, [], ◌∷◌, ℕ, ℤ, pos, negsuc, List, length, map}
+use Rattle.std.specs.Prelude.{◌%◌, ◌++◌, ◌+ℤ◌, [], ◌∷◌, ℕ, ℤ, pos, negsuc, List, length}
 use Rattle.std.specs.Int.{int_max}
-use Rattle.dvi_ops.specs.Instruction.{Instruction, Post, PostPost, Postamble}
+use Rattle.dvi_ops.specs.Instruction.{Post, PostPost, Postamble}
 use Rattle.dvi_ops.specs.Layout.{Sheet, bytes_of, preamble, scaled_points, sheet_from, padding_after}
 use Rattle.std.specs.Prelude.{replicate}
 use Rattle.job_core.specs.Marks.{Page}

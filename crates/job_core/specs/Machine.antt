@@ -1,5 +1,5 @@
 -- The abstract machine: what a job keeps, and what each command answers and changes (own; after TeX: The Program, parts 16, 32 and 33).
-use Rattle.std.specs.Prelude.{◌+◌, ◌-◌, ◌==◌, ◌++◌, ◌∷◌, [], ℕ, ℤ, pos, Bool, true, false, not, nat_le, nat_lt, if◌then◌else◌, List, length, take, replicate, slice_get, slice_set, Option, Some, None, is_none, unwrap_or, Result, Ok, Err}
+use Rattle.std.specs.Prelude.{◌+◌, ◌-◌, ◌==◌, ◌++◌, ◌∷◌, [], ℕ, pos, Bool, true, false, not, nat_le, nat_lt, if◌then◌else◌, List, length, take, replicate, slice_get, slice_set, Option, Some, None, is_none, unwrap_or, Ok, Err}
 use Rattle.node_core.specs.declared.tree.Node.{Node}
 use Rattle.node_core.specs.declared.tree.Node.TheVariants as nodes
 use Rattle.node_core.specs.declared.tree.RuleSize.{RuleSize}

@@ -6,7 +6,6 @@ use Rattle.node_core.specs.declared.tree.Node.TheVariants.{Glyph, FontKern, Kern
 use Rattle.node_core.specs.declared.tree.RuleSize.{RuleSize}
 use Rattle.node_core.specs.declared.tree.RuleSize.TheVariants.{Running, Fixed}
 use Rattle.node_core.specs.declared.tree.BoxNode.{BoxNode}
-use Rattle.node_core.specs.declared.tree.Rule as of_rule
 use Rattle.node_core.specs.Nodes.{nodes_of}
 use Rattle.dvi_ops.specs.Body as marks
 use Rattle.dvi_ops.specs.Body.{Mark}

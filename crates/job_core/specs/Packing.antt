@@ -1,5 +1,5 @@
 -- The natural packing of a horizontal list (TeX: The Program, part 33).
-use Rattle.std.specs.Prelude.{◌+ℤ◌, ℕ, ℤ, pos, negsuc, Bool, nat_le, nat_lt, List, [], ◌∷◌}
+use Rattle.std.specs.Prelude.{◌+ℤ◌, ℤ, pos, negsuc, Bool, nat_le, nat_lt, List, [], ◌∷◌}
 use Rattle.std.specs.Int.{int_max}
 use Rattle.node_core.specs.declared.tree.Node.{Node}
 use Rattle.node_core.specs.declared.tree.Node.TheVariants.{Glyph, FontKern, Kern, Glue, Rule}

@@ -1,6 +1,5 @@
 -- What the shipping of a box goes through, one item after the other (own).
-use Rattle.std.specs.Prelude.{◌≡◌, ◌++◌, [], ◌∷◌, ℤ, pos, negsuc, zero, suc, List, map, Option, Some, None}
-use Rattle.dvi_ops.specs.declared.op.Op.{Op}
+use Rattle.std.specs.Prelude.{◌++◌, [], ◌∷◌, ℤ, pos, negsuc, zero, suc, List, map, Option, Some, None}
 use Rattle.dvi_ops.specs.Instruction.{Axis, Move, By, Instruction, Do}
 use Rattle.dvi_ops.specs.Body as body
 use Rattle.dvi_ops.specs.Body.{Mark}

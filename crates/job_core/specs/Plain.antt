@@ -4,7 +4,6 @@ use Rattle.std.specs.List.{AllByRecursion}
 use Rattle.node_core.specs.declared.tree.Node.{Node}
 use Rattle.node_core.specs.declared.tree.Node.TheVariants.{Glyph, FontKern, Kern, Glue, Rule}
 use Rattle.node_core.specs.declared.tree.BoxNode.{BoxNode}
-use Rattle.node_core.specs.Items.{Items}
 use Rattle.node_core.specs.Nodes.{nodes_of}
 use Rattle.job_core.specs.declared.nest.OpenList.{OpenList}
 use Rattle.job_core.specs.Machine.{State}

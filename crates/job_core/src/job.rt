@@ -105,6 +105,7 @@ impl<D: Device> Job<D> {
         requires fresh { IfSome (D.told device) (λ bytes. bytes ≡ []) }
         ensures ok { IfOk result (λ job. Holds job (first_machine files.now)) }
         ensures failed { IfOk result (λ job. job.failed ≡ D.failed device) }
+        ensures told { IfOk result (λ job. job.told ≡ D.told device) }
         ensures back { IfErr result (λ back. back ≡ device) }
     {
         let Ok(kept) = Kept::new(alloc, files) else {

@@ -195,3 +195,17 @@ fn a_device_may_fail_halfway(rt: HostRuntime) -> Result<(), Fail> {
     assert_eq!(rt; taken, 74);
     Ok(())
 }
+
+#[test]
+fn a_job_takes_font_files(rt: HostRuntime) -> Result<(), Fail> {
+    let alloc = rt.alloc();
+    let file = FontFile::new(b"tiny".to_vec(alloc)?, [0, 29].to_vec(alloc)?);
+    let copy = file.copy(alloc)?;
+    assert_eq!(rt; copy.name(), b"tiny".as_slice());
+    assert_eq!(rt; copy.bytes(), [0, 29].as_slice());
+    let Ok(mut job) = Job::new(alloc, Memory::new(alloc), &[file, copy]) else {
+        return Err(Fail::from("no job"));
+    };
+    assert_eq!(rt; job.finish(), Ok(Summary { pages: 0, bytes: 0 }));
+    Ok(())
+}

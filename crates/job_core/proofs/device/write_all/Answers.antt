@@ -1,4 +1,4 @@
-use Rattle.std.proofs.Common.{◌≡◌, ◌∙◌, ap, arith, take, drop, length, length-drop}
+use Rattle.std.proofs.Common.{◌∙◌, ap, arith, take, drop, length-drop}
 use Rattle.std.proofs.lemmas.List.{take_rest}
 use Rattle.job_core.specs.Told.{grown}
 use Rattle.job_core.proofs.Tellings.{grown_more}

@@ -1,7 +1,7 @@
-use Rattle.std.proofs.Common.{arith, refl, ◌≡◌, ◌∙◌, sym, ap, length, drop, take, [], ◌++◌, ◌+◌}
+use Rattle.std.proofs.Common.{arith, refl, ◌≡◌, ◌∙◌, sym, ap, drop, take, [], ◌++◌, ◌+◌}
 use Rattle.std.proofs.lemmas.Int.{ints}
 use Rattle.std.proofs.lemmas.List.{drop_all, append-nil}
-use Rattle.std.specs.Prelude.{ℤ, pos, map}
+use Rattle.std.specs.Prelude.{pos, map}
 use Rattle.dvi_ops.specs.View.{view}
 use Rattle.job_core.specs.Packing.{advance}
 use Rattle.job_core.specs.Marks.{marks_behind}

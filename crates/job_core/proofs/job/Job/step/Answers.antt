@@ -1,4 +1,4 @@
-use Rattle.std.proofs.Common.{◌≡◌, false, refl, ap, sym, ◌∙◌}
+use Rattle.std.proofs.Common.{◌≡◌, refl, ap, sym, ◌∙◌}
 use Rattle.job_core.specs.Machine.{State}
 use Rattle.job_core.proofs.Moves.{state_after-over, roomy, replied}
 use Rattle.job_core.proofs.job.Job.step.Goals as goal
