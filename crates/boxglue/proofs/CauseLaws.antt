@@ -5,126 +5,58 @@ use Rattle.std.proofs.lemmas.List.{append-nil}
 use Rattle.node_core.specs.declared.tree.RuleSize.{RuleSize}
 use Rattle.node_core.specs.declared.tree.RuleSize.TheVariants.{Running, Fixed}
 use Rattle.job_core.specs.declared.command.Command.{Command}
-use Rattle.job_core.specs.declared.command.Command.TheVariants.{OpenHbox, End, Rule, Kern, Measure, Void, Ship}
+use Rattle.job_core.specs.declared.command.Command.TheVariants.{UseFont, OpenHbox, End, Character, Rule, Kern, Measure, Void, Ship}
 use Rattle.boxglue.specs.declared.cause.Cause.{Cause}
 use Rattle.boxglue.specs.declared.cause.Cause.TheVariants.{Word, Missing, Extra, Number, Dimension}
 use Rattle.boxglue.specs.declared.name.Name.{Name}
 use Rattle.boxglue.specs.declared.name.Name.TheVariants as names
 use Rattle.boxglue.specs.Names.{name_of}
-use Rattle.boxglue.specs.Causes.{SaysSome, Begins, IsWord, NamesRegister, GivesSize, HasBad, LacksField, HasExtra, IsFieldCause}
-use Rattle.boxglue.specs.Reading.{word_first, some_or, register_of, register_first, dimension_or, dimension_first, map_ok, size_of, size_first, ended, and_right, last_register, last_dimension, right_and, hbox_of, rule_of, command_named, named_by, command_of}
+use Rattle.boxglue.specs.Causes.{IsWord, GivesNumber, GivesSize, HasBad, LacksField, HasExtra, IsFieldCause}
+use Rattle.boxglue.specs.Reading.{word_first, some_or, number_of, number_first, dimension_or, dimension_first, map_ok, size_of, size_first, ended, and_right, last_number, last_dimension, right_and, hbox_of, rule_of, command_named, named_by, command_of}
 use Rattle.scaled_core.specs.declared.fault.DimenFault.{DimenFault}
-use Rattle.scaled_core.specs.Rounding.{nearest}
-use Rattle.scaled_core.specs.DimensionTexts.{decimal_fraction}
-use Rattle.scaled_core.specs.ParsedTexts.{read_dimension, dimension_value, fitted, measured, unit_named, is_negative, behind_sign, front_digits, behind_digits, point_digits, behind_fraction}
-use Rattle.boxglue.proofs.FieldLaws.{same_bytes, names_register, reads_dimension}
-use Rattle.boxglue.proofs.CommandLaws.{name_text, name_written, name_read, named, complete, sound}
+use Rattle.scaled_core.specs.ParsedTexts.{read_dimension}
+use Rattle.boxglue.proofs.FieldLaws.{same_bytes}
+use Rattle.boxglue.proofs.CommandLaws.{name_text, name_written, name_read, named}
+use Rattle.boxglue.proofs.CauseForms.{missing, bad_field, extra, as_cause, not_made, zero_text, zero_names, zero_number, star_given, star_size, zero_dimension, zero_size, no_dimension_given, no_size_given}
+use Rattle.boxglue.proofs.FontCauses.{font_cause, font_reads}
 
--- reading fails
-abbrev Fails : List (List ℕ) → Type 0
-Fails fields = (cause : Cause) × (command_of fields ≡ Err cause)
-
-silent : (fields : List (List ℕ)) → Fails fields → SaysSome fields → ⊥
-silent fields (cause, e) (command, says) = let o = complete fields command says in cc
-
-not_begun : (fields : List (List ℕ)) → ((more : List (List ℕ)) → Fails (fields ++ more)) → Begins fields → ⊥
-not_begun fields all (more, some) = silent (fields ++ more) (all more) some
-
-missing : (front more : List (List ℕ)) (command : Command) → Fails front → command_of (front ++ more) ≡ Ok command → LacksField front
-missing front more command fails whole = record { begins = (more, (command, sound (front ++ more) command whole)); incomplete = silent front fails }
-
-bad_field : (IsRight : List ℕ → Type 0) (front : List (List ℕ)) (field : List ℕ) (rest : List (List ℕ)) (right : List ℕ) (more : List (List ℕ)) (command : Command) → IsRight right → command_of ((front ++ right ∷ []) ++ more) ≡ Ok command → ((later : List (List ℕ)) → Fails ((front ++ field ∷ []) ++ later)) → HasBad IsRight (front ++ field ∷ rest)
-bad_field IsRight front field rest right more command is whole fails = record {
-  front = front;
-  field = field;
-  rest = rest;
-  split = refl;
-  right = right;
-  is_right = is;
-  wanted = (more, (command, sound ((front ++ right ∷ []) ++ more) command whole));
-  bad = not_begun (front ++ field ∷ []) fails;
-}
-
-extra : (front : List (List ℕ)) (field : List ℕ) (rest : List (List ℕ)) (command : Command) → command_of front ≡ Ok command → ((later : List (List ℕ)) → Fails ((front ++ field ∷ []) ++ later)) → HasExtra (front ++ field ∷ rest)
-extra front field rest command whole fails = record {
-  front = front;
-  field = field;
-  rest = rest;
-  split = refl;
-  whole = (command, sound front command whole);
-  bad = not_begun (front ++ field ∷ []) fails;
-}
-
--- a cause is another name of it
-as_cause : (fields : List (List ℕ)) (one other : Cause) → one ≡ other → IsFieldCause one fields → IsFieldCause other fields
-as_cause fields one other e h = let P : Cause → Type 0 = λ cause. IsFieldCause cause fields in subst P e h
-
--- right fields of each kind
-abbrev zero_text : List ℕ
-zero_text = codes "0"
-
-zero_names : register_of zero_text ≡ Some 0
-unfolding register_of
-zero_names = refl
-
-zero_register : NamesRegister zero_text
-zero_register = (0, names_register zero_text 0 zero_names)
-
-star_given : size_of (codes "*") ≡ Ok Running
-unfolding size_of
-star_given = refl
-
-star_size : GivesSize (codes "*")
-star_size = (Running, refl)
-
-zero_dimension : read_dimension (codes "0sp") ≡ Ok (pos 0)
-unfolding read_dimension dimension_value fitted measured unit_named is_negative behind_sign front_digits behind_digits point_digits behind_fraction decimal_fraction nearest
-zero_dimension = refl
-
-zero_size : GivesSize (codes "0sp")
-zero_size = (Fixed (pos 0), reads_dimension (codes "0sp") (pos 0) zero_dimension)
-
--- where one register and nothing else belongs behind these fields
-module _ (front : List (List ℕ)) (make : ℕ → Command) (reads : (rest : List (List ℕ)) → command_of (front ++ rest) ≡ map_ok make (last_register rest)) where
-  behind : (fields rest : List (List ℕ)) → fields ≡ front ++ rest → command_of fields ≡ map_ok make (last_register rest)
+-- where one number and nothing else belongs behind these fields
+module _ (front : List (List ℕ)) (make : ℕ → Command) (reads : (rest : List (List ℕ)) → command_of (front ++ rest) ≡ map_ok make (last_number rest)) where
+  behind : (fields rest : List (List ℕ)) → fields ≡ front ++ rest → command_of fields ≡ map_ok make (last_number rest)
   behind fields rest e = ap command_of e ∙ reads rest
 
-  read_zero : map_ok make (last_register (zero_text ∷ [])) ≡ Ok (make 0)
-  unfolding last_register register_first
+  read_zero : map_ok make (last_number (zero_text ∷ [])) ≡ Ok (make 0)
+  unfolding last_number number_first
   read_zero = rw zero_names refl
 
-  lacks_register : LacksField (front ++ [])
-  unfolding last_register register_first
-  lacks_register = missing (front ++ []) (zero_text ∷ []) (make 0) (Missing, reads []) (behind _ (zero_text ∷ []) (append_assoc front [] (zero_text ∷ [])) ∙ read_zero)
+  lacks_number : LacksField (front ++ [])
+  unfolding last_number number_first
+  lacks_number = missing (front ++ []) (zero_text ∷ []) (make 0) (Missing, reads []) (behind _ (zero_text ∷ []) (append_assoc front [] (zero_text ∷ [])) ∙ read_zero)
 
-  no_register : (r : List ℕ) (rest : List (List ℕ)) → register_of r ≡ None → HasBad NamesRegister (front ++ r ∷ rest)
-  unfolding last_register register_first
-  no_register r rest e =
-      bad_field NamesRegister front r rest zero_text [] (make 0) zero_register
+  no_number : (r : List ℕ) (rest : List (List ℕ)) → number_of r ≡ None → HasBad GivesNumber (front ++ r ∷ rest)
+  unfolding last_number number_first
+  no_number r rest e =
+      bad_field GivesNumber front r rest zero_text [] (make 0) zero_number
       (behind _ (zero_text ∷ []) (append-nil (front ++ zero_text ∷ [])) ∙ read_zero)
       (λ later. (Number, behind _ (r ∷ later) (append_assoc front (r ∷ []) later) ∙ (rw e refl)))
 
-  extra_behind : (r : List ℕ) (n : ℕ) (f : List ℕ) (rest : List (List ℕ)) → register_of r ≡ Some n → HasExtra ((front ++ r ∷ []) ++ f ∷ rest)
-  unfolding last_register register_first
+  extra_behind : (r : List ℕ) (n : ℕ) (f : List ℕ) (rest : List (List ℕ)) → number_of r ≡ Some n → HasExtra ((front ++ r ∷ []) ++ f ∷ rest)
+  unfolding last_number number_first
   extra_behind r n f rest e =
       extra (front ++ r ∷ []) f rest (make n) (reads (r ∷ []) ∙ (rw e refl))
       (λ later. (Extra, behind _ (r ∷ f ∷ later) (append_assoc (front ++ r ∷ []) (f ∷ []) later ∙ append_assoc front (r ∷ []) (f ∷ later)) ∙ (rw e refl)))
 
-  register_by : (r : List ℕ) (rest : List (List ℕ)) (o : Option ℕ) (cause : Cause) → register_of r ≡ o → and_right (some_or Number o) (ended rest) ≡ Err cause → IsFieldCause cause (front ++ r ∷ rest)
-  register_by r rest None cause e h = as_cause _ Number cause (cc) (no_register r rest e)
-  register_by r [] (Some n) cause e h = absurd (cc)
-  register_by r (f ∷ rest) (Some n) cause e h =
+  number_by : (r : List ℕ) (rest : List (List ℕ)) (o : Option ℕ) (cause : Cause) → number_of r ≡ o → and_right (some_or Number o) (ended rest) ≡ Err cause → IsFieldCause cause (front ++ r ∷ rest)
+  number_by r rest None cause e h = as_cause _ Number cause (cc) (inl (no_number r rest e))
+  number_by r [] (Some n) cause e h = absurd (cc)
+  number_by r (f ∷ rest) (Some n) cause e h =
       let P : List (List ℕ) → Type 0 = λ fields. IsFieldCause cause fields in
       subst P (append_assoc front (r ∷ []) (f ∷ rest)) (as_cause _ Extra cause (cc) (extra_behind r n f rest e))
 
-  pub register_cause : (rest : List (List ℕ)) (cause : Cause) → last_register rest ≡ Err cause → IsFieldCause cause (front ++ rest)
-  unfolding last_register register_first
-  register_cause [] cause h = as_cause _ Missing cause (cc) lacks_register
-  register_cause (r ∷ rest) cause h = register_by r rest (register_of r) cause refl h
-
-not_made : {A : Type 0} (make : A → Command) (r : Result A Cause) (cause : Cause) → map_ok make r ≡ Err cause → r ≡ Err cause
-not_made make (Err other) cause h = cc
-not_made make (Ok x) cause h = absurd (cc)
+  pub number_cause : (rest : List (List ℕ)) (cause : Cause) → last_number rest ≡ Err cause → IsFieldCause cause (front ++ rest)
+  unfolding last_number number_first
+  number_cause [] cause h = as_cause _ Missing cause (cc) lacks_number
+  number_cause (r ∷ rest) cause h = number_by r rest (number_of r) cause refl h
 
 -- a kern
 kern_reads : (rest : List (List ℕ)) → command_of (codes "kern" ∷ rest) ≡ map_ok Kern (last_dimension rest)
@@ -139,11 +71,13 @@ lacks_dimension : LacksField (codes "kern" ∷ [])
 unfolding last_dimension dimension_first
 lacks_dimension = missing (codes "kern" ∷ []) (codes "0sp" ∷ []) (Kern (pos 0)) (Missing, kern_reads []) (kern_zero _ refl)
 
-no_dimension : (d : List ℕ) (rest : List (List ℕ)) (fault : DimenFault) → read_dimension d ≡ Err fault → HasBad GivesSize (codes "kern" ∷ d ∷ rest)
+no_dimension : (d : List ℕ) (rest : List (List ℕ)) (fault : DimenFault) → read_dimension d ≡ Err fault → IsFieldCause Dimension (codes "kern" ∷ d ∷ rest)
 unfolding last_dimension dimension_first
-no_dimension d rest fault e =
-    bad_field GivesSize (codes "kern" ∷ []) d rest (codes "0sp") [] (Kern (pos 0)) zero_size (kern_zero _ refl)
-    (λ later. (Dimension, kern_reads (d ∷ later) ∙ (rw e refl)))
+no_dimension d rest fault e = (
+  bad_field GivesSize (codes "kern" ∷ []) d rest (codes "0sp") [] (Kern (pos 0)) zero_size (kern_zero _ refl)
+      (λ later. (Dimension, kern_reads (d ∷ later) ∙ (rw e refl))),
+  no_dimension_given d fault e,
+)
 
 extra_dimension : (d : List ℕ) (z : ℤ) (f : List ℕ) (rest : List (List ℕ)) → read_dimension d ≡ Ok z → HasExtra (codes "kern" ∷ d ∷ f ∷ rest)
 unfolding last_dimension dimension_first
@@ -175,12 +109,12 @@ hbox_reads : (rest : List (List ℕ)) → command_of (codes "hbox" ∷ rest) ≡
 unfolding command_named
 hbox_reads rest = named names.Hbox rest
 
-into_reads : (rest : List (List ℕ)) → command_of ((codes "hbox" ∷ codes "into" ∷ []) ++ rest) ≡ map_ok OpenHbox (last_register rest)
+into_reads : (rest : List (List ℕ)) → command_of ((codes "hbox" ∷ codes "into" ∷ []) ++ rest) ≡ map_ok OpenHbox (last_number rest)
 unfolding hbox_of word_first
 into_reads rest = hbox_reads (codes "into" ∷ rest)
 
 hbox_zero : command_of (codes "hbox" ∷ codes "into" ∷ zero_text ∷ []) ≡ Ok (OpenHbox 0)
-unfolding last_register register_first
+unfolding last_number number_first
 hbox_zero = into_reads (zero_text ∷ []) ∙ (rw zero_names refl)
 
 hbox_alone : command_of (codes "hbox" ∷ []) ≡ Err Missing
@@ -195,11 +129,11 @@ hbox_by : (w : List ℕ) (rest : List (List ℕ)) (b : Bool) (cause : Cause) →
 unfolding hbox_of word_first
 hbox_by w rest true cause e h =
     let P : List ℕ → Type 0 = λ x. IsFieldCause cause (codes "hbox" ∷ x ∷ rest) in
-    subst P (sym (same_bytes w (codes "into") e)) (register_cause (codes "hbox" ∷ codes "into" ∷ []) OpenHbox into_reads rest cause (not_made OpenHbox (last_register rest) cause (rw e at h)))
+    subst P (sym (same_bytes w (codes "into") e)) (number_cause (codes "hbox" ∷ codes "into" ∷ []) OpenHbox into_reads rest cause (not_made OpenHbox (last_number rest) cause (rw e at h)))
 hbox_by w rest false cause e h =
     let is : Err Word ≡ Err cause = rw e at h in
     as_cause _ Word cause (cc)
-    (bad_field IsWord (codes "hbox" ∷ []) w rest (codes "into") (zero_text ∷ []) (OpenHbox 0) (inr refl) hbox_zero (λ later. (Word, no_into w later e)))
+    (bad_field IsWord (codes "hbox" ∷ []) w rest (codes "into") (zero_text ∷ []) (OpenHbox 0) (inr (inl refl)) hbox_zero (λ later. (Word, no_into w later e)))
 
 hbox_cause : (rest : List (List ℕ)) (cause : Cause) → hbox_of rest ≡ Err cause → IsFieldCause cause (codes "hbox" ∷ rest)
 hbox_cause [] cause h = as_cause _ Missing cause (let e = hbox_reads [] in let a = hbox_alone in cc) (missing (codes "hbox" ∷ []) (codes "into" ∷ zero_text ∷ []) (OpenHbox 0) (Missing, hbox_alone) hbox_zero)
@@ -267,7 +201,7 @@ rule_by_depth w h d rest width height (Err other) cause a b c e =
     let is : other ≡ Dimension = size_fault d other c in
     let bad = rule_bad_3 w h d rest width height other a b c in
     as_cause _ Dimension cause (cc)
-    (bad_field GivesSize (codes "rule" ∷ w ∷ h ∷ []) d rest star [] _ star_size (rule_right w h star width height Running a b star_given) (λ later. (other, rule_bad_3 w h d later width height other a b c)))
+    (bad_field GivesSize (codes "rule" ∷ w ∷ h ∷ []) d rest star [] _ star_size (rule_right w h star width height Running a b star_given) (λ later. (other, rule_bad_3 w h d later width height other a b c)), no_size_given d other c)
 rule_by_depth w h d [] width height (Ok depth) cause a b c e = absurd (let right = rule_right w h d width height depth a b c in cc)
 rule_by_depth w h d (f ∷ rest) width height (Ok depth) cause a b c e =
     as_cause _ Extra cause (let more = rule_extra w h d f rest width height depth a b c in cc)
@@ -278,7 +212,7 @@ rule_by_height w h rest width (Err other) cause a b e =
     let is : other ≡ Dimension = size_fault h other b in
     let bad = rule_bad_2 w h rest width other a b in
     as_cause _ Dimension cause (cc)
-    (bad_field GivesSize (codes "rule" ∷ w ∷ []) h rest star (star ∷ []) _ star_size (rule_right w star star width Running Running a star_given star_given) (λ later. (other, rule_bad_2 w h later width other a b)))
+    (bad_field GivesSize (codes "rule" ∷ w ∷ []) h rest star (star ∷ []) _ star_size (rule_right w star star width Running Running a star_given star_given) (λ later. (other, rule_bad_2 w h later width other a b)), no_size_given h other b)
 rule_by_height w h [] width (Ok height) cause a b e =
     as_cause _ Missing cause (let lacks = rule_lacks_3 w h width height a b in cc)
     (missing (codes "rule" ∷ w ∷ h ∷ []) (star ∷ []) _ (Missing, rule_lacks_3 w h width height a b) (rule_right w h star width height Running a b star_given))
@@ -289,7 +223,7 @@ rule_by_width w rest (Err other) cause a e =
     let is : other ≡ Dimension = size_fault w other a in
     let bad = rule_bad_1 w rest other a in
     as_cause _ Dimension cause (cc)
-    (bad_field GivesSize (codes "rule" ∷ []) w rest star (star ∷ star ∷ []) running star_size (rule_right star star star Running Running Running star_given star_given star_given) (λ later. (other, rule_bad_1 w later other a)))
+    (bad_field GivesSize (codes "rule" ∷ []) w rest star (star ∷ star ∷ []) running star_size (rule_right star star star Running Running Running star_given star_given star_given) (λ later. (other, rule_bad_1 w later other a)), no_size_given w other a)
 rule_by_width w [] (Ok width) cause a e =
     as_cause _ Missing cause (let lacks = rule_lacks_2 w width a in cc)
     (missing (codes "rule" ∷ w ∷ []) (star ∷ star ∷ []) _ (Missing, rule_lacks_2 w width a) (rule_right w star star width Running Running a star_given star_given))
@@ -301,15 +235,18 @@ rule_cause [] cause e =
     (missing (codes "rule" ∷ []) (star ∷ star ∷ star ∷ []) running (Missing, rule_lacks_1) (rule_right star star star Running Running Running star_given star_given star_given))
 rule_cause (w ∷ rest) cause e = rule_by_width w rest (size_of w) cause refl e
 
--- a command of one register
-alone_cause : (name : Name) (make : ℕ → Command) (rest : List (List ℕ)) (cause : Cause) → ((fields : List (List ℕ)) → command_named name fields ≡ map_ok make (last_register fields)) → command_named name rest ≡ Err cause → IsFieldCause cause (name_text name ∷ rest)
+-- a command of one number
+alone_cause : (name : Name) (make : ℕ → Command) (rest : List (List ℕ)) (cause : Cause) → ((fields : List (List ℕ)) → command_named name fields ≡ map_ok make (last_number fields)) → command_named name rest ≡ Err cause → IsFieldCause cause (name_text name ∷ rest)
 alone_cause name make rest cause is h =
-    register_cause (name_text name ∷ []) make (λ fields. named name fields ∙ is fields) rest cause (not_made make (last_register rest) cause (sym (is rest) ∙ h))
+    number_cause (name_text name ∷ []) make (λ fields. named name fields ∙ is fields) rest cause (not_made make (last_number rest) cause (sym (is rest) ∙ h))
 
 named_cause : (name : Name) (rest : List (List ℕ)) (cause : Cause) → command_named name rest ≡ Err cause → IsFieldCause cause (name_text name ∷ rest)
 unfolding command_named
+named_cause names.Font rest cause h = font_cause rest cause (font_reads rest ∙ h)
+named_cause names.Use rest cause h = alone_cause names.Use UseFont rest cause (λ fields. refl) h
 named_cause names.Hbox rest cause h = hbox_cause rest cause h
 named_cause names.End rest cause h = end_cause rest cause h
+named_cause names.Character rest cause h = alone_cause names.Character Character rest cause (λ fields. refl) h
 named_cause names.Rule rest cause h = rule_cause rest cause (rule_reads rest ∙ h)
 named_cause names.Kern rest cause h = kern_cause rest cause (not_made Kern (last_dimension rest) cause h)
 named_cause names.Measure rest cause h = alone_cause names.Measure Measure rest cause (λ fields. refl) h

@@ -1,18 +1,21 @@
 -- What the functions that read one field say.
-use Rattle.std.proofs.Common.{◌≡◌, ℕ, ℤ, pos, negsuc, ◌<◌, Bool, true, false, List, Some, None, Result, Ok, Err, codes, refl, ap, sym, ◌∙◌, arith, nat_lt, subst, unsigned_abs}
+use Rattle.std.proofs.Common.{◌≡◌, ℕ, ℤ, pos, negsuc, ◌<◌, Bool, true, false, List, Some, None, Result, Ok, Err, codes, refl, ap, sym, ◌∙◌, ◌&&◌, length, arith, nat_lt, subst, unsigned_abs}
+use Rattle.std.specs.List.{list_all}
 use Rattle.std.specs.Str.{bytes_eq}
 use Rattle.std.specs.Str.Parse.{without_leading_sign, signed_digits_value}
 use Rattle.std.proofs.lemmas.Bool.{ltb-true, lt-ltb, le-leb}
+use Rattle.std.proofs.lemmas.Int.{ints}
 use Rattle.std.proofs.lemmas.Slice.Eq.{bytes_eq-Decides}
+use Rattle.tfm_core.specs.Scaling.{IsFontSize}
 use Rattle.scaled_core.specs.declared.fault.DimenFault.{DimenFault}
 use Rattle.scaled_core.specs.ParsedTexts.{read_dimension, dimension_value, fitted, measured, unit_named, is_negative, behind_sign, front_digits, behind_digits, point_digits, behind_fraction}
 use Rattle.scaled_core.proofs.ReadingCases.{reads-ok, reads-fits, abs-le_from_fits}
 use Rattle.scaled_core.proofs.TextLaws.{dimension_value-from_text}
 use Rattle.node_core.specs.declared.tree.RuleSize.{RuleSize}
 use Rattle.node_core.specs.declared.tree.RuleSize.TheVariants.{Running, Fixed}
-use Rattle.boxglue.specs.Grammar.{IsRegister, IsDimension, IsSize}
-use Rattle.boxglue.specs.Reading.{register_of, register_number, is_numeral, size_of, map_ok, dimension_or}
-use Rattle.boxglue.proofs.Registers.{numeral, number_names}
+use Rattle.boxglue.specs.Grammar.{IsNumber, IsDimension, IsSize, IsName, is_name_byte}
+use Rattle.boxglue.specs.Reading.{number_of, small_number, size_of_font, is_short, is_name, is_numeral, size_of, map_ok, dimension_or}
+use Rattle.boxglue.proofs.Numbers.{and_parts, numeral, number_names}
 
 -- the bytes are those of the text
 pub same_bytes : (xs ys : List ℕ) → bytes_eq xs ys ≡ true → xs ≡ ys
@@ -21,29 +24,29 @@ same_bytes xs ys h = (bytes_eq-Decides xs ys).0 h
 pub bytes_same : (xs : List ℕ) → bytes_eq xs xs ≡ true
 bytes_same xs = (bytes_eq-Decides xs xs).1 refl
 
-small_number : (m n : ℕ) (b : Bool) → nat_lt m 256 ≡ b → register_number (pos m) ≡ Some n → (pos m ≡ pos n) × (n < 256)
-small_number m n true e h =
+one_small : (m n : ℕ) (b : Bool) → nat_lt m 256 ≡ b → small_number (pos m) ≡ Some n → (pos m ≡ pos n) × (n < 256)
+one_small m n true e h =
     let s : Some m ≡ Some n = sym (rw e refl) ∙ h in
     let same : m ≡ n = cc in
     (ap pos same, omega (arith, ltb-true m 256 e))
-small_number m n false e h = let s : None ≡ Some n = rw e at h in absurd (cc)
+one_small m n false e h = let s : None ≡ Some n = rw e at h in absurd (cc)
 
-number_of : (z : ℤ) (n : ℕ) → register_number z ≡ Some n → (z ≡ pos n) × (n < 256)
-number_of (pos m) n h = small_number m n (nat_lt m 256) refl h
-number_of (negsuc m) n h = absurd (cc)
+number_by : (z : ℤ) (n : ℕ) → small_number z ≡ Some n → (z ≡ pos n) × (n < 256)
+number_by (pos m) n h = one_small m n (nat_lt m 256) refl h
+number_by (negsuc m) n h = absurd (cc)
 
-by_numeral : (field : List ℕ) (n : ℕ) (b : Bool) → is_numeral (without_leading_sign field) ≡ b → register_of field ≡ Some n → IsRegister field n
-unfolding register_of
+by_numeral : (field : List ℕ) (n : ℕ) (b : Bool) → is_numeral (without_leading_sign field) ≡ b → number_of field ≡ Some n → IsNumber field n
+unfolding number_of
 by_numeral field n true e h =
-    let number = number_of (signed_digits_value 10 field) n (rw e at h) in
+    let number = number_by (signed_digits_value 10 field) n (rw e at h) in
     record { digits = numeral (without_leading_sign field) e; value = number.0; small = number.1 }
 by_numeral field n false e h = let s : None ≡ Some n = rw e at h in absurd (cc)
 
-pub names_register : (field : List ℕ) (n : ℕ) → register_of field ≡ Some n → IsRegister field n
-names_register field n h = by_numeral field n _ refl h
+pub writes_number : (field : List ℕ) (n : ℕ) → number_of field ≡ Some n → IsNumber field n
+writes_number field n h = by_numeral field n _ refl h
 
-pub register_named : (field : List ℕ) (n : ℕ) → IsRegister field n → register_of field ≡ Some n
-register_named field n h = number_names field (pos n) h.digits (sym h.value) ∙ (rw (lt-ltb n 256 h.small) refl)
+pub number_written : (field : List ℕ) (n : ℕ) → IsNumber field n → number_of field ≡ Some n
+number_written field n h = number_names field (pos n) h.digits (sym h.value) ∙ (rw (lt-ltb n 256 h.small) refl)
 
 pub reads_dimension : (field : List ℕ) (z : ℤ) → read_dimension field ≡ Ok z → IsDimension field z
 reads_dimension field z h = record { text = reads-ok field (Ok z) (sym h); fits = reads-fits field (Ok z) (sym h) }
@@ -88,3 +91,32 @@ size_given field Running h = rw h refl
 size_given field (Fixed z) h =
     let read = dimension_read field z h in
     rw (no_star field z (bytes_eq field (codes "*")) refl read, read) refl
+
+pub names_font : (field : List ℕ) → is_name field ≡ true → IsName field
+names_font field h =
+    let parts = and_parts (is_short field) (list_all is_name_byte field) h in
+    let short = and_parts (nat_lt 0 (length field)) (nat_lt (length field) 256) parts.0 in
+    record { bytes = parts.1; some = ltb-true 0 (length field) short.0; few = ltb-true (length field) 256 short.1 }
+
+pub font_named : (field : List ℕ) → IsName field → is_name field ≡ true
+font_named field h = rw (lt-ltb 0 (length field) h.some, lt-ltb (length field) 256 h.few) h.bytes
+
+size_by : (n : ℕ) (b : Bool) (z : ℤ) → (nat_lt 0 n && nat_lt n 134217728) ≡ b → size_of_font (pos n) ≡ Some z → (z ≡ pos n) × IsFontSize (pos n)
+size_by n true z e h =
+    let parts = and_parts (nat_lt 0 n) (nat_lt n 134217728) e in
+    let s : Some (pos n) ≡ Some z = sym (rw e refl) ∙ h in
+    let low : 0 < n = ltb-true 0 n parts.0 in
+    let high : n < 134217728 = ltb-true n 134217728 parts.1 in
+    (cc, record { positive = omega (arith, ints); below = omega (arith, ints) })
+size_by n false z e h = let s : None ≡ Some z = rw e at h in absurd (cc)
+
+pub is_size_of_font : (y z : ℤ) → size_of_font y ≡ Some z → (z ≡ y) × IsFontSize y
+is_size_of_font (pos n) z h = size_by n _ z refl h
+is_size_of_font (negsuc n) z h = absurd (cc)
+
+pub size_of_font_is : (z : ℤ) → IsFontSize z → size_of_font z ≡ Some z
+size_of_font_is (pos n) h =
+    let low : 0 < n = omega (arith, ints, h.positive) in
+    let high : n < 134217728 = omega (arith, ints, h.below) in
+    rw (lt-ltb 0 n low, lt-ltb n 134217728 high) refl
+size_of_font_is (negsuc n) h = absurd (omega (arith, ints, h.positive))

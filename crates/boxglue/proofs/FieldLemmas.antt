@@ -10,7 +10,7 @@ use Rattle.boxglue.specs.ScriptLines.{fields_of, is_space, is_filled}
 use Rattle.boxglue.specs.Reading.{front_field, behind_field, without_spaces, in_field}
 
 -- a space in front of a line says nothing
-fields-space : (byte : ℕ) (line : List ℕ) → is_space byte ≡ true → fields_of (byte ∷ line) ≡ fields_of line
+pub fields-space : (byte : ℕ) (line : List ℕ) → is_space byte ≡ true → fields_of (byte ∷ line) ≡ fields_of line
 unfolding fields_of
 fields-space byte line e = rw (slice_split-cons_yes is_space byte line e) refl
 
@@ -37,7 +37,7 @@ filter_filled [] parts h = absurd (omega arith)
 filter_filled (b ∷ x) parts h = refl
 
 -- a field that a space follows
-fields_then : (t : List ℕ) (n : ℕ) → n ≡ prefix_len in_field t → n < length t → 0 < length (take n t) → fields_of t ≡ take n t ∷ fields_of (drop n t)
+pub fields_then : (t : List ℕ) (n : ℕ) → n ≡ prefix_len in_field t → n < length t → 0 < length (take n t) → fields_of t ≡ take n t ∷ fields_of (drop n t)
 unfolding fields_of
 fields_then t n e inside some =
     let parts : slice_split is_space t ≡ take n t ∷ slice_split is_space (drop (n + 1) t) = rw e (slice_split_first is_space t 0 (rw (← e) inside)) in

@@ -1,9 +1,12 @@
 pub mod LineLemmas
 pub mod FieldLemmas
-pub mod Registers
+pub mod Numbers
 pub mod FieldLaws
 pub mod CommandLaws
+pub mod CauseForms
+pub mod FontCauses
 pub mod CauseLaws
+pub mod TextLines
 pub mod ScriptLaws
 pub mod RunLaws
 pub mod RowLaws

@@ -7,12 +7,12 @@ use Rattle.job_core.specs.declared.command.Summary.{Summary}
 use Rattle.job_core.specs.Reply.{Reply}
 use Rattle.tfm_core.specs.NamedBytes.{NamedBytes}
 use Rattle.job_core.specs.Told.{IsFrontOf}
-use Rattle.dvi_ops.specs.Fonts.{Metrics}
 use Rattle.job_core.specs.Draft.{file_of}
-use Rattle.job_core.specs.Shown.{IsFileOf}
+use Rattle.job_core.specs.Shown.{GivesFiles, FilesPages}
 use Rattle.job_core.specs.Machine.{Machine, first_machine}
 use Rattle.job_core.specs.Runs.{Seen, Holds, RunsTo, FinishesTo}
 use Rattle.job_core.specs.Held.{Held}
+use Rattle.job_core.proofs.WholeRuns.{files_kept}
 use Rattle.std.specs.Io.KnownBytes.{Appends}
 use Rattle.std.proofs.lemmas.List.{append-nil}
 use Rattle.boxglue.specs.Texts.{bad_script_text, hexadecimal_text}
@@ -39,21 +39,22 @@ size_at (Err refusal) told run m holds h = h
 
 pub was_run : (files : List NamedBytes) (commands : List Command) (replies : List Reply) (end : Result Summary Refusal) (job run done : Seen)
     → Holds job (first_machine files) → RunsTo job commands replies run → FinishesTo run end done
-    → ((m : Machine) (metrics : Metrics) → Holds run m → OnOk end (IfSome done.told (λ bytes. IsFileOf metrics bytes m.pages)))
-    → ((m : Machine) → Holds run m → OnOk end (IfSome done.told (λ bytes. bytes ≡ file_of m.pages)))
+    → FilesPages run end done
+    → ((m : Machine) → Holds run m → OnOk end (IfSome done.told (λ bytes. bytes ≡ file_of m.state.fonts m.pages)))
     → IfOk end (λ summary. (m : Machine) → Holds run m → IfSome done.told (λ bytes. summary.bytes ≡ length bytes))
-    → (end ≡ Err refusals.Device → (m : Machine) → Holds run m → IfSome done.told (λ bytes. IsFrontOf bytes (file_of m.pages)))
+    → (end ≡ Err refusals.Device → (m : Machine) → Holds run m → IfSome done.told (λ bytes. IsFrontOf bytes (file_of m.state.fonts m.pages)))
     → WasRun files job.failed commands replies end done.failed done.told
 was_run files commands replies end job run done holds runs finishes dvi file size front =
     let middle = runs (first_machine files) holds in
     let last = finishes middle.0 middle.2 in
+    let same : middle.0.state.files ≡ files = files_kept (first_machine files) job.failed commands replies middle.0 run.failed middle.1 in
     record {
       middle = middle.0;
       failed = run.failed;
       ran = middle.1;
       last = last.0;
       finished = last.1;
-      dvi = λ metrics. dvi middle.0 metrics middle.2;
+      dvi = λ metrics gives. dvi middle.0 metrics middle.2 (let P : List NamedBytes → Type 0 = λ all. GivesFiles metrics all in subst P (sym same) gives);
       file = file middle.0 middle.2;
       size = size_at end done.told run middle.0 middle.2 size;
       front = λ e. front e middle.0 middle.2;

@@ -1,26 +1,57 @@
 -- The function that reads lines gives the lines of the script.
-use Rattle.std.proofs.Common.{◌≡◌, inl, inr, ⊎_elim, ℕ, ◌+◌, Bool, true, false, List, [], ◌∷◌, ◌++◌, length, Result, Ok, Err, refl, ap, sym, ◌∙◌, subst, arith}
+use Rattle.std.proofs.Common.{◌≡◌, inl, inr, ⊎_elim, ℕ, ◌+◌, Bool, true, false, List, [], ◌∷◌, ◌++◌, Option, Some, None, codes, length, Result, Ok, Err, refl, ap, sym, ◌∙◌, subst, arith}
 use Rattle.std.specs.List.{list_all, AllByRecursion}
 use Rattle.std.specs.Str.Lines.{lines}
 use Rattle.std.proofs.lemmas.List.{append-nil}
 use Rattle.job_core.specs.declared.command.Command.{Command}
+use Rattle.job_core.specs.declared.command.Command.TheVariants.{Text}
 use Rattle.boxglue.specs.declared.cause.Cause.{Cause}
-use Rattle.boxglue.specs.declared.cause.Cause.TheVariants.{Byte}
+use Rattle.boxglue.specs.declared.cause.Cause.TheVariants.{Byte, Word}
 use Rattle.boxglue.specs.declared.script.Line.{Line}
 use Rattle.boxglue.specs.declared.script.ScriptFault.{ScriptFault}
 use Rattle.boxglue.specs.declared.script.ScriptFault.TheVariants.{OutOfMemory, BadScript}
-use Rattle.boxglue.specs.ScriptLines.{is_passed_over, is_printable, fields_of}
+use Rattle.boxglue.specs.ScriptLines.{is_passed_over, is_printable, fields_of, IsTextLine}
+use Rattle.boxglue.specs.Names.{name_of}
 use Rattle.boxglue.specs.Grammar.{Says}
-use Rattle.boxglue.specs.Causes.{IsPrintable, IsCause}
-use Rattle.boxglue.specs.Script.{IsPassedOver, SaysLine, SayFrom, IsScript, IsRightLine, IsFirstBad, Explains}
-use Rattle.boxglue.specs.Reading.{line_of, Found, prefixed, reads_by, reads}
+use Rattle.boxglue.specs.Causes.{IsPrintable, IsFieldCause, IsCause}
+use Rattle.boxglue.specs.Script.{IsPassedOver, Gives, SaysLine, SayFrom, IsScript, IsRightLine, IsFirstBad, Explains}
+use Rattle.boxglue.specs.Reading.{command_of, text_of, given_by, line_of, Found, prefixed, reads_by, reads}
 use Rattle.boxglue.proofs.CommandLaws.{complete, sound}
 use Rattle.boxglue.proofs.CauseLaws.{cause_holds}
+use Rattle.boxglue.proofs.TextLines.{text_said, text_read, text_first}
+
+-- what the fields say is given, but for a text
+gives : (line : List ℕ) (command : Command) → Says (fields_of line) command → Gives line command
+gives line (Text text) h = absurd h
+gives line command h = h
+
+given_in : (line : List ℕ) (command : Command) (o : Option (List ℕ)) → text_of line ≡ o → given_by o line ≡ Ok command → Gives line command
+given_in line command None e h = gives line command (sound (fields_of line) command h)
+given_in line command (Some text) e h =
+    let is : Text text ≡ command = cc in
+    let P : Command → Type 0 = λ c. Gives line c in
+    subst P is (text_said line text e)
+
+no_command : (more : List (List ℕ)) → command_of (codes "text" ∷ more) ≡ Err Word
+unfolding command_of name_of
+no_command more = refl
+
+fields_by : (line : List ℕ) (command : Command) (o : Option (List ℕ)) → text_of line ≡ o → Says (fields_of line) command → given_by o line ≡ Ok command
+fields_by line command None e h = complete (fields_of line) command h
+fields_by line command (Some text) e h =
+    let first = text_first line text (text_said line text e) in
+    let other : Err Word ≡ Ok command = sym (no_command first.0) ∙ ap command_of (sym first.1) ∙ complete (fields_of line) command h in
+    absurd (cc)
+
+-- what is given is read
+given_read : (line : List ℕ) (command : Command) → Gives line command → given_by (text_of line) line ≡ Ok command
+given_read line (Text text) h = rw (text_read line text h) refl
+given_read line command h = fields_by line command (text_of line) refl h
 
 -- what is read of a line
-line_by : (line : List ℕ) (command : Command) (b : Bool) → list_all is_printable line ≡ b → line_of line ≡ Ok command → IsPrintable line × Says (fields_of line) command
+line_by : (line : List ℕ) (command : Command) (b : Bool) → list_all is_printable line ≡ b → line_of line ≡ Ok command → IsPrintable line × Gives line command
 unfolding line_of
-line_by line command true e h = (e, sound (fields_of line) command (rw e at h))
+line_by line command true e h = (e, given_in line command (text_of line) refl (rw e at h))
 line_by line command false e h = let s : Err Byte ≡ Ok command = rw e at h in absurd (cc)
 
 line_said : (line : List ℕ) (command : Command) → is_passed_over line ≡ false → line_of line ≡ Ok command → SaysLine line command
@@ -30,11 +61,17 @@ line_said line command counted h =
 
 line_read : (line : List ℕ) (command : Command) → SaysLine line command → line_of line ≡ Ok command
 unfolding line_of
-line_read line command h = rw h.printable (complete (fields_of line) command h.says)
+line_read line command h = rw h.printable (given_read line command h.says)
+
+given_fault : (line : List ℕ) (cause : Cause) (o : Option (List ℕ)) → text_of line ≡ o → given_by o line ≡ Err cause → ((text : List ℕ) → IsTextLine line text → ⊥) × IsFieldCause cause (fields_of line)
+given_fault line cause None e h = (λ text said. let read = text_read line text said in cc, cause_holds (fields_of line) cause h)
+given_fault line cause (Some text) e h = absurd (cc)
 
 line_fault : (line : List ℕ) (cause : Cause) (b : Bool) → list_all is_printable line ≡ b → line_of line ≡ Err cause → IsCause cause line
 unfolding line_of
-line_fault line cause true e h = inr (e, cause_holds (fields_of line) cause (rw e at h))
+line_fault line cause true e h =
+    let fault = given_fault line cause (text_of line) refl (rw e at h) in
+    inr (e, fault.0, fault.1)
 line_fault line cause false e h = let s : Err Byte ≡ Err cause = rw e at h in inl (cc, e)
 
 abbrev read_lines : List Line → Found

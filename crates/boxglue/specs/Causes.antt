@@ -1,14 +1,15 @@
 -- What is wrong with a line that says no command (own).
-use Rattle.std.specs.Prelude.{◌≡◌, ◌⊎◌, ℕ, true, false, List, [], ◌∷◌, ◌++◌, codes, Some}
+use Rattle.std.specs.Prelude.{◌≡◌, ◌⊎◌, ℕ, ℤ, true, false, List, [], ◌∷◌, ◌++◌, codes, Some}
 use Rattle.std.specs.List.{list_all}
 use Rattle.node_core.specs.declared.tree.RuleSize.{RuleSize}
 use Rattle.job_core.specs.declared.command.Command.{Command}
 use Rattle.boxglue.specs.declared.cause.Cause.{Cause}
+use Rattle.boxglue.specs.declared.cause.Cause.TheVariants as causes
 use Rattle.boxglue.specs.declared.cause.Cause.TheVariants.{Byte, Word, Missing, Extra, Number, Dimension}
 use Rattle.boxglue.specs.declared.name.Name.{Name}
 use Rattle.boxglue.specs.Names.{name_of}
-use Rattle.boxglue.specs.ScriptLines.{is_printable, fields_of}
-use Rattle.boxglue.specs.Grammar.{IsRegister, IsSize, Says}
+use Rattle.boxglue.specs.ScriptLines.{is_printable, fields_of, IsTextLine}
+use Rattle.boxglue.specs.Grammar.{IsNumber, IsDimension, IsSize, IsName, IsSizeOfFont, Says}
 
 -- the fields say some command
 abbrev pub SaysSome : List (List ℕ) → Type 0
@@ -18,13 +19,23 @@ SaysSome fields = (command : Command) × Says fields command
 abbrev pub Begins : List (List ℕ) → Type 0
 Begins fields = (more : List (List ℕ)) × SaysSome (fields ++ more)
 
--- one of the words of the grammar
+-- one of the words of the grammar of fields, to which `text` does not belong
 abbrev pub IsWord : List ℕ → Type 0
-IsWord field = ((name : Name) × (name_of field ≡ Some name)) ⊎ (field ≡ codes "into")
+IsWord field = ((name : Name) × (name_of field ≡ Some name)) ⊎ ((field ≡ codes "into") ⊎ (field ≡ codes "at"))
 
-abbrev pub NamesRegister : List ℕ → Type 0
-NamesRegister field = (n : ℕ) × IsRegister field n
+-- a field that writes some number from 0 to 255
+abbrev pub GivesNumber : List ℕ → Type 0
+GivesNumber field = (n : ℕ) × IsNumber field n
 
+-- some dimension that fits
+abbrev pub GivesDimension : List ℕ → Type 0
+GivesDimension field = (z : ℤ) × IsDimension field z
+
+-- some size of a font
+abbrev pub GivesSizeOfFont : List ℕ → Type 0
+GivesSizeOfFont field = (z : ℤ) × IsSizeOfFont field z
+
+-- some size of a rule
 abbrev pub GivesSize : List ℕ → Type 0
 GivesSize field = (size : RuleSize) × IsSize field size
 
@@ -53,19 +64,23 @@ pub record HasExtra (fields : List (List ℕ)) : Type 0 where
   pub whole : SaysSome front
   pub bad : Begins (front ++ field ∷ []) → ⊥
 
--- the cause holds of the fields
+-- the cause holds of the fields. Dimension: the bad field is no dimension that fits. Number: no number from 0 to 255; or, where the size
+-- of a font belongs, a dimension that is no such size
 abbrev pub IsFieldCause : Cause → List (List ℕ) → Type 0
 IsFieldCause Byte fields = ⊥
 IsFieldCause Word fields = HasBad IsWord fields
 IsFieldCause Missing fields = LacksField fields
 IsFieldCause Extra fields = HasExtra fields
-IsFieldCause Number fields = HasBad NamesRegister fields
-IsFieldCause Dimension fields = HasBad GivesSize fields
+IsFieldCause Number fields = HasBad GivesNumber fields ⊎ ((bad : HasBad GivesSizeOfFont fields) × GivesDimension bad.field)
+IsFieldCause Dimension fields = (bad : HasBad GivesSize fields) × (GivesDimension bad.field → ⊥)
+IsFieldCause causes.Name fields = HasBad IsName fields
 
 -- each byte of the line is printable, 32 to 126
 abbrev pub IsPrintable : List ℕ → Type 0
 IsPrintable line = list_all is_printable line ≡ true
 
--- the cause holds of the line: a byte is not printable, or all are and it holds of the fields
+-- the cause holds of the line: a byte is not printable; or all are, and it is no line of text, and the cause holds of the fields
 abbrev pub IsCause : Cause → List ℕ → Type 0
-IsCause cause line = ((cause ≡ Byte) × (list_all is_printable line ≡ false)) ⊎ (IsPrintable line × IsFieldCause cause (fields_of line))
+IsCause cause line =
+    ((cause ≡ Byte) × (list_all is_printable line ≡ false))
+    ⊎ (IsPrintable line × ((text : List ℕ) → IsTextLine line text → ⊥) × IsFieldCause cause (fields_of line))

@@ -9,8 +9,9 @@ use Rattle.scaled_core.specs.ParsedTexts.{read_dimension}
 use Rattle.node_core.specs.declared.tree.RuleSize.{RuleSize}
 use Rattle.node_core.specs.declared.tree.RuleSize.TheVariants.{Running, Fixed}
 use Rattle.job_core.specs.declared.command.Command.{Command}
-use Rattle.job_core.specs.declared.command.Command.TheVariants.{OpenHbox, End, Rule, Kern, Measure, Void, Ship}
+use Rattle.job_core.specs.declared.command.Command.TheVariants.{LoadFont, UseFont, OpenHbox, End, Text, Character, Rule, Kern, Measure, Void, Ship}
 use Rattle.boxglue.specs.declared.cause.Cause.{Cause}
+use Rattle.boxglue.specs.declared.cause.Cause.TheVariants as causes
 use Rattle.boxglue.specs.declared.cause.Cause.TheVariants.{Byte, Word, Missing, Extra, Number, Dimension}
 use Rattle.boxglue.specs.declared.script.Line.{Line}
 use Rattle.boxglue.specs.declared.script.ScriptFault.{ScriptFault}
@@ -19,6 +20,7 @@ use Rattle.boxglue.specs.declared.name.Name.{Name}
 use Rattle.boxglue.specs.declared.name.Name.TheVariants as names
 use Rattle.boxglue.specs.Names.{name_of}
 use Rattle.boxglue.specs.ScriptLines.{is_space, is_printable, is_passed_over, fields_of}
+use Rattle.boxglue.specs.Grammar.{is_name_byte}
 
 -- a byte before the end of a line, and of a field
 abbrev pub in_line : ℕ → Bool
@@ -64,21 +66,21 @@ some_or cause (Some x) = Ok x
 abbrev pub is_numeral : List ℕ → Bool
 is_numeral digits = nat_lt 0 (length digits) && list_all (λ c. nat_lt (digit_value c) 10) digits
 
--- a number that a register has
-abbrev pub register_number : ℤ → Option ℕ
-register_number (pos n) = if nat_lt n 256 then Some n else None
-register_number (negsuc n) = None
+-- a number that a register, a slot or a character has
+abbrev pub small_number : ℤ → Option ℕ
+small_number (pos n) = if nat_lt n 256 then Some n else None
+small_number (negsuc n) = None
 
--- the register that a field names
-unfoldable pub register_of : List ℕ → Option ℕ
-register_of field = if is_numeral (without_leading_sign field) then register_number (signed_digits_value 10 field) else None
+-- the number that a field writes
+unfoldable pub number_of : List ℕ → Option ℕ
+number_of field = if is_numeral (without_leading_sign field) then small_number (signed_digits_value 10 field) else None
 
-abbrev pub as_register : Result (List ℕ) Cause → Result ℕ Cause
-as_register (Err cause) = Err cause
-as_register (Ok field) = some_or Number (register_of field)
+abbrev pub as_number : Result (List ℕ) Cause → Result ℕ Cause
+as_number (Err cause) = Err cause
+as_number (Ok field) = some_or Number (number_of field)
 
-unfoldable pub register_first : List (List ℕ) → Result ℕ Cause
-register_first fields = as_register (first_of fields)
+unfoldable pub number_first : List (List ℕ) → Result ℕ Cause
+number_first fields = as_number (first_of fields)
 
 abbrev pub dimension_or : Result ℤ DimenFault → Result ℤ Cause
 dimension_or (Err fault) = Err Dimension
@@ -90,6 +92,35 @@ as_dimension (Ok field) = dimension_or (read_dimension field)
 
 unfoldable pub dimension_first : List (List ℕ) → Result ℤ Cause
 dimension_first fields = as_dimension (first_of fields)
+
+-- the size of a font that a dimension is: 1 sp to 2^27 - 1 sp
+abbrev pub size_of_font : ℤ → Option ℤ
+size_of_font (pos n) = if nat_lt 0 n && nat_lt n 134217728 then Some (pos n) else None
+size_of_font (negsuc n) = None
+
+abbrev pub as_size_of_font : Result ℤ Cause → Result ℤ Cause
+as_size_of_font (Err cause) = Err cause
+as_size_of_font (Ok z) = some_or Number (size_of_font z)
+
+-- the first of some fields as the size of a font
+unfoldable pub size_of_font_first : List (List ℕ) → Result ℤ Cause
+size_of_font_first fields = as_size_of_font (dimension_first fields)
+
+-- 1 to 255 bytes
+abbrev pub is_short : List ℕ → Bool
+is_short field = nat_lt 0 (length field) && nat_lt (length field) 256
+
+-- whether a field is the name of a font
+abbrev pub is_name : List ℕ → Bool
+is_name field = is_short field && list_all is_name_byte field
+
+abbrev pub as_name : Result (List ℕ) Cause → Result (List ℕ) Cause
+as_name (Err cause) = Err cause
+as_name (Ok field) = if is_name field then Ok field else Err causes.Name
+
+-- the first of some fields as the name of a font
+unfoldable pub name_first : List (List ℕ) → Result (List ℕ) Cause
+name_first fields = as_name (first_of fields)
 
 abbrev pub map_ok : {A B : Type 0} → (A → B) → Result A Cause → Result B Cause
 map_ok f (Err cause) = Err cause
@@ -117,8 +148,8 @@ and_right (Err cause) after = Err cause
 and_right (Ok x) (Err cause) = Err cause
 and_right (Ok x) (Ok u) = Ok x
 
-unfoldable pub last_register : List (List ℕ) → Result ℕ Cause
-last_register fields = and_right (register_first fields) (ended (rest_of fields))
+unfoldable pub last_number : List (List ℕ) → Result ℕ Cause
+last_number fields = and_right (number_first fields) (ended (rest_of fields))
 
 unfoldable pub last_dimension : List (List ℕ) → Result ℤ Cause
 last_dimension fields = and_right (dimension_first fields) (ended (rest_of fields))
@@ -129,7 +160,23 @@ right_and (Err cause) after = Err cause
 right_and (Ok u) after = after
 
 unfoldable pub hbox_of : List (List ℕ) → Result Command Cause
-hbox_of fields = right_and (word_first (codes "into") fields) (map_ok OpenHbox (last_register (rest_of fields)))
+hbox_of fields = right_and (word_first (codes "into") fields) (map_ok OpenHbox (last_number (rest_of fields)))
+
+-- the size behind the name of a font: none, or `at` and a size
+unfoldable pub chosen_size_of : List (List ℕ) → Result (Option ℤ) Cause
+chosen_size_of [] = Ok None
+chosen_size_of (word ∷ rest) =
+    right_and (as_word (codes "at") (Ok word)) (map_ok Some (and_right (size_of_font_first rest) (ended (rest_of rest))))
+
+abbrev pub font_by : Result ℕ Cause → Result (List ℕ) Cause → Result (Option ℤ) Cause → Result Command Cause
+font_by (Err cause) name size = Err cause
+font_by (Ok slot) (Err cause) size = Err cause
+font_by (Ok slot) (Ok name) (Err cause) = Err cause
+font_by (Ok slot) (Ok name) (Ok size) = Ok (LoadFont (record { slot = slot; name = name; size = size }))
+
+-- what the fields behind `font` say
+unfoldable pub font_of : List (List ℕ) → Result Command Cause
+font_of fields = font_by (number_first fields) (name_first (rest_of fields)) (chosen_size_of (rest_of (rest_of fields)))
 
 abbrev pub rule_by : Result RuleSize Cause → Result RuleSize Cause → Result RuleSize Cause → Result (Unit {0}) Cause → Result Command Cause
 rule_by (Err cause) height depth end = Err cause
@@ -143,13 +190,16 @@ rule_of fields = rule_by (size_first fields) (size_first (rest_of fields)) (size
 
 -- the command of that name with these fields behind it
 unfoldable pub command_named : Name → List (List ℕ) → Result Command Cause
+command_named names.Font fields = font_of fields
+command_named names.Use fields = map_ok UseFont (last_number fields)
 command_named names.Hbox fields = hbox_of fields
 command_named names.End fields = right_and (ended fields) (Ok End)
+command_named names.Character fields = map_ok Character (last_number fields)
 command_named names.Rule fields = rule_of fields
 command_named names.Kern fields = map_ok Kern (last_dimension fields)
-command_named names.Measure fields = map_ok Measure (last_register fields)
-command_named names.Void fields = map_ok Void (last_register fields)
-command_named names.Ship fields = map_ok Ship (last_register fields)
+command_named names.Measure fields = map_ok Measure (last_number fields)
+command_named names.Void fields = map_ok Void (last_number fields)
+command_named names.Ship fields = map_ok Ship (last_number fields)
 
 abbrev pub named_by : Option Name → List (List ℕ) → Result Command Cause
 named_by None fields = Err Word
@@ -163,9 +213,21 @@ command_by (Ok word) fields = named_by (name_of word) fields
 unfoldable pub command_of : List (List ℕ) → Result Command Cause
 command_of fields = command_by (first_of fields) (rest_of fields)
 
+-- what stands behind the word `text` at the front of a line without spaces in front: nothing, or one space and a text
+abbrev pub text_behind : List ℕ → Option (List ℕ)
+text_behind line = if bytes_eq line (codes "text") then Some [] else (if bytes_eq (take 5 line) (codes "text ") then Some (drop 5 line) else None)
+
+-- the text of a line of text
+unfoldable pub text_of : List ℕ → Option (List ℕ)
+text_of line = text_behind (without_spaces line)
+
+abbrev pub given_by : Option (List ℕ) → List ℕ → Result Command Cause
+given_by None line = command_of (fields_of line)
+given_by (Some text) line = Ok (Text text)
+
 -- the command that a line says, or why it says none
 unfoldable pub line_of : List ℕ → Result Command Cause
-line_of line = if list_all is_printable line then command_of (fields_of line) else Err Byte
+line_of line = if list_all is_printable line then given_by (text_of line) line else Err Byte
 
 abbrev pub Found : Type 0
 Found = Result (List Line) ScriptFault

@@ -1,9 +1,12 @@
 -- Known scripts and texts (own).
-use Rattle.std.specs.Prelude.{◌≡◌, pos, List, [], ◌∷◌, Ok, codes}
+use Rattle.std.specs.Prelude.{◌≡◌, pos, List, [], ◌∷◌, Some, Ok, Err, codes}
 use Rattle.node_core.specs.declared.tree.RuleSize.TheVariants.{Fixed}
-use Rattle.job_core.specs.declared.command.Command.TheVariants.{OpenHbox, End, Rule, Ship}
-use Rattle.job_core.specs.declared.command.Answer.TheVariants.{Done, Packed, Shipped}
-use Rattle.boxglue.specs.declared.cause.Cause.TheVariants.{Dimension}
+use Rattle.job_core.specs.declared.command.Command.TheVariants.{LoadFont, UseFont, OpenHbox, End, Text, Character, Rule, Ship}
+use Rattle.job_core.specs.declared.command.Answer.TheVariants.{Done, Packed, Shaped, Shipped}
+use Rattle.job_core.specs.declared.command.Refusal.TheVariants.{NoFont, BadTfm, SlotTaken, ListsOpen}
+use Rattle.tfm_core.specs.declared.fault.TfmCause.TheVariants.{Counts}
+use Rattle.boxglue.specs.declared.cause.Cause.TheVariants as causes
+use Rattle.boxglue.specs.declared.cause.Cause.TheVariants.{Number, Dimension}
 use Rattle.boxglue.specs.declared.script.Line.{Line}
 use Rattle.boxglue.specs.Script.{IsScript, IsFirstBad}
 use Rattle.boxglue.specs.Texts.{answers_text}
@@ -22,10 +25,34 @@ OneRuleScript = IsScript (codes "hbox into 0\nrule 1pt 1pt 0pt\nend\nship 0\n") 
 
 abbrev pub OneRuleAnswers : Type 0
 OneRuleAnswers =
-    answers_text one_rule_lines
+    answers_text (1 ∷ 2 ∷ 3 ∷ 4 ∷ [])
     (Ok Done ∷ Ok Done ∷ Ok (Packed (record { width = pos 65536; height = pos 65536; depth = pos 0 }) 0) ∷ Ok (Shipped 1) ∷ [])
     (Ok (record { pages = 1; bytes = 116 }))
     ≡ codes "1: ok\n2: ok\n3: packed 1.0pt 1.0pt 0.0pt badness 0\n4: shipped 1\nend: pages 1 bytes 116\n"
 
 abbrev pub BadRow : Type 0
 BadRow = IsFirstBad (codes "end\nkern 1\n") 2 Dimension
+
+-- the lines of a script with a font and a text
+abbrev pub text_lines : List Line
+text_lines =
+    record { number = 1; command = LoadFont (record { slot = 0; name = codes "tiny"; size = Some (pos 655360) }) }
+    ∷ record { number = 2; command = UseFont 0 }
+    ∷ record { number = 4; command = Text (codes " a ") }
+    ∷ record { number = 5; command = Character 99 }
+    ∷ []
+
+abbrev pub TextScript : Type 0
+TextScript = IsScript (codes "font 0 tiny at 10pt\nuse +0\n% text\n  text  a \nchar 99\n") text_lines
+
+abbrev pub TextAnswers : Type 0
+TextAnswers =
+    answers_text (1 ∷ 2 ∷ 4 ∷ 5 ∷ []) (Err (BadTfm Counts) ∷ Err NoFont ∷ Ok (Shaped 2 1) ∷ Err SlotTaken ∷ []) (Err ListsOpen)
+    ≡ codes "1: refused 5 BadTfm Counts\n2: refused 4 NoFont\n4: added 2 missing 1\n5: refused 6 SlotTaken\nend: refused 17 ListsOpen\n"
+
+-- a font of no size, and a name with a stroke
+abbrev pub BadSizeRow : Type 0
+BadSizeRow = IsFirstBad (codes "font 0 tiny at 0pt") 1 Number
+
+abbrev pub BadNameRow : Type 0
+BadNameRow = IsFirstBad (codes "font 0 a/b at 0pt") 1 causes.Name

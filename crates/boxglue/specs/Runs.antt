@@ -11,7 +11,7 @@ use Rattle.tfm_core.specs.NamedBytes.{NamedBytes}
 use Rattle.job_core.specs.Told.{IsFrontOf}
 use Rattle.dvi_ops.specs.Fonts.{Metrics}
 use Rattle.job_core.specs.Draft.{file_of}
-use Rattle.job_core.specs.Shown.{IsFileOf}
+use Rattle.job_core.specs.Shown.{GivesFiles, IsFileOf}
 use Rattle.job_core.specs.Machine.{Machine, first_machine}
 use Rattle.job_core.specs.Runs.{Run, Finishes}
 use Rattle.boxglue.specs.declared.cause.Cause.{Cause}
@@ -25,23 +25,27 @@ use Rattle.boxglue.specs.Texts.{answers_text, bad_script_text, hexadecimal_text}
 abbrev pub commands_of : List Line → List Command
 commands_of lines = map (λ line. line.command) lines
 
+-- the numbers of some lines
+abbrev pub numbers_of : List Line → List ℕ
+numbers_of lines = map (λ line. line.number) lines
+
 -- nothing was refused
 abbrev pub is_accepted : List Reply → Result Summary Refusal → Bool
 is_accepted replies end = list_all is_ok replies && is_ok end
 
 -- a new job with these font files took these commands and gave these replies, and was then finished with this end; its device's
 -- count of failures went from n to k, and the device then told these bytes: a DVI file of exactly the machine's pages, by the definition
--- of DVI files alone, which is the one that this writer lays out; or the front of it that it took
+-- of DVI files alone and by the widths that the font files give, which is the one that this writer lays out; or the front of it that it took
 pub record WasRun (files : List NamedBytes) (n : ℕ) (commands : List Command) (replies : List Reply) (end : Result Summary Refusal) (k : ℕ) (told : Option (List ℕ)) : Type 0 where
   pub middle : Machine
   pub failed : ℕ
   pub ran : Run (first_machine files) n commands replies middle failed
   pub last : Machine
   pub finished : Finishes middle failed end last k
-  pub dvi : (metrics : Metrics) → OnOk end (IfSome told (λ bytes. IsFileOf metrics bytes middle.pages))
-  pub file : OnOk end (IfSome told (λ bytes. bytes ≡ file_of middle.pages))
+  pub dvi : (metrics : Metrics) → GivesFiles metrics files → OnOk end (IfSome told (λ bytes. IsFileOf metrics bytes middle.pages))
+  pub file : OnOk end (IfSome told (λ bytes. bytes ≡ file_of middle.state.fonts middle.pages))
   pub size : IfOk end (λ summary. IfSome told (λ bytes. summary.bytes ≡ length bytes))
-  pub front : end ≡ Err refusals.Device → IfSome told (λ bytes. IsFrontOf bytes (file_of middle.pages))
+  pub front : end ≡ Err refusals.Device → IfSome told (λ bytes. IsFrontOf bytes (file_of middle.state.fonts middle.pages))
   pub silent : last.state.over ≡ false → IfSome told (λ bytes. bytes ≡ [])
 
 -- a script was run, and its answers were written
@@ -51,7 +55,7 @@ pub record RanScript (text : List ℕ) (files : List NamedBytes) (n k : ℕ) (to
   pub end : Result Summary Refusal
   pub script : IsScript text lines
   pub run : WasRun files n (commands_of lines) replies end k told
-  pub wrote : Appends old new (answers_text lines replies end)
+  pub wrote : Appends old new (answers_text (numbers_of lines) replies end)
   pub fine_is : fine ≡ is_accepted replies end
 
 -- a bad script was refused, and its one line was written
@@ -101,5 +105,5 @@ pub record RanInMemory (text : List ℕ) (files : List NamedBytes) (old new : Op
   pub bytes : List ℕ
   pub script : IsScript text lines
   pub run : WasRun files 0 (commands_of lines) replies end failed (Some bytes)
-  pub wrote : Appends old new (answers_text lines replies end ++ hexadecimal_text bytes)
+  pub wrote : Appends old new (answers_text (numbers_of lines) replies end ++ hexadecimal_text bytes)
   pub fine_is : fine ≡ is_accepted replies end

@@ -3,11 +3,12 @@ use Rattle.std.specs.Prelude.{◌≡◌, ◌⊎◌, ℕ, ◌+◌, true, false, L
 use Rattle.std.specs.List.{AllByRecursion}
 use Rattle.std.specs.Str.Lines.{lines}
 use Rattle.job_core.specs.declared.command.Command.{Command}
+use Rattle.job_core.specs.declared.command.Command.TheVariants.{Text}
 use Rattle.boxglue.specs.declared.cause.Cause.{Cause}
 use Rattle.boxglue.specs.declared.script.Line.{Line}
 use Rattle.boxglue.specs.declared.script.ScriptFault.{ScriptFault}
 use Rattle.boxglue.specs.declared.script.ScriptFault.TheVariants.{OutOfMemory, BadScript}
-use Rattle.boxglue.specs.ScriptLines.{is_passed_over, fields_of}
+use Rattle.boxglue.specs.ScriptLines.{is_passed_over, fields_of, IsTextLine}
 use Rattle.boxglue.specs.Grammar.{Says}
 use Rattle.boxglue.specs.Causes.{IsPrintable, IsCause}
 
@@ -15,11 +16,16 @@ use Rattle.boxglue.specs.Causes.{IsPrintable, IsCause}
 abbrev pub IsPassedOver : List ℕ → Type 0
 IsPassedOver line = is_passed_over line ≡ true
 
+-- a line gives this command: a text as it stands, and every other command by the fields
+abbrev pub Gives : List ℕ → Command → Type 0
+Gives line (Text text) = IsTextLine line text
+Gives line command = Says (fields_of line) command
+
 -- a line says this command
 pub record SaysLine (line : List ℕ) (command : Command) : Type 0 where
   pub counted : is_passed_over line ≡ false
   pub printable : IsPrintable line
-  pub says : Says (fields_of line) command
+  pub says : Gives line command
 
 -- lines, the first of them with this number, that say these commands
 abbrev pub SayFrom : ℕ → List (List ℕ) → List Line → Type 0

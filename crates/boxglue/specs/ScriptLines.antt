@@ -1,5 +1,5 @@
 -- The lines of a script and their fields (own). The lines of a text are those of std's word `lines`.
-use Rattle.std.specs.Prelude.{◌==◌, ℕ, Bool, true, false, ◌&&◌, List, [], ◌∷◌, nat_le}
+use Rattle.std.specs.Prelude.{◌≡◌, ◌⊎◌, ◌==◌, ℕ, Bool, true, false, ◌&&◌, List, [], ◌∷◌, ◌++◌, codes, nat_le, replicate}
 use Rattle.std.specs.List.{filter, slice_split}
 
 -- a byte that a command may have
@@ -21,3 +21,8 @@ is_space byte = byte == 32
 -- the fields of a line: its parts between spaces that are not empty
 unfoldable pub fields_of : List ℕ → List (List ℕ)
 fields_of line = filter is_filled (slice_split is_space line)
+
+-- a line of this text: spaces, and the word `text` with nothing behind it for the empty text, or with one space and the text as it stands
+abbrev pub IsTextLine : List ℕ → List ℕ → Type 0
+IsTextLine line text =
+    (spaces : ℕ) × (((line ≡ replicate spaces 32 ++ codes "text") × (text ≡ [])) ⊎ (line ≡ replicate spaces 32 ++ (codes "text " ++ text)))

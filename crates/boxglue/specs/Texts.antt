@@ -6,18 +6,23 @@ use Rattle.node_core.specs.declared.tree.Kind.{Kind}
 use Rattle.node_core.specs.declared.tree.Kind.TheVariants.{Horizontal, Vertical}
 use Rattle.job_core.specs.declared.command.Sizes.{Sizes}
 use Rattle.job_core.specs.declared.command.Answer.{Answer}
-use Rattle.job_core.specs.declared.command.Answer.TheVariants.{Done, Packed, Measured, MeasuredVoid, Shipped}
+use Rattle.job_core.specs.declared.command.Answer.TheVariants.{Done, Packed, Measured, MeasuredVoid, Shaped, Shipped}
 use Rattle.job_core.specs.declared.command.Refusal.{Refusal}
-use Rattle.job_core.specs.declared.command.Refusal.TheVariants.{OutOfMemory, DimensionTooLarge, NoOpenList, WrongMode, ListTooLong, TooDeep, HugePage, TooManyPages, TooMuchShipped, ListsOpen, Device, JobOver, VoidBox}
+use Rattle.job_core.specs.declared.command.Refusal.TheVariants.{OutOfMemory, DimensionTooLarge, NoFont, BadTfm, SlotTaken, NoOpenList, WrongMode, ListTooLong, TooDeep, HugePage, TooManyPages, TooMuchShipped, ListsOpen, Device, JobOver, VoidBox}
 use Rattle.job_core.specs.declared.command.Summary.{Summary}
+use Rattle.tfm_core.specs.declared.fault.TfmCause.{TfmCause}
+use Rattle.tfm_core.specs.declared.fault.TfmCause.TheVariants.{TooShort, Counts, DesignSize, CharInfo, FixWord, LigKern}
 use Rattle.boxglue.specs.declared.cause.Cause.{Cause}
+use Rattle.boxglue.specs.declared.cause.Cause.TheVariants as causes
 use Rattle.boxglue.specs.declared.cause.Cause.TheVariants.{Byte, Word, Missing, Extra, Number, Dimension}
-use Rattle.boxglue.specs.declared.script.Line.{Line}
 
 -- the number of a refusal
 abbrev pub refusal_number : Refusal → ℕ
 refusal_number OutOfMemory = 1
 refusal_number DimensionTooLarge = 3
+refusal_number NoFont = 4
+refusal_number (BadTfm cause) = 5
+refusal_number SlotTaken = 6
 refusal_number NoOpenList = 7
 refusal_number WrongMode = 8
 refusal_number ListTooLong = 10
@@ -30,10 +35,22 @@ refusal_number Device = 18
 refusal_number JobOver = 19
 refusal_number VoidBox = 21
 
--- and its name
+-- a metric file that is refused, with the cause
+abbrev pub bad_file_name : TfmCause → List ℕ
+bad_file_name TooShort = codes "BadTfm TooShort"
+bad_file_name Counts = codes "BadTfm Counts"
+bad_file_name DesignSize = codes "BadTfm DesignSize"
+bad_file_name CharInfo = codes "BadTfm CharInfo"
+bad_file_name FixWord = codes "BadTfm FixWord"
+bad_file_name LigKern = codes "BadTfm LigKern"
+
+-- the name of a refusal
 abbrev pub refusal_name : Refusal → List ℕ
 refusal_name OutOfMemory = codes "OutOfMemory"
 refusal_name DimensionTooLarge = codes "DimensionTooLarge"
+refusal_name NoFont = codes "NoFont"
+refusal_name (BadTfm cause) = bad_file_name cause
+refusal_name SlotTaken = codes "SlotTaken"
 refusal_name NoOpenList = codes "NoOpenList"
 refusal_name WrongMode = codes "WrongMode"
 refusal_name ListTooLong = codes "ListTooLong"
@@ -53,6 +70,7 @@ cause_name Missing = codes "Missing"
 cause_name Extra = codes "Extra"
 cause_name Number = codes "Number"
 cause_name Dimension = codes "Dimension"
+cause_name causes.Name = codes "Name"
 
 abbrev pub kind_name : Kind → List ℕ
 kind_name Horizontal = codes "hbox"
@@ -76,15 +94,16 @@ answer_text Done = codes "ok"
 answer_text (Packed sizes badness) = codes "packed " ++ (sizes_text sizes ++ (codes " badness " ++ decimal badness))
 answer_text (Measured kind sizes) = codes "measured " ++ (kind_name kind ++ (codes " " ++ sizes_text sizes))
 answer_text MeasuredVoid = codes "measured void"
+answer_text (Shaped items missing) = codes "added " ++ (decimal items ++ (codes " missing " ++ decimal missing))
 answer_text (Shipped pages) = codes "shipped " ++ decimal pages
 
 abbrev pub reply_text : Result Answer Refusal → List ℕ
 reply_text (Ok answer) = answer_text answer
 reply_text (Err refusal) = refusal_text refusal
 
--- the line that answers a line of a script
-unfoldable pub answer_line : Line → Result Answer Refusal → List ℕ
-answer_line line reply = decimal line.number ++ (codes ": " ++ (reply_text reply ++ line_feed))
+-- the line that answers the line of a script with this number
+unfoldable pub answer_line : ℕ → Result Answer Refusal → List ℕ
+answer_line number reply = decimal number ++ (codes ": " ++ (reply_text reply ++ line_feed))
 
 abbrev pub summary_text : Result Summary Refusal → List ℕ
 summary_text (Ok summary) = codes "pages " ++ (decimal summary.pages ++ (codes " bytes " ++ decimal summary.bytes))
@@ -94,13 +113,13 @@ summary_text (Err refusal) = refusal_text refusal
 unfoldable pub end_line : Result Summary Refusal → List ℕ
 end_line end = codes "end: " ++ (summary_text end ++ line_feed)
 
--- the lines that answer the lines of a script
-abbrev pub answer_lines : List Line → List (Result Answer Refusal) → List ℕ
-answer_lines lines replies = flat_map (λ p. answer_line p.0 p.1) (zip lines replies)
+-- the lines that answer the lines of a script with these numbers
+abbrev pub answer_lines : List ℕ → List (Result Answer Refusal) → List ℕ
+answer_lines numbers replies = flat_map (λ p. answer_line p.0 p.1) (zip numbers replies)
 
--- all texts of a script that was run: an answer for each line that says a command, and the end
-unfoldable pub answers_text : List Line → List (Result Answer Refusal) → Result Summary Refusal → List ℕ
-answers_text lines replies end = answer_lines lines replies ++ end_line end
+-- all texts of a script that was run: an answer for each line that says a command, by its number, and the end
+unfoldable pub answers_text : List ℕ → List (Result Answer Refusal) → Result Summary Refusal → List ℕ
+answers_text numbers replies end = answer_lines numbers replies ++ end_line end
 
 -- the text for a bad script
 unfoldable pub bad_script_text : ℕ → Cause → List ℕ

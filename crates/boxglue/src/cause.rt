@@ -15,4 +15,6 @@ pub enum Cause {
     Number,
     /// A field is no dimension or does not fit.
     Dimension,
+    /// A field is no name of a font.
+    Name,
 }

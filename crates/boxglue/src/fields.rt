@@ -1,15 +1,20 @@
 //! The fields of a line, read from the left.
 
-ghost use Rattle.std.specs.Prelude.{◌≡◌, Ok, Err, IfOk, IfErr};
+ghost use Rattle.std.specs.Prelude.{◌≡◌, Ok, Err, IfOk, IfErr, IsTrue};
+ghost use Rattle.std.specs.List.{list_all};
+ghost use Rattle.tfm_core.specs.NamedBytes.{IsFontName};
+ghost use Rattle.job_core.specs.declared.command.Command.TheVariants as commands;
+ghost use Rattle.boxglue.specs.Grammar.{is_name_byte};
 ghost use Rattle.boxglue.specs.ScriptLines.{fields_of};
-ghost use Rattle.boxglue.specs.Reading.{first_of, rest_of, word_first, register_of, register_first, dimension_first, size_of, size_first, ended, last_register, last_dimension, hbox_of, rule_of, command_named, command_of};
+ghost use Rattle.boxglue.specs.Reading.{first_of, rest_of, word_first, number_of, number_first, dimension_first, size_of_font, size_of_font_first, is_short, is_name, name_first, size_of, size_first, ended, last_number, last_dimension, chosen_size_of, font_of, hbox_of, rule_of, command_named, command_of};
 
 use crate::cause::Cause;
 use crate::lines::first_field;
 use crate::name::Name;
-use job_core::{Command, Register};
+use job_core::{Command, FontLoad, FontName, FontSize, Register};
 use node_core::{Rule, RuleSize};
 use scaled_core::{Dimen, parse_dimen};
+use std::alloc::{AllocError, Global};
 
 /// The fields of a line that are still to be read.
 #[derive(Drop)]
@@ -63,13 +68,13 @@ impl<'a> Fields<'a> {
         }
     }
 
-    /// The next field as a register.
-    #[tactic(auto, unfolding(crate::specs::Reading::register_first))]
-    fn register(&mut self) -> Result<Register, Cause>
-        ensures value { result ≡ register_first (fields_of self.old.rest.now) }
+    /// The next field as a number from 0 to 255.
+    #[tactic(auto, unfolding(crate::specs::Reading::number_first))]
+    fn number(&mut self) -> Result<u8, Cause>
+        ensures value { result ≡ number_first (fields_of self.old.rest.now) }
         ensures rest { fields_of self.new.rest.now ≡ rest_of (fields_of self.old.rest.now) }
     {
-        register_of(self.field()?).ok_or(Cause::Number)
+        number_of(self.field()?).ok_or(Cause::Number)
     }
 
     /// The next field as a dimension.
@@ -81,6 +86,31 @@ impl<'a> Fields<'a> {
         parse_dimen(self.field()?).map_err(|_| Cause::Dimension)
     }
 
+    /// The next field as the size of a font.
+    #[tactic(auto, unfolding(crate::specs::Reading::size_of_font_first))]
+    fn size_of_font(&mut self) -> Result<FontSize, Cause>
+        ensures value { result ≡ size_of_font_first (fields_of self.old.rest.now) }
+        ensures rest { fields_of self.new.rest.now ≡ rest_of (fields_of self.old.rest.now) }
+    {
+        size_of_font(self.dimen()?).ok_or(Cause::Number)
+    }
+
+    /// The next field as the name of a font.
+    #[tactic(auto, unfolding(crate::specs::Reading::name_first))]
+    fn name(&mut self) -> Result<&'a [u8], Cause>
+        ensures ok { IfOk result (λ name. name_first (fields_of self.old.rest.now) ≡ Ok name.now) }
+        ensures some { IfOk result (λ name. IsFontName name.now) }
+        ensures err { IfErr result (λ cause. name_first (fields_of self.old.rest.now) ≡ Err cause) }
+        ensures rest { fields_of self.new.rest.now ≡ rest_of (fields_of self.old.rest.now) }
+    {
+        let field = self.field()?;
+        if is_name(field) {
+            Ok(field)
+        } else {
+            Err(Cause::Name)
+        }
+    }
+
     /// The next field as a size of a rule.
     #[tactic(auto, unfolding(crate::specs::Reading::size_first))]
     fn size(&mut self) -> Result<RuleSize, Cause>
@@ -90,14 +120,21 @@ impl<'a> Fields<'a> {
         size_of(self.field()?)
     }
 
-    /// The next field, which is the last, as a register.
-    #[tactic(auto, unfolding(crate::specs::Reading::last_register))]
-    fn last_register(&mut self) -> Result<Register, Cause>
-        ensures { result ≡ last_register (fields_of self.old.rest.now) }
+    /// The next field, which is the last, as a number from 0 to 255.
+    #[tactic(auto, unfolding(crate::specs::Reading::last_number))]
+    fn last_number(&mut self) -> Result<u8, Cause>
+        ensures { result ≡ last_number (fields_of self.old.rest.now) }
     {
-        let register = self.register()?;
+        let number = self.number()?;
         self.end()?;
-        Ok(register)
+        Ok(number)
+    }
+
+    /// The next field, which is the last, as a register.
+    fn last_register(&mut self) -> Result<Register, Cause>
+        ensures { result ≡ last_number (fields_of self.old.rest.now) }
+    {
+        Register::try_new(u64::from(self.last_number()?)).ok_or(Cause::Number)
     }
 
     /// The next field, which is the last, as a dimension.
@@ -108,6 +145,45 @@ impl<'a> Fields<'a> {
         let dimen = self.dimen()?;
         self.end()?;
         Ok(dimen)
+    }
+
+    /// What stands behind the name of a font: nothing, or `at` and a size.
+    #[tactic(auto, unfolding(crate::specs::Reading::chosen_size_of))]
+    fn chosen_size(&mut self) -> Result<Option<FontSize>, Cause>
+        ensures { result ≡ chosen_size_of (fields_of self.old.rest.now) }
+    {
+        match self.field() {
+            Ok(b"at") => {
+                let size = self.size_of_font()?;
+                self.end()?;
+                Ok(Some(size))
+            }
+            Ok(_) => Err(Cause::Word),
+            Err(_) => Ok(None),
+        }
+    }
+
+    /// The words behind `font`.
+    #[tactic(auto, unfolding(crate::specs::Reading::font_of))]
+    fn font_words(&mut self) -> Result<FontWords<'a>, Cause>
+        ensures ok { IfOk result (λ words. font_of (fields_of self.old.rest.now) ≡ Ok (commands.LoadFont (record { slot = words.slot; name = words.name.now; size = words.size }))) }
+        ensures some { IfOk result (λ words. IsFontName words.name.now) }
+        ensures err { IfErr result (λ cause. font_of (fields_of self.old.rest.now) ≡ Err cause) }
+    {
+        let slot = self.number()?;
+        let name = self.name()?;
+        let size = self.chosen_size()?;
+        Ok(FontWords { slot, name, size })
+    }
+
+    /// What stands behind `font`.
+    fn font(&mut self, alloc: Global) -> Result<Result<Command, Cause>, AllocError>
+        ensures { IfOk result (λ read. read ≡ font_of (fields_of self.old.rest.now)) }
+    {
+        match self.font_words() {
+            Ok(words) => Ok(Ok(Command::LoadFont(words.load(alloc)?))),
+            Err(cause) => Ok(Err(cause)),
+        }
     }
 
     /// What stands behind `hbox`.
@@ -137,31 +213,99 @@ impl<'a> Fields<'a> {
 
     /// The command of that name with the fields behind it.
     #[tactic(auto, unfolding(crate::specs::Reading::command_named))]
-    fn named(&mut self, name: Name) -> Result<Command, Cause>
-        ensures { result ≡ command_named name (fields_of self.old.rest.now) }
+    fn named(&mut self, alloc: Global, name: Name) -> Result<Result<Command, Cause>, AllocError>
+        ensures { IfOk result (λ read. read ≡ command_named name (fields_of self.old.rest.now)) }
     {
-        match name {
+        Ok(match name {
+            Name::Font => self.font(alloc)?,
+            Name::Use => self.last_number().map(Command::UseFont),
             Name::Hbox => self.hbox(),
             Name::End => self.end().map(|()| Command::End),
+            Name::Character => self.last_number().map(Command::Character),
             Name::Rule => self.rule(),
             Name::Kern => self.last_dimen().map(Command::Kern),
             Name::Measure => self.last_register().map(Command::Measure),
             Name::Void => self.last_register().map(Command::Void),
             Name::Ship => self.last_register().map(Command::Ship),
-        }
+        })
     }
 
-    /// The command that the fields say.
+    /// The command that the fields say, or the cause at the first bad one from the left.
     #[tactic(auto, unfolding(crate::specs::Reading::command_of))]
-    pub fn command(&mut self) -> Result<Command, Cause>
-        ensures { result ≡ command_of (fields_of self.old.rest.now) }
+    pub fn command(&mut self, alloc: Global) -> Result<Result<Command, Cause>, AllocError>
+        ensures { IfOk result (λ read. read ≡ command_of (fields_of self.old.rest.now)) }
     {
-        let word = self.field()?;
+        let word = match self.field() {
+            Ok(word) => word,
+            Err(cause) => return Ok(Err(cause)),
+        };
         match Name::of(word) {
-            Some(name) => self.named(name),
-            None => Err(Cause::Word),
+            Some(name) => self.named(alloc, name),
+            None => Ok(Err(Cause::Word)),
         }
     }
+}
+
+/// The words behind `font`: a slot, a name, and a size or none.
+#[derive(Drop)]
+struct FontWords<'a> {
+    slot: u8,
+    name: &'a [u8],
+    size: Option<FontSize>,
+}
+
+impl<'a> FontWords<'a> {
+    /// What they ask for, with a name in memory of its own.
+    fn load(&self, alloc: Global) -> Result<FontLoad, AllocError>
+        requires { IsFontName self.now.name.now }
+        ensures { IfOk result (λ load. load ≡ record { slot = self.now.slot; name = self.now.name.now; size = self.now.size }) }
+    {
+        let Some(name) = FontName::try_new(self.name.to_vec(alloc)?) else {
+            unreachable!()
+        };
+        Ok(FontLoad {
+            slot: self.slot,
+            name,
+            size: self.size,
+        })
+    }
+}
+
+/// Whether a field is the name of a font: 1 to 255 letters, digits, `-`, `_` and `.`.
+fn is_name(field: &[u8]) -> bool
+    ensures value { result ≡ is_name field.now }
+    ensures some { IsTrue result → IsFontName field.now }
+{
+    is_short(field) && has_name_bytes(field)
+}
+
+/// Whether each byte may stand in the name of a font.
+fn has_name_bytes(field: &[u8]) -> bool
+    ensures { result ≡ list_all is_name_byte field.now }
+{
+    field.iter().all(|byte| is_name_byte(*byte))
+}
+
+/// Whether a field has 1 to 255 bytes.
+fn is_short(field: &[u8]) -> bool
+    ensures value { result ≡ is_short field.now }
+    ensures some { IsTrue result → IsFontName field.now }
+{
+    !field.is_empty() && field.len() < 256
+}
+
+/// Whether a byte may stand in the name of a font.
+fn is_name_byte(byte: u8) -> bool
+    ensures { result ≡ is_name_byte byte }
+{
+    matches!(byte, b'0'..=b'9' | b'A'..=b'Z' | b'a'..=b'z' | b'-' | b'_' | b'.')
+}
+
+/// The size of a font that a dimension is: 1 sp to 2^27 - 1 sp.
+fn size_of_font(dimen: Dimen) -> Option<FontSize>
+    ensures { result ≡ size_of_font dimen }
+{
+    FontSize::try_new(i64::from(dimen.get()))
 }
 
 /// The size of a rule that a field gives: `*` for a running one, or a dimension.
@@ -178,10 +322,10 @@ fn size_of(field: &[u8]) -> Result<RuleSize, Cause>
     }
 }
 
-/// The register that a field names: an optional sign and digits, 0 to 255.
-#[tactic(auto, using(crate::proofs::Registers::registers))]
-fn register_of(field: &[u8]) -> Option<Register>
-    ensures { result ≡ register_of field.now }
+/// The number that a field writes: an optional sign and digits, 0 to 255.
+#[tactic(auto, using(crate::proofs::Numbers::numbers))]
+fn number_of(field: &[u8]) -> Option<u8>
+    ensures { result ≡ number_of field.now }
 {
     let Ok(text) = str::from_utf8(field) else {
         return None;
@@ -192,5 +336,8 @@ fn register_of(field: &[u8]) -> Option<Register>
     if number < 0 {
         return None;
     }
-    Register::try_new(number as u64)
+    if number > 255 {
+        return None;
+    }
+    Some(number as u8)
 }

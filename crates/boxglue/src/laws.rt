@@ -1,6 +1,6 @@
 //! Definitions held against known scripts and texts, each on a function that does nothing.
 
-ghost use Rattle.boxglue.specs.Rows.{OneRuleScript, OneRuleAnswers, BadRow};
+ghost use Rattle.boxglue.specs.Rows.{OneRuleScript, OneRuleAnswers, BadRow, TextScript, TextAnswers, BadSizeRow, BadNameRow};
 
 /// The script of the one-rule page says its four commands.
 pub fn one_rule_script()
@@ -15,4 +15,20 @@ pub fn one_rule_answers()
 /// A dimension without unit in the second line: that line is the first bad one, for its dimension.
 pub fn bad_dimension()
     ensures { BadRow }
+{}
+
+/// A script with a font at a size, a comment, a text with spaces at its front and its end, and a character.
+pub fn text_script()
+    ensures { TextScript }
+{}
+
+/// Answers and refusals of fonts and texts are written so.
+pub fn text_answers()
+    ensures { TextAnswers }
+{}
+
+/// A font of no size is bad for its number, and a name with another byte for its name.
+pub fn bad_fonts()
+    ensures size { BadSizeRow }
+    ensures name { BadNameRow }
 {}

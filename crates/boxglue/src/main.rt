@@ -13,6 +13,8 @@ mod program;
 #[cfg(test)]
 mod row_tests;
 mod run;
+#[cfg(test)]
+mod samples;
 mod script;
 #[cfg(test)]
 mod tests;

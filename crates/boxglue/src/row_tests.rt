@@ -5,11 +5,35 @@ ghost use Rattle.std.specs.Prelude.{OnOk};
 use crate::memory_run::run_memory;
 use crate::program::answer_input;
 use crate::run::{RunFault, run_script};
-use job_core::{Device, DeviceFault, Memory};
+use crate::samples::{RESTARTS, TINY, tiny_with};
+use job_core::{Device, DeviceFault, FontFile, FontName, Memory};
 use std::alloc::Global;
 use std::io;
 use std::io::{Cursor, Write};
 use std::test::Fail;
+
+/// A font file of that name.
+fn font_file(alloc: Global, name: &str, bytes: &[u8]) -> Option<FontFile> {
+    let name = FontName::try_new(name.as_bytes().to_vec(alloc).ok()?)?;
+    Some(FontFile::new(name, bytes.to_vec(alloc).ok()?))
+}
+
+/// What `run_memory` writes for a script with the font file `tiny` of these bytes.
+fn answers_with(alloc: Global, script: &str, tiny: &[u8]) -> Option<Vec<u8>> {
+    let file = font_file(alloc, "tiny", tiny)?;
+    let mut out = Vec::new(alloc);
+    run_memory(alloc, script.as_bytes(), &[file], &mut out).ok()?;
+    Some(out)
+}
+
+/// The answers of a script with a font file, and the bytes of its pages.
+fn pages_with(alloc: Global, script: &str, name: &str, bytes: &[u8]) -> Option<(Vec<u8>, Memory)> {
+    let file = font_file(alloc, name, bytes)?;
+    let mut out = Vec::new(alloc);
+    let memory = Memory::new(alloc);
+    let (_, memory) = run_script(alloc, script.as_bytes(), &[file], memory, &mut out).ok()?;
+    Some((out, memory))
+}
 
 /// What `run_memory` writes for a script, and its truth value.
 fn answers(alloc: Global, script: &str) -> Option<(bool, Vec<u8>)> {
@@ -75,6 +99,200 @@ fn short_scripts(rt: HostRuntime) {
         assert_eq!(rt; truth, fine, "at {script}");
         assert_eq!(rt; out.as_slice(), expected.as_bytes());
     }
+}
+
+/// Each row in an own box: a text, its answer, and the answer of the end.
+#[test]
+fn lig_and_kern_words(rt: HostRuntime) -> Result<(), Fail> {
+    let alloc = rt.alloc();
+    for (line, added, packed) in [
+        ("text aab", "added 1 missing 0", "10.0pt 5.0pt 0.0pt"),
+        ("text ac", "added 3 missing 0", "9.375pt 5.0pt 0.0pt"),
+        ("text azc", "added 2 missing 1", "10.0pt 5.0pt 0.0pt"),
+        ("text b", "added 1 missing 0", "5.0pt 5.0pt 2.5pt"),
+        ("text a c", "added 3 missing 0", "13.125pt 5.0pt 0.0pt"),
+        ("  text a ", "added 2 missing 0", "8.125pt 5.0pt 0.0pt"),
+        ("text  a", "added 2 missing 0", "8.125pt 5.0pt 0.0pt"),
+        ("text  ", "added 1 missing 0", "3.125pt 0.0pt 0.0pt"),
+        ("text ", "added 0 missing 0", "0.0pt 0.0pt 0.0pt"),
+        ("text", "added 0 missing 0", "0.0pt 0.0pt 0.0pt"),
+        ("char 96", "added 0 missing 1", "0.0pt 0.0pt 0.0pt"),
+        ("char 99", "added 1 missing 0", "5.0pt 5.0pt 0.0pt"),
+    ] {
+        let script = format!(in alloc; "font 0 tiny\nuse 0\nhbox into 0\n{}\nend\n", line)?;
+        let expected = format!(in alloc;
+            "1: ok\n2: ok\n3: ok\n4: {}\n5: packed {} badness 0\nend: pages 0 bytes 0\n",
+            added, packed
+        )?;
+        let out = answers_with(alloc, script.as_str(), &TINY).expect(&rt, "it runs");
+        assert_eq!(rt; out.as_slice(), expected.as_bytes(), "at {line}");
+    }
+    Ok(())
+}
+
+#[test]
+fn fonts_that_are_refused(rt: HostRuntime) {
+    let alloc = rt.alloc();
+    for (script, expected) in [
+        (
+            "font 0 tiny\nfont 0 tiny\n",
+            "1: ok\n2: refused 6 SlotTaken\nend: pages 0 bytes 0\n",
+        ),
+        (
+            "font 0 tiny\nfont 0 none\n",
+            "1: ok\n2: refused 6 SlotTaken\nend: pages 0 bytes 0\n",
+        ),
+        (
+            "font 1 none\nuse 1\n",
+            "1: refused 4 NoFont\n2: refused 4 NoFont\nend: pages 0 bytes 0\n",
+        ),
+        (
+            "text a\nhbox into 0\ntext a\nchar 99\nend\n",
+            "1: refused 7 NoOpenList\n2: ok\n3: refused 4 NoFont\n4: refused 4 NoFont\n5: packed 0.0pt 0.0pt 0.0pt badness 0\nend: pages 0 bytes 0\n",
+        ),
+        (
+            "font 255 tiny at 134217727sp\nfont 254 tiny at 1sp\nfont 253 tiny at 5pt\nuse 253\nhbox into 0\ntext c\nend\n",
+            "1: ok\n2: ok\n3: ok\n4: ok\n5: ok\n6: added 1 missing 0\n7: packed 2.5pt 2.5pt 0.0pt badness 0\nend: pages 0 bytes 0\n",
+        ),
+    ] {
+        let out = answers_with(alloc, script, &TINY).expect(&rt, "it runs");
+        assert_eq!(rt; out.as_slice(), expected.as_bytes());
+    }
+}
+
+#[test]
+fn files_that_are_damaged(rt: HostRuntime) -> Result<(), Fail> {
+    let alloc = rt.alloc();
+    for (place, byte, cause) in [
+        (1, 0x1e, "TooShort"),
+        (7, 0x66, "Counts"),
+        (28, 0x80, "DesignSize"),
+        (32, 0x03, "CharInfo"),
+        (56, 0x01, "FixWord"),
+        (86, 0x80, "LigKern"),
+    ] {
+        let expected = format!(in alloc; "1: refused 5 BadTfm {}\nend: pages 0 bytes 0\n", cause)?;
+        let out = answers_with(alloc, "font 0 tiny", &tiny_with(place, byte)).expect(
+            &rt, "it runs",
+        );
+        assert_eq!(rt; out.as_slice(), expected.as_bytes());
+    }
+    Ok(())
+}
+
+#[test]
+fn steps_that_are_changed(rt: HostRuntime) -> Result<(), Fail> {
+    let alloc = rt.alloc();
+    for (place, byte, text, added) in [
+        (87, 0x61, "aaaa", "added 1 missing 0"),
+        (86, 0x01, "aa", "added 2 missing 0"),
+    ] {
+        let script = format!(in alloc; "font 0 tiny\nuse 0\nhbox into 0\ntext {}\n", text)?;
+        let expected = format!(in alloc;
+            "1: ok\n2: ok\n3: ok\n4: {}\nend: refused 17 ListsOpen\n",
+            added
+        )?;
+        let out = answers_with(alloc, script.as_str(), &tiny_with(place, byte)).expect(
+            &rt, "it runs",
+        );
+        assert_eq!(rt; out.as_slice(), expected.as_bytes());
+    }
+    Ok(())
+}
+
+#[test]
+fn glyph_page(rt: HostRuntime) {
+    let script = "font 0 tiny\nuse 0\nhbox into 0\ntext c\nend\nship 0\n";
+    let out = answers_with(rt.alloc(), script, &TINY).expect(&rt, "it runs");
+    let expected = "1: ok
+2: ok
+3: ok
+4: added 1 missing 0
+5: packed 5.0pt 5.0pt 0.0pt badness 0
+6: shipped 1
+end: pages 1 bytes 148
+f702018392c01c3b0000000003e800f3
+0000000000000a0000000a0000000474
+696e798b000000000000000000000000
+00000000000000000000000000000000
+000000000000000000000000ffffffff
+9f050000ab638cf800000023018392c0
+1c3b0000000003e80005000000050000
+00000001f30000000000000a0000000a
+0000000474696e79f90000005702dfdf
+dfdfdfdf
+";
+    assert_eq!(rt; out.as_slice(), expected.as_bytes());
+}
+
+#[test]
+fn pages_of_texts(rt: HostRuntime) -> Result<(), Fail> {
+    let alloc = rt.alloc();
+    for (text, answers, body) in [
+        (
+            "a c",
+            "4: added 3 missing 0\n5: packed 13.125pt 5.0pt 0.0pt badness 0\n",
+            b"\x9f\x05\0\0\xab\x61\x91\x03\x20\0\x63\x8c\xf8".as_slice(),
+        ),
+        (
+            "ac",
+            "4: added 3 missing 0\n5: packed 9.375pt 5.0pt 0.0pt badness 0\n",
+            b"\x9f\x05\0\0\xab\x61\x91\xff\x60\0\x63\x8c\xf8".as_slice(),
+        ),
+        (
+            "az",
+            "4: added 1 missing 1\n5: packed 5.0pt 5.0pt 0.0pt badness 0\n",
+            b"\x9f\x05\0\0\xab\x61\x8c\xf8".as_slice(),
+        ),
+    ] {
+        let script = format!(in alloc;
+            "font 0 tiny\nuse 0\nhbox into 0\ntext {}\nend\nship 0\n",
+            text
+        )?;
+        let (out, memory) = pages_with(alloc, script.as_str(), "tiny", &TINY).expect(
+            &rt, "it runs",
+        );
+        assert!(rt;
+            out.get(18..)
+                .is_some_and(|rest| rest.starts_with(answers.as_bytes()))
+        );
+        assert!(rt;
+            memory
+                .bytes()
+                .get(80..)
+                .is_some_and(|rest| rest.starts_with(body))
+        );
+    }
+    Ok(())
+}
+
+#[test]
+fn slots_and_characters_with_long_numbers(rt: HostRuntime) -> Result<(), Fail> {
+    let alloc = rt.alloc();
+    for (slot, body) in [
+        ("63", b"\xea\x80\xc8\x8c\xf8".as_slice()),
+        ("64", b"\xeb\x40\x80\xc8\x8c\xf8".as_slice()),
+        ("255", b"\xeb\xff\x80\xc8\x8c\xf8".as_slice()),
+    ] {
+        let script = format!(in alloc;
+            "font {} restarts\nuse {}\nhbox into 0\nchar 200\nend\nship 0\n",
+            slot, slot
+        )?;
+        let (out, memory) = pages_with(alloc, script.as_str(), "restarts", &RESTARTS).expect(
+            &rt, "it runs",
+        );
+        let expected =
+            "1: ok\n2: ok\n3: ok\n4: added 1 missing 0\n5: packed 5.0pt 0.0pt 0.0pt badness 0\n6: shipped 1\nend: pages 1 bytes 152\n";
+        assert_eq!(rt; out.as_slice(), expected.as_bytes());
+        assert_eq!(rt; memory.bytes().get(39), Some(&139));
+        assert!(rt;
+            memory
+                .bytes()
+                .get(84..)
+                .is_some_and(|rest| rest.starts_with(body))
+        );
+    }
+    Ok(())
 }
 
 #[test]

@@ -2,7 +2,7 @@
 
 ghost use Rattle.std.specs.Prelude.{◌≡◌, ◌<◌, ◌+◌, ◌^◌, ◌⊎◌, ◌&&◌, [], map, is_ok, IfOk, IfErr, IfSome};
 ghost use Rattle.std.specs.List.{list_all};
-ghost use Rattle.boxglue.specs.Runs.{commands_of, is_accepted, WasRun, RanScript, RefusedScript, IsUntouched, IsLeft, device_of, WritesNothing};
+ghost use Rattle.boxglue.specs.Runs.{commands_of, numbers_of, is_accepted, WasRun, RanScript, RefusedScript, IsUntouched, IsLeft, device_of, WritesNothing};
 
 use crate::cause::Cause;
 use crate::script::{Line, ScriptFault, read_script};
@@ -55,11 +55,14 @@ pub fn run_script<D: Device, W: Write>(
             };
         }
     };
-    let (replies, end, device) = match run_lines(alloc, &lines, files, device) {
+    let Ok((numbers, commands)) = parted(alloc, lines) else {
+        return Err(RunFault::Memory(device));
+    };
+    let (replies, end, device) = match run_commands(alloc, &commands, files, device) {
         Ok(ran) => ran,
         Err(device) => return Err(RunFault::Memory(device)),
     };
-    let Ok(answers) = answers_text(alloc, &lines, &replies, &end) else {
+    let Ok(answers) = answers_text(alloc, &numbers, &replies, &end) else {
         return Err(RunFault::Memory(device));
     };
     match writer.write_all(&answers) {
@@ -68,35 +71,35 @@ pub fn run_script<D: Device, W: Write>(
     }
 }
 
-/// Runs the commands of some lines on a new job, and finishes it. Where memory is refused nothing was run, and the device comes back.
-fn run_lines<D: Device>(
+/// Runs commands on a new job, and finishes it. Where memory is refused nothing was run, and the device comes back.
+fn run_commands<D: Device>(
     alloc: Global,
-    lines: &[Line],
+    commands: &[Command],
     files: &[FontFile],
     device: D,
 ) -> Result<(Vec<Reply>, Result<Summary, Refusal>, D), D>
     requires countable { D.failed device + 1 < 2 ^ 64 }
     requires fresh { IfSome (D.told device) (λ bytes. bytes ≡ []) }
-    ensures ran { IfOk result (λ ran. WasRun files.now (D.failed device) (commands_of lines.now) ran.0.items ran.1 (D.failed ran.2) (D.told ran.2)) }
+    ensures ran { IfOk result (λ ran. WasRun files.now (D.failed device) commands.now ran.0.items ran.1 (D.failed ran.2) (D.told ran.2)) }
     ensures none { IfErr result (λ back. IsUntouched (D.failed device) (D.failed back) (D.told back)) }
 {
-    let Ok(commands) = commands_of(alloc, lines) else {
-        return Err(device);
-    };
     let mut job = Job::new(alloc, device, files)?;
     let mut replies = Vec::new(alloc);
-    if job.run(&commands, &mut replies).is_err() {
+    if job.run(commands, &mut replies).is_err() {
         return Err(job.into_device());
     }
     let end = job.finish();
     Ok((replies, end, job.into_device()))
 }
 
-/// The commands of some lines.
-fn commands_of(alloc: Global, lines: &[Line]) -> Result<Vec<Command>, AllocError>
-    ensures { IfOk result (λ commands. commands.items ≡ commands_of lines.now) }
+/// The numbers and the commands of some lines.
+fn parted(alloc: Global, lines: Vec<Line>) -> Result<(Vec<usize>, Vec<Command>), AllocError>
+    ensures numbers { IfOk result (λ parts. parts.0.items ≡ numbers_of lines.items) }
+    ensures commands { IfOk result (λ parts. parts.1.items ≡ commands_of lines.items) }
 {
-    lines.iter().map(|line| line.command).collect(alloc)
+    let numbers = lines.iter().map(|line| line.number).collect(alloc)?;
+    let commands = lines.into_iter().map(|line| line.command).collect(alloc)?;
+    Ok((numbers, commands))
 }
 
 /// Whether no command was refused.

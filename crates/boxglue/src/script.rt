@@ -6,13 +6,13 @@ ghost use Rattle.boxglue.specs.Reading.{line_of, ReadsOn, StopsAt};
 
 use crate::cause::Cause;
 use crate::fields::Fields;
-use crate::lines::{first_line, is_passed_over, is_printable};
-use job_core::Command;
-use std::alloc::Global;
+use crate::lines::{first_line, is_passed_over, is_printable, text_of};
+use job_core::{Characters, Command};
+use std::alloc::{AllocError, Global};
 use thiserror::Error;
 
 /// A line of a script that says a command.
-#[derive(Clone, Copy, Debug, PartialEq, Eq)]
+#[derive(Debug, Drop)]
 pub struct Line {
     /// The number of the line in its script, from 1.
     pub number: usize,
@@ -43,21 +43,29 @@ pub fn read_script(alloc: Global, text: &[u8]) -> Result<Vec<Line>, ScriptFault>
     while !rest.is_empty() {
         let (line, behind) = first_line(rest);
         number += 1;
-        read_line(number, line, &mut found)?;
+        read_line(alloc, number, line, &mut found)?;
         rest = behind;
     }
     Ok(found)
 }
 
 /// Reads a line, and puts what it says behind what the lines before it said.
-fn read_line(number: usize, line: &[u8], found: &mut Vec<Line>) -> Result<(), ScriptFault>
+fn read_line(
+    alloc: Global,
+    number: usize,
+    line: &[u8],
+    found: &mut Vec<Line>,
+) -> Result<(), ScriptFault>
     ensures ok { OnOk result (ReadsOn number line.now found.old.items found.new.items) }
     ensures bad { IfErr result (λ fault. (fault ≡ ScriptFault.OutOfMemory) ⊎ StopsAt number line.now found.old.items fault) }
 {
     if is_passed_over(line) {
         return Ok(());
     }
-    match command_of(line) {
+    let Ok(read) = command_of(alloc, line) else {
+        return Err(ScriptFault::OutOfMemory);
+    };
+    match read {
         Ok(command) => match found.push(Line { number, command }) {
             Ok(()) => Ok(()),
             Err(_) => Err(ScriptFault::OutOfMemory),
@@ -69,14 +77,16 @@ fn read_line(number: usize, line: &[u8], found: &mut Vec<Line>) -> Result<(), Sc
     }
 }
 
-/// The command that a line says.
+/// The command that a line says, or why it says none.
 #[tactic(auto, unfolding(crate::specs::Reading::line_of))]
-fn command_of(line: &[u8]) -> Result<Command, Cause>
-    ensures { result ≡ line_of line.now }
+fn command_of(alloc: Global, line: &[u8]) -> Result<Result<Command, Cause>, AllocError>
+    ensures { IfOk result (λ read. read ≡ line_of line.now) }
 {
-    if is_printable(line) {
-        Fields::new(line).command()
-    } else {
-        Err(Cause::Byte)
+    if !is_printable(line) {
+        return Ok(Err(Cause::Byte));
+    }
+    match text_of(line) {
+        Some(text) => Ok(Ok(Command::Text(Characters::new(text.to_vec(alloc)?)))),
+        None => Fields::new(line).command(alloc),
     }
 }

@@ -2,43 +2,53 @@
 
 use crate::cause::Cause;
 use crate::script::{Line, ScriptFault, read_script};
-use job_core::{Command, Register};
-use node_core::{Rule, RuleSize};
-use scaled_core::Dimen;
+use std::alloc::{AllocError, Global};
 use std::test::Fail;
+
+/// The lines as numbers and the commands as they are shown.
+fn shown(alloc: Global, lines: &[Line]) -> Result<Vec<(usize, String)>, AllocError> {
+    let mut shown = Vec::new(alloc);
+    for line in lines {
+        shown.push((line.number, format!(in alloc; "{:?}", line.command)?))?;
+    }
+    Ok(shown)
+}
 
 #[test]
 fn reads_each_command(rt: HostRuntime) -> Result<(), Fail> {
     let text =
-        b"% a comment\r\n\nhbox  into +007\n rule * 1pt -2sp \r\nkern 2pt\nend\nmeasure -0\nvoid 255\nship 7";
-    let Some(seven) = Register::try_new(7) else {
-        return Ok(());
-    };
-    let Some(zero) = Register::try_new(0) else {
-        return Ok(());
-    };
-    let Some(last) = Register::try_new(255) else {
-        return Ok(());
-    };
-    let dimen = |value: i64| Dimen::try_new(value).unwrap_or(Dimen::ZERO);
-    let sizes = Rule {
-        width: RuleSize::Running,
-        height: RuleSize::Fixed(dimen(65536)),
-        depth: RuleSize::Fixed(dimen(-2)),
-    };
+        b"% a comment\r\n\nhbox  into +007\n rule * 1pt -2sp \r\nkern 2pt\nend\nmeasure -0\nvoid 255\nship 7\nuse 63\n char  +0200\n  text a \ntext\ntext  \nfont +9 a.b  at 134217727sp \nfont 255 -_Z";
     let lines = read_script(rt.alloc(), text).expect(&rt, "each line is right");
     let commands = [
-        (3, Command::OpenHbox(seven)),
-        (4, Command::Rule(sizes)),
-        (5, Command::Kern(dimen(131_072))),
-        (6, Command::End),
-        (7, Command::Measure(zero)),
-        (8, Command::Void(last)),
-        (9, Command::Ship(seven)),
+        (3, "OpenHbox(Register { number: 7 })"),
+        (
+            4,
+            "Rule(Rule { width: Running, height: Fixed(Dimen { value: 65536 }), depth: Fixed(Dimen { value: -2 }) })",
+        ),
+        (5, "Kern(Dimen { value: 131072 })"),
+        (6, "End"),
+        (7, "Measure(Register { number: 0 })"),
+        (8, "Void(Register { number: 255 })"),
+        (9, "Ship(Register { number: 7 })"),
+        (10, "UseFont(63)"),
+        (11, "Character(200)"),
+        (12, "Text(Characters { codes: [97, 32] })"),
+        (13, "Text(Characters { codes: [] })"),
+        (14, "Text(Characters { codes: [32] })"),
+        (
+            15,
+            "LoadFont(FontLoad { slot: 9, name: FontName { bytes: [97, 46, 98] }, size: Some(FontSize { size: 134217727 }) })",
+        ),
+        (
+            16,
+            "LoadFont(FontLoad { slot: 255, name: FontName { bytes: [45, 95, 90] }, size: None })",
+        ),
     ];
-    assert_eq!(rt; lines.len(), commands.len());
-    for (line, (number, command)) in lines.iter().zip(commands) {
-        assert_eq!(rt; *line, Line { number, command });
+    let shown = shown(rt.alloc(), &lines)?;
+    assert_eq!(rt; shown.len(), commands.len());
+    for ((number, text), (line, command)) in shown.iter().zip(commands) {
+        assert_eq!(rt; *number, line);
+        assert_eq!(rt; text.as_str(), command);
     }
     Ok(())
 }
@@ -70,6 +80,28 @@ fn names_the_first_bad_line(rt: HostRuntime) {
         ("kern 16384pt", 1, Cause::Dimension),
         ("kern * *", 1, Cause::Dimension),
         ("rule 1pt x", 1, Cause::Dimension),
+        ("font", 1, Cause::Missing),
+        ("font 0", 1, Cause::Missing),
+        ("font 256 a/b", 1, Cause::Number),
+        ("font 0 a/b at x", 1, Cause::Name),
+        ("font 0 tiny foo bar", 1, Cause::Word),
+        ("font 0 tiny at", 1, Cause::Missing),
+        ("font 0 tiny at 1", 1, Cause::Dimension),
+        ("font 0 tiny at 16384pt", 1, Cause::Dimension),
+        ("font 0 tiny at 2048pt x", 1, Cause::Number),
+        ("font 0 tiny at 0pt", 1, Cause::Number),
+        ("font 0 tiny at -1sp", 1, Cause::Number),
+        ("font 0 tiny at 1sp x", 1, Cause::Extra),
+        ("use", 1, Cause::Missing),
+        ("use 256", 1, Cause::Number),
+        ("use 0 0", 1, Cause::Extra),
+        ("char a", 1, Cause::Number),
+        ("char 0 0", 1, Cause::Extra),
+        ("texta", 1, Cause::Word),
+        ("text\ta", 1, Cause::Byte),
+        ("text a\u{7f}", 1, Cause::Byte),
+        ("Text a", 1, Cause::Word),
+        ("end text a", 1, Cause::Extra),
         ("end\n\n%\nend x\nend y", 4, Cause::Extra),
     ] {
         let found = read_script(rt.alloc(), text.as_bytes());
@@ -79,4 +111,20 @@ fn names_the_first_bad_line(rt: HostRuntime) {
             "at {text}"
         );
     }
+}
+
+#[test]
+fn names_have_at_most_255_bytes(rt: HostRuntime) -> Result<(), Fail> {
+    let mut text = Vec::from_slice(rt.alloc(), b"font 0 ")?;
+    for _ in 0..255u32 {
+        text.push(b'a')?;
+    }
+    assert!(rt; read_script(rt.alloc(), &text).is_ok());
+    text.push(b'a')?;
+    let fault = ScriptFault::BadScript {
+        line: 1,
+        cause: Cause::Name,
+    };
+    assert_eq!(rt; read_script(rt.alloc(), &text).err(), Some(fault));
+    Ok(())
 }

@@ -1,12 +1,11 @@
 //! The texts of answers.
 
 ghost use Rattle.std.specs.Prelude.{◌≡◌, ◌++◌, ◌+◌, ◌*◌, ◌<◌, codes, decimal, OnOk, OnErr, IfOk};
-ghost use Rattle.boxglue.specs.Texts.{refusal_number, refusal_name, cause_name, kind_name, line_feed, points_text, sizes_text, refusal_text, answer_text, reply_text, answer_line, summary_text, end_line, answer_lines, answers_text, bad_script_text, byte_text, hexadecimal_text};
+ghost use Rattle.boxglue.specs.Texts.{refusal_number, refusal_name, bad_file_name, cause_name, kind_name, line_feed, points_text, sizes_text, refusal_text, answer_text, reply_text, answer_line, summary_text, end_line, answer_lines, answers_text, bad_script_text, byte_text, hexadecimal_text};
 
 use crate::cause::Cause;
-use crate::script::Line;
 use itoa::Buffer;
-use job_core::{Answer, Refusal, Reply, Sizes, Summary};
+use job_core::{Answer, Refusal, Reply, Sizes, Summary, TfmCause};
 use node_core::Kind;
 use scaled_core::{Dimen, print_dimen};
 use std::alloc::{AllocError, Global};
@@ -18,6 +17,9 @@ fn refusal_number(refusal: Refusal) -> u32
     match refusal {
         Refusal::OutOfMemory => 1,
         Refusal::DimensionTooLarge => 3,
+        Refusal::NoFont => 4,
+        Refusal::BadTfm(_) => 5,
+        Refusal::SlotTaken => 6,
         Refusal::NoOpenList => 7,
         Refusal::WrongMode => 8,
         Refusal::ListTooLong => 10,
@@ -32,6 +34,20 @@ fn refusal_number(refusal: Refusal) -> u32
     }
 }
 
+/// The name of the refusal of a metric file, with its cause.
+fn bad_file_name(cause: TfmCause) -> &'static str
+    ensures { result.now ≡ bad_file_name cause }
+{
+    match cause {
+        TfmCause::TooShort => "BadTfm TooShort",
+        TfmCause::Counts => "BadTfm Counts",
+        TfmCause::DesignSize => "BadTfm DesignSize",
+        TfmCause::CharInfo => "BadTfm CharInfo",
+        TfmCause::FixWord => "BadTfm FixWord",
+        TfmCause::LigKern => "BadTfm LigKern",
+    }
+}
+
 /// The name of a refusal.
 fn refusal_name(refusal: Refusal) -> &'static str
     ensures { result.now ≡ refusal_name refusal }
@@ -39,6 +55,9 @@ fn refusal_name(refusal: Refusal) -> &'static str
     match refusal {
         Refusal::OutOfMemory => "OutOfMemory",
         Refusal::DimensionTooLarge => "DimensionTooLarge",
+        Refusal::NoFont => "NoFont",
+        Refusal::BadTfm(cause) => bad_file_name(cause),
+        Refusal::SlotTaken => "SlotTaken",
         Refusal::NoOpenList => "NoOpenList",
         Refusal::WrongMode => "WrongMode",
         Refusal::ListTooLong => "ListTooLong",
@@ -64,6 +83,7 @@ fn cause_name(cause: Cause) -> &'static str
         Cause::Extra => "Extra",
         Cause::Number => "Number",
         Cause::Dimension => "Dimension",
+        Cause::Name => "Name",
     }
 }
 
@@ -148,6 +168,17 @@ fn push_measured(kind: Kind, sizes: &Sizes, out: &mut Vec<u8>) -> Result<(), All
     push_sizes(sizes, out)
 }
 
+/// Appends how many items characters added, and how many of them are missing.
+#[tactic(auto, unfolding(crate::specs::Texts::answer_text))]
+fn push_shaped(items: usize, missing: usize, out: &mut Vec<u8>) -> Result<(), AllocError>
+    ensures { OnOk result (out.new.items ≡ out.old.items ++ answer_text (Answer.Shaped items missing)) }
+{
+    push_text("added ", out)?;
+    push_number(items as u64, out)?;
+    push_text(" missing ", out)?;
+    push_number(missing as u64, out)
+}
+
 /// Appends the number of pages that were shipped.
 #[tactic(auto, unfolding(crate::specs::Texts::answer_text))]
 fn push_shipped(pages: u32, out: &mut Vec<u8>) -> Result<(), AllocError>
@@ -167,6 +198,7 @@ fn push_answer(answer: &Answer, out: &mut Vec<u8>) -> Result<(), AllocError>
         Answer::Packed(sizes, badness) => push_packed(sizes, *badness, out),
         Answer::Measured(kind, sizes) => push_measured(*kind, sizes, out),
         Answer::MeasuredVoid => push_text("measured void", out),
+        Answer::Shaped { items, missing } => push_shaped(*items, *missing, out),
         Answer::Shipped(pages) => push_shipped(*pages, out),
     }
 }
@@ -181,12 +213,12 @@ fn push_reply(reply: &Reply, out: &mut Vec<u8>) -> Result<(), AllocError>
     }
 }
 
-/// Appends the line that answers a line of a script.
+/// Appends the line that answers the line of a script with this number.
 #[tactic(auto, unfolding(crate::specs::Texts::answer_line))]
-fn push_answer_line(line: &Line, reply: &Reply, out: &mut Vec<u8>) -> Result<(), AllocError>
-    ensures { OnOk result (out.new.items ≡ out.old.items ++ answer_line line.now reply.now) }
+fn push_answer_line(number: usize, reply: &Reply, out: &mut Vec<u8>) -> Result<(), AllocError>
+    ensures { OnOk result (out.new.items ≡ out.old.items ++ answer_line number reply.now) }
 {
-    push_number(line.number as u64, out)?;
+    push_number(number as u64, out)?;
     push_text(": ", out)?;
     push_reply(reply, out)?;
     push_text("\n", out)
@@ -217,28 +249,32 @@ fn push_end_line(end: &Result<Summary, Refusal>, out: &mut Vec<u8>) -> Result<()
     push_text("\n", out)
 }
 
-/// Appends the lines that answer the lines of a script.
-fn push_answer_lines(lines: &[Line], replies: &[Reply], out: &mut Vec<u8>) -> Result<(), AllocError>
-    ensures { OnOk result (out.new.items ≡ out.old.items ++ answer_lines lines.now replies.now) }
+/// Appends the lines that answer the lines of a script with these numbers.
+fn push_answer_lines(
+    numbers: &[usize],
+    replies: &[Reply],
+    out: &mut Vec<u8>,
+) -> Result<(), AllocError>
+    ensures { OnOk result (out.new.items ≡ out.old.items ++ answer_lines numbers.now replies.now) }
 {
-    for (line, reply) in lines.iter().zip(replies) {
-        push_answer_line(line, reply, out)?;
+    for (number, reply) in numbers.iter().zip(replies) {
+        push_answer_line(*number, reply, out)?;
     }
     Ok(())
 }
 
-/// The texts of a script that was run: an answer for each line that says a command, and the end.
+/// The texts of a script that was run: an answer for each line that says a command, by its number, and the end.
 #[tactic(auto, unfolding(crate::specs::Texts::answers_text))]
 pub fn answers_text(
     alloc: Global,
-    lines: &[Line],
+    numbers: &[usize],
     replies: &[Reply],
     end: &Result<Summary, Refusal>,
 ) -> Result<Vec<u8>, AllocError>
-    ensures { IfOk result (λ text. text.items ≡ answers_text lines.now replies.now end.now) }
+    ensures { IfOk result (λ text. text.items ≡ answers_text numbers.now replies.now end.now) }
 {
     let mut text = Vec::new(alloc);
-    push_answer_lines(lines, replies, &mut text)?;
+    push_answer_lines(numbers, replies, &mut text)?;
     push_end_line(end, &mut text)?;
     Ok(text)
 }

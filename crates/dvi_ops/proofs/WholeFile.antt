@@ -17,7 +17,7 @@ use Rattle.dvi_ops.proofs.Frames.{Facts, facts_at}
 use Rattle.dvi_ops.proofs.Spelled.{written_is_spelled}
 use Rattle.dvi_ops.proofs.SameMeaning.{SameWidths, same_pages}
 
-all_spelled : (is : List Instruction) → AllByRecursion IsWritable is → AllByRecursion IsSpelled (map wrote is)
+pub all_spelled : (is : List Instruction) → AllByRecursion IsWritable is → AllByRecursion IsSpelled (map wrote is)
 all_spelled [] w = tt
 all_spelled (i ∷ is) (here, w) = (written_is_spelled i here.0 here.1, all_spelled is w)
 
@@ -54,11 +54,11 @@ all_idle : (fonts : List Definition) → AllByRecursion IsIdle (define fonts)
 all_idle [] = tt
 all_idle (d ∷ fonts) = (tt, all_idle fonts)
 
-regroup : (a p t e bytes : List ℕ) → a ++ ((p ++ (t ++ (e ++ []))) ++ bytes) ≡ a ++ (p ++ (t ++ (e ++ bytes)))
+pub regroup : (a p t e bytes : List ℕ) → a ++ ((p ++ (t ++ (e ++ []))) ++ bytes) ≡ a ++ (p ++ (t ++ (e ++ bytes)))
 regroup a p t e bytes = simp (append_assoc, append-nil)
 
 -- The frame of what is written for instructions up to post, post, instructions behind it, and post_post.
-pub frame_of : (is : List Instruction) (stop : Postamble) (tail : List Instruction) (place padding : ℕ) →
+unfoldable pub frame_of : (is : List Instruction) (stop : Postamble) (tail : List Instruction) (place padding : ℕ) →
     AllByRecursion IsWritable is → NumbersFit (Post stop) → AllByRecursion IsWritable tail → place ≡ length (bytes_of is) → place < 2 ^ 31 → 4 ≤ padding →
     Frame (bytes_of is ++ (bytes_of (Post stop ∷ (tail ++ PostPost (pos place) 2 ∷ [])) ++ replicate padding 223))
 frame_of is stop tail place padding front_fits stop_fits tail_fits at small padded =

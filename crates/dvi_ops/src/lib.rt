@@ -8,8 +8,6 @@ pub mod op;
 pub mod page_body;
 mod reading;
 mod spelling;
-#[cfg(test)]
-mod tests;
 
 pub use fault::OpFault;
 pub use op::{FontDefinition, Op, Postamble, Units};

@@ -1,27 +1,32 @@
 -- The end of the file that the writer writes for pages that ships make.
-use Rattle.std.proofs.Common.{◌≡◌, ◌≢◌, ℕ, zero, suc, ◌+◌, ◌≤◌, ◌<◌, ◌%◌, ◌^◌, List, [], ◌∷◌, ◌++◌, length, map, replicate, refl, ap, ap₂, sym, ◌∙◌, subst, arith, lit<, length-append, append_assoc, append-nil}
-use Rattle.std.specs.Prelude.{ℤ, pos, negsuc, ◌≤ℤ◌, Bool, true, false, int_lt, cond, None}
+use Rattle.std.proofs.Common.{◌≡◌, ◌≢◌, ℕ, zero, suc, ◌+◌, ◌≤◌, ◌<◌, ◌%◌, ◌^◌, List, [], ◌∷◌, ◌++◌, length, map, replicate, refl, ap, ap₂, sym, ◌∙◌, subst, arith, lit<, length-append, append-nil}
+use Rattle.std.specs.Prelude.{ℤ, pos, negsuc, ◌≤ℤ◌, Bool, true, false, int_lt, cond}
 use Rattle.std.specs.Int.{int_max}
 use Rattle.std.specs.List.{AllByRecursion, Contains, flat_map}
 use Rattle.std.proofs.lemmas.Int.{ints, clamps}
 use Rattle.std.proofs.lemmas.List.{length-replicate}
-use Rattle.dvi_ops.specs.Instruction.{Instruction, Eop, Post, PostPost, Postamble, Pre}
+use Rattle.tfm_core.specs.NamedBytes.{NamedBytes}
+use Rattle.tfm_core.specs.FileWidths.{file_widths}
+use Rattle.dvi_ops.specs.Instruction.{Definition, Instruction, Bop, Eop, Post, PostPost, Postamble, Pre}
 use Rattle.dvi_ops.specs.Forest.{flat}
-use Rattle.dvi_ops.specs.File.{Part, Shows, instructions, depth_of, Frame}
-use Rattle.dvi_ops.specs.Spelling.{spelling, NumberFits, NumbersFit, UnitsFit}
-use Rattle.dvi_ops.specs.Table.{Spells}
-use Rattle.dvi_ops.specs.Tokens.{IsSpelled}
-use Rattle.dvi_ops.specs.Layout.{bytes_of, preamble, scaled_points, Written, at_first, sheet_from, after, sheets_from, after_all, front_of, stop_of, padding_after, IsWritable}
-use Rattle.dvi_ops.proofs.Appends.{all_append}
-use Rattle.dvi_ops.proofs.Layouts.{wrote, says-wrote, written-wrote}
-use Rattle.dvi_ops.proofs.Spelled.{written_is_spelled}
-use Rattle.dvi_ops.proofs.WholeFile.{padding_low, padding_fills, size_of_front}
+use Rattle.dvi_ops.specs.Fonts.{Metrics, definitions}
+use Rattle.dvi_ops.specs.File.{Part, Defines, Shows, instructions, depth_of}
+use Rattle.dvi_ops.specs.Spelling.{NumberFits, NumbersFit, UnitsFit}
+use Rattle.dvi_ops.specs.Layout.{bytes_of, define, preamble, scaled_points, Sheet, Written, at_first, sheet_from, after, sheets_from, after_all, front_of, stop_of, padding_after, Table, IsTabled, IsWritable}
+use Rattle.dvi_ops.proofs.Appends.{all_append, definitions-append, instructions-append}
+use Rattle.dvi_ops.proofs.Layouts.{says-wrote, definitions-define, instructions-define, length-bytes_of-append, parts_of}
+use Rattle.dvi_ops.proofs.WholeFile.{frame_of, padding_low, padding_fills, size_of_front}
+use Rattle.job_core.specs.FontSlots.{Slots}
+use Rattle.job_core.specs.Loaded.{AreLoaded}
 use Rattle.job_core.specs.Marks.{Page}
 use Rattle.job_core.specs.Drawing.{body_of}
-use Rattle.job_core.specs.Draft.{first_draft, draft_of, sheet_of, reach_down, reach_right, closed, whole, file_of}
+use Rattle.job_core.specs.Draft.{first_draft, draft_of, definitions_of, fresh_slots, in_rising_order, sheet_of, reach_down, reach_right, closed, whole, file_of}
 use Rattle.job_core.specs.Runs.{IsShipped}
-use Rattle.job_core.specs.Closing.{IsGreatestOf, IsClosedFor}
-use Rattle.job_core.proofs.FileLaws.{farthest, tall-is, wide-is, tall_fits, wide_fits, shipped_good, laid_out, whole-is, no_pushes}
+use Rattle.job_core.specs.Closing.{IsGreatestOf, IsOfJob, IsClosedFor}
+use Rattle.job_core.proofs.DrawnPages.{definitions-page, nests-page}
+use Rattle.job_core.proofs.DefinedFonts.{AreKnown, each_of, none_known, known_next}
+use Rattle.job_core.proofs.PageFonts.{table_of}
+use Rattle.job_core.proofs.FileLaws.{farthest, tall-is, wide-is, tall_fits, wide_fits, shipped_good, sheets_of, laid_out, whole-is, closing_tabled}
 
 -- The greatest of a size of some pages and a number z is one of them, and none is above it.
 farthest_bounds : (size : Page → ℤ) (z : ℤ) (pages : List Page) → (z ≤ℤ farthest size z pages) × AllByRecursion (λ x. x ≤ℤ farthest size z pages) (map size pages)
@@ -54,106 +59,185 @@ farthest-greatest : (size : Page → ℤ) (pages : List Page) → IsGreatestOf (
 farthest-greatest size pages = record { bounds = farthest_bounds size (pos 0) pages; reached = farthest_reached size (pos 0) pages }
 
 -- What is laid out for the pages can be spelled, and the last place fits.
-grows : (s : Written) (pages : List Page) → s.size ≤ (after_all s (map sheet_of pages)).size
-grows s [] = omega arith
-grows s (page ∷ pages) = omega (arith, grows (after s (sheet_of page)) pages)
+grows : (fonts : Slots) (slots : List ℕ) (s : Written) (pages : List Page) → s.size ≤ (after_all s (sheets_of fonts slots pages)).size
+grows fonts slots s [] = omega arith
+grows fonts slots s (page ∷ pages) = omega (arith, grows fonts (slots ++ fresh_slots fonts slots (flat (body_of page))) (after s (sheet_of fonts slots page)) pages)
 
-place_fits : (s : Written) (pages : List Page) → (after_all s (map sheet_of pages)).size < 2 ^ 31 → NumberFits (pos (s.size + 0))
-place_fits s pages small = record { sfits = omega (arith, grows s pages, small) }
+-- The place of a bop lies before the end of its page.
+place_fits : (fonts : Slots) (slots : List ℕ) (s : Written) (page : Page) (pages : List Page) → (after_all s (sheets_of fonts slots (page ∷ pages))).size < 2 ^ 31
+    → NumberFits (pos (s.size + length (bytes_of (define (sheet_of fonts slots page).fresh))))
+place_fits fonts slots s page pages small =
+    let sheet = sheet_of fonts slots page in
+    record {
+      sfits =
+          omega (
+            arith,
+            grows fonts (slots ++ fresh_slots fonts slots (flat (body_of page))) (after s sheet) pages,
+            length-bytes_of-append (define sheet.fresh) (Bop sheet.counts s.last ∷ (flat sheet.body ++ Eop ∷ [])),
+            small,
+          );
+    }
 
-last_fits : (s : Written) (pages : List Page) → NumberFits s.last → (after_all s (map sheet_of pages)).size < 2 ^ 31 → NumberFits (after_all s (map sheet_of pages)).last
-last_fits s [] fit small = fit
-last_fits s (page ∷ pages) fit small = last_fits (after s (sheet_of page)) pages (place_fits s (page ∷ pages) small) small
+last_fits : (fonts : Slots) (slots : List ℕ) (s : Written) (pages : List Page) → NumberFits s.last → (after_all s (sheets_of fonts slots pages)).size < 2 ^ 31
+    → NumberFits (after_all s (sheets_of fonts slots pages)).last
+last_fits fonts slots s [] fit small = fit
+last_fits fonts slots s (page ∷ pages) fit small =
+    last_fits fonts (slots ++ fresh_slots fonts slots (flat (body_of page))) (after s (sheet_of fonts slots page)) pages (place_fits fonts slots s page pages small) small
 
-pages_writable : (s : Written) (pages : List Page) → AllByRecursion IsShipped pages → NumberFits s.last → (after_all s (map sheet_of pages)).size < 2 ^ 31
-    → AllByRecursion IsWritable (sheets_from s (map sheet_of pages))
-pages_writable s [] all fit small = tt
-pages_writable s (page ∷ pages) (here, all) fit small =
-    let good = shipped_good (λ name size. None) [] page here in
-    let next = after s (sheet_of page) in
-    all_append IsWritable (sheet_from s.last (sheet_of page)) (sheets_from next (map sheet_of pages))
-    ((tt, (good.ten, good.counts_fit, fit)), all_append IsWritable (flat (sheet_of page).body) (Eop ∷ []) good.writable ((tt, tt), tt))
-    (pages_writable next pages all (place_fits s (page ∷ pages) small) small)
+all_defined : (table : Table) (ds : List Definition) → AllByRecursion (IsTabled table) ds → AllByRecursion IsWritable (define ds)
+all_defined table [] all = tt
+all_defined table (d ∷ ds) (here, all) = (here.writable, all_defined table ds all)
 
-all_spelled : (is : List Instruction) → AllByRecursion IsWritable is → AllByRecursion IsSpelled (map wrote is)
-all_spelled [] all = tt
-all_spelled (i ∷ is) (here, all) = (written_is_spelled i here.0 here.1, all_spelled is all)
+-- The font files of a job give what they give.
+abbrev own_metrics : List NamedBytes → Metrics
+own_metrics files = file_widths files
 
--- The parts that are laid out for the pages: themselves.
-parts_from : Written → List Page → List Part
-parts_from s [] = []
-parts_from s (page ∷ pages) = Shows page.counts s.last (body_of page) ∷ parts_from (after s (sheet_of page)) pages
+pages_writable : (files : List NamedBytes) (fonts : Slots) → AreLoaded files fonts → (slots : List ℕ) (s : Written) (pages : List Page) → AreKnown fonts slots s.known
+    → AllByRecursion (IsShipped fonts) pages → NumberFits s.last → (after_all s (sheets_of fonts slots pages)).size < 2 ^ 31
+    → AllByRecursion IsWritable (sheets_from s (sheets_of fonts slots pages))
+pages_writable files fonts loaded slots s [] knows all fit small = tt
+pages_writable files fonts loaded slots s (page ∷ pages) knows (here, all) fit small =
+    let sheet = sheet_of fonts slots page in
+    let good = shipped_good (own_metrics files) files fonts (λ name size widths e. e) loaded slots s.known page knows here in
+    let next = after s sheet in
+    let later = slots ++ fresh_slots fonts slots (flat (body_of page)) in
+    all_append IsWritable (sheet_from s.last sheet) (sheets_from next (sheets_of fonts later pages))
+    (all_append IsWritable (define sheet.fresh) (Bop page.counts s.last ∷ (flat sheet.body ++ Eop ∷ [])) (all_defined (table_of fonts) sheet.fresh good.fresh)
+    ((tt, (good.ten, good.counts_fit, fit)), all_append IsWritable (flat sheet.body) (Eop ∷ []) good.writable ((tt, tt), tt)))
+    (pages_writable files fonts loaded later next pages (known_next fonts slots (flat (body_of page)) s.known knows) all (place_fits fonts slots s page pages small) small)
 
-instructions_from : (s : Written) (pages : List Page) → sheets_from s (map sheet_of pages) ≡ flat_map instructions (parts_from s pages)
+-- The parts that are laid out for the pages: the definitions of their fresh fonts, and themselves.
+parts_from : Slots → List ℕ → Written → List Page → List Part
+parts_from fonts slots s [] = []
+parts_from fonts slots s (page ∷ pages) =
+    parts_of s.last (sheet_of fonts slots page) ++ parts_from fonts (slots ++ fresh_slots fonts slots (flat (body_of page))) (after s (sheet_of fonts slots page)) pages
+
+one_page : (last : ℤ) (p : Sheet) → sheet_from last p ≡ flat_map instructions (parts_of last p)
+one_page last p =
+    let shows = Shows p.counts last p.body in
+    ap₂ (λ (a b : List Instruction). a ++ b) (sym (instructions-define p.fresh)) (sym (append-nil (instructions shows)))
+    ∙ sym (instructions-append (map (λ d. Defines d) p.fresh) (shows ∷ []))
+
+instructions_from : (fonts : Slots) (slots : List ℕ) (s : Written) (pages : List Page) → sheets_from s (sheets_of fonts slots pages) ≡ flat_map instructions (parts_from fonts slots s pages)
 unfolding parts_from
-instructions_from s [] = refl
-instructions_from s (page ∷ pages) =
-    ap (λ (is : List Instruction). sheet_from s.last (sheet_of page) ++ is) (instructions_from (after s (sheet_of page)) pages)
+instructions_from fonts slots s [] = refl
+instructions_from fonts slots s (page ∷ pages) =
+    let sheet = sheet_of fonts slots page in
+    let later = slots ++ fresh_slots fonts slots (flat (body_of page)) in
+    ap₂ (λ (a b : List Instruction). a ++ b) (one_page s.last sheet) (instructions_from fonts later (after s sheet) pages)
+    ∙ sym (instructions-append (parts_of s.last sheet) (parts_from fonts later (after s sheet) pages))
 
 -- No push is open in them.
-no_depths : (s : Written) (pages : List Page) → AllByRecursion (λ z. z ≤ℤ pos 0) (map (λ part. pos (depth_of part)) (parts_from s pages))
-unfolding parts_from
-no_depths s [] = tt
-no_depths s (page ∷ pages) = (omega (arith, ints, no_pushes page), no_depths (after s (sheet_of page)) pages)
+abbrev IsFlat : Part → Type 0
+IsFlat part = depth_of part ≡ 0
 
--- The end of instructions that can be spelled, of post, of post_post that names post's place, and of bytes 223.
+flat_definitions : (ds : List Definition) → AllByRecursion IsFlat (map (λ d. Defines d) ds)
+flat_definitions [] = tt
+flat_definitions (d ∷ ds) = (refl, flat_definitions ds)
+
+all_flat : (fonts : Slots) (slots : List ℕ) (s : Written) (pages : List Page) → AllByRecursion IsFlat (parts_from fonts slots s pages)
+unfolding parts_from
+all_flat fonts slots s [] = tt
+all_flat fonts slots s (page ∷ pages) =
+    let sheet = sheet_of fonts slots page in
+    all_append IsFlat (parts_of s.last sheet) (parts_from fonts (slots ++ fresh_slots fonts slots (flat (body_of page))) (after s sheet) pages)
+    (all_append IsFlat (map (λ d. Defines d) sheet.fresh) (Shows page.counts s.last (body_of page) ∷ []) (flat_definitions sheet.fresh) (nests-page page, tt))
+    (all_flat fonts (slots ++ fresh_slots fonts slots (flat (body_of page))) (after s sheet) pages)
+
+no_depths : (parts : List Part) → AllByRecursion IsFlat parts → AllByRecursion (λ z. z ≤ℤ pos 0) (map (λ part. pos (depth_of part)) parts)
+no_depths [] all = tt
+no_depths (part ∷ parts) (here, all) = (omega (arith, ints, here), no_depths parts all)
+
+-- The fonts that they define are the job's.
+job_definitions : (fonts : Slots) (slots : List ℕ) → AllByRecursion (IsOfJob fonts) (definitions_of fonts slots)
+job_definitions fonts slots = each_of (IsOfJob fonts) fonts slots (λ s l among has. record { slot = s; loaded = l; held = has; is = refl })
+
+page_definitions : (fonts : Slots) (slots : List ℕ) (last : ℤ) (page : Page)
+    → definitions (sheet_from last (sheet_of fonts slots page)) ≡ definitions_of fonts (fresh_slots fonts slots (flat (body_of page)))
+page_definitions fonts slots last page =
+    let fresh = definitions_of fonts (fresh_slots fonts slots (flat (body_of page))) in
+    let shows = Bop page.counts last ∷ (flat (body_of page) ++ Eop ∷ []) in
+    let none : definitions shows ≡ [] = definitions-append (flat (body_of page)) (Eop ∷ []) ∙ (append-nil (definitions (flat (body_of page))) ∙ definitions-page page) in
+    definitions-append (define fresh) shows ∙ (ap₂ (λ (a b : List Definition). a ++ b) (definitions-define fresh) none ∙ append-nil fresh)
+
+front_definitions : (fonts : Slots) (slots : List ℕ) (s : Written) (pages : List Page) → AllByRecursion (IsOfJob fonts) (definitions (sheets_from s (sheets_of fonts slots pages)))
+front_definitions fonts slots s [] = tt
+front_definitions fonts slots s (page ∷ pages) =
+    let sheet = sheet_of fonts slots page in
+    let later = slots ++ fresh_slots fonts slots (flat (body_of page)) in
+    subst (AllByRecursion (IsOfJob fonts)) (sym (definitions-append (sheet_from s.last sheet) (sheets_from (after s sheet) (sheets_of fonts later pages))))
+    (all_append (IsOfJob fonts) (definitions (sheet_from s.last sheet)) (definitions (sheets_from (after s sheet) (sheets_of fonts later pages)))
+    (subst (AllByRecursion (IsOfJob fonts)) (sym (page_definitions fonts slots s.last page)) (job_definitions fonts (fresh_slots fonts slots (flat (body_of page)))))
+    (front_definitions fonts later (after s sheet) pages))
+
+all_definitions : (fonts : Slots) (slots : List ℕ) (pages : List Page)
+    → AllByRecursion (IsOfJob fonts) (definitions ((preamble ∷ sheets_from at_first (sheets_of fonts [] pages)) ++ define (definitions_of fonts (in_rising_order slots))))
+all_definitions fonts slots pages =
+    let is = preamble ∷ sheets_from at_first (sheets_of fonts [] pages) in
+    let ds = definitions_of fonts (in_rising_order slots) in
+    subst (AllByRecursion (IsOfJob fonts)) (sym (definitions-append is (define ds)))
+    (all_append (IsOfJob fonts) (definitions is) (definitions (define ds)) (front_definitions fonts [] at_first pages)
+    (subst (AllByRecursion (IsOfJob fonts)) (sym (definitions-define ds)) (job_definitions fonts (in_rising_order slots))))
+
+-- The end of instructions that can be spelled, of post, of definitions, of post_post that names post's place, and of bytes 223.
 framed :
-    (is : List Instruction) (stop : Postamble) (place padding : ℕ) (pages : List Page) (parts : List Part)
-    → is ≡ Pre 2 stop.units [] ∷ flat_map instructions parts
-    → AllByRecursion IsWritable is → NumbersFit (Post stop) → place ≡ length (bytes_of is) → place < 2 ^ 31 → 4 ≤ padding → padding ≤ 7
+    (fonts : Slots) (is : List Instruction) (stop : Postamble) (tail : List Instruction) (place padding : ℕ) (pages : List Page) (parts : List Part)
+    → AllByRecursion (IsOfJob fonts) (definitions (is ++ tail)) → is ≡ Pre 2 stop.units [] ∷ flat_map instructions parts
+    → AllByRecursion IsWritable is → NumbersFit (Post stop) → AllByRecursion IsWritable tail → place ≡ length (bytes_of is) → place < 2 ^ 31 → 4 ≤ padding → padding ≤ 7
     → IsGreatestOf (pos 0 ∷ map reach_down pages) stop.height_plus_depth → IsGreatestOf (pos 0 ∷ map reach_right pages) stop.width
     → IsGreatestOf (pos 0 ∷ map (λ part. pos (depth_of part)) parts) (pos stop.stack_depth)
-    → length (bytes_of is ++ (bytes_of (Post stop ∷ PostPost (pos place) 2 ∷ []) ++ replicate padding 223)) % 4 ≡ 0
-    → IsClosedFor (bytes_of is ++ (bytes_of (Post stop ∷ PostPost (pos place) 2 ∷ []) ++ replicate padding 223)) pages
-framed is stop place padding pages parts front_is fits stop_fits at small least most tall wide deep fills =
-    let post = spelling (Post stop) in
-    let ending = spelling (PostPost (pos place) 2) in
-    let fill = replicate padding 223 in
-    let frame : Frame (bytes_of is ++ (bytes_of (Post stop ∷ PostPost (pos place) 2 ∷ []) ++ fill)) = record {
-      front = map wrote is;
-      post = post;
-      stop = stop;
-      tail = [];
-      ending = ending;
-      padding = padding;
-      whole = ap₂ (λ (a b : List ℕ). a ++ b) (sym (written-wrote is)) (simp (append_assoc, append-nil));
-      padded = least;
-      front_spelled = all_spelled is fits;
-      post_spelled = written_is_spelled (Post stop) tt stop_fits;
-      tail_spelled = tt;
-      ending_spelled = subst (λ n. Spells (PostPost (pos n) 2) ending) (at ∙ ap length (sym (written-wrote is))) (written_is_spelled (PostPost (pos place) 2) tt (record { sfits = small }));
-    } in
-    record { frame = frame; parts = parts; front_is = says-wrote is ∙ front_is; tall = tall; wide = wide; deep = deep; least = least; most = most; fills = fills }
+    → length (bytes_of is ++ (bytes_of (Post stop ∷ (tail ++ PostPost (pos place) 2 ∷ [])) ++ replicate padding 223)) % 4 ≡ 0
+    → IsClosedFor fonts (bytes_of is ++ (bytes_of (Post stop ∷ (tail ++ PostPost (pos place) 2 ∷ [])) ++ replicate padding 223)) pages
+unfolding frame_of
+framed fonts is stop tail place padding pages parts defined front_is fits stop_fits tail_fits at small least most tall wide deep fills =
+    record {
+      frame = frame_of is stop tail place padding fits stop_fits tail_fits at small least;
+      parts = parts;
+      front_is = says-wrote is ∙ front_is;
+      defined = rw (says-wrote is, says-wrote tail) defined;
+      tall = tall;
+      wide = wide;
+      deep = deep;
+      least = least;
+      most = most;
+      fills = fills;
+    }
 
 -- The whole of the draft of some pages ends as it should.
-whole_closes : (pages : List Page) → AllByRecursion IsShipped pages → length (draft_of pages).bytes < 2 ^ 31 → IsClosedFor (whole (draft_of pages) (length pages)) pages
+whole_closes : (files : List NamedBytes) (fonts : Slots) (pages : List Page) → AreLoaded files fonts → AllByRecursion (IsShipped fonts) pages
+    → length (draft_of fonts pages).bytes < 2 ^ 31 → IsClosedFor fonts (whole fonts (draft_of fonts pages) (length pages)) pages
 unfolding whole
-whole_closes pages all small =
-    let draft = draft_of pages in
-    let s = after_all at_first (map sheet_of pages) in
-    let is = preamble ∷ sheets_from at_first (map sheet_of pages) in
-    let parts = parts_from at_first pages in
-    let laid = laid_out pages in
+whole_closes files fonts pages loaded all small =
+    let draft = draft_of fonts pages in
+    let sheets = sheets_of fonts [] pages in
+    let s = after_all at_first sheets in
+    let is = preamble ∷ sheets_from at_first sheets in
+    let parts = parts_from fonts [] at_first pages in
+    let laid = laid_out fonts pages in
     let stop = stop_of s draft.tall draft.wide (length pages) in
-    let size = length (closed draft (length pages)) in
+    let tail = define (definitions_of fonts (in_rising_order draft.defined)) in
+    let size = length (closed fonts draft (length pages)) in
     let padding = padding_after size in
     let below : s.size < 2 ^ 31 = omega (arith, laid.size, small) in
     let first : NumberFits (negsuc 0) = record { sfits = omega arith } in
     let units : UnitsFit scaled_points = (record { sfits = lit< tt }, record { sfits = lit< tt }, record { sfits = lit< tt }) in
-    let laid_whole = whole-is draft s (front_of (map sheet_of pages)) (length pages) laid in
-    let fills : length (whole draft (length pages)) % 4 ≡ 0 =
-    ap (λ n. n % 4) (length-append (closed draft (length pages)) (replicate padding 223) ∙ ap (λ n. size + n) (length-replicate padding 223)) ∙ padding_fills size in
-    subst (λ bytes. IsClosedFor bytes pages) (sym laid_whole)
-    (framed is stop s.size padding pages parts (ap (λ (is : List Instruction). preamble ∷ is) (instructions_from at_first pages)) (((lit< tt, units), pages_writable at_first pages all first below))
-    (last_fits at_first pages first below, units, tall_fits pages all, wide_fits pages all, omega (arith, laid.depth), omega arith)
-    (size_of_front (map sheet_of pages)) below (padding_low size) (omega arith)
-    (subst (IsGreatestOf (pos 0 ∷ map reach_down pages)) (sym (tall-is first_draft pages)) (farthest-greatest reach_down pages))
-    (subst (IsGreatestOf (pos 0 ∷ map reach_right pages)) (sym (wide-is first_draft pages)) (farthest-greatest reach_right pages))
+    let laid_whole = whole-is fonts draft s (front_of sheets) (length pages) laid in
+    let fills : length (whole fonts draft (length pages)) % 4 ≡ 0 =
+    ap (λ n. n % 4) (length-append (closed fonts draft (length pages)) (replicate padding 223) ∙ ap (λ n. size + n) (length-replicate padding 223)) ∙ padding_fills size in
+    subst (λ bytes. IsClosedFor fonts bytes pages) (sym laid_whole)
+    (framed fonts is stop tail s.size padding pages parts (all_definitions fonts draft.defined pages) (ap (λ (is : List Instruction). preamble ∷ is) (instructions_from fonts [] at_first pages))
+    (((lit< tt, units), pages_writable files fonts loaded [] at_first pages (none_known fonts) all first below))
+    (last_fits fonts [] at_first pages first below, units, tall_fits fonts pages all, wide_fits fonts pages all, omega (arith, laid.depth), omega arith)
+    (all_defined (table_of fonts) (definitions_of fonts (in_rising_order draft.defined)) (closing_tabled files fonts draft.defined loaded))
+    (size_of_front sheets) below (padding_low size) (omega arith)
+    (subst (IsGreatestOf (pos 0 ∷ map reach_down pages)) (sym (tall-is fonts first_draft pages)) (farthest-greatest reach_down pages))
+    (subst (IsGreatestOf (pos 0 ∷ map reach_right pages)) (sym (wide-is fonts first_draft pages)) (farthest-greatest reach_right pages))
     (subst (λ n. IsGreatestOf (pos 0 ∷ map (λ part. pos (depth_of part)) parts) (pos n)) (sym laid.depth)
-    (record { bounds = (omega (arith, ints), no_depths at_first pages); reached = (zero, omega arith, refl) }))
+    (record { bounds = (omega (arith, ints), no_depths parts (all_flat fonts [] at_first pages)); reached = (zero, omega arith, refl) }))
     (subst (λ (bytes : List ℕ). length bytes % 4 ≡ 0) laid_whole fills))
 
 -- The bytes of a job with these pages end as they should.
-pub file_closes : (pages : List Page) → pages ≢ [] → AllByRecursion IsShipped pages → length (draft_of pages).bytes < 2 ^ 31 → IsClosedFor (file_of pages) pages
-file_closes [] some all small = absurd (some refl)
-file_closes (page ∷ pages) some all small = whole_closes (page ∷ pages) all small
+pub file_closes : (files : List NamedBytes) (fonts : Slots) (pages : List Page) → AreLoaded files fonts → pages ≢ [] → AllByRecursion (IsShipped fonts) pages
+    → length (draft_of fonts pages).bytes < 2 ^ 31 → IsClosedFor fonts (file_of fonts pages) pages
+file_closes files fonts [] loaded some all small = absurd (some refl)
+file_closes files fonts (page ∷ pages) loaded some all small = whole_closes files fonts (page ∷ pages) loaded all small

@@ -5,6 +5,7 @@ use Rattle.std.proofs.lemmas.List.{nil_from_length}
 use Rattle.job_core.specs.declared.command.Refusal.TheVariants.{OutOfMemory, Device, JobOver, ListsOpen}
 use Rattle.job_core.specs.declared.command.Summary.{Summary}
 use Rattle.job_core.specs.Told.{grown, GrowsByFront, IsFrontOf}
+use Rattle.job_core.specs.FontSlots.{Slots}
 use Rattle.job_core.specs.Marks.{Page}
 use Rattle.job_core.specs.Machine.{State, Machine, first_of, stopped}
 use Rattle.job_core.specs.Draft.{draft_of, whole, file_of}
@@ -72,15 +73,18 @@ losing old new may some goes fails m holds =
     (stopped m, LostDevice refl (accepted old m holds may) (some_pages old m holds some) refl fails, stops old new m holds goes)
 
 -- The file of some pages is the whole of their draft.
-file-is : (pages : List Page) → pages ≢ [] → file_of pages ≡ whole (draft_of pages) (length pages)
-file-is [] some = absurd (some refl)
-file-is (page ∷ pages) some = refl
+file-is : (fonts : Slots) (pages : List Page) → pages ≢ [] → file_of fonts pages ≡ whole fonts (draft_of fonts pages) (length pages)
+file-is fonts [] some = absurd (some refl)
+file-is fonts (page ∷ pages) some = refl
 
-whole-is : (old : Seen) (m : Machine) → Holds old m → old.state.over ≡ false → old.state.pages ≢ 0 → whole old.draft old.state.pages ≡ file_of m.pages
+whole-is : (old : Seen) (m : Machine) → Holds old m → old.state.over ≡ false → old.state.pages ≢ 0 → whole old.state.fonts old.draft old.state.pages ≡ file_of m.state.fonts m.pages
 whole-is old m holds running some =
     let ran : m.state.over ≡ false = sym (ap (λ (s : State). s.over) holds.state) ∙ running in
     let count : old.state.pages ≡ length m.pages = ap (λ (s : State). s.pages) holds.state ∙ holds.count in
-    ap (λ d. whole d old.state.pages) (holds.draft ran) ∙ (ap (whole (draft_of m.pages)) count ∙ sym (file-is m.pages (some_pages old m holds some)))
+    let fonts : old.state.fonts ≡ m.state.fonts = ap (λ (s : State). s.fonts) holds.state in
+    ap (λ fonts. whole fonts old.draft old.state.pages) fonts
+    ∙ (ap (λ d. whole m.state.fonts d old.state.pages) (holds.draft ran)
+    ∙ (ap (whole m.state.fonts (draft_of m.state.fonts m.pages)) count ∙ sym (file-is m.state.fonts m.pages (some_pages old m holds some))))
 
 told_all : (old new : Option (List ℕ)) (more file : List ℕ) → IfSome old (λ bytes. bytes ≡ []) → new ≡ grown old more → more ≡ file → IfSome new (λ bytes. bytes ≡ file)
 told_all None new more file empty is same = rw is tt
@@ -92,9 +96,9 @@ empty_told old m holds running = holds.told (sym (ap (λ (s : State). s.over) ho
 -- What the device tells after the end, where it took all.
 pub filed :
     (old new : Seen) (m : Machine) → Holds old m → old.state.over ≡ false → old.state.pages ≢ 0
-    → new.told ≡ grown old.told (whole old.draft old.state.pages) → IfSome new.told (λ bytes. bytes ≡ file_of m.pages)
+    → new.told ≡ grown old.told (whole old.state.fonts old.draft old.state.pages) → IfSome new.told (λ bytes. bytes ≡ file_of m.state.fonts m.pages)
 filed old new m holds running some told =
-    told_all old.told new.told (whole old.draft old.state.pages) (file_of m.pages) (empty_told old m holds running) told (whole-is old m holds running some)
+    told_all old.told new.told (whole old.state.fonts old.draft old.state.pages) (file_of m.state.fonts m.pages) (empty_told old m holds running) told (whole-is old m holds running some)
 
 told_front : (old new : Option (List ℕ)) (n : ℕ) (more file : List ℕ) → IfSome old (λ bytes. bytes ≡ []) → new ≡ grown old (take n more) → more ≡ file → IfSome new (λ bytes. IsFrontOf bytes file)
 told_front None new n more file empty is same = rw is tt
@@ -103,9 +107,9 @@ told_front (Some told) new n more file empty is same = rw is (n, ap (λ bytes. b
 -- And where it did not.
 pub fronted :
     (old new : Seen) (m : Machine) → Holds old m → old.state.over ≡ false → old.state.pages ≢ 0
-    → GrowsByFront old.told new.told (whole old.draft old.state.pages) → IfSome new.told (λ bytes. IsFrontOf bytes (file_of m.pages))
+    → GrowsByFront old.told new.told (whole old.state.fonts old.draft old.state.pages) → IfSome new.told (λ bytes. IsFrontOf bytes (file_of m.state.fonts m.pages))
 fronted old new m holds running some grows =
-    told_front old.told new.told grows.0 (whole old.draft old.state.pages) (file_of m.pages) (empty_told old m holds running) grows.2 (whole-is old m holds running some)
+    told_front old.told new.told grows.0 (whole old.state.fonts old.draft old.state.pages) (file_of m.state.fonts m.pages) (empty_told old m holds running) grows.2 (whole-is old m holds running some)
 
 -- The number of bytes that the device took.
 pub sized :
@@ -118,7 +122,7 @@ sized old new m more holds running told = sized_from old.told new.told more (emp
     sized_from (Some told) new more empty is = rw is (ap (λ bytes. length (bytes ++ more)) (sym empty))
 
 -- Without pages there is no file.
-pub unfiled : (old : Seen) (m : Machine) → Holds old m → old.state.over ≡ false → old.state.pages ≡ 0 → IfSome old.told (λ bytes. bytes ≡ file_of m.pages)
+pub unfiled : (old : Seen) (m : Machine) → Holds old m → old.state.over ≡ false → old.state.pages ≡ 0 → IfSome old.told (λ bytes. bytes ≡ file_of m.state.fonts m.pages)
 unfiled old m holds running none =
     let no_pages : m.pages ≡ [] = nil_from_length m.pages (sym holds.count ∙ (sym (ap (λ (s : State). s.pages) holds.state) ∙ none)) in
     rw no_pages (empty_told old m holds running)

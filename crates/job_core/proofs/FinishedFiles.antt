@@ -8,7 +8,8 @@ use Rattle.job_core.specs.Machine.{State, Machine}
 use Rattle.job_core.specs.Draft.{Draft, draft_of, file_of, whole}
 use Rattle.job_core.specs.Runs.{Seen, Holds}
 use Rattle.job_core.specs.Room.{HasRoom}
-use Rattle.job_core.specs.Shown.{IsFileOf}
+use Rattle.job_core.specs.Loaded.{AreLoaded}
+use Rattle.job_core.specs.Shown.{GivesFiles, IsFileOf}
 use Rattle.job_core.specs.Closing.{IsClosedFor}
 use Rattle.job_core.proofs.Moves.{small_enough}
 use Rattle.job_core.proofs.Endings.{filed, unfiled}
@@ -21,32 +22,35 @@ told_is None file P is holds = tt
 told_is (Some bytes) file P is holds = subst P (sym is) holds
 
 -- The draft of the machine's pages is short, where there is room.
-short : (old : Seen) (m : Machine) → Holds old m → old.state.over ≡ false → HasRoom old.state old.draft → length (draft_of m.pages).bytes < 2 ^ 31
+short : (old : Seen) (m : Machine) → Holds old m → old.state.over ≡ false → HasRoom old.state old.draft → length (draft_of m.state.fonts m.pages).bytes < 2 ^ 31
 short old m holds running room =
     let ran : m.state.over ≡ false = sym (ap (λ (s : State). s.over) holds.state) ∙ running in
     subst (λ (d : Draft). length d.bytes < 2 ^ 31) (holds.draft ran) (small_enough old.state old.draft room)
 
+loaded : (old : Seen) (m : Machine) → Holds old m → HasRoom old.state old.draft → AreLoaded m.state.files m.state.fonts
+loaded old m holds room = subst (λ (s : State). AreLoaded s.files s.fonts) holds.state room.fonts
+
 -- Where all was taken, it is a DVI file of the pages.
 pub filed_pages :
-    (old : Seen) (new : Option (List ℕ)) (m : Machine) (metrics : Metrics) → Holds old m → old.state.over ≡ false → HasRoom old.state old.draft
-    → old.state.pages ≢ 0 → new ≡ grown old.told (whole old.draft old.state.pages) → IfSome new (λ bytes. IsFileOf metrics bytes m.pages)
-filed_pages old new m metrics holds running room some told =
-    told_is new (file_of m.pages) (λ bytes. IsFileOf metrics bytes m.pages) (filed old (record old { told = new }) m holds running some told) (file_shows metrics m.pages holds.pages (short old m holds running room))
+    (old : Seen) (new : Option (List ℕ)) (m : Machine) (metrics : Metrics) → Holds old m → GivesFiles metrics m.state.files → old.state.over ≡ false → HasRoom old.state old.draft
+    → old.state.pages ≢ 0 → new ≡ grown old.told (whole old.state.fonts old.draft old.state.pages) → IfSome new (λ bytes. IsFileOf metrics bytes m.pages)
+filed_pages old new m metrics holds gives running room some told =
+    told_is new (file_of m.state.fonts m.pages) (λ bytes. IsFileOf metrics bytes m.pages) (filed old (record old { told = new }) m holds running some told) (file_shows metrics m.state.files m.state.fonts m.pages gives (loaded old m holds room) holds.pages (short old m holds running room))
 
 -- Where there are no pages, nothing was taken.
 pub filed_none :
-    (old : Seen) (m : Machine) (metrics : Metrics) → Holds old m → old.state.over ≡ false → HasRoom old.state old.draft → old.state.pages ≡ 0
+    (old : Seen) (m : Machine) (metrics : Metrics) → Holds old m → GivesFiles metrics m.state.files → old.state.over ≡ false → HasRoom old.state old.draft → old.state.pages ≡ 0
     → IfSome old.told (λ bytes. IsFileOf metrics bytes m.pages)
-filed_none old m metrics holds running room none =
-    told_is old.told (file_of m.pages) (λ bytes. IsFileOf metrics bytes m.pages) (unfiled old m holds running none) (file_shows metrics m.pages holds.pages (short old m holds running room))
+filed_none old m metrics holds gives running room none =
+    told_is old.told (file_of m.state.fonts m.pages) (λ bytes. IsFileOf metrics bytes m.pages) (unfiled old m holds running none) (file_shows metrics m.state.files m.state.fonts m.pages gives (loaded old m holds room) holds.pages (short old m holds running room))
 
 -- Where all was taken, it ends as the file of the pages does.
 pub filed_end :
     (old : Seen) (new : Option (List ℕ)) (m : Machine) → Holds old m → old.state.over ≡ false → HasRoom old.state old.draft
-    → old.state.pages ≢ 0 → new ≡ grown old.told (whole old.draft old.state.pages) → m.pages ≢ [] → IfSome new (λ bytes. IsClosedFor bytes m.pages)
+    → old.state.pages ≢ 0 → new ≡ grown old.told (whole old.state.fonts old.draft old.state.pages) → m.pages ≢ [] → IfSome new (λ bytes. IsClosedFor m.state.fonts bytes m.pages)
 filed_end old new m holds running room some told pages =
-    told_is new (file_of m.pages) (λ bytes. IsClosedFor bytes m.pages) (filed old (record old { told = new }) m holds running some told)
-    (file_closes m.pages pages holds.pages (short old m holds running room))
+    told_is new (file_of m.state.fonts m.pages) (λ bytes. IsClosedFor m.state.fonts bytes m.pages) (filed old (record old { told = new }) m holds running some told)
+    (file_closes m.state.files m.state.fonts m.pages (loaded old m holds room) pages holds.pages (short old m holds running room))
 
 -- A machine without pages has none.
 pub no_pages : (old : Seen) (m : Machine) → Holds old m → old.state.pages ≡ 0 → m.pages ≡ []

@@ -12,4 +12,11 @@ pub mod FileLaws
 pub mod FinishedFiles
 pub mod ClosedFiles
 pub mod WholeRuns
-pub mod Plainness
+pub mod FreshFonts
+pub mod DefinedFonts
+pub mod PageFonts
+pub mod DrawnPages
+pub mod DrawnBytes
+pub mod SizedGlyphs
+pub mod LoadedFonts
+pub mod MeasuredPages

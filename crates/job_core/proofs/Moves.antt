@@ -1,31 +1,42 @@
 -- How a job and the machine that it stands for move together.
-use Rattle.std.proofs.Common.{◌≡◌, ℕ, ◌+◌, ◌<◌, ◌^◌, Bool, true, false, List, [], ◌∷◌, ◌++◌, length, length-append, Option, Some, None, Err, refl, ap, sym, ◌∙◌, subst, arith, lit≤}
-use Rattle.std.specs.Prelude.{nat_le, nat_lt, is_none, if◌then◌else◌}
+use Rattle.std.proofs.Common.{◌≡◌, ℕ, ◌+◌, ◌<◌, ◌^◌, Bool, true, false, List, [], ◌∷◌, ◌++◌, length, length-append, Option, Some, None, Err, refl, ap, ap₂, sym, ◌∙◌, subst, arith, lit≤}
+use Rattle.std.specs.Int.{int_max}
+use Rattle.std.specs.Prelude.{pos, nat_le, nat_lt, is_none, if◌then◌else◌, IfOk}
 use Rattle.std.specs.List.{AllByRecursion}
 use Rattle.std.proofs.lemmas.Bool.{leb-false, ltb-false}
 use Rattle.node_core.specs.declared.tree.BoxNode.{BoxNode}
-use Rattle.node_core.specs.Nodes.{box_count}
-use Rattle.dvi_ops.specs.Layout.{bytes_of, sheet_from}
+use Rattle.node_core.specs.Nodes.{nodes_of, box_count}
+use Rattle.tfm_core.specs.FileWidths.{file_widths}
+use Rattle.dvi_ops.specs.Instruction.{Definition}
+use Rattle.dvi_ops.specs.Forest.{flat}
+use Rattle.dvi_ops.specs.Layout.{bytes_of, define, sheet_from, table_widths}
+use Rattle.dvi_ops.proofs.Appends.{all_append, all_weaker}
 use Rattle.job_core.specs.declared.command.Command.{Command}
-use Rattle.job_core.specs.declared.command.Command.TheVariants.{OpenHbox, End, Rule, Kern, Measure, Void, Ship}
+use Rattle.job_core.specs.declared.command.Command.TheVariants.{LoadFont, UseFont, OpenHbox, End, Text, Character, Rule, Kern, Measure, Void, Ship}
 use Rattle.job_core.specs.declared.command.Refusal.{Refusal}
 use Rattle.job_core.specs.declared.command.Refusal.TheVariants.{OutOfMemory, JobOver, VoidBox, TooManyPages, TooMuchShipped, HugePage}
 use Rattle.job_core.specs.Reply.{Reply}
 use Rattle.tfm_core.specs.NamedBytes.{NamedBytes}
 use Rattle.dvi_ops.specs.Spelling.{spelling, operand}
 use Rattle.job_core.specs.Marks.{Page}
-use Rattle.job_core.specs.Machine.{State, Machine, checks, own_checks, first_of, reply_to, after, state_by, state_after, new_pages, pages_of, page_of, held_in, count_in, is_huge_in, step, most_shipped, most_pages, first_state}
-use Rattle.job_core.specs.Draft.{Draft, sheet_of, with_page, with_pages, first_draft, draft_of}
-use Rattle.job_core.specs.Runs.{TakesMemory, IsShipped, Seen, Steps, Replies, LacksMemory, Run, KeepsTo, RunsTo}
+use Rattle.job_core.specs.Machine.{State, Machine, checks, own_checks, first_of, reply_by, reply_to, answer_of, after, state_by, state_after, new_pages, pages_of, page_of, held_in, count_in, is_huge_in, step, most_shipped, most_pages, first_state}
+use Rattle.job_core.specs.Drawing.{body_of}
+use Rattle.job_core.specs.Draft.{Draft, definitions_of, fresh_slots, sheet_of, reach_down, reach_right, with_page, with_pages, first_draft, draft_of}
+use Rattle.job_core.specs.Runs.{TakesMemory, early_checks, draft_after, IsShipped, Seen, Holds, Steps, Replies, LacksMemory, Run, KeepsTo, RunsTo}
 use Rattle.job_core.specs.Room.{HasRoom}
-use Rattle.job_core.specs.Plain.{IsPlainHeld, IsPlain}
-use Rattle.job_core.proofs.Plainness.{plain_held, plain_after, plain_first}
+use Rattle.job_core.specs.FontSlots.{Slots}
+use Rattle.job_core.specs.Loaded.{AreLoaded, GivesNumbersFor}
+use Rattle.job_core.specs.Sized.{IsSizedHeld, HasSizedGlyphs}
+use Rattle.job_core.proofs.SizedGlyphs.{sized_first, sized_after, sized_held, stays_sized, stays_loaded}
+use Rattle.job_core.proofs.LoadedFonts.{loaded_first, loaded_after}
+use Rattle.job_core.proofs.DefinedFonts.{Extends, HasSelected, fresh_same, definitions_same, fresh_parts, among_fresh, defined_once, few_defined, none_rising}
+use Rattle.job_core.proofs.PageFonts.{table_of, short_names, has_selected, have_widths}
 use Rattle.job_core.proofs.PageBytes.{page_bytes}
 
 -- The draft of pages, and of more pages behind them.
-pub with_pages-append : (draft : Draft) (pages more : List Page) → with_pages draft (pages ++ more) ≡ with_pages (with_pages draft pages) more
-with_pages-append draft [] more = refl
-with_pages-append draft (page ∷ pages) more = with_pages-append (with_page draft page) pages more
+pub with_pages-append : (fonts : Slots) (draft : Draft) (pages more : List Page) → with_pages fonts draft (pages ++ more) ≡ with_pages fonts (with_pages fonts draft pages) more
+with_pages-append fonts draft [] more = refl
+with_pages-append fonts draft (page ∷ pages) more = with_pages-append fonts (with_page fonts draft page) pages more
 
 -- Where the first refusal of a list is none, no condition holds.
 all_fail :
@@ -55,8 +66,12 @@ admitted s r none =
 
 -- A command leaves it as it is whether the job is over.
 after-over : (s : State) (command : Command) → (after s command).over ≡ s.over
+after-over s (LoadFont load) = refl
+after-over s (UseFont slot) = refl
 after-over s (OpenHbox r) = refl
 after-over s End = refl
+after-over s (Text text) = refl
+after-over s (Character code) = refl
 after-over s (Rule rule) = refl
 after-over s (Kern width) = refl
 after-over s (Measure r) = refl
@@ -72,8 +87,12 @@ state_after-over s command = cases (first_of (checks s command))
 
 -- A command counts the pages that it adds.
 after-pages : (s : State) (command : Command) → first_of (checks s command) ≡ None → (after s command).pages ≡ s.pages + length (new_pages s command)
+after-pages s (LoadFont load) none = omega arith
+after-pages s (UseFont slot) none = omega arith
 after-pages s (OpenHbox r) none = omega arith
 after-pages s End none = omega arith
+after-pages s (Text text) none = omega arith
+after-pages s (Character code) none = omega arith
 after-pages s (Rule rule) none = omega arith
 after-pages s (Kern width) none = omega arith
 after-pages s (Measure r) none = omega arith
@@ -84,17 +103,44 @@ after-pages s (Ship r) none = cases (held_in s.registers r) (admitted s r none).
     cases None isnt = cc
     cases (Some b) isnt = refl
 
+-- More fonts leave the draft of pages as it is.
+sheet-same : (fonts more : Slots) (draft : Draft) (page : Page) → Extends fonts more → HasSelected fonts (flat (body_of page)) → with_page fonts draft page ≡ with_page more draft page
+unfolding with_page
+sheet-same fonts more draft page extends has =
+    let is = flat (body_of page) in
+    let slots = fresh_slots fonts draft.defined is in
+    let same = fresh_same fonts more draft.defined is extends has in
+    let defined : definitions_of fonts slots ≡ definitions_of more (fresh_slots more draft.defined is) =
+    definitions_same fonts more slots extends (λ s among. (fresh_parts fonts draft.defined is s (among_fresh fonts draft.defined is s among).0).0) ∙ ap (definitions_of more) same in
+    ap₂ (λ (ds : List Definition) (fresh : List ℕ). record {
+      bytes = draft.bytes ++ bytes_of (sheet_from draft.last (record { counts = page.counts; fresh = ds; body = body_of page }));
+      defined = draft.defined ++ fresh;
+      last = pos (length draft.bytes + length (bytes_of (define ds)));
+      tall = int_max draft.tall (reach_down page);
+      wide = int_max draft.wide (reach_right page);
+    }) defined same
+
+page_selects : (files : List NamedBytes) (fonts : Slots) (page : Page) → AreLoaded files fonts → IsShipped fonts page → HasSelected fonts (flat (body_of page))
+page_selects files fonts page loaded (is, small, sized) =
+    subst (λ p. HasSelected fonts (flat (body_of p))) (sym is) (has_selected files fonts loaded page.shown sized)
+
+pages-same : (files : List NamedBytes) (fonts more : Slots) (draft : Draft) (pages : List Page) → AreLoaded files fonts → Extends fonts more → AllByRecursion (IsShipped fonts) pages
+    → with_pages fonts draft pages ≡ with_pages more draft pages
+pages-same files fonts more draft [] loaded extends all = refl
+pages-same files fonts more draft (page ∷ pages) loaded extends (here, all) =
+    pages-same files fonts more (with_page fonts draft page) pages loaded extends all
+    ∙ ap (λ d. with_pages more d pages) (sheet-same fonts more draft page extends (page_selects files fonts page loaded here))
+
 -- The pages are those of the draft, and so are they behind a step.
-pub drafted :
-    (s : State) (command : Command) (pages : List Page)
-    → state_by (first_of (checks s command)) (draft_of pages) (with_pages (draft_of pages) (new_pages s command))
-    ≡ draft_of (state_by (first_of (checks s command)) pages (pages ++ new_pages s command))
-drafted s command pages = cases (first_of (checks s command))
-  where
-    cases : (refused : Option Refusal)
-        → state_by refused (draft_of pages) (with_pages (draft_of pages) (new_pages s command)) ≡ draft_of (state_by refused pages (pages ++ new_pages s command))
-    cases None = sym (with_pages-append first_draft pages (new_pages s command))
-    cases (Some refusal) = refl
+drafted :
+    (s : State) (command : Command) (pages : List Page) (refused : Option Refusal) → first_of (checks s command) ≡ refused → AreLoaded s.files s.fonts
+    → AllByRecursion (IsShipped s.fonts) (pages ++ new_pages s command)
+    → state_by refused (draft_of s.fonts pages) (with_pages s.fonts (draft_of s.fonts pages) (new_pages s command))
+    ≡ draft_of (state_by refused s (after s command)).fonts (state_by refused pages (pages ++ new_pages s command))
+drafted s command pages None is loaded all =
+    sym (with_pages-append s.fonts first_draft pages (new_pages s command))
+    ∙ pages-same s.files s.fonts (after s command).fonts first_draft (pages ++ new_pages s command) loaded (stays_loaded s command is) all
+drafted s command pages (Some refusal) is loaded all = refl
 
 counted :
     (s : State) (command : Command) (pages : List Page) (refused : Option Refusal) → first_of (checks s command) ≡ refused → s.pages ≡ length pages
@@ -102,28 +148,28 @@ counted :
 counted s command pages None is count = omega (arith, after-pages s command is, length-append pages (new_pages s command))
 counted s command pages (Some refusal) is count = count
 
-shipped_append : (a b : List Page) → AllByRecursion IsShipped a → AllByRecursion IsShipped b → AllByRecursion IsShipped (a ++ b)
-shipped_append [] b all more = more
-shipped_append (x ∷ a) b all more = (all.0, shipped_append a b all.1 more)
+shipped_in : (fonts : Slots) (held : Option BoxNode) → is_huge_in held ≡ false → IsSizedHeld fonts held → AllByRecursion (IsShipped fonts) (pages_of held)
+shipped_in fonts None small sized = tt
+shipped_in fonts (Some b) small sized = ((refl, small, sized), tt)
 
-shipped_in : (held : Option BoxNode) → is_huge_in held ≡ false → IsPlainHeld held → AllByRecursion IsShipped (pages_of held)
-shipped_in None small plain = tt
-shipped_in (Some b) small plain = ((refl, small, plain), tt)
-
-plain_in : (s : State) (r : ℕ) (held : Option BoxNode) → IsPlain s → held_in s.registers r ≡ held → IsPlainHeld held
-plain_in s r None plain is = tt
-plain_in s r (Some b) plain is = plain_held s r b plain is
+sized_in : (s : State) (r : ℕ) (held : Option BoxNode) → HasSizedGlyphs s → held_in s.registers r ≡ held → IsSizedHeld s.fonts held
+sized_in s r None sized is = tt
+sized_in s r (Some b) sized is = sized_held s r b sized is
 
 -- The pages that a command adds are those that ships make.
-new_shipped : (s : State) (command : Command) → first_of (checks s command) ≡ None → IsPlain s → AllByRecursion IsShipped (new_pages s command)
-new_shipped s (OpenHbox r) none plain = tt
-new_shipped s End none plain = tt
-new_shipped s (Rule rule) none plain = tt
-new_shipped s (Kern width) none plain = tt
-new_shipped s (Measure r) none plain = tt
-new_shipped s (Void r) none plain = tt
-new_shipped s (Ship r) none plain =
-    shipped_in (held_in s.registers r) (admitted s r none).small (plain_in s r (held_in s.registers r) plain refl)
+new_shipped : (s : State) (command : Command) → first_of (checks s command) ≡ None → HasSizedGlyphs s → AllByRecursion (IsShipped s.fonts) (new_pages s command)
+new_shipped s (LoadFont load) none sized = tt
+new_shipped s (UseFont slot) none sized = tt
+new_shipped s (OpenHbox r) none sized = tt
+new_shipped s End none sized = tt
+new_shipped s (Text text) none sized = tt
+new_shipped s (Character code) none sized = tt
+new_shipped s (Rule rule) none sized = tt
+new_shipped s (Kern width) none sized = tt
+new_shipped s (Measure r) none sized = tt
+new_shipped s (Void r) none sized = tt
+new_shipped s (Ship r) none sized =
+    shipped_in s.fonts (held_in s.registers r) (admitted s r none).small (sized_in s r (held_in s.registers r) sized refl)
 
 -- A job that is over accepts no command.
 runs_where : (s : State) (command : Command) → first_of (checks s command) ≡ None → s.over ≡ false
@@ -133,105 +179,181 @@ runs_where s command none = by_over s.over none
     by_over true none = cc
     by_over false none = refl
 
+-- What a job knows of its fonts and of its glyphs, until it is over.
+pub record KnowsFonts (s : State) : Type 0 where
+  pub fonts : AreLoaded s.files s.fonts
+  pub glyphs : HasSizedGlyphs s
+
+stays_shipped : (s : State) (command : Command) (pages : List Page) → first_of (checks s command) ≡ None → AllByRecursion (IsShipped s.fonts) pages → AllByRecursion (IsShipped (after s command).fonts) pages
+stays_shipped s command pages none all =
+    all_weaker (IsShipped s.fonts) (IsShipped (after s command).fonts) pages (λ page of. (of.0, of.1, stays_sized s command none (nodes_of page.shown.list) of.2)) all
+
 all_shipped :
-    (s : State) (command : Command) (pages : List Page) (refused : Option Refusal) → first_of (checks s command) ≡ refused → (s.over ≡ false → IsPlain s)
-    → AllByRecursion IsShipped pages → AllByRecursion IsShipped (state_by refused pages (pages ++ new_pages s command))
-all_shipped s command pages None is plain all =
-    shipped_append pages (new_pages s command) all (new_shipped s command is (plain (runs_where s command is)))
-all_shipped s command pages (Some refusal) is plain all = all
+    (s : State) (command : Command) (pages : List Page) (refused : Option Refusal) → first_of (checks s command) ≡ refused → (s.over ≡ false → KnowsFonts s)
+    → AllByRecursion (IsShipped s.fonts) pages → AllByRecursion (IsShipped (state_by refused s (after s command)).fonts) (state_by refused pages (pages ++ new_pages s command))
+all_shipped s command pages None is knows all =
+    stays_shipped s command (pages ++ new_pages s command) is
+    (all_append (IsShipped s.fonts) pages (new_pages s command) all (new_shipped s command is (knows (runs_where s command is)).glyphs))
+all_shipped s command pages (Some refusal) is knows all = all
+
+-- The draft of a machine's pages behind a command.
+goes_on :
+    (s : State) (command : Command) (pages : List Page) (refused : Option Refusal) → first_of (checks s command) ≡ refused → s.over ≡ false → KnowsFonts s
+    → AllByRecursion (IsShipped s.fonts) pages
+    → state_by refused (draft_of s.fonts pages) (with_pages s.fonts (draft_of s.fonts pages) (new_pages s command))
+    ≡ draft_of (state_by refused s (after s command)).fonts (state_by refused pages (pages ++ new_pages s command))
+goes_on s command pages None is running knows all =
+    drafted s command pages None is knows.fonts (all_append (IsShipped s.fonts) pages (new_pages s command) all (new_shipped s command is knows.glyphs))
+goes_on s command pages (Some refusal) is running knows all = refl
 
 -- A job that replies as the table says keeps to the machine.
 pub replied :
     (old new : Seen) (command : Command) (reply : Reply)
     → reply ≡ reply_to old.state command
     → new.state ≡ state_after old.state command
-    → (old.state.over ≡ false → new.draft ≡ state_by (first_of (checks old.state command)) old.draft (with_pages old.draft (new_pages old.state command)))
+    → (old.state.over ≡ false → new.draft ≡ draft_after old.state old.draft command)
     → new.told ≡ old.told
     → new.failed ≡ old.failed
-    → (old.state.over ≡ false → IsPlain old.state)
+    → (old.state.over ≡ false → KnowsFonts old.state)
     → KeepsTo old command reply new
-replied old new command reply says goes drafts tells fails plain m holds = (
+replied old new command reply says goes drafts tells fails knows m holds = (
   step m command,
   Replies (says ∙ ap (λ s. reply_to s command) holds.state) refl fails,
   record {
     state = goes ∙ ap (λ s. state_after s command) holds.state;
     count = counted m.state command m.pages (first_of (checks m.state command)) refl holds.count;
-    pages = all_shipped m.state command m.pages (first_of (checks m.state command)) refl (subst (λ (s : State). s.over ≡ false → IsPlain s) holds.state plain) holds.pages;
+    pages = all_shipped m.state command m.pages (first_of (checks m.state command)) refl (known old m holds knows) holds.pages;
     draft = λ running.
         let ran : m.state.over ≡ false = sym (state_after-over m.state command) ∙ running in
         drafts (ap (λ (s : State). s.over) holds.state ∙ ran)
-        ∙ (ap (λ s. state_by (first_of (checks s command)) old.draft (with_pages old.draft (new_pages s command))) holds.state
-        ∙ (ap (λ d. state_by (first_of (checks m.state command)) d (with_pages d (new_pages m.state command))) (holds.draft ran)
-        ∙ drafted m.state command m.pages));
+        ∙ (ap (λ s. draft_after s old.draft command) holds.state
+        ∙ (ap (λ d. draft_after m.state d command) (holds.draft ran)
+        ∙ goes_on m.state command m.pages (first_of (checks m.state command)) refl ran (known old m holds knows ran) holds.pages));
     told = λ running. let ran : m.state.over ≡ false = sym (state_after-over m.state command) ∙ running in rw tells (holds.told ran);
   },
 )
+  where
+    known : (old : Seen) (m : Machine) → Holds old m → (old.state.over ≡ false → KnowsFonts old.state) → m.state.over ≡ false → KnowsFonts m.state
+    known old m holds knows = subst (λ (s : State). s.over ≡ false → KnowsFonts s) holds.state knows
 
 -- A job that wants memory for a command that is accepted keeps to the machine.
 pub lacking :
     (old : Seen) (command : Command) (reply : Reply)
     → reply ≡ Err OutOfMemory
     → TakesMemory command
-    → first_of (checks old.state command) ≡ None
+    → first_of (early_checks old.state command) ≡ None
     → KeepsTo old command reply old
 lacking old command reply says takes accepted m holds =
-    (m, LacksMemory says takes (sym (ap (λ s. first_of (checks s command)) holds.state) ∙ accepted) refl refl, holds)
+    (m, LacksMemory says takes (sym (ap (λ s. first_of (early_checks s command)) holds.state) ∙ accepted) refl refl, holds)
+
+-- What a job knows of its fonts behind a command.
+knows_after : (s : State) (command : Command) → first_of (checks s command) ≡ None → GivesNumbersFor s command → AreLoaded s.files s.fonts → HasSizedGlyphs s
+    → AreLoaded (after s command).files (after s command).fonts × HasSizedGlyphs (after s command)
+knows_after s command none numbers loaded sized = (loaded_after s command none numbers loaded, sized_after s command none sized)
 
 -- A command that is no ship changes no number of the room, and adds no page.
-steady_room : (s : State) (draft : Draft) (command : Command) (refused : Option Refusal)
+steady_room : (s : State) (draft : Draft) (command : Command) (refused : Option Refusal) → first_of (checks s command) ≡ refused
+    → (refused ≡ None → GivesNumbersFor s command)
     → (after s command).shipped ≡ s.shipped → (after s command).pages ≡ s.pages → new_pages s command ≡ []
-    → HasRoom s draft → HasRoom (state_by refused s (after s command)) (state_by refused draft (with_pages draft (new_pages s command)))
-steady_room s draft command (Some refusal) nodes pages none room = room
-steady_room s draft command None nodes pages none room =
+    → HasRoom s draft → HasRoom (state_by refused s (after s command)) (state_by refused draft (with_pages s.fonts draft (new_pages s command)))
+steady_room s draft command (Some refusal) is numbers nodes pages none room = room
+steady_room s draft command None is numbers nodes pages none room =
+    let knows = knows_after s command is (numbers refl) room.fonts room.glyphs in
     rw none (record {
       nodes = omega (arith, nodes, room.nodes);
       pages = omega (arith, pages, room.pages);
-      plain = plain_after s command room.plain;
+      fonts = knows.0;
+      glyphs = knows.1;
+      defined = room.defined;
       bytes = omega (arith, nodes, pages, room.bytes);
     })
 
-shipped_room : (s : State) (draft : Draft) (r : ℕ) (held : Option BoxNode) → held_in s.registers r ≡ held → Admits s r → HasRoom s draft
-    → HasRoom (after s (Ship r)) (with_pages draft (pages_of held))
+shipped_room : (s : State) (draft : Draft) (r : ℕ) (held : Option BoxNode) → first_of (checks s (Ship r)) ≡ None → held_in s.registers r ≡ held → Admits s r → HasRoom s draft
+    → HasRoom (after s (Ship r)) (with_pages s.fonts draft (pages_of held))
 unfolding with_page
-shipped_room s draft r None is admits room = absurd (never (ap is_none is) admits.held)
+shipped_room s draft r None none is admits room = absurd (never (ap is_none is) admits.held)
   where
     never : {b : Bool} → b ≡ true → b ≡ false → ⊥
     never t f = cc
-shipped_room s draft r (Some b) is admits room =
+shipped_room s draft r (Some b) none is admits room =
     let count : count_in (held_in s.registers r) ≡ box_count b = ap count_in is in
     let nodes = ltb-false most_shipped (s.shipped + count_in (held_in s.registers r)) admits.nodes in
     let pages = leb-false most_pages s.pages admits.pages in
+    let knows = knows_after s (Ship r) none tt room.fonts room.glyphs in
+    let widths = have_widths s.files s.fonts room.fonts (file_widths s.files) (λ name size widths e. e) (nodes_of b.list) (sized_held s r b room.glyphs is) in
+    let fresh = fresh_slots s.fonts draft.defined (flat (body_of (page_of b))) in
     record {
       nodes = omega (arith, nodes);
       pages = omega (arith, pages);
-      plain = plain_after s (Ship r) room.plain;
-      bytes = omega (arith, count, room.bytes, length-append draft.bytes (bytes_of (sheet_from draft.last (sheet_of (page_of b)))), page_bytes b draft.last);
+      fonts = knows.0;
+      glyphs = knows.1;
+      defined = defined_once s.fonts draft.defined (flat (body_of (page_of b))) room.defined;
+      bytes =
+          omega (
+            arith,
+            count,
+            room.bytes,
+            length-append draft.bytes (bytes_of (sheet_from draft.last (sheet_of s.fonts draft.defined (page_of b)))),
+            length-append draft.defined fresh,
+            page_bytes (table_widths (file_widths s.files) (table_of s.fonts)) s.fonts draft.defined b draft.last (short_names s.files s.fonts room.fonts) widths,
+          );
     }
 
+-- A command that is accepted gives its numbers.
+pub numbered : (s : State) (command : Command) (reply : Reply) → reply ≡ reply_to s command → IfOk reply (λ answer. GivesNumbersFor s command)
+    → first_of (checks s command) ≡ None → GivesNumbersFor s command
+numbered s command reply says numbers none =
+    subst (λ (r : Reply). IfOk r (λ answer. GivesNumbersFor s command)) (says ∙ ap (λ refused. reply_by refused (answer_of s command)) none) numbers
+
 -- There is room behind each step.
-pub roomy : (s : State) (draft : Draft) (command : Command) → HasRoom s draft
-    → HasRoom (state_after s command) (state_by (first_of (checks s command)) draft (with_pages draft (new_pages s command)))
-roomy s draft (OpenHbox r) room = steady_room s draft (OpenHbox r) (first_of (checks s (OpenHbox r))) refl refl refl room
-roomy s draft End room = steady_room s draft End (first_of (checks s End)) refl refl refl room
-roomy s draft (Rule rule) room = steady_room s draft (Rule rule) (first_of (checks s (Rule rule))) refl refl refl room
-roomy s draft (Kern width) room = steady_room s draft (Kern width) (first_of (checks s (Kern width))) refl refl refl room
-roomy s draft (Measure r) room = steady_room s draft (Measure r) (first_of (checks s (Measure r))) refl refl refl room
-roomy s draft (Void r) room = steady_room s draft (Void r) (first_of (checks s (Void r))) refl refl refl room
-roomy s draft (Ship r) room = cases (first_of (checks s (Ship r))) refl
+pub roomy : (s : State) (draft : Draft) (command : Command) → (first_of (checks s command) ≡ None → GivesNumbersFor s command) → HasRoom s draft
+    → HasRoom (state_after s command) (draft_after s draft command)
+roomy s draft (LoadFont load) numbers room = steady_room s draft (LoadFont load) (first_of (checks s (LoadFont load))) refl numbers refl refl refl room
+roomy s draft (UseFont slot) numbers room = steady_room s draft (UseFont slot) (first_of (checks s (UseFont slot))) refl numbers refl refl refl room
+roomy s draft (OpenHbox r) numbers room = steady_room s draft (OpenHbox r) (first_of (checks s (OpenHbox r))) refl numbers refl refl refl room
+roomy s draft End numbers room = steady_room s draft End (first_of (checks s End)) refl numbers refl refl refl room
+roomy s draft (Text text) numbers room = steady_room s draft (Text text) (first_of (checks s (Text text))) refl numbers refl refl refl room
+roomy s draft (Character code) numbers room = steady_room s draft (Character code) (first_of (checks s (Character code))) refl numbers refl refl refl room
+roomy s draft (Rule rule) numbers room = steady_room s draft (Rule rule) (first_of (checks s (Rule rule))) refl numbers refl refl refl room
+roomy s draft (Kern width) numbers room = steady_room s draft (Kern width) (first_of (checks s (Kern width))) refl numbers refl refl refl room
+roomy s draft (Measure r) numbers room = steady_room s draft (Measure r) (first_of (checks s (Measure r))) refl numbers refl refl refl room
+roomy s draft (Void r) numbers room = steady_room s draft (Void r) (first_of (checks s (Void r))) refl numbers refl refl refl room
+roomy s draft (Ship r) numbers room = cases (first_of (checks s (Ship r))) refl
   where
     cases : (refused : Option Refusal) → first_of (checks s (Ship r)) ≡ refused
-        → HasRoom (state_by refused s (after s (Ship r))) (state_by refused draft (with_pages draft (new_pages s (Ship r))))
-    cases None is = shipped_room s draft r (held_in s.registers r) refl (admitted s r is) room
+        → HasRoom (state_by refused s (after s (Ship r))) (state_by refused draft (with_pages s.fonts draft (new_pages s (Ship r))))
+    cases None is = shipped_room s draft r (held_in s.registers r) is refl (admitted s r is) room
     cases (Some refusal) is = room
 
--- There is room for a page and the end: every place is below 2^31.
+-- Every place in the draft is below 2^31.
 pub small_enough : (s : State) (draft : Draft) → HasRoom s draft → length draft.bytes < 2 ^ 31
-small_enough s draft room = omega (arith, room.nodes, room.pages, room.bytes)
+small_enough s draft room = omega (arith, room.nodes, room.pages, room.bytes, few_defined draft.defined room.defined)
+
+-- A command that adds no page leaves the draft.
+steady_bytes : (s : State) (draft : Draft) (command : Command) (refused : Option Refusal) → new_pages s command ≡ [] → HasRoom s draft
+    → length (state_by refused draft (with_pages s.fonts draft (new_pages s command))).bytes < 2 ^ 31
+steady_bytes s draft command None none room = rw none (small_enough s draft room)
+steady_bytes s draft command (Some refusal) none room = small_enough s draft room
+
+-- So it is behind a command, whether it loads a font or not.
+pub small_after : (s : State) (draft : Draft) (command : Command) → HasRoom s draft → length (draft_after s draft command).bytes < 2 ^ 31
+small_after s draft (Ship r) room = small_enough (state_after s (Ship r)) (draft_after s draft (Ship r)) (roomy s draft (Ship r) (λ none. tt) room)
+small_after s draft (LoadFont load) room = steady_bytes s draft (LoadFont load) (first_of (checks s (LoadFont load))) refl room
+small_after s draft (UseFont slot) room = steady_bytes s draft (UseFont slot) (first_of (checks s (UseFont slot))) refl room
+small_after s draft (OpenHbox r) room = steady_bytes s draft (OpenHbox r) (first_of (checks s (OpenHbox r))) refl room
+small_after s draft End room = steady_bytes s draft End (first_of (checks s End)) refl room
+small_after s draft (Text text) room = steady_bytes s draft (Text text) (first_of (checks s (Text text))) refl room
+small_after s draft (Character code) room = steady_bytes s draft (Character code) (first_of (checks s (Character code))) refl room
+small_after s draft (Rule rule) room = steady_bytes s draft (Rule rule) (first_of (checks s (Rule rule))) refl room
+small_after s draft (Kern width) room = steady_bytes s draft (Kern width) (first_of (checks s (Kern width))) refl room
+small_after s draft (Measure r) room = steady_bytes s draft (Measure r) (first_of (checks s (Measure r))) refl room
+small_after s draft (Void r) room = steady_bytes s draft (Void r) (first_of (checks s (Void r))) refl room
 
 -- There is room in a new job.
 pub first_room : (files : List NamedBytes) → HasRoom (first_state files) first_draft
 unfolding spelling operand
-first_room files = record { nodes = omega arith; pages = omega arith; plain = plain_first files; bytes = lit≤ tt }
+first_room files =
+    record { nodes = omega arith; pages = omega arith; fonts = loaded_first files; glyphs = sized_first files; defined = none_rising; bytes = lit≤ tt }
 
 -- A run of one command more.
 pub run_more :

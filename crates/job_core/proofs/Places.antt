@@ -1,17 +1,17 @@
 -- The items of a list, gone over one by one: what stands behind the first ones.
 use Rattle.std.proofs.Common.{◌≡◌, ℕ, suc, ◌+◌, ◌<◌, List, [], ◌∷◌, ◌++◌, length, take, drop, get_or, refl, ap, sym, ◌∙◌, add-one, drop-cons}
 use Rattle.std.proofs.lemmas.List.{take_more}
-use Rattle.std.specs.Prelude.{ℤ, pos, ◌+ℤ◌, Bool, true, false, not, ◌&&◌}
+use Rattle.std.specs.Prelude.{ℤ, pos, ◌+ℤ◌, Bool, true, false, not, ◌&&◌, None}
 use Rattle.std.specs.List.{list_all}
 use Rattle.std.proofs.lemmas.List.Folds.{list_all-append}
 use Rattle.node_core.specs.declared.tree.Node.{Node}
 use Rattle.node_core.specs.declared.tree.BoxNode.{BoxNode}
 use Rattle.job_core.specs.Packing.{fits, total, advance}
-use Rattle.job_core.specs.Marks.{mark_of, marks_behind, numbers_of, numbers_behind, is_huge, marks_of_box}
+use Rattle.job_core.specs.Marks.{numbers_of, numbers_behind, is_huge}
 use Rattle.dvi_ops.specs.Forest.{flat}
 use Rattle.node_core.specs.Nodes.{nodes_of}
 use Rattle.job_core.specs.Machine.{page_of}
-use Rattle.job_core.specs.Drawing.{drawn, body_of}
+use Rattle.job_core.specs.Drawing.{strokes_of, strokes_behind, drawn, body_of}
 
 -- What is left from place i on is the item there and what is left behind it.
 pub left_at : (xs : List Node) (i : ℕ) (x : Node) → i < length xs → x ≡ get_or xs i x → drop i xs ≡ x ∷ drop (i + 1) xs
@@ -21,13 +21,13 @@ left_at xs i x within is = rw (add-one, drop-cons xs i x) (ap (λ y. y ∷ drop 
 pub taken_at : (xs : List Node) (i : ℕ) (x : Node) → i < length xs → x ≡ get_or xs i x → take i xs ++ x ∷ [] ≡ take (i + 1) xs
 taken_at xs i x within is = sym (take_more xs i x within ∙ ap (λ y. take i xs ++ y ∷ []) (sym is))
 
-pub marks_more :
+pub strokes_more :
     (b : BoxNode) (h v : ℤ) (xs : List Node) (i : ℕ) (x : Node) → i < length xs → x ≡ get_or xs i x
-    → marks_behind b h v (take i xs) (drop i xs)
-    ≡ mark_of b (h +ℤ total advance (take i xs)) v x ++ marks_behind b h v (take (i + 1) xs) (drop (i + 1) xs)
-marks_more b h v xs i x within is =
-    ap (marks_behind b h v (take i xs)) (left_at xs i x within is)
-    ∙ ap (λ before. mark_of b (h +ℤ total advance (take i xs)) v x ++ marks_behind b h v before (drop (i + 1) xs)) (taken_at xs i x within is)
+    → strokes_behind b h v (take i xs) (drop i xs)
+    ≡ strokes_of b (h +ℤ total advance (take i xs)) v x ++ strokes_behind b h v (take (i + 1) xs) (drop (i + 1) xs)
+strokes_more b h v xs i x within is =
+    ap (strokes_behind b h v (take i xs)) (left_at xs i x within is)
+    ∙ ap (λ before. strokes_of b (h +ℤ total advance (take i xs)) v x ++ strokes_behind b h v before (drop (i + 1) xs)) (taken_at xs i x within is)
 
 pub numbers_more :
     (b : BoxNode) (h v : ℤ) (xs : List Node) (i : ℕ) (x : Node) → i < length xs → x ≡ get_or xs i x
@@ -65,9 +65,9 @@ pub fitting : (b : BoxNode) → is_huge (page_of b) ≡ false → list_all fits 
 unfolding is_huge
 fitting b e = last_of_three _ _ _ e
 
--- The body of a page draws the marks of its box.
-pub body-is : (b : BoxNode) → flat (body_of (page_of b)) ≡ flat (drawn (pos 0) (pos 0) (marks_behind b (pos 0) b.height [] (nodes_of b.list)))
-unfolding body_of marks_of_box
+-- The body of a page draws the strokes of its box.
+pub body-is : (b : BoxNode) → flat (body_of (page_of b)) ≡ flat (drawn (pos 0) (pos 0) None (strokes_behind b (pos 0) b.height [] (nodes_of b.list)))
+unfolding body_of
 body-is b = refl
 
 pub first_of_three : (a b c : Bool) → not (a && (b && c)) ≡ false → a ≡ true

@@ -1,15 +1,21 @@
 -- What a step of the machine can reply, and what a machine that is over does.
-use Rattle.std.proofs.Common.{◌≡◌, ◌≢◌, ℕ, ◌<◌, Bool, true, false, List, [], ◌∷◌, Option, Some, None, Result, Err, refl, ap, sym, ◌∙◌}
+use Rattle.std.proofs.Common.{◌≡◌, ◌≢◌, ℕ, ◌<◌, ℤ, Bool, cond, true, false, List, [], ◌∷◌, Option, Some, None, Result, Ok, Err, refl, ap, sym, ◌∙◌}
 use Rattle.std.specs.List.{AllByRecursion}
+use Rattle.tfm_core.specs.declared.fault.TfmCause.{TfmCause}
+use Rattle.tfm_core.specs.NamedBytes.{NamedBytes, file_named}
+use Rattle.tfm_core.specs.MetricFile.{MetricFile}
+use Rattle.tfm_core.specs.Rules.{metric_file}
+use Rattle.tfm_core.specs.Fonts.{SizedFont, chosen_size, fits_at, font_at}
+use Rattle.job_core.specs.FontSlots.{font_of, sized_font}
 use Rattle.job_core.specs.declared.command.Command.{Command}
-use Rattle.job_core.specs.declared.command.Command.TheVariants.{OpenHbox, End, Rule, Kern, Measure, Void, Ship}
+use Rattle.job_core.specs.declared.command.Command.TheVariants.{LoadFont, UseFont, OpenHbox, End, Text, Character, Rule, Kern, Measure, Void, Ship}
 use Rattle.job_core.specs.declared.command.Answer.{Answer}
 use Rattle.job_core.specs.declared.command.Refusal.{Refusal}
-use Rattle.job_core.specs.declared.command.Refusal.TheVariants.{OutOfMemory, Device, JobOver, ListsOpen}
+use Rattle.job_core.specs.declared.command.Refusal.TheVariants.{OutOfMemory, DimensionTooLarge, NoFont, BadTfm, Device, JobOver, ListsOpen}
 use Rattle.job_core.specs.declared.command.Summary.{Summary}
 use Rattle.job_core.specs.Reply.{Reply}
-use Rattle.job_core.specs.Machine.{State, Machine, checks, first_of, reply_by, reply_to, answer_of, step}
-use Rattle.job_core.specs.Runs.{finish_checks, Finishes, Finished, Refuses, WantsMemory, LostDevice, TakesMemory, Steps, Replies, LacksMemory, LosesDevice, Run}
+use Rattle.job_core.specs.Machine.{State, Machine, checks, first_of, refusal_in, reply_by, reply_to, answer_of, step}
+use Rattle.job_core.specs.Runs.{early_checks, finish_checks, Finishes, Finished, Refuses, WantsMemory, LostDevice, TakesMemory, Steps, Replies, LacksMemory, LosesDevice, Run}
 
 -- None of the refusals is this one.
 abbrev LacksRefusal : Refusal → List (Bool × Refusal) → Type 0
@@ -20,7 +26,25 @@ lacked r [] all is = cc
 lacked r ((true, s) ∷ rest) all is = all.0 (cc)
 lacked r ((false, s) ∷ rest) all is = lacked r rest all.1 is
 
+-- None of the refusals in the place of a font is this one, which is neither of three.
+module _ (r : Refusal) (none : NoFont ≢ r) (bad : (cause : TfmCause) → BadTfm cause ≢ r) (large : DimensionTooLarge ≢ r) where
+  lacked_by_size : (b : Bool) (font : SizedFont) → LacksRefusal r (refusal_in (cond b (Ok font) (Err DimensionTooLarge)))
+  lacked_by_size true font = tt
+  lacked_by_size false font = (large, tt)
+
+  lacked_by_read : (read : Result MetricFile TfmCause) (size : Option ℤ) → LacksRefusal r (refusal_in (sized_font read size))
+  lacked_by_read (Err cause) size = (bad cause, tt)
+  lacked_by_read (Ok file) size = lacked_by_size (fits_at file (chosen_size file size)) (font_at file (chosen_size file size))
+
+  lacked_by_font : (file : Option NamedBytes) (size : Option ℤ) → LacksRefusal r (refusal_in (font_of file size))
+  lacked_by_font None size = (none, tt)
+  lacked_by_font (Some file) size = lacked_by_read (metric_file file.bytes) size
+
 no_memory : (s : State) (command : Command) → LacksRefusal OutOfMemory (checks s command)
+no_memory s (LoadFont load) = ((λ e. cc), ((λ e. cc), lacked_by_font OutOfMemory (λ e. cc) (λ cause e. cc) (λ e. cc) (file_named load.name s.files) load.size))
+no_memory s (UseFont slot) = ((λ e. cc), ((λ e. cc), tt))
+no_memory s (Text text) = ((λ e. cc), ((λ e. cc), ((λ e. cc), ((λ e. cc), tt))))
+no_memory s (Character code) = ((λ e. cc), ((λ e. cc), ((λ e. cc), ((λ e. cc), tt))))
 no_memory s (OpenHbox r) = ((λ e. cc), ((λ e. cc), tt))
 no_memory s End = ((λ e. cc), ((λ e. cc), ((λ e. cc), tt)))
 no_memory s (Rule rule) = ((λ e. cc), ((λ e. cc), ((λ e. cc), ((λ e. cc), tt))))
@@ -30,6 +54,10 @@ no_memory s (Void r) = ((λ e. cc), tt)
 no_memory s (Ship r) = ((λ e. cc), ((λ e. cc), ((λ e. cc), ((λ e. cc), ((λ e. cc), tt)))))
 
 no_device : (s : State) (command : Command) → LacksRefusal Device (checks s command)
+no_device s (LoadFont load) = ((λ e. cc), ((λ e. cc), lacked_by_font Device (λ e. cc) (λ cause e. cc) (λ e. cc) (file_named load.name s.files) load.size))
+no_device s (UseFont slot) = ((λ e. cc), ((λ e. cc), tt))
+no_device s (Text text) = ((λ e. cc), ((λ e. cc), ((λ e. cc), ((λ e. cc), tt))))
+no_device s (Character code) = ((λ e. cc), ((λ e. cc), ((λ e. cc), ((λ e. cc), tt))))
 no_device s (OpenHbox r) = ((λ e. cc), ((λ e. cc), tt))
 no_device s End = ((λ e. cc), ((λ e. cc), ((λ e. cc), tt)))
 no_device s (Rule rule) = ((λ e. cc), ((λ e. cc), ((λ e. cc), ((λ e. cc), tt))))
@@ -66,23 +94,34 @@ counted_fault m next n k command (Replies says goes counts) =
 counted_fault m next n k command (LacksMemory says takes may goes counts) = cc
 counted_fault m next n k command (LosesDevice says ships may goes counts) = counts
 
+none_is_some : {r : Refusal} → None ≡ Some r → ⊥
+none_is_some e = cc
+
 -- Where the job is over, the first check of each command holds.
 over_first : (s : State) (command : Command) → s.over ≡ true → first_of (checks s command) ≡ Some JobOver
 over_first s command over = rw over refl
+
+-- So does the first early one.
+over_early : (s : State) (command : Command) → s.over ≡ true → first_of (early_checks s command) ≡ Some JobOver
+over_early s (LoadFont load) over = rw over refl
+over_early s (UseFont slot) over = rw over refl
+over_early s (OpenHbox r) over = rw over refl
+over_early s End over = rw over refl
+over_early s (Text text) over = rw over refl
+over_early s (Character code) over = rw over refl
+over_early s (Rule rule) over = rw over refl
+over_early s (Kern width) over = rw over refl
+over_early s (Measure r) over = rw over refl
+over_early s (Void r) over = rw over refl
+over_early s (Ship r) over = rw over refl
 
 over_step : (m next : Machine) (n k : ℕ) (command : Command) (reply : Reply) → m.state.over ≡ true → Steps m n command reply next k
     → (reply ≡ Err JobOver) × ((next ≡ m) × (k ≡ n))
 over_step m next n k command reply over (Replies says goes counts) =
     let first = over_first m.state command over in
     (says ∙ ap (λ refused. reply_by refused (answer_of m.state command)) first, (goes ∙ stays m command JobOver first, counts))
-over_step m next n k command reply over (LacksMemory says takes may goes counts) = absurd (never (sym may ∙ over_first m.state command over))
-  where
-    never : None ≡ Some JobOver → ⊥
-    never e = cc
-over_step m next n k command reply over (LosesDevice says ships may goes counts) = absurd (never' (sym may ∙ over_first m.state command over))
-  where
-    never' : None ≡ Some JobOver → ⊥
-    never' e = cc
+over_step m next n k command reply over (LacksMemory says takes may goes counts) = absurd (none_is_some (sym may ∙ over_early m.state command over))
+over_step m next n k command reply over (LosesDevice says ships may goes counts) = absurd (none_is_some (sym may ∙ over_first m.state command over))
 
 pub over_run : (m next : Machine) (n k : ℕ) (commands : List Command) (replies : List Reply) → m.state.over ≡ true → Run m n commands replies next k
     → AllByRecursion (λ reply. reply ≡ Err JobOver) replies × (next ≡ m) × (k ≡ n)
@@ -97,9 +136,6 @@ over_run m next n k (command ∷ commands) (reply ∷ replies) over run =
 
 over_last : (s : State) → s.over ≡ true → first_of (finish_checks s) ≡ Some JobOver
 over_last s over = rw over refl
-
-none_is_some : {r : Refusal} → None ≡ Some r → ⊥
-none_is_some e = cc
 
 pub over_finish : (m next : Machine) (n k : ℕ) (result : Result Summary Refusal) → m.state.over ≡ true → Finishes m n result next k
     → (result ≡ Err JobOver) × (next ≡ m) × (k ≡ n)

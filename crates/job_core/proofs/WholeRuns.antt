@@ -1,14 +1,16 @@
 -- Runs one behind another, and a job from its beginning to its end.
-use Rattle.std.proofs.Common.{◌≡◌, ℕ, List, [], ◌∷◌, ◌++◌, length, Result, Ok, Err, refl, subst}
+use Rattle.std.proofs.Common.{◌≡◌, ℕ, List, [], ◌∷◌, ◌++◌, length, Option, Some, None, Result, Ok, Err, refl, ap, sym, ◌∙◌, subst}
 use Rattle.std.specs.Prelude.{IfOk, IfSome}
 use Rattle.job_core.specs.declared.command.Command.{Command}
+use Rattle.job_core.specs.declared.command.Command.TheVariants.{LoadFont, UseFont, OpenHbox, End, Text, Character, Rule, Kern, Measure, Void, Ship}
 use Rattle.job_core.specs.declared.command.Refusal.{Refusal}
 use Rattle.job_core.specs.declared.command.Summary.{Summary}
 use Rattle.job_core.specs.Reply.{Reply}
 use Rattle.tfm_core.specs.NamedBytes.{NamedBytes}
-use Rattle.job_core.specs.Machine.{Machine, first_machine}
-use Rattle.job_core.specs.Runs.{Seen, Run, Holds, KeepsTo, RunsTo, FinishesTo}
-use Rattle.job_core.specs.Shown.{FilesPages}
+use Rattle.job_core.specs.Machine.{State, Machine, first_machine, checks, first_of, after, state_by, state_after}
+use Rattle.job_core.specs.Runs.{Seen, Steps, Replies, LacksMemory, LosesDevice, Run, Holds, KeepsTo, RunsTo, FinishesTo}
+use Rattle.job_core.specs.Closing.{ClosesFile}
+use Rattle.job_core.specs.Shown.{FilesPages, GivesFiles}
 use Rattle.job_core.specs.Headline.{IsDone}
 
 run_behind :
@@ -37,6 +39,45 @@ one_run old new command reply keeps m holds =
     let next = keeps m holds in
     (next.0, (next.0, new.failed, next.1, (refl, refl)), next.2)
 
+-- A command leaves the font files as they are.
+after-files : (s : State) (command : Command) → (after s command).files ≡ s.files
+after-files s (LoadFont load) = refl
+after-files s (UseFont slot) = refl
+after-files s (OpenHbox r) = refl
+after-files s End = refl
+after-files s (Text text) = refl
+after-files s (Character code) = refl
+after-files s (Rule rule) = refl
+after-files s (Kern width) = refl
+after-files s (Measure r) = refl
+after-files s (Void r) = refl
+after-files s (Ship r) = refl
+
+pub state_after-files : (s : State) (command : Command) → (state_after s command).files ≡ s.files
+state_after-files s command = cases (first_of (checks s command))
+  where
+    cases : (refused : Option Refusal) → (state_by refused s (after s command)).files ≡ s.files
+    cases None = after-files s command
+    cases (Some refusal) = refl
+
+files_of : Machine → List NamedBytes
+files_of m = m.state.files
+
+one_keeps : (m : Machine) (n : ℕ) (command : Command) (reply : Reply) (next : Machine) (k : ℕ) → Steps m n command reply next k → files_of next ≡ files_of m
+unfolding files_of
+one_keeps m n command reply next k (Replies says goes counts) = ap files_of goes ∙ state_after-files m.state command
+one_keeps m n command reply next k (LacksMemory says takes may goes counts) = ap files_of goes
+one_keeps m n command reply next k (LosesDevice says ships may goes counts) = ap files_of goes
+
+-- So does a run.
+pub files_kept : (m : Machine) (n : ℕ) (commands : List Command) (replies : List Reply) (next : Machine) (k : ℕ) → Run m n commands replies next k → next.state.files ≡ m.state.files
+unfolding files_of
+files_kept m n [] [] next k run = ap files_of run.0
+files_kept m n [] (reply ∷ replies) next k run = absurd run
+files_kept m n (command ∷ commands) [] next k run = absurd run
+files_kept m n (command ∷ commands) (reply ∷ replies) next k run =
+    files_kept run.0 run.1 commands replies next k run.3 ∙ one_keeps m n command reply run.0 run.1 run.2
+
 sized : (result : Result Summary Refusal) (run ended : Seen) (m : Machine) → Holds run m
     → IfOk result (λ summary. (m : Machine) → Holds run m → IfSome ended.told (λ bytes. summary.bytes ≡ length bytes))
     → IfOk result (λ summary. IfSome ended.told (λ bytes. summary.bytes ≡ length bytes))
@@ -45,10 +86,10 @@ sized (Err refusal) run ended m holds size = tt
 
 pub done :
     (files : List NamedBytes) (commands : List Command) (replies : List Reply) (result : Result Summary Refusal) (new run ended : Seen)
-    → Holds new (first_machine files) → RunsTo new commands replies run → FinishesTo run result ended → FilesPages run result ended
+    → Holds new (first_machine files) → RunsTo new commands replies run → FinishesTo run result ended → FilesPages run result ended → ClosesFile run result ended
     → IfOk result (λ summary. (m : Machine) → Holds run m → IfSome ended.told (λ bytes. summary.bytes ≡ length bytes))
     → IsDone files commands replies result new run ended
-done files commands replies result new run ended begins runs finishes files_pages size =
+done files commands replies result new run ended begins runs finishes files_pages closes size =
     let goes = runs (first_machine files) begins in
     let ends = finishes goes.0 goes.2 in
     record {
@@ -58,6 +99,7 @@ done files commands replies result new run ended begins runs finishes files_page
       last = ends.0;
       finished = ends.1;
       over = ends.2.state;
-      file = λ metrics. files_pages goes.0 metrics goes.2;
+      file = λ metrics gives. files_pages goes.0 metrics goes.2 (subst (GivesFiles metrics) (sym (files_kept (first_machine files) new.failed commands replies goes.0 run.failed goes.1)) gives);
       size = sized result run ended goes.0 goes.2 size;
+      closed = λ some. closes goes.0 goes.2 some;
     }

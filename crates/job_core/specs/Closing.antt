@@ -1,13 +1,16 @@
 -- How the finished file ends (TeX: The Program, part 32; DVItype, 19 and 20).
-use Rattle.std.specs.Prelude.{◌≡◌, ◌≢◌, ◌≤◌, ◌≤ℤ◌, ◌%◌, [], ◌∷◌, ℕ, ℤ, pos, List, length, map, Result, OnOk, IfSome}
+use Rattle.std.specs.Prelude.{◌≡◌, ◌≢◌, ◌≤◌, ◌≤ℤ◌, ◌%◌, [], ◌∷◌, ℕ, ℤ, pos, List, length, map, ◌++◌, Some, Result, OnOk, IfSome}
 use Rattle.std.specs.List.{AllByRecursion, Contains, flat_map}
-use Rattle.dvi_ops.specs.Instruction.{Pre}
+use Rattle.dvi_ops.specs.Instruction.{Definition, Pre}
+use Rattle.dvi_ops.specs.Fonts.{definitions}
 use Rattle.dvi_ops.specs.Tokens.{says}
 use Rattle.dvi_ops.specs.File.{Part, instructions, depth_of, Frame}
 use Rattle.job_core.specs.declared.command.Refusal.{Refusal}
 use Rattle.job_core.specs.declared.command.Summary.{Summary}
+use Rattle.job_core.specs.declared.fonts.LoadedFont.{LoadedFont}
+use Rattle.job_core.specs.FontSlots.{Slots, font_in}
 use Rattle.job_core.specs.Marks.{Page}
-use Rattle.job_core.specs.Draft.{reach_down, reach_right}
+use Rattle.job_core.specs.Draft.{definition_of, reach_down, reach_right}
 use Rattle.job_core.specs.Machine.{Machine}
 use Rattle.job_core.specs.Runs.{Seen, Holds}
 
@@ -16,11 +19,21 @@ pub record IsGreatestOf (numbers : List ℤ) (greatest : ℤ) : Type 0 where
   pub bounds : AllByRecursion (λ z. z ≤ℤ greatest) numbers
   pub reached : Contains numbers greatest
 
--- The bytes end as a file of these pages does. Their frame and their parts are those of the DVI definition.
-pub record IsClosedFor (bytes : List ℕ) (pages : List Page) : Type 0 where
+-- A font definition is that of the font in the slot of its number: with the check sum and the design size of its file, its size, the name
+-- of its file, and no area.
+pub record IsOfJob (fonts : Slots) (d : Definition) : Type 0 where
+  pub slot : ℕ
+  pub loaded : LoadedFont
+  pub held : font_in fonts slot ≡ Some loaded
+  pub is : d ≡ definition_of slot loaded
+
+-- The bytes end as a file of these pages does, and define fonts as a job has them. Their frame and their parts are those of the DVI definition.
+pub record IsClosedFor (fonts : Slots) (bytes : List ℕ) (pages : List Page) : Type 0 where
   pub frame : Frame bytes
   pub parts : List Part
   pub front_is : says frame.front ≡ Pre 2 frame.stop.units [] ∷ flat_map instructions parts
+  -- Each definition, before post and after it, is that of one of these fonts.
+  pub defined : AllByRecursion (IsOfJob fonts) (definitions (says frame.front ++ says frame.tail))
   -- post has the greatest reaches of the pages down and to the right, at least 0.
   pub tall : IsGreatestOf (pos 0 ∷ map reach_down pages) frame.stop.height_plus_depth
   pub wide : IsGreatestOf (pos 0 ∷ map reach_right pages) frame.stop.width
@@ -34,4 +47,4 @@ pub record IsClosedFor (bytes : List ℕ) (pages : List Page) : Type 0 where
 -- Where the end succeeds, what the device has taken ends so, unless there are no pages.
 abbrev pub ClosesFile : Seen → Result Summary Refusal → Seen → Type 0
 ClosesFile old result new =
-    (m : Machine) → Holds old m → m.pages ≢ [] → OnOk result (IfSome new.told (λ bytes. IsClosedFor bytes m.pages))
+    (m : Machine) → Holds old m → m.pages ≢ [] → OnOk result (IfSome new.told (λ bytes. IsClosedFor m.state.fonts bytes m.pages))

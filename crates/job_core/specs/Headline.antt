@@ -1,5 +1,5 @@
 -- A job from its beginning to its end (own).
-use Rattle.std.specs.Prelude.{◌≡◌, List, length, Result, IfOk, OnOk, IfSome}
+use Rattle.std.specs.Prelude.{◌≡◌, ◌≢◌, [], List, length, Result, IfOk, OnOk, IfSome}
 use Rattle.dvi_ops.specs.Fonts.{Metrics}
 use Rattle.job_core.specs.declared.command.Command.{Command}
 use Rattle.job_core.specs.declared.command.Refusal.{Refusal}
@@ -8,7 +8,8 @@ use Rattle.job_core.specs.Reply.{Reply}
 use Rattle.tfm_core.specs.NamedBytes.{NamedBytes}
 use Rattle.job_core.specs.Machine.{Machine, first_machine}
 use Rattle.job_core.specs.Runs.{Seen, Run, Finishes}
-use Rattle.job_core.specs.Shown.{IsFileOf}
+use Rattle.job_core.specs.Closing.{IsClosedFor}
+use Rattle.job_core.specs.Shown.{GivesFiles, IsFileOf}
 
 -- A job that was new with these files has taken the commands, replied, and was ended with this result.
 pub record IsDone (files : List NamedBytes) (commands : List Command) (replies : List Reply) (result : Result Summary Refusal) (new run ended : Seen) : Type 0 where
@@ -20,6 +21,9 @@ pub record IsDone (files : List NamedBytes) (commands : List Command) (replies :
   pub last : Machine
   pub finished : Finishes machine run.failed result last ended.failed
   pub over : ended.state ≡ last.state
-  -- Where the end succeeds, the device has taken a DVI file of exactly the pages of that machine, and the summary has its length.
-  pub file : (metrics : Metrics) → OnOk result (IfSome ended.told (λ bytes. IsFileOf metrics bytes machine.pages))
+  -- Where the end succeeds, the device has taken a DVI file of exactly the pages of that machine, with the widths that the font files give,
+  -- and the summary has its length.
+  pub file : (metrics : Metrics) → GivesFiles metrics files → OnOk result (IfSome ended.told (λ bytes. IsFileOf metrics bytes machine.pages))
   pub size : IfOk result (λ summary. IfSome ended.told (λ bytes. summary.bytes ≡ length bytes))
+  -- It ends as a file of these pages does, and each font that it defines is that of the machine's slot of its number.
+  pub closed : machine.pages ≢ [] → OnOk result (IfSome ended.told (λ bytes. IsClosedFor machine.state.fonts bytes machine.pages))

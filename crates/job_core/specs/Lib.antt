@@ -13,4 +13,7 @@ pub mod Room
 pub mod Shown
 pub mod Closing
 pub mod Headline
-pub mod Plain
+pub mod Sized
+pub mod FontSlots
+pub mod Loaded
+pub mod GlyphWidths

@@ -1,5 +1,5 @@
 -- The abstract machine: what a job keeps, and what each command answers and changes (own; after TeX: The Program, parts 16, 32 and 33).
-use Rattle.std.specs.Prelude.{◌+◌, ◌-◌, ◌==◌, ◌++◌, ◌∷◌, [], ℕ, pos, Bool, true, false, not, nat_le, nat_lt, if◌then◌else◌, List, length, take, replicate, slice_get, slice_set, Option, Some, None, is_none, unwrap_or, Ok, Err}
+use Rattle.std.specs.Prelude.{◌+◌, ◌-◌, ◌==◌, ◌++◌, ◌∷◌, [], ℕ, pos, Bool, true, false, not, nat_le, nat_lt, if◌then◌else◌, List, length, take, replicate, slice_get, slice_set, Option, Some, None, is_none, is_some, unwrap_or, Result, Ok, Err}
 use Rattle.node_core.specs.declared.tree.Node.{Node}
 use Rattle.node_core.specs.declared.tree.Node.TheVariants as nodes
 use Rattle.node_core.specs.declared.tree.RuleSize.{RuleSize}
@@ -9,21 +9,27 @@ use Rattle.node_core.specs.Items.{Items, none}
 use Rattle.node_core.specs.Nodes.{items_of, nodes_of, box_count}
 use Rattle.job_core.specs.declared.nest.OpenList.{OpenList}
 use Rattle.job_core.specs.declared.command.Sizes.{Sizes}
+use Rattle.job_core.specs.declared.command.FontLoad.{FontLoad}
 use Rattle.job_core.specs.declared.command.Command.{Command}
-use Rattle.job_core.specs.declared.command.Command.TheVariants.{OpenHbox, End, Rule, Kern, Measure, Void, Ship}
+use Rattle.job_core.specs.declared.command.Command.TheVariants.{LoadFont, UseFont, OpenHbox, End, Text, Character, Rule, Kern, Measure, Void, Ship}
 use Rattle.job_core.specs.declared.command.Answer.{Answer}
-use Rattle.job_core.specs.declared.command.Answer.TheVariants.{Done, Packed, Measured, MeasuredVoid, Shipped}
+use Rattle.job_core.specs.declared.command.Answer.TheVariants.{Done, Packed, Measured, MeasuredVoid, Shaped, Shipped}
 use Rattle.job_core.specs.declared.command.Refusal.{Refusal}
-use Rattle.job_core.specs.declared.command.Refusal.TheVariants.{DimensionTooLarge, NoOpenList, WrongMode, ListTooLong, TooDeep, HugePage, TooManyPages, TooMuchShipped, JobOver, VoidBox}
+use Rattle.job_core.specs.declared.command.Refusal.TheVariants.{DimensionTooLarge, NoFont, SlotTaken, NoOpenList, WrongMode, ListTooLong, TooDeep, HugePage, TooManyPages, TooMuchShipped, JobOver, VoidBox}
 use Rattle.job_core.specs.Reply.{Reply}
 use Rattle.job_core.specs.Packing.{fits, packed, total, advance}
 use Rattle.job_core.specs.Marks.{Page, is_huge}
-use Rattle.tfm_core.specs.NamedBytes.{NamedBytes}
+use Rattle.tfm_core.specs.NamedBytes.{NamedBytes, file_named}
+use Rattle.tfm_core.specs.Fonts.{SizedFont}
+use Rattle.job_core.specs.FontSlots as slots
+use Rattle.job_core.specs.FontSlots.{Slots, font_in, current_font, font_of, with_font, text_shaped, character_shaped}
 
--- What commands read and change: the font files; the open lists, the outermost first; the registers by number; how many nodes
--- and pages were shipped; and whether the job is over.
+-- What commands read and change: the font files; the fonts by slot, and the slot of the current one; the open lists, the outermost first;
+-- the registers by number; how many nodes and pages were shipped; and whether the job is over.
 pub record State : Type 0 where
   pub files : List NamedBytes
+  pub fonts : Slots
+  pub current : Option ℕ
   pub nest : List OpenList
   pub registers : List (Option BoxNode)
   pub shipped : ℕ
@@ -45,7 +51,7 @@ most_shipped = 16777216
 
 -- The state of a new job with these files.
 abbrev pub first_state : List NamedBytes → State
-first_state files = record { files = files; nest = []; registers = replicate 256 None; shipped = 0; pages = 0; over = false }
+first_state files = record { files = files; fonts = replicate 256 None; current = None; nest = []; registers = replicate 256 None; shipped = 0; pages = 0; over = false }
 
 -- The innermost open list: the last one.
 abbrev pub innermost : List OpenList → Option OpenList
@@ -60,11 +66,15 @@ abbrev pub items_in : Option OpenList → Items
 items_in None = none
 items_in (Some open_list) = open_list.list
 
--- The nest with one more node at the end of its innermost list.
-abbrev pub with_node : List OpenList → Node → Option OpenList → List OpenList
-with_node nest node None = nest
-with_node nest node (Some open_list) =
-    slice_set nest (length nest - 1) (record open_list { list = items_of (nodes_of open_list.list ++ node ∷ []) })
+-- The nest with more nodes at the end of its innermost list.
+abbrev pub with_nodes : List OpenList → List Node → Option OpenList → List OpenList
+with_nodes nest nodes None = nest
+with_nodes nest nodes (Some open_list) =
+    slice_set nest (length nest - 1) (record open_list { list = items_of (nodes_of open_list.list ++ nodes) })
+
+-- How many items the innermost list has.
+abbrev pub open_count : State → ℕ
+open_count m = length (nodes_of (items_in (innermost m.nest)))
 
 -- The box in a register; none where it is void.
 abbrev pub held_in : List (Option BoxNode) → ℕ → Option BoxNode
@@ -97,16 +107,37 @@ abbrev pub is_huge_in : Option BoxNode → Bool
 is_huge_in None = false
 is_huge_in (Some b) = is_huge (page_of b)
 
+-- The font that a command asks for, or why there is none.
+abbrev pub font_for : State → FontLoad → Result SizedFont Refusal
+font_for m load = font_of (file_named load.name m.files) load.size
+
+-- The refusal in the place of a font, if there is one.
+abbrev pub refusal_in : Result SizedFont Refusal → List (Bool × Refusal)
+refusal_in (Ok font) = []
+refusal_in (Err refusal) = (true, refusal) ∷ []
+
+-- The refusal of items that are too many for the innermost list.
+abbrev pub length_checks : State → List Node → List (Bool × Refusal)
+length_checks m items = (nat_lt most_items (open_count m + length items), ListTooLong) ∷ []
+
+-- The refusals of a command of characters that come to these items.
+abbrev pub shape_checks : State → slots.Shaped → List (Bool × Refusal)
+shape_checks m shaped =
+    (length m.nest == 0, NoOpenList) ∷ (is_none (current_font m.fonts m.current), NoFont) ∷ length_checks m shaped.items
+
 -- The refusals of each command in their order, each with the condition under which it is given.
 abbrev pub own_checks : State → Command → List (Bool × Refusal)
+own_checks m (LoadFont load) = (is_some (font_in m.fonts load.slot), SlotTaken) ∷ refusal_in (font_for m load)
+own_checks m (UseFont slot) = (is_none (font_in m.fonts slot), NoFont) ∷ []
+own_checks m (Text text) = shape_checks m (text_shaped m.fonts m.current text)
+own_checks m (Character code) = shape_checks m (character_shaped m.fonts m.current code)
 own_checks m (OpenHbox r) = (nat_le most_open (length m.nest), TooDeep) ∷ []
 own_checks m End =
     (length m.nest == 0, NoOpenList) ∷ (not (fits (total advance (nodes_of (items_in (innermost m.nest))))), DimensionTooLarge) ∷ []
 own_checks m (Rule rule) =
     (length m.nest == 0, NoOpenList) ∷ (is_running rule.width, WrongMode)
-    ∷ (nat_le most_items (length (nodes_of (items_in (innermost m.nest)))), ListTooLong) ∷ []
-own_checks m (Kern width) =
-    (length m.nest == 0, NoOpenList) ∷ (nat_le most_items (length (nodes_of (items_in (innermost m.nest)))), ListTooLong) ∷ []
+    ∷ (nat_le most_items (open_count m), ListTooLong) ∷ []
+own_checks m (Kern width) = (length m.nest == 0, NoOpenList) ∷ (nat_le most_items (open_count m), ListTooLong) ∷ []
 own_checks m (Measure r) = []
 own_checks m (Void r) = []
 own_checks m (Ship r) =
@@ -133,8 +164,15 @@ abbrev pub measured : Option BoxNode → Answer
 measured None = MeasuredVoid
 measured (Some b) = Measured b.kind (sizes_of b)
 
+abbrev pub shaped_answer : slots.Shaped → Answer
+shaped_answer shaped = Shaped (length shaped.items) shaped.missing
+
 -- The answer to a command that is accepted.
 abbrev pub answer_of : State → Command → Answer
+answer_of m (LoadFont load) = Done
+answer_of m (UseFont slot) = Done
+answer_of m (Text text) = shaped_answer (text_shaped m.fonts m.current text)
+answer_of m (Character code) = shaped_answer (character_shaped m.fonts m.current code)
 answer_of m (OpenHbox r) = Done
 answer_of m End = packed_answer (items_in (innermost m.nest))
 answer_of m (Rule rule) = Done
@@ -143,12 +181,20 @@ answer_of m (Measure r) = measured (held_in m.registers r)
 answer_of m (Void r) = Done
 answer_of m (Ship r) = Shipped (m.pages + 1)
 
+-- The state with items behind the innermost list.
+abbrev pub with_items : State → List Node → State
+with_items m items = record m { nest = with_nodes m.nest items (innermost m.nest) }
+
 -- The state after a command that is accepted.
 abbrev pub after : State → Command → State
+after m (LoadFont load) = record m { fonts = with_font m.fonts load.slot load.name (font_for m load) }
+after m (UseFont slot) = record m { current = Some slot }
+after m (Text text) = with_items m (text_shaped m.fonts m.current text).items
+after m (Character code) = with_items m (character_shaped m.fonts m.current code).items
 after m (OpenHbox r) = record m { nest = m.nest ++ record { into = r; list = none } ∷ [] }
 after m End = record m { nest = outer m.nest; registers = with_packed m.registers (innermost m.nest) }
-after m (Rule rule) = record m { nest = with_node m.nest (nodes.Rule rule) (innermost m.nest) }
-after m (Kern width) = record m { nest = with_node m.nest (nodes.Kern width) (innermost m.nest) }
+after m (Rule rule) = with_items m (nodes.Rule rule ∷ [])
+after m (Kern width) = with_items m (nodes.Kern width ∷ [])
 after m (Measure r) = m
 after m (Void r) = record m { registers = slice_set m.registers r None }
 after m (Ship r) =

@@ -2,7 +2,7 @@
 use Rattle.std.specs.Prelude.{◌+ℤ◌, ◌&&◌, ℤ, pos, Bool, not, int_lt, if◌then◌else◌, List, [], ◌∷◌, ◌++◌}
 use Rattle.std.specs.List.{list_all}
 use Rattle.node_core.specs.declared.tree.Node.{Node}
-use Rattle.node_core.specs.declared.tree.Node.TheVariants.{Glyph, FontKern, Kern, Glue, Rule}
+use Rattle.node_core.specs.declared.tree.Node.TheVariants.{Glyph, FontKern, Kern, Glue, Penalty, Rule}
 use Rattle.node_core.specs.declared.tree.RuleSize.{RuleSize}
 use Rattle.node_core.specs.declared.tree.RuleSize.TheVariants.{Running, Fixed}
 use Rattle.node_core.specs.declared.tree.BoxNode.{BoxNode}
@@ -26,6 +26,7 @@ mark_of b h v (Glyph glyph) = marks.Glyph (pos glyph.slot) (pos glyph.code) h v 
 mark_of b h v (FontKern width) = []
 mark_of b h v (Kern width) = []
 mark_of b h v (Glue glue) = []
+mark_of b h v (Penalty penalty) = []
 mark_of b h v (Rule rule) =
     rule_mark h (v +ℤ size_in b.depth rule.depth) (size_in b.height rule.height +ℤ size_in b.depth rule.depth) (own_size rule.width)
 
@@ -45,6 +46,7 @@ numbers_of b h v (Glyph glyph) = h ∷ v ∷ (h +ℤ glyph.width) ∷ []
 numbers_of b h v (FontKern width) = h ∷ v ∷ (h +ℤ width) ∷ []
 numbers_of b h v (Kern width) = h ∷ v ∷ (h +ℤ width) ∷ []
 numbers_of b h v (Glue glue) = h ∷ v ∷ (h +ℤ glue.width) ∷ []
+numbers_of b h v (Penalty penalty) = h ∷ v ∷ (h +ℤ pos 0) ∷ []
 numbers_of b h v (Rule rule) =
     h ∷ v ∷ (h +ℤ own_size rule.width) ∷ (v +ℤ size_in b.depth rule.depth)
     ∷ (size_in b.height rule.height +ℤ size_in b.depth rule.depth) ∷ []

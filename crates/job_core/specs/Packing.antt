@@ -2,11 +2,12 @@
 use Rattle.std.specs.Prelude.{◌+ℤ◌, ℤ, pos, negsuc, Bool, nat_le, nat_lt, List, [], ◌∷◌}
 use Rattle.std.specs.Int.{int_max}
 use Rattle.node_core.specs.declared.tree.Node.{Node}
-use Rattle.node_core.specs.declared.tree.Node.TheVariants.{Glyph, FontKern, Kern, Glue, Rule}
+use Rattle.node_core.specs.declared.tree.Node.TheVariants.{Glyph, FontKern, Kern, Glue, Penalty, Rule}
 use Rattle.node_core.specs.declared.tree.RuleSize.{RuleSize}
 use Rattle.node_core.specs.declared.tree.RuleSize.TheVariants.{Running, Fixed}
 use Rattle.node_core.specs.declared.tree.BoxNode.{BoxNode}
 use Rattle.node_core.specs.declared.tree.Kind.TheVariants.{Horizontal}
+use Rattle.node_core.specs.declared.tree.Setting.TheVariants.{Natural}
 use Rattle.node_core.specs.Items.{Items}
 use Rattle.node_core.specs.Nodes.{nodes_of}
 
@@ -26,6 +27,7 @@ advance (Glyph glyph) = glyph.width
 advance (FontKern width) = width
 advance (Kern width) = width
 advance (Glue glue) = glue.width
+advance (Penalty penalty) = pos 0
 advance (Rule rule) = own_size rule.width
 
 -- How far an item of a horizontal list stands above the baseline.
@@ -34,6 +36,7 @@ above (Glyph glyph) = glyph.height
 above (FontKern width) = pos 0
 above (Kern width) = pos 0
 above (Glue glue) = pos 0
+above (Penalty penalty) = pos 0
 above (Rule rule) = own_size rule.height
 
 -- How far it stands below.
@@ -42,6 +45,7 @@ below (Glyph glyph) = glyph.depth
 below (FontKern width) = pos 0
 below (Kern width) = pos 0
 below (Glue glue) = pos 0
+below (Penalty penalty) = pos 0
 below (Rule rule) = own_size rule.depth
 
 -- The sum of a size over a list.
@@ -62,5 +66,6 @@ packed items =
       width = total advance (nodes_of items);
       height = greatest above (nodes_of items);
       depth = greatest below (nodes_of items);
+      setting = Natural;
       list = items;
     }

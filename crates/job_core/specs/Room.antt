@@ -1,11 +1,16 @@
--- How much a job may hold (own): the limits that keep every place in the file below 2^31, and no glyph yet.
-use Rattle.std.specs.Prelude.{◌+◌, ◌*◌, ◌≤◌, length}
+-- How much a job may hold (own): the limits that keep every place in the file below 2^31; and what its fonts and glyphs are.
+use Rattle.std.specs.Prelude.{◌≡◌, ◌+◌, ◌*◌, ◌≤◌, length}
 use Rattle.job_core.specs.Machine.{State, most_shipped, most_pages}
-use Rattle.job_core.specs.Draft.{Draft}
-use Rattle.job_core.specs.Plain.{IsPlain}
+use Rattle.job_core.specs.Draft.{Draft, in_rising_order}
+use Rattle.job_core.specs.Sized.{HasSizedGlyphs}
+use Rattle.job_core.specs.Loaded.{AreLoaded}
 
 pub record HasRoom (s : State) (draft : Draft) : Type 0 where
   pub nodes : s.shipped ≤ most_shipped
   pub pages : s.pages ≤ most_pages
-  pub plain : IsPlain s
-  pub bytes : length draft.bytes ≤ 15 + 46 * s.pages + 19 * s.shipped
+  pub fonts : AreLoaded s.files s.fonts
+  pub glyphs : HasSizedGlyphs s
+  -- Each slot is defined once, so that there are 256 definitions at most.
+  pub defined : length (in_rising_order draft.defined) ≡ length draft.defined
+  -- A page takes 46 bytes and 19 for each node, and a font definition at most 271.
+  pub bytes : length draft.bytes ≤ 15 + 46 * s.pages + 19 * s.shipped + 271 * length draft.defined

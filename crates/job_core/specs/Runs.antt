@@ -1,37 +1,52 @@
 -- Runs of the machine, with what it does not choose: want of memory and a device that fails (own).
-use Rattle.std.specs.Prelude.{◌≡◌, ◌≢◌, ◌<◌, ◌==◌, [], ◌∷◌, ℕ, Bool, false, not, List, length, Option, Some, None, IfSome, Result, Ok, Err}
+use Rattle.std.specs.Prelude.{◌≡◌, ◌≢◌, ◌<◌, ◌==◌, [], ◌∷◌, ℕ, Bool, false, not, List, length, Option, Some, None, is_none, is_some, IfSome, Result, Ok, Err}
 use Rattle.std.specs.List.{AllByRecursion}
 use Rattle.job_core.specs.declared.command.Command.{Command}
-use Rattle.job_core.specs.declared.command.Command.TheVariants.{OpenHbox, End, Rule, Kern, Measure, Void, Ship}
+use Rattle.job_core.specs.declared.command.Command.TheVariants.{LoadFont, UseFont, OpenHbox, End, Text, Character, Rule, Kern, Measure, Void, Ship}
 use Rattle.job_core.specs.declared.command.Refusal.{Refusal}
-use Rattle.job_core.specs.declared.command.Refusal.TheVariants.{OutOfMemory, Device, ListsOpen, JobOver}
+use Rattle.job_core.specs.declared.command.Refusal.TheVariants.{OutOfMemory, NoFont, SlotTaken, NoOpenList, Device, ListsOpen, JobOver}
 use Rattle.job_core.specs.declared.command.Summary.{Summary}
 use Rattle.job_core.specs.Reply.{Reply}
 use Rattle.job_core.specs.Marks.{Page, is_huge}
 use Rattle.node_core.specs.Nodes.{nodes_of}
-use Rattle.job_core.specs.Plain.{HasNoGlyph}
-use Rattle.job_core.specs.Draft.{Draft, draft_of}
-use Rattle.job_core.specs.Machine.{State, Machine, checks, first_of, reply_to, step, stopped, page_of}
+use Rattle.tfm_core.specs.NamedBytes.{file_named}
+use Rattle.job_core.specs.FontSlots.{Slots, font_in, current_font}
+use Rattle.job_core.specs.Sized.{AreSized}
+use Rattle.job_core.specs.Draft.{Draft, draft_of, with_pages}
+use Rattle.job_core.specs.Machine.{State, Machine, checks, first_of, reply_to, state_by, new_pages, step, stopped, page_of}
 
 -- The commands for which memory may be wanted.
 abbrev pub TakesMemory : Command → Type 0
+TakesMemory (LoadFont load) = Unit {0}
+TakesMemory (UseFont slot) = ⊥
 TakesMemory (OpenHbox r) = Unit {0}
 TakesMemory End = ⊥
+TakesMemory (Text text) = Unit {0}
+TakesMemory (Character code) = Unit {0}
 TakesMemory (Rule rule) = Unit {0}
 TakesMemory (Kern width) = Unit {0}
 TakesMemory (Measure r) = ⊥
 TakesMemory (Void r) = ⊥
 TakesMemory (Ship r) = Unit {0}
 
+-- The refusals that are found before any memory is taken, in their order: all but those that a font file's bytes, its size or the number of
+-- items of a text decide.
+abbrev pub early_checks : State → Command → List (Bool × Refusal)
+early_checks m (LoadFont load) =
+    (m.over, JobOver) ∷ (is_some (font_in m.fonts load.slot), SlotTaken) ∷ (is_none (file_named load.name m.files), NoFont) ∷ []
+early_checks m (Text text) = (m.over, JobOver) ∷ (length m.nest == 0, NoOpenList) ∷ (is_none (current_font m.fonts m.current), NoFont) ∷ []
+early_checks m (Character code) = (m.over, JobOver) ∷ (length m.nest == 0, NoOpenList) ∷ (is_none (current_font m.fonts m.current), NoFont) ∷ []
+early_checks m command = checks m command
+
 abbrev pub IsShip : Command → Type 0
 IsShip (Ship r) = Unit {0}
 IsShip command = ⊥
 
 -- A machine takes a command, replies and goes on, while the device's count of failures goes from n to k. It replies as the table
--- says; or memory was wanted for a command that is accepted, and it stays; or the device failed in an accepted ship, and it stops.
+-- says; or memory was wanted for a command that no early check refuses, and it stays; or the device failed in an accepted ship, and it stops.
 pub data Steps (m : Machine) (n : ℕ) (command : Command) (reply : Reply) (next : Machine) (k : ℕ) : Type 0 where
   Replies : reply ≡ reply_to m.state command → next ≡ step m command → k ≡ n → Steps m n command reply next k
-  LacksMemory : reply ≡ Err OutOfMemory → TakesMemory command → first_of (checks m.state command) ≡ None → next ≡ m → k ≡ n → Steps m n command reply next k
+  LacksMemory : reply ≡ Err OutOfMemory → TakesMemory command → first_of (early_checks m.state command) ≡ None → next ≡ m → k ≡ n → Steps m n command reply next k
   LosesDevice : reply ≡ Err Device → IsShip command → first_of (checks m.state command) ≡ None → next ≡ stopped m → n < k → Steps m n command reply next k
 
 -- A machine takes the commands one after the other, one reply a command.
@@ -60,16 +75,20 @@ pub record Seen : Type 0 where
   pub told : Option (List ℕ)
   pub failed : ℕ
 
--- A page that a ship makes: it is that of its box, is not huge, and has no glyph yet.
-abbrev pub IsShipped : Page → Type 0
-IsShipped page = (page ≡ page_of page.shown) × (is_huge page ≡ false) × HasNoGlyph (nodes_of page.shown.list)
+-- The draft of the file behind a command.
+abbrev pub draft_after : State → Draft → Command → Draft
+draft_after s draft command = state_by (first_of (checks s command)) draft (with_pages s.fonts draft (new_pages s command))
+
+-- A page that a ship makes: it is that of its box, is not huge, and its glyphs have the sizes that the fonts give.
+abbrev pub IsShipped : Slots → Page → Type 0
+IsShipped fonts page = (page ≡ page_of page.shown) × (is_huge page ≡ false) × AreSized fonts (nodes_of page.shown.list)
 
 -- A job stands for a machine: it keeps the machine's state, and until it is over the draft of its pages; no byte has gone out by then.
 pub record Holds (job : Seen) (m : Machine) : Type 0 where
   pub state : job.state ≡ m.state
   pub count : m.state.pages ≡ length m.pages
-  pub pages : AllByRecursion IsShipped m.pages
-  pub draft : m.state.over ≡ false → job.draft ≡ draft_of m.pages
+  pub pages : AllByRecursion (IsShipped m.state.fonts) m.pages
+  pub draft : m.state.over ≡ false → job.draft ≡ draft_of m.state.fonts m.pages
   pub told : m.state.over ≡ false → IfSome job.told (λ bytes. bytes ≡ [])
 
 -- Each machine that the job stood for has stepped to one that it stands for.

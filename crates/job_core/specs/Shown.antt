@@ -1,5 +1,7 @@
 -- What the finished file shows, by the definition of DVI files alone (own; DVItype, 13 to 20).
-use Rattle.std.specs.Prelude.{◌≡◌, [], ◌∷◌, ℕ, List, map, Result, OnOk, IfSome}
+use Rattle.std.specs.Prelude.{◌≡◌, [], ◌∷◌, ℕ, ℤ, List, map, Option, Some, Result, OnOk, IfSome}
+use Rattle.tfm_core.specs.NamedBytes.{NamedBytes}
+use Rattle.tfm_core.specs.FileWidths.{file_widths}
 use Rattle.dvi_ops.specs.Fonts.{Metrics}
 use Rattle.dvi_ops.specs.File as file
 use Rattle.dvi_ops.specs.File.{IsFile}
@@ -13,12 +15,17 @@ use Rattle.job_core.specs.Runs.{Seen, Holds}
 abbrev pub shown_page : Page → file.Page
 shown_page page = record { counts = page.counts; marks = marks_of_page page }
 
+-- Metrics that give at least what the font files give, each font by the first file of its name.
+abbrev pub GivesFiles : Metrics → List NamedBytes → Type 0
+GivesFiles metrics files = (name : List ℕ) (size : ℤ) (widths : ℤ → Option ℤ) → file_widths files name size ≡ Some widths → metrics name size ≡ Some widths
+
 -- The bytes are a DVI file of exactly these pages, in order; where there are no pages, there are no bytes.
 abbrev pub IsFileOf : Metrics → List ℕ → List Page → Type 0
 IsFileOf metrics bytes [] = bytes ≡ []
 IsFileOf metrics bytes (page ∷ pages) = IsFile metrics bytes (map shown_page (page ∷ pages))
 
--- Where the end succeeds, the device has taken a DVI file of exactly the pages of each machine that the job stood for.
+-- Where the end succeeds, the device has taken a DVI file of exactly the pages of each machine that the job stood for, with the widths that
+-- the job's own font files give.
 abbrev pub FilesPages : Seen → Result Summary Refusal → Seen → Type 0
 FilesPages old result new =
-    (m : Machine) (metrics : Metrics) → Holds old m → OnOk result (IfSome new.told (λ bytes. IsFileOf metrics bytes m.pages))
+    (m : Machine) (metrics : Metrics) → Holds old m → GivesFiles metrics m.state.files → OnOk result (IfSome new.told (λ bytes. IsFileOf metrics bytes m.pages))

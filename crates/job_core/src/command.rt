@@ -6,6 +6,7 @@ ghost use Rattle.std.specs.Option.{SomeIff};
 use node_core::{Kind, Rule};
 use scaled_core::Dimen;
 use std::marker::Model;
+use tfm_core::{FontName, FontSize, TfmCause};
 use thiserror::Error;
 
 /// The number of a box register: 0 to 255.
@@ -52,13 +53,61 @@ impl Register {
     }
 }
 
+/// The characters of a text, as codes of a font.
+#[derive(Debug, Drop)]
+pub struct Characters {
+    codes: Vec<u8>,
+}
+
+impl Model for Characters {
+    ghost use Rattle.std.specs.Prelude.{ℕ, List};
+
+    ghost Value = { List ℕ };
+
+    ghost view = { λ characters. characters.codes.items };
+}
+
+impl Characters {
+    /// The characters of these codes.
+    pub fn new(codes: Vec<u8>) -> Characters
+        ensures { result ≡ codes.items }
+    {
+        Characters { codes }
+    }
+
+    /// Their codes.
+    pub fn codes(&self) -> &[u8]
+        ensures { result.now ≡ self.now }
+    {
+        &self.codes
+    }
+}
+
+/// Which font file is read, at which size, and the slot that the font goes into.
+#[derive(Debug, Drop)]
+pub struct FontLoad {
+    pub slot: u8,
+    pub name: FontName,
+    /// The size; none for the design size of the file.
+    pub size: Option<FontSize>,
+}
+
 /// A command to a job.
-#[derive(Clone, Copy, Debug, PartialEq, Eq)]
+#[derive(Debug, Drop)]
 pub enum Command {
+    /// Reads a font file into a slot that has no font.
+    LoadFont(FontLoad),
+    /// Chooses the font of a slot as the current one.
+    UseFont(u8),
     /// Opens a horizontal list whose box goes into a register.
     OpenHbox(Register),
     /// Packs the innermost open list and puts the box into its register.
     End,
+    /// Appends a text in the current font to the innermost open list: words with their kerns and ligatures, and a glue for each run of
+    /// spaces.
+    Text(Characters),
+    /// Appends one character of the current font to the innermost open list, without kerns and ligatures.
+    Character(u8),
     /// Appends a rule to the innermost open list.
     Rule(Rule),
     /// Appends an explicit kern to the innermost open list.
@@ -90,6 +139,8 @@ pub enum Answer {
     Measured(Kind, Sizes),
     /// The register is void.
     MeasuredVoid,
+    /// How many items characters added to the open list, and how many of them are missing in the font.
+    Shaped { items: usize, missing: usize },
     /// The number of pages that were shipped so far.
     Shipped(u32),
 }
@@ -101,6 +152,12 @@ pub enum Refusal {
     OutOfMemory,
     #[error("a size or total does not fit")]
     DimensionTooLarge,
+    #[error("there is no font in the slot, no current font, or no file of that name")]
+    NoFont,
+    #[error("{0}")]
+    BadTfm(TfmCause),
+    #[error("the slot has a font already")]
+    SlotTaken,
     #[error("a list is needed and none is open")]
     NoOpenList,
     #[error("the command does not belong in this kind of list")]

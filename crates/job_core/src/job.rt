@@ -4,10 +4,10 @@ ghost use Rattle.std.specs.Prelude.{◌≡◌, ◌≢◌, ◌<◌, ◌≤◌, �
 ghost use Rattle.job_core.specs.declared.command.Command.TheVariants as commands;
 ghost use Rattle.job_core.specs.Reply.{Reply as AReply};
 ghost use Rattle.job_core.specs.Told.{grown, GrowsByFront};
-ghost use Rattle.job_core.specs.Plain.{IsPlain};
-ghost use Rattle.job_core.specs.Draft.{with_pages, whole, draft_of};
-ghost use Rattle.job_core.specs.Machine.{Machine, first_machine, checks, first_of, reply_to, state_after, state_by, new_pages};
-ghost use Rattle.job_core.specs.Runs.{TakesMemory, Holds, KeepsTo, RunsTo, FinishesTo};
+ghost use Rattle.job_core.specs.Loaded.{GivesNumbersFor};
+ghost use Rattle.job_core.specs.Draft.{whole, draft_of};
+ghost use Rattle.job_core.specs.Machine.{Machine, first_machine, checks, first_of, reply_to, state_after};
+ghost use Rattle.job_core.specs.Runs.{TakesMemory, early_checks, draft_after, Holds, KeepsTo, RunsTo, FinishesTo};
 ghost use Rattle.job_core.specs.Shown.{FilesPages};
 ghost use Rattle.job_core.specs.Closing.{ClosesFile};
 
@@ -22,18 +22,17 @@ use tfm_core::FontFile;
 /// Ships the box in a register: its page is added to the draft.
 fn ship(kept: &mut Kept, writer: &mut Writer, register: Register) -> Result<Reply, AllocError>
     requires running { kept.old.over ≡ false }
-    requires plain { IsPlain kept.old }
-    requires room { length writer.old.bytes < 2 ^ 31 }
+    requires room { length (draft_after kept.old writer.old (commands.Ship register)).bytes < 2 ^ 31 }
     ensures reply { IfOk result (λ reply. reply ≡ reply_to kept.old (commands.Ship register)) }
     ensures state { OnOk result (kept.new ≡ state_after kept.old (commands.Ship register)) }
-    ensures draft { OnOk result (writer.new ≡ state_by (first_of (checks kept.old (commands.Ship register))) writer.old (with_pages writer.old (new_pages kept.old (commands.Ship register)))) }
+    ensures draft { OnOk result (writer.new ≡ draft_after kept.old writer.old (commands.Ship register)) }
     ensures admitted { OnErr result (first_of (checks kept.old (commands.Ship register)) ≡ None) }
     ensures err { OnErr result (kept.new ≡ kept.old) }
     ensures same { OnErr result (writer.new ≡ writer.old) }
 {
     match kept.admitted(register) {
         Err(refusal) => return Ok(Err(refusal)),
-        Ok(shown) => writer.add_page(shown)?,
+        Ok(shown) => writer.add_page(shown, kept.fonts())?,
     }
     let pages = kept.count_page(register);
     Ok(Ok(Answer::Shipped(pages)))
@@ -41,27 +40,31 @@ fn ship(kept: &mut Kept, writer: &mut Writer, register: Register) -> Result<Repl
 
 /// Does what a command says, but for the device.
 fn obey(kept: &mut Kept, writer: &mut Writer, command: &Command) -> Result<Reply, AllocError>
-    requires room { kept.old.over ≡ false → length writer.old.bytes < 2 ^ 31 }
-    requires plain { kept.old.over ≡ false → IsPlain kept.old }
+    requires { kept.old.over ≡ false → length (draft_after kept.old writer.old command.now).bytes < 2 ^ 31 }
     ensures reply { IfOk result (λ reply. reply ≡ reply_to kept.old command.now) }
     ensures state { OnOk result (kept.new ≡ state_after kept.old command.now) }
-    ensures draft { OnOk result (writer.new ≡ state_by (first_of (checks kept.old command.now)) writer.old (with_pages writer.old (new_pages kept.old command.now))) }
+    ensures draft { OnOk result (writer.new ≡ draft_after kept.old writer.old command.now) }
+    ensures numbers { IfOk result (λ reply. IfOk reply (λ answer. GivesNumbersFor kept.old command.now)) }
     ensures takes { OnErr result (TakesMemory command.now) }
-    ensures admitted { OnErr result (first_of (checks kept.old command.now) ≡ None) }
+    ensures early { OnErr result (first_of (early_checks kept.old command.now) ≡ None) }
     ensures err { OnErr result (kept.new ≡ kept.old) }
     ensures same { OnErr result (writer.new ≡ writer.old) }
 {
     if kept.is_over() {
         return Ok(Err(Refusal::JobOver));
     }
-    match *command {
-        Command::OpenHbox(into) => kept.open_hbox(into),
+    match command {
+        Command::LoadFont(load) => kept.load_font(load),
+        Command::UseFont(slot) => Ok(kept.use_font(*slot)),
+        Command::OpenHbox(into) => kept.open_hbox(*into),
         Command::End => Ok(kept.end()),
-        Command::Rule(rule) => kept.append_rule(rule),
-        Command::Kern(width) => kept.append_kern(width),
-        Command::Measure(register) => Ok(kept.measure(register)),
-        Command::Void(register) => Ok(kept.void(register)),
-        Command::Ship(register) => ship(kept, writer, register),
+        Command::Text(text) => kept.append_text(text),
+        Command::Character(code) => kept.append_character(*code),
+        Command::Rule(rule) => kept.append_rule(*rule),
+        Command::Kern(width) => kept.append_kern(*width),
+        Command::Measure(register) => Ok(kept.measure(*register)),
+        Command::Void(register) => Ok(kept.void(*register)),
+        Command::Ship(register) => ship(kept, writer, *register),
     }
 }
 
@@ -151,11 +154,11 @@ impl<D: Device> Job<D> {
     /// Ends the job: where there are pages, their file goes to the device. All memory is taken before that.
     pub fn finish(&mut self) -> Result<Summary, Refusal>
         ensures finished { FinishesTo self.old result self.new }
-        ensures file { (m : Machine) → Holds self.old m → OnOk result (IfSome self.new.told (λ bytes. bytes ≡ file_of m.pages)) }
+        ensures file { (m : Machine) → Holds self.old m → OnOk result (IfSome self.new.told (λ bytes. bytes ≡ file_of m.state.fonts m.pages)) }
         ensures dvi { FilesPages self.old result self.new }
         ensures end { ClosesFile self.old result self.new }
         ensures size { IfOk result (λ summary. (m : Machine) → Holds self.old m → IfSome self.new.told (λ bytes. summary.bytes ≡ length bytes)) }
-        ensures front { result ≡ Err Refusal.Device → (m : Machine) → Holds self.old m → IfSome self.new.told (λ bytes. IsFrontOf bytes (file_of m.pages)) }
+        ensures front { result ≡ Err Refusal.Device → (m : Machine) → Holds self.old m → IfSome self.new.told (λ bytes. IsFrontOf bytes (file_of m.state.fonts m.pages)) }
     {
         if self.kept.is_over() {
             return Err(Refusal::JobOver);
@@ -168,7 +171,7 @@ impl<D: Device> Job<D> {
             self.kept.stop();
             return Ok(Summary { pages: 0, bytes: 0 });
         }
-        let Ok(()) = self.writer.close(pages) else {
+        let Ok(()) = self.writer.close(self.kept.fonts(), pages) else {
             return Err(Refusal::OutOfMemory);
         };
         self.kept.stop();
@@ -195,6 +198,3 @@ impl<D: Device> Job<D> {
         device
     }
 }
-
-#[cfg(test)]
-mod tests;

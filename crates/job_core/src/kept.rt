@@ -2,24 +2,30 @@
 
 ghost use Rattle.std.specs.Prelude.{◌≡◌, ◌==◌, ◌<◌, ◌≤◌, ◌+◌, ◌^◌, not, true, false, None, Some, Ok, IfOk, IfErr, OnOk, OnErr, length, option_copied};
 ghost use Rattle.job_core.specs.declared.command.Command.TheVariants as commands;
-ghost use Rattle.node_core.specs.Nodes.{nodes_of};
-ghost use Rattle.job_core.specs.Plain.{HasNoGlyph, IsPlain};
-ghost use Rattle.job_core.specs.Machine.{first_state, held_in, checks, first_of, reply_to, state_after, after, sizes_of};
+ghost use Rattle.job_core.specs.FontSlots as slots;
+ghost use Rattle.job_core.specs.FontSlots.{text_shaped};
+ghost use Rattle.job_core.specs.Loaded.{GivesNumbers};
+ghost use Rattle.job_core.specs.Machine.{first_state, held_in, checks, first_of, reply_by, reply_to, state_by, state_after, after, sizes_of, length_checks, shaped_answer, with_items};
+ghost use Rattle.job_core.specs.Runs.{early_checks};
 
-use crate::command::{Answer, Refusal, Register, Reply, Sizes};
+use crate::command::{Answer, Characters, FontLoad, Refusal, Register, Reply, Sizes};
+use crate::fonts::{Fonts, LoadedFont, read_font};
 use crate::nest::Nest;
 use crate::registers::Registers;
 use crate::{pack, plan};
 use node_core::{BoxNode, Node, Rule, RuleSize};
 use scaled_core::Dimen;
+use shape_core::{Missing, shape_character, shape_text};
 use std::alloc::{AllocError, Global};
 use std::marker::Model;
-use tfm_core::FontFile;
+use tfm_core::{FontFile, file_named};
 
-/// The kept state: font files, open lists, registers and numbers.
+/// The kept state: font files, fonts, open lists, registers and numbers.
 #[derive(Debug, Drop)]
 pub struct Kept {
     files: Vec<FontFile>,
+    fonts: Fonts,
+    current: Option<u8>,
     nest: Nest,
     registers: Registers,
     shipped: u64,
@@ -36,7 +42,7 @@ impl Model for Kept {
 
     ghost coded = { coded_state };
 
-    ghost view = { λ kept. record { files = kept.files.items; nest = kept.nest; registers = kept.registers; shipped = kept.shipped; pages = kept.pages; over = kept.over } };
+    ghost view = { λ kept. record { files = kept.files.items; fonts = kept.fonts; current = kept.current; nest = kept.nest; registers = kept.registers; shipped = kept.shipped; pages = kept.pages; over = kept.over } };
 
     ghost invariant = { λ kept. (kept.shipped ≤ most_shipped) × (kept.pages ≤ most_pages) };
 }
@@ -58,9 +64,12 @@ impl Kept {
         ensures { IfOk result (λ kept. kept ≡ first_state files.now) }
     {
         let files = copies(alloc, files)?;
+        let fonts = Fonts::new(alloc)?;
         let registers = Registers::new(alloc)?;
         Ok(Kept {
             files,
+            fonts,
+            current: None,
             nest: Nest::new(alloc),
             registers,
             shipped: 0,
@@ -95,6 +104,112 @@ impl Kept {
         ensures { result ≡ self.now.pages }
     {
         self.pages
+    }
+
+    /// The fonts.
+    pub fn fonts(&self) -> &Fonts
+        ensures { result.now ≡ self.now.fonts }
+    {
+        &self.fonts
+    }
+
+    /// Reads a font file into a slot.
+    pub fn load_font(&mut self, load: &FontLoad) -> Result<Reply, AllocError>
+        requires { self.old.over ≡ false }
+        ensures reply { IfOk result (λ reply. reply ≡ reply_to self.old (commands.LoadFont load.now)) }
+        ensures state { OnOk result (self.new ≡ state_after self.old (commands.LoadFont load.now)) }
+        ensures numbers { IfOk result (λ reply. IfOk reply (λ answer. GivesNumbers self.old load.now)) }
+        ensures err { OnErr result (self.new ≡ self.old) }
+        ensures early { OnErr result (first_of (early_checks self.old (commands.LoadFont load.now)) ≡ None) }
+    {
+        if self.fonts.get(load.slot).is_some() {
+            return Ok(Err(Refusal::SlotTaken));
+        }
+        let Some(file) = file_named(&self.files, &load.name) else {
+            return Ok(Err(Refusal::NoFont));
+        };
+        let alloc = *self.files.allocator();
+        let font = match read_font(alloc, file, load.size)? {
+            Ok(font) => font,
+            Err(refusal) => return Ok(Err(refusal)),
+        };
+        let name = load.name.copy(alloc)?;
+        self.fonts.put(load.slot, LoadedFont { name, font });
+        Ok(Ok(Answer::Done))
+    }
+
+    /// Chooses the font of a slot.
+    pub fn use_font(&mut self, slot: u8) -> Reply
+        requires { self.old.over ≡ false }
+        ensures reply { result ≡ reply_to self.old (commands.UseFont slot) }
+        ensures state { self.new ≡ state_after self.old (commands.UseFont slot) }
+    {
+        if self.fonts.get(slot).is_none() {
+            return Err(Refusal::NoFont);
+        }
+        self.current = Some(slot);
+        Ok(Answer::Done)
+    }
+
+    /// Appends the items that characters come to, where the innermost list has room for them.
+    fn append_shaped(&mut self, items: Vec<Node>, missing: Missing) -> Result<Reply, AllocError>
+        ensures reply { IfOk result (λ reply. reply ≡ reply_by (first_of (length_checks self.old items.items)) (shaped_answer (record { items = items.items; missing = missing.characters }))) }
+        ensures state { OnOk result (self.new ≡ state_by (first_of (length_checks self.old items.items)) self.old (with_items self.old items.items)) }
+        ensures err { OnErr result (self.new ≡ self.old) }
+    {
+        if self.nest.item_count().saturating_add(items.len()) > 65536 {
+            return Ok(Err(Refusal::ListTooLong));
+        }
+        let count = items.len();
+        self.nest.extend(items)?;
+        Ok(Ok(Answer::Shaped {
+            items: count,
+            missing: missing.characters,
+        }))
+    }
+
+    /// Appends a text in the current font.
+    pub fn append_text(&mut self, text: &Characters) -> Result<Reply, AllocError>
+        requires { self.old.over ≡ false }
+        ensures reply { IfOk result (λ reply. reply ≡ reply_to self.old (commands.Text text.now)) }
+        ensures state { OnOk result (self.new ≡ state_after self.old (commands.Text text.now)) }
+        ensures err { OnErr result (self.new ≡ self.old) }
+        ensures early { OnErr result (first_of (early_checks self.old (commands.Text text.now)) ≡ None) }
+    {
+        if self.nest.len() == 0 {
+            return Ok(Err(Refusal::NoOpenList));
+        }
+        let Some(slot) = self.current else {
+            return Ok(Err(Refusal::NoFont));
+        };
+        let Some(loaded) = self.fonts.get(slot) else {
+            return Ok(Err(Refusal::NoFont));
+        };
+        let mut items = Vec::new(*self.files.allocator());
+        let missing = shape_text(&loaded.font, slot, text.codes(), &mut items)?;
+        self.append_shaped(items, missing)
+    }
+
+    /// Appends a character of the current font.
+    pub fn append_character(&mut self, code: u8) -> Result<Reply, AllocError>
+        requires { self.old.over ≡ false }
+        ensures reply { IfOk result (λ reply. reply ≡ reply_to self.old (commands.Character code)) }
+        ensures state { OnOk result (self.new ≡ state_after self.old (commands.Character code)) }
+        ensures err { OnErr result (self.new ≡ self.old) }
+        ensures early { OnErr result (first_of (early_checks self.old (commands.Character code)) ≡ None) }
+    {
+        if self.nest.len() == 0 {
+            return Ok(Err(Refusal::NoOpenList));
+        }
+        let Some(slot) = self.current else {
+            return Ok(Err(Refusal::NoFont));
+        };
+        let Some(loaded) = self.fonts.get(slot) else {
+            return Ok(Err(Refusal::NoFont));
+        };
+        let mut items = Vec::new(*self.files.allocator());
+        let missing = shape_character(&loaded.font, slot, code, &mut items)?;
+        self.append_shaped(items, missing)
     }
 
     /// Opens a horizontal list.
@@ -195,11 +310,8 @@ impl Kept {
     }
 
     /// The box in a register that may be shipped now, or why it may not.
-    #[tactic(auto, using(crate::proofs::Plainness::plain_held))]
     pub fn admitted(&self, register: Register) -> Result<&BoxNode, Refusal>
-        requires running { self.now.over ≡ false }
-        requires plain { IsPlain self.now }
-        ensures plain { IfOk result (λ shown. HasNoGlyph (nodes_of shown.now.list)) }
+        requires { self.now.over ≡ false }
         ensures shown { IfOk result (λ shown. held_in self.now.registers register ≡ Some shown.now) }
         ensures ok { OnOk result (first_of (checks self.now (commands.Ship register)) ≡ None) }
         ensures err { IfErr result (λ refusal. first_of (checks self.now (commands.Ship register)) ≡ Some refusal) }

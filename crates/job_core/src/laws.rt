@@ -1,26 +1,29 @@
 //! What holds of a job from its beginning to its end, as the contracts of functions that do nothing.
 
-ghost use Rattle.std.specs.Prelude.{◌≡◌, ◌++◌, [], ◌∷◌, List, length, Result, IfOk, IfSome};
+ghost use Rattle.std.specs.Prelude.{◌≡◌, ◌++◌, [], ◌∷◌, ℕ, List, length, Result, IfOk, IfSome};
 ghost use Rattle.job_core.specs.declared.command.Command.{Command};
 ghost use Rattle.job_core.specs.declared.command.Refusal.{Refusal};
 ghost use Rattle.job_core.specs.declared.command.Summary.{Summary};
 ghost use Rattle.job_core.specs.Reply.{Reply};
 ghost use Rattle.tfm_core.specs.NamedBytes.{NamedBytes};
 ghost use Rattle.job_core.specs.Machine.{Machine, first_machine};
-ghost use Rattle.job_core.specs.Runs.{Seen, Holds, KeepsTo, RunsTo, FinishesTo};
+ghost use Rattle.job_core.specs.Runs.{Seen, Run, Holds, KeepsTo, RunsTo, FinishesTo};
+ghost use Rattle.std.specs.List.{AllByRecursion};
+ghost use Rattle.job_core.specs.GlyphWidths.{IsMeasuredPage};
+ghost use Rattle.job_core.specs.Closing.{ClosesFile};
 ghost use Rattle.job_core.specs.Shown.{FilesPages};
 ghost use Rattle.job_core.specs.Headline.{IsDone};
 
 /// After any list of commands, each answer and the kept state are the abstract machine's, and the finished file, where every write
-/// succeeded, is by the DVI definition a well-formed file of exactly the machine's pages in order: the same rules, in the same order, at
-/// the same scaled points, under the same ten counts.
+/// succeeded, is by the DVI definition a well-formed file of exactly the machine's pages in order: the same glyphs and rules, in the
+/// same order, at the same scaled points, under the same ten counts. The widths of the glyphs are those of the job's own font files.
 ///
 /// What it rests on is what `Job::new`, `Job::run` and `Job::finish` ensure, in this order.
 pub fn headline()
     ensures { (files : List NamedBytes) (commands : List Command) (replies : List Reply) (result : Result Summary Refusal) (new run ended : Seen)
         → Holds new (first_machine files)
         → RunsTo new commands replies run
-        → FinishesTo run result ended → FilesPages run result ended
+        → FinishesTo run result ended → FilesPages run result ended → ClosesFile run result ended
         → IfOk result (λ summary. (m : Machine) → Holds run m → IfSome ended.told (λ bytes. summary.bytes ≡ length bytes))
         → IsDone files commands replies result new run ended }
 {}
@@ -31,4 +34,15 @@ pub fn runs_are_joined()
     ensures step { (old new : Seen) (command : Command) (reply : Reply) → KeepsTo old command reply new → RunsTo old (command ∷ []) (reply ∷ []) new }
     ensures behind { (old middle new : Seen) (commands more : List Command) (replies others : List Reply)
         → RunsTo old commands replies middle → RunsTo middle more others new → RunsTo old (commands ++ more) (replies ++ others) new }
+{}
+
+/// The font files stay those that the job was given.
+pub fn runs_keep_files()
+    ensures { (m next : Machine) (n k : ℕ) (commands : List Command) (replies : List Reply) → Run m n commands replies next k → next.state.files ≡ m.state.files }
+{}
+
+/// The metrics law: after any run, the slot of each glyph of each page has a font; by its name and its size the job's own font files give
+/// widths; and the glyph has that of its character. So one slot has one size, and in one size a character has one width.
+pub fn glyphs_have_the_widths_of_their_files()
+    ensures { (files : List NamedBytes) (n k : ℕ) (commands : List Command) (replies : List Reply) (m : Machine) → Run (first_machine files) n commands replies m k → AllByRecursion (IsMeasuredPage m.state) m.pages }
 {}

@@ -3,6 +3,7 @@
 
 pub mod command;
 pub mod device;
+mod fonts;
 pub mod job;
 mod kept;
 pub mod laws;
@@ -13,6 +14,8 @@ mod registers;
 pub mod totality;
 mod writer;
 
-pub use command::{Answer, Command, Refusal, Register, Reply, Sizes, Summary};
+pub use command::{
+    Answer, Characters, Command, FontLoad, Refusal, Register, Reply, Sizes, Summary,
+};
 pub use device::{Device, DeviceFault, Memory};
-pub use tfm_core::FontFile;
+pub use tfm_core::{FontFile, FontName, FontSize, TfmCause};

@@ -1,9 +1,9 @@
 //! The open lists of a job.
 
-ghost use Rattle.std.specs.Prelude.{◌≡◌, ◌<◌, ◌≤◌, ◌-◌, ◌++◌, ◌∷◌, ℕ, [], List, length, take, slice_get, slice_set, OnOk, OnErr, IfSome, IsTrue, Some, is_some, option_copied};
+ghost use Rattle.std.specs.Prelude.{◌≡◌, ◌<◌, ◌≤◌, ◌+◌, ◌-◌, ◌++◌, ◌∷◌, ℕ, [], List, length, take, slice_get, slice_set, OnOk, OnErr, IfSome, IsTrue, Some, is_some, option_copied};
 ghost use Rattle.node_core.specs.Items.{none};
-ghost use Rattle.node_core.specs.Nodes.{items_of, nodes_of};
-ghost use Rattle.job_core.specs.Machine.{innermost, outer, with_node};
+ghost use Rattle.node_core.specs.Nodes.{most_nodes, items_of, nodes_of};
+ghost use Rattle.job_core.specs.Machine.{innermost, items_in, outer, with_nodes};
 
 use crate::command::Register;
 use node_core::{Node, NodeList};
@@ -74,6 +74,16 @@ impl Nest {
         self.lists.last()
     }
 
+    /// How many items the innermost open list has: 0 where none is open.
+    pub fn item_count(&self) -> usize
+        ensures { result ≡ length (nodes_of (items_in (innermost self.now))) }
+    {
+        match self.lists.last() {
+            Some(innermost) => innermost.list.len(),
+            None => 0,
+        }
+    }
+
     /// Opens a list without nodes inside the others.
     pub fn begin(&mut self, into: Register) -> Result<(), AllocError>
         requires { length self.old < 64 }
@@ -87,7 +97,8 @@ impl Nest {
 
     /// Puts a node at the end of the innermost list.
     pub fn append(&mut self, node: Node) -> Result<(), AllocError>
-        ensures ok { OnOk result (self.new ≡ with_node self.old node (innermost self.old)) }
+        requires { length (nodes_of (items_in (innermost self.old))) < most_nodes }
+        ensures ok { OnOk result (self.new ≡ with_nodes self.old (node ∷ []) (innermost self.old)) }
         ensures err { OnErr result (self.new ≡ self.old) }
     {
         let count = self.lists.len();
@@ -101,6 +112,22 @@ impl Nest {
             Ok(()) => Ok(()),
             Err(_) => Err(AllocError),
         }
+    }
+
+    /// Puts nodes at the end of the innermost list, in order.
+    pub fn extend(&mut self, nodes: Vec<Node>) -> Result<(), AllocError>
+        requires { length (nodes_of (items_in (innermost self.old))) + length nodes.items ≤ most_nodes }
+        ensures ok { OnOk result (self.new ≡ with_nodes self.old nodes.items (innermost self.old)) }
+        ensures err { OnErr result (self.new ≡ self.old) }
+    {
+        let count = self.lists.len();
+        if count == 0 {
+            return Ok(());
+        }
+        let Some(innermost) = self.lists.get_mut(count - 1) else {
+            return Ok(());
+        };
+        innermost.list.extend(nodes)
     }
 
     /// Takes the innermost list away.

@@ -5,7 +5,7 @@ ghost use Rattle.std.specs.Int.{int_max};
 ghost use Rattle.node_core.specs.Nodes.{nodes_of};
 ghost use Rattle.job_core.specs.Packing.{fits, own_size, advance, above, below, total, greatest, packed};
 
-use node_core::{BoxNode, Kind, Node, NodeList, RuleSize};
+use node_core::{BoxNode, Kind, Node, NodeList, RuleSize, Setting};
 use scaled_core::Dimen;
 
 /// The dimension of a number of scaled points, where it is one.
@@ -40,6 +40,7 @@ pub fn advance_of(node: &Node) -> Dimen
         Node::FontKern(width) => *width,
         Node::Kern(width) => *width,
         Node::Glue(glue) => glue.width,
+        Node::Penalty(_) => Dimen::ZERO,
         Node::Rule(rule) => counted(rule.width),
     }
 }
@@ -124,6 +125,7 @@ pub fn pack(list: NodeList, width: Dimen) -> BoxNode
         width,
         height,
         depth,
+        setting: Setting::Natural,
         list,
     }
 }

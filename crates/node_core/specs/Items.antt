@@ -4,12 +4,13 @@ use Rattle.node_core.specs.declared.tree.Glue.{Glue}
 use Rattle.node_core.specs.declared.tree.Glyph.{Glyph}
 use Rattle.node_core.specs.declared.tree.Rule.{Rule}
 
--- An item that has no items of its own: a character of a font, a kern of a font, an explicit kern, glue, or a rule (TeX: The Program, part 10).
+-- An item that has no items of its own: a character of a font, a kern of a font, an explicit kern, glue, a penalty, or a rule (TeX: The Program, part 10).
 pub data Leaf : Type 0 where
   glyph : Glyph → Leaf
   font_kern : ℤ → Leaf
   kern : ℤ → Leaf
   glue : Glue → Leaf
+  penalty : ℤ → Leaf
   rule : Rule → Leaf
 
 -- The items of a list: none, or an item and those after it (own).

@@ -1,9 +1,13 @@
 -- A list of nodes and the items that it is seen as (own).
 use Rattle.std.specs.Prelude.{ℕ, ◌+◌, List, [], ◌∷◌}
 use Rattle.node_core.specs.declared.tree.Node.{Node}
-use Rattle.node_core.specs.declared.tree.Node.TheVariants.{Glyph, FontKern, Kern, Glue, Rule}
+use Rattle.node_core.specs.declared.tree.Node.TheVariants.{Glyph, FontKern, Kern, Glue, Penalty, Rule}
 use Rattle.node_core.specs.declared.tree.BoxNode.{BoxNode}
-use Rattle.node_core.specs.Items.{glyph, font_kern, kern, glue, rule, Items, none, leaf, items_depth, items_count}
+use Rattle.node_core.specs.Items.{glyph, font_kern, kern, glue, penalty, rule, Items, none, leaf, items_depth, items_count}
+
+-- A list has at most so many nodes (own).
+abbrev pub most_nodes : ℕ
+most_nodes = 131072
 
 -- The items that a list of nodes is (own).
 abbrev pub items_of : List Node → Items
@@ -12,6 +16,7 @@ items_of ((Glyph g) ∷ rest) = leaf (glyph g) (items_of rest)
 items_of ((FontKern width) ∷ rest) = leaf (font_kern width) (items_of rest)
 items_of ((Kern width) ∷ rest) = leaf (kern width) (items_of rest)
 items_of ((Glue g) ∷ rest) = leaf (glue g) (items_of rest)
+items_of ((Penalty p) ∷ rest) = leaf (penalty p) (items_of rest)
 items_of ((Rule sizes) ∷ rest) = leaf (rule sizes) (items_of rest)
 
 -- The nodes that items are (own).
@@ -21,6 +26,7 @@ nodes_of (leaf (glyph g) rest) = Glyph g ∷ nodes_of rest
 nodes_of (leaf (font_kern width) rest) = FontKern width ∷ nodes_of rest
 nodes_of (leaf (kern width) rest) = Kern width ∷ nodes_of rest
 nodes_of (leaf (glue g) rest) = Glue g ∷ nodes_of rest
+nodes_of (leaf (penalty p) rest) = Penalty p ∷ nodes_of rest
 nodes_of (leaf (rule sizes) rest) = Rule sizes ∷ nodes_of rest
 
 -- The depth of a box: 1 if no box stands in it (own).

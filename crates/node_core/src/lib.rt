@@ -5,4 +5,4 @@
 
 pub mod tree;
 
-pub use tree::{BoxNode, Glue, Glyph, Kind, Node, NodeList, Order, Rule, RuleSize};
+pub use tree::{BoxNode, Glue, Glyph, Kind, Node, NodeList, Order, Rule, RuleSize, Setting};

@@ -3,11 +3,11 @@
 //! A list is seen as its items, a tree without pointers and capacities; so two lists, nodes or boxes are equal in a clause exactly where they are
 //! the same tree. `nodes_of` gives the nodes of a list in order.
 
-ghost use Rattle.std.specs.Prelude.{◌≡◌, ◌==◌, ℕ, ◌+◌, List, [], ◌∷◌, ◌++◌, length, OnOk, OnErr, IfOk, IfErr, min};
+ghost use Rattle.std.specs.Prelude.{◌≡◌, ◌==◌, ◌<◌, ◌≤◌, ℕ, ◌+◌, List, [], ◌∷◌, ◌++◌, length, OnOk, OnErr, IfOk, IfErr, min};
 ghost use Rattle.node_core.specs.Items.{Items, none, items_depth, items_count};
-ghost use Rattle.node_core.specs.Nodes.{items_of, nodes_of, box_depth, box_count};
+ghost use Rattle.node_core.specs.Nodes.{most_nodes, items_of, nodes_of, box_depth, box_count};
 
-use scaled_core::Dimen;
+use scaled_core::{Dimen, Ratio};
 use std::alloc::{AllocError, AllocFailed, Global};
 use std::marker::Model;
 
@@ -22,6 +22,8 @@ pub enum Node {
     Kern(Dimen),
     /// Glue: space that may stretch and shrink.
     Glue(Glue),
+    /// A penalty: how little a break is wanted here.
+    Penalty(i32),
     /// A rule: a filled rectangle.
     Rule(Rule),
 }
@@ -83,6 +85,18 @@ pub enum Kind {
     Vertical,
 }
 
+/// How the glue of a box is set: glue of the order stretches or shrinks by the ratio times what it can, other glue stays natural (TeX: The
+/// Program, part 10; the ratio is exact).
+#[derive(Clone, Copy, Debug, PartialEq, Eq)]
+pub enum Setting {
+    /// All glue is as wide as it is by itself.
+    Natural,
+    /// Glue stretches.
+    Stretch { order: Order, ratio: Ratio },
+    /// Glue shrinks.
+    Shrink { order: Order, ratio: Ratio },
+}
+
 /// A box: its sizes, in scaled points, and the list that is set in it (TeX: The Program, part 10).
 #[derive(Debug, Drop)]
 pub struct BoxNode {
@@ -92,10 +106,11 @@ pub struct BoxNode {
     pub height: Dimen,
     /// How far it goes below its reference point.
     pub depth: Dimen,
+    pub setting: Setting,
     pub list: NodeList,
 }
 
-/// A list of nodes, in order.
+/// A list of at most 131,072 nodes, in order.
 #[derive(Debug, Drop)]
 pub struct NodeList {
     nodes: Vec<Node>,
@@ -112,6 +127,11 @@ impl Model for NodeList {
     ghost use Rattle.node_core.specs.Nodes.{items_of};
 
     ghost view = { λ list. items_of list.nodes.items };
+
+    ghost use Rattle.std.specs.Prelude.{◌≤◌, length};
+    ghost use Rattle.node_core.specs.Nodes.{most_nodes};
+
+    ghost invariant = { λ list. length list.nodes.items ≤ most_nodes };
 }
 
 impl NodeList {
@@ -124,9 +144,10 @@ impl NodeList {
         }
     }
 
-    /// The list of these nodes. It takes no memory.
+    /// The list of these nodes, at most 131,072. It takes no memory.
     #[tactic(auto, using(crate::proofs::NodeLemmas::nodes))]
     pub fn from_vec(nodes: Vec<Node>) -> NodeList
+        requires short { length nodes.items ≤ most_nodes }
         ensures items { result ≡ items_of nodes.items }
         ensures nodes { nodes_of result ≡ nodes.items }
     {
@@ -145,7 +166,8 @@ impl NodeList {
     /// The nodes of the list, lent.
     #[tactic(auto, using(crate::proofs::NodeLemmas::nodes))]
     pub fn as_slice(&self) -> &[Node]
-        ensures { result.now ≡ nodes_of self.now }
+        ensures nodes { result.now ≡ nodes_of self.now }
+        ensures short { length (nodes_of self.now) ≤ most_nodes }
     {
         &self.nodes
     }
@@ -153,7 +175,8 @@ impl NodeList {
     /// The number of nodes, those in inner boxes not counted.
     #[tactic(auto, using(crate::proofs::NodeLemmas::nodes))]
     pub fn len(&self) -> usize
-        ensures { result ≡ length (nodes_of self.now) }
+        ensures count { result ≡ length (nodes_of self.now) }
+        ensures short { length (nodes_of self.now) ≤ most_nodes }
     {
         self.nodes.len()
     }
@@ -166,9 +189,10 @@ impl NodeList {
         self.nodes.is_empty()
     }
 
-    /// Puts a node behind the others. A refused growth hands it back and leaves the list as it was.
+    /// Puts a node behind the others, which are fewer than 131,072. A refused growth hands it back and leaves the list as it was.
     #[tactic(auto, using(crate::proofs::NodeLemmas::nodes))]
     pub fn push(&mut self, node: Node) -> Result<(), AllocFailed<Node>>
+        requires short { length (nodes_of self.old) < most_nodes }
         ensures ok { OnOk result (self.new ≡ items_of (nodes_of self.old ++ node ∷ [])) }
         ensures nodes { OnOk result (nodes_of self.new ≡ nodes_of self.old ++ node ∷ []) }
         ensures err { OnErr result (self.new ≡ self.old) }
@@ -178,6 +202,17 @@ impl NodeList {
             Ok(()) => Ok(()),
             Err(failed) => Err(failed),
         }
+    }
+
+    /// Puts nodes behind the others, in order; together they are at most 131,072. A refused growth leaves the list as it was.
+    #[tactic(auto, using(crate::proofs::NodeLemmas::nodes))]
+    pub fn extend(&mut self, mut nodes: Vec<Node>) -> Result<(), AllocError>
+        requires short { length (nodes_of self.old) + length nodes.items ≤ most_nodes }
+        ensures ok { OnOk result (self.new ≡ items_of (nodes_of self.old ++ nodes.items)) }
+        ensures nodes { OnOk result (nodes_of self.new ≡ nodes_of self.old ++ nodes.items) }
+        ensures err { OnErr result (self.new ≡ self.old) }
+    {
+        self.nodes.append(&mut nodes)
     }
 
     /// An equal list in memory of its own; refused only where a growth is.
@@ -203,6 +238,7 @@ impl Node {
             Node::FontKern(width) => Node::FontKern(*width),
             Node::Kern(width) => Node::Kern(*width),
             Node::Glue(glue) => Node::Glue(*glue),
+            Node::Penalty(penalty) => Node::Penalty(*penalty),
             Node::Rule(rule) => Node::Rule(*rule),
         }
     }
@@ -219,6 +255,7 @@ impl BoxNode {
             width: self.width,
             height: self.height,
             depth: self.depth,
+            setting: self.setting,
             list,
         })
     }
@@ -239,6 +276,3 @@ impl BoxNode {
         (self.list.len() as u64).saturating_add(1)
     }
 }
-
-#[cfg(test)]
-mod tests;

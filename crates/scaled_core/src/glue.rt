@@ -51,23 +51,3 @@ fn ratio_badness(ratio: u64) -> u32
     }
     nearest(u128::from(ratio * ratio * ratio), 262_144) as u32
 }
-
-#[cfg(test)]
-mod tests {
-    use super::*;
-
-    #[test]
-    fn badness_of_glue(rt: HostRuntime) {
-        for (t, s, b) in [
-            (65_536, 65_536, 100),
-            (0, 0, 0),
-            (0, -1, 0),
-            (1, 0, 10_000),
-            (1, -65_536, 10_000),
-            (7_230_585, 1_663_496, 10_000),
-            (7_230_585, 1_663_497, 8_189),
-        ] {
-            assert_eq!(rt; badness(t, s), b, "at {t}, {s}");
-        }
-    }
-}

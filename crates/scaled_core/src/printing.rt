@@ -78,32 +78,3 @@ fn rounded_last(rest: u32, unit: u32) -> u32
     }
     rest
 }
-
-#[cfg(test)]
-mod tests {
-    use super::*;
-    use crate::reading::parse_dimen;
-    use std::test::Fail;
-
-    #[test]
-    fn prints_and_reads_back(rt: HostRuntime) -> Result<(), Fail> {
-        for (value, text) in [
-            (10, "0.00015"),
-            (1_073_741_823, "16383.99998"),
-            (65536, "1.0"),
-            (-65536, "-1.0"),
-            (0, "0.0"),
-            (-1, "-0.00002"),
-            (655_360, "10.0"),
-            (33_000, "0.50354"),
-        ] {
-            let dimension = Dimen::try_new(value).expect(&rt, "it fits");
-            let mut out = Vec::from_slice(rt.alloc(), b"size ")?;
-            print_dimen(dimension, &mut out)?;
-            assert_eq!(rt; &out[5..], text.as_bytes());
-            out.extend_from_slice(b"pt")?;
-            assert_eq!(rt; parse_dimen(&out[5..]), Ok(dimension), "at {text}");
-        }
-        Ok(())
-    }
-}

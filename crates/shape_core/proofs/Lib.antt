@@ -1,3 +1,4 @@
 pub mod ShapingLemmas
 pub mod CutLemmas
 pub mod TextLemmas
+pub mod GlyphLemmas

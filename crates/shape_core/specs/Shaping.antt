@@ -2,6 +2,7 @@
 use Rattle.std.specs.Prelude.{◌≡◌, ◌+◌, ◌++◌, ℕ, ℤ, List, [], ◌∷◌, Option, Some, None, if◌then◌else◌, is_some, slice_get}
 use Rattle.node_core.specs.declared.tree.Node.{Node}
 use Rattle.node_core.specs.declared.tree.Node.TheVariants.{Glyph, FontKern}
+use Rattle.node_core.specs.declared.tree.Node.TheVariants as nodes
 use Rattle.shape_core.specs.declared.word.Outcome.{Outcome}
 use Rattle.shape_core.specs.declared.word.Outcome.TheVariants.{Dropped, Alone, Kerned, Joined}
 use Rattle.tfm_core.specs.declared.font.GlyphSize.{GlyphSize}
@@ -86,3 +87,12 @@ shaped_items slot sizes steps (c ∷ word) = items_from slot sizes steps c word
 abbrev pub shaped_missing : (ℕ → Option GlyphSize) → (ℕ → ℕ → Option Step) → List ℕ → ℕ
 shaped_missing sizes steps [] = 0
 shaped_missing sizes steps (c ∷ word) = missing_from sizes steps c word
+
+-- a glyph is one of this slot and has the sizes of its character
+abbrev pub IsGlyphOf : ℕ → (ℕ → Option GlyphSize) → Node → Type 0
+IsGlyphOf slot sizes (Glyph g) = (g.slot ≡ slot) × (sizes g.code ≡ Some (record { width = g.width; height = g.height; depth = g.depth }))
+IsGlyphOf slot sizes (FontKern width) = Unit {0}
+IsGlyphOf slot sizes (nodes.Kern width) = Unit {0}
+IsGlyphOf slot sizes (nodes.Glue g) = Unit {0}
+IsGlyphOf slot sizes (nodes.Penalty penalty) = Unit {0}
+IsGlyphOf slot sizes (nodes.Rule rule) = Unit {0}

@@ -1,9 +1,11 @@
 //! Laws of the definitions, each on a function that does nothing.
 
 ghost use Rattle.std.specs.Prelude.{◌≡◌, ◌↔◌, ℕ, List, Option};
+ghost use Rattle.std.specs.List.{AllByRecursion};
+ghost use Rattle.node_core.specs.declared.tree.Glue.{Glue};
 ghost use Rattle.node_core.specs.declared.tree.Node.{Node};
-ghost use Rattle.shape_core.specs.Shaping.{Shaping, shaped_items, shaped_missing};
-ghost use Rattle.shape_core.specs.Texts.{IsCut, Part, parts_of};
+ghost use Rattle.shape_core.specs.Shaping.{IsGlyphOf, Shaping, shaped_items, shaped_missing};
+ghost use Rattle.shape_core.specs.Texts.{IsCut, Part, parts_of, text_items};
 ghost use Rattle.tfm_core.specs.declared.font.GlyphSize.{GlyphSize};
 ghost use Rattle.tfm_core.specs.declared.font.Step.{Step};
 
@@ -16,4 +18,12 @@ pub fn words_have_one_shaping()
 /// `parts_of` gives the one way to cut a text into its parts.
 pub fn texts_are_cut_in_one_way()
     ensures { (text : List ℕ) (parts : List Part) → (IsCut text parts ↔ (parts ≡ parts_of text)) }
+{}
+
+/// Each glyph among the items of a word or a text has the slot of the font, and the sizes that the font gives to its character.
+pub fn glyphs_have_their_sizes()
+    ensures words { (slot : ℕ) (sizes : ℕ → Option GlyphSize) (steps : ℕ → ℕ → Option Step) (word : List ℕ) →
+        AllByRecursion (IsGlyphOf slot sizes) (shaped_items slot sizes steps word) }
+    ensures texts { (slot : ℕ) (sizes : ℕ → Option GlyphSize) (steps : ℕ → ℕ → Option Step) (blank : Glue) (text : List ℕ) →
+        AllByRecursion (IsGlyphOf slot sizes) (text_items slot sizes steps blank text) }
 {}

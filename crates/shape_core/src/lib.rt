@@ -9,8 +9,3 @@ pub mod word;
 pub use metrics::Metrics;
 pub use text::{shape_character, shape_text};
 pub use word::{Missing, shape};
-
-#[cfg(test)]
-mod samples;
-#[cfg(test)]
-mod tests;

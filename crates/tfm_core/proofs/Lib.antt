@@ -1,4 +1,5 @@
 pub mod LawLemmas
+pub mod ByteLemmas
 pub mod FontLemmas
 pub mod ProgramLemmas
 pub mod ReadingLemmas

@@ -1,5 +1,7 @@
 -- A metric file at a size (TeX: The Program, part 30).
 use Rattle.std.specs.Prelude.{◌≡◌, ◌&&◌, ◌||◌, ◌+◌, ◌-◌, ◌*◌, ◌<◌, ℕ, ℤ, pos, Bool, true, not, List, Option, Some, None, if◌then◌else◌, IsSome, get_or, is_none, length, map, nat_le, nat_lt, slice_get, unsigned_abs, unwrap_or}
+use Rattle.std.specs.Int.{w32}
+use Rattle.std.specs.Int.RustNames.{FitsSigned}
 use Rattle.std.specs.List.{list_all}
 use Rattle.std.specs.Option.{option_and_then, option_map}
 use Rattle.tfm_core.specs.declared.font.GlyphSize.{GlyphSize}
@@ -11,7 +13,7 @@ use Rattle.tfm_core.specs.declared.record.LigKernStep.{LigKernStep}
 use Rattle.tfm_core.specs.MetricFile.{MetricFile}
 use Rattle.tfm_core.specs.Program.{first_for, info_program}
 use Rattle.tfm_core.specs.Rules.{character_at, names_past}
-use Rattle.tfm_core.specs.Scaling.{design_size_of, scaled}
+use Rattle.tfm_core.specs.Scaling.{IsFontSize, design_size_of, scaled}
 
 -- the size that is asked for, or the design size (TeX: The Program, part 30)
 abbrev pub chosen_size : MetricFile → Option ℤ → ℤ
@@ -77,6 +79,12 @@ unfoldable pub fits_at : MetricFile → ℤ → Bool
 fits_at file size =
     are_dimens_at size file.widths && are_dimens_at size file.heights && are_dimens_at size file.depths
     && are_dimens_at size file.kerns && is_space_at size file.parameters
+
+-- the numbers that a font definition has fit their fields (DVItype, 18)
+pub record HasNumbers (font : SizedFont) : Type 0 where
+  pub size : IsFontSize font.size
+  pub design_size : IsFontSize font.design_size
+  pub check_sum : FitsSigned w32 font.check_sum
 
 -- the sizes that a character names (TFtoPL, 11)
 abbrev pub sizes_of : SizedFont → CharInfo → GlyphSize

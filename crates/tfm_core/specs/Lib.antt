@@ -6,3 +6,4 @@ pub mod Rules
 pub mod Scaling
 pub mod Words
 pub mod NamedBytes
+pub mod FileWidths

@@ -2,7 +2,7 @@
 
 ghost use Rattle.std.specs.Prelude.{◌≡◌, ◌≤◌, ◌↔◌, map, ℤ, Err, IfOk, IfSome, IsSome, IsTrue, OnOk, false, true};
 ghost use Rattle.tfm_core.specs.declared.fault.FontFault.TheVariants.{DimensionTooLarge};
-ghost use Rattle.tfm_core.specs.Fonts.{HasAction, HasSizes, action_of, are_dimens_at, chosen_size, fits_at, font_at, glyph_of, is_dimen_at, is_space_at, matching_step, parameter, sizes_of, space_at, step_of};
+ghost use Rattle.tfm_core.specs.Fonts.{HasAction, HasNumbers, HasSizes, action_of, are_dimens_at, chosen_size, fits_at, font_at, glyph_of, is_dimen_at, is_space_at, matching_step, parameter, sizes_of, space_at, step_of};
 ghost use Rattle.tfm_core.specs.Rules.{KeepsRules, character_at};
 ghost use Rattle.tfm_core.specs.Scaling.{scaled as scaled_by};
 
@@ -179,7 +179,8 @@ fn space_at(size: FontSize, parameters: &[i32]) -> Space
 fn font_at(alloc: Global, file: &Entries, size: FontSize) -> Result<Font, AllocError>
     requires kept { KeepsRules file.now }
     requires fits { fits_at file.now size ≡ true }
-    ensures { IfOk result (λ font. font ≡ font_at file.now size) }
+    ensures value { IfOk result (λ font. font ≡ font_at file.now size) }
+    ensures numbers { IfOk result HasNumbers }
 {
     Ok(Font {
         size,
@@ -204,6 +205,7 @@ impl Font {
     pub fn at_size(alloc: Global, tfm: &Tfm, size: Option<FontSize>) -> Result<Font, FontFault>
         ensures ok { IfOk result (λ font. font ≡ font_at tfm.now (chosen_size tfm.now size)) }
         ensures fits { OnOk result (fits_at tfm.now (chosen_size tfm.now size) ≡ true) }
+        ensures numbers { IfOk result HasNumbers }
         ensures refused { result ≡ Err DimensionTooLarge → fits_at tfm.now (chosen_size tfm.now size) ≡ false }
     {
         let size = chosen_size(tfm, size);
@@ -312,6 +314,3 @@ impl Font {
         Some(Step::Ligature(step.remainder))
     }
 }
-
-#[cfg(test)]
-mod tests;

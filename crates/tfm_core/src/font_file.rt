@@ -1,15 +1,64 @@
 //! Font files that are handed in by name.
 
-ghost use Rattle.std.specs.Prelude.{◌≡◌, IfOk};
-ghost use Rattle.tfm_core.specs.NamedBytes.{NamedBytes};
+ghost use Rattle.std.specs.Prelude.{◌≡◌, ◌<◌, length, option_copied, IfOk};
+ghost use Rattle.std.specs.Option.{SomeIff};
+ghost use Rattle.tfm_core.specs.NamedBytes.{NamedBytes, IsFontName, file_named};
 
 use std::alloc::{AllocError, Global};
 use std::marker::Model;
 
-/// A font file: its name of 1 to 255 bytes, and its bytes.
+/// The name of a font: 1 to 255 bytes.
+#[derive(Debug, Drop)]
+pub struct FontName {
+    bytes: Vec<u8>,
+}
+
+impl Model for FontName {
+    ghost use Rattle.std.specs.Prelude.{ℕ, List};
+    ghost use Rattle.tfm_core.specs.NamedBytes.{IsFontName};
+
+    ghost Value = { List ℕ };
+
+    ghost view = { λ name. name.bytes.items };
+
+    ghost invariant = { λ name. IsFontName name.bytes.items };
+}
+
+impl FontName {
+    /// The name of these bytes, or None exactly where they are not 1 to 255.
+    pub fn try_new(bytes: Vec<u8>) -> Option<FontName>
+        ensures { SomeIff result (IsFontName bytes.items) bytes.items }
+    {
+        if bytes.is_empty() {
+            return None;
+        }
+        if bytes.len() > 255 {
+            return None;
+        }
+        Some(FontName { bytes })
+    }
+
+    /// Its bytes.
+    pub fn as_bytes(&self) -> &[u8]
+        ensures value { result.now ≡ self.now }
+        ensures name { IsFontName self.now }
+    {
+        &self.bytes
+    }
+
+    /// An equal name in memory of its own.
+    pub fn copy(&self, alloc: Global) -> Result<FontName, AllocError>
+        ensures { IfOk result (λ copy. copy ≡ self.now) }
+    {
+        let bytes = self.bytes.to_vec(alloc)?;
+        Ok(FontName { bytes })
+    }
+}
+
+/// A font file: its name and its bytes.
 #[derive(Debug, Drop)]
 pub struct FontFile {
-    name: Vec<u8>,
+    name: FontName,
     bytes: Vec<u8>,
 }
 
@@ -18,19 +67,19 @@ impl Model for FontFile {
 
     ghost Value = { NamedBytes };
 
-    ghost view = { λ file. record { name = file.name.items; bytes = file.bytes.items } };
+    ghost view = { λ file. record { name = file.name; bytes = file.bytes.items } };
 }
 
 impl FontFile {
     /// The file of that name.
-    pub fn new(name: Vec<u8>, bytes: Vec<u8>) -> FontFile
-        ensures { result ≡ record { name = name.items; bytes = bytes.items } }
+    pub fn new(name: FontName, bytes: Vec<u8>) -> FontFile
+        ensures { result ≡ record { name = name; bytes = bytes.items } }
     {
         FontFile { name, bytes }
     }
 
     /// Its name.
-    pub fn name(&self) -> &[u8]
+    pub fn name(&self) -> &FontName
         ensures { result.now ≡ self.now.name }
     {
         &self.name
@@ -47,8 +96,17 @@ impl FontFile {
     pub fn copy(&self, alloc: Global) -> Result<FontFile, AllocError>
         ensures { IfOk result (λ copy. copy ≡ self.now) }
     {
-        let name = self.name.to_vec(alloc)?;
+        let name = self.name.copy(alloc)?;
         let bytes = self.bytes.to_vec(alloc)?;
         Ok(FontFile { name, bytes })
     }
+}
+
+/// The first file of that name. Takes no memory.
+pub fn file_named<'a>(files: &'a [FontFile], name: &FontName) -> Option<&'a FontFile>
+    ensures { option_copied result ≡ file_named name.now files.now }
+{
+    files
+        .iter()
+        .find(|file| file.name().as_bytes() == name.as_bytes())
 }

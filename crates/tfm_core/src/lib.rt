@@ -10,13 +10,11 @@ mod places;
 mod program;
 pub mod record;
 mod rules;
-#[cfg(test)]
-mod samples;
 pub mod scaling;
 pub mod tfm;
 
 pub use fault::{FontFault, TfmCause, TfmFault};
 pub use font::{Font, GlyphSize, Space, Step};
-pub use font_file::FontFile;
+pub use font_file::{FontFile, FontName, file_named};
 pub use scaling::{FontSize, scaled};
 pub use tfm::Tfm;

@@ -131,6 +131,3 @@ pub fn scaled(fix: i32, size: FontSize) -> Option<i64>
     }
     None
 }
-
-#[cfg(test)]
-mod tests;

@@ -124,6 +124,3 @@ fn file_in(alloc: Global, bytes: &[u8]) -> Result<Result<Tfm, TfmCause>, AllocEr
     }
     Ok(Ok(Tfm { entries }))
 }
-
-#[cfg(test)]
-mod tests;

@@ -1,9 +1,14 @@
-use Rattle.std.proofs.Common.{◌≢◌, length, refl, ap, sym, ◌∙◌, arith}
+use Rattle.std.proofs.Common.{◌≢◌, length, refl, ap, ap₂, sym, ◌∙◌, arith}
 use Rattle.job_core.proofs.Endings.{may_finish, over_refused, open_refused, finished, losing}
 use Rattle.job_core.specs.Told.{grown}
 use Rattle.job_core.specs.Draft.{whole}
+use Rattle.job_core.proofs.Moves.{small_enough}
 use Rattle.job_core.proofs.FinishedFiles.{filed_pages, filed_end, no_pages}
 use Rattle.job_core.proofs.job.Job.finish.Goals as goal
+
+pub close-requires : goal.close-requires
+close-requires g c =
+    record { room = small_enough c.self.inside.kept c.self.inside.writer (c.self.invariant.0 (sym c.is_over.ensures ∙ c.if-is_over.false)) }
 
 pub returns-then-is_over-clause-finished : goal.returns-then-is_over-clause-finished
 returns-then-is_over-clause-finished g c = rw (← c.self.view_is) (over_refused _ (sym c.is_over.ensures ∙ c.if-is_over.true))
@@ -33,16 +38,16 @@ returns-clause-dvi g c =
     let running = sym c.is_over.ensures ∙ c.if-is_over.false in
     let room = c.self.invariant.0 running in
     let some : c.self.inside.kept.pages ≢ 0 = λ none. c.if-pages-eq0.false (c.pages-pages.ensures ∙ none) in
-    let bytes = c.bytes-bytes.ensures ∙ (c.in-Ok.ensures.ok ∙ ap (whole c.self.inside.writer) c.pages-pages.ensures) in
+    let bytes = c.bytes-bytes.ensures ∙ (c.in-Ok.ensures.ok ∙ ap₂ (λ fonts count. whole fonts c.self.inside.writer count) c.fonts.ensures c.pages-pages.ensures) in
     rw (← c.self.view_is)
-    (λ m metrics holds. filed_pages _ _ m metrics holds running room some (c.in-Ok-write_all.ensures.taken ∙ ap (grown (g.D.Device.told c.self.inside.device)) bytes))
+    (λ m metrics holds gives. filed_pages _ _ m metrics holds gives running room some (c.in-Ok-write_all.ensures.taken ∙ ap (grown (g.D.Device.told c.self.inside.device)) bytes))
 
 pub returns-clause-end : goal.returns-clause-end
 returns-clause-end g c =
     let running = sym c.is_over.ensures ∙ c.if-is_over.false in
     let room = c.self.invariant.0 running in
     let some : c.self.inside.kept.pages ≢ 0 = λ none. c.if-pages-eq0.false (c.pages-pages.ensures ∙ none) in
-    let bytes = c.bytes-bytes.ensures ∙ (c.in-Ok.ensures.ok ∙ ap (whole c.self.inside.writer) c.pages-pages.ensures) in
+    let bytes = c.bytes-bytes.ensures ∙ (c.in-Ok.ensures.ok ∙ ap₂ (λ fonts count. whole fonts c.self.inside.writer count) c.fonts.ensures c.pages-pages.ensures) in
     rw (← c.self.view_is)
     (λ m holds. filed_end _ _ m holds running room some (c.in-Ok-write_all.ensures.taken ∙ ap (grown (g.D.Device.told c.self.inside.device)) bytes))
 

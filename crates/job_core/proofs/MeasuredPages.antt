@@ -1,0 +1,141 @@
+-- The glyphs of the pages of each machine that a run reaches have the widths that its font files give.
+use Rattle.std.proofs.Common.{◌≡◌, ℕ, List, [], ◌∷◌, ◌++◌, Option, Some, None, Result, Ok, Err, refl, ap, sym, subst}
+use Rattle.std.specs.Prelude.{slice_get, unwrap_or, IfSome}
+use Rattle.std.specs.Option.{option_map}
+use Rattle.std.specs.List.{AllByRecursion}
+use Rattle.tfm_core.specs.NamedBytes.{NamedBytes, file_named}
+use Rattle.tfm_core.specs.Fonts.{SizedFont}
+use Rattle.tfm_core.specs.FileWidths.{width_at}
+use Rattle.tfm_core.specs.declared.font.GlyphSize.{GlyphSize}
+use Rattle.node_core.specs.declared.tree.Node.{Node}
+use Rattle.node_core.specs.declared.tree.Glyph as glyph_type
+use Rattle.node_core.specs.declared.tree.Node.TheVariants as nodes
+use Rattle.node_core.specs.declared.tree.BoxNode.{BoxNode}
+use Rattle.node_core.specs.Nodes.{nodes_of}
+use Rattle.dvi_ops.proofs.Appends.{all_append, all_weaker}
+use Rattle.job_core.specs.declared.fonts.LoadedFont.{LoadedFont}
+use Rattle.job_core.specs.declared.command.Command.{Command}
+use Rattle.job_core.specs.declared.command.Command.TheVariants.{LoadFont, UseFont, OpenHbox, End, Text, Character, Rule, Kern, Measure, Void, Ship}
+use Rattle.job_core.specs.declared.command.Refusal.{Refusal}
+use Rattle.job_core.specs.Reply.{Reply}
+use Rattle.job_core.specs.FontSlots.{Slots, font_in, font_of, with_font, glyph_by}
+use Rattle.job_core.specs.Sized.{IsSized, AreSized, HasSizedGlyphs}
+use Rattle.job_core.specs.Marks.{Page}
+use Rattle.job_core.specs.Machine.{State, Machine, first_machine, checks, first_of, after, font_for, held_in, pages_of, new_pages, state_by}
+use Rattle.job_core.specs.Runs.{Steps, Replies, LacksMemory, LosesDevice, Run}
+use Rattle.job_core.specs.GlyphWidths.{HasFileWidth, IsMeasured, IsMeasuredPage}
+use Rattle.job_core.proofs.SizedGlyphs.{each_set, each_at, each_copy, sized_first, sized_after, sized_held, stays_sized}
+use Rattle.job_core.proofs.LoadedFonts.{read_again, widths_in}
+
+-- A font is what the first file of its name gives at its size.
+abbrev IsRead : List NamedBytes → LoadedFont → Type 0
+IsRead files loaded = font_of (file_named loaded.name files) (Some loaded.font.size) ≡ Ok loaded.font
+
+abbrev AreRead : State → Type 0
+AreRead s = AllByRecursion (λ slot. IfSome slot (IsRead s.files)) s.fonts
+
+-- What is known of a machine: its fonts, and the glyphs of its lists, its registers and its pages.
+record IsKnown (m : Machine) : Type 0 where
+  read : AreRead m.state
+  sized : HasSizedGlyphs m.state
+  pages : AllByRecursion (λ page. AreSized m.state.fonts (nodes_of page.shown.list)) m.pages
+
+read_with : (files : List NamedBytes) (fonts : Slots) (slot : ℕ) (name : List ℕ) (size : Option _) (read : Result SizedFont Refusal) → font_of (file_named name files) size ≡ read
+    → AllByRecursion (λ slot. IfSome slot (IsRead files)) fonts → AllByRecursion (λ slot. IfSome slot (IsRead files)) (with_font fonts slot name read)
+read_with files fonts slot name size (Err refusal) is all = all
+read_with files fonts slot name size (Ok font) is all =
+    each_set (λ slot. IfSome slot (IsRead files)) fonts slot (Some (record { name = name; font = font })) all (read_again (file_named name files) size font is)
+
+read_after : (s : State) (command : Command) → AreRead s → AreRead (after s command)
+read_after s (LoadFont load) all = read_with s.files s.fonts load.slot load.name load.size (font_for s load) refl all
+read_after s (UseFont slot) all = all
+read_after s (OpenHbox r) all = all
+read_after s End all = all
+read_after s (Text text) all = all
+read_after s (Character code) all = all
+read_after s (Rule rule) all = all
+read_after s (Kern width) all = all
+read_after s (Measure r) all = all
+read_after s (Void r) all = all
+read_after s (Ship r) all = all
+
+abbrev IsSizedPage : Slots → Page → Type 0
+IsSizedPage fonts page = AreSized fonts (nodes_of page.shown.list)
+
+sized_page : (s : State) (r : ℕ) (held : Option BoxNode) → held_in s.registers r ≡ held → HasSizedGlyphs s → AllByRecursion (IsSizedPage s.fonts) (pages_of held)
+sized_page s r None is sized = tt
+sized_page s r (Some b) is sized = (sized_held s r b sized is, tt)
+
+new_sized : (s : State) (command : Command) → HasSizedGlyphs s → AllByRecursion (IsSizedPage s.fonts) (new_pages s command)
+new_sized s (LoadFont load) sized = tt
+new_sized s (UseFont slot) sized = tt
+new_sized s (OpenHbox r) sized = tt
+new_sized s End sized = tt
+new_sized s (Text text) sized = tt
+new_sized s (Character code) sized = tt
+new_sized s (Rule rule) sized = tt
+new_sized s (Kern width) sized = tt
+new_sized s (Measure r) sized = tt
+new_sized s (Void r) sized = tt
+new_sized s (Ship r) sized = sized_page s r (held_in s.registers r) refl sized
+
+known_step : (m : Machine) (command : Command) (refused : Option Refusal) → first_of (checks m.state command) ≡ refused → IsKnown m
+    → IsKnown (record { state = state_by refused m.state (after m.state command); pages = state_by refused m.pages (m.pages ++ new_pages m.state command) })
+known_step m command (Some refusal) is known = record { read = known.read; sized = known.sized; pages = known.pages }
+known_step m command None is known =
+    record {
+      read = read_after m.state command known.read;
+      sized = sized_after m.state command is known.sized;
+      pages =
+          all_weaker (IsSizedPage m.state.fonts) (IsSizedPage (after m.state command).fonts) (m.pages ++ new_pages m.state command)
+          (λ page sized. stays_sized m.state command is (nodes_of page.shown.list) sized)
+          (all_append (IsSizedPage m.state.fonts) m.pages (new_pages m.state command) known.pages (new_sized m.state command known.sized));
+    }
+
+known_next : (m : Machine) (n : ℕ) (command : Command) (reply : Reply) (next : Machine) (k : ℕ) → Steps m n command reply next k → IsKnown m → IsKnown next
+known_next m n command reply next k (Replies says goes counts) known = subst IsKnown (sym goes) (known_step m command (first_of (checks m.state command)) refl known)
+known_next m n command reply next k (LacksMemory says takes may goes counts) known = subst IsKnown (sym goes) known
+known_next m n command reply next k (LosesDevice says ships may goes counts) known =
+    subst IsKnown (sym goes) (record { read = known.read; sized = record { nest = known.sized.nest; registers = known.sized.registers }; pages = known.pages })
+
+known_run : (m : Machine) (n : ℕ) (commands : List Command) (replies : List Reply) (next : Machine) (k : ℕ) → Run m n commands replies next k → IsKnown m → IsKnown next
+known_run m n [] [] next k run known = subst IsKnown (sym run.0) known
+known_run m n [] (reply ∷ replies) next k run known = absurd run
+known_run m n (command ∷ commands) [] next k run known = absurd run
+known_run m n (command ∷ commands) (reply ∷ replies) next k run known =
+    known_run run.0 run.1 commands replies next k run.3 (known_next m n command reply run.0 run.1 run.2 known)
+
+read_in : (s : State) (slot : ℕ) (loaded : LoadedFont) → AreRead s → font_in s.fonts slot ≡ Some loaded → IsRead s.files loaded
+read_in s slot loaded all is = by_slot (slice_get s.fonts slot) refl is
+  where
+    by_slot : (held : Option (Option LoadedFont)) → slice_get s.fonts slot ≡ held → unwrap_or held None ≡ Some loaded → IsRead s.files loaded
+    by_slot None at holds = cc
+    by_slot (Some held) at holds = subst (λ h. IfSome h (IsRead s.files)) holds (each_at (λ h. IfSome h (IsRead s.files)) s.fonts slot held all at)
+
+measured_glyph : (s : State) (g : glyph_type.Glyph) (x : Option LoadedFont) → AreRead s → font_in s.fonts g.slot ≡ x
+    → glyph_by x g.code ≡ Some (record { width = g.width; height = g.height; depth = g.depth }) → HasFileWidth s g
+measured_glyph s g None all is sized = cc
+measured_glyph s g (Some loaded) all is sized =
+    record {
+      loaded = loaded;
+      slot = is;
+      widths = width_at loaded.font;
+      given = widths_in (file_named loaded.name s.files) loaded.font.size loaded.font (read_in s g.slot loaded all is);
+      width = ap (option_map (λ (size : GlyphSize). size.width)) sized;
+    }
+
+measured : (s : State) → AreRead s → (x : Node) → IsSized s.fonts x → IsMeasured s x
+measured s all (nodes.Glyph g) sized = measured_glyph s g (font_in s.fonts g.slot) all refl sized
+measured s all (nodes.FontKern width) sized = tt
+measured s all (nodes.Kern width) sized = tt
+measured s all (nodes.Glue glue) sized = tt
+measured s all (nodes.Penalty penalty) sized = tt
+measured s all (nodes.Rule rule) sized = tt
+
+pub measured_pages : (files : List NamedBytes) (n : ℕ) (commands : List Command) (replies : List Reply) (m : Machine) (k : ℕ) → Run (first_machine files) n commands replies m k
+    → AllByRecursion (IsMeasuredPage m.state) m.pages
+measured_pages files n commands replies m k run =
+    let first : IsKnown (first_machine files) = record { read = each_copy (λ slot. IfSome slot (IsRead files)) 256 None tt; sized = sized_first files; pages = tt } in
+    let known = known_run (first_machine files) n commands replies m k run first in
+    all_weaker (IsSizedPage m.state.fonts) (IsMeasuredPage m.state) m.pages
+    (λ page sized. all_weaker (IsSized m.state.fonts) (IsMeasured m.state) (nodes_of page.shown.list) (measured m.state known.read) sized) known.pages

@@ -1,0 +1,84 @@
+-- The fonts of a job by their slots, and what characters come to in one of them (own; after TeX: The Program, parts 30 and 46).
+use Rattle.std.specs.Prelude.{[], ◌∷◌, ℕ, ℤ, List, Option, Some, None, Result, Ok, Err, if◌then◌else◌, slice_get, slice_set, unwrap_or}
+use Rattle.tfm_core.specs.declared.font.GlyphSize.{GlyphSize}
+use Rattle.tfm_core.specs.declared.fault.TfmCause.{TfmCause}
+use Rattle.tfm_core.specs.NamedBytes.{NamedBytes}
+use Rattle.tfm_core.specs.MetricFile.{MetricFile}
+use Rattle.tfm_core.specs.Rules.{metric_file}
+use Rattle.tfm_core.specs.Fonts.{SizedFont, chosen_size, fits_at, font_at, glyph_of, step_of}
+use Rattle.shape_core.specs.Shaping.{shaped_items, shaped_missing}
+use Rattle.shape_core.specs.Texts.{text_items, text_missing}
+use Rattle.shape_core.specs.Spaces.{space_glue}
+use Rattle.node_core.specs.declared.tree.Node.{Node}
+use Rattle.job_core.specs.declared.fonts.LoadedFont.{LoadedFont}
+use Rattle.job_core.specs.declared.command.Refusal.{Refusal}
+use Rattle.job_core.specs.declared.command.Refusal.TheVariants.{NoFont, BadTfm, DimensionTooLarge}
+
+-- The fonts of the slots, from slot 0 on.
+abbrev pub Slots : Type 0
+Slots = List (Option LoadedFont)
+
+-- The font of a slot, if it has one.
+abbrev pub font_in : Slots → ℕ → Option LoadedFont
+font_in fonts slot = unwrap_or (slice_get fonts slot) None
+
+-- The current font, once one was chosen.
+abbrev pub current_font : Slots → Option ℕ → Option LoadedFont
+current_font fonts None = None
+current_font fonts (Some slot) = font_in fonts slot
+
+-- The font that a metric file gives at a size, or at its design size; or why it gives none.
+abbrev pub sized_font : Result MetricFile TfmCause → Option ℤ → Result SizedFont Refusal
+sized_font (Err cause) size = Err (BadTfm cause)
+sized_font (Ok file) size = if fits_at file (chosen_size file size) then Ok (font_at file (chosen_size file size)) else Err DimensionTooLarge
+
+-- The font that a font file gives, or why there is none.
+abbrev pub font_of : Option NamedBytes → Option ℤ → Result SizedFont Refusal
+font_of None size = Err NoFont
+font_of (Some file) size = sized_font (metric_file file.bytes) size
+
+-- The slots with a font of that name in one of them.
+abbrev pub with_font : Slots → ℕ → List ℕ → Result SizedFont Refusal → Slots
+with_font fonts slot name (Err refusal) = fonts
+with_font fonts slot name (Ok font) = slice_set fonts slot (Some (record { name = name; font = font }))
+
+-- The sizes of a character of a font, if there is one that has it.
+abbrev pub glyph_by : Option LoadedFont → ℕ → Option GlyphSize
+glyph_by None code = None
+glyph_by (Some loaded) code = glyph_of loaded.font code
+
+-- What characters come to: the items that they add, and how many of them are missing.
+pub record Shaped : Type 0 where
+  pub items : List Node
+  pub missing : ℕ
+
+-- Without a font they come to nothing.
+abbrev pub unshaped : Shaped
+unshaped = record { items = []; missing = 0 }
+
+-- A text in the font of a slot.
+abbrev pub text_in : Option LoadedFont → ℕ → List ℕ → Shaped
+text_in None slot text = unshaped
+text_in (Some loaded) slot text =
+    record {
+      items = text_items slot (glyph_of loaded.font) (step_of loaded.font) (space_glue loaded.font.space) text;
+      missing = text_missing (glyph_of loaded.font) (step_of loaded.font) text;
+    }
+
+-- One character in the font of a slot: the word of this character.
+abbrev pub character_in : Option LoadedFont → ℕ → ℕ → Shaped
+character_in None slot code = unshaped
+character_in (Some loaded) slot code =
+    record {
+      items = shaped_items slot (glyph_of loaded.font) (step_of loaded.font) (code ∷ []);
+      missing = shaped_missing (glyph_of loaded.font) (step_of loaded.font) (code ∷ []);
+    }
+
+-- The same in the current font.
+abbrev pub text_shaped : Slots → Option ℕ → List ℕ → Shaped
+text_shaped fonts None text = unshaped
+text_shaped fonts (Some slot) text = text_in (font_in fonts slot) slot text
+
+abbrev pub character_shaped : Slots → Option ℕ → ℕ → Shaped
+character_shaped fonts None code = unshaped
+character_shaped fonts (Some slot) code = character_in (font_in fonts slot) slot code

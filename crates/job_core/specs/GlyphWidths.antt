@@ -1,0 +1,33 @@
+-- The widths of the glyphs of a job, and the font files that they come from (own; TeX: The Program, part 30).
+use Rattle.std.specs.Prelude.{◌≡◌, ℤ, pos, Option, Some}
+use Rattle.std.specs.List.{AllByRecursion}
+use Rattle.tfm_core.specs.FileWidths.{file_widths}
+use Rattle.node_core.specs.declared.tree.Glyph.{Glyph}
+use Rattle.node_core.specs.declared.tree.Node.{Node}
+use Rattle.node_core.specs.declared.tree.Node.TheVariants as nodes
+use Rattle.node_core.specs.Nodes.{nodes_of}
+use Rattle.job_core.specs.declared.fonts.LoadedFont.{LoadedFont}
+use Rattle.job_core.specs.FontSlots.{font_in}
+use Rattle.job_core.specs.Marks.{Page}
+use Rattle.job_core.specs.Machine.{State}
+
+-- A glyph's slot has a font, whose name and size are those of widths that the font files give; and the glyph has its character's width.
+pub record HasFileWidth (s : State) (g : Glyph) : Type 0 where
+  pub loaded : LoadedFont
+  pub slot : font_in s.fonts g.slot ≡ Some loaded
+  pub widths : ℤ → Option ℤ
+  pub given : file_widths s.files loaded.name loaded.font.size ≡ Some widths
+  pub width : widths (pos g.code) ≡ Some g.width
+
+-- The same of a node that is a glyph.
+abbrev pub IsMeasured : State → Node → Type 0
+IsMeasured s (nodes.Glyph g) = HasFileWidth s g
+IsMeasured s (nodes.FontKern width) = Unit {0}
+IsMeasured s (nodes.Kern width) = Unit {0}
+IsMeasured s (nodes.Glue glue) = Unit {0}
+IsMeasured s (nodes.Penalty penalty) = Unit {0}
+IsMeasured s (nodes.Rule rule) = Unit {0}
+
+-- So has each glyph of a page.
+abbrev pub IsMeasuredPage : State → Page → Type 0
+IsMeasuredPage s page = AllByRecursion (IsMeasured s) (nodes_of page.shown.list)

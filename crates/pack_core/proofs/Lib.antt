@@ -1,0 +1,7 @@
+-- Lemmas on sums, greatest sizes and the setting of glue.
+pub mod Sums
+pub mod Steps
+pub mod Walks
+pub mod Edge
+pub mod Highest
+pub mod Packing

@@ -1,0 +1,145 @@
+-- What a packed list is, by its equation.
+use Rattle.std.proofs.Common.{◌≡◌, ◌≢◌, ℤ, length, take, Bool, true, false, refl, arith}
+use Rattle.std.specs.Prelude.{◌+ℤ◌, Ok, Err, IfOk, IfErr, if◌then◌else◌}
+use Rattle.std.specs.Result.{is_ok}
+use Rattle.std.specs.List.{list_all}
+use Rattle.std.proofs.lemmas.Int.{ints}
+use Rattle.std.proofs.lemmas.List.{take_all}
+use Rattle.node_core.specs.Items.{Items}
+use Rattle.node_core.specs.Nodes.{nodes_of}
+use Rattle.node_core.specs.declared.tree.Kind.{Kind}
+use Rattle.node_core.specs.declared.tree.Kind.TheVariants.{Horizontal, Vertical}
+use Rattle.node_core.specs.declared.tree.Setting.TheVariants.{Natural}
+use Rattle.pack_core.specs.declared.pack.Target.{Target}
+use Rattle.pack_core.specs.declared.pack.Packed.{Packed}
+use Rattle.pack_core.specs.declared.pack.TooLarge.{TooLarge}
+use Rattle.pack_core.specs.declared.pack.Shell.{Shell}
+use Rattle.pack_core.specs.Items.{advance}
+use Rattle.pack_core.specs.Totals.{fits, total, first_height}
+use Rattle.pack_core.specs.Glue.{setting_of, setting_badness}
+use Rattle.pack_core.specs.Boxes.{hbox, hbox_excess, hbox_badness, hbox_numbers, hpacked, vbox, vbox_excess, vbox_badness, vbox_numbers, vpacked, vtop_box, vtop_numbers, vtopped}
+use Rattle.pack_core.specs.Places.{place, place_in}
+use Rattle.pack_core.specs.Steps.{given, glue_set, hbox_shell, vbox_shell, vtop_shell, vtop_list, box_of, boxed}
+use Rattle.pack_core.proofs.Edge.{fills}
+
+boxed-given : (fit : Bool) (items : Items) (shell : Shell) → boxed items (given fit shell) ≡ (if fit then Ok (box_of items shell) else Err (record { list = items }))
+unfolding boxed given
+boxed-given true items shell = refl
+boxed-given false items shell = refl
+
+pub boxed-hbox : (target : Target) (items : Items) → boxed items (given (list_all fits (hbox_numbers target (nodes_of items))) (hbox_shell target (nodes_of items))) ≡ hpacked target items
+unfolding hpacked hbox hbox_shell box_of glue_set
+boxed-hbox target items = boxed-given (list_all fits (hbox_numbers target (nodes_of items))) items (hbox_shell target (nodes_of items))
+
+pub boxed-vbox :
+    (target : Target) (limit : ℤ) (items : Items)
+    → boxed items (given (list_all fits (vbox_numbers target limit (nodes_of items))) (vbox_shell target limit (nodes_of items))) ≡ vpacked target limit items
+unfolding vpacked vbox vbox_shell box_of glue_set
+boxed-vbox target limit items = boxed-given (list_all fits (vbox_numbers target limit (nodes_of items))) items (vbox_shell target limit (nodes_of items))
+
+pub boxed-vtop :
+    (target : Target) (limit : ℤ) (items : Items)
+    → boxed items (given (list_all fits (vtop_list target limit (nodes_of items))) (vtop_shell (vbox_shell target limit (nodes_of items)) (first_height (nodes_of items))))
+    ≡ vtopped target limit items
+unfolding vtopped vtop_box vbox vbox_shell vtop_shell box_of glue_set
+boxed-vtop target limit items =
+    boxed-given (list_all fits (vtop_list target limit (nodes_of items))) items (vtop_shell (vbox_shell target limit (nodes_of items)) (first_height (nodes_of items)))
+
+-- What holds of the box holds of what is packed; and it is packed exactly where all numbers fit.
+packed-ok :
+    (fit : Bool) (packed : Packed) (items : Items) (P : Packed → Type 0)
+    → P packed → IfOk {E = TooLarge} (if fit then Ok packed else Err (record { list = items })) P
+packed-ok true packed items P h = h
+packed-ok false packed items P h = tt
+
+packed-fits : (fit : Bool) (packed : Packed) (items : Items) → is_ok {E = TooLarge} (if fit then Ok packed else Err (record { list = items })) ≡ fit
+packed-fits true packed items = refl
+packed-fits false packed items = refl
+
+packed-back : (fit : Bool) (packed : Packed) (items : Items) → IfErr {E = TooLarge} (if fit then Ok packed else Err (record { list = items })) (λ e. e.list ≡ items)
+packed-back true packed items = tt
+packed-back false packed items = refl
+
+whole : (items : Items) → take (length (nodes_of items)) (nodes_of items) ≡ nodes_of items
+whole items = take_all (length (nodes_of items)) (nodes_of items) (omega arith)
+
+-- The place behind the last item.
+filled :
+    (kind : Kind) (items : Items) (excess : ℤ)
+    → setting_of excess (nodes_of items) ≢ Natural
+    → setting_badness excess (nodes_of items) ≢ 1000000
+    → place kind (setting_of excess (nodes_of items)) (take (length (nodes_of items)) (nodes_of items)) ≡ total (advance kind) (nodes_of items) +ℤ excess
+filled kind items excess set good = rw (whole items) (fills kind (nodes_of items) excess set good)
+
+-- An hbox.
+pub hpacked-ok : (target : Target) (items : Items) → IfOk (hpacked target items) (λ p. (p.shown ≡ hbox target items) × (p.badness ≡ hbox_badness target items))
+unfolding hpacked
+hpacked-ok target items = packed-ok _ _ items (λ p. (p.shown ≡ hbox target items) × (p.badness ≡ hbox_badness target items)) (refl, refl)
+
+pub hpacked-fits : (target : Target) (items : Items) → is_ok (hpacked target items) ≡ list_all fits (hbox_numbers target (nodes_of items))
+unfolding hpacked
+hpacked-fits target items = packed-fits _ _ items
+
+pub hpacked-back : (target : Target) (items : Items) → IfErr (hpacked target items) (λ e. e.list ≡ items)
+unfolding hpacked
+hpacked-back target items = packed-back _ _ items
+
+pub hpacked-edge :
+    (target : Target) (items : Items)
+    → IfOk (hpacked target items) (λ p. p.shown.setting ≢ Natural → p.badness ≢ 1000000 → place_in p.shown (length (nodes_of p.shown.list)) ≡ p.shown.width)
+unfolding hpacked hbox
+hpacked-edge target items =
+    packed-ok _ _ items (λ p. p.shown.setting ≢ Natural → p.badness ≢ 1000000 → place_in p.shown (length (nodes_of p.shown.list)) ≡ p.shown.width)
+    (λ set good. omega (arith, ints, filled Horizontal items (hbox_excess target (nodes_of items)) set good))
+
+-- A vbox.
+pub vpacked-ok :
+    (target : Target) (limit : ℤ) (items : Items)
+    → IfOk (vpacked target limit items) (λ p. (p.shown ≡ vbox target limit items) × (p.badness ≡ vbox_badness target limit items))
+unfolding vpacked
+vpacked-ok target limit items = packed-ok _ _ items (λ p. (p.shown ≡ vbox target limit items) × (p.badness ≡ vbox_badness target limit items)) (refl, refl)
+
+pub vpacked-fits : (target : Target) (limit : ℤ) (items : Items) → is_ok (vpacked target limit items) ≡ list_all fits (vbox_numbers target limit (nodes_of items))
+unfolding vpacked
+vpacked-fits target limit items = packed-fits _ _ items
+
+pub vpacked-back : (target : Target) (limit : ℤ) (items : Items) → IfErr (vpacked target limit items) (λ e. e.list ≡ items)
+unfolding vpacked
+vpacked-back target limit items = packed-back _ _ items
+
+pub vpacked-edge :
+    (target : Target) (limit : ℤ) (items : Items)
+    → IfOk (vpacked target limit items)
+    (λ p. p.shown.setting ≢ Natural → p.badness ≢ 1000000 → place_in p.shown (length (nodes_of p.shown.list)) ≡ p.shown.height +ℤ p.shown.depth)
+unfolding vpacked vbox
+vpacked-edge target limit items =
+    packed-ok _ _ items
+    (λ p. p.shown.setting ≢ Natural → p.badness ≢ 1000000 → place_in p.shown (length (nodes_of p.shown.list)) ≡ p.shown.height +ℤ p.shown.depth)
+    (λ set good. omega (arith, ints, filled Vertical items (vbox_excess target limit (nodes_of items)) set good))
+
+-- A vtop.
+pub vtopped-ok :
+    (target : Target) (limit : ℤ) (items : Items)
+    → IfOk (vtopped target limit items) (λ p. (p.shown ≡ vtop_box target limit items) × (p.badness ≡ vbox_badness target limit items))
+unfolding vtopped
+vtopped-ok target limit items = packed-ok _ _ items (λ p. (p.shown ≡ vtop_box target limit items) × (p.badness ≡ vbox_badness target limit items)) (refl, refl)
+
+pub vtopped-fits : (target : Target) (limit : ℤ) (items : Items) → is_ok (vtopped target limit items) ≡ list_all fits (vtop_numbers target limit items)
+unfolding vtopped
+vtopped-fits target limit items = packed-fits _ _ items
+
+pub vtopped-back : (target : Target) (limit : ℤ) (items : Items) → IfErr (vtopped target limit items) (λ e. e.list ≡ items)
+unfolding vtopped
+vtopped-back target limit items = packed-back _ _ items
+
+pub vtopped-edge :
+    (target : Target) (limit : ℤ) (items : Items)
+    → IfOk (vtopped target limit items)
+    (λ p. p.shown.setting ≢ Natural → p.badness ≢ 1000000 → place_in p.shown (length (nodes_of p.shown.list)) ≡ p.shown.height +ℤ p.shown.depth)
+unfolding vtopped vtop_box vbox
+vtopped-edge target limit items =
+    packed-ok _ _ items
+    (λ p. p.shown.setting ≢ Natural → p.badness ≢ 1000000 → place_in p.shown (length (nodes_of p.shown.list)) ≡ p.shown.height +ℤ p.shown.depth)
+    (λ set good. omega (arith, ints, filled Vertical items (vbox_excess target limit (nodes_of items)) set good))
+
+pub ruleset packing = (boxed-hbox, boxed-vbox, boxed-vtop)

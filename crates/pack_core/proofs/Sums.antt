@@ -1,0 +1,96 @@
+-- Sums and greatest sizes over a list that has one more node.
+use Rattle.std.proofs.Common.{◌≡◌, ◌∙◌, ℕ, ◌+◌, ◌<◌, ◌&&◌, List, [], ◌∷◌, ◌++◌, length, take, get_or, ap, arith, sym, refl}
+use Rattle.std.specs.Prelude.{ℤ, pos, negsuc, ◌+ℤ◌, ◌≤ℤ◌, Bool, true, false, if◌then◌else◌}
+use Rattle.std.specs.Int.{int_max}
+use Rattle.std.proofs.lemmas.Int.{ints, clamps}
+use Rattle.std.proofs.lemmas.List.{take_more}
+use Rattle.std.proofs.lemmas.List.Folds.{list_all-append}
+use Rattle.std.specs.List.{list_all}
+use Rattle.pack_core.specs.Items.{is_penalty, last_below}
+use Rattle.pack_core.specs.Measures.{pending_behind}
+use Rattle.std.proofs.lemmas.Bool.{lt-ltb, le-leb}
+use Rattle.scaled_core.specs.Dimensions.{Within}
+use Rattle.node_core.specs.declared.tree.Node.{Node}
+use Rattle.node_core.specs.declared.tree.Node.TheVariants as nodes
+use Rattle.std.proofs.Math.Bool.{and-true, and-false}
+use Rattle.pack_core.specs.Totals.{fits, total, greatest, pending_depth}
+
+-- What is within the bounds of a dimension fits.
+pub dimension_fits : (z : ℤ) → Within 1073741823 z → fits z ≡ true
+dimension_fits (pos n) within = le-leb n 1073741823 (omega (arith, ints, within.high))
+dimension_fits (negsuc n) within = lt-ltb n 1073741823 (omega (arith, ints, within.low))
+
+pub total-append : (size : Node → ℤ) (xs ys : List Node) → total size (xs ++ ys) ≡ total size xs +ℤ total size ys
+total-append size [] ys = omega (arith, ints)
+total-append size (x ∷ xs) ys = omega (arith, ints, total-append size xs ys)
+
+pub total_more :
+    (size : Node → ℤ) (xs : List Node) (i : ℕ) (x : Node) → i < length xs → x ≡ get_or xs i x
+    → total size (take (i + 1) xs) ≡ total size (take i xs) +ℤ size x
+total_more size xs i x within is =
+    let all : total size (take (i + 1) xs) ≡ total size (take i xs ++ get_or xs i x ∷ []) = ap (total size) (take_more xs i x within) in
+    let parts = total-append size (take i xs) (get_or xs i x ∷ []) in
+    let same : size (get_or xs i x) ≡ size x = ap size (sym is) in
+    omega (arith, ints, all, parts, same)
+
+pub greatest_positive : (size : Node → ℤ) (xs : List Node) → pos 0 ≤ℤ greatest size xs
+greatest_positive size [] = omega (arith, ints)
+greatest_positive size (x ∷ xs) = omega (arith, ints, clamps, greatest_positive size xs)
+
+pub greatest-append : (size : Node → ℤ) (xs ys : List Node) → greatest size (xs ++ ys) ≡ int_max (greatest size xs) (greatest size ys)
+greatest-append size [] ys = omega (arith, ints, clamps, greatest_positive size ys)
+greatest-append size (x ∷ xs) ys = omega (arith, ints, clamps, greatest-append size xs ys)
+
+pub greatest_more :
+    (size : Node → ℤ) (xs : List Node) (i : ℕ) (x : Node) → i < length xs → x ≡ get_or xs i x
+    → greatest size (take (i + 1) xs) ≡ int_max (greatest size (take i xs)) (size x)
+greatest_more size xs i x within is =
+    let all : greatest size (take (i + 1) xs) ≡ greatest size (take i xs ++ get_or xs i x ∷ []) = ap (greatest size) (take_more xs i x within) in
+    let parts = greatest-append size (take i xs) (get_or xs i x ∷ []) in
+    let same : size (get_or xs i x) ≡ size x = ap size (sym is) in
+    let low = greatest_positive size (take i xs) in
+    omega (arith, ints, clamps, all, parts, same, low)
+
+-- Penalties and one more item.
+penalties-append : (xs : List Node) (x : Node) → list_all is_penalty (xs ++ x ∷ []) ≡ (list_all is_penalty xs && is_penalty x)
+penalties-append xs x = list_all-append is_penalty xs (x ∷ []) ∙ ap (λ b. list_all is_penalty xs && b) (and-true (is_penalty x))
+
+choice : (a b : Bool) (p q r : ℤ) → (if (a && b) then p else (if b then q else r)) ≡ (if b then (if a then p else q) else r)
+choice true true p q r = refl
+choice true false p q r = refl
+choice false true p q r = refl
+choice false false p q r = refl
+
+pub pending-append : (xs : List Node) (x : Node) → pending_depth (xs ++ x ∷ []) ≡ pending_behind (pending_depth xs) x
+pending-append [] (nodes.Glyph g) = refl
+pending-append [] (nodes.FontKern width) = refl
+pending-append [] (nodes.Kern width) = refl
+pending-append [] (nodes.Glue g) = refl
+pending-append [] (nodes.Penalty p) = refl
+pending-append [] (nodes.Rule sizes) = refl
+pending-append (y ∷ ys) x =
+    rw (penalties-append ys x, pending-append ys x) (choice (list_all is_penalty ys) (is_penalty x) (last_below y) (pending_depth ys) (last_below x))
+
+pub pending_more :
+    (xs : List Node) (i : ℕ) (x : Node) → i < length xs → x ≡ get_or xs i x
+    → pending_depth (take (i + 1) xs) ≡ pending_behind (pending_depth (take i xs)) x
+pending_more xs i x within is =
+    ap pending_depth (take_more xs i x within) ∙ pending-append (take i xs) (get_or xs i x) ∙ ap (pending_behind (pending_depth (take i xs))) (sym is)
+
+-- Behind an item that is no penalty stand penalties alone.
+pub pending-last :
+    (front : List Node) (item : Node) (penalties : List Node)
+    → is_penalty item ≡ false → list_all is_penalty penalties ≡ true → pending_depth (front ++ item ∷ penalties) ≡ last_below item
+pending-last [] item penalties last all = rw all refl
+pending-last (y ∷ ys) item penalties last all =
+    let some : list_all is_penalty (ys ++ item ∷ penalties) ≡ false = list_all-append is_penalty ys (item ∷ penalties) ∙ rw last (and-false (list_all is_penalty ys)) in
+    rw some (pending-last ys item penalties last all)
+
+pub pending-none : (penalties : List Node) → list_all is_penalty penalties ≡ true → pending_depth penalties ≡ pos 0
+pending-none [] all = refl
+pending-none ((nodes.Penalty p) ∷ xs) all = rw all refl
+pending-none ((nodes.Glyph g) ∷ xs) all = absurd (cc)
+pending-none ((nodes.FontKern width) ∷ xs) all = absurd (cc)
+pending-none ((nodes.Kern width) ∷ xs) all = absurd (cc)
+pending-none ((nodes.Glue g) ∷ xs) all = absurd (cc)
+pending-none ((nodes.Rule sizes) ∷ xs) all = absurd (cc)

@@ -1,0 +1,43 @@
+-- A walk over the items of a box, one by one.
+use Rattle.std.proofs.Common.{◌≡◌, ◌∙◌, ℕ, ◌+◌, ◌<◌, List, [], ◌∷◌, ◌++◌, length, take, get_or, length-append, refl, ap, arith, sym}
+use Rattle.std.specs.Prelude.{ℤ, ◌+ℤ◌}
+use Rattle.std.proofs.lemmas.Int.{ints}
+use Rattle.std.proofs.lemmas.List.{take_more}
+use Rattle.node_core.specs.declared.tree.Kind.{Kind}
+use Rattle.node_core.specs.declared.tree.Node.{Node}
+use Rattle.node_core.specs.declared.tree.Setting.{Setting}
+use Rattle.pack_core.specs.Items.{advance}
+use Rattle.pack_core.specs.Totals.{total}
+use Rattle.pack_core.specs.Places.{share, place}
+use Rattle.pack_core.specs.Cursors.{reached, one_more, place_at}
+use Rattle.pack_core.proofs.Sums.{total-append}
+
+total-one : (size : Node → ℤ) (xs : List Node) (x : Node) → total size xs +ℤ size x ≡ total size (xs ++ x ∷ [])
+total-one size xs x = omega (arith, ints, total-append size xs (x ∷ []))
+
+-- One more item behind those that were passed.
+pub one_more-reached :
+    (kind : Kind) (setting : Setting) (before : List Node) (node : Node)
+    → one_more kind setting (reached kind setting before) node ≡ reached kind setting (before ++ node ∷ [])
+unfolding reached
+one_more-reached kind setting before node =
+    let n : length before + 1 ≡ length (before ++ node ∷ []) = omega (arith, length-append before (node ∷ [])) in
+    rw (total-one (advance kind) before node, total-one (share setting) before node, n) refl
+
+pub reached-more :
+    (kind : Kind) (setting : Setting) (nodes : List Node) (i : ℕ) (node : Node) → i < length nodes → node ≡ get_or nodes i node
+    → one_more kind setting (reached kind setting (take i nodes)) node ≡ reached kind setting (take (i + 1) nodes)
+reached-more kind setting nodes i node within is =
+    one_more-reached kind setting (take i nodes) node
+    ∙ ap (λ (x : Node). reached kind setting (take i nodes ++ x ∷ [])) is
+    ∙ sym (ap (reached kind setting) (take_more nodes i node within))
+
+pub reached-passed : (kind : Kind) (setting : Setting) (before : List Node) → (reached kind setting before).passed ≡ length before
+unfolding reached
+reached-passed kind setting before = refl
+
+pub place-reached : (kind : Kind) (setting : Setting) (before : List Node) → place_at setting (reached kind setting before) ≡ place kind setting before
+unfolding reached place
+place-reached kind setting before = refl
+
+pub ruleset walks = (one_more-reached, reached-passed, place-reached)

@@ -1,0 +1,118 @@
+-- What an item adds to the list that it stands in (TeX: The Program, part 33).
+use Rattle.std.specs.Prelude.{◌+ℤ◌, ℤ, pos, Bool, true, false, if◌then◌else◌}
+use Rattle.node_core.specs.declared.tree.Kind.{Kind}
+use Rattle.node_core.specs.declared.tree.Kind.TheVariants.{Horizontal, Vertical}
+use Rattle.node_core.specs.declared.tree.Order.{Order}
+use Rattle.node_core.specs.declared.tree.Order.TheVariants.{Normal, Fil, Fill, Filll}
+use Rattle.node_core.specs.declared.tree.Node.{Node}
+use Rattle.node_core.specs.declared.tree.Node.TheVariants as nodes
+use Rattle.node_core.specs.declared.tree.RuleSize.{RuleSize}
+use Rattle.node_core.specs.declared.tree.RuleSize.TheVariants.{Running, Fixed}
+
+-- A size of a rule that counts when its list is packed: a running one does not.
+abbrev pub own_size : RuleSize → ℤ
+own_size Running = pos 0
+own_size (Fixed size) = size
+
+-- How wide an item is: its advance in a horizontal list.
+abbrev pub across : Node → ℤ
+across (nodes.Glyph glyph) = glyph.width
+across (nodes.FontKern width) = width
+across (nodes.Kern width) = width
+across (nodes.Glue glue) = glue.width
+across (nodes.Penalty penalty) = pos 0
+across (nodes.Rule rule) = own_size rule.width
+
+-- How far an item stands above the baseline.
+abbrev pub above : Node → ℤ
+above (nodes.Glyph glyph) = glyph.height
+above (nodes.FontKern width) = pos 0
+above (nodes.Kern width) = pos 0
+above (nodes.Glue glue) = pos 0
+above (nodes.Penalty penalty) = pos 0
+above (nodes.Rule rule) = own_size rule.height
+
+-- How far it stands below.
+abbrev pub below : Node → ℤ
+below (nodes.Glyph glyph) = glyph.depth
+below (nodes.FontKern width) = pos 0
+below (nodes.Kern width) = pos 0
+below (nodes.Glue glue) = pos 0
+below (nodes.Penalty penalty) = pos 0
+below (nodes.Rule rule) = own_size rule.depth
+
+-- Its advance in a vertical list: of a rule height plus depth, of glue and kerns their width. A character does not stand in one.
+abbrev pub downward : Node → ℤ
+downward (nodes.Glyph glyph) = pos 0
+downward (nodes.FontKern width) = width
+downward (nodes.Kern width) = width
+downward (nodes.Glue glue) = glue.width
+downward (nodes.Penalty penalty) = pos 0
+downward (nodes.Rule rule) = own_size rule.height +ℤ own_size rule.depth
+
+-- How far an item of a vertical list goes to the right.
+abbrev pub breadth : Node → ℤ
+breadth (nodes.Glyph glyph) = pos 0
+breadth (nodes.FontKern width) = pos 0
+breadth (nodes.Kern width) = pos 0
+breadth (nodes.Glue glue) = pos 0
+breadth (nodes.Penalty penalty) = pos 0
+breadth (nodes.Rule rule) = own_size rule.width
+
+-- The advance of an item, by the kind of its list.
+abbrev pub advance : Kind → Node → ℤ
+advance Horizontal node = across node
+advance Vertical node = downward node
+
+-- Whether two orders of glue are the same.
+abbrev pub is_order : Order → Order → Bool
+is_order Normal Normal = true
+is_order Fil Fil = true
+is_order Fill Fill = true
+is_order Filll Filll = true
+is_order a b = false
+
+-- How much an item can stretch in an order: only glue of this order can.
+abbrev pub stretch_in : Order → Node → ℤ
+stretch_in order (nodes.Glue glue) = if is_order order glue.stretch_order then glue.stretch else pos 0
+stretch_in order (nodes.Glyph glyph) = pos 0
+stretch_in order (nodes.FontKern width) = pos 0
+stretch_in order (nodes.Kern width) = pos 0
+stretch_in order (nodes.Penalty penalty) = pos 0
+stretch_in order (nodes.Rule rule) = pos 0
+
+-- How much it can shrink.
+abbrev pub shrink_in : Order → Node → ℤ
+shrink_in order (nodes.Glue glue) = if is_order order glue.shrink_order then glue.shrink else pos 0
+shrink_in order (nodes.Glyph glyph) = pos 0
+shrink_in order (nodes.FontKern width) = pos 0
+shrink_in order (nodes.Kern width) = pos 0
+shrink_in order (nodes.Penalty penalty) = pos 0
+shrink_in order (nodes.Rule rule) = pos 0
+
+-- Whether an item is a penalty.
+abbrev pub is_penalty : Node → Bool
+is_penalty (nodes.Penalty penalty) = true
+is_penalty (nodes.Glyph glyph) = false
+is_penalty (nodes.FontKern width) = false
+is_penalty (nodes.Kern width) = false
+is_penalty (nodes.Glue glue) = false
+is_penalty (nodes.Rule rule) = false
+
+-- The height of an item that is a rule, else 0: how far the first item of a vtop stands above its baseline.
+abbrev pub first_above : Node → ℤ
+first_above (nodes.Rule rule) = own_size rule.height
+first_above (nodes.Glyph glyph) = pos 0
+first_above (nodes.FontKern width) = pos 0
+first_above (nodes.Kern width) = pos 0
+first_above (nodes.Glue glue) = pos 0
+first_above (nodes.Penalty penalty) = pos 0
+
+-- The depth of an item that is a rule, else 0: how far the last item of a vertical list hangs below its baseline.
+abbrev pub last_below : Node → ℤ
+last_below (nodes.Rule rule) = own_size rule.depth
+last_below (nodes.Glyph glyph) = pos 0
+last_below (nodes.FontKern width) = pos 0
+last_below (nodes.Kern width) = pos 0
+last_below (nodes.Glue glue) = pos 0
+last_below (nodes.Penalty penalty) = pos 0

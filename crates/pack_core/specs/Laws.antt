@@ -1,0 +1,37 @@
+-- Laws of the definitions, and boxes whose numbers are known (own).
+use Rattle.std.specs.Prelude.{◌≡◌, ◌≢◌, ◌<◌, ℕ, ℤ, pos}
+use Rattle.node_core.specs.declared.tree.Glue.{Glue}
+use Rattle.node_core.specs.declared.tree.Order.{Order}
+use Rattle.node_core.specs.declared.tree.Order.TheVariants.{Normal, Fil, Fill, Filll}
+use Rattle.node_core.specs.Items.{Items, none, leaf, glue, kern}
+
+-- How high an order is.
+abbrev pub rank : Order → ℕ
+rank Normal = 0
+rank Fil = 1
+rank Fill = 2
+rank Filll = 3
+
+-- The order has a total that is not 0, and no higher order has one.
+pub record IsHighest (totals : Order → ℤ) (order : Order) : Type 0 where
+  pub not_zero : totals order ≢ pos 0
+  pub alone : (other : Order) → rank order < rank other → totals other ≡ pos 0
+
+-- Glue of no width that stretches by that much, and glue that shrinks.
+abbrev pub stretching : ℤ → Order → Glue
+stretching stretch order = record { width = pos 0; stretch = stretch; stretch_order = order; shrink = pos 0; shrink_order = Normal }
+
+abbrev pub shrinking : ℤ → Glue
+shrinking shrink = record { width = pos 0; stretch = pos 0; stretch_order = Normal; shrink = shrink; shrink_order = Normal }
+
+-- Three glues that stretch by 1sp each.
+abbrev pub three_stretching : Items
+three_stretching = leaf (glue (stretching (pos 1) Normal)) (leaf (glue (stretching (pos 1) Normal)) (leaf (glue (stretching (pos 1) Normal)) none))
+
+-- Two glues that shrink by 1sp each.
+abbrev pub two_shrinking : Items
+two_shrinking = leaf (glue (shrinking (pos 1))) (leaf (glue (shrinking (pos 1))) none)
+
+-- A kern of 5pt, glue that stretches by 5pt, and glue that stretches by 1fil.
+abbrev pub kern_and_fil : Items
+kern_and_fil = leaf (kern (pos 327680)) (leaf (glue (stretching (pos 327680) Normal)) (leaf (glue (stretching (pos 65536) Fil)) none))

@@ -1,0 +1,10 @@
+-- Packing: what items add to a list, the setting of its glue, the packed boxes, and the places of their items.
+pub mod Items
+pub mod Totals
+pub mod Glue
+pub mod Boxes
+pub mod Places
+pub mod Measures
+pub mod Steps
+pub mod Cursors
+pub mod Laws

@@ -1,0 +1,31 @@
+-- Sums and greatest elements over whole lists (own).
+use Rattle.std.specs.Prelude.{◌+ℤ◌, ℤ, pos, negsuc, Bool, nat_le, nat_lt, if◌then◌else◌, List, [], ◌∷◌}
+use Rattle.std.specs.List.{list_all}
+use Rattle.std.specs.Int.{int_max}
+use Rattle.node_core.specs.declared.tree.Node.{Node}
+use Rattle.pack_core.specs.Items.{is_penalty, first_above, last_below}
+
+-- Whether a number of scaled points is a dimension: its absolute value is below 2^30 (TeX: The Program, part 7).
+abbrev pub fits : ℤ → Bool
+fits (pos n) = nat_le n 1073741823
+fits (negsuc n) = nat_lt n 1073741823
+
+-- The sum of a size over a list.
+abbrev pub total : (Node → ℤ) → List Node → ℤ
+total size [] = pos 0
+total size (x ∷ xs) = size x +ℤ total size xs
+
+-- The greatest of a size over a list, and at least 0.
+abbrev pub greatest : (Node → ℤ) → List Node → ℤ
+greatest size [] = pos 0
+greatest size (x ∷ xs) = int_max (size x) (greatest size xs)
+
+-- The depth of the last rule if only penalties follow it, else 0 (TeX: The Program, part 33: the depth that is pending at the end).
+abbrev pub pending_depth : List Node → ℤ
+pending_depth [] = pos 0
+pending_depth (x ∷ xs) = if list_all is_penalty xs then last_below x else pending_depth xs
+
+-- The height of the first item if that is a rule, else 0.
+abbrev pub first_height : List Node → ℤ
+first_height [] = pos 0
+first_height (x ∷ xs) = first_above x

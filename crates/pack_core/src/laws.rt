@@ -1,0 +1,54 @@
+//! Laws of the definitions, each on a function that does nothing.
+
+ghost use Rattle.std.specs.Prelude.{◌≡◌, ◌≢◌, ◌↔◌, ◌+ℤ◌, ◌++◌, ◌∷◌, ℤ, pos, negsuc, List, Some, None, IsTrue, false, map};
+ghost use Rattle.std.specs.List.{list_all};
+ghost use Rattle.node_core.specs.declared.tree.Kind.{Kind};
+ghost use Rattle.node_core.specs.declared.tree.Node.{Node};
+ghost use Rattle.node_core.specs.declared.tree.Order.{Order};
+ghost use Rattle.node_core.specs.declared.tree.Setting.TheVariants.{Natural};
+ghost use Rattle.pack_core.specs.declared.pack.Target.TheVariants as targets;
+ghost use Rattle.pack_core.specs.Items.{advance, is_penalty, last_below};
+ghost use Rattle.pack_core.specs.Totals.{total, pending_depth};
+ghost use Rattle.pack_core.specs.Glue.{highest, setting_of, setting_badness};
+ghost use Rattle.pack_core.specs.Boxes.{hbox, hbox_badness};
+ghost use Rattle.pack_core.specs.Places.{place, place_in};
+ghost use Rattle.pack_core.specs.Laws.{IsHighest, three_stretching, two_shrinking, kern_and_fil};
+
+/// A list whose glue is set, and which is not overfull, ends exactly where its box does.
+pub fn list_fills_its_box()
+    ensures { (kind : Kind) → (nodes : List Node) → (excess : ℤ) → setting_of excess nodes ≢ Natural → setting_badness excess nodes ≢ 1000000 →
+        place kind (setting_of excess nodes) nodes ≡ total (advance kind) nodes +ℤ excess }
+{}
+
+/// Glue is set in the highest order whose total is not 0, and in none where all totals are.
+pub fn highest_order_is_set()
+    ensures some { (totals : Order → ℤ) → (order : Order) → ((highest totals ≡ Some order) ↔ IsHighest totals order) }
+    ensures none { (totals : Order → ℤ) → ((highest totals ≡ None) ↔ ((order : Order) → totals order ≡ pos 0)) }
+{}
+
+/// The depth that is pending at the end of a list is that of the last item that is no penalty, where it is a rule, and else 0.
+pub fn depth_of_the_last_rule()
+    ensures last { (front : List Node) → (item : Node) → (penalties : List Node) → is_penalty item ≡ false → IsTrue (list_all is_penalty penalties) →
+        pending_depth (front ++ item ∷ penalties) ≡ last_below item }
+    ensures none { (penalties : List Node) → IsTrue (list_all is_penalty penalties) → pending_depth penalties ≡ pos 0 }
+{}
+
+/// Ten scaled points are shared by three equal glues as 3, 4 and 3.
+pub fn ten_among_three()
+    ensures first { place_in (hbox (targets.To (pos 10)) three_stretching) 1 ≡ pos 3 }
+    ensures second { place_in (hbox (targets.To (pos 10)) three_stretching) 2 ≡ pos 7 }
+    ensures third { place_in (hbox (targets.To (pos 10)) three_stretching) 3 ≡ pos 10 }
+{}
+
+/// Halves are rounded away from zero: the first of two glues takes all of -1sp.
+pub fn one_taken_from_two()
+    ensures first { place_in (hbox (targets.Spread (negsuc 0)) two_shrinking) 1 ≡ negsuc 0 }
+    ensures second { place_in (hbox (targets.Spread (negsuc 0)) two_shrinking) 2 ≡ negsuc 0 }
+{}
+
+/// Beside glue of an infinite order that of normal order stays as it is, and the box is not bad.
+pub fn infinite_glue_takes_all()
+    ensures normal { place_in (hbox (targets.To (pos 786432)) kern_and_fil) 2 ≡ pos 327680 }
+    ensures fil { place_in (hbox (targets.To (pos 786432)) kern_and_fil) 3 ≡ pos 786432 }
+    ensures badness { hbox_badness (targets.To (pos 786432)) kern_and_fil ≡ 0 }
+{}

@@ -1,0 +1,87 @@
+-- What the writer draws, as lists of instructions.
+use Rattle.std.proofs.Common.{◌≡◌, ℕ, zero, suc, List, [], ◌∷◌, ◌++◌, refl, append_assoc, ◌∙◌, ap, sym}
+use Rattle.std.specs.Prelude.{ℤ, pos, negsuc, ◌+ℤ◌, ◌-ℤ◌, Bool, true, false, if◌then◌else◌, Option, Some, None}
+use Rattle.std.specs.Ordering.{int_eq}
+use Rattle.std.proofs.lemmas.List.{append-nil}
+use Rattle.dvi_ops.specs.Instruction.{Axis, Across, Downward, SetChar, FontNum, Instruction, Do}
+use Rattle.node_core.specs.declared.tree.Kind.{Kind}
+use Rattle.dvi_ops.specs.Body as body
+use Rattle.dvi_ops.specs.Forest.{Forest, Then, flat}
+use Rattle.ship_core.specs.Drawing.{Stroke, moved_by, selected, ruled, behind_rule, drawn}
+use Rattle.ship_core.specs.declared.placing.Ink.{Ink}
+use Rattle.ship_core.specs.declared.placing.Ink.TheVariants as ink
+use Rattle.ship_core.specs.Placing.{mark_with, movement, selection, inked, behind}
+
+pub flat-moved_by : (axis : Axis) (z : ℤ) (rest : Forest) → flat (moved_by axis z rest) ≡ movement axis z ++ flat rest
+flat-moved_by axis (pos zero) rest = refl
+flat-moved_by axis (pos (suc n)) rest = refl
+flat-moved_by axis (negsuc n) rest = refl
+
+pub flat-selected : (current : Option ℤ) (font : ℤ) (rest : Forest) → flat (selected current font rest) ≡ selection current font ++ flat rest
+flat-selected None font rest = refl
+flat-selected (Some current) font rest = by_test (int_eq font current)
+  where
+    by_test : (same : Bool) → flat (if same then rest else Then (FontNum font) rest) ≡ (if same then [] else Do (FontNum font) ∷ []) ++ flat rest
+    by_test true = refl
+    by_test false = refl
+
+-- A rule is drawn by a movement right, one down, and the rule.
+pub flat-drawn_rule :
+    (kind : Kind) (h v : ℤ) (current : Option ℤ) (x y height width by : ℤ) (rest : List Stroke)
+    → flat (drawn kind h v current ((body.Rule x y height width, by) ∷ rest))
+    ≡ movement Across (x -ℤ h)
+    ++ (movement Downward (y -ℤ v) ++ (Do (ruled kind height width) ∷ flat (drawn kind (behind_rule kind x width) y current rest)))
+flat-drawn_rule kind h v current x y height width by rest =
+    flat-moved_by Across (x -ℤ h) _ ∙ ap (λ is. movement Across (x -ℤ h) ++ is) (flat-moved_by Downward (y -ℤ v) _)
+
+-- A glyph is drawn by a movement right, one down, the selection of its font, and the character.
+pub flat-drawn_glyph :
+    (kind : Kind) (h v : ℤ) (current : Option ℤ) (font code x y by : ℤ) (rest : List Stroke)
+    → flat (drawn kind h v current ((body.Glyph font code x y, by) ∷ rest))
+    ≡ movement Across (x -ℤ h)
+    ++ (movement Downward (y -ℤ v) ++ (selection current font ++ (Do (SetChar code) ∷ flat (drawn kind (x +ℤ by) y (Some font) rest))))
+flat-drawn_glyph kind h v current font code x y by rest =
+    flat-moved_by Across (x -ℤ h) _
+    ∙ ap (λ is. movement Across (x -ℤ h) ++ is) (flat-moved_by Downward (y -ℤ v) _ ∙ ap (λ is. movement Downward (y -ℤ v) ++ is) (flat-selected current font _))
+
+pub ruleset movements = (flat-drawn_rule, flat-drawn_glyph, append_assoc)
+
+-- The selection that ink needs, and the font that it leaves.
+abbrev pub chosen : Option ℤ → Ink → List Instruction
+chosen current (ink.Rule height) = []
+chosen current (ink.Glyph slot code) = selection current (pos slot)
+
+abbrev pub left_by : Option ℤ → Ink → Option ℤ
+left_by current (ink.Rule height) = current
+left_by current (ink.Glyph slot code) = Some (pos slot)
+
+drawn_ink :
+    (kind : Kind) (before : List Instruction) (h v : ℤ) (current : Option ℤ) (x y width : ℤ) (i : Ink) (rest : List Stroke)
+    → before ++ flat (drawn kind h v current ((mark_with x y width i, width) ∷ rest))
+    ≡ ((((before ++ movement Across (x -ℤ h)) ++ movement Downward (y -ℤ v)) ++ chosen current i) ++ inked kind width i)
+    ++ flat (drawn kind (behind kind x width i) y (left_by current i) rest)
+drawn_ink kind before h v current x y width (ink.Rule height) rest =
+    rw (flat-drawn_rule kind h v current x y height width width rest) (simp append_assoc)
+drawn_ink kind before h v current x y width (ink.Glyph slot code) rest =
+    rw (flat-drawn_glyph kind h v current (pos slot) (pos code) x y width rest) (simp append_assoc)
+
+-- What stands when a mark was drawn makes the same as before, for the strokes that follow.
+pub drawn_mark :
+    (kind : Kind) (before after : List Instruction) (h v : ℤ) (current left : Option ℤ) (x y width end down : ℤ) (i : Ink) (rest : List Stroke)
+    → after ≡ (((before ++ movement Across (x -ℤ h)) ++ movement Downward (y -ℤ v)) ++ chosen current i) ++ inked kind width i
+    → end ≡ behind kind x width i
+    → left ≡ left_by current i
+    → down ≡ y
+    → before ++ flat (drawn kind h v current ((mark_with x y width i, width) ∷ rest)) ≡ after ++ flat (drawn kind end down left rest)
+drawn_mark kind before after h v current left x y width end down i rest is edge font below =
+    rw (is, edge, font, below) (drawn_ink kind before h v current x y width i rest)
+
+-- The instructions behind a selection, and where none is needed.
+pub selected_ops :
+    (after between moved : List Instruction) (here current : Option ℤ) (slot code : ℕ) (i : Ink) → i ≡ ink.Glyph slot code
+    → here ≡ current → between ≡ moved → after ≡ between ++ selection here (pos slot) → after ≡ moved ++ chosen current i
+selected_ops after between moved here current slot code i glyph same left is = rw (glyph, is, same, left) refl
+
+pub unselected_ops :
+    (after moved : List Instruction) (current : Option ℤ) (height : ℤ) (i : Ink) → i ≡ ink.Rule height → after ≡ moved → after ≡ moved ++ chosen current i
+unselected_ops after moved current height i rule is = rw (rule, is, append-nil moved) refl

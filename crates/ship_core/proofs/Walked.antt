@@ -1,0 +1,137 @@
+-- The items of a box between two places of its list.
+use Rattle.std.proofs.Common.{◌≡◌, ◌∙◌, List, [], ◌∷◌, refl, ap, sym, arith}
+use Rattle.std.specs.Prelude.{ℤ, pos, ◌+ℤ◌, Bool, true, false, ◌&&◌, if◌then◌else◌, Option, Some, None}
+use Rattle.std.specs.List.{list_all}
+use Rattle.std.proofs.lemmas.Int.{ints}
+use Rattle.node_core.specs.declared.tree.Kind.{Kind}
+use Rattle.node_core.specs.declared.tree.Kind.TheVariants.{Horizontal, Vertical}
+use Rattle.node_core.specs.declared.tree.Node.{Node}
+use Rattle.node_core.specs.declared.tree.Glyph.{Glyph}
+use Rattle.node_core.specs.declared.tree.Rule.{Rule}
+use Rattle.node_core.specs.declared.tree.Node.TheVariants as nodes
+use Rattle.node_core.specs.declared.tree.BoxNode.{BoxNode}
+use Rattle.node_core.specs.declared.tree.Setting.{Setting}
+use Rattle.node_core.specs.declared.tree.Setting.TheVariants as settings
+use Rattle.pack_core.specs.Items.{own_size}
+use Rattle.pack_core.specs.Totals.{fits}
+use Rattle.pack_core.specs.Places.{share, set_by}
+use Rattle.pack_core.specs.Cursors.{Reached, one_more, place_at}
+use Rattle.ship_core.specs.declared.placing.Place.{Place}
+use Rattle.ship_core.specs.Marks.{right_at, down_at, rule_below, rule_tall, rule_wide, numbers_of}
+use Rattle.ship_core.specs.Drawing.{Stroke, strokes_of}
+use Rattle.ship_core.specs.declared.placing.MarkAt.{MarkAt}
+use Rattle.std.specs.Option.{IfSome}
+use Rattle.ship_core.specs.Placing.{strokes_in, point, point_in, numbers_between, strokes_at, Reaches}
+
+-- A point is at its numbers.
+pub point-is : (h v : ℤ) (p : Place) → point h v ≡ Some p → (p.h ≡ h) × (p.v ≡ v)
+point-is h v p is = by_test (fits h && fits v) is
+  where
+    by_test : (b : Bool) → (if b then Some (record { h = h; v = v }) else None) ≡ Some p → (p.h ≡ h) × (p.v ≡ v)
+    by_test true is = (cc, cc)
+    by_test false is = absurd (cc)
+
+-- Where there is none, one of the numbers does not fit.
+no_point : (h v : ℤ) → point h v ≡ None → (fits h && fits v) ≡ false
+no_point h v is = by_test (record { h = h; v = v }) (fits h && fits v) is
+  where
+    by_test : (p : Place) (b : Bool) → (if b then Some p else None) ≡ None → b ≡ false
+    by_test p true is = absurd (cc)
+    by_test p false is = refl
+
+third_and : (a b c d e : Bool) → (c && d) ≡ false → (a && (b && (c && (d && e)))) ≡ false
+third_and false b c d e none = refl
+third_and true false c d e none = refl
+third_and true true false d e none = refl
+third_and true true true false e none = refl
+third_and true true true true e none = absurd (cc)
+
+third_fits : (a b c d : ℤ) (rest : List ℤ) → (fits c && fits d) ≡ false → list_all fits (a ∷ b ∷ c ∷ d ∷ rest) ≡ false
+third_fits a b c d rest none = third_and (fits a) (fits b) (fits c) (fits d) (list_all fits rest) none
+
+-- An item whose next place does not fit.
+pub between-none : (b : BoxNode) (h v place next : ℤ) (x : Node) → point_in b h v next ≡ None → list_all fits (numbers_between b h v place next x) ≡ false
+between-none b h v place next x is = by_node x
+  where
+    x0 : ℤ
+    x0 = right_at b.kind h place
+
+    y0 : ℤ
+    y0 = down_at b.kind v place
+
+    x1 : ℤ
+    x1 = right_at b.kind h next
+
+    y1 : ℤ
+    y1 = down_at b.kind v next
+
+    by_node : (x : Node) → list_all fits (numbers_of b x0 y0 x1 y1 x) ≡ false
+    by_node (nodes.Glyph g) = third_fits x0 y0 x1 y1 [] (no_point x1 y1 is)
+    by_node (nodes.FontKern w) = third_fits x0 y0 x1 y1 [] (no_point x1 y1 is)
+    by_node (nodes.Kern w) = third_fits x0 y0 x1 y1 [] (no_point x1 y1 is)
+    by_node (nodes.Glue g) = third_fits x0 y0 x1 y1 [] (no_point x1 y1 is)
+    by_node (nodes.Penalty p) = third_fits x0 y0 x1 y1 [] (no_point x1 y1 is)
+    by_node (nodes.Rule r) = third_fits x0 y0 x1 y1 ((y0 +ℤ rule_below b.kind b r) ∷ rule_tall b.kind b r ∷ rule_wide b.kind b r ∷ []) (no_point x1 y1 is)
+
+-- And one whose two places fit.
+pub between-points :
+    (b : BoxNode) (h v place next : ℤ) (at behind : Place) (x : Node) → point_in b h v place ≡ Some at → point_in b h v next ≡ Some behind
+    → numbers_between b h v place next x ≡ numbers_of b at.h at.v behind.h behind.v x
+between-points b h v place next at behind x here there =
+    let p = point-is (right_at b.kind h place) (down_at b.kind v place) at here in
+    let q = point-is (right_at b.kind h next) (down_at b.kind v next) behind there in
+    cc (p.0, p.1, q.0, q.1)
+
+pub strokes-point : (b : BoxNode) (h v place : ℤ) (at : Place) (x : Node) → point_in b h v place ≡ Some at → strokes_at b h v place x ≡ strokes_of b at.h at.v x
+strokes-point b h v place at x here = let p = point-is (right_at b.kind h place) (down_at b.kind v place) at here in cc (p.0, p.1)
+
+-- A glyph or a rule takes no part in a setting.
+share_glyph : (setting : Setting) (g : Glyph) → share setting (nodes.Glyph g) ≡ pos 0
+share_glyph settings.Natural g = refl
+share_glyph (settings.Stretch order ratio) g = refl
+share_glyph (settings.Shrink order ratio) g = refl
+
+share_rule : (setting : Setting) (r : Rule) → share setting (nodes.Rule r) ≡ pos 0
+share_rule settings.Natural r = refl
+share_rule (settings.Stretch order ratio) r = refl
+share_rule (settings.Shrink order ratio) r = refl
+
+no_share : (setting : Setting) (shares part : ℤ) → part ≡ pos 0 → set_by setting (shares +ℤ part) ≡ set_by setting shares
+no_share setting shares part none = ap (set_by setting) (omega (arith, ints, none))
+
+right_more :
+    (setting : Setting) (from : Reached) (h by part : ℤ) → part ≡ pos 0
+    → h +ℤ ((from.natural +ℤ by) +ℤ set_by setting (from.shares +ℤ part)) ≡ (h +ℤ (from.natural +ℤ set_by setting from.shares)) +ℤ by
+right_more setting from h by part none = omega (arith, ints, no_share setting from.shares part none)
+
+right_by :
+    (setting : Setting) (from : Reached) (h by part : ℤ) → part ≡ pos 0 → (x y : ℤ)
+    → x ≡ h +ℤ place_at setting from → y ≡ h +ℤ ((from.natural +ℤ by) +ℤ set_by setting (from.shares +ℤ part)) → y ≡ x +ℤ by
+right_by setting from h by part none x y here there = there ∙ (right_more setting from h by part none ∙ sym (ap (λ z. z +ℤ by) here))
+
+-- So the item behind it stands where h is behind it.
+pub reach_by :
+    (kind : Kind) (setting : Setting) (from : Reached) (h at behind : ℤ) (x : Node) → at ≡ right_at kind h (place_at setting from)
+    → behind ≡ right_at kind h (place_at setting (one_more kind setting from x)) → Reaches kind at behind x
+reach_by Horizontal setting from h at behind (nodes.Glyph g) first next = right_by setting from h g.width (share setting (nodes.Glyph g)) (share_glyph setting g) at behind first next
+reach_by Vertical setting from h at behind (nodes.Glyph g) first next = next ∙ sym first
+reach_by kind setting from h at behind (nodes.FontKern w) first next = tt
+reach_by kind setting from h at behind (nodes.Kern w) first next = tt
+reach_by kind setting from h at behind (nodes.Glue g) first next = tt
+reach_by kind setting from h at behind (nodes.Penalty n) first next = tt
+reach_by Horizontal setting from h at behind (nodes.Rule r) first next = right_by setting from h (own_size r.width) (share setting (nodes.Rule r)) (share_rule setting r) at behind first next
+reach_by Vertical setting from h at behind (nodes.Rule r) first next = next ∙ sym first
+
+pub reaches :
+    (b : BoxNode) (h v : ℤ) (from : Reached) (at behind : Place) (x : Node) → point_in b h v (place_at b.setting from) ≡ Some at
+    → point_in b h v (place_at b.setting (one_more b.kind b.setting from x)) ≡ Some behind → Reaches b.kind at.h behind.h x
+reaches b h v from at behind x here there =
+    let p = point-is (right_at b.kind h (place_at b.setting from)) (down_at b.kind v (place_at b.setting from)) at here in
+    let next = place_at b.setting (one_more b.kind b.setting from x) in
+    let q = point-is (right_at b.kind h next) (down_at b.kind v next) behind there in
+    reach_by b.kind b.setting from h at.h behind.h x p.0 q.0
+
+-- The strokes of an item, said in another way.
+pub strokes_some :
+    (one other : List Stroke) → one ≡ other → (result : Option (Option MarkAt)) → IfSome result (λ m. strokes_in m ≡ one) → IfSome result (λ m. strokes_in m ≡ other)
+strokes_some one other same result is = rw (sym same) is

@@ -1,0 +1,5 @@
+-- The marks of a page, and what draws them.
+pub mod Marks
+pub mod Drawing
+pub mod Placing
+pub mod Shown

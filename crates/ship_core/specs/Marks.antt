@@ -1,0 +1,131 @@
+-- What a box puts on a page, and which numbers of a page have to fit (TeX: The Program, part 32).
+use Rattle.std.specs.Prelude.{◌+ℤ◌, ◌-ℤ◌, ◌&&◌, ℤ, pos, Bool, not, int_lt, if◌then◌else◌, List, [], ◌∷◌, ◌++◌}
+use Rattle.std.specs.List.{list_all}
+use Rattle.node_core.specs.declared.tree.Kind.{Kind}
+use Rattle.node_core.specs.declared.tree.Kind.TheVariants.{Horizontal, Vertical}
+use Rattle.node_core.specs.declared.tree.Node.{Node}
+use Rattle.node_core.specs.declared.tree.Node.TheVariants as nodes
+use Rattle.node_core.specs.declared.tree.Glyph.{Glyph}
+use Rattle.node_core.specs.declared.tree.Rule.{Rule}
+use Rattle.node_core.specs.declared.tree.RuleSize.{RuleSize}
+use Rattle.node_core.specs.declared.tree.RuleSize.TheVariants.{Running, Fixed}
+use Rattle.node_core.specs.declared.tree.BoxNode.{BoxNode}
+use Rattle.node_core.specs.Nodes.{nodes_of}
+use Rattle.dvi_ops.specs.Body as marks
+use Rattle.dvi_ops.specs.Body.{Mark}
+use Rattle.pack_core.specs.Items.{own_size}
+use Rattle.pack_core.specs.Totals.{fits}
+use Rattle.pack_core.specs.Places.{place}
+
+-- A size of a rule where it stands: a running one is that of the box.
+abbrev pub size_in : ℤ → RuleSize → ℤ
+size_in whole Running = whole
+size_in whole (Fixed size) = size
+
+-- Where the list of a box begins, below v: a horizontal one on the baseline, a vertical one at the top of the box.
+abbrev pub list_v : Kind → (height v : ℤ) → ℤ
+list_v Horizontal height v = v
+list_v Vertical height v = v -ℤ height
+
+-- How far to the right, and how far down, a place of a list is.
+abbrev pub right_at : Kind → (h place : ℤ) → ℤ
+right_at Horizontal h place = h +ℤ place
+right_at Vertical h place = h
+
+abbrev pub down_at : Kind → (v place : ℤ) → ℤ
+down_at Horizontal v place = v
+down_at Vertical v place = v +ℤ place
+
+-- How far the corner of a rule is below the place of its item: by its depth, or in a vertical list by height plus depth.
+abbrev pub rule_below : Kind → BoxNode → Rule → ℤ
+rule_below Horizontal b rule = size_in b.depth rule.depth
+rule_below Vertical b rule = own_size rule.height +ℤ own_size rule.depth
+
+-- Its height plus depth.
+abbrev pub rule_tall : Kind → BoxNode → Rule → ℤ
+rule_tall Horizontal b rule = size_in b.height rule.height +ℤ size_in b.depth rule.depth
+rule_tall Vertical b rule = own_size rule.height +ℤ own_size rule.depth
+
+-- Its width.
+abbrev pub rule_wide : Kind → BoxNode → Rule → ℤ
+rule_wide Horizontal b rule = own_size rule.width
+rule_wide Vertical b rule = size_in b.width rule.width
+
+-- A rule with its corner at (h, v), as a list of one mark; it is no mark where its height or its width is not positive.
+abbrev pub rule_mark : (h v height width : ℤ) → List Mark
+rule_mark h v height width = if int_lt (pos 0) height && int_lt (pos 0) width then marks.Rule h v height width ∷ [] else []
+
+-- A glyph stands at its place in a horizontal list; in a vertical one there are none.
+abbrev pub glyph_mark : Kind → (h v : ℤ) → Glyph → List Mark
+glyph_mark Horizontal h v glyph = marks.Glyph (pos glyph.slot) (pos glyph.code) h v ∷ []
+glyph_mark Vertical h v glyph = []
+
+-- The mark of an item that stands at (h, v) in the list of a box.
+abbrev pub mark_of : BoxNode → (h v : ℤ) → Node → List Mark
+mark_of b h v (nodes.Glyph glyph) = glyph_mark b.kind h v glyph
+mark_of b h v (nodes.FontKern width) = []
+mark_of b h v (nodes.Kern width) = []
+mark_of b h v (nodes.Glue glue) = []
+mark_of b h v (nodes.Penalty penalty) = []
+mark_of b h v (nodes.Rule rule) = rule_mark h (v +ℤ rule_below b.kind b rule) (rule_tall b.kind b rule) (rule_wide b.kind b rule)
+
+-- The point where an item stands that has the items `before` in front of it, in a list that begins at (h, v).
+abbrev pub item_h : BoxNode → (h : ℤ) → (before : List Node) → ℤ
+item_h b h before = right_at b.kind h (place b.kind b.setting before)
+
+abbrev pub item_v : BoxNode → (v : ℤ) → (before : List Node) → ℤ
+item_v b v before = down_at b.kind v (place b.kind b.setting before)
+
+-- The marks of the items `after`, which stand in the list of the box behind the items `before`; the list begins at (h, v).
+abbrev pub marks_behind : BoxNode → (h v : ℤ) → (before after : List Node) → List Mark
+marks_behind b h v before [] = []
+marks_behind b h v before (x ∷ after) = mark_of b (item_h b h before) (item_v b v before) x ++ marks_behind b h v (before ++ x ∷ []) after
+
+-- The marks of a box whose reference point is (h, v).
+unfoldable pub marks_of_box : BoxNode → (h v : ℤ) → List Mark
+marks_of_box b h v = marks_behind b h (list_v b.kind b.height v) [] (nodes_of b.list)
+
+-- The numbers of an item that stands at (h, v) before the place (next_h, next_v): the two places, and of a rule its corner and its sizes
+-- (the width is a dimension and fits in any case).
+abbrev pub numbers_of : BoxNode → (h v next_h next_v : ℤ) → Node → List ℤ
+numbers_of b h v next_h next_v (nodes.Glyph glyph) = h ∷ v ∷ next_h ∷ next_v ∷ []
+numbers_of b h v next_h next_v (nodes.FontKern width) = h ∷ v ∷ next_h ∷ next_v ∷ []
+numbers_of b h v next_h next_v (nodes.Kern width) = h ∷ v ∷ next_h ∷ next_v ∷ []
+numbers_of b h v next_h next_v (nodes.Glue glue) = h ∷ v ∷ next_h ∷ next_v ∷ []
+numbers_of b h v next_h next_v (nodes.Penalty penalty) = h ∷ v ∷ next_h ∷ next_v ∷ []
+numbers_of b h v next_h next_v (nodes.Rule rule) =
+    h ∷ v ∷ next_h ∷ next_v ∷ (v +ℤ rule_below b.kind b rule) ∷ rule_tall b.kind b rule ∷ rule_wide b.kind b rule ∷ []
+
+-- Those of the item x behind the items `before`.
+abbrev pub numbers_at : BoxNode → (h v : ℤ) → (before : List Node) → Node → List ℤ
+numbers_at b h v before x =
+    numbers_of b (item_h b h before) (item_v b v before) (item_h b h (before ++ x ∷ [])) (item_v b v (before ++ x ∷ [])) x
+
+-- Those of the items `after`.
+abbrev pub numbers_behind : BoxNode → (h v : ℤ) → (before after : List Node) → List ℤ
+numbers_behind b h v before [] = []
+numbers_behind b h v before (x ∷ after) = numbers_at b h v before x ++ numbers_behind b h v (before ++ x ∷ []) after
+
+-- A page: its ten counts, and a box with its reference point.
+pub record Page : Type 0 where
+  pub counts : List ℤ
+  pub shown : BoxNode
+  pub h : ℤ
+  pub v : ℤ
+
+-- The marks of a page.
+abbrev pub marks_of_page : Page → List Mark
+marks_of_page page = marks_of_box page.shown page.h page.v
+
+-- Where the list of its box begins.
+abbrev pub page_v : Page → ℤ
+page_v page = list_v page.shown.kind page.shown.height page.v
+
+-- The numbers of a page that have to fit: how far it reaches down and to the right, and those of its items.
+abbrev pub numbers_of_page : Page → List ℤ
+numbers_of_page page =
+    (page.v +ℤ page.shown.depth) ∷ (page.h +ℤ page.shown.width) ∷ numbers_behind page.shown page.h (page_v page) [] (nodes_of page.shown.list)
+
+-- Whether a page is huge: one of those numbers does not fit.
+unfoldable pub is_huge : Page → Bool
+is_huge page = not (list_all fits (numbers_of_page page))

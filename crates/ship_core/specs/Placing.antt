@@ -1,0 +1,91 @@
+-- What the shipping of a box goes through, one item after the other (own).
+use Rattle.std.specs.Prelude.{◌≡◌, ◌+ℤ◌, ◌++◌, ◌&&◌, [], ◌∷◌, ℤ, pos, negsuc, zero, suc, if◌then◌else◌, List, map, Option, Some, None}
+use Rattle.std.specs.Ordering.{int_eq}
+use Rattle.std.specs.Option.{option_map}
+use Rattle.node_core.specs.declared.tree.Kind.{Kind}
+use Rattle.node_core.specs.declared.tree.Node.{Node}
+use Rattle.node_core.specs.declared.tree.BoxNode.{BoxNode}
+use Rattle.node_core.specs.declared.tree.Node.TheVariants as nodes
+use Rattle.dvi_ops.specs.Instruction.{Axis, Move, By, FontNum, SetChar, Instruction, Do}
+use Rattle.dvi_ops.specs.Body as body
+use Rattle.dvi_ops.specs.Body.{Mark}
+use Rattle.dvi_ops.specs.Forest.{flat}
+use Rattle.dvi_ops.specs.View.{view}
+use Rattle.pack_core.specs.Items.{own_size}
+use Rattle.pack_core.specs.Totals.{fits}
+use Rattle.ship_core.specs.Marks.{right_at, down_at, numbers_of}
+use Rattle.ship_core.specs.declared.placing.Place.{Place}
+use Rattle.ship_core.specs.declared.placing.Ink.{Ink}
+use Rattle.ship_core.specs.declared.placing.Ink.TheVariants as ink
+use Rattle.ship_core.specs.declared.placing.MarkAt.{MarkAt}
+use Rattle.ship_core.specs.declared.drawing.Drawing.{Drawing}
+use Rattle.ship_core.specs.Drawing.{Stroke, strokes_of, ruled, behind_rule, drawn}
+
+-- A point of a page, where both numbers fit.
+abbrev pub point : (h v : ℤ) → Option Place
+point h v = if fits h && fits v then Some (record { h = h; v = v }) else None
+
+-- The mark of ink at a place, of that width.
+abbrev pub mark_with : (h v width : ℤ) → Ink → Mark
+mark_with h v width (ink.Rule height) = body.Rule h v height width
+mark_with h v width (ink.Glyph slot code) = body.Glyph (pos slot) (pos code) h v
+
+-- The strokes of an item, at most one.
+abbrev pub strokes_in : Option MarkAt → List Stroke
+strokes_in None = []
+strokes_in (Some m) = (mark_with m.h m.v m.width m.ink, m.width) ∷ []
+
+-- Where h is behind ink of that width.
+abbrev pub behind : Kind → (h width : ℤ) → Ink → ℤ
+behind kind h width (ink.Rule height) = behind_rule kind h width
+behind kind h width (ink.Glyph slot code) = h +ℤ width
+
+-- A mark ends there.
+abbrev pub Ends : Kind → MarkAt → Type 0
+Ends kind m = m.end ≡ behind kind m.h m.width m.ink
+
+-- The item behind a glyph or a rule stands where h is behind it: no glue lies between.
+abbrev pub Reaches : Kind → (h next_h : ℤ) → Node → Type 0
+Reaches kind h next_h (nodes.Glyph glyph) = next_h ≡ right_at kind h glyph.width
+Reaches kind h next_h (nodes.FontKern width) = Unit {0}
+Reaches kind h next_h (nodes.Kern width) = Unit {0}
+Reaches kind h next_h (nodes.Glue glue) = Unit {0}
+Reaches kind h next_h (nodes.Penalty penalty) = Unit {0}
+Reaches kind h next_h (nodes.Rule rule) = next_h ≡ right_at kind h (own_size rule.width)
+
+-- An instruction, unless an amount is 0.
+abbrev pub unless_zero : ℤ → Instruction → List Instruction
+unless_zero (pos zero) i = []
+unless_zero (pos (suc n)) i = i ∷ []
+unless_zero (negsuc n) i = i ∷ []
+
+-- A movement by an amount, unless it is 0.
+abbrev pub movement : Axis → ℤ → List Instruction
+movement axis z = unless_zero z (Do (Move axis (By z)))
+
+-- The selection of a font, unless it is the current one.
+abbrev pub selection : Option ℤ → ℤ → List Instruction
+selection None font = Do (FontNum font) ∷ []
+selection (Some current) font = if int_eq font current then [] else Do (FontNum font) ∷ []
+
+-- The instruction for ink of that width.
+abbrev pub inked : Kind → (width : ℤ) → Ink → List Instruction
+inked kind width (ink.Rule height) = Do (ruled kind height width) ∷ []
+inked kind width (ink.Glyph slot code) = Do (SetChar (pos code)) ∷ []
+
+-- The instructions so far, and those for the strokes that follow.
+abbrev pub makes : Kind → Drawing → List Stroke → List Instruction
+makes kind d rest = map view d.ops.items ++ flat (drawn kind d.h d.v (option_map pos d.font) rest)
+
+-- Where an item of a box stands at a place of its list, which begins at (h, v).
+abbrev pub point_in : BoxNode → (h v place : ℤ) → Option Place
+point_in b h v place = point (right_at b.kind h place) (down_at b.kind v place)
+
+-- The numbers of an item between two places of the list.
+abbrev pub numbers_between : BoxNode → (h v place next : ℤ) → Node → List ℤ
+numbers_between b h v place next x =
+    numbers_of b (right_at b.kind h place) (down_at b.kind v place) (right_at b.kind h next) (down_at b.kind v next) x
+
+-- The strokes of an item at a place of the list.
+abbrev pub strokes_at : BoxNode → (h v place : ℤ) → Node → List Stroke
+strokes_at b h v place x = strokes_of b (right_at b.kind h place) (down_at b.kind v place) x

@@ -1,0 +1,14 @@
+//! Laws of the plan of a page, each on a function that does nothing.
+
+ghost use Rattle.ship_core.specs.Shown.{ShowsItsMarks, CanBeWritten};
+
+/// The plan of a page that is not huge shows, by the meaning of DVI instructions, exactly the marks of the page, where each glyph has the
+/// width that its font gives: from 0 and 0, without a font, and whatever w, x, y and z hold.
+pub fn a_plan_shows_its_marks()
+    ensures { ShowsItsMarks }
+{}
+
+/// Each of its instructions can be written, and it opens no group.
+pub fn a_plan_can_be_written()
+    ensures { CanBeWritten }
+{}

@@ -1,0 +1,9 @@
+//! Shipping: from a box to the instructions that draw its page (TeX: The Program, part 32).
+#![tactic(auto)]
+
+mod drawing;
+pub mod laws;
+pub mod page_plan;
+mod placing;
+
+pub use page_plan::{ShipFault, is_huge, plan};

@@ -1,0 +1,224 @@
+//! Where the items of a box stand on a page, and their marks.
+
+ghost use Rattle.std.specs.Prelude.{◌≡◌, ◌+ℤ◌, ◌+◌, ◌^◌, pos, true, None, Some, is_some, map, if◌then◌else◌, IfSome};
+ghost use Rattle.std.specs.List.{list_all};
+ghost use Rattle.scaled_core.specs.Dimensions.{Within};
+ghost use Rattle.pack_core.specs.Items.{own_size};
+ghost use Rattle.pack_core.specs.Totals.{fits};
+ghost use Rattle.ship_core.specs.Marks.{size_in, right_at, down_at, rule_below, rule_tall, rule_wide, rule_mark, numbers_of};
+ghost use Rattle.ship_core.specs.Drawing.{strokes_of};
+ghost use Rattle.ship_core.specs.Placing.{point, Reaches, Ends, strokes_in};
+ghost use Rattle.node_core.specs.declared.tree.Kind.TheVariants as kinds;
+ghost use Rattle.node_core.specs.declared.tree.Node.TheVariants as nodes;
+
+use node_core::{BoxNode, Glyph, Kind, Node, Rule, RuleSize};
+use pack_core::{counted, dimension};
+use scaled_core::Dimen;
+
+/// A point of a page, in scaled points to the right of its origin and below it.
+#[derive(Clone, Copy, Debug, PartialEq, Eq)]
+pub struct Place {
+    pub h: Dimen,
+    pub v: Dimen,
+}
+
+impl Place {
+    /// Both numbers fit. It does nothing.
+    #[tactic(auto, using(crate::proofs::Fitting::dimension_fits))]
+    fn known(&self)
+        ensures h { fits self.now.h ≡ true }
+        ensures v { fits self.now.v ≡ true }
+    {
+        let _h = self.h.get();
+        let _v = self.v.get();
+    }
+}
+
+/// What is seen: a rule of that height, or a character of the font in a slot.
+#[derive(Clone, Copy, Debug)]
+pub enum Ink {
+    Rule(Dimen),
+    Glyph { slot: u8, code: u8 },
+}
+
+/// A mark on a page: where its corner or its reference point is, how wide it is, and where h is behind it.
+#[derive(Clone, Copy, Debug)]
+pub struct MarkAt {
+    pub h: Dimen,
+    pub v: Dimen,
+    pub width: Dimen,
+    pub end: Dimen,
+    pub ink: Ink,
+}
+
+/// The point with these numbers, where both fit.
+fn point(h: i128, v: i128) -> Option<Place>
+    ensures { result ≡ point h v }
+{
+    let h = dimension(h)?;
+    let v = dimension(v)?;
+    Some(Place { h, v })
+}
+
+/// A number that is so much more.
+fn moved(from: i64, distance: i128) -> i128
+    requires { Within (2 ^ 126 + 2 ^ 63) distance }
+    ensures { result ≡ from +ℤ distance }
+{
+    i128::from(from) + distance
+}
+
+/// The point at a distance from where a list begins that goes that way.
+pub fn point_at(kind: Kind, h: Dimen, v: i64, distance: i128) -> Option<Place>
+    requires { Within (2 ^ 126 + 2 ^ 63) distance }
+    ensures { result ≡ point (right_at kind h distance) (down_at kind v distance) }
+{
+    match kind {
+        Kind::Horizontal => point(moved(i64::from(h.get()), distance), i128::from(v)),
+        Kind::Vertical => point(i128::from(h.get()), moved(v, distance)),
+    }
+}
+
+/// The sum of two dimensions, where it fits.
+#[tactic(auto, using(crate::proofs::Fitting::dimension_fits))]
+pub fn sum(a: Dimen, b: Dimen) -> Option<Dimen>
+    ensures value { IfSome result (λ sum. sum ≡ a +ℤ b) }
+    ensures fits { is_some result ≡ fits (a +ℤ b) }
+    ensures first { fits a ≡ true }
+    ensures second { fits b ≡ true }
+{
+    dimension(i128::from(a.get()) + i128::from(b.get()))
+}
+
+/// A size of a rule where it stands in a box.
+fn size_where(whole: Dimen, size: RuleSize) -> Dimen
+    ensures { result ≡ size_in whole size }
+{
+    match size {
+        RuleSize::Running => whole,
+        RuleSize::Fixed(size) => size,
+    }
+}
+
+/// The sizes of a rule where it stands.
+#[derive(Clone, Copy, Debug)]
+struct RuleSizes {
+    below: Dimen,
+    tall: Dimen,
+    wide: Dimen,
+}
+
+/// The sizes of a rule in a horizontal list; None exactly where its height plus depth does not fit.
+fn sizes_across(shown: &BoxNode, rule: Rule) -> Option<RuleSizes>
+    requires { shown.now.kind ≡ kinds.Horizontal }
+    ensures fits { is_some result ≡ fits (rule_tall shown.now.kind shown.now rule) }
+    ensures below { IfSome result (λ s. s.below ≡ rule_below shown.now.kind shown.now rule) }
+    ensures tall { IfSome result (λ s. s.tall ≡ rule_tall shown.now.kind shown.now rule) }
+    ensures wide { IfSome result (λ s. s.wide ≡ rule_wide shown.now.kind shown.now rule) }
+{
+    let below = size_where(shown.depth, rule.depth);
+    let tall = sum(size_where(shown.height, rule.height), below)?;
+    let wide = counted(rule.width);
+    Some(RuleSizes { below, tall, wide })
+}
+
+/// The sizes of a rule in a vertical list; None exactly where its height plus depth does not fit.
+fn sizes_downward(shown: &BoxNode, rule: Rule) -> Option<RuleSizes>
+    requires { shown.now.kind ≡ kinds.Vertical }
+    ensures fits { is_some result ≡ fits (rule_tall shown.now.kind shown.now rule) }
+    ensures below { IfSome result (λ s. s.below ≡ rule_below shown.now.kind shown.now rule) }
+    ensures tall { IfSome result (λ s. s.tall ≡ rule_tall shown.now.kind shown.now rule) }
+    ensures wide { IfSome result (λ s. s.wide ≡ rule_wide shown.now.kind shown.now rule) }
+{
+    let tall = sum(counted(rule.height), counted(rule.depth))?;
+    let wide = size_where(shown.width, rule.width);
+    Some(RuleSizes {
+        below: tall,
+        tall,
+        wide,
+    })
+}
+
+/// The sizes of a rule in the list of a box; None exactly where its height plus depth does not fit.
+fn sizes_of(shown: &BoxNode, rule: Rule) -> Option<RuleSizes>
+    ensures fits { is_some result ≡ fits (rule_tall shown.now.kind shown.now rule) }
+    ensures below { IfSome result (λ s. s.below ≡ rule_below shown.now.kind shown.now rule) }
+    ensures tall { IfSome result (λ s. s.tall ≡ rule_tall shown.now.kind shown.now rule) }
+    ensures wide { IfSome result (λ s. s.wide ≡ rule_wide shown.now.kind shown.now rule) }
+{
+    match shown.kind {
+        Kind::Horizontal => sizes_across(shown, rule),
+        Kind::Vertical => sizes_downward(shown, rule),
+    }
+}
+
+/// A rule of that height that is seen; None exactly where its height or its width is not positive.
+fn visible(height: Dimen, h: Dimen, v: Dimen, width: Dimen, end: Dimen) -> Option<MarkAt>
+    ensures mark { strokes_in result ≡ map (λ m. (m, width)) (rule_mark h v height width) }
+    ensures end { IfSome result (λ m. m ≡ record { h = h; v = v; width = width; end = end; ink = Ink.Rule height }) }
+{
+    if height.get() <= 0 {
+        return None;
+    }
+    if width.get() <= 0 {
+        return None;
+    }
+    Some(MarkAt {
+        h,
+        v,
+        width,
+        end,
+        ink: Ink::Rule(height),
+    })
+}
+
+/// The mark of a rule at a place of the list of a box; None exactly where one of its numbers does not fit.
+fn place_rule(shown: &BoxNode, at: Place, next: Place, rule: Rule) -> Option<Option<MarkAt>>
+    requires { Reaches shown.now.kind at.h next.h (nodes.Rule rule) }
+    ensures fits { is_some result ≡ list_all fits (numbers_of shown.now at.h at.v next.h next.v (nodes.Rule rule)) }
+    ensures mark { IfSome result (λ m. strokes_in m ≡ strokes_of shown.now at.h at.v (nodes.Rule rule)) }
+    ensures end { IfSome result (λ m. IfSome m (Ends shown.now.kind)) }
+{
+    at.known();
+    next.known();
+    let sizes = sizes_of(shown, rule)?;
+    let v = sum(at.v, sizes.below)?;
+    Some(visible(sizes.tall, at.h, v, sizes.wide, next.h))
+}
+
+/// The mark of a glyph at a place of the list of a box.
+fn place_glyph(shown: &BoxNode, at: Place, next: Place, glyph: Glyph) -> Option<MarkAt>
+    requires { Reaches shown.now.kind at.h next.h (nodes.Glyph glyph) }
+    ensures mark { strokes_in result ≡ strokes_of shown.now at.h at.v (nodes.Glyph glyph) }
+    ensures end { IfSome result (Ends shown.now.kind) }
+{
+    match shown.kind {
+        Kind::Vertical => None,
+        Kind::Horizontal => Some(MarkAt {
+            h: at.h,
+            v: at.v,
+            width: glyph.width,
+            end: next.h,
+            ink: Ink::Glyph {
+                slot: glyph.slot,
+                code: glyph.code,
+            },
+        }),
+    }
+}
+
+/// The mark of an item at a place of the list of a box, if it has one; None exactly where one of its numbers does not fit.
+pub fn place_item(shown: &BoxNode, at: Place, next: Place, node: &Node) -> Option<Option<MarkAt>>
+    requires { Reaches shown.now.kind at.h next.h node.now }
+    ensures fits { is_some result ≡ list_all fits (numbers_of shown.now at.h at.v next.h next.v node.now) }
+    ensures mark { IfSome result (λ m. strokes_in m ≡ strokes_of shown.now at.h at.v node.now) }
+    ensures end { IfSome result (λ m. IfSome m (Ends shown.now.kind)) }
+{
+    at.known();
+    next.known();
+    match node {
+        Node::Rule(rule) => place_rule(shown, at, next, *rule),
+        Node::Glyph(glyph) => Some(place_glyph(shown, at, next, *glyph)),
+        _ => Some(None),
+    }
+}

@@ -1,0 +1,20 @@
+//! Worked values of the libraries, as tests.
+#![tactic(auto)]
+
+pub mod changed_bytes;
+#[cfg(test)]
+mod font_files;
+#[cfg(test)]
+mod instructions;
+#[cfg(test)]
+mod jobs;
+#[cfg(test)]
+mod nodes;
+#[cfg(test)]
+mod packing;
+#[cfg(test)]
+mod samples;
+#[cfg(test)]
+mod scaled_values;
+#[cfg(test)]
+mod shaped_texts;
