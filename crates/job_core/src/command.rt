@@ -3,7 +3,8 @@
 ghost use Rattle.std.specs.Prelude.{◌≡◌, ◌<◌};
 ghost use Rattle.std.specs.Option.{SomeIff};
 
-use node_core::{Kind, Rule};
+use node_core::{Glue, Kind, Number, Rule};
+use pack_core::Target;
 use scaled_core::Dimen;
 use std::marker::Model;
 use tfm_core::{FontName, FontSize, TfmCause};
@@ -92,6 +93,32 @@ pub struct FontLoad {
     pub size: Option<FontSize>,
 }
 
+/// What an open list becomes.
+#[derive(Clone, Copy, Debug, PartialEq, Eq)]
+pub enum BoxForm {
+    /// A box of a horizontal list.
+    Hbox,
+    /// A box of a vertical list, whose baseline is at the bottom.
+    Vbox,
+    /// A box of a vertical list, whose baseline is that of its first item.
+    Vtop,
+}
+
+/// Which list is opened: what it becomes, how large, and the register that the box goes into.
+#[derive(Clone, Copy, Debug, PartialEq, Eq)]
+pub struct Opening {
+    pub form: BoxForm,
+    pub target: Target,
+    pub into: Register,
+}
+
+/// A parameter and a value for it.
+#[derive(Clone, Copy, Debug, PartialEq, Eq)]
+pub enum Parameter {
+    /// How deep a vbox may be, in scaled points: boxmaxdepth.
+    BoxMaxDepth(Dimen),
+}
+
 /// A command to a job.
 #[derive(Debug, Drop)]
 pub enum Command {
@@ -99,8 +126,8 @@ pub enum Command {
     LoadFont(FontLoad),
     /// Chooses the font of a slot as the current one.
     UseFont(u8),
-    /// Opens a horizontal list whose box goes into a register.
-    OpenHbox(Register),
+    /// Opens a list.
+    Open(Opening),
     /// Packs the innermost open list and puts the box into its register.
     End,
     /// Appends a text in the current font to the innermost open list: words with their kerns and ligatures, and a glue for each run of
@@ -112,10 +139,16 @@ pub enum Command {
     Rule(Rule),
     /// Appends an explicit kern to the innermost open list.
     Kern(Dimen),
+    /// Appends glue to the innermost open list.
+    Glue(Glue),
+    /// Appends a penalty to the innermost open list.
+    Penalty(Number),
     /// Tells what a register holds.
     Measure(Register),
     /// Makes a register void.
     Void(Register),
+    /// Gives a parameter a value.
+    Set(Parameter),
     /// Makes a page of the box in a register, which becomes void.
     Ship(Register),
 }

@@ -15,7 +15,9 @@ pub mod totality;
 mod writer;
 
 pub use command::{
-    Answer, Characters, Command, FontLoad, Refusal, Register, Reply, Sizes, Summary,
+    Answer, BoxForm, Characters, Command, FontLoad, Opening, Parameter, Refusal, Register, Reply,
+    Sizes, Summary,
 };
 pub use device::{Device, DeviceFault, Memory};
+pub use pack_core::Target;
 pub use tfm_core::{FontFile, FontName, FontSize, TfmCause};

@@ -29,6 +29,11 @@ impl Dimen {
     /// No length at all: 0 sp.
     pub const ZERO: Dimen = Dimen { value: 0 };
 
+    /// The greatest length: 1073741823 sp (TeX: The Program, part 7, `max_dimen`).
+    pub const MAX: Dimen = Dimen {
+        value: 1_073_741_823,
+    };
+
     /// The dimension of that many scaled points, or None exactly where the number does not fit.
     pub fn try_new(value: i64) -> Option<Dimen>
         ensures { SomeIff result (Fits value) value }

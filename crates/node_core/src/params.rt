@@ -1,0 +1,70 @@
+//! The parameters of lists and boxes, and the numbers that they and penalties have (TeX: The Program, part 17).
+
+ghost use Rattle.std.specs.Prelude.{◌≡◌, pos};
+ghost use Rattle.std.specs.Option.{SomeIff};
+ghost use Rattle.scaled_core.specs.Dimensions.{Within};
+
+use scaled_core::Dimen;
+use std::marker::Model;
+
+/// A whole number of absolute value at most 500,000,000: that of a penalty or of a parameter.
+#[derive(Clone, Copy, Debug, PartialEq, Eq)]
+pub struct Number {
+    value: i32,
+}
+
+impl Model for Number {
+    ghost use Rattle.std.specs.Prelude.{ℤ};
+    ghost use Rattle.scaled_core.specs.Dimensions.{Within};
+
+    ghost Value = { ℤ };
+
+    ghost view = { λ n. n.value };
+
+    ghost invariant = { λ n. Within 500000000 n.value };
+
+    ghost inverse = { λ z. record { value = z } };
+}
+
+impl Number {
+    /// The number of that value, or None exactly where it is out of the range.
+    pub fn try_new(value: i64) -> Option<Number>
+        ensures { SomeIff result (Within 500000000 value) value }
+    {
+        if value < -500_000_000 {
+            return None;
+        }
+        if value > 500_000_000 {
+            return None;
+        }
+        Some(Number {
+            value: value as i32,
+        })
+    }
+
+    /// Its value.
+    pub fn get(self) -> i32
+        ensures value { result ≡ self }
+        ensures small { Within 500000000 result }
+    {
+        self.value
+    }
+}
+
+/// The parameters.
+#[derive(Clone, Copy, Debug, PartialEq, Eq)]
+pub struct Params {
+    /// How deep a vbox may be, in scaled points: boxmaxdepth.
+    pub box_max_depth: Dimen,
+}
+
+impl Params {
+    /// The parameters of a new job: a vbox may be as deep as a dimension can be.
+    pub fn first() -> Params
+        ensures { result ≡ record { box_max_depth = pos 1073741823 } }
+    {
+        Params {
+            box_max_depth: Dimen::MAX,
+        }
+    }
+}
