@@ -18,12 +18,12 @@ use Rattle.dvi_ops.proofs.Layouts.{says-wrote, definitions-define, instructions-
 use Rattle.dvi_ops.proofs.WholeFile.{frame_of, padding_low, padding_fills, size_of_front}
 use Rattle.job_core.specs.FontSlots.{Slots}
 use Rattle.job_core.specs.Loaded.{AreLoaded}
-use Rattle.job_core.specs.Marks.{Page}
-use Rattle.job_core.specs.Drawing.{body_of}
+use Rattle.ship_core.specs.Marks.{Page}
+use Rattle.ship_core.specs.Drawing.{body_of}
 use Rattle.job_core.specs.Draft.{first_draft, draft_of, definitions_of, fresh_slots, in_rising_order, sheet_of, reach_down, reach_right, closed, whole, file_of}
 use Rattle.job_core.specs.Runs.{IsShipped}
 use Rattle.job_core.specs.Closing.{IsGreatestOf, IsOfJob, IsClosedFor}
-use Rattle.job_core.proofs.DrawnPages.{definitions-page, nests-page}
+use Rattle.ship_core.proofs.DrawnPages.{definitions-page, nests-page}
 use Rattle.job_core.proofs.DefinedFonts.{AreKnown, each_of, none_known, known_next}
 use Rattle.job_core.proofs.PageFonts.{table_of}
 use Rattle.job_core.proofs.FileLaws.{farthest, tall-is, wide-is, tall_fits, wide_fits, shipped_good, sheets_of, laid_out, whole-is, closing_tabled}

@@ -6,7 +6,7 @@ use Rattle.job_core.specs.declared.command.Refusal.TheVariants.{OutOfMemory, Dev
 use Rattle.job_core.specs.declared.command.Summary.{Summary}
 use Rattle.job_core.specs.Told.{grown, GrowsByFront, IsFrontOf}
 use Rattle.job_core.specs.FontSlots.{Slots}
-use Rattle.job_core.specs.Marks.{Page}
+use Rattle.ship_core.specs.Marks.{Page}
 use Rattle.job_core.specs.Machine.{State, Machine, first_of, stopped}
 use Rattle.job_core.specs.Draft.{draft_of, whole, file_of}
 use Rattle.job_core.specs.Runs.{Seen, finish_checks, Finished, Refuses, WantsMemory, LostDevice, Holds, FinishesTo}

@@ -9,6 +9,7 @@ use Rattle.tfm_core.specs.NamedBytes.{NamedBytes}
 use Rattle.node_core.specs.declared.tree.BoxNode.{BoxNode}
 use Rattle.node_core.specs.Nodes.{nodes_of}
 use Rattle.dvi_ops.specs.Instruction.{Definition, Instruction, Post, PostPost, Postamble}
+use Rattle.dvi_ops.specs.Body.{start}
 use Rattle.dvi_ops.specs.Forest.{flat}
 use Rattle.dvi_ops.specs.Fonts.{Metrics, defined, known_after, font_in as font_by}
 use Rattle.dvi_ops.specs.File.{IsFile}
@@ -19,15 +20,15 @@ use Rattle.dvi_ops.proofs.WholeFile.{whole_file, padding_low}
 use Rattle.job_core.specs.FontSlots.{Slots}
 use Rattle.job_core.specs.Loaded.{AreLoaded}
 use Rattle.job_core.specs.Sized.{AreSized}
-use Rattle.job_core.specs.Marks.{Page, marks_of_page, is_huge}
-use Rattle.job_core.specs.Drawing.{body_of}
+use Rattle.ship_core.specs.Marks.{Page, marks_of_page, is_huge}
+use Rattle.ship_core.specs.Drawing.{body_of}
 use Rattle.job_core.specs.Draft.{Draft, first_draft, with_page, with_pages, draft_of, definitions_of, fresh_slots, in_rising_order, selects, sheet_of, reach_down, reach_right, closing, closed, whole, file_of}
 use Rattle.job_core.specs.Machine.{page_of}
 use Rattle.job_core.specs.Runs.{IsShipped}
 use Rattle.job_core.specs.Shown.{GivesFiles, shown_page, IsFileOf}
-use Rattle.job_core.proofs.Places.{fits_down, fits_right}
-use Rattle.job_core.proofs.DrawnMarks.{fits_within, number_within}
-use Rattle.job_core.proofs.DrawnPages.{drawn_page, writable_page, definitions-page, nests-page}
+use Rattle.ship_core.proofs.Fitting.{fits_within}
+use Rattle.ship_core.proofs.DrawnMarks.{number_within}
+use Rattle.ship_core.proofs.DrawnPages.{drawn_page, writable_page, definitions-page, nests-page, fits_down, fits_right}
 use Rattle.job_core.proofs.DefinedFonts.{AreKnown, none_known, known_next, selected_known, each_selected, each_of, rising_among, listed_at, defined_among}
 use Rattle.job_core.proofs.PageFonts.{table_of, tabled, IsSlot, selected_slots, font_measured, have_widths}
 
@@ -40,19 +41,19 @@ zero_within : Within 1073741823 (pos 0)
 zero_within = record { low = omega (arith, ints); high = omega (arith, ints) }
 
 module _ (metrics : Metrics) (files : List NamedBytes) (fonts : Slots) (gives : GivesFiles metrics files) (loaded : AreLoaded files fonts) where
-  -- The page of a box that a ship accepts can be written behind what is known, and shows the marks of the box.
-  page_good : (slots : List ℕ) (known : List Definition) (b : BoxNode) → AreKnown fonts slots known → is_huge (page_of b) ≡ false → AreSized fonts (nodes_of b.list)
-      → IsGood metrics (table_of fonts) known (sheet_of fonts slots (page_of b)) (marks_of_page (page_of b))
-  page_good slots known b knows small sized =
-      let widths = have_widths files fonts loaded metrics gives (nodes_of b.list) sized in
-      let is = flat (body_of (page_of b)) in
-      let shown = drawn_page (table_widths metrics (table_of fonts)) b small widths in
+  -- A page that is not huge can be written behind what is known, and shows its marks.
+  page_good : (slots : List ℕ) (known : List Definition) (page : Page) → page.counts ≡ replicate 10 (pos 0) → AreKnown fonts slots known → is_huge page ≡ false
+      → AreSized fonts (nodes_of page.shown.list) → IsGood metrics (table_of fonts) known (sheet_of fonts slots page) (marks_of_page page)
+  page_good slots known page zeros knows small sized =
+      let widths = have_widths files fonts loaded metrics gives (nodes_of page.shown.list) sized in
+      let is = flat (body_of page) in
+      let shown = drawn_page (table_widths metrics (table_of fonts)) start.place.held page small widths in
       record {
-        ten = refl;
-        counts_fit = counts_fit 10;
+        ten = ap length zeros;
+        counts_fit = subst (AllByRecursion NumberFits) (sym zeros) (counts_fit 10);
         fresh = each_of (IsTabled (table_of fonts)) fonts (fresh_slots fonts slots is) (λ s l among has. tabled files fonts loaded s l has);
-        writable = writable_page (table_widths metrics (table_of fonts)) b small widths;
-        plain = definitions-page (page_of b);
+        writable = writable_page (table_widths metrics (table_of fonts)) page small widths;
+        plain = definitions-page page;
         chosen =
             each_selected (IsSlot fonts) (λ f. IsSome (defined f (known_after known (define (definitions_of fonts (fresh_slots fonts slots is)))))) is
             (λ s. list_any (selects s) is) (λ s e. e)
@@ -62,20 +63,19 @@ module _ (metrics : Metrics) (files : List NamedBytes) (fonts : Slots) (gives : 
               λ e. subst (λ z. IsSome (defined z (known_after known (define (definitions_of fonts (fresh_slots fonts slots is)))))) (sym of.is)
                   (selected_known fonts slots is known knows of.slot of.loaded e of.small of.has),
             ))
-            (selected_slots files fonts loaded b sized);
+            (selected_slots files fonts loaded page sized);
         measured =
             each_selected (IsSlot fonts) (λ f. IsSome (font_by metrics (table_of fonts f))) is (λ s. true) (λ s e. refl)
             (λ f of. (of.slot, of.is, λ e. ap (λ z. is_some (font_by metrics (table_of fonts z))) of.is ∙ ap is_some (font_measured files fonts loaded metrics gives of.slot of.loaded of.has)))
-            (selected_slots files fonts loaded b sized);
-        shallow = omega (arith, nests-page (page_of b));
+            (selected_slots files fonts loaded page sized);
+        shallow = omega (arith, nests-page page);
         last = shown.0;
         shows = shown.1;
       }
 
   pub shipped_good : (slots : List ℕ) (known : List Definition) (page : Page) → AreKnown fonts slots known → IsShipped fonts page
       → IsGood metrics (table_of fonts) known (sheet_of fonts slots page) (marks_of_page page)
-  shipped_good slots known page knows (is, small, sized) =
-      subst (λ p. IsGood metrics (table_of fonts) known (sheet_of fonts slots p) (marks_of_page p)) (sym is) (page_good slots known page.shown knows (ap is_huge (sym is) ∙ small) sized)
+  shipped_good slots known page knows (is, small, sized) = page_good slots known page (ap (λ (p : Page). p.counts) is) knows small sized
 
 -- What is written for pages, each behind the definitions before it.
 abbrev pub sheets_of : Slots → (slots : List ℕ) → List Page → List Sheet
@@ -180,9 +180,7 @@ HasReach page = Within 1073741823 (reach_down page) × Within 1073741823 (reach_
 
 reaches : (fonts : Slots) (page : Page) → IsShipped fonts page → HasReach page
 reaches fonts page (is, small, sized) =
-    let b = page.shown in
-    let fine : is_huge (page_of b) ≡ false = ap is_huge (sym is) ∙ small in
-    subst HasReach (sym is) (fits_within (b.height +ℤ b.depth) (fits_down b fine), fits_within (pos 0 +ℤ b.width) (fits_right b fine))
+    (fits_within (page.v +ℤ page.shown.depth) (fits_down page small), fits_within (page.h +ℤ page.shown.width) (fits_right page small))
 
 farthest_within : (fonts : Slots) (size : Page → ℤ) (z : ℤ) (pages : List Page) → Within 1073741823 z → ((page : Page) → IsShipped fonts page → Within 1073741823 (size page))
     → AllByRecursion (IsShipped fonts) pages → Within 1073741823 (farthest size z pages)

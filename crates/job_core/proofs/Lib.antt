@@ -1,13 +1,9 @@
-pub mod Sums
-pub mod Drawings
-pub mod Places
 pub mod Spelled
 pub mod Tellings
 pub mod PageBytes
 pub mod Moves
 pub mod Endings
 pub mod Refusals
-pub mod DrawnMarks
 pub mod FileLaws
 pub mod FinishedFiles
 pub mod ClosedFiles
@@ -15,8 +11,6 @@ pub mod WholeRuns
 pub mod FreshFonts
 pub mod DefinedFonts
 pub mod PageFonts
-pub mod DrawnPages
-pub mod DrawnBytes
 pub mod SizedGlyphs
 pub mod LoadedFonts
 pub mod MeasuredPages

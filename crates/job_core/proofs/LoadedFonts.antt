@@ -14,7 +14,7 @@ use Rattle.tfm_core.specs.FileWidths.{file_widths, widths_of_file, widths_by, wi
 use Rattle.tfm_core.proofs.ByteLemmas.{byte-glyph_of}
 use Rattle.job_core.specs.declared.fonts.LoadedFont.{LoadedFont}
 use Rattle.job_core.specs.declared.command.Command.{Command}
-use Rattle.job_core.specs.declared.command.Command.TheVariants.{LoadFont, UseFont, OpenHbox, End, Text, Character, Rule, Kern, Measure, Void, Ship}
+use Rattle.job_core.specs.declared.command.Command.TheVariants.{LoadFont, UseFont, Open, End, Text, Character, Rule, Kern, Glue, Penalty, Measure, Void, Set, Ship}
 use Rattle.job_core.specs.declared.command.Refusal.{Refusal}
 use Rattle.job_core.specs.declared.command.Refusal.TheVariants.{DimensionTooLarge}
 use Rattle.job_core.specs.FontSlots.{Slots, font_in, sized_font, font_of, with_font}
@@ -59,14 +59,17 @@ pub loaded_after : (s : State) (command : Command) → first_of (checks s comman
     → AreLoaded (after s command).files (after s command).fonts
 loaded_after s (LoadFont load) may gives loaded = with_font_loaded s.files s.fonts load.slot load.name load.size (font_for s load) refl gives.0 gives.1 loaded
 loaded_after s (UseFont slot) may gives loaded = loaded
-loaded_after s (OpenHbox r) may gives loaded = loaded
+loaded_after s (Open opening) may gives loaded = loaded
 loaded_after s End may gives loaded = loaded
 loaded_after s (Text text) may gives loaded = loaded
 loaded_after s (Character code) may gives loaded = loaded
 loaded_after s (Rule rule) may gives loaded = loaded
 loaded_after s (Kern width) may gives loaded = loaded
+loaded_after s (Glue glue) may gives loaded = loaded
+loaded_after s (Penalty n) may gives loaded = loaded
 loaded_after s (Measure r) may gives loaded = loaded
 loaded_after s (Void r) may gives loaded = loaded
+loaded_after s (Set parameter) may gives loaded = loaded
 loaded_after s (Ship r) may gives loaded = loaded
 
 -- A font in a slot is one of them, and its slot is below 256.

@@ -15,12 +15,12 @@ use Rattle.node_core.specs.Nodes.{nodes_of}
 use Rattle.dvi_ops.proofs.Appends.{all_append, all_weaker}
 use Rattle.job_core.specs.declared.fonts.LoadedFont.{LoadedFont}
 use Rattle.job_core.specs.declared.command.Command.{Command}
-use Rattle.job_core.specs.declared.command.Command.TheVariants.{LoadFont, UseFont, OpenHbox, End, Text, Character, Rule, Kern, Measure, Void, Ship}
+use Rattle.job_core.specs.declared.command.Command.TheVariants.{LoadFont, UseFont, Open, End, Text, Character, Rule, Kern, Glue, Penalty, Measure, Void, Set, Ship}
 use Rattle.job_core.specs.declared.command.Refusal.{Refusal}
 use Rattle.job_core.specs.Reply.{Reply}
 use Rattle.job_core.specs.FontSlots.{Slots, font_in, font_of, with_font, glyph_by}
 use Rattle.job_core.specs.Sized.{IsSized, AreSized, HasSizedGlyphs}
-use Rattle.job_core.specs.Marks.{Page}
+use Rattle.ship_core.specs.Marks.{Page}
 use Rattle.job_core.specs.Machine.{State, Machine, first_machine, checks, first_of, after, font_for, held_in, pages_of, new_pages, state_by}
 use Rattle.job_core.specs.Runs.{Steps, Replies, LacksMemory, LosesDevice, Run}
 use Rattle.job_core.specs.GlyphWidths.{HasFileWidth, IsMeasured, IsMeasuredPage}
@@ -49,14 +49,17 @@ read_with files fonts slot name size (Ok font) is all =
 read_after : (s : State) (command : Command) → AreRead s → AreRead (after s command)
 read_after s (LoadFont load) all = read_with s.files s.fonts load.slot load.name load.size (font_for s load) refl all
 read_after s (UseFont slot) all = all
-read_after s (OpenHbox r) all = all
+read_after s (Open opening) all = all
 read_after s End all = all
 read_after s (Text text) all = all
 read_after s (Character code) all = all
 read_after s (Rule rule) all = all
 read_after s (Kern width) all = all
+read_after s (Glue glue) all = all
+read_after s (Penalty n) all = all
 read_after s (Measure r) all = all
 read_after s (Void r) all = all
+read_after s (Set parameter) all = all
 read_after s (Ship r) all = all
 
 abbrev IsSizedPage : Slots → Page → Type 0
@@ -69,14 +72,17 @@ sized_page s r (Some b) is sized = (sized_held s r b sized is, tt)
 new_sized : (s : State) (command : Command) → HasSizedGlyphs s → AllByRecursion (IsSizedPage s.fonts) (new_pages s command)
 new_sized s (LoadFont load) sized = tt
 new_sized s (UseFont slot) sized = tt
-new_sized s (OpenHbox r) sized = tt
+new_sized s (Open opening) sized = tt
 new_sized s End sized = tt
 new_sized s (Text text) sized = tt
 new_sized s (Character code) sized = tt
 new_sized s (Rule rule) sized = tt
 new_sized s (Kern width) sized = tt
+new_sized s (Glue glue) sized = tt
+new_sized s (Penalty n) sized = tt
 new_sized s (Measure r) sized = tt
 new_sized s (Void r) sized = tt
+new_sized s (Set parameter) sized = tt
 new_sized s (Ship r) sized = sized_page s r (held_in s.registers r) refl sized
 
 known_step : (m : Machine) (command : Command) (refused : Option Refusal) → first_of (checks m.state command) ≡ refused → IsKnown m

@@ -12,15 +12,15 @@ use Rattle.dvi_ops.specs.Forest.{flat}
 use Rattle.dvi_ops.specs.Layout.{bytes_of, define, sheet_from, table_widths}
 use Rattle.dvi_ops.proofs.Appends.{all_append, all_weaker}
 use Rattle.job_core.specs.declared.command.Command.{Command}
-use Rattle.job_core.specs.declared.command.Command.TheVariants.{LoadFont, UseFont, OpenHbox, End, Text, Character, Rule, Kern, Measure, Void, Ship}
+use Rattle.job_core.specs.declared.command.Command.TheVariants.{LoadFont, UseFont, Open, End, Text, Character, Rule, Kern, Glue, Penalty, Measure, Void, Set, Ship}
 use Rattle.job_core.specs.declared.command.Refusal.{Refusal}
 use Rattle.job_core.specs.declared.command.Refusal.TheVariants.{OutOfMemory, JobOver, VoidBox, TooManyPages, TooMuchShipped, HugePage}
 use Rattle.job_core.specs.Reply.{Reply}
 use Rattle.tfm_core.specs.NamedBytes.{NamedBytes}
 use Rattle.dvi_ops.specs.Spelling.{spelling, operand}
-use Rattle.job_core.specs.Marks.{Page}
+use Rattle.ship_core.specs.Marks.{Page}
 use Rattle.job_core.specs.Machine.{State, Machine, checks, own_checks, first_of, reply_by, reply_to, answer_of, after, state_by, state_after, new_pages, pages_of, page_of, held_in, count_in, is_huge_in, step, most_shipped, most_pages, first_state}
-use Rattle.job_core.specs.Drawing.{body_of}
+use Rattle.ship_core.specs.Drawing.{body_of}
 use Rattle.job_core.specs.Draft.{Draft, definitions_of, fresh_slots, sheet_of, reach_down, reach_right, with_page, with_pages, first_draft, draft_of}
 use Rattle.job_core.specs.Runs.{TakesMemory, early_checks, draft_after, IsShipped, Seen, Holds, Steps, Replies, LacksMemory, Run, KeepsTo, RunsTo}
 use Rattle.job_core.specs.Room.{HasRoom}
@@ -68,14 +68,17 @@ admitted s r none =
 after-over : (s : State) (command : Command) → (after s command).over ≡ s.over
 after-over s (LoadFont load) = refl
 after-over s (UseFont slot) = refl
-after-over s (OpenHbox r) = refl
+after-over s (Open opening) = refl
 after-over s End = refl
 after-over s (Text text) = refl
 after-over s (Character code) = refl
 after-over s (Rule rule) = refl
 after-over s (Kern width) = refl
+after-over s (Glue glue) = refl
+after-over s (Penalty n) = refl
 after-over s (Measure r) = refl
 after-over s (Void r) = refl
+after-over s (Set parameter) = refl
 after-over s (Ship r) = refl
 
 pub state_after-over : (s : State) (command : Command) → (state_after s command).over ≡ s.over
@@ -89,14 +92,17 @@ state_after-over s command = cases (first_of (checks s command))
 after-pages : (s : State) (command : Command) → first_of (checks s command) ≡ None → (after s command).pages ≡ s.pages + length (new_pages s command)
 after-pages s (LoadFont load) none = omega arith
 after-pages s (UseFont slot) none = omega arith
-after-pages s (OpenHbox r) none = omega arith
+after-pages s (Open opening) none = omega arith
 after-pages s End none = omega arith
 after-pages s (Text text) none = omega arith
 after-pages s (Character code) none = omega arith
 after-pages s (Rule rule) none = omega arith
 after-pages s (Kern width) none = omega arith
+after-pages s (Glue glue) none = omega arith
+after-pages s (Penalty n) none = omega arith
 after-pages s (Measure r) none = omega arith
 after-pages s (Void r) none = omega arith
+after-pages s (Set parameter) none = omega arith
 after-pages s (Ship r) none = cases (held_in s.registers r) (admitted s r none).held
   where
     cases : (held : Option BoxNode) → is_none held ≡ false → s.pages + 1 ≡ s.pages + length (pages_of held)
@@ -121,8 +127,7 @@ sheet-same fonts more draft page extends has =
     }) defined same
 
 page_selects : (files : List NamedBytes) (fonts : Slots) (page : Page) → AreLoaded files fonts → IsShipped fonts page → HasSelected fonts (flat (body_of page))
-page_selects files fonts page loaded (is, small, sized) =
-    subst (λ p. HasSelected fonts (flat (body_of p))) (sym is) (has_selected files fonts loaded page.shown sized)
+page_selects files fonts page loaded (is, small, sized) = has_selected files fonts loaded page sized
 
 pages-same : (files : List NamedBytes) (fonts more : Slots) (draft : Draft) (pages : List Page) → AreLoaded files fonts → Extends fonts more → AllByRecursion (IsShipped fonts) pages
     → with_pages fonts draft pages ≡ with_pages more draft pages
@@ -160,14 +165,17 @@ sized_in s r (Some b) sized is = sized_held s r b sized is
 new_shipped : (s : State) (command : Command) → first_of (checks s command) ≡ None → HasSizedGlyphs s → AllByRecursion (IsShipped s.fonts) (new_pages s command)
 new_shipped s (LoadFont load) none sized = tt
 new_shipped s (UseFont slot) none sized = tt
-new_shipped s (OpenHbox r) none sized = tt
+new_shipped s (Open opening) none sized = tt
 new_shipped s End none sized = tt
 new_shipped s (Text text) none sized = tt
 new_shipped s (Character code) none sized = tt
 new_shipped s (Rule rule) none sized = tt
 new_shipped s (Kern width) none sized = tt
+new_shipped s (Glue glue) none sized = tt
+new_shipped s (Penalty n) none sized = tt
 new_shipped s (Measure r) none sized = tt
 new_shipped s (Void r) none sized = tt
+new_shipped s (Set parameter) none sized = tt
 new_shipped s (Ship r) none sized =
     shipped_in s.fonts (held_in s.registers r) (admitted s r none).small (sized_in s r (held_in s.registers r) sized refl)
 
@@ -310,14 +318,17 @@ pub roomy : (s : State) (draft : Draft) (command : Command) → (first_of (check
     → HasRoom (state_after s command) (draft_after s draft command)
 roomy s draft (LoadFont load) numbers room = steady_room s draft (LoadFont load) (first_of (checks s (LoadFont load))) refl numbers refl refl refl room
 roomy s draft (UseFont slot) numbers room = steady_room s draft (UseFont slot) (first_of (checks s (UseFont slot))) refl numbers refl refl refl room
-roomy s draft (OpenHbox r) numbers room = steady_room s draft (OpenHbox r) (first_of (checks s (OpenHbox r))) refl numbers refl refl refl room
+roomy s draft (Open opening) numbers room = steady_room s draft (Open opening) (first_of (checks s (Open opening))) refl numbers refl refl refl room
 roomy s draft End numbers room = steady_room s draft End (first_of (checks s End)) refl numbers refl refl refl room
 roomy s draft (Text text) numbers room = steady_room s draft (Text text) (first_of (checks s (Text text))) refl numbers refl refl refl room
 roomy s draft (Character code) numbers room = steady_room s draft (Character code) (first_of (checks s (Character code))) refl numbers refl refl refl room
 roomy s draft (Rule rule) numbers room = steady_room s draft (Rule rule) (first_of (checks s (Rule rule))) refl numbers refl refl refl room
 roomy s draft (Kern width) numbers room = steady_room s draft (Kern width) (first_of (checks s (Kern width))) refl numbers refl refl refl room
+roomy s draft (Glue glue) numbers room = steady_room s draft (Glue glue) (first_of (checks s (Glue glue))) refl numbers refl refl refl room
+roomy s draft (Penalty n) numbers room = steady_room s draft (Penalty n) (first_of (checks s (Penalty n))) refl numbers refl refl refl room
 roomy s draft (Measure r) numbers room = steady_room s draft (Measure r) (first_of (checks s (Measure r))) refl numbers refl refl refl room
 roomy s draft (Void r) numbers room = steady_room s draft (Void r) (first_of (checks s (Void r))) refl numbers refl refl refl room
+roomy s draft (Set parameter) numbers room = steady_room s draft (Set parameter) (first_of (checks s (Set parameter))) refl numbers refl refl refl room
 roomy s draft (Ship r) numbers room = cases (first_of (checks s (Ship r))) refl
   where
     cases : (refused : Option Refusal) → first_of (checks s (Ship r)) ≡ refused
@@ -340,14 +351,17 @@ pub small_after : (s : State) (draft : Draft) (command : Command) → HasRoom s 
 small_after s draft (Ship r) room = small_enough (state_after s (Ship r)) (draft_after s draft (Ship r)) (roomy s draft (Ship r) (λ none. tt) room)
 small_after s draft (LoadFont load) room = steady_bytes s draft (LoadFont load) (first_of (checks s (LoadFont load))) refl room
 small_after s draft (UseFont slot) room = steady_bytes s draft (UseFont slot) (first_of (checks s (UseFont slot))) refl room
-small_after s draft (OpenHbox r) room = steady_bytes s draft (OpenHbox r) (first_of (checks s (OpenHbox r))) refl room
+small_after s draft (Open opening) room = steady_bytes s draft (Open opening) (first_of (checks s (Open opening))) refl room
 small_after s draft End room = steady_bytes s draft End (first_of (checks s End)) refl room
 small_after s draft (Text text) room = steady_bytes s draft (Text text) (first_of (checks s (Text text))) refl room
 small_after s draft (Character code) room = steady_bytes s draft (Character code) (first_of (checks s (Character code))) refl room
 small_after s draft (Rule rule) room = steady_bytes s draft (Rule rule) (first_of (checks s (Rule rule))) refl room
 small_after s draft (Kern width) room = steady_bytes s draft (Kern width) (first_of (checks s (Kern width))) refl room
+small_after s draft (Glue glue) room = steady_bytes s draft (Glue glue) (first_of (checks s (Glue glue))) refl room
+small_after s draft (Penalty n) room = steady_bytes s draft (Penalty n) (first_of (checks s (Penalty n))) refl room
 small_after s draft (Measure r) room = steady_bytes s draft (Measure r) (first_of (checks s (Measure r))) refl room
 small_after s draft (Void r) room = steady_bytes s draft (Void r) (first_of (checks s (Void r))) refl room
+small_after s draft (Set parameter) room = steady_bytes s draft (Set parameter) (first_of (checks s (Set parameter))) refl room
 
 -- There is room in a new job.
 pub first_room : (files : List NamedBytes) → HasRoom (first_state files) first_draft

@@ -16,10 +16,10 @@ use Rattle.dvi_ops.proofs.Layouts.{length-bytes_of-append}
 use Rattle.job_core.specs.declared.fonts.LoadedFont.{LoadedFont}
 use Rattle.job_core.specs.FontSlots.{Slots, font_in}
 use Rattle.job_core.specs.Machine.{page_of}
-use Rattle.job_core.specs.Drawing.{body_of}
+use Rattle.ship_core.specs.Drawing.{body_of}
 use Rattle.job_core.specs.Draft.{definition_of, definition_by, definitions_of, fresh_slots, sheet_of}
-use Rattle.job_core.proofs.DrawnMarks.{HasWidth}
-use Rattle.job_core.proofs.DrawnBytes.{length-operand, body_bytes}
+use Rattle.ship_core.specs.Shown.{HasWidth}
+use Rattle.ship_core.proofs.DrawnBytes.{length-operand, body_bytes}
 
 length-counts : (n : ℕ) → length (flat_map (operand 4) (replicate n (pos 0))) ≡ 4 * n
 length-counts zero = refl
@@ -99,6 +99,6 @@ page_bytes widths fonts slots b last short sized =
       length-bytes_of-append inner (Eop ∷ []),
       length-append (spelling Eop) [],
       length-eop,
-      body_bytes widths b sized,
+      body_bytes widths (page_of b) sized,
       items_count-is b.list,
     )

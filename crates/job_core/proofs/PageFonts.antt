@@ -9,7 +9,6 @@ use Rattle.tfm_core.specs.NamedBytes.{NamedBytes}
 use Rattle.tfm_core.specs.FileWidths.{width_at}
 use Rattle.node_core.specs.declared.tree.Node.{Node}
 use Rattle.node_core.specs.declared.tree.Node.TheVariants.{Glyph, FontKern, Kern, Glue, Penalty, Rule}
-use Rattle.node_core.specs.declared.tree.BoxNode.{BoxNode}
 use Rattle.node_core.specs.Nodes.{nodes_of}
 use Rattle.dvi_ops.specs.Forest.{flat}
 use Rattle.dvi_ops.specs.Fonts.{Metrics, selections, font_in as font_by, width_in}
@@ -20,13 +19,13 @@ use Rattle.job_core.specs.declared.fonts.LoadedFont.{LoadedFont}
 use Rattle.job_core.specs.FontSlots.{Slots, font_in, glyph_by}
 use Rattle.job_core.specs.Loaded.{AreLoaded}
 use Rattle.job_core.specs.Sized.{IsSized, AreSized}
-use Rattle.job_core.specs.Machine.{page_of}
-use Rattle.job_core.specs.Drawing.{body_of}
+use Rattle.ship_core.specs.Marks.{Page}
+use Rattle.ship_core.specs.Drawing.{body_of}
 use Rattle.job_core.specs.Draft.{definition_of}
 use Rattle.job_core.specs.Shown.{GivesFiles}
 use Rattle.job_core.proofs.LoadedFonts.{loaded_in, widths-loaded, code_small}
-use Rattle.job_core.proofs.DrawnMarks.{HasWidth}
-use Rattle.job_core.proofs.DrawnPages.{HasFont, selections_page}
+use Rattle.ship_core.specs.Shown.{HasWidth}
+use Rattle.ship_core.proofs.DrawnPages.{HasFont, selections_page}
 use Rattle.job_core.proofs.PageBytes.{HasShortNames}
 use Rattle.job_core.proofs.DefinedFonts.{HasSelected, holds_selected}
 
@@ -79,12 +78,12 @@ module _ (files : List NamedBytes) (fonts : Slots) (loaded : AreLoaded files fon
   has_font (Rule rule) sized = tt
 
   -- Each font that a page selects is one of the job.
-  pub selected_slots : (b : BoxNode) → AreSized fonts (nodes_of b.list) → AllByRecursion (IsSlot fonts) (selections (flat (body_of (page_of b))))
-  selected_slots b sized = selections_page (IsSlot fonts) b (all_weaker (IsSized fonts) (HasFont (IsSlot fonts)) (nodes_of b.list) has_font sized)
+  pub selected_slots : (page : Page) → AreSized fonts (nodes_of page.shown.list) → AllByRecursion (IsSlot fonts) (selections (flat (body_of page)))
+  selected_slots page sized = selections_page (IsSlot fonts) page (all_weaker (IsSized fonts) (HasFont (IsSlot fonts)) (nodes_of page.shown.list) has_font sized)
 
-  pub has_selected : (b : BoxNode) → AreSized fonts (nodes_of b.list) → HasSelected fonts (flat (body_of (page_of b)))
-  has_selected b sized s selected =
-      let of = holds_selected (IsSlot fonts) (flat (body_of (page_of b))) (selected_slots b sized) s selected in
+  pub has_selected : (page : Page) → AreSized fonts (nodes_of page.shown.list) → HasSelected fonts (flat (body_of page))
+  has_selected page sized s selected =
+      let of = holds_selected (IsSlot fonts) (flat (body_of page)) (selected_slots page sized) s selected in
       let same : s ≡ of.slot = cc (of.is) in
       ap is_some (ap (font_in fonts) same ∙ of.has)
 

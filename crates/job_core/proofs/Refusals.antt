@@ -8,7 +8,7 @@ use Rattle.tfm_core.specs.Rules.{metric_file}
 use Rattle.tfm_core.specs.Fonts.{SizedFont, chosen_size, fits_at, font_at}
 use Rattle.job_core.specs.FontSlots.{font_of, sized_font}
 use Rattle.job_core.specs.declared.command.Command.{Command}
-use Rattle.job_core.specs.declared.command.Command.TheVariants.{LoadFont, UseFont, OpenHbox, End, Text, Character, Rule, Kern, Measure, Void, Ship}
+use Rattle.job_core.specs.declared.command.Command.TheVariants.{LoadFont, UseFont, Open, End, Text, Character, Rule, Kern, Glue, Penalty, Measure, Void, Set, Ship}
 use Rattle.job_core.specs.declared.command.Answer.{Answer}
 use Rattle.job_core.specs.declared.command.Refusal.{Refusal}
 use Rattle.job_core.specs.declared.command.Refusal.TheVariants.{OutOfMemory, DimensionTooLarge, NoFont, BadTfm, Device, JobOver, ListsOpen}
@@ -43,27 +43,33 @@ module _ (r : Refusal) (none : NoFont ≢ r) (bad : (cause : TfmCause) → BadTf
 no_memory : (s : State) (command : Command) → LacksRefusal OutOfMemory (checks s command)
 no_memory s (LoadFont load) = ((λ e. cc), ((λ e. cc), lacked_by_font OutOfMemory (λ e. cc) (λ cause e. cc) (λ e. cc) (file_named load.name s.files) load.size))
 no_memory s (UseFont slot) = ((λ e. cc), ((λ e. cc), tt))
-no_memory s (Text text) = ((λ e. cc), ((λ e. cc), ((λ e. cc), ((λ e. cc), tt))))
-no_memory s (Character code) = ((λ e. cc), ((λ e. cc), ((λ e. cc), ((λ e. cc), tt))))
-no_memory s (OpenHbox r) = ((λ e. cc), ((λ e. cc), tt))
+no_memory s (Text text) = ((λ e. cc), ((λ e. cc), ((λ e. cc), ((λ e. cc), ((λ e. cc), tt)))))
+no_memory s (Character code) = ((λ e. cc), ((λ e. cc), ((λ e. cc), ((λ e. cc), ((λ e. cc), tt)))))
+no_memory s (Open opening) = ((λ e. cc), ((λ e. cc), tt))
 no_memory s End = ((λ e. cc), ((λ e. cc), ((λ e. cc), tt)))
 no_memory s (Rule rule) = ((λ e. cc), ((λ e. cc), ((λ e. cc), ((λ e. cc), tt))))
 no_memory s (Kern width) = ((λ e. cc), ((λ e. cc), ((λ e. cc), tt)))
+no_memory s (Glue glue) = ((λ e. cc), ((λ e. cc), ((λ e. cc), tt)))
+no_memory s (Penalty n) = ((λ e. cc), ((λ e. cc), ((λ e. cc), tt)))
 no_memory s (Measure r) = ((λ e. cc), tt)
 no_memory s (Void r) = ((λ e. cc), tt)
+no_memory s (Set parameter) = ((λ e. cc), tt)
 no_memory s (Ship r) = ((λ e. cc), ((λ e. cc), ((λ e. cc), ((λ e. cc), ((λ e. cc), tt)))))
 
 no_device : (s : State) (command : Command) → LacksRefusal Device (checks s command)
 no_device s (LoadFont load) = ((λ e. cc), ((λ e. cc), lacked_by_font Device (λ e. cc) (λ cause e. cc) (λ e. cc) (file_named load.name s.files) load.size))
 no_device s (UseFont slot) = ((λ e. cc), ((λ e. cc), tt))
-no_device s (Text text) = ((λ e. cc), ((λ e. cc), ((λ e. cc), ((λ e. cc), tt))))
-no_device s (Character code) = ((λ e. cc), ((λ e. cc), ((λ e. cc), ((λ e. cc), tt))))
-no_device s (OpenHbox r) = ((λ e. cc), ((λ e. cc), tt))
+no_device s (Text text) = ((λ e. cc), ((λ e. cc), ((λ e. cc), ((λ e. cc), ((λ e. cc), tt)))))
+no_device s (Character code) = ((λ e. cc), ((λ e. cc), ((λ e. cc), ((λ e. cc), ((λ e. cc), tt)))))
+no_device s (Open opening) = ((λ e. cc), ((λ e. cc), tt))
 no_device s End = ((λ e. cc), ((λ e. cc), ((λ e. cc), tt)))
 no_device s (Rule rule) = ((λ e. cc), ((λ e. cc), ((λ e. cc), ((λ e. cc), tt))))
 no_device s (Kern width) = ((λ e. cc), ((λ e. cc), ((λ e. cc), tt)))
+no_device s (Glue glue) = ((λ e. cc), ((λ e. cc), ((λ e. cc), tt)))
+no_device s (Penalty n) = ((λ e. cc), ((λ e. cc), ((λ e. cc), tt)))
 no_device s (Measure r) = ((λ e. cc), tt)
 no_device s (Void r) = ((λ e. cc), tt)
+no_device s (Set parameter) = ((λ e. cc), tt)
 no_device s (Ship r) = ((λ e. cc), ((λ e. cc), ((λ e. cc), ((λ e. cc), ((λ e. cc), tt)))))
 
 -- A reply that refuses comes from a check that holds.
@@ -105,14 +111,17 @@ over_first s command over = rw over refl
 over_early : (s : State) (command : Command) → s.over ≡ true → first_of (early_checks s command) ≡ Some JobOver
 over_early s (LoadFont load) over = rw over refl
 over_early s (UseFont slot) over = rw over refl
-over_early s (OpenHbox r) over = rw over refl
+over_early s (Open opening) over = rw over refl
 over_early s End over = rw over refl
 over_early s (Text text) over = rw over refl
 over_early s (Character code) over = rw over refl
 over_early s (Rule rule) over = rw over refl
 over_early s (Kern width) over = rw over refl
+over_early s (Glue glue) over = rw over refl
+over_early s (Penalty n) over = rw over refl
 over_early s (Measure r) over = rw over refl
 over_early s (Void r) over = rw over refl
+over_early s (Set parameter) over = rw over refl
 over_early s (Ship r) over = rw over refl
 
 over_step : (m next : Machine) (n k : ℕ) (command : Command) (reply : Reply) → m.state.over ≡ true → Steps m n command reply next k

@@ -1,10 +1,12 @@
 -- Glyphs have the sizes of their fonts, whatever a command does.
-use Rattle.std.proofs.Common.{◌≡◌, ℕ, zero, suc, ◌-◌, List, [], ◌∷◌, ◌++◌, length, take, set, replicate, Bool, true, false, Option, Some, None, Result, Ok, Err, refl, subst}
-use Rattle.std.specs.Prelude.{slice_get, slice_set, unwrap_or, is_some}
+use Rattle.std.proofs.Common.{◌≡◌, ℕ, zero, suc, ◌-◌, List, [], ◌∷◌, ◌++◌, length, take, set, replicate, Bool, true, false, Option, Some, None, Result, Ok, Err, refl, ap, subst}
+use Rattle.std.specs.Prelude.{ℤ, slice_get, slice_set, unwrap_or, is_some, if◌then◌else◌}
 use Rattle.std.specs.List.{AllByRecursion}
 use Rattle.node_core.specs.declared.tree.Node.{Node}
 use Rattle.node_core.specs.declared.tree.Node.TheVariants as nodes
 use Rattle.node_core.specs.declared.tree.BoxNode.{BoxNode}
+use Rattle.node_core.specs.declared.params.Params.{Params}
+use Rattle.node_core.specs.Items.{Items}
 use Rattle.node_core.specs.Nodes.{items_of, nodes_of}
 use Rattle.node_core.proofs.NodeLemmas.{nodes_of-items_of}
 use Rattle.tfm_core.specs.NamedBytes.{NamedBytes}
@@ -13,17 +15,22 @@ use Rattle.shape_core.specs.Shaping.{IsGlyphOf}
 use Rattle.shape_core.specs.Spaces.{space_glue}
 use Rattle.shape_core.proofs.GlyphLemmas.{shaped_items-glyphs, text_items-glyphs}
 use Rattle.dvi_ops.proofs.Appends.{all_append}
+use Rattle.pack_core.specs.declared.pack.Target.{Target}
+use Rattle.pack_core.specs.declared.pack.Packed as packs
+use Rattle.pack_core.specs.declared.pack.TooLarge.{TooLarge}
+use Rattle.pack_core.specs.Boxes.{hbox, hpacked, vbox, vpacked, vtop_box, vtopped}
 use Rattle.job_core.specs.declared.nest.OpenList.{OpenList}
+use Rattle.job_core.specs.declared.command.BoxForm.{BoxForm}
+use Rattle.job_core.specs.declared.command.BoxForm.TheVariants.{Hbox, Vbox, Vtop}
 use Rattle.job_core.specs.declared.fonts.LoadedFont.{LoadedFont}
 use Rattle.job_core.specs.declared.command.Command.{Command}
-use Rattle.job_core.specs.declared.command.Command.TheVariants.{LoadFont, UseFont, OpenHbox, End, Text, Character, Rule, Kern, Measure, Void, Ship}
+use Rattle.job_core.specs.declared.command.Command.TheVariants.{LoadFont, UseFont, Open, End, Text, Character, Rule, Kern, Glue, Penalty, Measure, Void, Set, Ship}
 use Rattle.job_core.specs.declared.command.FontLoad.{FontLoad}
 use Rattle.job_core.specs.declared.command.Refusal.{Refusal}
 use Rattle.job_core.specs.declared.command.Refusal.TheVariants.{SlotTaken, JobOver}
-use Rattle.job_core.specs.Packing.{packed}
 use Rattle.job_core.specs.FontSlots.{Slots, font_in, with_font, glyph_by, text_in, character_in, text_shaped, character_shaped}
 use Rattle.job_core.specs.Sized.{IsSized, AreSized, IsSizedList, IsSizedHeld, HasSizedGlyphs}
-use Rattle.job_core.specs.Machine.{State, first_state, innermost, with_nodes, with_items, held_in, with_packed, checks, first_of, font_for, refusal_in, after}
+use Rattle.job_core.specs.Machine.{State, first_state, innermost, with_nodes, with_items, held_in, if_packed, packed_as, packed_list, with_packed, checks, first_of, font_for, refusal_in, after}
 
 -- Lists of which each element is such a one.
 module _ {A : Type 0} (P : A → Type 0) where
@@ -88,14 +95,17 @@ pub stays_loaded : (s : State) (command : Command) → first_of (checks s comman
     → font_in s.fonts slot ≡ Some loaded → font_in (after s command).fonts slot ≡ Some loaded
 stays_loaded s (LoadFont load) may slot loaded is = with_font_kept s.fonts load.slot load.name (font_for s load) slot loaded (slot_empty s load may) is
 stays_loaded s (UseFont other) may slot loaded is = is
-stays_loaded s (OpenHbox r) may slot loaded is = is
+stays_loaded s (Open opening) may slot loaded is = is
 stays_loaded s End may slot loaded is = is
 stays_loaded s (Text text) may slot loaded is = is
 stays_loaded s (Character code) may slot loaded is = is
 stays_loaded s (Rule rule) may slot loaded is = is
 stays_loaded s (Kern width) may slot loaded is = is
+stays_loaded s (Glue glue) may slot loaded is = is
+stays_loaded s (Penalty n) may slot loaded is = is
 stays_loaded s (Measure r) may slot loaded is = is
 stays_loaded s (Void r) may slot loaded is = is
+stays_loaded s (Set parameter) may slot loaded is = is
 stays_loaded s (Ship r) may slot loaded is = is
 
 -- What is sized stays so where each slot that has a font keeps it.
@@ -160,12 +170,40 @@ nest_sized fonts nest more (Some l) all is here =
 items_sized : (s : State) (more : List Node) → AreSized s.fonts more → HasSizedGlyphs s → HasSizedGlyphs (with_items s more)
 items_sized s more here sized = record { nest = nest_sized s.fonts s.nest more (innermost s.nest) sized.nest refl here; registers = sized.registers }
 
-packed_sized : (fonts : Slots) (registers : List (Option BoxNode)) (nest : List OpenList) (l : Option OpenList) → AllByRecursion (IsSizedHeld fonts) registers
-    → AllByRecursion (IsSizedList fonts) nest → innermost nest ≡ l → AllByRecursion (IsSizedHeld fonts) (with_packed registers l)
-unfolding packed
-packed_sized fonts registers nest None all lists is = all
-packed_sized fonts registers nest (Some l) all lists is =
-    each_set (IsSizedHeld fonts) registers l.into (Some (packed l.list)) all (each_at (IsSizedList fonts) nest (length nest - 1) l lists is)
+-- A packed box has the items of its list.
+items_packed : (b : Bool) (p q : packs.Packed) (items : Items) → if◌then◌else◌ {A = Result packs.Packed TooLarge} b (Ok p) (Err (record { list = items })) ≡ Ok q → p ≡ q
+items_packed true p q items is = cc
+items_packed false p q items is = cc
+
+hpacked_items : (target : Target) (items : Items) (q : packs.Packed) → hpacked target items ≡ Ok q → items ≡ q.shown.list
+unfolding hpacked hbox
+hpacked_items target items q is = ap (λ (p : packs.Packed). p.shown.list) (items_packed _ _ q items is)
+
+vpacked_items : (target : Target) (limit : ℤ) (items : Items) (q : packs.Packed) → vpacked target limit items ≡ Ok q → items ≡ q.shown.list
+unfolding vpacked vbox
+vpacked_items target limit items q is = ap (λ (p : packs.Packed). p.shown.list) (items_packed _ _ q items is)
+
+vtopped_items : (target : Target) (limit : ℤ) (items : Items) (q : packs.Packed) → vtopped target limit items ≡ Ok q → items ≡ q.shown.list
+unfolding vtopped vtop_box vbox
+vtopped_items target limit items q is = ap (λ (p : packs.Packed). p.shown.list) (items_packed _ _ q items is)
+
+packed_items : (form : BoxForm) (params : Params) (target : Target) (items : Items) (q : packs.Packed) → packed_as form params target items ≡ Ok q → items ≡ q.shown.list
+packed_items Hbox params target items q is = hpacked_items target items q is
+packed_items Vbox params target items q is = vpacked_items target params.box_max_depth items q is
+packed_items Vtop params target items q is = vtopped_items target params.box_max_depth items q is
+
+box_sized : (fonts : Slots) (registers : List (Option BoxNode)) (l : OpenList) (result : Result packs.Packed TooLarge) → AllByRecursion (IsSizedHeld fonts) registers
+    → AreSized fonts (nodes_of l.list) → ((q : packs.Packed) → result ≡ Ok q → l.list ≡ q.shown.list) → AllByRecursion (IsSizedHeld fonts) (with_packed registers (Some l) (if_packed result))
+box_sized fonts registers l (Err large) all sized same = all
+box_sized fonts registers l (Ok q) all sized same =
+    each_set (IsSizedHeld fonts) registers l.opening.into (Some q.shown) all (subst (λ items. AreSized fonts (nodes_of items)) (same q refl) sized)
+
+packed_sized : (fonts : Slots) (params : Params) (registers : List (Option BoxNode)) (nest : List OpenList) (l : Option OpenList) → AllByRecursion (IsSizedHeld fonts) registers
+    → AllByRecursion (IsSizedList fonts) nest → innermost nest ≡ l → AllByRecursion (IsSizedHeld fonts) (with_packed registers l (packed_list params l))
+packed_sized fonts params registers nest None all lists is = all
+packed_sized fonts params registers nest (Some l) all lists is =
+    box_sized fonts registers l (packed_as l.opening.form params l.opening.target l.list) all (each_at (IsSizedList fonts) nest (length nest - 1) l lists is)
+    (packed_items l.opening.form params l.opening.target l.list)
 
 held_kept : (old new : Slots) → ((slot : ℕ) (loaded : LoadedFont) → font_in old slot ≡ Some loaded → font_in new slot ≡ Some loaded)
     → (held : Option BoxNode) → IsSizedHeld old held → IsSizedHeld new held
@@ -198,16 +236,19 @@ sized_after s (LoadFont load) may sized =
       registers = each_as (IsSizedHeld s.fonts) (IsSizedHeld new) (held_kept s.fonts new keeps) s.registers sized.registers;
     }
 sized_after s (UseFont slot) may sized = record { nest = sized.nest; registers = sized.registers }
-sized_after s (OpenHbox r) may sized = record { nest = all_append (IsSizedList s.fonts) s.nest _ sized.nest (tt, tt); registers = sized.registers }
+sized_after s (Open opening) may sized = record { nest = all_append (IsSizedList s.fonts) s.nest _ sized.nest (tt, tt); registers = sized.registers }
 sized_after s End may sized =
     record {
       nest = each_taken (IsSizedList s.fonts) (length s.nest - 1) s.nest sized.nest;
-      registers = packed_sized s.fonts s.registers s.nest (innermost s.nest) sized.registers sized.nest refl;
+      registers = packed_sized s.fonts s.params s.registers s.nest (innermost s.nest) sized.registers sized.nest refl;
     }
 sized_after s (Text text) may sized = items_sized s (text_shaped s.fonts s.current text).items (text_shaped_sized s.fonts s.current text) sized
 sized_after s (Character code) may sized = items_sized s (character_shaped s.fonts s.current code).items (character_shaped_sized s.fonts s.current code) sized
 sized_after s (Rule rule) may sized = items_sized s (nodes.Rule rule ∷ []) (tt, tt) sized
 sized_after s (Kern width) may sized = items_sized s (nodes.Kern width ∷ []) (tt, tt) sized
+sized_after s (Glue glue) may sized = items_sized s (nodes.Glue glue ∷ []) (tt, tt) sized
+sized_after s (Penalty n) may sized = items_sized s (nodes.Penalty n ∷ []) (tt, tt) sized
 sized_after s (Measure r) may sized = sized
 sized_after s (Void r) may sized = record { nest = sized.nest; registers = each_set (IsSizedHeld s.fonts) s.registers r None sized.registers tt }
+sized_after s (Set parameter) may sized = record { nest = sized.nest; registers = sized.registers }
 sized_after s (Ship r) may sized = record { nest = sized.nest; registers = each_set (IsSizedHeld s.fonts) s.registers r None sized.registers tt }

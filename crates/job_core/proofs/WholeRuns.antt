@@ -2,7 +2,7 @@
 use Rattle.std.proofs.Common.{◌≡◌, ℕ, List, [], ◌∷◌, ◌++◌, length, Option, Some, None, Result, Ok, Err, refl, ap, sym, ◌∙◌, subst}
 use Rattle.std.specs.Prelude.{IfOk, IfSome}
 use Rattle.job_core.specs.declared.command.Command.{Command}
-use Rattle.job_core.specs.declared.command.Command.TheVariants.{LoadFont, UseFont, OpenHbox, End, Text, Character, Rule, Kern, Measure, Void, Ship}
+use Rattle.job_core.specs.declared.command.Command.TheVariants.{LoadFont, UseFont, Open, End, Text, Character, Rule, Kern, Glue, Penalty, Measure, Void, Set, Ship}
 use Rattle.job_core.specs.declared.command.Refusal.{Refusal}
 use Rattle.job_core.specs.declared.command.Summary.{Summary}
 use Rattle.job_core.specs.Reply.{Reply}
@@ -43,14 +43,17 @@ one_run old new command reply keeps m holds =
 after-files : (s : State) (command : Command) → (after s command).files ≡ s.files
 after-files s (LoadFont load) = refl
 after-files s (UseFont slot) = refl
-after-files s (OpenHbox r) = refl
+after-files s (Open opening) = refl
 after-files s End = refl
 after-files s (Text text) = refl
 after-files s (Character code) = refl
 after-files s (Rule rule) = refl
 after-files s (Kern width) = refl
+after-files s (Glue glue) = refl
+after-files s (Penalty n) = refl
 after-files s (Measure r) = refl
 after-files s (Void r) = refl
+after-files s (Set parameter) = refl
 after-files s (Ship r) = refl
 
 pub state_after-files : (s : State) (command : Command) → (state_after s command).files ≡ s.files

@@ -9,7 +9,7 @@ use Rattle.job_core.specs.declared.command.Refusal.{Refusal}
 use Rattle.job_core.specs.declared.command.Summary.{Summary}
 use Rattle.job_core.specs.declared.fonts.LoadedFont.{LoadedFont}
 use Rattle.job_core.specs.FontSlots.{Slots, font_in}
-use Rattle.job_core.specs.Marks.{Page}
+use Rattle.ship_core.specs.Marks.{Page}
 use Rattle.job_core.specs.Draft.{definition_of, reach_down, reach_right}
 use Rattle.job_core.specs.Machine.{Machine}
 use Rattle.job_core.specs.Runs.{Seen, Holds}

@@ -8,8 +8,8 @@ use Rattle.dvi_ops.specs.Forest.{flat}
 use Rattle.dvi_ops.specs.Layout.{Sheet, bytes_of, define, preamble, scaled_points, sheet_from, padding_after}
 use Rattle.job_core.specs.declared.fonts.LoadedFont.{LoadedFont}
 use Rattle.job_core.specs.FontSlots.{Slots, font_in}
-use Rattle.job_core.specs.Marks.{Page}
-use Rattle.job_core.specs.Drawing.{body_of}
+use Rattle.ship_core.specs.Marks.{Page}
+use Rattle.ship_core.specs.Drawing.{body_of}
 
 -- The definition of a font: its number is its slot, and its name has no area (DVItype, 18).
 abbrev pub definition_of : ℕ → LoadedFont → Definition

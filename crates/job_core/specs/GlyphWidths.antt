@@ -8,7 +8,7 @@ use Rattle.node_core.specs.declared.tree.Node.TheVariants as nodes
 use Rattle.node_core.specs.Nodes.{nodes_of}
 use Rattle.job_core.specs.declared.fonts.LoadedFont.{LoadedFont}
 use Rattle.job_core.specs.FontSlots.{font_in}
-use Rattle.job_core.specs.Marks.{Page}
+use Rattle.ship_core.specs.Marks.{Page}
 use Rattle.job_core.specs.Machine.{State}
 
 -- A glyph's slot has a font, whose name and size are those of widths that the font files give; and the glyph has its character's width.

@@ -1,12 +1,8 @@
 pub mod Told
 pub mod Held
-pub mod Packing
-pub mod Marks
 pub mod Reply
 pub mod Machine
 pub mod StateCode
-pub mod Drawing
-pub mod Placing
 pub mod Draft
 pub mod Runs
 pub mod Room

@@ -1,35 +1,47 @@
 -- The abstract machine: what a job keeps, and what each command answers and changes (own; after TeX: The Program, parts 16, 32 and 33).
-use Rattle.std.specs.Prelude.{◌+◌, ◌-◌, ◌==◌, ◌++◌, ◌∷◌, [], ℕ, pos, Bool, true, false, not, nat_le, nat_lt, if◌then◌else◌, List, length, take, replicate, slice_get, slice_set, Option, Some, None, is_none, is_some, unwrap_or, Result, Ok, Err}
+use Rattle.std.specs.Prelude.{◌+◌, ◌-◌, ◌==◌, ◌++◌, ◌∷◌, ◌||◌, [], ℕ, pos, Bool, true, false, nat_le, nat_lt, if◌then◌else◌, List, length, take, replicate, slice_get, slice_set, Option, Some, None, is_none, is_some, unwrap_or, Result, Ok, Err}
 use Rattle.node_core.specs.declared.tree.Node.{Node}
 use Rattle.node_core.specs.declared.tree.Node.TheVariants as nodes
+use Rattle.node_core.specs.declared.tree.Kind.{Kind}
+use Rattle.node_core.specs.declared.tree.Kind.TheVariants.{Horizontal, Vertical}
+use Rattle.node_core.specs.declared.tree.Rule as rules
 use Rattle.node_core.specs.declared.tree.RuleSize.{RuleSize}
 use Rattle.node_core.specs.declared.tree.RuleSize.TheVariants.{Running, Fixed}
 use Rattle.node_core.specs.declared.tree.BoxNode.{BoxNode}
+use Rattle.node_core.specs.declared.params.Params.{Params}
 use Rattle.node_core.specs.Items.{Items, none}
 use Rattle.node_core.specs.Nodes.{items_of, nodes_of, box_count}
 use Rattle.job_core.specs.declared.nest.OpenList.{OpenList}
 use Rattle.job_core.specs.declared.command.Sizes.{Sizes}
 use Rattle.job_core.specs.declared.command.FontLoad.{FontLoad}
+use Rattle.job_core.specs.declared.command.BoxForm.{BoxForm}
+use Rattle.job_core.specs.declared.command.BoxForm.TheVariants.{Hbox, Vbox, Vtop}
+use Rattle.job_core.specs.declared.command.Parameter.{Parameter}
+use Rattle.job_core.specs.declared.command.Parameter.TheVariants.{BoxMaxDepth}
 use Rattle.job_core.specs.declared.command.Command.{Command}
-use Rattle.job_core.specs.declared.command.Command.TheVariants.{LoadFont, UseFont, OpenHbox, End, Text, Character, Rule, Kern, Measure, Void, Ship}
+use Rattle.job_core.specs.declared.command.Command.TheVariants.{LoadFont, UseFont, Open, End, Text, Character, Rule, Kern, Glue, Penalty, Measure, Void, Set, Ship}
 use Rattle.job_core.specs.declared.command.Answer.{Answer}
 use Rattle.job_core.specs.declared.command.Answer.TheVariants.{Done, Packed, Measured, MeasuredVoid, Shaped, Shipped}
 use Rattle.job_core.specs.declared.command.Refusal.{Refusal}
 use Rattle.job_core.specs.declared.command.Refusal.TheVariants.{DimensionTooLarge, NoFont, SlotTaken, NoOpenList, WrongMode, ListTooLong, TooDeep, HugePage, TooManyPages, TooMuchShipped, JobOver, VoidBox}
 use Rattle.job_core.specs.Reply.{Reply}
-use Rattle.job_core.specs.Packing.{fits, packed, total, advance}
-use Rattle.job_core.specs.Marks.{Page, is_huge}
+use Rattle.pack_core.specs.declared.pack.Target.{Target}
+use Rattle.pack_core.specs.declared.pack.Packed as packs
+use Rattle.pack_core.specs.declared.pack.TooLarge.{TooLarge}
+use Rattle.pack_core.specs.Boxes.{hpacked, vpacked, vtopped}
+use Rattle.ship_core.specs.Marks.{Page, is_huge}
 use Rattle.tfm_core.specs.NamedBytes.{NamedBytes, file_named}
 use Rattle.tfm_core.specs.Fonts.{SizedFont}
 use Rattle.job_core.specs.FontSlots as slots
 use Rattle.job_core.specs.FontSlots.{Slots, font_in, current_font, font_of, with_font, text_shaped, character_shaped}
 
--- What commands read and change: the font files; the fonts by slot, and the slot of the current one; the open lists, the outermost first;
--- the registers by number; how many nodes and pages were shipped; and whether the job is over.
+-- What commands read and change: the font files; the fonts by slot, and the slot of the current one; the parameters; the open lists, the
+-- outermost first; the registers by number; how many nodes and pages were shipped; and whether the job is over.
 pub record State : Type 0 where
   pub files : List NamedBytes
   pub fonts : Slots
   pub current : Option ℕ
+  pub params : Params
   pub nest : List OpenList
   pub registers : List (Option BoxNode)
   pub shipped : ℕ
@@ -49,9 +61,24 @@ most_pages = 1
 abbrev pub most_shipped : ℕ
 most_shipped = 16777216
 
+-- The parameters of a new job: boxmaxdepth is the greatest dimension.
+abbrev pub first_params : Params
+first_params = record { box_max_depth = pos 1073741823 }
+
 -- The state of a new job with these files.
 abbrev pub first_state : List NamedBytes → State
-first_state files = record { files = files; fonts = replicate 256 None; current = None; nest = []; registers = replicate 256 None; shipped = 0; pages = 0; over = false }
+first_state files =
+    record {
+      files = files;
+      fonts = replicate 256 None;
+      current = None;
+      params = first_params;
+      nest = [];
+      registers = replicate 256 None;
+      shipped = 0;
+      pages = 0;
+      over = false;
+    }
 
 -- The innermost open list: the last one.
 abbrev pub innermost : List OpenList → Option OpenList
@@ -80,15 +107,55 @@ open_count m = length (nodes_of (items_in (innermost m.nest)))
 abbrev pub held_in : List (Option BoxNode) → ℕ → Option BoxNode
 held_in registers r = unwrap_or (slice_get registers r) None
 
+-- Which way the list of a box goes.
+abbrev pub kind_of : BoxForm → Kind
+kind_of Hbox = Horizontal
+kind_of Vbox = Vertical
+kind_of Vtop = Vertical
+
+-- The kind of an open list; where there is none, no command asks for it.
+abbrev pub kind_in : Option OpenList → Kind
+kind_in None = Horizontal
+kind_in (Some open_list) = kind_of open_list.opening.form
+
+abbrev pub is_vertical : Kind → Bool
+is_vertical Horizontal = false
+is_vertical Vertical = true
+
+-- The box that a list of items becomes, or the items where a size does not fit; a vbox is no deeper than boxmaxdepth.
+abbrev pub packed_as : BoxForm → Params → Target → Items → Result packs.Packed TooLarge
+packed_as Hbox params target items = hpacked target items
+packed_as Vbox params target items = vpacked target params.box_max_depth items
+packed_as Vtop params target items = vtopped target params.box_max_depth items
+
+abbrev pub if_packed : Result packs.Packed TooLarge → Option packs.Packed
+if_packed (Ok packed) = Some packed
+if_packed (Err items) = None
+
+-- The box of an open list, if there is one and its sizes fit.
+abbrev pub packed_list : Params → Option OpenList → Option packs.Packed
+packed_list params None = None
+packed_list params (Some open_list) = if_packed (packed_as open_list.opening.form params open_list.opening.target open_list.list)
+
 -- The registers with the box of a list that was closed.
-abbrev pub with_packed : List (Option BoxNode) → Option OpenList → List (Option BoxNode)
-with_packed registers None = registers
-with_packed registers (Some open_list) = slice_set registers open_list.into (Some (packed open_list.list))
+abbrev pub with_packed : List (Option BoxNode) → Option OpenList → Option packs.Packed → List (Option BoxNode)
+with_packed registers None packed = registers
+with_packed registers (Some open_list) None = registers
+with_packed registers (Some open_list) (Some packed) = slice_set registers open_list.opening.into (Some packed.shown)
 
 -- Whether a size of a rule is running.
 abbrev pub is_running : RuleSize → Bool
 is_running Running = true
 is_running (Fixed size) = false
+
+-- Whether a rule does not belong in a list of that kind: in a horizontal one its width is its own, in a vertical one its height and its depth.
+abbrev pub is_misplaced : Kind → rules.Rule → Bool
+is_misplaced Horizontal rule = is_running rule.width
+is_misplaced Vertical rule = is_running rule.height || is_running rule.depth
+
+-- The parameters with one of them changed.
+abbrev pub with_parameter : Params → Parameter → Params
+with_parameter params (BoxMaxDepth depth) = record params { box_max_depth = depth }
 
 -- How many nodes a register holds: the box and its items.
 abbrev pub count_in : Option BoxNode → ℕ
@@ -120,10 +187,22 @@ refusal_in (Err refusal) = (true, refusal) ∷ []
 abbrev pub length_checks : State → List Node → List (Bool × Refusal)
 length_checks m items = (nat_lt most_items (open_count m + length items), ListTooLong) ∷ []
 
--- The refusals of a command of characters that come to these items.
+-- The refusals of characters, whatever they come to: they belong in a horizontal list.
+abbrev pub character_checks : State → List (Bool × Refusal)
+character_checks m =
+    (length m.nest == 0, NoOpenList) ∷ (is_vertical (kind_in (innermost m.nest)), WrongMode) ∷ (is_none (current_font m.fonts m.current), NoFont) ∷ []
+
+-- Those of characters that come to these items.
 abbrev pub shape_checks : State → slots.Shaped → List (Bool × Refusal)
-shape_checks m shaped =
-    (length m.nest == 0, NoOpenList) ∷ (is_none (current_font m.fonts m.current), NoFont) ∷ length_checks m shaped.items
+shape_checks m shaped = character_checks m ++ length_checks m shaped.items
+
+-- The refusals of one more item.
+abbrev pub item_checks : State → List (Bool × Refusal)
+item_checks m = (length m.nest == 0, NoOpenList) ∷ (nat_le most_items (open_count m), ListTooLong) ∷ []
+
+-- The refusals of the end of the innermost list.
+abbrev pub end_checks : Params → List OpenList → List (Bool × Refusal)
+end_checks params nest = (length nest == 0, NoOpenList) ∷ (is_none (packed_list params (innermost nest)), DimensionTooLarge) ∷ []
 
 -- The refusals of each command in their order, each with the condition under which it is given.
 abbrev pub own_checks : State → Command → List (Bool × Refusal)
@@ -131,15 +210,17 @@ own_checks m (LoadFont load) = (is_some (font_in m.fonts load.slot), SlotTaken) 
 own_checks m (UseFont slot) = (is_none (font_in m.fonts slot), NoFont) ∷ []
 own_checks m (Text text) = shape_checks m (text_shaped m.fonts m.current text)
 own_checks m (Character code) = shape_checks m (character_shaped m.fonts m.current code)
-own_checks m (OpenHbox r) = (nat_le most_open (length m.nest), TooDeep) ∷ []
-own_checks m End =
-    (length m.nest == 0, NoOpenList) ∷ (not (fits (total advance (nodes_of (items_in (innermost m.nest))))), DimensionTooLarge) ∷ []
+own_checks m (Open opening) = (nat_le most_open (length m.nest), TooDeep) ∷ []
+own_checks m End = end_checks m.params m.nest
 own_checks m (Rule rule) =
-    (length m.nest == 0, NoOpenList) ∷ (is_running rule.width, WrongMode)
+    (length m.nest == 0, NoOpenList) ∷ (is_misplaced (kind_in (innermost m.nest)) rule, WrongMode)
     ∷ (nat_le most_items (open_count m), ListTooLong) ∷ []
-own_checks m (Kern width) = (length m.nest == 0, NoOpenList) ∷ (nat_le most_items (open_count m), ListTooLong) ∷ []
+own_checks m (Kern width) = item_checks m
+own_checks m (Glue glue) = item_checks m
+own_checks m (Penalty n) = item_checks m
 own_checks m (Measure r) = []
 own_checks m (Void r) = []
+own_checks m (Set parameter) = []
 own_checks m (Ship r) =
     (is_none (held_in m.registers r), VoidBox) ∷ (nat_le most_pages m.pages, TooManyPages)
     ∷ (nat_lt most_shipped (m.shipped + count_in (held_in m.registers r)), TooMuchShipped)
@@ -157,8 +238,10 @@ first_of ((holds, refusal) ∷ rest) = if holds then Some refusal else first_of 
 abbrev pub sizes_of : BoxNode → Sizes
 sizes_of b = record { width = b.width; height = b.height; depth = b.depth }
 
-abbrev pub packed_answer : Items → Answer
-packed_answer items = Packed (sizes_of (packed items)) 0
+-- Where there is no box, the end of the list is refused.
+abbrev pub packed_answer : Option packs.Packed → Answer
+packed_answer None = Done
+packed_answer (Some packed) = Packed (sizes_of packed.shown) packed.badness
 
 abbrev pub measured : Option BoxNode → Answer
 measured None = MeasuredVoid
@@ -173,12 +256,15 @@ answer_of m (LoadFont load) = Done
 answer_of m (UseFont slot) = Done
 answer_of m (Text text) = shaped_answer (text_shaped m.fonts m.current text)
 answer_of m (Character code) = shaped_answer (character_shaped m.fonts m.current code)
-answer_of m (OpenHbox r) = Done
-answer_of m End = packed_answer (items_in (innermost m.nest))
+answer_of m (Open opening) = Done
+answer_of m End = packed_answer (packed_list m.params (innermost m.nest))
 answer_of m (Rule rule) = Done
 answer_of m (Kern width) = Done
+answer_of m (Glue glue) = Done
+answer_of m (Penalty n) = Done
 answer_of m (Measure r) = measured (held_in m.registers r)
 answer_of m (Void r) = Done
+answer_of m (Set parameter) = Done
 answer_of m (Ship r) = Shipped (m.pages + 1)
 
 -- The state with items behind the innermost list.
@@ -191,12 +277,15 @@ after m (LoadFont load) = record m { fonts = with_font m.fonts load.slot load.na
 after m (UseFont slot) = record m { current = Some slot }
 after m (Text text) = with_items m (text_shaped m.fonts m.current text).items
 after m (Character code) = with_items m (character_shaped m.fonts m.current code).items
-after m (OpenHbox r) = record m { nest = m.nest ++ record { into = r; list = none } ∷ [] }
-after m End = record m { nest = outer m.nest; registers = with_packed m.registers (innermost m.nest) }
+after m (Open opening) = record m { nest = m.nest ++ record { opening = opening; list = none } ∷ [] }
+after m End = record m { nest = outer m.nest; registers = with_packed m.registers (innermost m.nest) (packed_list m.params (innermost m.nest)) }
 after m (Rule rule) = with_items m (nodes.Rule rule ∷ [])
 after m (Kern width) = with_items m (nodes.Kern width ∷ [])
+after m (Glue glue) = with_items m (nodes.Glue glue ∷ [])
+after m (Penalty n) = with_items m (nodes.Penalty n ∷ [])
 after m (Measure r) = m
 after m (Void r) = record m { registers = slice_set m.registers r None }
+after m (Set parameter) = record m { params = with_parameter m.params parameter }
 after m (Ship r) =
     record m {
       registers = slice_set m.registers r None;

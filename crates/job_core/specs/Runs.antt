@@ -2,31 +2,34 @@
 use Rattle.std.specs.Prelude.{◌≡◌, ◌≢◌, ◌<◌, ◌==◌, [], ◌∷◌, ℕ, Bool, false, not, List, length, Option, Some, None, is_none, is_some, IfSome, Result, Ok, Err}
 use Rattle.std.specs.List.{AllByRecursion}
 use Rattle.job_core.specs.declared.command.Command.{Command}
-use Rattle.job_core.specs.declared.command.Command.TheVariants.{LoadFont, UseFont, OpenHbox, End, Text, Character, Rule, Kern, Measure, Void, Ship}
+use Rattle.job_core.specs.declared.command.Command.TheVariants.{LoadFont, UseFont, Open, End, Text, Character, Rule, Kern, Glue, Penalty, Measure, Void, Set, Ship}
 use Rattle.job_core.specs.declared.command.Refusal.{Refusal}
-use Rattle.job_core.specs.declared.command.Refusal.TheVariants.{OutOfMemory, NoFont, SlotTaken, NoOpenList, Device, ListsOpen, JobOver}
+use Rattle.job_core.specs.declared.command.Refusal.TheVariants.{OutOfMemory, NoFont, SlotTaken, Device, ListsOpen, JobOver}
 use Rattle.job_core.specs.declared.command.Summary.{Summary}
 use Rattle.job_core.specs.Reply.{Reply}
-use Rattle.job_core.specs.Marks.{Page, is_huge}
+use Rattle.ship_core.specs.Marks.{Page, is_huge}
 use Rattle.node_core.specs.Nodes.{nodes_of}
 use Rattle.tfm_core.specs.NamedBytes.{file_named}
-use Rattle.job_core.specs.FontSlots.{Slots, font_in, current_font}
+use Rattle.job_core.specs.FontSlots.{Slots, font_in}
 use Rattle.job_core.specs.Sized.{AreSized}
 use Rattle.job_core.specs.Draft.{Draft, draft_of, with_pages}
-use Rattle.job_core.specs.Machine.{State, Machine, checks, first_of, reply_to, state_by, new_pages, step, stopped, page_of}
+use Rattle.job_core.specs.Machine.{State, Machine, checks, character_checks, first_of, reply_to, state_by, new_pages, step, stopped, page_of}
 
 -- The commands for which memory may be wanted.
 abbrev pub TakesMemory : Command → Type 0
 TakesMemory (LoadFont load) = Unit {0}
 TakesMemory (UseFont slot) = ⊥
-TakesMemory (OpenHbox r) = Unit {0}
+TakesMemory (Open opening) = Unit {0}
 TakesMemory End = ⊥
 TakesMemory (Text text) = Unit {0}
 TakesMemory (Character code) = Unit {0}
 TakesMemory (Rule rule) = Unit {0}
 TakesMemory (Kern width) = Unit {0}
+TakesMemory (Glue glue) = Unit {0}
+TakesMemory (Penalty n) = Unit {0}
 TakesMemory (Measure r) = ⊥
 TakesMemory (Void r) = ⊥
+TakesMemory (Set parameter) = ⊥
 TakesMemory (Ship r) = Unit {0}
 
 -- The refusals that are found before any memory is taken, in their order: all but those that a font file's bytes, its size or the number of
@@ -34,8 +37,8 @@ TakesMemory (Ship r) = Unit {0}
 abbrev pub early_checks : State → Command → List (Bool × Refusal)
 early_checks m (LoadFont load) =
     (m.over, JobOver) ∷ (is_some (font_in m.fonts load.slot), SlotTaken) ∷ (is_none (file_named load.name m.files), NoFont) ∷ []
-early_checks m (Text text) = (m.over, JobOver) ∷ (length m.nest == 0, NoOpenList) ∷ (is_none (current_font m.fonts m.current), NoFont) ∷ []
-early_checks m (Character code) = (m.over, JobOver) ∷ (length m.nest == 0, NoOpenList) ∷ (is_none (current_font m.fonts m.current), NoFont) ∷ []
+early_checks m (Text text) = (m.over, JobOver) ∷ character_checks m
+early_checks m (Character code) = (m.over, JobOver) ∷ character_checks m
 early_checks m command = checks m command
 
 abbrev pub IsShip : Command → Type 0

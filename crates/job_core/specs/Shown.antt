@@ -7,7 +7,7 @@ use Rattle.dvi_ops.specs.File as file
 use Rattle.dvi_ops.specs.File.{IsFile}
 use Rattle.job_core.specs.declared.command.Refusal.{Refusal}
 use Rattle.job_core.specs.declared.command.Summary.{Summary}
-use Rattle.job_core.specs.Marks.{Page, marks_of_page}
+use Rattle.ship_core.specs.Marks.{Page, marks_of_page}
 use Rattle.job_core.specs.Machine.{Machine}
 use Rattle.job_core.specs.Runs.{Seen, Holds}
 

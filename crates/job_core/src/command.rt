@@ -2,6 +2,7 @@
 
 ghost use Rattle.std.specs.Prelude.{◌≡◌, ◌<◌};
 ghost use Rattle.std.specs.Option.{SomeIff};
+ghost use Rattle.job_core.specs.Machine.{kind_of};
 
 use node_core::{Glue, Kind, Number, Rule};
 use pack_core::Target;
@@ -102,6 +103,19 @@ pub enum BoxForm {
     Vbox,
     /// A box of a vertical list, whose baseline is that of its first item.
     Vtop,
+}
+
+impl BoxForm {
+    /// Which way the list of such a box goes.
+    pub fn kind(self) -> Kind
+        ensures { result ≡ kind_of self }
+    {
+        match self {
+            BoxForm::Hbox => Kind::Horizontal,
+            BoxForm::Vbox => Kind::Vertical,
+            BoxForm::Vtop => Kind::Vertical,
+        }
+    }
 }
 
 /// Which list is opened: what it becomes, how large, and the register that the box goes into.

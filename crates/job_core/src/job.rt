@@ -15,6 +15,7 @@ use crate::command::{Answer, Command, Refusal, Register, Reply, Summary};
 use crate::device::{Device, write_all};
 use crate::kept::Kept;
 use crate::writer::Writer;
+use node_core::Node;
 use std::alloc::{AllocError, Global};
 use std::marker::Model;
 use tfm_core::FontFile;
@@ -56,14 +57,17 @@ fn obey(kept: &mut Kept, writer: &mut Writer, command: &Command) -> Result<Reply
     match command {
         Command::LoadFont(load) => kept.load_font(load),
         Command::UseFont(slot) => Ok(kept.use_font(*slot)),
-        Command::OpenHbox(into) => kept.open_hbox(*into),
+        Command::Open(opening) => kept.open_list(*opening),
         Command::End => Ok(kept.end()),
         Command::Text(text) => kept.append_text(text),
         Command::Character(code) => kept.append_character(*code),
         Command::Rule(rule) => kept.append_rule(*rule),
-        Command::Kern(width) => kept.append_kern(*width),
+        Command::Kern(width) => kept.append_item(Node::Kern(*width)),
+        Command::Glue(glue) => kept.append_item(Node::Glue(*glue)),
+        Command::Penalty(number) => kept.append_item(Node::Penalty(number.get())),
         Command::Measure(register) => Ok(kept.measure(*register)),
         Command::Void(register) => Ok(kept.void(*register)),
+        Command::Set(parameter) => Ok(kept.set(*parameter)),
         Command::Ship(register) => ship(kept, writer, *register),
     }
 }

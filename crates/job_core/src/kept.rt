@@ -1,21 +1,23 @@
 //! What a job keeps, but for its device and its bytes.
 
-ghost use Rattle.std.specs.Prelude.{◌≡◌, ◌==◌, ◌<◌, ◌≤◌, ◌+◌, ◌^◌, not, true, false, None, Some, Ok, IfOk, IfErr, OnOk, OnErr, length, option_copied};
+ghost use Rattle.std.specs.Prelude.{◌≡◌, ◌==◌, ◌<◌, ◌≤◌, ◌+◌, ◌^◌, ◌∷◌, [], not, true, false, None, Some, Ok, IfOk, IfErr, OnOk, OnErr, length, option_copied};
 ghost use Rattle.job_core.specs.declared.command.Command.TheVariants as commands;
 ghost use Rattle.job_core.specs.FontSlots as slots;
-ghost use Rattle.job_core.specs.FontSlots.{text_shaped};
+ghost use Rattle.job_core.specs.FontSlots.{font_in, text_shaped};
 ghost use Rattle.job_core.specs.Loaded.{GivesNumbers};
-ghost use Rattle.job_core.specs.Machine.{first_state, held_in, checks, first_of, reply_by, reply_to, state_by, state_after, after, sizes_of, length_checks, shaped_answer, with_items};
+ghost use Rattle.job_core.specs.Machine.{first_state, held_in, checks, first_of, reply_by, reply_to, state_by, state_after, after, sizes_of, character_checks, item_checks, length_checks, shaped_answer, with_items, is_running, is_misplaced};
 ghost use Rattle.job_core.specs.Runs.{early_checks};
 
-use crate::command::{Answer, Characters, FontLoad, Refusal, Register, Reply, Sizes};
+use crate::command::{
+    Answer, Characters, FontLoad, Opening, Parameter, Refusal, Register, Reply, Sizes,
+};
 use crate::fonts::{Fonts, LoadedFont, read_font};
 use crate::nest::Nest;
 use crate::registers::Registers;
-use crate::{pack, plan};
-use node_core::{BoxNode, Node, Rule, RuleSize};
+use node_core::{BoxNode, Kind, Node, Params, Rule, RuleSize};
 use scaled_core::Dimen;
 use shape_core::{Missing, shape_character, shape_text};
+use ship_core::is_huge;
 use std::alloc::{AllocError, Global};
 use std::marker::Model;
 use tfm_core::{FontFile, file_named};
@@ -26,6 +28,7 @@ pub struct Kept {
     files: Vec<FontFile>,
     fonts: Fonts,
     current: Option<u8>,
+    params: Params,
     nest: Nest,
     registers: Registers,
     shipped: u64,
@@ -42,7 +45,7 @@ impl Model for Kept {
 
     ghost coded = { coded_state };
 
-    ghost view = { λ kept. record { files = kept.files.items; fonts = kept.fonts; current = kept.current; nest = kept.nest; registers = kept.registers; shipped = kept.shipped; pages = kept.pages; over = kept.over } };
+    ghost view = { λ kept. record { files = kept.files.items; fonts = kept.fonts; current = kept.current; params = kept.params; nest = kept.nest; registers = kept.registers; shipped = kept.shipped; pages = kept.pages; over = kept.over } };
 
     ghost invariant = { λ kept. (kept.shipped ≤ most_shipped) × (kept.pages ≤ most_pages) };
 }
@@ -70,6 +73,7 @@ impl Kept {
             files,
             fonts,
             current: None,
+            params: Params::first(),
             nest: Nest::new(alloc),
             registers,
             shipped: 0,
@@ -168,6 +172,28 @@ impl Kept {
         }))
     }
 
+    /// The current font and its slot, where characters may be appended; or why they may not.
+    fn font_for_characters(&self) -> Result<(u8, &LoadedFont), Refusal>
+        ensures slot { IfOk result (λ font. self.now.current ≡ Some font.0) }
+        ensures font { IfOk result (λ font. font_in self.now.fonts font.0 ≡ Some font.1.now) }
+        ensures ok { OnOk result (first_of (character_checks self.now) ≡ None) }
+        ensures err { IfErr result (λ refusal. first_of (character_checks self.now) ≡ Some refusal) }
+    {
+        let Some(innermost) = self.nest.innermost() else {
+            return Err(Refusal::NoOpenList);
+        };
+        if innermost.opening.form.kind() == Kind::Vertical {
+            return Err(Refusal::WrongMode);
+        }
+        let Some(slot) = self.current else {
+            return Err(Refusal::NoFont);
+        };
+        let Some(loaded) = self.fonts.get(slot) else {
+            return Err(Refusal::NoFont);
+        };
+        Ok((slot, loaded))
+    }
+
     /// Appends a text in the current font.
     pub fn append_text(&mut self, text: &Characters) -> Result<Reply, AllocError>
         requires { self.old.over ≡ false }
@@ -176,14 +202,9 @@ impl Kept {
         ensures err { OnErr result (self.new ≡ self.old) }
         ensures early { OnErr result (first_of (early_checks self.old (commands.Text text.now)) ≡ None) }
     {
-        if self.nest.len() == 0 {
-            return Ok(Err(Refusal::NoOpenList));
-        }
-        let Some(slot) = self.current else {
-            return Ok(Err(Refusal::NoFont));
-        };
-        let Some(loaded) = self.fonts.get(slot) else {
-            return Ok(Err(Refusal::NoFont));
+        let (slot, loaded) = match self.font_for_characters() {
+            Ok(font) => font,
+            Err(refusal) => return Ok(Err(refusal)),
         };
         let mut items = Vec::new(*self.files.allocator());
         let missing = shape_text(&loaded.font, slot, text.codes(), &mut items)?;
@@ -198,42 +219,36 @@ impl Kept {
         ensures err { OnErr result (self.new ≡ self.old) }
         ensures early { OnErr result (first_of (early_checks self.old (commands.Character code)) ≡ None) }
     {
-        if self.nest.len() == 0 {
-            return Ok(Err(Refusal::NoOpenList));
-        }
-        let Some(slot) = self.current else {
-            return Ok(Err(Refusal::NoFont));
-        };
-        let Some(loaded) = self.fonts.get(slot) else {
-            return Ok(Err(Refusal::NoFont));
+        let (slot, loaded) = match self.font_for_characters() {
+            Ok(font) => font,
+            Err(refusal) => return Ok(Err(refusal)),
         };
         let mut items = Vec::new(*self.files.allocator());
         let missing = shape_character(&loaded.font, slot, code, &mut items)?;
         self.append_shaped(items, missing)
     }
 
-    /// Opens a horizontal list.
-    pub fn open_hbox(&mut self, into: Register) -> Result<Reply, AllocError>
+    /// Opens a list.
+    pub fn open_list(&mut self, opening: Opening) -> Result<Reply, AllocError>
         requires { self.old.over ≡ false }
-        ensures reply { IfOk result (λ reply. reply ≡ reply_to self.old (commands.OpenHbox into)) }
-        ensures state { OnOk result (self.new ≡ state_after self.old (commands.OpenHbox into)) }
+        ensures reply { IfOk result (λ reply. reply ≡ reply_to self.old (commands.Open opening)) }
+        ensures state { OnOk result (self.new ≡ state_after self.old (commands.Open opening)) }
         ensures err { OnErr result (self.new ≡ self.old) }
-        ensures admitted { OnErr result (first_of (checks self.old (commands.OpenHbox into)) ≡ None) }
+        ensures admitted { OnErr result (first_of (checks self.old (commands.Open opening)) ≡ None) }
     {
         if self.nest.len() >= 64 {
             return Ok(Err(Refusal::TooDeep));
         }
-        self.nest.begin(into)?;
+        self.nest.begin(opening)?;
         Ok(Ok(Answer::Done))
     }
 
-    /// Appends an explicit kern.
-    pub fn append_kern(&mut self, width: Dimen) -> Result<Reply, AllocError>
-        requires { self.old.over ≡ false }
-        ensures reply { IfOk result (λ reply. reply ≡ reply_to self.old (commands.Kern width)) }
-        ensures state { OnOk result (self.new ≡ state_after self.old (commands.Kern width)) }
+    /// Appends an item.
+    pub fn append_item(&mut self, item: Node) -> Result<Reply, AllocError>
+        ensures reply { IfOk result (λ reply. reply ≡ reply_by (first_of (item_checks self.old)) Answer.Done) }
+        ensures state { OnOk result (self.new ≡ state_by (first_of (item_checks self.old)) self.old (with_items self.old (item ∷ []))) }
         ensures err { OnErr result (self.new ≡ self.old) }
-        ensures admitted { OnErr result (first_of (checks self.old (commands.Kern width)) ≡ None) }
+        ensures admitted { OnErr result (first_of (item_checks self.old) ≡ None) }
     {
         let Some(innermost) = self.nest.innermost() else {
             return Ok(Err(Refusal::NoOpenList));
@@ -241,7 +256,7 @@ impl Kept {
         if innermost.list.len() >= 65536 {
             return Ok(Err(Refusal::ListTooLong));
         }
-        self.nest.append(Node::Kern(width))?;
+        self.nest.append(item)?;
         Ok(Ok(Answer::Done))
     }
 
@@ -256,14 +271,10 @@ impl Kept {
         let Some(innermost) = self.nest.innermost() else {
             return Ok(Err(Refusal::NoOpenList));
         };
-        if rule.width == RuleSize::Running {
+        if is_misplaced(innermost.opening.form.kind(), &rule) {
             return Ok(Err(Refusal::WrongMode));
         }
-        if innermost.list.len() >= 65536 {
-            return Ok(Err(Refusal::ListTooLong));
-        }
-        self.nest.append(Node::Rule(rule))?;
-        Ok(Ok(Answer::Done))
+        self.append_item(Node::Rule(rule))
     }
 
     /// Packs the innermost list into its register.
@@ -272,19 +283,10 @@ impl Kept {
         ensures reply { result ≡ reply_to self.old commands.End }
         ensures state { self.new ≡ state_after self.old commands.End }
     {
-        let Some(innermost) = self.nest.innermost() else {
-            return Err(Refusal::NoOpenList);
-        };
-        let Some(width) = pack::width_of(innermost.list.as_slice()) else {
-            return Err(Refusal::DimensionTooLarge);
-        };
-        let Some(open_list) = self.nest.close() else {
-            return Err(Refusal::NoOpenList);
-        };
-        let packed = pack::pack(open_list.list, width);
-        let sizes = sizes_of(&packed);
-        self.registers.put(open_list.into, Some(packed));
-        Ok(Answer::Packed(sizes, 0))
+        let closed = self.nest.close(&self.params)?;
+        let answer = Answer::Packed(sizes_of(&closed.packed.shown), closed.packed.badness);
+        self.registers.put(closed.into, Some(closed.packed.shown));
+        Ok(answer)
     }
 
     /// Tells what a register holds.
@@ -309,6 +311,18 @@ impl Kept {
         Ok(Answer::Done)
     }
 
+    /// Gives a parameter a value.
+    pub fn set(&mut self, parameter: Parameter) -> Reply
+        requires { self.old.over ≡ false }
+        ensures reply { result ≡ reply_to self.old (commands.Set parameter) }
+        ensures state { self.new ≡ state_after self.old (commands.Set parameter) }
+    {
+        match parameter {
+            Parameter::BoxMaxDepth(depth) => self.params.box_max_depth = depth,
+        }
+        Ok(Answer::Done)
+    }
+
     /// The box in a register that may be shipped now, or why it may not.
     pub fn admitted(&self, register: Register) -> Result<&BoxNode, Refusal>
         requires { self.now.over ≡ false }
@@ -325,7 +339,7 @@ impl Kept {
         if self.shipped.saturating_add(shown.count()) > 16_777_216 {
             return Err(Refusal::TooMuchShipped);
         }
-        if plan::makes_huge_page(shown) {
+        if is_huge(shown, Dimen::ZERO, shown.height) {
             return Err(Refusal::HugePage);
         }
         Ok(shown)
@@ -354,5 +368,22 @@ fn sizes_of(shown: &BoxNode) -> Sizes
         width: shown.width,
         height: shown.height,
         depth: shown.depth,
+    }
+}
+
+/// Whether a size of a rule is running.
+fn is_running(size: RuleSize) -> bool
+    ensures { result ≡ is_running size }
+{
+    size == RuleSize::Running
+}
+
+/// Whether a rule does not belong in a list of that kind.
+fn is_misplaced(kind: Kind, rule: &Rule) -> bool
+    ensures { result ≡ is_misplaced kind rule.now }
+{
+    match kind {
+        Kind::Horizontal => is_running(rule.width),
+        Kind::Vertical => is_running(rule.height) || is_running(rule.depth),
     }
 }

@@ -8,8 +8,6 @@ pub mod job;
 mod kept;
 pub mod laws;
 mod nest;
-mod pack;
-mod plan;
 mod registers;
 pub mod totality;
 mod writer;

@@ -10,17 +10,17 @@ ghost use Rattle.dvi_ops.specs.Spelling.{HasSpelling};
 ghost use Rattle.dvi_ops.specs.View.{view};
 ghost use Rattle.std.specs.List.{AllByRecursion, list_any};
 ghost use Rattle.node_core.specs.Nodes.{box_count};
-ghost use Rattle.job_core.specs.Packing.{fits};
-ghost use Rattle.job_core.specs.Marks.{is_huge};
+ghost use Rattle.pack_core.specs.Totals.{fits};
+ghost use Rattle.ship_core.specs.Marks.{is_huge};
 ghost use Rattle.job_core.specs.Machine.{page_of};
-ghost use Rattle.job_core.specs.Drawing.{body_of};
+ghost use Rattle.ship_core.specs.Drawing.{body_of};
 ghost use Rattle.job_core.specs.Draft.{Draft, closed, closing, closing_ops, definition_of, definitions_of, first_draft, fresh_slots, is_among, is_fresh, reach_down, reach_right, in_rising_order, selects, whole, with_page};
 
 use crate::fonts::{Fonts, LoadedFont};
-use crate::{pack, plan};
 use dvi_ops::{FontDefinition, Op, Postamble, Units, spell};
 use node_core::BoxNode;
 use scaled_core::Dimen;
+use ship_core::{ShipFault, plan, sum};
 use std::alloc::{AllocError, Global};
 use std::marker::Model;
 
@@ -212,13 +212,32 @@ fn append_padding(bytes: &mut Vec<u8>) -> Result<(), AllocError>
     bytes.extend_from_slice(&[223; 7][..padding])
 }
 
+/// The instructions of the page of a box.
+fn page_body(alloc: Global, shown: &BoxNode) -> Result<Vec<Op<'static>>, AllocError>
+    requires { is_huge (page_of shown.now) ≡ false }
+    ensures { IfOk result (λ ops. map view ops.items ≡ flat (body_of (page_of shown.now))) }
+{
+    match plan(alloc, shown, Dimen::ZERO, shown.height) {
+        Ok(ops) => Ok(ops),
+        Err(ShipFault::OutOfMemory) => Err(AllocError),
+        Err(ShipFault::HugePage) => unreachable!(),
+    }
+}
+
+/// The greater of two dimensions.
+fn higher(a: Dimen, b: Dimen) -> Dimen
+    ensures { result ≡ int_max a b }
+{
+    if a.get() < b.get() { b } else { a }
+}
+
 /// The greater of a reach so far and that of a page, from its point and its size.
 fn farther(reach: Dimen, from: Dimen, size: Dimen) -> Dimen
     requires { fits (from +ℤ size) ≡ true }
     ensures { result ≡ int_max reach (from +ℤ size) }
 {
-    match plan::sum(from, size) {
-        Some(sum) => pack::higher(reach, sum),
+    match sum(from, size) {
+        Some(farther) => higher(reach, farther),
         None => unreachable!(),
     }
 }
@@ -285,7 +304,7 @@ impl Writer {
         ensures err { OnErr result (self.new ≡ self.old) }
     {
         let alloc = *self.bytes.allocator();
-        let body = plan::plan(alloc, shown)?;
+        let body = page_body(alloc, shown)?;
         let fresh = fresh_slots(alloc, fonts, &self.defined, &body)?;
         let held = self.defined.len();
         self.defined.extend_from_slice(&fresh)?;

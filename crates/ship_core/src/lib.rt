@@ -7,3 +7,4 @@ pub mod page_plan;
 mod placing;
 
 pub use page_plan::{ShipFault, is_huge, plan};
+pub use placing::sum;
