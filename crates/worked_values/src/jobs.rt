@@ -5,8 +5,8 @@ ghost use Rattle.std.specs.Prelude.{Some};
 use crate::samples::TINY;
 use job_core::job::Job;
 use job_core::{
-    Answer, Command, Device, DeviceFault, FontFile, FontLoad, FontName, FontSize, Refusal,
-    Register, Summary,
+    Answer, BoxForm, Command, Device, DeviceFault, FontFile, FontLoad, FontName, FontSize, Opening,
+    Refusal, Register, Summary, Target,
 };
 use node_core::{Rule, RuleSize};
 use scaled_core::Dimen;
@@ -53,6 +53,15 @@ fn job(alloc: Global, files: &[FontFile], fails_at: u64) -> Option<Job<Dripping>
     Job::new(alloc, device, files).ok()
 }
 
+/// The opening of a horizontal list for the first register.
+fn hbox() -> Command {
+    Command::Open(Opening {
+        form: BoxForm::Hbox,
+        target: Target::Natural,
+        into: Register::FIRST,
+    })
+}
+
 /// A page of a rule 1pt wide and high is shipped.
 fn ship_a_rule(job: &mut Job<Dripping>, point: Dimen) -> Result<Answer, Refusal> {
     let rule = Rule {
@@ -60,7 +69,7 @@ fn ship_a_rule(job: &mut Job<Dripping>, point: Dimen) -> Result<Answer, Refusal>
         height: RuleSize::Fixed(point),
         depth: RuleSize::Fixed(Dimen::ZERO),
     };
-    job.step(&Command::OpenHbox(Register::FIRST))?;
+    job.step(&hbox())?;
     job.step(&Command::Rule(rule))?;
     job.step(&Command::End)?;
     job.step(&Command::Ship(Register::FIRST))
@@ -104,7 +113,7 @@ fn end(job: &mut Job<Dripping>) -> Result<i32, Refusal> {
 #[test]
 fn a_refused_end_leaves_the_list_open(rt: HostRuntime) {
     let mut job = job(rt.alloc(), &[], 0).expect(&rt, "there is memory");
-    assert!(rt; job.step(&Command::OpenHbox(Register::FIRST)).is_ok());
+    assert!(rt; job.step(&hbox()).is_ok());
     assert!(rt; append_kern(&mut job, 1_073_741_823));
     assert!(rt; append_kern(&mut job, 65_536));
     assert_eq!(rt; end(&mut job), Err(Refusal::DimensionTooLarge));
@@ -116,10 +125,10 @@ fn a_refused_end_leaves_the_list_open(rt: HostRuntime) {
 fn only_so_many_lists_open(rt: HostRuntime) {
     let mut job = job(rt.alloc(), &[], 0).expect(&rt, "there is memory");
     for _ in 0..64u32 {
-        assert!(rt; job.step(&Command::OpenHbox(Register::FIRST)).is_ok());
+        assert!(rt; job.step(&hbox()).is_ok());
     }
     assert_eq!(rt;
-        job.step(&Command::OpenHbox(Register::FIRST)),
+        job.step(&hbox()),
         Err(Refusal::TooDeep)
     );
 }
@@ -137,7 +146,7 @@ fn load(alloc: Global, slot: u8, size: Option<FontSize>) -> Option<Command> {
 
 /// A page of a character of one font and one of another is shipped.
 fn ship_two_characters(job: &mut Job<Dripping>) -> Result<Answer, Refusal> {
-    job.step(&Command::OpenHbox(Register::FIRST))?;
+    job.step(&hbox())?;
     job.step(&Command::UseFont(1))?;
     job.step(&Command::Character(99))?;
     job.step(&Command::UseFont(0))?;
