@@ -101,6 +101,96 @@ fn short_scripts(rt: HostRuntime) {
     }
 }
 
+/// Each row is a script whose last command packs a list, and the answer to it.
+#[test]
+fn packed_lists(rt: HostRuntime) -> Result<(), Fail> {
+    let alloc = rt.alloc();
+    for (script, answer) in [
+        (
+            "hbox to 12pt into 0\nkern 5pt\nglue 0pt plus 5pt\nglue 0pt plus 1fil\n",
+            "\n5: packed 12.0pt 0.0pt 0.0pt badness 0\n",
+        ),
+        (
+            "\n\nhbox to 9sp into 0\nkern 10sp\n",
+            "\n5: packed 0.00014pt 0.0pt 0.0pt badness 1000000\n",
+        ),
+        (
+            "\n\n\nhbox to -1sp into 0\n",
+            "\n5: packed -0.00002pt 0.0pt 0.0pt badness 0\n",
+        ),
+        (
+            "\nhbox to 20pt into 0\nkern 10pt\nglue 0pt plus 5pt\n",
+            "\n5: packed 20.0pt 0.0pt 0.0pt badness 800\n",
+        ),
+        (
+            "\nhbox spread -1pt into 0\nkern 10pt\nglue 0pt minus 2pt\n",
+            "\n5: packed 9.0pt 0.0pt 0.0pt badness 12\n",
+        ),
+        (
+            "\nvbox to 10pt into 0\nglue 0pt plus 1pt\nrule 1pt 5pt 0pt\n",
+            "\n5: packed 1.0pt 10.0pt 0.0pt badness 10000\n",
+        ),
+        (
+            "\nvtop into 0\nglue 3pt\nrule 10pt 2pt 1pt\n",
+            "\n5: packed 10.0pt 0.0pt 6.0pt badness 0\n",
+        ),
+        (
+            "\nset boxmaxdepth 1pt\nvbox into 0\nrule 10pt 5pt 3pt\n",
+            "\n5: packed 10.0pt 7.0pt 1.0pt badness 0\n",
+        ),
+    ] {
+        let whole = format!(in alloc; "{}end\n", script)?;
+        let (_, out) = answers(alloc, whole.as_str()).expect(&rt, "it runs");
+        assert!(rt; out.as_slice().windows(answer.len()).any(|text| text == answer.as_bytes()), "at {script}");
+    }
+    Ok(())
+}
+
+#[test]
+fn lists_of_two_kinds(rt: HostRuntime) {
+    for (script, expected) in [
+        (
+            "vbox into 0\nrule 10pt * 0pt\nrule * 1pt 0pt\ntext a\nchar 97\n",
+            "1: ok\n2: refused 8 WrongMode\n3: ok\n4: refused 8 WrongMode\n5: refused 8 WrongMode\nend: refused 17 ListsOpen\n",
+        ),
+        (
+            "hbox into 0\nkern 16383.99999pt\nglue 1sp\nend\nkern -1pt\nend\n",
+            "1: ok\n2: ok\n3: ok\n4: refused 3 DimensionTooLarge\n5: ok\n6: packed 16383.0pt 0.0pt 0.0pt badness 0\nend: pages 0 bytes 0\n",
+        ),
+        (
+            "glue 1pt\npenalty 3\nvtop to 1pt into 255\npenalty -500000000\nend\nmeasure 255\n",
+            "1: refused 7 NoOpenList\n2: refused 7 NoOpenList\n3: ok\n4: ok\n5: packed 0.0pt 0.0pt 1.0pt badness 10000\n6: measured vbox 0.0pt 0.0pt 1.0pt\nend: pages 0 bytes 0\n",
+        ),
+    ] {
+        let (_, out) = answers(rt.alloc(), script).expect(&rt, "it runs");
+        assert_eq!(rt; out.as_slice(), expected.as_bytes(), "at {script}");
+    }
+}
+
+#[test]
+fn a_vertical_page(rt: HostRuntime) {
+    let script = "vbox to 20pt into 0\nrule 10pt 5pt 0pt\nglue 0pt plus 1fil\nrule 10pt 5pt 0pt\nend\nship 0\n";
+    let (fine, out) = answers(rt.alloc(), script).expect(&rt, "it runs");
+    assert!(rt; fine);
+    let expected = "1: ok
+2: ok
+3: ok
+4: ok
+5: packed 10.0pt 20.0pt 0.0pt badness 0
+6: shipped 1
+end: pages 1 bytes 128
+f702018392c01c3b0000000003e8008b
+00000000000000000000000000000000
+00000000000000000000000000000000
+0000000000000000ffffffff9f050000
+8900050000000a00009f0f0000890005
+0000000a00008cf80000000f018392c0
+1c3b0000000003e800140000000a0000
+00000001f90000005702dfdfdfdfdfdf
+";
+    assert_eq!(rt; out.as_slice(), expected.as_bytes());
+}
+
 /// Each row in an own box: a text, its answer, and the answer of the end.
 #[test]
 fn lig_and_kern_words(rt: HostRuntime) -> Result<(), Fail> {
