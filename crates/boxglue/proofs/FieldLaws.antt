@@ -1,21 +1,22 @@
 -- What the functions that read one field say.
-use Rattle.std.proofs.Common.{◌≡◌, ℕ, ℤ, pos, negsuc, ◌<◌, Bool, true, false, List, Some, None, Result, Ok, Err, codes, refl, ap, sym, ◌∙◌, ◌&&◌, length, arith, nat_lt, subst, unsigned_abs}
+use Rattle.std.proofs.Common.{◌≡◌, ℕ, ℤ, pos, negsuc, ◌<◌, Bool, true, false, List, Some, None, Result, Ok, Err, codes, refl, ap, sym, ◌∙◌, ◌&&◌, length, arith, nat_lt, nat_le, subst, unsigned_abs}
 use Rattle.std.specs.List.{list_all}
 use Rattle.std.specs.Str.{bytes_eq}
 use Rattle.std.specs.Str.Parse.{without_leading_sign, signed_digits_value}
-use Rattle.std.proofs.lemmas.Bool.{ltb-true, lt-ltb, le-leb}
+use Rattle.std.proofs.lemmas.Bool.{ltb-true, leb-true, lt-ltb, le-leb}
 use Rattle.std.proofs.lemmas.Int.{ints}
 use Rattle.std.proofs.lemmas.Slice.Eq.{bytes_eq-Decides}
 use Rattle.tfm_core.specs.Scaling.{IsFontSize}
+use Rattle.scaled_core.specs.Dimensions.{Within}
 use Rattle.scaled_core.specs.declared.fault.DimenFault.{DimenFault}
 use Rattle.scaled_core.specs.ParsedTexts.{read_dimension, dimension_value, fitted, measured, unit_named, is_negative, behind_sign, front_digits, behind_digits, point_digits, behind_fraction}
 use Rattle.scaled_core.proofs.ReadingCases.{reads-ok, reads-fits, abs-le_from_fits}
 use Rattle.scaled_core.proofs.TextLaws.{dimension_value-from_text}
 use Rattle.node_core.specs.declared.tree.RuleSize.{RuleSize}
 use Rattle.node_core.specs.declared.tree.RuleSize.TheVariants.{Running, Fixed}
-use Rattle.boxglue.specs.Grammar.{IsNumber, IsDimension, IsSize, IsName, is_name_byte}
-use Rattle.boxglue.specs.Reading.{number_of, small_number, size_of_font, is_short, is_name, is_numeral, size_of, map_ok, dimension_or}
-use Rattle.boxglue.proofs.Numbers.{and_parts, numeral, number_names}
+use Rattle.boxglue.specs.Grammar.{IsNumber, IsPenalty, IsDimension, IsSize, IsName, is_name_byte}
+use Rattle.boxglue.specs.Reading.{number_of, small_number, penalty_of, penalty_number, size_of_font, is_short, is_name, is_numeral, size_of, map_ok, dimension_or}
+use Rattle.boxglue.proofs.Numbers.{and_parts, numeral, number_names, within_penalties, penalty_names, penalty_in}
 
 -- the bytes are those of the text
 pub same_bytes : (xs ys : List ℕ) → bytes_eq xs ys ≡ true → xs ≡ ys
@@ -39,14 +40,34 @@ by_numeral : (field : List ℕ) (n : ℕ) (b : Bool) → is_numeral (without_lea
 unfolding number_of
 by_numeral field n true e h =
     let number = number_by (signed_digits_value 10 field) n (rw e at h) in
-    record { digits = numeral (without_leading_sign field) e; value = number.0; small = number.1 }
+    record { written = record { digits = numeral (without_leading_sign field) e; value = number.0 }; small = number.1 }
 by_numeral field n false e h = let s : None ≡ Some n = rw e at h in absurd (cc)
 
 pub writes_number : (field : List ℕ) (n : ℕ) → number_of field ≡ Some n → IsNumber field n
 writes_number field n h = by_numeral field n _ refl h
 
 pub number_written : (field : List ℕ) (n : ℕ) → IsNumber field n → number_of field ≡ Some n
-number_written field n h = number_names field (pos n) h.digits (sym h.value) ∙ (rw (lt-ltb n 256 h.small) refl)
+number_written field n h = number_names field (pos n) h.written ∙ (rw (lt-ltb n 256 h.small) refl)
+
+one_penalty : (y z : ℤ) (b : Bool) → nat_le (unsigned_abs y) 500000000 ≡ b → penalty_number y ≡ Some z → (y ≡ z) × Within 500000000 z
+one_penalty y z true e h =
+    let s : Some y ≡ Some z = sym (rw e refl) ∙ h in
+    let same : y ≡ z = cc in
+    (same, subst (Within 500000000) same (within_penalties y (leb-true (unsigned_abs y) 500000000 e)))
+one_penalty y z false e h = let s : None ≡ Some z = rw e at h in absurd (cc)
+
+penalty_by_numeral : (field : List ℕ) (z : ℤ) (b : Bool) → is_numeral (without_leading_sign field) ≡ b → penalty_of field ≡ Some z → IsPenalty field z
+unfolding penalty_of
+penalty_by_numeral field z true e h =
+    let one = one_penalty (signed_digits_value 10 field) z (nat_le (unsigned_abs (signed_digits_value 10 field)) 500000000) refl (rw e at h) in
+    record { written = record { digits = numeral (without_leading_sign field) e; value = one.0 }; small = one.1 }
+penalty_by_numeral field z false e h = let s : None ≡ Some z = rw e at h in absurd (cc)
+
+pub writes_penalty : (field : List ℕ) (z : ℤ) → penalty_of field ≡ Some z → IsPenalty field z
+writes_penalty field z h = penalty_by_numeral field z _ refl h
+
+pub penalty_written : (field : List ℕ) (z : ℤ) → IsPenalty field z → penalty_of field ≡ Some z
+penalty_written field z h = penalty_names field z h.written ∙ penalty_in z h.small
 
 pub reads_dimension : (field : List ℕ) (z : ℤ) → read_dimension field ≡ Ok z → IsDimension field z
 reads_dimension field z h = record { text = reads-ok field (Ok z) (sym h); fits = reads-fits field (Ok z) (sym h) }

@@ -2,6 +2,7 @@ pub mod LineLemmas
 pub mod FieldLemmas
 pub mod Numbers
 pub mod FieldLaws
+pub mod AmountLaws
 pub mod CommandLaws
 pub mod CauseForms
 pub mod FontCauses

@@ -1,15 +1,18 @@
 -- Numbers that a field writes.
-use Rattle.std.proofs.Common.{◌≡◌, ◌==◌, ℕ, ℤ, pos, negsuc, ◌<◌, ◌≤◌, ◌<ℤ◌, zero, suc, Bool, true, false, ◌&&◌, List, [], ◌∷◌, length, None, refl, arith, ⊎_elim, nat_lt, FitsSigned, rules}
+use Rattle.std.proofs.Common.{◌≡◌, ◌==◌, ℕ, ℤ, pos, negsuc, ◌<◌, ◌≤◌, ◌<ℤ◌, zero, suc, Bool, true, false, ◌&&◌, List, [], ◌∷◌, length, Option, Some, None, refl, ap, sym, ◌∙◌, subst, arith, ⊎_elim, nat_lt, unsigned_abs, FitsSigned, rules}
 use Rattle.std.specs.Int.{w64}
+use Rattle.std.specs.Option.{SomeIff}
 use Rattle.std.specs.List.{list_all}
 use Rattle.std.specs.Char.{digit_value}
 use Rattle.std.specs.Str.{IsUtf8, IsAscii}
 use Rattle.std.specs.Str.Parse.{IsNumeral, AllDigits, without_leading_sign, signed_digits_value}
 use Rattle.std.proofs.lemmas.Str.{IsUtf8-from_ascii}
 use Rattle.std.proofs.lemmas.Str.Parse.{digit_from_value}
-use Rattle.std.proofs.lemmas.Bool.{ltb-true, lt-ltb, le-ltb, eqb-true, cases_lt}
-use Rattle.std.proofs.lemmas.Int.{ints}
-use Rattle.boxglue.specs.Reading.{number_of, small_number, is_numeral}
+use Rattle.std.proofs.lemmas.Bool.{ltb-true, lt-ltb, le-ltb, le-leb, lt-leb, eqb-true, cases_lt}
+use Rattle.std.proofs.lemmas.Int.{ints, fits_signed_from_abs}
+use Rattle.scaled_core.specs.Dimensions.{Within}
+use Rattle.boxglue.specs.Grammar.{IsInteger}
+use Rattle.boxglue.specs.Reading.{number_of, small_number, penalty_of, penalty_number, is_numeral}
 
 abbrev is_decimal : ℕ → Bool
 is_decimal c = nat_lt (digit_value c) 10
@@ -61,14 +64,27 @@ number_ascii : (field : List ℕ) → IsNumeral 10 (without_leading_sign field) 
 number_ascii [] h = λ i. omega arith
 number_ascii (c ∷ cs) h = signed_ascii c cs (c == 45) (c == 43) refl refl h
 
-by_test : (field : List ℕ) (b : Bool) → is_numeral (without_leading_sign field) ≡ b → (IsNumeral 10 (without_leading_sign field) → small_number (signed_digits_value 10 field) ≡ None) → number_of field ≡ None
-unfolding number_of
-by_test field true e h = rw e (h (numeral (without_leading_sign field) e))
-by_test field false e h = rw e refl
+-- what is no text writes no number
+pub not_text : (field : List ℕ) → (IsUtf8 field → ⊥) → (z : ℤ) → IsInteger field z → FitsSigned w64 z → ⊥
+not_text field h z is fits = h (IsUtf8-from_ascii field (number_ascii field is.digits))
 
--- what is no text writes none
-pub not_text : (field : List ℕ) → (IsUtf8 field → ⊥) → number_of field ≡ None
-not_text field h = by_test field _ refl (λ n. absurd (h (IsUtf8-from_ascii field (number_ascii field n))))
+same_fits : (y z : ℤ) → y ≡ z → FitsSigned w64 z → FitsSigned w64 y
+same_fits y z e h = subst (FitsSigned w64) (sym e) h
+
+-- nor does what is no number of 64 bits
+pub not_number : (field : List ℕ) → (IsNumeral 10 (without_leading_sign field) × FitsSigned w64 (signed_digits_value 10 field) → ⊥) → (z : ℤ) → IsInteger field z → FitsSigned w64 z → ⊥
+not_number field h z is fits = h (is.digits, same_fits (signed_digits_value 10 field) z is.value fits)
+
+-- a numeral writes its number
+pub integer_named : (field : List ℕ) (z : ℤ) → IsNumeral 10 (without_leading_sign field) → z ≡ signed_digits_value 10 field → IsInteger field z
+integer_named field z n e = record { digits = n; value = sym e }
+
+pub ruleset integers = (not_text, not_number, integer_named)
+
+by_test : (field : List ℕ) (b : Bool) → is_numeral (without_leading_sign field) ≡ b → (IsInteger field (signed_digits_value 10 field) → small_number (signed_digits_value 10 field) ≡ None) → number_of field ≡ None
+unfolding number_of
+by_test field true e h = rw e (h (record { digits = numeral (without_leading_sign field) e; value = refl }))
+by_test field false e h = rw e refl
 
 fits_small : (n : ℕ) → n < 256 → FitsSigned w64 (pos n)
 fits_small n h = search rules
@@ -77,17 +93,63 @@ too_large : (z : ℤ) → (FitsSigned w64 z → ⊥) → small_number z ≡ None
 too_large (negsuc n) h = refl
 too_large (pos n) h = ⊎_elim (λ (small : n < 256). absurd (h (fits_small n small))) (λ (large : 256 ≤ n). rw (le-ltb n 256 large) refl) (cases_lt n 256)
 
--- nor does what is no number of 64 bits
-pub not_number : (field : List ℕ) → (IsNumeral 10 (without_leading_sign field) × FitsSigned w64 (signed_digits_value 10 field) → ⊥) → number_of field ≡ None
-not_number field h = by_test field _ refl (λ n. too_large (signed_digits_value 10 field) (λ fits. h (n, fits)))
+-- what writes no number of 64 bits writes none from 0 to 255
+pub no_integer : (field : List ℕ) → ((z : ℤ) → IsInteger field z → FitsSigned w64 z → ⊥) → number_of field ≡ None
+no_integer field h = by_test field _ refl (λ is. too_large (signed_digits_value 10 field) (λ fits. h (signed_digits_value 10 field) is fits))
 
--- a numeral writes its number, where that is small
-pub number_names : (field : List ℕ) (z : ℤ) → IsNumeral 10 (without_leading_sign field) → z ≡ signed_digits_value 10 field → number_of field ≡ small_number z
+-- a field writes its number, where that is small
+pub number_names : (field : List ℕ) (z : ℤ) → IsInteger field z → number_of field ≡ small_number z
 unfolding number_of
-number_names field z n e = rw (numeral_passes (without_leading_sign field) n, e) refl
+number_names field z is = rw (numeral_passes (without_leading_sign field) is.digits, is.value) refl
 
 pub negative : (z : ℤ) → z <ℤ pos 0 → small_number z ≡ None
 negative (negsuc n) h = refl
 negative (pos n) h = absurd (omega (arith, ints))
 
-pub ruleset numbers = (not_text, not_number, number_names, negative)
+pub ruleset numbers = (no_integer, number_names, negative)
+
+penalty_by : (field : List ℕ) (b : Bool) → is_numeral (without_leading_sign field) ≡ b → (IsInteger field (signed_digits_value 10 field) → penalty_number (signed_digits_value 10 field) ≡ None) → penalty_of field ≡ None
+unfolding penalty_of
+penalty_by field true e h = rw e (h (record { digits = numeral (without_leading_sign field) e; value = refl }))
+penalty_by field false e h = rw e refl
+
+-- an absolute value in the range of penalties
+pub within_penalties : (z : ℤ) → unsigned_abs z ≤ 500000000 → Within 500000000 z
+within_penalties (pos n) h = record { low = omega (arith, ints); high = omega (arith, ints) }
+within_penalties (negsuc n) h = record { low = omega (arith, ints); high = omega (arith, ints) }
+
+pub penalty_within : (z : ℤ) → Within 500000000 z → unsigned_abs z ≤ 500000000
+penalty_within (pos n) h = omega (arith, ints, h.low, h.high)
+penalty_within (negsuc n) h = omega (arith, ints, h.low, h.high)
+
+fits_penalty : (z : ℤ) → unsigned_abs z ≤ 500000000 → FitsSigned w64 z
+fits_penalty z h = fits_signed_from_abs w64 z (omega arith)
+
+no_small_penalty : (z : ℤ) → (Within 500000000 z → ⊥) → penalty_number z ≡ None
+no_small_penalty z h = ⊎_elim
+    (λ (large : 500000000 < unsigned_abs z). rw (lt-leb (unsigned_abs z) 500000000 large) refl)
+    (λ (small : unsigned_abs z ≤ 500000000). absurd (h (within_penalties z small)))
+    (cases_lt 500000000 (unsigned_abs z))
+
+-- what writes no number of 64 bits writes none of a penalty
+pub no_integer_penalty : (field : List ℕ) → ((z : ℤ) → IsInteger field z → FitsSigned w64 z → ⊥) → penalty_of field ≡ None
+no_integer_penalty field h = penalty_by field _ refl
+    (λ is. no_small_penalty (signed_digits_value 10 field) (λ within. h (signed_digits_value 10 field) is (fits_penalty (signed_digits_value 10 field) (penalty_within (signed_digits_value 10 field) within))))
+
+-- a field writes its number, where that is in the range of penalties
+pub penalty_names : (field : List ℕ) (z : ℤ) → IsInteger field z → penalty_of field ≡ penalty_number z
+unfolding penalty_of
+penalty_names field z is = rw (numeral_passes (without_leading_sign field) is.digits, is.value) refl
+
+pub penalty_in : (z : ℤ) → Within 500000000 z → penalty_number z ≡ Some z
+penalty_in z h = rw (le-leb (unsigned_abs z) 500000000 (penalty_within z h)) refl
+
+-- what `Number::try_new` gives
+penalty_given : (z : ℤ) (o : Option ℤ) → SomeIff o (Within 500000000 z) z → o ≡ penalty_number z
+penalty_given z None h = sym (no_small_penalty z h)
+penalty_given z (Some x) h = ap Some h.1 ∙ sym (penalty_in z h.0)
+
+pub penalty_tried : (field : List ℕ) (z : ℤ) (o : Option ℤ) → IsInteger field z → SomeIff o (Within 500000000 z) z → o ≡ penalty_of field
+penalty_tried field z o is h = penalty_given z o h ∙ sym (penalty_names field z is)
+
+pub ruleset penalties = (no_integer_penalty, penalty_tried)

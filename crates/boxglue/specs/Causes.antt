@@ -1,6 +1,6 @@
 -- What is wrong with a line that says no command (own).
 use Rattle.std.specs.Prelude.{◌≡◌, ◌⊎◌, ℕ, ℤ, true, false, List, [], ◌∷◌, ◌++◌, codes, Some}
-use Rattle.std.specs.List.{list_all}
+use Rattle.std.specs.List.{Contains, list_all}
 use Rattle.node_core.specs.declared.tree.RuleSize.{RuleSize}
 use Rattle.job_core.specs.declared.command.Command.{Command}
 use Rattle.boxglue.specs.declared.cause.Cause.{Cause}
@@ -19,9 +19,13 @@ SaysSome fields = (command : Command) × Says fields command
 abbrev pub Begins : List (List ℕ) → Type 0
 Begins fields = (more : List (List ℕ)) × SaysSome (fields ++ more)
 
+-- a word that stands behind others: a keyword or the name of a parameter
+abbrev pub IsInnerWord : List ℕ → Type 0
+IsInnerWord field = Contains (codes "at" ∷ codes "to" ∷ codes "spread" ∷ codes "into" ∷ codes "plus" ∷ codes "minus" ∷ codes "boxmaxdepth" ∷ []) field
+
 -- one of the words of the grammar of fields, to which `text` does not belong
 abbrev pub IsWord : List ℕ → Type 0
-IsWord field = ((name : Name) × (name_of field ≡ Some name)) ⊎ ((field ≡ codes "into") ⊎ (field ≡ codes "at"))
+IsWord field = ((name : Name) × (name_of field ≡ Some name)) ⊎ IsInnerWord field
 
 -- a field that writes some number from 0 to 255
 abbrev pub GivesNumber : List ℕ → Type 0
@@ -64,8 +68,8 @@ pub record HasExtra (fields : List (List ℕ)) : Type 0 where
   pub whole : SaysSome front
   pub bad : Begins (front ++ field ∷ []) → ⊥
 
--- the cause holds of the fields. Dimension: the bad field is no dimension that fits. Number: no number from 0 to 255; or, where the size
--- of a font belongs, a dimension that is no such size
+-- the cause holds of the fields. Dimension: the bad field is no dimension that fits. Number: it stands where a number belongs, 0 to 255 or
+-- that of a penalty, and is none; or, where the size of a font belongs, it is a dimension that is no such size
 abbrev pub IsFieldCause : Cause → List (List ℕ) → Type 0
 IsFieldCause Byte fields = ⊥
 IsFieldCause Word fields = HasBad IsWord fields

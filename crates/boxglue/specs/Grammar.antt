@@ -1,20 +1,36 @@
 -- The grammar of the commands of a script (own).
-use Rattle.std.specs.Prelude.{◌≡◌, ◌<◌, ◌&&◌, ◌||◌, ◌==◌, ℕ, ℤ, pos, Bool, true, nat_le, List, [], ◌∷◌, codes, length, Option, None, Some}
+use Rattle.std.specs.Prelude.{◌≡◌, ◌⊎◌, ◌<◌, ◌&&◌, ◌||◌, ◌==◌, ℕ, ℤ, pos, Bool, true, nat_le, List, [], ◌∷◌, ◌++◌, codes, length, Option, None, Some}
 use Rattle.std.specs.List.{list_all}
 use Rattle.std.specs.Str.Parse.{IsNumeral, without_leading_sign, signed_digits_value}
-use Rattle.scaled_core.specs.Dimensions.{Fits}
+use Rattle.scaled_core.specs.Dimensions.{Fits, Within}
 use Rattle.scaled_core.specs.DimensionTexts.{IsDimensionText}
 use Rattle.tfm_core.specs.Scaling.{IsFontSize}
+use Rattle.node_core.specs.declared.tree.Order.{Order}
+use Rattle.node_core.specs.declared.tree.Order.TheVariants.{Normal, Fil, Fill, Filll}
 use Rattle.node_core.specs.declared.tree.RuleSize.{RuleSize}
 use Rattle.node_core.specs.declared.tree.RuleSize.TheVariants.{Running, Fixed}
+use Rattle.pack_core.specs.declared.pack.Target.{Target}
+use Rattle.pack_core.specs.declared.pack.Target.TheVariants.{Natural, To, Spread}
+use Rattle.job_core.specs.declared.command.BoxForm.{BoxForm}
+use Rattle.job_core.specs.declared.command.BoxForm.TheVariants.{Hbox, Vbox, Vtop}
+use Rattle.job_core.specs.declared.command.Parameter.TheVariants.{BoxMaxDepth}
 use Rattle.job_core.specs.declared.command.Command.{Command}
-use Rattle.job_core.specs.declared.command.Command.TheVariants.{LoadFont, UseFont, OpenHbox, End, Text, Character, Rule, Kern, Measure, Void, Ship}
+use Rattle.job_core.specs.declared.command.Command.TheVariants.{LoadFont, UseFont, Open, End, Text, Character, Rule, Kern, Glue, Penalty, Measure, Void, Set, Ship}
 
--- a field that writes this number, 0 to 255, by an optional sign and digits: that of a register, of a font's slot or of a character
-pub record IsNumber (field : List ℕ) (n : ℕ) : Type 0 where
+-- a field that writes this whole number by an optional sign and digits
+pub record IsInteger (field : List ℕ) (z : ℤ) : Type 0 where
   pub digits : IsNumeral 10 (without_leading_sign field)
-  pub value : signed_digits_value 10 field ≡ pos n
+  pub value : signed_digits_value 10 field ≡ z
+
+-- one from 0 to 255: that of a register, of a font's slot or of a character
+pub record IsNumber (field : List ℕ) (n : ℕ) : Type 0 where
+  pub written : IsInteger field (pos n)
   pub small : n < 256
+
+-- one of absolute value at most 500,000,000: that of a penalty
+pub record IsPenalty (field : List ℕ) (z : ℤ) : Type 0 where
+  pub written : IsInteger field z
+  pub small : Within 500000000 z
 
 -- a field that writes this dimension, which fits
 pub record IsDimension (field : List ℕ) (z : ℤ) : Type 0 where
@@ -50,13 +66,45 @@ abbrev pub IsChosenSize : List (List ℕ) → Option ℤ → Type 0
 IsChosenSize fields None = fields ≡ []
 IsChosenSize fields (Some z) = (d : List ℕ) × (fields ≡ codes "at" ∷ d ∷ []) × IsSizeOfFont d z
 
+-- how the command is called that opens a list of this form
+abbrev pub form_text : BoxForm → List ℕ
+form_text Hbox = codes "hbox"
+form_text Vbox = codes "vbox"
+form_text Vtop = codes "vtop"
+
+-- how large a box is to be: nothing for its natural size, or `to` or `spread` and a dimension
+abbrev pub IsTarget : List (List ℕ) → Target → Type 0
+IsTarget fields Natural = fields ≡ []
+IsTarget fields (To z) = (d : List ℕ) × (fields ≡ codes "to" ∷ d ∷ []) × IsDimension d z
+IsTarget fields (Spread z) = (d : List ℕ) × (fields ≡ codes "spread" ∷ d ∷ []) × IsDimension d z
+
+-- a field that writes a number with this unit: its value is that of the same number in points, and fits
+abbrev pub IsNumberOf : List ℕ → List ℕ → ℤ → Type 0
+IsNumberOf unit field z = (number : List ℕ) × (field ≡ number ++ unit) × IsDimension (number ++ codes "pt") z
+
+-- a field that writes so much stretch or shrink of this order: a dimension for order normal, else a number with a unit of its own
+-- (TeX: The Program, part 26, scan_glue)
+abbrev pub IsAmount : List ℕ → Order → ℤ → Type 0
+IsAmount field Normal z = IsDimension field z
+IsAmount field Fil z = IsNumberOf (codes "fil") field z
+IsAmount field Fill z = IsNumberOf (codes "fill") field z
+IsAmount field Filll z = IsNumberOf (codes "filll") field z
+
+-- the stretch or shrink of a glue behind its word: nothing for 0 of order normal, or the word and an amount
+abbrev pub IsPart : List ℕ → List (List ℕ) → Order → ℤ → Type 0
+IsPart word fields order z =
+    ((fields ≡ []) × (order ≡ Normal) × (z ≡ pos 0))
+    ⊎ ((x : List ℕ) × (fields ≡ word ∷ x ∷ []) × IsAmount x order z)
+
 -- the fields of a line say this command; those of a line of text are not looked at
 abbrev pub Says : List (List ℕ) → Command → Type 0
 Says fields (LoadFont load) =
     (s : List ℕ) × (more : List (List ℕ)) × (fields ≡ codes "font" ∷ s ∷ load.name ∷ more)
     × IsNumber s load.slot × IsName load.name × IsChosenSize more load.size
 Says fields (UseFont n) = (s : List ℕ) × (fields ≡ codes "use" ∷ s ∷ []) × IsNumber s n
-Says fields (OpenHbox n) = (r : List ℕ) × (fields ≡ codes "hbox" ∷ codes "into" ∷ r ∷ []) × IsNumber r n
+Says fields (Open opening) =
+    (size : List (List ℕ)) × (r : List ℕ) × (fields ≡ form_text opening.form ∷ (size ++ codes "into" ∷ r ∷ []))
+    × IsTarget size opening.target × IsNumber r opening.into
 Says fields End = fields ≡ codes "end" ∷ []
 Says fields (Text text) = ⊥
 Says fields (Character n) = (c : List ℕ) × (fields ≡ codes "char" ∷ c ∷ []) × IsNumber c n
@@ -64,6 +112,12 @@ Says fields (Rule sizes) =
     (w : List ℕ) × (h : List ℕ) × (d : List ℕ) × (fields ≡ codes "rule" ∷ w ∷ h ∷ d ∷ [])
     × IsSize w sizes.width × IsSize h sizes.height × IsSize d sizes.depth
 Says fields (Kern z) = (d : List ℕ) × (fields ≡ codes "kern" ∷ d ∷ []) × IsDimension d z
+Says fields (Glue glue) =
+    (d : List ℕ) × (plus : List (List ℕ)) × (minus : List (List ℕ)) × (fields ≡ codes "glue" ∷ d ∷ (plus ++ minus))
+    × IsDimension d glue.width × IsPart (codes "plus") plus glue.stretch_order glue.stretch
+    × IsPart (codes "minus") minus glue.shrink_order glue.shrink
+Says fields (Penalty z) = (p : List ℕ) × (fields ≡ codes "penalty" ∷ p ∷ []) × IsPenalty p z
 Says fields (Measure n) = (r : List ℕ) × (fields ≡ codes "measure" ∷ r ∷ []) × IsNumber r n
 Says fields (Void n) = (r : List ℕ) × (fields ≡ codes "void" ∷ r ∷ []) × IsNumber r n
+Says fields (Set (BoxMaxDepth z)) = (d : List ℕ) × (fields ≡ codes "set" ∷ codes "boxmaxdepth" ∷ d ∷ []) × IsDimension d z
 Says fields (Ship n) = (r : List ℕ) × (fields ≡ codes "ship" ∷ r ∷ []) × IsNumber r n

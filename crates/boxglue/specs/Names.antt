@@ -2,19 +2,37 @@
 use Rattle.std.specs.Prelude.{ℕ, if◌then◌else◌, List, Option, None, Some, codes}
 use Rattle.std.specs.Str.{bytes_eq}
 use Rattle.boxglue.specs.declared.name.Name.{Name}
-use Rattle.boxglue.specs.declared.name.Name.TheVariants.{Font, Use, Hbox, End, Character, Rule, Kern, Measure, Void, Ship}
+use Rattle.boxglue.specs.declared.name.Name.TheVariants.{Font, Use, Hbox, Vbox, Vtop, End, Character, Rule, Kern, Glue, Penalty, Measure, Void, Set, Ship}
 
--- the name that a word is
-unfoldable pub name_of : List ℕ → Option Name
-name_of word =
-    if bytes_eq word (codes "font") then Some Font
-    else (if bytes_eq word (codes "use") then Some Use
-    else (if bytes_eq word (codes "hbox") then Some Hbox
+-- the name of a command of boxes and registers that a word is
+unfoldable pub box_name : List ℕ → Option Name
+box_name word =
+    if bytes_eq word (codes "hbox") then Some Hbox
+    else (if bytes_eq word (codes "vbox") then Some Vbox
+    else (if bytes_eq word (codes "vtop") then Some Vtop
     else (if bytes_eq word (codes "end") then Some End
-    else (if bytes_eq word (codes "char") then Some Character
-    else (if bytes_eq word (codes "rule") then Some Rule
-    else (if bytes_eq word (codes "kern") then Some Kern
     else (if bytes_eq word (codes "measure") then Some Measure
     else (if bytes_eq word (codes "void") then Some Void
     else (if bytes_eq word (codes "ship") then Some Ship
-    else None)))))))))
+    else None))))))
+
+-- the name of a command of fonts, items and parameters that a word is
+unfoldable pub item_name : List ℕ → Option Name
+item_name word =
+    if bytes_eq word (codes "font") then Some Font
+    else (if bytes_eq word (codes "use") then Some Use
+    else (if bytes_eq word (codes "char") then Some Character
+    else (if bytes_eq word (codes "rule") then Some Rule
+    else (if bytes_eq word (codes "kern") then Some Kern
+    else (if bytes_eq word (codes "glue") then Some Glue
+    else (if bytes_eq word (codes "penalty") then Some Penalty
+    else (if bytes_eq word (codes "set") then Some Set
+    else None)))))))
+
+abbrev pub name_or : Option Name → Option Name → Option Name
+name_or None later = later
+name_or (Some name) later = Some name
+
+-- the name that a word is
+unfoldable pub name_of : List ℕ → Option Name
+name_of word = name_or (box_name word) (item_name word)

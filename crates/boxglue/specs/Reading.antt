@@ -1,18 +1,26 @@
 -- What the functions that read a script compute (own).
-use Rattle.std.specs.Prelude.{◌≡◌, ◌==◌, ℕ, ℤ, pos, negsuc, Bool, not, ◌&&◌, if◌then◌else◌, List, [], ◌∷◌, ◌++◌, ◌+◌, Option, None, Some, Result, Ok, Err, codes, drop, take, length, nat_lt}
+use Rattle.std.specs.Prelude.{◌≡◌, ◌==◌, ℕ, ℤ, pos, negsuc, Bool, not, ◌&&◌, if◌then◌else◌, List, [], ◌∷◌, ◌++◌, ◌+◌, ◌-◌, Option, None, Some, Result, Ok, Err, codes, drop, take, length, nat_lt, nat_le, unsigned_abs}
 use Rattle.std.specs.List.{prefix_len, list_all}
 use Rattle.std.specs.Char.{digit_value}
 use Rattle.std.specs.Str.{bytes_eq}
 use Rattle.std.specs.Str.Parse.{without_leading_sign, signed_digits_value}
 use Rattle.scaled_core.specs.declared.fault.DimenFault.{DimenFault}
 use Rattle.scaled_core.specs.ParsedTexts.{read_dimension}
+use Rattle.node_core.specs.declared.tree.Order.{Order}
+use Rattle.node_core.specs.declared.tree.Order.TheVariants.{Normal, Fil, Fill, Filll}
 use Rattle.node_core.specs.declared.tree.RuleSize.{RuleSize}
 use Rattle.node_core.specs.declared.tree.RuleSize.TheVariants.{Running, Fixed}
+use Rattle.pack_core.specs.declared.pack.Target.{Target}
+use Rattle.pack_core.specs.declared.pack.Target.TheVariants.{Natural, To, Spread}
+use Rattle.job_core.specs.declared.command.BoxForm.{BoxForm}
+use Rattle.job_core.specs.declared.command.BoxForm.TheVariants as forms
+use Rattle.job_core.specs.declared.command.Parameter.TheVariants.{BoxMaxDepth}
 use Rattle.job_core.specs.declared.command.Command.{Command}
-use Rattle.job_core.specs.declared.command.Command.TheVariants.{LoadFont, UseFont, OpenHbox, End, Text, Character, Rule, Kern, Measure, Void, Ship}
+use Rattle.job_core.specs.declared.command.Command.TheVariants.{LoadFont, UseFont, Open, End, Text, Character, Rule, Kern, Glue, Penalty, Measure, Void, Set, Ship}
 use Rattle.boxglue.specs.declared.cause.Cause.{Cause}
 use Rattle.boxglue.specs.declared.cause.Cause.TheVariants as causes
 use Rattle.boxglue.specs.declared.cause.Cause.TheVariants.{Byte, Word, Missing, Extra, Number, Dimension}
+use Rattle.boxglue.specs.declared.amounts.Amount.{Amount}
 use Rattle.boxglue.specs.declared.script.Line.{Line}
 use Rattle.boxglue.specs.declared.script.ScriptFault.{ScriptFault}
 use Rattle.boxglue.specs.declared.script.ScriptFault.TheVariants.{BadScript}
@@ -75,12 +83,28 @@ small_number (negsuc n) = None
 unfoldable pub number_of : List ℕ → Option ℕ
 number_of field = if is_numeral (without_leading_sign field) then small_number (signed_digits_value 10 field) else None
 
+-- a number that a penalty has
+abbrev pub penalty_number : ℤ → Option ℤ
+penalty_number z = if nat_le (unsigned_abs z) 500000000 then Some z else None
+
+-- the number of a penalty that a field writes
+unfoldable pub penalty_of : List ℕ → Option ℤ
+penalty_of field = if is_numeral (without_leading_sign field) then penalty_number (signed_digits_value 10 field) else None
+
 abbrev pub as_number : Result (List ℕ) Cause → Result ℕ Cause
 as_number (Err cause) = Err cause
 as_number (Ok field) = some_or Number (number_of field)
 
 unfoldable pub number_first : List (List ℕ) → Result ℕ Cause
 number_first fields = as_number (first_of fields)
+
+abbrev pub as_penalty : Result (List ℕ) Cause → Result ℤ Cause
+as_penalty (Err cause) = Err cause
+as_penalty (Ok field) = some_or Number (penalty_of field)
+
+-- the first of some fields as the number of a penalty
+unfoldable pub penalty_first : List (List ℕ) → Result ℤ Cause
+penalty_first fields = as_penalty (first_of fields)
 
 abbrev pub dimension_or : Result ℤ DimenFault → Result ℤ Cause
 dimension_or (Err fault) = Err Dimension
@@ -137,6 +161,41 @@ as_size (Ok field) = size_of field
 unfoldable pub size_first : List (List ℕ) → Result RuleSize Cause
 size_first fields = as_size (first_of fields)
 
+-- what stands before a unit, if a field ends with it
+unfoldable pub before_unit : List ℕ → List ℕ → Option (List ℕ)
+before_unit unit field = if bytes_eq (drop (length field - length unit) field) unit then Some (take (length field - length unit) field) else None
+
+abbrev pub amount : Order → ℤ → Amount
+amount order size = record { size = size; order = order }
+
+-- the amount of that order whose value is that of a dimension
+unfoldable pub amount_in : Order → List ℕ → Result Amount Cause
+amount_in order text = map_ok (amount order) (dimension_or (read_dimension text))
+
+-- the amount of that order whose value is that of a number in points
+abbrev pub number_in_points : Order → List ℕ → Result Amount Cause
+number_in_points order number = amount_in order (number ++ codes "pt")
+
+abbrev pub amount_or : Order → Option (List ℕ) → Result Amount Cause → Result Amount Cause
+amount_or order None other = other
+amount_or order (Some number) other = number_in_points order number
+
+-- the amount of stretch or shrink that a field writes
+unfoldable pub amount_of : List ℕ → Result Amount Cause
+amount_of field =
+    amount_or Filll (before_unit (codes "filll") field)
+    (amount_or Fill (before_unit (codes "fill") field)
+    (amount_or Fil (before_unit (codes "fil") field)
+    (amount_in Normal field)))
+
+abbrev pub as_amount : Result (List ℕ) Cause → Result Amount Cause
+as_amount (Err cause) = Err cause
+as_amount (Ok field) = amount_of field
+
+-- the first of some fields as an amount of stretch or shrink
+unfoldable pub amount_first : List (List ℕ) → Result Amount Cause
+amount_first fields = as_amount (first_of fields)
+
 -- no field is left
 abbrev pub ended : List (List ℕ) → Result (Unit {0}) Cause
 ended [] = Ok tt
@@ -159,8 +218,76 @@ abbrev pub right_and : {A : Type 0} → Result (Unit {0}) Cause → Result A Cau
 right_and (Err cause) after = Err cause
 right_and (Ok u) after = after
 
-unfoldable pub hbox_of : List (List ℕ) → Result Command Cause
-hbox_of fields = right_and (word_first (codes "into") fields) (map_ok OpenHbox (last_number (rest_of fields)))
+-- what follows, by what was read before it, if that is right
+abbrev pub and_then : {A B : Type 0} → Result A Cause → (A → Result B Cause) → Result B Cause
+and_then (Err cause) more = Err cause
+and_then (Ok x) more = more x
+
+unfoldable pub last_penalty : List (List ℕ) → Result ℤ Cause
+last_penalty fields = and_right (penalty_first fields) (ended (rest_of fields))
+
+unfoldable pub last_amount : List (List ℕ) → Result Amount Cause
+last_amount fields = and_right (amount_first fields) (ended (rest_of fields))
+
+abbrev pub opening : BoxForm → Target → ℕ → Command
+opening form target register = Open (record { form = form; target = target; into = register })
+
+-- the opening of a list with this register as the last field
+unfoldable pub opened : BoxForm → Target → List (List ℕ) → Result Command Cause
+opened form target fields = map_ok (opening form target) (last_number fields)
+
+-- and with `into` before it
+unfoldable pub opened_into : BoxForm → Target → List (List ℕ) → Result Command Cause
+opened_into form target fields = right_and (word_first (codes "into") fields) (opened form target (rest_of fields))
+
+-- and with a dimension before that
+unfoldable pub opened_sized : BoxForm → (ℤ → Target) → List (List ℕ) → Result Command Cause
+opened_sized form sized fields = and_then (dimension_first fields) (λ z. opened_into form (sized z) (rest_of fields))
+
+-- what a word behind the name of a form and the fields behind that say
+abbrev pub opening_by : BoxForm → Result (List ℕ) Cause → List (List ℕ) → Result Command Cause
+opening_by form (Err cause) rest = Err cause
+opening_by form (Ok word) rest =
+    if bytes_eq word (codes "into") then opened form Natural rest
+    else (if bytes_eq word (codes "to") then opened_sized form To rest
+    else (if bytes_eq word (codes "spread") then opened_sized form Spread rest
+    else Err Word))
+
+-- what the fields behind `hbox`, `vbox` or `vtop` say
+unfoldable pub opening_of : BoxForm → List (List ℕ) → Result Command Cause
+opening_of form fields = opening_by form (first_of fields) (rest_of fields)
+
+abbrev pub no_amount : Amount
+no_amount = amount Normal (pos 0)
+
+abbrev pub glue : ℤ → Amount → Amount → Command
+glue width stretch shrink =
+    Glue (record { width = width; stretch = stretch.size; stretch_order = stretch.order; shrink = shrink.size; shrink_order = shrink.order })
+
+-- a glue of that width and stretch, and its shrink as the last field
+unfoldable pub last_shrink_of : ℤ → Amount → List (List ℕ) → Result Command Cause
+last_shrink_of width stretch fields = map_ok (glue width stretch) (last_amount fields)
+
+-- what stands behind the stretch of a glue: nothing, or `minus` and its shrink
+unfoldable pub shrink_of : ℤ → Amount → List (List ℕ) → Result Command Cause
+shrink_of width stretch [] = Ok (glue width stretch no_amount)
+shrink_of width stretch (word ∷ rest) = if bytes_eq word (codes "minus") then last_shrink_of width stretch rest else Err Word
+
+-- what stands behind the width of a glue: nothing, or its stretch, its shrink or both
+unfoldable pub parts_of : ℤ → List (List ℕ) → Result Command Cause
+parts_of width [] = Ok (glue width no_amount no_amount)
+parts_of width (word ∷ rest) =
+    if bytes_eq word (codes "plus") then and_then (amount_first rest) (λ stretch. shrink_of width stretch (rest_of rest))
+    else (if bytes_eq word (codes "minus") then last_shrink_of width no_amount rest
+    else Err Word)
+
+-- what the fields behind `glue` say
+unfoldable pub glue_of : List (List ℕ) → Result Command Cause
+glue_of fields = and_then (dimension_first fields) (λ width. parts_of width (rest_of fields))
+
+-- what the fields behind `set` say
+unfoldable pub set_of : List (List ℕ) → Result Command Cause
+set_of fields = right_and (word_first (codes "boxmaxdepth") fields) (map_ok (λ z. Set (BoxMaxDepth z)) (last_dimension (rest_of fields)))
 
 -- the size behind the name of a font: none, or `at` and a size
 unfoldable pub chosen_size_of : List (List ℕ) → Result (Option ℤ) Cause
@@ -192,13 +319,18 @@ rule_of fields = rule_by (size_first fields) (size_first (rest_of fields)) (size
 unfoldable pub command_named : Name → List (List ℕ) → Result Command Cause
 command_named names.Font fields = font_of fields
 command_named names.Use fields = map_ok UseFont (last_number fields)
-command_named names.Hbox fields = hbox_of fields
+command_named names.Hbox fields = opening_of forms.Hbox fields
+command_named names.Vbox fields = opening_of forms.Vbox fields
+command_named names.Vtop fields = opening_of forms.Vtop fields
 command_named names.End fields = right_and (ended fields) (Ok End)
 command_named names.Character fields = map_ok Character (last_number fields)
 command_named names.Rule fields = rule_of fields
 command_named names.Kern fields = map_ok Kern (last_dimension fields)
+command_named names.Glue fields = glue_of fields
+command_named names.Penalty fields = map_ok Penalty (last_penalty fields)
 command_named names.Measure fields = map_ok Measure (last_number fields)
 command_named names.Void fields = map_ok Void (last_number fields)
+command_named names.Set fields = set_of fields
 command_named names.Ship fields = map_ok Ship (last_number fields)
 
 abbrev pub named_by : Option Name → List (List ℕ) → Result Command Cause

@@ -1,18 +1,22 @@
 //! The fields of a line, read from the left.
 
-ghost use Rattle.std.specs.Prelude.{◌≡◌, Ok, Err, IfOk, IfErr, IsTrue};
+ghost use Rattle.std.specs.Prelude.{◌≡◌, ℤ, Ok, Err, IfOk, IfErr, IfNone, IfSome, IsTrue, FitsSigned};
+ghost use Rattle.std.specs.Int.{w64};
 ghost use Rattle.std.specs.List.{list_all};
 ghost use Rattle.tfm_core.specs.NamedBytes.{IsFontName};
 ghost use Rattle.job_core.specs.declared.command.Command.TheVariants as commands;
-ghost use Rattle.boxglue.specs.Grammar.{is_name_byte};
+ghost use Rattle.boxglue.specs.Grammar.{IsInteger, is_name_byte};
 ghost use Rattle.boxglue.specs.ScriptLines.{fields_of};
-ghost use Rattle.boxglue.specs.Reading.{first_of, rest_of, word_first, number_of, number_first, dimension_first, size_of_font, size_of_font_first, is_short, is_name, name_first, size_of, size_first, ended, last_number, last_dimension, chosen_size_of, font_of, hbox_of, rule_of, command_named, command_of};
+ghost use Rattle.boxglue.specs.Reading.{first_of, rest_of, word_first, number_of, number_first, dimension_first, size_of_font, size_of_font_first, is_short, is_name, name_first, size_of, size_first, ended, last_number, last_dimension, chosen_size_of, font_of, penalty_of, penalty_first, last_penalty, amount_first, last_amount, opened, opened_into, opening_of, glue, shrink_of, last_shrink_of, parts_of, glue_of, set_of, rule_of, command_named, command_of};
 
+use crate::amounts::{Amount, amount_of};
 use crate::cause::Cause;
 use crate::lines::first_field;
 use crate::name::Name;
-use job_core::{Command, FontLoad, FontName, FontSize, Register};
-use node_core::{Rule, RuleSize};
+use job_core::{
+    BoxForm, Command, FontLoad, FontName, FontSize, Opening, Parameter, Register, Target,
+};
+use node_core::{Glue, Number, Rule, RuleSize};
 use scaled_core::{Dimen, parse_dimen};
 use std::alloc::{AllocError, Global};
 
@@ -77,6 +81,15 @@ impl<'a> Fields<'a> {
         number_of(self.field()?).ok_or(Cause::Number)
     }
 
+    /// The next field as the number of a penalty.
+    #[tactic(auto, unfolding(crate::specs::Reading::penalty_first))]
+    fn penalty(&mut self) -> Result<Number, Cause>
+        ensures value { result ≡ penalty_first (fields_of self.old.rest.now) }
+        ensures rest { fields_of self.new.rest.now ≡ rest_of (fields_of self.old.rest.now) }
+    {
+        penalty_of(self.field()?).ok_or(Cause::Number)
+    }
+
     /// The next field as a dimension.
     #[tactic(auto, unfolding(crate::specs::Reading::dimension_first))]
     fn dimen(&mut self) -> Result<Dimen, Cause>
@@ -120,6 +133,18 @@ impl<'a> Fields<'a> {
         size_of(self.field()?)
     }
 
+    /// The next field as an amount of stretch or shrink.
+    #[tactic(auto, unfolding(crate::specs::Reading::amount_first))]
+    fn amount(&mut self, alloc: Global) -> Result<Result<Amount, Cause>, AllocError>
+        ensures value { IfOk result (λ read. read ≡ amount_first (fields_of self.old.rest.now)) }
+        ensures rest { fields_of self.new.rest.now ≡ rest_of (fields_of self.old.rest.now) }
+    {
+        match self.field() {
+            Ok(field) => amount_of(alloc, field),
+            Err(cause) => Ok(Err(cause)),
+        }
+    }
+
     /// The next field, which is the last, as a number from 0 to 255.
     #[tactic(auto, unfolding(crate::specs::Reading::last_number))]
     fn last_number(&mut self) -> Result<u8, Cause>
@@ -145,6 +170,27 @@ impl<'a> Fields<'a> {
         let dimen = self.dimen()?;
         self.end()?;
         Ok(dimen)
+    }
+
+    /// The next field, which is the last, as the number of a penalty.
+    #[tactic(auto, unfolding(crate::specs::Reading::last_penalty))]
+    fn last_penalty(&mut self) -> Result<Number, Cause>
+        ensures { result ≡ last_penalty (fields_of self.old.rest.now) }
+    {
+        let number = self.penalty()?;
+        self.end()?;
+        Ok(number)
+    }
+
+    /// The next field, which is the last, as an amount of stretch or shrink.
+    #[tactic(auto, unfolding(crate::specs::Reading::last_amount))]
+    fn last_amount(&mut self, alloc: Global) -> Result<Result<Amount, Cause>, AllocError>
+        ensures { IfOk result (λ read. read ≡ last_amount (fields_of self.old.rest.now)) }
+    {
+        Ok(match self.amount(alloc)? {
+            Ok(amount) => self.end().map(|()| amount),
+            Err(cause) => Err(cause),
+        })
     }
 
     /// What stands behind the name of a font: nothing, or `at` and a size.
@@ -186,13 +232,115 @@ impl<'a> Fields<'a> {
         }
     }
 
-    /// What stands behind `hbox`.
-    #[tactic(auto, unfolding(crate::specs::Reading::hbox_of))]
-    fn hbox(&mut self) -> Result<Command, Cause>
-        ensures { result ≡ hbox_of (fields_of self.old.rest.now) }
+    /// What stands behind `hbox`, `vbox` or `vtop`: a size or none, and a register.
+    #[tactic(auto, unfolding(crate::specs::Reading::opening_of, crate::specs::Reading::opened_sized))]
+    fn opening(&mut self, form: BoxForm) -> Result<Command, Cause>
+        ensures { result ≡ opening_of form (fields_of self.old.rest.now) }
+    {
+        match self.field()? {
+            b"into" => self.opened(form, Target::Natural),
+            b"to" => {
+                let size = self.dimen()?;
+                self.opened_into(form, Target::To(size))
+            }
+            b"spread" => {
+                let more = self.dimen()?;
+                self.opened_into(form, Target::Spread(more))
+            }
+            _ => Err(Cause::Word),
+        }
+    }
+
+    /// The opening of a list, with `into` and a register as the last fields.
+    #[tactic(auto, unfolding(crate::specs::Reading::opened_into))]
+    fn opened_into(&mut self, form: BoxForm, target: Target) -> Result<Command, Cause>
+        ensures { result ≡ opened_into form target (fields_of self.old.rest.now) }
     {
         self.word(b"into")?;
-        Ok(Command::OpenHbox(self.last_register()?))
+        self.opened(form, target)
+    }
+
+    /// The opening of a list, with a register as the last field.
+    #[tactic(auto, unfolding(crate::specs::Reading::opened))]
+    fn opened(&mut self, form: BoxForm, target: Target) -> Result<Command, Cause>
+        ensures { result ≡ opened form target (fields_of self.old.rest.now) }
+    {
+        let into = self.last_register()?;
+        Ok(Command::Open(Opening { form, target, into }))
+    }
+
+    /// What stands behind `glue`.
+    #[tactic(auto, unfolding(crate::specs::Reading::glue_of))]
+    fn glue(&mut self, alloc: Global) -> Result<Result<Command, Cause>, AllocError>
+        ensures { IfOk result (λ read. read ≡ glue_of (fields_of self.old.rest.now)) }
+    {
+        match self.dimen() {
+            Ok(width) => self.glue_parts(alloc, width),
+            Err(cause) => Ok(Err(cause)),
+        }
+    }
+
+    /// What stands behind the width of a glue: nothing, or its stretch, its shrink or both.
+    #[tactic(auto, unfolding(crate::specs::Reading::parts_of))]
+    fn glue_parts(
+        &mut self,
+        alloc: Global,
+        width: Dimen,
+    ) -> Result<Result<Command, Cause>, AllocError>
+        ensures { IfOk result (λ read. read ≡ parts_of width (fields_of self.old.rest.now)) }
+    {
+        match self.field() {
+            Ok(b"plus") => match self.amount(alloc)? {
+                Ok(stretch) => self.shrink(alloc, width, stretch),
+                Err(cause) => Ok(Err(cause)),
+            },
+            Ok(b"minus") => self.last_shrink(alloc, width, Amount::none()),
+            Ok(_) => Ok(Err(Cause::Word)),
+            Err(_) => Ok(Ok(glue(width, Amount::none(), Amount::none()))),
+        }
+    }
+
+    /// What stands behind the stretch of a glue: nothing, or `minus` and its shrink.
+    #[tactic(auto, unfolding(crate::specs::Reading::shrink_of))]
+    fn shrink(
+        &mut self,
+        alloc: Global,
+        width: Dimen,
+        stretch: Amount,
+    ) -> Result<Result<Command, Cause>, AllocError>
+        ensures { IfOk result (λ read. read ≡ shrink_of width stretch (fields_of self.old.rest.now)) }
+    {
+        match self.field() {
+            Ok(b"minus") => self.last_shrink(alloc, width, stretch),
+            Ok(_) => Ok(Err(Cause::Word)),
+            Err(_) => Ok(Ok(glue(width, stretch, Amount::none()))),
+        }
+    }
+
+    /// A glue of that width and stretch, and its shrink as the last field.
+    #[tactic(auto, unfolding(crate::specs::Reading::last_shrink_of))]
+    fn last_shrink(
+        &mut self,
+        alloc: Global,
+        width: Dimen,
+        stretch: Amount,
+    ) -> Result<Result<Command, Cause>, AllocError>
+        ensures { IfOk result (λ read. read ≡ last_shrink_of width stretch (fields_of self.old.rest.now)) }
+    {
+        Ok(match self.last_amount(alloc)? {
+            Ok(shrink) => Ok(glue(width, stretch, shrink)),
+            Err(cause) => Err(cause),
+        })
+    }
+
+    /// What stands behind `set`.
+    #[tactic(auto, unfolding(crate::specs::Reading::set_of))]
+    fn set(&mut self) -> Result<Command, Cause>
+        ensures { result ≡ set_of (fields_of self.old.rest.now) }
+    {
+        self.word(b"boxmaxdepth")?;
+        let depth = self.last_dimen()?;
+        Ok(Command::Set(Parameter::BoxMaxDepth(depth)))
     }
 
     /// What stands behind `rule`.
@@ -219,13 +367,18 @@ impl<'a> Fields<'a> {
         Ok(match name {
             Name::Font => self.font(alloc)?,
             Name::Use => self.last_number().map(Command::UseFont),
-            Name::Hbox => self.hbox(),
+            Name::Hbox => self.opening(BoxForm::Hbox),
+            Name::Vbox => self.opening(BoxForm::Vbox),
+            Name::Vtop => self.opening(BoxForm::Vtop),
             Name::End => self.end().map(|()| Command::End),
             Name::Character => self.last_number().map(Command::Character),
             Name::Rule => self.rule(),
             Name::Kern => self.last_dimen().map(Command::Kern),
+            Name::Glue => self.glue(alloc)?,
+            Name::Penalty => self.last_penalty().map(Command::Penalty),
             Name::Measure => self.last_register().map(Command::Measure),
             Name::Void => self.last_register().map(Command::Void),
+            Name::Set => self.set(),
             Name::Ship => self.last_register().map(Command::Ship),
         })
     }
@@ -322,15 +475,25 @@ fn size_of(field: &[u8]) -> Result<RuleSize, Cause>
     }
 }
 
-/// The number that a field writes: an optional sign and digits, 0 to 255.
+/// A glue of that width, stretch and shrink.
+fn glue(width: Dimen, stretch: Amount, shrink: Amount) -> Command
+    ensures { result ≡ glue width stretch shrink }
+{
+    Command::Glue(Glue {
+        width,
+        stretch: stretch.size,
+        stretch_order: stretch.order,
+        shrink: shrink.size,
+        shrink_order: shrink.order,
+    })
+}
+
+/// The number from 0 to 255 that a field writes.
 #[tactic(auto, using(crate::proofs::Numbers::numbers))]
 fn number_of(field: &[u8]) -> Option<u8>
     ensures { result ≡ number_of field.now }
 {
-    let Ok(text) = str::from_utf8(field) else {
-        return None;
-    };
-    let Ok(number) = text.parse::<i64>() else {
+    let Some(number) = integer_of(field) else {
         return None;
     };
     if number < 0 {
@@ -340,4 +503,30 @@ fn number_of(field: &[u8]) -> Option<u8>
         return None;
     }
     Some(number as u8)
+}
+
+/// The number of a penalty that a field writes.
+#[tactic(auto, using(crate::proofs::Numbers::penalties))]
+fn penalty_of(field: &[u8]) -> Option<Number>
+    ensures { result ≡ penalty_of field.now }
+{
+    match integer_of(field) {
+        Some(number) => Number::try_new(number),
+        None => None,
+    }
+}
+
+/// The whole number of 64 bits that a field writes by an optional sign and digits.
+#[tactic(auto, using(crate::proofs::Numbers::integers))]
+fn integer_of(field: &[u8]) -> Option<i64>
+    ensures some { IfSome result (λ number. IsInteger field.now number) }
+    ensures none { IfNone result ((number : ℤ) → IsInteger field.now number → FitsSigned w64 number → ⊥) }
+{
+    let Ok(text) = str::from_utf8(field) else {
+        return None;
+    };
+    let Ok(number) = text.parse::<i64>() else {
+        return None;
+    };
+    Some(number)
 }

@@ -1,6 +1,7 @@
 //! Boxglue: a typesetter of command scripts with TeX's model of boxes and glue.
 #![tactic(auto)]
 
+mod amounts;
 mod cause;
 mod fields;
 mod hexadecimal;
