@@ -1,99 +1,27 @@
 -- The cause that the function names holds of the fields.
-use Rattle.std.proofs.Common.{◌≡◌, inl, inr, ℕ, ℤ, pos, Bool, true, false, List, [], ◌∷◌, ◌++◌, Option, Some, None, Result, Ok, Err, codes, refl, ap, sym, ◌∙◌, subst, append_assoc}
+use Rattle.std.proofs.Common.{◌≡◌, inl, ℕ, ℤ, pos, Bool, true, false, List, [], ◌∷◌, Option, Some, None, Result, Ok, Err, codes, refl, sym, ◌∙◌, subst}
 use Rattle.std.specs.Str.{bytes_eq}
-use Rattle.std.proofs.lemmas.List.{append-nil}
 use Rattle.node_core.specs.declared.tree.RuleSize.{RuleSize}
 use Rattle.node_core.specs.declared.tree.RuleSize.TheVariants.{Running, Fixed}
 use Rattle.job_core.specs.declared.command.Command.{Command}
-use Rattle.job_core.specs.declared.command.Command.TheVariants.{UseFont, OpenHbox, End, Character, Rule, Kern, Measure, Void, Ship}
+use Rattle.job_core.specs.declared.command.Command.TheVariants.{UseFont, End, Character, Rule, Kern, Penalty, Measure, Void, Set, Ship}
+use Rattle.job_core.specs.declared.command.BoxForm.TheVariants as forms
+use Rattle.job_core.specs.declared.command.Parameter.TheVariants.{BoxMaxDepth}
 use Rattle.boxglue.specs.declared.cause.Cause.{Cause}
 use Rattle.boxglue.specs.declared.cause.Cause.TheVariants.{Word, Missing, Extra, Number, Dimension}
 use Rattle.boxglue.specs.declared.name.Name.{Name}
 use Rattle.boxglue.specs.declared.name.Name.TheVariants as names
 use Rattle.boxglue.specs.Names.{name_of}
-use Rattle.boxglue.specs.Causes.{IsWord, GivesNumber, GivesSize, HasBad, LacksField, HasExtra, IsFieldCause}
-use Rattle.boxglue.specs.Reading.{word_first, some_or, number_of, number_first, dimension_or, dimension_first, map_ok, size_of, size_first, ended, and_right, last_number, last_dimension, right_and, hbox_of, rule_of, command_named, named_by, command_of}
+use Rattle.boxglue.specs.Causes.{IsWord, GivesSize, IsFieldCause}
+use Rattle.boxglue.specs.Reading.{word_first, dimension_or, dimension_first, map_ok, size_of, size_first, ended, last_number, last_dimension, last_penalty, right_and, set_of, rule_of, command_named, named_by, command_of}
 use Rattle.scaled_core.specs.declared.fault.DimenFault.{DimenFault}
 use Rattle.scaled_core.specs.ParsedTexts.{read_dimension}
 use Rattle.boxglue.proofs.FieldLaws.{same_bytes}
-use Rattle.boxglue.proofs.CommandLaws.{name_text, name_written, name_read, named}
-use Rattle.boxglue.proofs.CauseForms.{missing, bad_field, extra, as_cause, not_made, zero_text, zero_names, zero_number, star_given, star_size, zero_dimension, zero_size, no_dimension_given, no_size_given}
+use Rattle.boxglue.proofs.CommandLaws.{name_text, name_written, name_read, named, form_named}
+use Rattle.boxglue.proofs.CauseForms.{missing, bad_field, extra, as_cause, not_made, star_given, star_size, zero_dimension, no_size_given, depth_is_word, number_cause, penalty_cause, dimension_cause}
 use Rattle.boxglue.proofs.FontCauses.{font_cause, font_reads}
-
--- where one number and nothing else belongs behind these fields
-module _ (front : List (List ℕ)) (make : ℕ → Command) (reads : (rest : List (List ℕ)) → command_of (front ++ rest) ≡ map_ok make (last_number rest)) where
-  behind : (fields rest : List (List ℕ)) → fields ≡ front ++ rest → command_of fields ≡ map_ok make (last_number rest)
-  behind fields rest e = ap command_of e ∙ reads rest
-
-  read_zero : map_ok make (last_number (zero_text ∷ [])) ≡ Ok (make 0)
-  unfolding last_number number_first
-  read_zero = rw zero_names refl
-
-  lacks_number : LacksField (front ++ [])
-  unfolding last_number number_first
-  lacks_number = missing (front ++ []) (zero_text ∷ []) (make 0) (Missing, reads []) (behind _ (zero_text ∷ []) (append_assoc front [] (zero_text ∷ [])) ∙ read_zero)
-
-  no_number : (r : List ℕ) (rest : List (List ℕ)) → number_of r ≡ None → HasBad GivesNumber (front ++ r ∷ rest)
-  unfolding last_number number_first
-  no_number r rest e =
-      bad_field GivesNumber front r rest zero_text [] (make 0) zero_number
-      (behind _ (zero_text ∷ []) (append-nil (front ++ zero_text ∷ [])) ∙ read_zero)
-      (λ later. (Number, behind _ (r ∷ later) (append_assoc front (r ∷ []) later) ∙ (rw e refl)))
-
-  extra_behind : (r : List ℕ) (n : ℕ) (f : List ℕ) (rest : List (List ℕ)) → number_of r ≡ Some n → HasExtra ((front ++ r ∷ []) ++ f ∷ rest)
-  unfolding last_number number_first
-  extra_behind r n f rest e =
-      extra (front ++ r ∷ []) f rest (make n) (reads (r ∷ []) ∙ (rw e refl))
-      (λ later. (Extra, behind _ (r ∷ f ∷ later) (append_assoc (front ++ r ∷ []) (f ∷ []) later ∙ append_assoc front (r ∷ []) (f ∷ later)) ∙ (rw e refl)))
-
-  number_by : (r : List ℕ) (rest : List (List ℕ)) (o : Option ℕ) (cause : Cause) → number_of r ≡ o → and_right (some_or Number o) (ended rest) ≡ Err cause → IsFieldCause cause (front ++ r ∷ rest)
-  number_by r rest None cause e h = as_cause _ Number cause (cc) (inl (no_number r rest e))
-  number_by r [] (Some n) cause e h = absurd (cc)
-  number_by r (f ∷ rest) (Some n) cause e h =
-      let P : List (List ℕ) → Type 0 = λ fields. IsFieldCause cause fields in
-      subst P (append_assoc front (r ∷ []) (f ∷ rest)) (as_cause _ Extra cause (cc) (extra_behind r n f rest e))
-
-  pub number_cause : (rest : List (List ℕ)) (cause : Cause) → last_number rest ≡ Err cause → IsFieldCause cause (front ++ rest)
-  unfolding last_number number_first
-  number_cause [] cause h = as_cause _ Missing cause (cc) lacks_number
-  number_cause (r ∷ rest) cause h = number_by r rest (number_of r) cause refl h
-
--- a kern
-kern_reads : (rest : List (List ℕ)) → command_of (codes "kern" ∷ rest) ≡ map_ok Kern (last_dimension rest)
-unfolding command_named
-kern_reads rest = named names.Kern rest
-
-kern_zero : (more : List (List ℕ)) → more ≡ codes "0sp" ∷ [] → command_of (codes "kern" ∷ more) ≡ Ok (Kern (pos 0))
-unfolding last_dimension dimension_first
-kern_zero more e = rw e (kern_reads (codes "0sp" ∷ []) ∙ (rw zero_dimension refl))
-
-lacks_dimension : LacksField (codes "kern" ∷ [])
-unfolding last_dimension dimension_first
-lacks_dimension = missing (codes "kern" ∷ []) (codes "0sp" ∷ []) (Kern (pos 0)) (Missing, kern_reads []) (kern_zero _ refl)
-
-no_dimension : (d : List ℕ) (rest : List (List ℕ)) (fault : DimenFault) → read_dimension d ≡ Err fault → IsFieldCause Dimension (codes "kern" ∷ d ∷ rest)
-unfolding last_dimension dimension_first
-no_dimension d rest fault e = (
-  bad_field GivesSize (codes "kern" ∷ []) d rest (codes "0sp") [] (Kern (pos 0)) zero_size (kern_zero _ refl)
-      (λ later. (Dimension, kern_reads (d ∷ later) ∙ (rw e refl))),
-  no_dimension_given d fault e,
-)
-
-extra_dimension : (d : List ℕ) (z : ℤ) (f : List ℕ) (rest : List (List ℕ)) → read_dimension d ≡ Ok z → HasExtra (codes "kern" ∷ d ∷ f ∷ rest)
-unfolding last_dimension dimension_first
-extra_dimension d z f rest e =
-    extra (codes "kern" ∷ d ∷ []) f rest (Kern z) (kern_reads (d ∷ []) ∙ (rw e refl))
-    (λ later. (Extra, kern_reads (d ∷ f ∷ later) ∙ (rw e refl)))
-
-dimension_by : (d : List ℕ) (rest : List (List ℕ)) (o : Result ℤ DimenFault) (cause : Cause) → read_dimension d ≡ o → and_right (dimension_or o) (ended rest) ≡ Err cause → IsFieldCause cause (codes "kern" ∷ d ∷ rest)
-dimension_by d rest (Err fault) cause e h = as_cause _ Dimension cause (cc) (no_dimension d rest fault e)
-dimension_by d [] (Ok z) cause e h = absurd (cc)
-dimension_by d (f ∷ rest) (Ok z) cause e h = as_cause _ Extra cause (cc) (extra_dimension d z f rest e)
-
-kern_cause : (rest : List (List ℕ)) (cause : Cause) → last_dimension rest ≡ Err cause → IsFieldCause cause (codes "kern" ∷ rest)
-unfolding last_dimension dimension_first
-kern_cause [] cause h = as_cause _ Missing cause (cc) lacks_dimension
-kern_cause (d ∷ rest) cause h = dimension_by d rest (read_dimension d) cause refl h
+use Rattle.boxglue.proofs.OpeningCauses.{opening_cause}
+use Rattle.boxglue.proofs.GlueCauses.{glue_cause}
 
 -- the end of a list
 end_reads : (rest : List (List ℕ)) → command_of (codes "end" ∷ rest) ≡ right_and (ended rest) (Ok End)
@@ -104,40 +32,49 @@ end_cause : (rest : List (List ℕ)) (cause : Cause) → right_and (ended rest) 
 end_cause [] cause h = absurd (cc)
 end_cause (f ∷ rest) cause h = as_cause _ Extra cause (cc) (extra (codes "end" ∷ []) f rest End (end_reads []) (λ later. (Extra, end_reads (f ∷ later))))
 
--- a horizontal box
-hbox_reads : (rest : List (List ℕ)) → command_of (codes "hbox" ∷ rest) ≡ hbox_of rest
+-- a parameter
+abbrev depth : ℤ → Command
+depth z = Set (BoxMaxDepth z)
+
+set_reads : (rest : List (List ℕ)) → command_of (codes "set" ∷ rest) ≡ set_of rest
 unfolding command_named
-hbox_reads rest = named names.Hbox rest
+set_reads rest = named names.Set rest
 
-into_reads : (rest : List (List ℕ)) → command_of ((codes "hbox" ∷ codes "into" ∷ []) ++ rest) ≡ map_ok OpenHbox (last_number rest)
-unfolding hbox_of word_first
-into_reads rest = hbox_reads (codes "into" ∷ rest)
+depth_reads : (rest : List (List ℕ)) → command_of (codes "set" ∷ codes "boxmaxdepth" ∷ rest) ≡ map_ok depth (last_dimension rest)
+unfolding set_of word_first
+depth_reads rest = set_reads (codes "boxmaxdepth" ∷ rest)
 
-hbox_zero : command_of (codes "hbox" ∷ codes "into" ∷ zero_text ∷ []) ≡ Ok (OpenHbox 0)
-unfolding last_number number_first
-hbox_zero = into_reads (zero_text ∷ []) ∙ (rw zero_names refl)
+depth_zero : command_of (codes "set" ∷ codes "boxmaxdepth" ∷ codes "0sp" ∷ []) ≡ Ok (depth (pos 0))
+unfolding last_dimension dimension_first
+depth_zero = depth_reads (codes "0sp" ∷ []) ∙ (rw zero_dimension refl)
 
-hbox_alone : command_of (codes "hbox" ∷ []) ≡ Err Missing
-unfolding hbox_of word_first
-hbox_alone = hbox_reads []
+set_lacks : command_of (codes "set" ∷ []) ≡ Err Missing
+unfolding set_of word_first
+set_lacks = set_reads []
 
-no_into : (w : List ℕ) (rest : List (List ℕ)) → bytes_eq w (codes "into") ≡ false → command_of (codes "hbox" ∷ w ∷ rest) ≡ Err Word
-unfolding hbox_of word_first
-no_into w rest e = hbox_reads (w ∷ rest) ∙ (rw e refl)
+no_parameter : (w : List ℕ) (rest : List (List ℕ)) → bytes_eq w (codes "boxmaxdepth") ≡ false → command_of (codes "set" ∷ w ∷ rest) ≡ Err Word
+unfolding set_of word_first
+no_parameter w rest e = set_reads (w ∷ rest) ∙ (rw e refl)
 
-hbox_by : (w : List ℕ) (rest : List (List ℕ)) (b : Bool) (cause : Cause) → bytes_eq w (codes "into") ≡ b → hbox_of (w ∷ rest) ≡ Err cause → IsFieldCause cause (codes "hbox" ∷ w ∷ rest)
-unfolding hbox_of word_first
-hbox_by w rest true cause e h =
-    let P : List ℕ → Type 0 = λ x. IsFieldCause cause (codes "hbox" ∷ x ∷ rest) in
-    subst P (sym (same_bytes w (codes "into") e)) (number_cause (codes "hbox" ∷ codes "into" ∷ []) OpenHbox into_reads rest cause (not_made OpenHbox (last_number rest) cause (rw e at h)))
-hbox_by w rest false cause e h =
-    let is : Err Word ≡ Err cause = rw e at h in
-    as_cause _ Word cause (cc)
-    (bad_field IsWord (codes "hbox" ∷ []) w rest (codes "into") (zero_text ∷ []) (OpenHbox 0) (inr (inl refl)) hbox_zero (λ later. (Word, no_into w later e)))
+depth_cause : (rest : List (List ℕ)) (cause : Cause) → command_of (codes "set" ∷ codes "boxmaxdepth" ∷ rest) ≡ Err cause → IsFieldCause cause (codes "set" ∷ codes "boxmaxdepth" ∷ rest)
+depth_cause rest cause h =
+    dimension_cause (codes "set" ∷ codes "boxmaxdepth" ∷ []) depth depth_reads rest cause (not_made depth (last_dimension rest) cause (sym (depth_reads rest) ∙ h))
 
-hbox_cause : (rest : List (List ℕ)) (cause : Cause) → hbox_of rest ≡ Err cause → IsFieldCause cause (codes "hbox" ∷ rest)
-hbox_cause [] cause h = as_cause _ Missing cause (let e = hbox_reads [] in let a = hbox_alone in cc) (missing (codes "hbox" ∷ []) (codes "into" ∷ zero_text ∷ []) (OpenHbox 0) (Missing, hbox_alone) hbox_zero)
-hbox_cause (w ∷ rest) cause h = hbox_by w rest _ cause refl h
+set_by : (w : List ℕ) (rest : List (List ℕ)) (b : Bool) (cause : Cause) → bytes_eq w (codes "boxmaxdepth") ≡ b → command_of (codes "set" ∷ w ∷ rest) ≡ Err cause → IsFieldCause cause (codes "set" ∷ w ∷ rest)
+set_by w rest true cause e h =
+    let is : w ≡ codes "boxmaxdepth" = same_bytes w (codes "boxmaxdepth") e in
+    let P : List ℕ → Type 0 = λ x. IsFieldCause cause (codes "set" ∷ x ∷ rest) in
+    let Q : List ℕ → Type 0 = λ x. command_of (codes "set" ∷ x ∷ rest) ≡ Err cause in
+    subst P (sym is) (depth_cause rest cause (subst Q is h))
+set_by w rest false cause e h =
+    as_cause _ Word cause (let no = no_parameter w rest e in cc)
+    (bad_field IsWord (codes "set" ∷ []) w rest (codes "boxmaxdepth") (codes "0sp" ∷ []) (depth (pos 0)) depth_is_word depth_zero (λ later. (Word, no_parameter w later e)))
+
+set_cause : (rest : List (List ℕ)) (cause : Cause) → command_of (codes "set" ∷ rest) ≡ Err cause → IsFieldCause cause (codes "set" ∷ rest)
+set_cause [] cause h =
+    as_cause _ Missing cause (let lacks = set_lacks in cc)
+    (missing (codes "set" ∷ []) (codes "boxmaxdepth" ∷ codes "0sp" ∷ []) (depth (pos 0)) (Missing, set_lacks) depth_zero)
+set_cause (w ∷ rest) cause h = set_by w rest (bytes_eq w (codes "boxmaxdepth")) cause refl h
 
 -- a rule
 rule_reads : (rest : List (List ℕ)) → command_of (codes "rule" ∷ rest) ≡ rule_of rest
@@ -240,17 +177,30 @@ alone_cause : (name : Name) (make : ℕ → Command) (rest : List (List ℕ)) (c
 alone_cause name make rest cause is h =
     number_cause (name_text name ∷ []) make (λ fields. named name fields ∙ is fields) rest cause (not_made make (last_number rest) cause (sym (is rest) ∙ h))
 
+kern_cause : (rest : List (List ℕ)) (cause : Cause) → command_named names.Kern rest ≡ Err cause → IsFieldCause cause (codes "kern" ∷ rest)
+unfolding command_named
+kern_cause rest cause h = dimension_cause (codes "kern" ∷ []) Kern (λ fields. named names.Kern fields) rest cause (not_made Kern (last_dimension rest) cause h)
+
+penalties_cause : (rest : List (List ℕ)) (cause : Cause) → command_named names.Penalty rest ≡ Err cause → IsFieldCause cause (codes "penalty" ∷ rest)
+unfolding command_named
+penalties_cause rest cause h = penalty_cause (codes "penalty" ∷ []) Penalty (λ fields. named names.Penalty fields) rest cause (not_made Penalty (last_penalty rest) cause h)
+
 named_cause : (name : Name) (rest : List (List ℕ)) (cause : Cause) → command_named name rest ≡ Err cause → IsFieldCause cause (name_text name ∷ rest)
 unfolding command_named
 named_cause names.Font rest cause h = font_cause rest cause (font_reads rest ∙ h)
 named_cause names.Use rest cause h = alone_cause names.Use UseFont rest cause (λ fields. refl) h
-named_cause names.Hbox rest cause h = hbox_cause rest cause h
+named_cause names.Hbox rest cause h = opening_cause forms.Hbox rest cause (form_named forms.Hbox rest ∙ h)
+named_cause names.Vbox rest cause h = opening_cause forms.Vbox rest cause (form_named forms.Vbox rest ∙ h)
+named_cause names.Vtop rest cause h = opening_cause forms.Vtop rest cause (form_named forms.Vtop rest ∙ h)
 named_cause names.End rest cause h = end_cause rest cause h
 named_cause names.Character rest cause h = alone_cause names.Character Character rest cause (λ fields. refl) h
 named_cause names.Rule rest cause h = rule_cause rest cause (rule_reads rest ∙ h)
-named_cause names.Kern rest cause h = kern_cause rest cause (not_made Kern (last_dimension rest) cause h)
+named_cause names.Kern rest cause h = kern_cause rest cause h
+named_cause names.Glue rest cause h = glue_cause rest cause (named names.Glue rest ∙ h)
+named_cause names.Penalty rest cause h = penalties_cause rest cause h
 named_cause names.Measure rest cause h = alone_cause names.Measure Measure rest cause (λ fields. refl) h
 named_cause names.Void rest cause h = alone_cause names.Void Void rest cause (λ fields. refl) h
+named_cause names.Set rest cause h = set_cause rest cause (set_reads rest ∙ h)
 named_cause names.Ship rest cause h = alone_cause names.Ship Ship rest cause (λ fields. refl) h
 
 no_name : (word : List ℕ) (rest : List (List ℕ)) → name_of word ≡ None → command_of (word ∷ rest) ≡ Err Word

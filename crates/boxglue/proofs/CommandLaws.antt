@@ -1,32 +1,46 @@
 -- The function that reads a command gives the commands of the grammar.
-use Rattle.std.proofs.Common.{◌≡◌, ℕ, ℤ, Bool, true, false, if◌then◌else◌, List, [], ◌∷◌, Option, Some, None, Result, Ok, Err, codes, refl, ap, sym, ◌∙◌, subst}
+use Rattle.std.proofs.Common.{◌≡◌, inl, inr, ℕ, ℤ, pos, Bool, true, false, if◌then◌else◌, List, [], ◌∷◌, ◌++◌, Option, Some, None, Result, Ok, Err, codes, refl, ap, sym, ◌∙◌, subst}
 use Rattle.std.specs.Str.{bytes_eq}
+use Rattle.node_core.specs.declared.tree.Order.{Order}
+use Rattle.node_core.specs.declared.tree.Order.TheVariants.{Normal}
 use Rattle.node_core.specs.declared.tree.RuleSize.{RuleSize}
+use Rattle.pack_core.specs.declared.pack.Target.{Target}
+use Rattle.pack_core.specs.declared.pack.Target.TheVariants.{Natural, To, Spread}
+use Rattle.job_core.specs.declared.command.BoxForm.{BoxForm}
+use Rattle.job_core.specs.declared.command.BoxForm.TheVariants as forms
+use Rattle.job_core.specs.declared.command.Parameter.TheVariants.{BoxMaxDepth}
 use Rattle.job_core.specs.declared.command.Command.{Command}
-use Rattle.job_core.specs.declared.command.Command.TheVariants.{LoadFont, UseFont, OpenHbox, End, Text, Character, Rule, Kern, Measure, Void, Ship}
+use Rattle.job_core.specs.declared.command.Command.TheVariants.{LoadFont, UseFont, Open, End, Text, Character, Rule, Kern, Glue, Penalty, Measure, Void, Set, Ship}
 use Rattle.boxglue.specs.declared.cause.Cause.{Cause}
 use Rattle.boxglue.specs.declared.cause.Cause.TheVariants as causes
 use Rattle.boxglue.specs.declared.cause.Cause.TheVariants.{Word, Number}
 use Rattle.boxglue.specs.declared.name.Name.{Name}
 use Rattle.boxglue.specs.declared.name.Name.TheVariants as names
-use Rattle.boxglue.specs.Names.{name_of}
-use Rattle.boxglue.specs.Grammar.{IsNumber, IsDimension, IsSize, IsName, IsSizeOfFont, IsChosenSize, Says}
-use Rattle.boxglue.specs.Reading.{rest_of, word_first, some_or, number_of, number_first, dimension_or, dimension_first, size_of_font, as_size_of_font, size_of_font_first, is_name, as_name, name_first, map_ok, size_first, ended, and_right, last_number, last_dimension, right_and, hbox_of, chosen_size_of, font_by, font_of, rule_by, rule_of, command_named, named_by, command_of}
+use Rattle.boxglue.specs.declared.amounts.Amount.{Amount}
+use Rattle.boxglue.specs.Names.{box_name, item_name, name_or, name_of}
+use Rattle.boxglue.specs.Grammar.{IsNumber, IsPenalty, IsDimension, IsSize, IsName, IsSizeOfFont, IsChosenSize, form_text, IsTarget, IsAmount, IsPart, Says}
+use Rattle.boxglue.specs.Reading.{rest_of, word_first, some_or, number_of, number_first, dimension_or, dimension_first, size_of_font, as_size_of_font, size_of_font_first, is_name, as_name, name_first, map_ok, size_first, ended, and_right, last_number, last_dimension, right_and, chosen_size_of, font_by, font_of, rule_by, rule_of, penalty_of, penalty_first, last_penalty, amount, amount_of, amount_first, last_amount, and_then, opening, opened, opened_into, opened_sized, opening_of, no_amount, glue, last_shrink_of, shrink_of, parts_of, glue_of, set_of, command_named, named_by, command_of}
 use Rattle.scaled_core.specs.declared.fault.DimenFault.{DimenFault}
 use Rattle.scaled_core.specs.ParsedTexts.{read_dimension}
-use Rattle.boxglue.proofs.FieldLaws.{same_bytes, writes_number, number_written, reads_dimension, dimension_read, gives_size, size_given, names_font, font_named, is_size_of_font, size_of_font_is}
+use Rattle.boxglue.proofs.AmountLaws.{amount_given, gives_amount}
+use Rattle.boxglue.proofs.FieldLaws.{same_bytes, writes_number, number_written, writes_penalty, penalty_written, reads_dimension, dimension_read, gives_size, size_given, names_font, font_named, is_size_of_font, size_of_font_is}
 
 -- how a name is written
 abbrev pub name_text : Name → List ℕ
 name_text names.Font = codes "font"
 name_text names.Use = codes "use"
 name_text names.Hbox = codes "hbox"
+name_text names.Vbox = codes "vbox"
+name_text names.Vtop = codes "vtop"
 name_text names.End = codes "end"
 name_text names.Character = codes "char"
 name_text names.Rule = codes "rule"
 name_text names.Kern = codes "kern"
+name_text names.Glue = codes "glue"
+name_text names.Penalty = codes "penalty"
 name_text names.Measure = codes "measure"
 name_text names.Void = codes "void"
+name_text names.Set = codes "set"
 name_text names.Ship = codes "ship"
 
 one_name : (b : Bool) (word text : List ℕ) (here : Name) (later : Option Name) (name : Name) → bytes_eq word text ≡ b → text ≡ name_text here → (later ≡ Some name → word ≡ name_text name) → (if b then Some here else later) ≡ Some name → word ≡ name_text name
@@ -35,32 +49,54 @@ one_name true word text here later name e t more h =
     same_bytes word text e ∙ t ∙ ap name_text same
 one_name false word text here later name e t more h = more h
 
--- a word that is a name is written so
-pub name_written : (word : List ℕ) (name : Name) → name_of word ≡ Some name → word ≡ name_text name
-unfolding name_of
-name_written word name h =
+box_name_written : (word : List ℕ) (name : Name) → box_name word ≡ Some name → word ≡ name_text name
+unfolding box_name
+box_name_written word name h =
+    one_name _ word (codes "hbox") names.Hbox _ name refl refl
+    (one_name _ word (codes "vbox") names.Vbox _ name refl refl
+    (one_name _ word (codes "vtop") names.Vtop _ name refl refl
+    (one_name _ word (codes "end") names.End _ name refl refl
+    (one_name _ word (codes "measure") names.Measure _ name refl refl
+    (one_name _ word (codes "void") names.Void _ name refl refl
+    (one_name _ word (codes "ship") names.Ship None name refl refl (λ e. absurd (cc)))))))) h
+
+item_name_written : (word : List ℕ) (name : Name) → item_name word ≡ Some name → word ≡ name_text name
+unfolding item_name
+item_name_written word name h =
     one_name _ word (codes "font") names.Font _ name refl refl
     (one_name _ word (codes "use") names.Use _ name refl refl
-    (one_name _ word (codes "hbox") names.Hbox _ name refl refl
-    (one_name _ word (codes "end") names.End _ name refl refl
     (one_name _ word (codes "char") names.Character _ name refl refl
     (one_name _ word (codes "rule") names.Rule _ name refl refl
     (one_name _ word (codes "kern") names.Kern _ name refl refl
-    (one_name _ word (codes "measure") names.Measure _ name refl refl
-    (one_name _ word (codes "void") names.Void _ name refl refl
-    (one_name _ word (codes "ship") names.Ship None name refl refl (λ e. absurd (cc))))))))))) h
+    (one_name _ word (codes "glue") names.Glue _ name refl refl
+    (one_name _ word (codes "penalty") names.Penalty _ name refl refl
+    (one_name _ word (codes "set") names.Set None name refl refl (λ e. absurd (cc))))))))) h
+
+name_by_part : (word : List ℕ) (name : Name) (o : Option Name) → box_name word ≡ o → name_or o (item_name word) ≡ Some name → word ≡ name_text name
+name_by_part word name None e h = item_name_written word name h
+name_by_part word name (Some other) e h = box_name_written word name (e ∙ h)
+
+-- a word that is a name is written so
+pub name_written : (word : List ℕ) (name : Name) → name_of word ≡ Some name → word ≡ name_text name
+unfolding name_of
+name_written word name h = name_by_part word name (box_name word) refl h
 
 pub name_read : (name : Name) → name_of (name_text name) ≡ Some name
-unfolding name_of
+unfolding name_of box_name item_name
 name_read names.Font = refl
 name_read names.Use = refl
 name_read names.Hbox = refl
+name_read names.Vbox = refl
+name_read names.Vtop = refl
 name_read names.End = refl
 name_read names.Character = refl
 name_read names.Rule = refl
 name_read names.Kern = refl
+name_read names.Glue = refl
+name_read names.Penalty = refl
 name_read names.Measure = refl
 name_read names.Void = refl
+name_read names.Set = refl
 name_read names.Ship = refl
 
 -- the command that a name begins
@@ -79,21 +115,67 @@ unfolding chosen_size_of size_of_font_first dimension_first
 chosen_size_given fields None h = rw h refl
 chosen_size_given fields (Some z) (d, e, h) = rw (e, dimension_read d z h.dimension, size_of_font_is z h.size) refl
 
+-- the name of a form
+pub form_named : (form : BoxForm) (rest : List (List ℕ)) → command_of (form_text form ∷ rest) ≡ opening_of form rest
+unfolding command_named
+form_named forms.Hbox rest = named names.Hbox rest
+form_named forms.Vbox rest = named names.Vbox rest
+form_named forms.Vtop rest = named names.Vtop rest
+
+-- a size and a register behind it
+opening_given : (form : BoxForm) (size : List (List ℕ)) (target : Target) (r : List ℕ) (n : ℕ) → IsTarget size target → IsNumber r n → opening_of form (size ++ codes "into" ∷ r ∷ []) ≡ Ok (opening form target n)
+unfolding opening_of opened_sized opened_into opened word_first dimension_first
+opening_given form size Natural r n e h = rw e (number_alone (opening form Natural) r n h)
+opening_given form size (To z) r n (d, e, is) h = rw (e, dimension_read d z is) (number_alone (opening form (To z)) r n h)
+opening_given form size (Spread z) r n (d, e, is) h = rw (e, dimension_read d z is) (number_alone (opening form (Spread z)) r n h)
+
+last_amount_given : (make : Amount → Command) (x : List ℕ) (order : Order) (z : ℤ) → IsAmount x order z → map_ok make (last_amount (x ∷ [])) ≡ Ok (make (amount order z))
+unfolding last_amount amount_first
+last_amount_given make x order z h = rw (amount_given x order z h) refl
+
+-- the shrink of a glue
+shrink_given : (width : ℤ) (stretch : Amount) (minus : List (List ℕ)) (order : Order) (z : ℤ) → IsPart (codes "minus") minus order z → shrink_of width stretch minus ≡ Ok (glue width stretch (amount order z))
+unfolding shrink_of last_shrink_of
+shrink_given width stretch minus order z (inl h) = rw (h.0, h.1, h.2) refl
+shrink_given width stretch minus order z (inr (x, e, h)) = rw e (last_amount_given (glue width stretch) x order z h)
+
+shrink_alone : (width : ℤ) (minus : List (List ℕ)) (order : Order) (z : ℤ) → IsPart (codes "minus") minus order z → parts_of width minus ≡ Ok (glue width no_amount (amount order z))
+unfolding parts_of last_shrink_of
+shrink_alone width minus order z (inl h) = rw (h.0, h.1, h.2) refl
+shrink_alone width minus order z (inr (x, e, h)) = rw e (last_amount_given (glue width no_amount) x order z h)
+
+-- the stretch and the shrink of a glue
+parts_given : (width : ℤ) (plus minus : List (List ℕ)) (stretch_order : Order) (stretch : ℤ) (shrink_order : Order) (shrink : ℤ)
+    → IsPart (codes "plus") plus stretch_order stretch → IsPart (codes "minus") minus shrink_order shrink
+    → parts_of width (plus ++ minus) ≡ Ok (glue width (amount stretch_order stretch) (amount shrink_order shrink))
+unfolding parts_of amount_first
+parts_given width plus minus so s mo m (inl h) is = rw (h.0, h.1, h.2) (shrink_alone width minus mo m is)
+parts_given width plus minus so s mo m (inr (x, e, h)) is = rw (e, amount_given x so s h) (shrink_given width (amount so s) minus mo m is)
+
+glue_given : (d : List ℕ) (width : ℤ) (rest : List (List ℕ)) → IsDimension d width → command_of (codes "glue" ∷ d ∷ rest) ≡ parts_of width rest
+unfolding command_named glue_of dimension_first
+glue_given d width rest h = named names.Glue (d ∷ rest) ∙ (rw (dimension_read d width h) refl)
+
 -- the fields of a command are read as it
 pub complete : (fields : List (List ℕ)) (command : Command) → Says fields command → command_of fields ≡ Ok command
-unfolding command_named font_of number_first name_first hbox_of rule_of word_first size_first last_dimension dimension_first
+unfolding command_named font_of number_first name_first rule_of set_of word_first size_first last_dimension dimension_first last_penalty penalty_first
 complete fields (LoadFont load) (s, more, e, slot, name, size) =
     rw e (named names.Font (s ∷ load.name ∷ more) ∙ (rw (number_written s load.slot slot, font_named load.name name, chosen_size_given more load.size size) refl))
 complete fields (UseFont n) (s, e, h) = rw e (named names.Use (s ∷ []) ∙ number_alone UseFont s n h)
-complete fields (OpenHbox n) (r, e, h) = rw e (named names.Hbox (codes "into" ∷ r ∷ []) ∙ number_alone OpenHbox r n h)
+complete fields (Open opened) (size, r, e, target, register) =
+    rw e (form_named opened.form (size ++ codes "into" ∷ r ∷ []) ∙ opening_given opened.form size opened.target r opened.into target register)
 complete fields End e = rw e (named names.End [])
 complete fields (Text text) h = absurd h
 complete fields (Character n) (c, e, h) = rw e (named names.Character (c ∷ []) ∙ number_alone Character c n h)
 complete fields (Rule sizes) (w, h, d, e, width, height, depth) =
     rw e (named names.Rule (w ∷ h ∷ d ∷ []) ∙ (rw (size_given w sizes.width width, size_given h sizes.height height, size_given d sizes.depth depth) refl))
 complete fields (Kern z) (d, e, h) = rw e (named names.Kern (d ∷ []) ∙ (rw (dimension_read d z h) refl))
+complete fields (Glue glue) (d, plus, minus, e, width, stretch, shrink) =
+    rw e (glue_given d glue.width (plus ++ minus) width ∙ parts_given glue.width plus minus glue.stretch_order glue.stretch glue.shrink_order glue.shrink stretch shrink)
+complete fields (Penalty z) (p, e, h) = rw e (named names.Penalty (p ∷ []) ∙ (rw (penalty_written p z h) refl))
 complete fields (Measure n) (r, e, h) = rw e (named names.Measure (r ∷ []) ∙ number_alone Measure r n h)
 complete fields (Void n) (r, e, h) = rw e (named names.Void (r ∷ []) ∙ number_alone Void r n h)
+complete fields (Set (BoxMaxDepth z)) (d, e, h) = rw e (named names.Set (codes "boxmaxdepth" ∷ d ∷ []) ∙ (rw (dimension_read d z h) refl))
 complete fields (Ship n) (r, e, h) = rw e (named names.Ship (r ∷ []) ∙ number_alone Ship r n h)
 
 -- no field is left where the end was read
@@ -174,6 +256,9 @@ some_size (Ok z) size h = (z, refl, cc)
 two_fields : (field word : List ℕ) (rest : List (List ℕ)) (last : List ℕ) → field ≡ word → rest ≡ last ∷ [] → field ∷ rest ≡ word ∷ last ∷ []
 two_fields field word rest last e f = rw (e, f) refl
 
+two_words : (field word : List ℕ) (rest more : List (List ℕ)) → field ≡ word → rest ≡ more → field ∷ rest ≡ word ∷ more
+two_words field word rest more e f = rw (e, f) refl
+
 at_by : (word : List ℕ) (rest : List (List ℕ)) (size : Option ℤ) (b : Bool) → bytes_eq word (codes "at") ≡ b → chosen_size_of (word ∷ rest) ≡ Ok size → IsChosenSize (word ∷ rest) size
 unfolding chosen_size_of
 at_by word rest size true e h =
@@ -244,20 +329,161 @@ made make (Ok x) command h = (x, refl, cc)
 along : (fields : List (List ℕ)) (c d : Command) → c ≡ d → Says fields c → Says fields d
 along fields c d e h = let P : Command → Type 0 = λ x. Says fields x in subst P e h
 
-behind_hbox : (w : List ℕ) (rest : List (List ℕ)) (r : List ℕ) → w ≡ codes "into" → rest ≡ r ∷ [] → codes "hbox" ∷ w ∷ rest ≡ codes "hbox" ∷ codes "into" ∷ r ∷ []
-behind_hbox w rest r e f = rw (e, f) refl
-
-says_hbox : (w : List ℕ) (rest : List (List ℕ)) (command : Command) (b : Bool) → bytes_eq w (codes "into") ≡ b → hbox_of (w ∷ rest) ≡ Ok command → Says (codes "hbox" ∷ w ∷ rest) command
-unfolding hbox_of word_first
-says_hbox w rest command true e h =
-    let make = made OpenHbox (last_number rest) command (rw e at h) in
+says_open : (form : BoxForm) (target : Target) (size : List (List ℕ)) (rest : List (List ℕ)) (command : Command) → IsTarget size target → opened form target rest ≡ Ok command → Says (form_text form ∷ (size ++ codes "into" ∷ rest)) command
+unfolding opened
+says_open form target size rest command is h =
+    let make = made (opening form target) (last_number rest) command h in
     let last = number_last rest make.0 make.1 in
-    along (codes "hbox" ∷ w ∷ rest) (OpenHbox make.0) command make.2 (last.0, behind_hbox w rest last.0 (same_bytes w (codes "into") e) last.1, last.2)
-says_hbox w rest command false e h = let s : Err Word ≡ Ok command = rw e at h in absurd (cc)
+    along _ _ _ make.2 (size, last.0, ap (λ (xs : List (List ℕ)). form_text form ∷ (size ++ codes "into" ∷ xs)) last.1, is, last.2)
 
-no_hbox : (command : Command) → hbox_of [] ≡ Ok command → ⊥
-unfolding hbox_of word_first
-no_hbox command h = cc
+into_by : (form : BoxForm) (target : Target) (size : List (List ℕ)) (w : List ℕ) (rest : List (List ℕ)) (command : Command) (b : Bool) → bytes_eq w (codes "into") ≡ b → IsTarget size target → opened_into form target (w ∷ rest) ≡ Ok command → Says (form_text form ∷ (size ++ w ∷ rest)) command
+unfolding opened_into word_first
+into_by form target size w rest command true e is h =
+    let P : List ℕ → Type 0 = λ x. Says (form_text form ∷ (size ++ x ∷ rest)) command in
+    subst P (sym (same_bytes w (codes "into") e)) (says_open form target size rest command is (rw e at h))
+into_by form target size w rest command false e is h = let s : Err Word ≡ Ok command = rw e at h in absurd (cc)
+
+says_into : (form : BoxForm) (target : Target) (size : List (List ℕ)) (rest : List (List ℕ)) (command : Command) → IsTarget size target → opened_into form target rest ≡ Ok command → Says (form_text form ∷ (size ++ rest)) command
+unfolding opened_into word_first
+says_into form target size [] command is h = absurd (cc)
+says_into form target size (w ∷ rest) command is h = into_by form target size w rest command (bytes_eq w (codes "into")) refl is h
+
+-- what was read first
+then_read : {A B : Type 0} (r : Result A Cause) (more : A → Result B Cause) (y : B) → and_then r more ≡ Ok y → (x : A) × (r ≡ Ok x) × (more x ≡ Ok y)
+then_read (Err cause) more y h = absurd (cc)
+then_read (Ok x) more y h = (x, refl, h)
+
+-- a dimension was read
+dimension_first_read : (fields : List (List ℕ)) (z : ℤ) → dimension_first fields ≡ Ok z → (d : List ℕ) × (fields ≡ d ∷ rest_of fields) × IsDimension d z
+unfolding dimension_first
+dimension_first_read [] z h = absurd (cc)
+dimension_first_read (d ∷ rest) z h = (d, refl, dimension_in d (read_dimension d) z refl h)
+
+says_sized : (form : BoxForm) (word : List ℕ) (sized : ℤ → Target) (rest : List (List ℕ)) (command : Command) → ((d : List ℕ) (z : ℤ) → IsDimension d z → IsTarget (word ∷ d ∷ []) (sized z)) → opened_sized form sized rest ≡ Ok command → Says (form_text form ∷ word ∷ rest) command
+unfolding opened_sized
+says_sized form word sized rest command is h =
+    let read = then_read (dimension_first rest) (λ z. opened_into form (sized z) (rest_of rest)) command h in
+    let d = dimension_first_read rest read.0 read.1 in
+    let P : List (List ℕ) → Type 0 = λ xs. Says (form_text form ∷ word ∷ xs) command in
+    subst P (sym d.1) (says_into form (sized read.0) (word ∷ d.0 ∷ []) (rest_of rest) command (is d.0 read.0 d.2) read.2)
+
+says_word : (form : BoxForm) (w word : List ℕ) (rest : List (List ℕ)) (command : Command) → bytes_eq w word ≡ true → Says (form_text form ∷ word ∷ rest) command → Says (form_text form ∷ w ∷ rest) command
+says_word form w word rest command e h = let P : List ℕ → Type 0 = λ x. Says (form_text form ∷ x ∷ rest) command in subst P (sym (same_bytes w word e)) h
+
+by_spread : (form : BoxForm) (w : List ℕ) (rest : List (List ℕ)) (command : Command) (b : Bool) → bytes_eq w (codes "spread") ≡ b → (if b then opened_sized form Spread rest else Err Word) ≡ Ok command → Says (form_text form ∷ w ∷ rest) command
+by_spread form w rest command true e h = says_word form w (codes "spread") rest command e (says_sized form (codes "spread") Spread rest command (λ d z is. (d, refl, is)) h)
+by_spread form w rest command false e h = absurd (cc)
+
+by_to : (form : BoxForm) (w : List ℕ) (rest : List (List ℕ)) (command : Command) (b : Bool) → bytes_eq w (codes "to") ≡ b → (if b then opened_sized form To rest else (if bytes_eq w (codes "spread") then opened_sized form Spread rest else Err Word)) ≡ Ok command → Says (form_text form ∷ w ∷ rest) command
+by_to form w rest command true e h = says_word form w (codes "to") rest command e (says_sized form (codes "to") To rest command (λ d z is. (d, refl, is)) h)
+by_to form w rest command false e h = by_spread form w rest command (bytes_eq w (codes "spread")) refl h
+
+by_into : (form : BoxForm) (w : List ℕ) (rest : List (List ℕ)) (command : Command) (b : Bool) → bytes_eq w (codes "into") ≡ b → (if b then opened form Natural rest else (if bytes_eq w (codes "to") then opened_sized form To rest else (if bytes_eq w (codes "spread") then opened_sized form Spread rest else Err Word))) ≡ Ok command → Says (form_text form ∷ w ∷ rest) command
+by_into form w rest command true e h = says_word form w (codes "into") rest command e (says_open form Natural [] rest command refl h)
+by_into form w rest command false e h = by_to form w rest command (bytes_eq w (codes "to")) refl h
+
+says_opening : (form : BoxForm) (rest : List (List ℕ)) (command : Command) → opening_of form rest ≡ Ok command → Says (form_text form ∷ rest) command
+unfolding opening_of
+says_opening form [] command h = absurd (cc)
+says_opening form (w ∷ rest) command h = by_into form w rest command (bytes_eq w (codes "into")) refl h
+
+-- one amount and nothing else was read
+amount_last : (rest : List (List ℕ)) (a : Amount) → last_amount rest ≡ Ok a → (x : List ℕ) × (rest ≡ x ∷ []) × IsAmount x a.order a.size
+unfolding last_amount amount_first
+amount_last [] a h = absurd (cc)
+amount_last (x ∷ rest) a h =
+    let after = nothing_after (amount_of x) rest a h in
+    (x, ap (λ (xs : List (List ℕ)). x ∷ xs) after.0, gives_amount x a after.1)
+
+-- an amount was read
+amount_first_read : (fields : List (List ℕ)) (a : Amount) → amount_first fields ≡ Ok a → (x : List ℕ) × (fields ≡ x ∷ rest_of fields) × IsAmount x a.order a.size
+unfolding amount_first
+amount_first_read [] a h = absurd (cc)
+amount_first_read (x ∷ rest) a h = (x, refl, gives_amount x a h)
+
+-- what was read of the shrink of a glue
+pub record ShrinkRead (width : ℤ) (stretch : Amount) (fields : List (List ℕ)) (command : Command) : Type 0 where
+  pub shrink : Amount
+  pub part : IsPart (codes "minus") fields shrink.order shrink.size
+  pub command_is : glue width stretch shrink ≡ command
+
+last_shrink_read : (width : ℤ) (stretch : Amount) (w : List ℕ) (rest : List (List ℕ)) (command : Command) → bytes_eq w (codes "minus") ≡ true → last_shrink_of width stretch rest ≡ Ok command → ShrinkRead width stretch (w ∷ rest) command
+unfolding last_shrink_of
+last_shrink_read width stretch w rest command e h =
+    let make = made (glue width stretch) (last_amount rest) command h in
+    let last = amount_last rest make.0 make.1 in
+    record { shrink = make.0; part = inr (last.0, two_fields w (codes "minus") rest last.0 (same_bytes w (codes "minus") e) last.1, last.2); command_is = make.2 }
+
+no_shrink_read : (width : ℤ) (stretch : Amount) (command : Command) → glue width stretch no_amount ≡ command → ShrinkRead width stretch [] command
+no_shrink_read width stretch command h = record { shrink = no_amount; part = inl (refl, refl, refl); command_is = h }
+
+minus_by : (width : ℤ) (stretch : Amount) (w : List ℕ) (rest : List (List ℕ)) (command : Command) (b : Bool) → bytes_eq w (codes "minus") ≡ b → (if b then last_shrink_of width stretch rest else Err Word) ≡ Ok command → ShrinkRead width stretch (w ∷ rest) command
+minus_by width stretch w rest command true e h = last_shrink_read width stretch w rest command e h
+minus_by width stretch w rest command false e h = absurd (cc)
+
+shrink_read : (width : ℤ) (stretch : Amount) (fields : List (List ℕ)) (command : Command) → shrink_of width stretch fields ≡ Ok command → ShrinkRead width stretch fields command
+unfolding shrink_of
+shrink_read width stretch [] command h = no_shrink_read width stretch command (cc)
+shrink_read width stretch (w ∷ rest) command h = minus_by width stretch w rest command (bytes_eq w (codes "minus")) refl h
+
+says_glue_with : (d : List ℕ) (width : ℤ) (stretch : Amount) (plus : List (List ℕ)) (rest : List (List ℕ)) (command : Command) → IsDimension d width → IsPart (codes "plus") plus stretch.order stretch.size → ShrinkRead width stretch rest command → Says (codes "glue" ∷ d ∷ (plus ++ rest)) command
+says_glue_with d width stretch plus rest command is part shrink = along _ _ _ shrink.command_is (d, plus, rest, refl, is, part, shrink.part)
+
+plus_by : (d : List ℕ) (width : ℤ) (w : List ℕ) (rest : List (List ℕ)) (command : Command) (b : Bool) → bytes_eq w (codes "plus") ≡ b → IsDimension d width
+    → (if b then and_then (amount_first rest) (λ stretch. shrink_of width stretch (rest_of rest)) else (if bytes_eq w (codes "minus") then last_shrink_of width no_amount rest else Err Word)) ≡ Ok command
+    → Says (codes "glue" ∷ d ∷ w ∷ rest) command
+plus_by d width w rest command true e is h =
+    let read = then_read (amount_first rest) (λ stretch. shrink_of width stretch (rest_of rest)) command h in
+    let x = amount_first_read rest read.0 read.1 in
+    let all : w ∷ rest ≡ codes "plus" ∷ x.0 ∷ rest_of rest = two_words w (codes "plus") rest (x.0 ∷ rest_of rest) (same_bytes w (codes "plus") e) x.1 in
+    let P : List (List ℕ) → Type 0 = λ xs. Says (codes "glue" ∷ d ∷ xs) command in
+    subst P (sym all) (says_glue_with d width read.0 (codes "plus" ∷ x.0 ∷ []) (rest_of rest) command is (inr (x.0, refl, x.2)) (shrink_read width read.0 (rest_of rest) command read.2))
+plus_by d width w rest command false e is h =
+    says_glue_with d width no_amount [] (w ∷ rest) command is (inl (refl, refl, refl)) (minus_by width no_amount w rest command (bytes_eq w (codes "minus")) refl h)
+
+says_parts : (d : List ℕ) (width : ℤ) (rest : List (List ℕ)) (command : Command) → IsDimension d width → parts_of width rest ≡ Ok command → Says (codes "glue" ∷ d ∷ rest) command
+unfolding parts_of
+says_parts d width [] command is h = says_glue_with d width no_amount [] [] command is (inl (refl, refl, refl)) (no_shrink_read width no_amount command (cc))
+says_parts d width (w ∷ rest) command is h = plus_by d width w rest command (bytes_eq w (codes "plus")) refl is h
+
+says_glue : (rest : List (List ℕ)) (command : Command) → glue_of rest ≡ Ok command → Says (codes "glue" ∷ rest) command
+unfolding glue_of
+says_glue rest command h =
+    let read = then_read (dimension_first rest) (λ width. parts_of width (rest_of rest)) command h in
+    let d = dimension_first_read rest read.0 read.1 in
+    let P : List (List ℕ) → Type 0 = λ xs. Says (codes "glue" ∷ xs) command in
+    subst P (sym d.1) (says_parts d.0 read.0 (rest_of rest) command d.2 read.2)
+
+penalty_in : (p : List ℕ) (o : Option ℤ) (z : ℤ) → penalty_of p ≡ o → some_or Number o ≡ Ok z → IsPenalty p z
+penalty_in p None z e h = absurd (cc)
+penalty_in p (Some y) z e h = writes_penalty p z (cc)
+
+penalty_last : (rest : List (List ℕ)) (z : ℤ) → last_penalty rest ≡ Ok z → (p : List ℕ) × (rest ≡ p ∷ []) × IsPenalty p z
+unfolding last_penalty penalty_first
+penalty_last [] z h = absurd (cc)
+penalty_last (p ∷ rest) z h =
+    let after = nothing_after (some_or Number (penalty_of p)) rest z h in
+    (p, ap (λ (xs : List (List ℕ)). p ∷ xs) after.0, penalty_in p (penalty_of p) z refl after.1)
+
+says_penalty : (rest : List (List ℕ)) (command : Command) → map_ok Penalty (last_penalty rest) ≡ Ok command → Says (codes "penalty" ∷ rest) command
+says_penalty rest command h =
+    let m = made Penalty (last_penalty rest) command h in
+    let last = penalty_last rest m.0 m.1 in
+    along (codes "penalty" ∷ rest) (Penalty m.0) command m.2 (last.0, ap (λ (xs : List (List ℕ)). codes "penalty" ∷ xs) last.1, last.2)
+
+set_by : (w : List ℕ) (rest : List (List ℕ)) (command : Command) (b : Bool) → bytes_eq w (codes "boxmaxdepth") ≡ b → set_of (w ∷ rest) ≡ Ok command → Says (codes "set" ∷ w ∷ rest) command
+unfolding set_of word_first
+set_by w rest command true e h =
+    let m = made (λ z. Set (BoxMaxDepth z)) (last_dimension rest) command (rw e at h) in
+    let last = dimension_last rest m.0 m.1 in
+    along (codes "set" ∷ w ∷ rest) (Set (BoxMaxDepth m.0)) command m.2
+    (last.0, ap (λ (xs : List (List ℕ)). codes "set" ∷ xs) (two_fields w (codes "boxmaxdepth") rest last.0 (same_bytes w (codes "boxmaxdepth") e) last.1), last.2)
+set_by w rest command false e h = let s : Err Word ≡ Ok command = rw e at h in absurd (cc)
+
+says_set : (rest : List (List ℕ)) (command : Command) → set_of rest ≡ Ok command → Says (codes "set" ∷ rest) command
+unfolding set_of word_first
+says_set [] command h = absurd (cc)
+says_set (w ∷ rest) command h = set_by w rest command (bytes_eq w (codes "boxmaxdepth")) refl h
 
 says_alone : (name : List ℕ) (rest : List (List ℕ)) (make : ℕ → Command) (command : Command) → ((r : List ℕ) (n : ℕ) → IsNumber r n → Says (name ∷ r ∷ []) (make n)) → map_ok make (last_number rest) ≡ Ok command → Says (name ∷ rest) command
 says_alone name rest make command says h =
@@ -300,14 +526,18 @@ says_named : (name : Name) (rest : List (List ℕ)) (command : Command) → comm
 unfolding command_named
 says_named names.Font rest command h = says_font rest command h
 says_named names.Use rest command h = says_alone (codes "use") rest UseFont command (λ r n is. (r, refl, is)) h
-says_named names.Hbox [] command h = absurd (no_hbox command h)
-says_named names.Hbox (w ∷ rest) command h = says_hbox w rest command _ refl h
+says_named names.Hbox rest command h = says_opening forms.Hbox rest command h
+says_named names.Vbox rest command h = says_opening forms.Vbox rest command h
+says_named names.Vtop rest command h = says_opening forms.Vtop rest command h
 says_named names.End rest command h = says_end rest command h
 says_named names.Character rest command h = says_alone (codes "char") rest Character command (λ r n is. (r, refl, is)) h
 says_named names.Rule rest command h = says_rule rest command h
 says_named names.Kern rest command h = says_kern rest command h
+says_named names.Glue rest command h = says_glue rest command h
+says_named names.Penalty rest command h = says_penalty rest command h
 says_named names.Measure rest command h = says_alone (codes "measure") rest Measure command (λ r n is. (r, refl, is)) h
 says_named names.Void rest command h = says_alone (codes "void") rest Void command (λ r n is. (r, refl, is)) h
+says_named names.Set rest command h = says_set rest command h
 says_named names.Ship rest command h = says_alone (codes "ship") rest Ship command (λ r n is. (r, refl, is)) h
 
 says_by : (word : List ℕ) (rest : List (List ℕ)) (command : Command) (o : Option Name) → name_of word ≡ o → named_by o rest ≡ Ok command → Says (word ∷ rest) command

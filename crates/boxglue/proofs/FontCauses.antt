@@ -17,7 +17,7 @@ use Rattle.boxglue.specs.Causes.{IsWord, GivesNumber, GivesSizeOfFont, GivesSize
 use Rattle.boxglue.specs.Reading.{number_of, number_first, size_of_font, size_of_font_first, dimension_first, is_name, name_first, chosen_size_of, font_by, font_of, map_ok, command_named, command_of}
 use Rattle.boxglue.proofs.FieldLaws.{same_bytes, reads_dimension, names_font, is_size_of_font}
 use Rattle.boxglue.proofs.CommandLaws.{named}
-use Rattle.boxglue.proofs.CauseForms.{Fails, missing, bad_field, extra, as_cause, not_made, zero_text, zero_names, zero_number, no_dimension_given}
+use Rattle.boxglue.proofs.CauseForms.{Fails, missing, bad_field, extra, as_cause, not_made, zero_text, zero_names, zero_number, no_dimension_given, at_is_word}
 
 abbrev load : ℕ → List ℕ → Option ℤ → Command
 load slot name size = LoadFont (record { slot = slot; name = name; size = size })
@@ -154,7 +154,7 @@ module _ (s : List ℕ) (n : ℕ) (name : List ℕ) (is_slot : number_of s ≡ S
       subst P (sym at) (behind_at rest cause (subst Q at h))
   by_word w rest false cause e h =
       as_cause _ Word cause (let no = no_at w rest e in cc)
-      (bad_field IsWord (codes "font" ∷ s ∷ name ∷ []) w rest (codes "at") (one ∷ []) (load n name (Some (pos 1))) (inr (inr refl)) (loads (codes "at" ∷ one ∷ []) (Some (pos 1)) at_given)
+      (bad_field IsWord (codes "font" ∷ s ∷ name ∷ []) w rest (codes "at") (one ∷ []) (load n name (Some (pos 1))) at_is_word (loads (codes "at" ∷ one ∷ []) (Some (pos 1)) at_given)
       (λ later. fails (w ∷ later) Word (no_at w later e)))
 
   pub size_cause : (rest : List (List ℕ)) (cause : Cause) → chosen_size_of rest ≡ Err cause → IsFieldCause cause (codes "font" ∷ s ∷ name ∷ rest)

@@ -6,6 +6,8 @@ pub mod AmountLaws
 pub mod CommandLaws
 pub mod CauseForms
 pub mod FontCauses
+pub mod OpeningCauses
+pub mod GlueCauses
 pub mod CauseLaws
 pub mod TextLines
 pub mod ScriptLaws

@@ -102,11 +102,7 @@ pub number_names : (field : List ℕ) (z : ℤ) → IsInteger field z → number
 unfolding number_of
 number_names field z is = rw (numeral_passes (without_leading_sign field) is.digits, is.value) refl
 
-pub negative : (z : ℤ) → z <ℤ pos 0 → small_number z ≡ None
-negative (negsuc n) h = refl
-negative (pos n) h = absurd (omega (arith, ints))
-
-pub ruleset numbers = (no_integer, number_names, negative)
+pub ruleset numbers = (no_integer, number_names)
 
 penalty_by : (field : List ℕ) (b : Bool) → is_numeral (without_leading_sign field) ≡ b → (IsInteger field (signed_digits_value 10 field) → penalty_number (signed_digits_value 10 field) ≡ None) → penalty_of field ≡ None
 unfolding penalty_of

@@ -7,7 +7,7 @@ ghost use Rattle.tfm_core.specs.NamedBytes.{IsFontName};
 ghost use Rattle.job_core.specs.declared.command.Command.TheVariants as commands;
 ghost use Rattle.boxglue.specs.Grammar.{IsInteger, is_name_byte};
 ghost use Rattle.boxglue.specs.ScriptLines.{fields_of};
-ghost use Rattle.boxglue.specs.Reading.{first_of, rest_of, word_first, number_of, number_first, dimension_first, size_of_font, size_of_font_first, is_short, is_name, name_first, size_of, size_first, ended, last_number, last_dimension, chosen_size_of, font_of, penalty_of, penalty_first, last_penalty, amount_first, last_amount, opened, opened_into, opening_of, glue, shrink_of, last_shrink_of, parts_of, glue_of, set_of, rule_of, command_named, command_of};
+ghost use Rattle.boxglue.specs.Reading.{first_of, rest_of, word_first, small_number, number_of, number_first, dimension_first, size_of_font, size_of_font_first, is_short, is_name, name_first, size_of, size_first, ended, last_number, last_dimension, chosen_size_of, font_of, penalty_of, penalty_first, last_penalty, amount_first, last_amount, opened, opened_into, opening_of, glue, shrink_of, last_shrink_of, parts_of, glue_of, set_of, rule_of, command_named, command_of};
 
 use crate::amounts::{Amount, amount_of};
 use crate::cause::Cause;
@@ -493,9 +493,16 @@ fn glue(width: Dimen, stretch: Amount, shrink: Amount) -> Command
 fn number_of(field: &[u8]) -> Option<u8>
     ensures { result ≡ number_of field.now }
 {
-    let Some(number) = integer_of(field) else {
-        return None;
-    };
+    match integer_of(field) {
+        Some(number) => small_number(number),
+        None => None,
+    }
+}
+
+/// A number from 0 to 255.
+fn small_number(number: i64) -> Option<u8>
+    ensures { result ≡ small_number number }
+{
     if number < 0 {
         return None;
     }
