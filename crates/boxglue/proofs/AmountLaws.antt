@@ -1,5 +1,5 @@
 -- What the function that reads an amount of stretch or shrink says.
-use Rattle.std.proofs.Common.{◌≡◌, ◌⊎◌, ℕ, ℤ, ◌-◌, Bool, true, false, List, [], ◌∷◌, ◌++◌, Option, Some, None, Result, Ok, Err, codes, refl, ap, sym, ◌∙◌, subst, length, take, drop, arith, append_assoc, length-append}
+use Rattle.std.proofs.Common.{◌≡◌, ℕ, ℤ, ◌-◌, ◌<◌, get_or, Bool, true, false, List, [], ◌∷◌, ◌++◌, Option, Some, None, Result, Ok, Err, codes, refl, ap, sym, ◌∙◌, subst, length, take, drop, arith, append_assoc, length-append}
 use Rattle.std.specs.Str.{bytes_eq}
 use Rattle.std.proofs.lemmas.List.{take-append-drop}
 use Rattle.std.proofs.Math.Seq.{drop-append_seam, take-append_seam}
@@ -55,14 +55,17 @@ same_end a b u v size e =
 longer_end : (a b u first v : List ℕ) → length u ≡ length v → a ++ u ≡ b ++ (first ++ v) → u ≡ v
 longer_end a b u first v size e = same_end a (b ++ first) u v size (e ∙ sym (append_assoc b first v))
 
+heads_differ : (x y : ℕ) (xs ys : List ℕ) → x < y → x ∷ xs ≡ y ∷ ys → ⊥
+heads_differ x y xs ys less e = let same : x ≡ y = cc in absurd (omega arith)
+
 fil_no_fill : (a b : List ℕ) → a ++ codes "fil" ≡ b ++ codes "fill" → ⊥
-fil_no_fill a b e = let same = longer_end a b (codes "fil") (codes "f") (codes "ill") refl e in cc
+fil_no_fill a b e = let same = longer_end a b (codes "fil") (codes "f") (codes "ill") refl e in heads_differ 102 105 (codes "il") (codes "ll") (omega arith) same
 
 fil_no_filll : (a b : List ℕ) → a ++ codes "fil" ≡ b ++ codes "filll" → ⊥
-fil_no_filll a b e = let same = longer_end a b (codes "fil") (codes "fi") (codes "lll") refl e in cc
+fil_no_filll a b e = let same = longer_end a b (codes "fil") (codes "fi") (codes "lll") refl e in heads_differ 102 108 (codes "il") (codes "ll") (omega arith) same
 
 fill_no_filll : (a b : List ℕ) → a ++ codes "fill" ≡ b ++ codes "filll" → ⊥
-fill_no_filll a b e = let same = longer_end a b (codes "fill") (codes "f") (codes "illl") refl e in cc
+fill_no_filll a b e = let same = longer_end a b (codes "fill") (codes "f") (codes "illl") refl e in heads_differ 102 105 (codes "ill") (codes "lll") (omega arith) same
 
 unit_size : (unit : LengthUnit) → length (unit_text unit) ≡ 2
 unit_size Point = refl
@@ -76,15 +79,15 @@ unit_size Cicero = refl
 unit_size ScaledPoint = refl
 
 unit_no_l : (unit : LengthUnit) (c : ℕ) → unit_text unit ≡ c ∷ 108 ∷ [] → ⊥
-unit_no_l Point c e = cc
-unit_no_l Inch c e = cc
-unit_no_l Pica c e = cc
-unit_no_l Centimeter c e = cc
-unit_no_l Millimeter c e = cc
-unit_no_l BigPoint c e = cc
-unit_no_l DidotPoint c e = cc
-unit_no_l Cicero c e = cc
-unit_no_l ScaledPoint c e = cc
+unit_no_l Point c e = let second : 116 ≡ 108 = ap (λ (xs : List ℕ). get_or xs 1 0) e in absurd (omega arith)
+unit_no_l Inch c e = let second : 110 ≡ 108 = ap (λ (xs : List ℕ). get_or xs 1 0) e in absurd (omega arith)
+unit_no_l Pica c e = let second : 99 ≡ 108 = ap (λ (xs : List ℕ). get_or xs 1 0) e in absurd (omega arith)
+unit_no_l Centimeter c e = let second : 109 ≡ 108 = ap (λ (xs : List ℕ). get_or xs 1 0) e in absurd (omega arith)
+unit_no_l Millimeter c e = let second : 109 ≡ 108 = ap (λ (xs : List ℕ). get_or xs 1 0) e in absurd (omega arith)
+unit_no_l BigPoint c e = let second : 112 ≡ 108 = ap (λ (xs : List ℕ). get_or xs 1 0) e in absurd (omega arith)
+unit_no_l DidotPoint c e = let second : 100 ≡ 108 = ap (λ (xs : List ℕ). get_or xs 1 0) e in absurd (omega arith)
+unit_no_l Cicero c e = let second : 99 ≡ 108 = ap (λ (xs : List ℕ). get_or xs 1 0) e in absurd (omega arith)
+unit_no_l ScaledPoint c e = let second : 112 ≡ 108 = ap (λ (xs : List ℕ). get_or xs 1 0) e in absurd (omega arith)
 
 number_first : (parts : DimensionParts) → parts_text parts ≡ (sign_text parts.sign ++ (parts.whole ++ fraction_text parts.fraction)) ++ unit_text parts.unit
 number_first parts = simp append_assoc refl

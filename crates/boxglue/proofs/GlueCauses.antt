@@ -95,8 +95,8 @@ module _ (d : List ℕ) (z : ℤ) (is : read_dimension d ≡ Ok z) where
 
   by_stretch : (x : List ℕ) (rest : List (List ℕ)) (r : Result Amount Cause) (cause : Cause) → amount_of x ≡ r → command_of (codes "glue" ∷ d ∷ codes "plus" ∷ x ∷ rest) ≡ Err cause → IsFieldCause cause (codes "glue" ∷ d ∷ codes "plus" ∷ x ∷ rest)
   by_stretch x rest (Err other) cause e h =
-      let is : Err other ≡ Err cause = sym (no_stretch x rest other e) ∙ h in
-      bad_amount (codes "glue" ∷ d ∷ codes "plus" ∷ []) x rest [] (glue z no_amount no_amount) cause (e ∙ is) (stretch_alone zero no_amount zero_amount) (λ later. (other, no_stretch x later other e))
+      let is : other ≡ cause = let no = no_stretch x rest other e in cc in
+      bad_amount (codes "glue" ∷ d ∷ codes "plus" ∷ []) x rest [] (glue z no_amount no_amount) cause (e ∙ ap (λ (c : Cause). Err c) is) (stretch_alone zero no_amount zero_amount) (λ later. (other, no_stretch x later other e))
   by_stretch x rest (Ok a) cause e h = shrink_cause x a rest cause e h
 
   plus_cause : (rest : List (List ℕ)) (cause : Cause) → command_of (codes "glue" ∷ d ∷ codes "plus" ∷ rest) ≡ Err cause → IsFieldCause cause (codes "glue" ∷ d ∷ codes "plus" ∷ rest)

@@ -102,6 +102,10 @@ pub number_names : (field : List ℕ) (z : ℤ) → IsInteger field z → number
 unfolding number_of
 number_names field z is = rw (numeral_passes (without_leading_sign field) is.digits, is.value) refl
 
+-- the small number of a field
+pub small_tried : (field : List ℕ) (z : ℤ) (o : Option ℕ) → IsInteger field z → o ≡ small_number z → o ≡ number_of field
+small_tried field z o is h = h ∙ sym (number_names field z is)
+
 pub ruleset numbers = (no_integer, number_names)
 
 penalty_by : (field : List ℕ) (b : Bool) → is_numeral (without_leading_sign field) ≡ b → (IsInteger field (signed_digits_value 10 field) → penalty_number (signed_digits_value 10 field) ≡ None) → penalty_of field ≡ None
