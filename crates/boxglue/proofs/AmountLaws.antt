@@ -1,5 +1,5 @@
 -- What the function that reads an amount of stretch or shrink says.
-use Rattle.std.proofs.Common.{◌≡◌, ℕ, ℤ, ◌-◌, ◌<◌, get_or, Bool, true, false, List, [], ◌∷◌, ◌++◌, Option, Some, None, Result, Ok, Err, codes, refl, ap, sym, ◌∙◌, subst, length, take, drop, arith, append_assoc, length-append}
+use Rattle.std.proofs.Common.{◌≡◌, ℕ, ℤ, ◌-◌, ◌<◌, ◌==◌, Bool, true, false, List, [], ◌∷◌, ◌++◌, Option, Some, None, Result, Ok, Err, codes, refl, ap, sym, ◌∙◌, subst, length, take, drop, arith, append_assoc, length-append}
 use Rattle.std.specs.Str.{bytes_eq}
 use Rattle.std.proofs.lemmas.List.{take-append-drop}
 use Rattle.std.proofs.Math.Seq.{drop-append_seam, take-append_seam}
@@ -78,16 +78,22 @@ unit_size DidotPoint = refl
 unit_size Cicero = refl
 unit_size ScaledPoint = refl
 
+other_second : (a b c : ℕ) → (b == 108) ≡ false → a ∷ b ∷ [] ≡ c ∷ 108 ∷ [] → ⊥
+other_second a b c differs e =
+    let same : b ≡ 108 = cc in
+    let s : true ≡ false = rw same at differs in
+    absurd (cc)
+
 unit_no_l : (unit : LengthUnit) (c : ℕ) → unit_text unit ≡ c ∷ 108 ∷ [] → ⊥
-unit_no_l Point c e = let second : 116 ≡ 108 = ap (λ (xs : List ℕ). get_or xs 1 0) e in absurd (omega arith)
-unit_no_l Inch c e = let second : 110 ≡ 108 = ap (λ (xs : List ℕ). get_or xs 1 0) e in absurd (omega arith)
-unit_no_l Pica c e = let second : 99 ≡ 108 = ap (λ (xs : List ℕ). get_or xs 1 0) e in absurd (omega arith)
-unit_no_l Centimeter c e = let second : 109 ≡ 108 = ap (λ (xs : List ℕ). get_or xs 1 0) e in absurd (omega arith)
-unit_no_l Millimeter c e = let second : 109 ≡ 108 = ap (λ (xs : List ℕ). get_or xs 1 0) e in absurd (omega arith)
-unit_no_l BigPoint c e = let second : 112 ≡ 108 = ap (λ (xs : List ℕ). get_or xs 1 0) e in absurd (omega arith)
-unit_no_l DidotPoint c e = let second : 100 ≡ 108 = ap (λ (xs : List ℕ). get_or xs 1 0) e in absurd (omega arith)
-unit_no_l Cicero c e = let second : 99 ≡ 108 = ap (λ (xs : List ℕ). get_or xs 1 0) e in absurd (omega arith)
-unit_no_l ScaledPoint c e = let second : 112 ≡ 108 = ap (λ (xs : List ℕ). get_or xs 1 0) e in absurd (omega arith)
+unit_no_l Point c e = other_second 112 116 c refl e
+unit_no_l Inch c e = other_second 105 110 c refl e
+unit_no_l Pica c e = other_second 112 99 c refl e
+unit_no_l Centimeter c e = other_second 99 109 c refl e
+unit_no_l Millimeter c e = other_second 109 109 c refl e
+unit_no_l BigPoint c e = other_second 98 112 c refl e
+unit_no_l DidotPoint c e = other_second 100 100 c refl e
+unit_no_l Cicero c e = other_second 99 99 c refl e
+unit_no_l ScaledPoint c e = other_second 115 112 c refl e
 
 number_first : (parts : DimensionParts) → parts_text parts ≡ (sign_text parts.sign ++ (parts.whole ++ fraction_text parts.fraction)) ++ unit_text parts.unit
 number_first parts = simp append_assoc refl

@@ -1,6 +1,6 @@
 //! Definitions held against known scripts and texts, each on a function that does nothing.
 
-ghost use Rattle.boxglue.specs.Rows.{OneRuleScript, OneRuleAnswers, BadRow, TextScript, TextAnswers, BadSizeRow, BadNameRow};
+ghost use Rattle.boxglue.specs.Rows.{OneRuleScript, OneRuleAnswers, BadRow, TextScript, TextAnswers, BadSizeRow, BadNameRow, TallBoxScript, NoRegisterRow, LateStretchRow};
 
 /// The script of the one-rule page says its four commands.
 pub fn one_rule_script()
@@ -31,4 +31,15 @@ pub fn text_answers()
 pub fn bad_fonts()
     ensures size { BadSizeRow }
     ensures name { BadNameRow }
+{}
+
+/// A script of a vertical box of a given size, with a stretch of order fil, a penalty and a parameter.
+pub fn tall_box_script()
+    ensures { TallBoxScript }
+{}
+
+/// A size without its register is bad for what is missing, and a glue with its stretch behind its shrink for what is too many.
+pub fn bad_boxes_and_glue()
+    ensures register { NoRegisterRow }
+    ensures stretch { LateStretchRow }
 {}

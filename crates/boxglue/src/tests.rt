@@ -20,7 +20,10 @@ fn reads_each_command(rt: HostRuntime) -> Result<(), Fail> {
         b"% a comment\r\n\nhbox  into +007\n rule * 1pt -2sp \r\nkern 2pt\nend\nmeasure -0\nvoid 255\nship 7\nuse 63\n char  +0200\n  text a \ntext\ntext  \nfont +9 a.b  at 134217727sp \nfont 255 -_Z";
     let lines = read_script(rt.alloc(), text).expect(&rt, "each line is right");
     let commands = [
-        (3, "OpenHbox(Register { number: 7 })"),
+        (
+            3,
+            "Open(Opening { form: Hbox, target: Natural, into: Register { number: 7 } })",
+        ),
         (
             4,
             "Rule(Rule { width: Running, height: Fixed(Dimen { value: 65536 }), depth: Fixed(Dimen { value: -2 }) })",
@@ -54,6 +57,82 @@ fn reads_each_command(rt: HostRuntime) -> Result<(), Fail> {
 }
 
 #[test]
+fn reads_boxes_glue_and_penalties(rt: HostRuntime) -> Result<(), Fail> {
+    let text =
+        b"vbox to -1.5pt into 1\n vtop  spread 2sp into +0255\nhbox into 0\nglue 1pt\nglue 0sp plus 1fil\nglue -1pt minus -.5filll \nglue 1pt plus 2pt minus 3fill\nglue 0pt plus 16383.99998fil\npenalty -500000000\npenalty +00010\npenalty 500000000\nset boxmaxdepth -1sp";
+    let lines = read_script(rt.alloc(), text).expect(&rt, "each line is right");
+    let commands = [
+        "Open(Opening { form: Vbox, target: To(Dimen { value: -98304 }), into: Register { number: 1 } })",
+        "Open(Opening { form: Vtop, target: Spread(Dimen { value: 2 }), into: Register { number: 255 } })",
+        "Open(Opening { form: Hbox, target: Natural, into: Register { number: 0 } })",
+        "Glue(Glue { width: Dimen { value: 65536 }, stretch: Dimen { value: 0 }, stretch_order: Normal, shrink: Dimen { value: 0 }, shrink_order: Normal })",
+        "Glue(Glue { width: Dimen { value: 0 }, stretch: Dimen { value: 65536 }, stretch_order: Fil, shrink: Dimen { value: 0 }, shrink_order: Normal })",
+        "Glue(Glue { width: Dimen { value: -65536 }, stretch: Dimen { value: 0 }, stretch_order: Normal, shrink: Dimen { value: -32768 }, shrink_order: Filll })",
+        "Glue(Glue { width: Dimen { value: 65536 }, stretch: Dimen { value: 131072 }, stretch_order: Normal, shrink: Dimen { value: 196608 }, shrink_order: Fill })",
+        "Glue(Glue { width: Dimen { value: 0 }, stretch: Dimen { value: 1073741823 }, stretch_order: Fil, shrink: Dimen { value: 0 }, shrink_order: Normal })",
+        "Penalty(Number { value: -500000000 })",
+        "Penalty(Number { value: 10 })",
+        "Penalty(Number { value: 500000000 })",
+        "Set(BoxMaxDepth(Dimen { value: -1 }))",
+    ];
+    let shown = shown(rt.alloc(), &lines)?;
+    assert_eq!(rt; shown.len(), commands.len());
+    for ((_, text), command) in shown.iter().zip(commands) {
+        assert!(rt; text.as_str() == command);
+    }
+    Ok(())
+}
+
+#[test]
+fn names_bad_boxes_glue_and_penalties(rt: HostRuntime) {
+    for (text, cause) in [
+        ("vbox", Cause::Missing),
+        ("hbox foo", Cause::Word),
+        ("hbox 0", Cause::Word),
+        ("hbox to 1pt foo", Cause::Word),
+        ("hbox to 1pt to 2pt", Cause::Word),
+        ("vtop spread 1pt into", Cause::Missing),
+        ("hbox to 1pt into 0 spread 1pt", Cause::Extra),
+        ("hbox into 0 to 1pt", Cause::Extra),
+        ("hbox to", Cause::Missing),
+        ("hbox to x into 0", Cause::Dimension),
+        ("vbox spread 1fil into 0", Cause::Dimension),
+        ("hbox into 256", Cause::Number),
+        ("vtop to 1pt into -1", Cause::Number),
+        ("glue", Cause::Missing),
+        ("glue 1fil", Cause::Dimension),
+        ("glue 1pt plus", Cause::Missing),
+        ("glue 1pt minus", Cause::Missing),
+        ("glue 1pt plus 1pt minus", Cause::Missing),
+        ("glue 1pt foo", Cause::Word),
+        ("glue 1pt plus 1fil foo", Cause::Word),
+        ("glue 1pt plus 1fil plus 1fil", Cause::Word),
+        ("glue 1pt minus 1pt plus 1pt", Cause::Extra),
+        ("glue 1pt plus 1pt minus 1pt foo", Cause::Extra),
+        ("glue 1pt plus 1fi", Cause::Dimension),
+        ("glue 1pt plus fil", Cause::Dimension),
+        ("glue 1pt plus 1ptfil", Cause::Dimension),
+        ("glue 1pt plus 1fillll", Cause::Dimension),
+        ("glue 1pt minus 16384fil", Cause::Dimension),
+        ("glue 1pt plus x foo", Cause::Dimension),
+        ("penalty", Cause::Missing),
+        ("penalty 1pt", Cause::Number),
+        ("penalty 500000001", Cause::Number),
+        ("penalty -500000001", Cause::Number),
+        ("penalty -99999999999999999999", Cause::Number),
+        ("penalty 1 2", Cause::Extra),
+        ("set", Cause::Missing),
+        ("set foo 1pt", Cause::Word),
+        ("set boxmaxdepth", Cause::Missing),
+        ("set boxmaxdepth 1", Cause::Dimension),
+        ("set boxmaxdepth 1pt 1pt", Cause::Extra),
+    ] {
+        let found = read_script(rt.alloc(), text.as_bytes()).err();
+        assert!(rt; found == Some(ScriptFault::BadScript { line: 1, cause }));
+    }
+}
+
+#[test]
 fn names_the_first_bad_line(rt: HostRuntime) {
     for (text, line, cause) in [
         ("end\nkern\t1pt\n", 2, Cause::Byte),
@@ -62,8 +141,8 @@ fn names_the_first_bad_line(rt: HostRuntime) {
         ("\u{e9}", 1, Cause::Byte),
         ("%\t\nbox 0\n", 2, Cause::Word),
         (" % x", 1, Cause::Word),
-        ("vbox into 0", 1, Cause::Word),
-        ("hbox to 1pt", 1, Cause::Word),
+        ("par", 1, Cause::Word),
+        ("hbox to 1pt", 1, Cause::Missing),
         ("   ", 1, Cause::Missing),
         ("hbox", 1, Cause::Missing),
         ("hbox into", 1, Cause::Missing),
