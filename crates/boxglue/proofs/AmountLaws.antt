@@ -14,7 +14,7 @@ use Rattle.scaled_core.specs.ParsedTexts.{read_dimension}
 use Rattle.boxglue.specs.declared.amounts.Amount.{Amount}
 use Rattle.boxglue.specs.declared.cause.Cause.{Cause}
 use Rattle.boxglue.specs.declared.cause.Cause.TheVariants.{Dimension}
-use Rattle.boxglue.specs.Grammar.{IsDimension, IsNumberOf, IsAmount}
+use Rattle.boxglue.specs.Grammar.{IsDimension, IsAmount}
 use Rattle.boxglue.specs.Reading.{before_unit, amount, amount_in, amount_or, amount_of, map_ok, dimension_or}
 use Rattle.boxglue.proofs.FieldLaws.{same_bytes, bytes_same, reads_dimension, dimension_read}
 

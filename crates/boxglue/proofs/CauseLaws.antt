@@ -8,7 +8,7 @@ use Rattle.job_core.specs.declared.command.Command.TheVariants.{UseFont, End, Ch
 use Rattle.job_core.specs.declared.command.BoxForm.TheVariants as forms
 use Rattle.job_core.specs.declared.command.Parameter.TheVariants.{BoxMaxDepth}
 use Rattle.boxglue.specs.declared.cause.Cause.{Cause}
-use Rattle.boxglue.specs.declared.cause.Cause.TheVariants.{Word, Missing, Extra, Number, Dimension}
+use Rattle.boxglue.specs.declared.cause.Cause.TheVariants.{Word, Missing, Extra, Dimension}
 use Rattle.boxglue.specs.declared.name.Name.{Name}
 use Rattle.boxglue.specs.declared.name.Name.TheVariants as names
 use Rattle.boxglue.specs.Names.{name_of}

@@ -1,8 +1,7 @@
 -- The function that reads a command gives the commands of the grammar.
-use Rattle.std.proofs.Common.{◌≡◌, inl, inr, ℕ, ℤ, pos, Bool, true, false, if◌then◌else◌, List, [], ◌∷◌, ◌++◌, Option, Some, None, Result, Ok, Err, codes, refl, ap, sym, ◌∙◌, subst}
+use Rattle.std.proofs.Common.{◌≡◌, inl, inr, ℕ, ℤ, Bool, true, false, if◌then◌else◌, List, [], ◌∷◌, ◌++◌, Option, Some, None, Result, Ok, Err, codes, refl, ap, sym, ◌∙◌, subst}
 use Rattle.std.specs.Str.{bytes_eq}
 use Rattle.node_core.specs.declared.tree.Order.{Order}
-use Rattle.node_core.specs.declared.tree.Order.TheVariants.{Normal}
 use Rattle.node_core.specs.declared.tree.RuleSize.{RuleSize}
 use Rattle.pack_core.specs.declared.pack.Target.{Target}
 use Rattle.pack_core.specs.declared.pack.Target.TheVariants.{Natural, To, Spread}
