@@ -15,7 +15,7 @@ pub fn refusals_change_nothing()
     ensures { (m next : Machine) (n k : ℕ) (command : Command) (refusal : ARefusal) → refusal ≢ refusals.Device → Steps m n command (Err refusal) next k → next ≡ m }
 {}
 
-/// Want of memory is answered only to commands that take memory: never to use, end, measure and void.
+/// Want of memory is answered only to commands that take memory: never to use, end, measure, void and set.
 pub fn memory_is_wanted_by_few()
     ensures { (m next : Machine) (n k : ℕ) (command : Command) → Steps m n command (Err refusals.OutOfMemory) next k → TakesMemory command }
 {}
