@@ -141,7 +141,12 @@ fn packed_lists(rt: HostRuntime) -> Result<(), Fail> {
     ] {
         let whole = format!(in alloc; "{}end\n", script)?;
         let (_, out) = answers(alloc, whole.as_str()).expect(&rt, "it runs");
-        assert!(rt; out.as_slice().windows(answer.len()).any(|text| text == answer.as_bytes()), "at {script}");
+        assert!(rt;
+            out.as_slice()
+                .windows(answer.len())
+                .any(|text| text == answer.as_bytes()),
+            "at {script}"
+        );
     }
     Ok(())
 }
@@ -169,7 +174,8 @@ fn lists_of_two_kinds(rt: HostRuntime) {
 
 #[test]
 fn a_vertical_page(rt: HostRuntime) {
-    let script = "vbox to 20pt into 0\nrule 10pt 5pt 0pt\nglue 0pt plus 1fil\nrule 10pt 5pt 0pt\nend\nship 0\n";
+    let script =
+        "vbox to 20pt into 0\nrule 10pt 5pt 0pt\nglue 0pt plus 1fil\nrule 10pt 5pt 0pt\nend\nship 0\n";
     let (fine, out) = answers(rt.alloc(), script).expect(&rt, "it runs");
     assert!(rt; fine);
     let expected = "1: ok

@@ -6,7 +6,6 @@ use Rattle.std.specs.List.{AllByRecursion, list_any}
 use Rattle.std.proofs.lemmas.Int.{ints, clamps}
 use Rattle.scaled_core.specs.Dimensions.{Within}
 use Rattle.tfm_core.specs.NamedBytes.{NamedBytes}
-use Rattle.node_core.specs.declared.tree.BoxNode.{BoxNode}
 use Rattle.node_core.specs.Nodes.{nodes_of}
 use Rattle.dvi_ops.specs.Instruction.{Definition, Instruction, Post, PostPost, Postamble}
 use Rattle.dvi_ops.specs.Body.{start}
@@ -23,7 +22,6 @@ use Rattle.job_core.specs.Sized.{AreSized}
 use Rattle.ship_core.specs.Marks.{Page, marks_of_page, is_huge}
 use Rattle.ship_core.specs.Drawing.{body_of}
 use Rattle.job_core.specs.Draft.{Draft, first_draft, with_page, with_pages, draft_of, definitions_of, fresh_slots, in_rising_order, selects, sheet_of, reach_down, reach_right, closing, closed, whole, file_of}
-use Rattle.job_core.specs.Machine.{page_of}
 use Rattle.job_core.specs.Runs.{IsShipped}
 use Rattle.job_core.specs.Shown.{GivesFiles, shown_page, IsFileOf}
 use Rattle.ship_core.proofs.Fitting.{fits_within}

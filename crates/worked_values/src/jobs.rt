@@ -127,10 +127,7 @@ fn only_so_many_lists_open(rt: HostRuntime) {
     for _ in 0..64u32 {
         assert!(rt; job.step(&hbox()).is_ok());
     }
-    assert_eq!(rt;
-        job.step(&hbox()),
-        Err(Refusal::TooDeep)
-    );
+    assert_eq!(rt; job.step(&hbox()), Err(Refusal::TooDeep));
 }
 
 /// The name of the font file.
