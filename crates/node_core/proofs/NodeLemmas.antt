@@ -1,9 +1,11 @@
 -- Lists of nodes and items are the same thing, seen in two ways.
-use Rattle.std.proofs.Common.{◌≡◌, List, [], ◌∷◌, length, refl, ap, arith}
+use Rattle.std.proofs.Common.{◌≡◌, ◌≢◌, ◌∙◌, ℕ, ℤ, ◌+◌, ◌<◌, max, List, [], ◌∷◌, ◌++◌, length, take, get_or, refl, ap, sym, arith}
+use Rattle.std.proofs.lemmas.List.{take_more}
 use Rattle.node_core.specs.declared.tree.Node.{Node}
-use Rattle.node_core.specs.declared.tree.Node.TheVariants.{Glyph, FontKern, Kern, Glue, Penalty, Rule}
-use Rattle.node_core.specs.Items.{glyph, font_kern, kern, glue, penalty, rule, Items, none, leaf, items_count, items_depth}
-use Rattle.node_core.specs.Nodes.{items_of, nodes_of}
+use Rattle.node_core.specs.declared.tree.Node.TheVariants.{Glyph, FontKern, Kern, Glue, Penalty, Rule, Box}
+use Rattle.node_core.specs.declared.tree.BoxNode.{BoxNode}
+use Rattle.node_core.specs.Items.{Leaf, glyph, font_kern, kern, glue, penalty, rule, Items, none, leaf, box, items_count, items_depth}
+use Rattle.node_core.specs.Nodes.{items_of, node_of, nodes_of}
 
 -- A list of nodes is the nodes of its items.
 pub nodes_of-items_of : (nodes : List Node) → nodes_of (items_of nodes) ≡ nodes
@@ -14,31 +16,81 @@ nodes_of-items_of ((Kern width) ∷ rest) = ap (λ nodes. Kern width ∷ nodes) 
 nodes_of-items_of ((Glue g) ∷ rest) = ap (λ nodes. Glue g ∷ nodes) (nodes_of-items_of rest)
 nodes_of-items_of ((Penalty p) ∷ rest) = ap (λ nodes. Penalty p ∷ nodes) (nodes_of-items_of rest)
 nodes_of-items_of ((Rule sizes) ∷ rest) = ap (λ nodes. Rule sizes ∷ nodes) (nodes_of-items_of rest)
+nodes_of-items_of ((Box shift b) ∷ rest) = ap (λ nodes. Box shift b ∷ nodes) (nodes_of-items_of rest)
+
+-- A node before others is its leaf before their items.
+pub items_of-node_of : (x : Leaf) → (rest : List Node) → items_of (node_of x ∷ rest) ≡ leaf x (items_of rest)
+items_of-node_of (glyph g) rest = refl
+items_of-node_of (font_kern width) rest = refl
+items_of-node_of (kern width) rest = refl
+items_of-node_of (glue g) rest = refl
+items_of-node_of (penalty p) rest = refl
+items_of-node_of (rule sizes) rest = refl
 
 -- Items are the items of their nodes.
 pub items_of-nodes_of : (items : Items) → items_of (nodes_of items) ≡ items
 items_of-nodes_of none = refl
-items_of-nodes_of (leaf (glyph g) rest) = ap (leaf (glyph g)) (items_of-nodes_of rest)
-items_of-nodes_of (leaf (font_kern width) rest) = ap (leaf (font_kern width)) (items_of-nodes_of rest)
-items_of-nodes_of (leaf (kern width) rest) = ap (leaf (kern width)) (items_of-nodes_of rest)
-items_of-nodes_of (leaf (glue g) rest) = ap (leaf (glue g)) (items_of-nodes_of rest)
-items_of-nodes_of (leaf (penalty p) rest) = ap (leaf (penalty p)) (items_of-nodes_of rest)
-items_of-nodes_of (leaf (rule sizes) rest) = ap (leaf (rule sizes)) (items_of-nodes_of rest)
-
--- As long as no node holds others, the items are as many as the nodes.
-pub items_count-is : (items : Items) → items_count items ≡ length (nodes_of items)
-items_count-is none = refl
-items_count-is (leaf (glyph g) rest) = omega (arith, items_count-is rest)
-items_count-is (leaf (font_kern width) rest) = omega (arith, items_count-is rest)
-items_count-is (leaf (kern width) rest) = omega (arith, items_count-is rest)
-items_count-is (leaf (glue g) rest) = omega (arith, items_count-is rest)
-items_count-is (leaf (penalty p) rest) = omega (arith, items_count-is rest)
-items_count-is (leaf (rule sizes) rest) = omega (arith, items_count-is rest)
-
--- No box stands in a list.
-pub items_depth-is : (items : Items) → items_depth items ≡ 0
-items_depth-is none = refl
-items_depth-is (leaf x rest) = items_depth-is rest
+items_of-nodes_of (leaf x rest) = items_of-node_of x (nodes_of rest) ∙ ap (leaf x) (items_of-nodes_of rest)
+items_of-nodes_of (box shift frame inner rest) = ap (box shift frame inner) (items_of-nodes_of rest)
 
 -- What the methods of a list and of a box use.
-pub ruleset nodes = (nodes_of-items_of, items_of-nodes_of, items_count-is, items_depth-is)
+pub ruleset nodes = (nodes_of-items_of, items_of-nodes_of)
+
+-- With one more node, what a list counts is more by what the node counts.
+abbrev pub node_count : Node → ℕ
+node_count x = items_count (items_of (x ∷ []))
+
+abbrev pub node_depth : Node → ℕ
+node_depth x = items_depth (items_of (x ∷ []))
+
+pub items_count-append : (front : List Node) → (x : Node) → items_count (items_of (front ++ x ∷ [])) ≡ items_count (items_of front) + node_count x
+items_count-append [] x = omega arith
+items_count-append ((Glyph g) ∷ rest) x = omega (arith, items_count-append rest x)
+items_count-append ((FontKern width) ∷ rest) x = omega (arith, items_count-append rest x)
+items_count-append ((Kern width) ∷ rest) x = omega (arith, items_count-append rest x)
+items_count-append ((Glue g) ∷ rest) x = omega (arith, items_count-append rest x)
+items_count-append ((Penalty p) ∷ rest) x = omega (arith, items_count-append rest x)
+items_count-append ((Rule sizes) ∷ rest) x = omega (arith, items_count-append rest x)
+items_count-append ((Box shift b) ∷ rest) x = omega (arith, items_count-append rest x)
+
+pub items_depth-append : (front : List Node) → (x : Node) → items_depth (items_of (front ++ x ∷ [])) ≡ max (items_depth (items_of front)) (node_depth x)
+items_depth-append [] x = omega arith
+items_depth-append ((Glyph g) ∷ rest) x = omega (arith, items_depth-append rest x)
+items_depth-append ((FontKern width) ∷ rest) x = omega (arith, items_depth-append rest x)
+items_depth-append ((Kern width) ∷ rest) x = omega (arith, items_depth-append rest x)
+items_depth-append ((Glue g) ∷ rest) x = omega (arith, items_depth-append rest x)
+items_depth-append ((Penalty p) ∷ rest) x = omega (arith, items_depth-append rest x)
+items_depth-append ((Rule sizes) ∷ rest) x = omega (arith, items_depth-append rest x)
+items_depth-append ((Box shift b) ∷ rest) x = omega (arith, items_depth-append rest x)
+
+-- The same of one more node of a list that is passed.
+pub items_count_more : (nodes : List Node) → (i : ℕ) → (x : Node) → i < length nodes → x ≡ get_or nodes i x →
+    items_count (items_of (take (i + 1) nodes)) ≡ items_count (items_of (take i nodes)) + node_count x
+items_count_more nodes i x below is =
+    ap (λ front. items_count (items_of front)) (take_more nodes i x below) ∙ items_count-append (take i nodes) (get_or nodes i x)
+    ∙ ap (λ y. items_count (items_of (take i nodes)) + node_count y) (sym is)
+
+pub items_depth_more : (nodes : List Node) → (i : ℕ) → (x : Node) → i < length nodes → x ≡ get_or nodes i x →
+    items_depth (items_of (take (i + 1) nodes)) ≡ max (items_depth (items_of (take i nodes))) (node_depth x)
+items_depth_more nodes i x below is =
+    ap (λ front. items_depth (items_of front)) (take_more nodes i x below) ∙ items_depth-append (take i nodes) (get_or nodes i x)
+    ∙ ap (λ y. max (items_depth (items_of (take i nodes))) (node_depth y)) (sym is)
+
+-- What is no box holds no other items.
+pub leaf_count : (x : Node) → ((shift : ℤ) (b : BoxNode) → x ≢ Box shift b) → node_count x ≡ 1
+leaf_count (Glyph g) other = refl
+leaf_count (FontKern width) other = refl
+leaf_count (Kern width) other = refl
+leaf_count (Glue g) other = refl
+leaf_count (Penalty p) other = refl
+leaf_count (Rule sizes) other = refl
+leaf_count (Box shift b) other = absurd (other shift b refl)
+
+pub leaf_depth : (x : Node) → ((shift : ℤ) (b : BoxNode) → x ≢ Box shift b) → node_depth x ≡ 0
+leaf_depth (Glyph g) other = refl
+leaf_depth (FontKern width) other = refl
+leaf_depth (Kern width) other = refl
+leaf_depth (Glue g) other = refl
+leaf_depth (Penalty p) other = refl
+leaf_depth (Rule sizes) other = refl
+leaf_depth (Box shift b) other = absurd (other shift b refl)

@@ -1,14 +1,18 @@
 -- How the logic stores the items of a list (own).
-use Rattle.std.specs.Prelude.{◌≡◌, ◌⊎◌, ℤ, List, [], ◌∷◌, refl}
-use Rattle.std.proofs.Common.{inl, inr, ap}
-use Rattle.std.specs.Coded.{Coded, code_by, coded⊎, coded_ℤ, coded_list}
+use Rattle.std.proofs.Common.{◌≡◌, ◌≢◌, ◌⊎◌, ℕ, ℤ, refl, inl, inr, ap, arith}
+use Rattle.std.specs.Coded.{Coded, code_by, coded⊎, coded×, coded_ℤ}
+use base.Stored.{Gv, gnil, gnum, gcons}
 use Rattle.node_core.specs.declared.tree.Glue.{Glue}
 use Rattle.node_core.specs.declared.tree.Glyph.{Glyph}
+use Rattle.node_core.specs.declared.tree.Kind.{Kind}
 use Rattle.node_core.specs.declared.tree.Rule.{Rule}
+use Rattle.node_core.specs.declared.tree.Setting.{Setting}
 use Rattle.node_core.specs.contracts.tree.Glue as a_glue
 use Rattle.node_core.specs.contracts.tree.Glyph as a_glyph
+use Rattle.node_core.specs.contracts.tree.Kind as a_kind
 use Rattle.node_core.specs.contracts.tree.Rule as a_rule
-use Rattle.node_core.specs.Items.{Leaf, glyph, font_kern, kern, glue, penalty, rule, Items, none, leaf}
+use Rattle.node_core.specs.contracts.tree.Setting as a_setting
+use Rattle.node_core.specs.Items.{Leaf, glyph, font_kern, kern, glue, penalty, rule, Frame, Items, none, leaf, box}
 
 -- A leaf is a number (of a kern of either kind, or of a penalty), or a glyph, glue or a rule (own).
 abbrev pub Cases : Type 0
@@ -46,21 +50,47 @@ coded_leaf =
     code_by Cases (coded⊎ (coded⊎ coded_ℤ (coded⊎ coded_ℤ coded_ℤ)) (coded⊎ a_glyph.the_row.coded (coded⊎ a_glue.the_row.coded a_rule.the_row.coded))) cases_of leaf_of
     leaf_of-cases_of
 
--- The leaves of items that are all leaves (own).
-abbrev pub leaves : Items → List Leaf
-leaves none = []
-leaves (leaf x rest) = x ∷ leaves rest
+-- How a frame is stored (own).
+abbrev pub coded_frame : Coded Frame
+coded_frame =
+    code_by ((Kind × Setting) × (ℤ × (ℤ × ℤ))) (coded× (coded× a_kind.the_row.coded a_setting.the_row.coded) (coded× coded_ℤ (coded× coded_ℤ coded_ℤ)))
+    (λ f. ((f.kind, f.setting), (f.width, (f.height, f.depth))))
+    (λ p. record { kind = p.0.0; setting = p.0.1; width = p.1.0; height = p.1.1.0; depth = p.1.1.1 }) (λ _. refl)
 
--- And back (own).
-abbrev pub built : List Leaf → Items
-built [] = none
-built (x ∷ rest) = leaf x (built rest)
+-- The two parts of a stored pair (own).
+abbrev pub head : Gv → Gv
+head gnil = gnil
+head (gnum n) = gnil
+head (gcons a b) = a
 
--- The two are inverse (own).
-pub built-leaves : (items : Items) → built (leaves items) ≡ items
-built-leaves none = refl
-built-leaves (leaf x rest) = ap (leaf x) (built-leaves rest)
+abbrev pub tail : Gv → Gv
+tail gnil = gnil
+tail (gnum n) = gnil
+tail (gcons a b) = b
 
 -- How items are stored (own).
+abbrev pub items_code : Items → Gv
+items_code none = gcons (gnum 0) gnil
+items_code (leaf x rest) = gcons (gnum 1) (gcons (coded_leaf.code x) (items_code rest))
+items_code (box shift frame inner rest) =
+    gcons (gnum 2) (gcons (coded_ℤ.code shift) (gcons (coded_frame.code frame) (gcons (items_code inner) (items_code rest))))
+
+pub apart : (m n : ℕ) {a b : Gv} → gcons (gnum m) a ≡ gcons (gnum n) b → m ≢ n → ⊥
+apart m n p other = other (cc)
+
+pub items_inj : (x y : Items) → items_code x ≡ items_code y → x ≡ y
+items_inj none none p = refl
+items_inj none (leaf y rest) p = absurd (apart 0 1 p (omega arith))
+items_inj none (box shift frame inner rest) p = absurd (apart 0 2 p (omega arith))
+items_inj (leaf x rest) none p = absurd (apart 1 0 p (omega arith))
+items_inj (leaf x rest) (leaf y more) p =
+    λ i. leaf (coded_leaf.inj x y (ap (λ g. head (tail g)) p) i) (items_inj rest more (ap (λ g. tail (tail g)) p) i)
+items_inj (leaf x rest) (box shift frame inner more) p = absurd (apart 1 2 p (omega arith))
+items_inj (box shift frame inner rest) none p = absurd (apart 2 0 p (omega arith))
+items_inj (box shift frame inner rest) (leaf y more) p = absurd (apart 2 1 p (omega arith))
+items_inj (box shift frame inner rest) (box by other items more) p =
+    λ i. box (coded_ℤ.inj shift by (ap (λ g. head (tail g)) p) i) (coded_frame.inj frame other (ap (λ g. head (tail (tail g))) p) i)
+    (items_inj inner items (ap (λ g. head (tail (tail (tail g)))) p) i) (items_inj rest more (ap (λ g. tail (tail (tail (tail g)))) p) i)
+
 abbrev pub coded_items : Coded Items
-coded_items = code_by (List Leaf) (coded_list coded_leaf) leaves built built-leaves
+coded_items = record { code = items_code; inj = items_inj }

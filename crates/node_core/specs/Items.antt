@@ -1,8 +1,10 @@
 -- The items of a list as a tree, and its numbers (TeX: The Program, part 10).
-use Rattle.std.specs.Prelude.{ℕ, ℤ, ◌+◌}
+use Rattle.std.specs.Prelude.{ℕ, ℤ, ◌+◌, max}
 use Rattle.node_core.specs.declared.tree.Glue.{Glue}
 use Rattle.node_core.specs.declared.tree.Glyph.{Glyph}
+use Rattle.node_core.specs.declared.tree.Kind.{Kind}
 use Rattle.node_core.specs.declared.tree.Rule.{Rule}
+use Rattle.node_core.specs.declared.tree.Setting.{Setting}
 
 -- An item that has no items of its own: a character of a font, a kern of a font, an explicit kern, glue, a penalty, or a rule (TeX: The Program, part 10).
 pub data Leaf : Type 0 where
@@ -13,17 +15,28 @@ pub data Leaf : Type 0 where
   penalty : ℤ → Leaf
   rule : Rule → Leaf
 
--- The items of a list: none, or an item and those after it (own).
+-- A box without its list: its kind, its sizes, and how its glue is set (TeX: The Program, part 10).
+pub record Frame : Type 0 where
+  pub kind : Kind
+  pub width : ℤ
+  pub height : ℤ
+  pub depth : ℤ
+  pub setting : Setting
+
+-- The items of a list: none; or a leaf and the items after it; or a box, by its shift, its frame and its own items, and the items after it (own).
 pub data Items : Type 0 where
   none : Items
   leaf : Leaf → Items → Items
+  box : ℤ → Frame → Items → Items → Items
 
 -- How deep the boxes in a list nest (own).
 abbrev pub items_depth : Items → ℕ
 items_depth none = 0
 items_depth (leaf x rest) = items_depth rest
+items_depth (box shift frame inner rest) = max (items_depth inner + 1) (items_depth rest)
 
 -- How many items stand in a list, those of its boxes included (own).
 abbrev pub items_count : Items → ℕ
 items_count none = 0
 items_count (leaf x rest) = items_count rest + 1
+items_count (box shift frame inner rest) = items_count inner + 1 + items_count rest

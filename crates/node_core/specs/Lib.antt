@@ -2,3 +2,5 @@
 pub mod Items
 pub mod Codes
 pub mod Nodes
+pub mod Falls
+pub mod Parameters

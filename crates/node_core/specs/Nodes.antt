@@ -1,13 +1,21 @@
 -- A list of nodes and the items that it is seen as (own).
-use Rattle.std.specs.Prelude.{ℕ, ◌+◌, List, [], ◌∷◌}
+use Rattle.std.specs.Prelude.{ℕ, ◌+◌, ◌-◌, List, [], ◌∷◌, length, take, slice_get, Option, None, Some}
 use Rattle.node_core.specs.declared.tree.Node.{Node}
-use Rattle.node_core.specs.declared.tree.Node.TheVariants.{Glyph, FontKern, Kern, Glue, Penalty, Rule}
+use Rattle.node_core.specs.declared.tree.Node.TheVariants.{Glyph, FontKern, Kern, Glue, Penalty, Rule, Box}
 use Rattle.node_core.specs.declared.tree.BoxNode.{BoxNode}
-use Rattle.node_core.specs.Items.{glyph, font_kern, kern, glue, penalty, rule, Items, none, leaf, items_depth, items_count}
+use Rattle.node_core.specs.Items.{Leaf, glyph, font_kern, kern, glue, penalty, rule, Frame, Items, none, leaf, box, items_depth, items_count}
 
 -- A list has at most so many nodes (own).
 abbrev pub most_nodes : ℕ
 most_nodes = 131072
+
+-- A box without its list, and a box of a frame and a list (own).
+abbrev pub frame_of : BoxNode → Frame
+frame_of b = record { kind = b.kind; width = b.width; height = b.height; depth = b.depth; setting = b.setting }
+
+abbrev pub box_of : Frame → Items → BoxNode
+box_of frame items =
+    record { kind = frame.kind; width = frame.width; height = frame.height; depth = frame.depth; setting = frame.setting; list = items }
 
 -- The items that a list of nodes is (own).
 abbrev pub items_of : List Node → Items
@@ -18,16 +26,22 @@ items_of ((Kern width) ∷ rest) = leaf (kern width) (items_of rest)
 items_of ((Glue g) ∷ rest) = leaf (glue g) (items_of rest)
 items_of ((Penalty p) ∷ rest) = leaf (penalty p) (items_of rest)
 items_of ((Rule sizes) ∷ rest) = leaf (rule sizes) (items_of rest)
+items_of ((Box shift b) ∷ rest) = box shift (frame_of b) b.list (items_of rest)
+
+-- The node that a leaf is (own).
+abbrev pub node_of : Leaf → Node
+node_of (glyph g) = Glyph g
+node_of (font_kern width) = FontKern width
+node_of (kern width) = Kern width
+node_of (glue g) = Glue g
+node_of (penalty p) = Penalty p
+node_of (rule sizes) = Rule sizes
 
 -- The nodes that items are (own).
 abbrev pub nodes_of : Items → List Node
 nodes_of none = []
-nodes_of (leaf (glyph g) rest) = Glyph g ∷ nodes_of rest
-nodes_of (leaf (font_kern width) rest) = FontKern width ∷ nodes_of rest
-nodes_of (leaf (kern width) rest) = Kern width ∷ nodes_of rest
-nodes_of (leaf (glue g) rest) = Glue g ∷ nodes_of rest
-nodes_of (leaf (penalty p) rest) = Penalty p ∷ nodes_of rest
-nodes_of (leaf (rule sizes) rest) = Rule sizes ∷ nodes_of rest
+nodes_of (leaf x rest) = node_of x ∷ nodes_of rest
+nodes_of (box shift frame inner rest) = Box shift (box_of frame inner) ∷ nodes_of rest
 
 -- The depth of a box: 1 if no box stands in it (own).
 abbrev pub box_depth : BoxNode → ℕ
@@ -36,3 +50,26 @@ box_depth b = items_depth b.list + 1
 -- The count of a box: itself and every item in it (own).
 abbrev pub box_count : BoxNode → ℕ
 box_count b = items_count b.list + 1
+
+-- The box that a node is, if it is one (own).
+abbrev pub box_in : Node → Option BoxNode
+box_in (Glyph g) = None
+box_in (FontKern width) = None
+box_in (Kern width) = None
+box_in (Glue g) = None
+box_in (Penalty p) = None
+box_in (Rule sizes) = None
+box_in (Box shift b) = Some b
+
+abbrev pub box_at : Option Node → Option BoxNode
+box_at None = None
+box_at (Some x) = box_in x
+
+-- The box at the end of a list, if the last node is one (own).
+abbrev pub last_box : List Node → Option BoxNode
+last_box nodes = box_at (slice_get nodes (length nodes - 1))
+
+-- The list without that box (own).
+abbrev pub without : Option BoxNode → List Node → List Node
+without None nodes = nodes
+without (Some b) nodes = take (length nodes - 1) nodes

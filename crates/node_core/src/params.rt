@@ -1,9 +1,11 @@
 //! The parameters of lists and boxes, and the numbers that they and penalties have (TeX: The Program, part 17).
 
-ghost use Rattle.std.specs.Prelude.{◌≡◌, pos};
+ghost use Rattle.std.specs.Prelude.{◌≡◌};
 ghost use Rattle.std.specs.Option.{SomeIff};
 ghost use Rattle.scaled_core.specs.Dimensions.{Within};
+ghost use Rattle.node_core.specs.Parameters.{rigid, first_params};
 
+use crate::tree::{Glue, Order};
 use scaled_core::Dimen;
 use std::marker::Model;
 
@@ -56,15 +58,38 @@ impl Number {
 pub struct Params {
     /// How deep a vbox may be, in scaled points: boxmaxdepth.
     pub box_max_depth: Dimen,
+    /// The glue that sets the baselines of two boxes apart, and how far apart they are: baselineskip.
+    pub baseline_skip: Glue,
+    /// The glue between boxes that would come too near: lineskip.
+    pub line_skip: Glue,
+    /// How near boxes may come, in scaled points: lineskiplimit.
+    pub line_skip_limit: Dimen,
+}
+
+/// Glue of a width that neither stretches nor shrinks.
+fn rigid(width: Dimen) -> Glue
+    ensures { result ≡ rigid width }
+{
+    Glue {
+        width,
+        stretch: Dimen::ZERO,
+        stretch_order: Order::Normal,
+        shrink: Dimen::ZERO,
+        shrink_order: Order::Normal,
+    }
 }
 
 impl Params {
-    /// The parameters of a new job: a vbox may be as deep as a dimension can be.
+    /// The parameters of a new job: a vbox may be as deep as a dimension can be, baselines are 12pt apart, and boxes that would come nearer
+    /// than 0pt are 1pt apart.
     pub fn first() -> Params
-        ensures { result ≡ record { box_max_depth = pos 1073741823 } }
+        ensures { result ≡ first_params }
     {
         Params {
             box_max_depth: Dimen::MAX,
+            baseline_skip: rigid(Dimen::points(12)),
+            line_skip: rigid(Dimen::points(1)),
+            line_skip_limit: Dimen::ZERO,
         }
     }
 }

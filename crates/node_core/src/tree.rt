@@ -3,15 +3,16 @@
 //! A list is seen as its items, a tree without pointers and capacities; so two lists, nodes or boxes are equal in a clause exactly where they are
 //! the same tree. `nodes_of` gives the nodes of a list in order.
 
-ghost use Rattle.std.specs.Prelude.{◌≡◌, ◌==◌, ◌<◌, ◌≤◌, ℕ, ◌+◌, List, [], ◌∷◌, ◌++◌, length, OnOk, OnErr, IfOk, IfErr, min};
+ghost use Rattle.std.specs.Prelude.{◌≡◌, ◌==◌, ◌<◌, ◌≤◌, ℕ, ◌+◌, List, [], ◌∷◌, ◌++◌, length, OnOk, OnErr, IfOk, IfErr, min, max};
 ghost use Rattle.node_core.specs.Items.{Items, none, items_depth, items_count};
-ghost use Rattle.node_core.specs.Nodes.{most_nodes, items_of, nodes_of, box_depth, box_count};
+ghost use Rattle.node_core.specs.Nodes.{most_nodes, items_of, nodes_of, box_depth, box_count, last_box, without};
 
 use scaled_core::{Dimen, Ratio};
 use std::alloc::{AllocError, AllocFailed, Global};
 use std::marker::Model;
 
 /// An item of a list (TeX: The Program, part 10).
+#[cycle(tree)]
 #[derive(Debug, Drop)]
 pub enum Node {
     /// A character of a font.
@@ -26,6 +27,8 @@ pub enum Node {
     Penalty(i32),
     /// A rule: a filled rectangle.
     Rule(Rule),
+    /// A box, and how far it is shifted: down in a horizontal list, to the right in a vertical one.
+    Box(Dimen, BoxNode),
 }
 
 /// A character of a font: the slot of the font, the code, and the sizes at the font's size, in scaled points.
@@ -98,6 +101,7 @@ pub enum Setting {
 }
 
 /// A box: its sizes, in scaled points, and the list that is set in it (TeX: The Program, part 10).
+#[cycle(tree)]
 #[derive(Debug, Drop)]
 pub struct BoxNode {
     pub kind: Kind,
@@ -111,13 +115,14 @@ pub struct BoxNode {
 }
 
 /// A list of at most 131,072 nodes, in order.
+#[cycle(tree)]
 #[derive(Debug, Drop)]
 pub struct NodeList {
     nodes: Vec<Node>,
 }
 
 impl Model for NodeList {
-    ghost use Rattle.node_core.specs.Items.{Items};
+    ghost use Rattle.node_core.specs.Items.{Items, items_depth};
     ghost use Rattle.node_core.specs.Codes.{coded_items};
 
     ghost Value = { Items };
@@ -132,6 +137,12 @@ impl Model for NodeList {
     ghost use Rattle.node_core.specs.Nodes.{most_nodes};
 
     ghost invariant = { λ list. length list.nodes.items ≤ most_nodes };
+
+    ghost size = { items_depth };
+
+    ghost use Rattle.node_core.specs.Falls.{most_le-items_depth};
+
+    ghost size_decreases = { λ list h. most_le-items_depth list.nodes.items };
 }
 
 impl NodeList {
@@ -215,37 +226,106 @@ impl NodeList {
         self.nodes.append(&mut nodes)
     }
 
+    /// Puts the nodes of another list behind the others, in order; together they are at most 131,072. A refused growth leaves both lists as
+    /// they were.
+    #[tactic(auto, using(crate::proofs::NodeLemmas::nodes))]
+    pub fn append(&mut self, other: &mut NodeList) -> Result<(), AllocError>
+        requires short { length (nodes_of self.old) + length (nodes_of other.old) ≤ most_nodes }
+        ensures ok { OnOk result (self.new ≡ items_of (nodes_of self.old ++ nodes_of other.old)) }
+        ensures emptied { OnOk result (other.new ≡ none) }
+        ensures err { OnErr result (self.new ≡ self.old) }
+        ensures back { OnErr result (other.new ≡ other.old) }
+    {
+        self.nodes.append(&mut other.nodes)
+    }
+
+    /// Takes the last node away, if it is a box; its shift is dropped.
+    #[tactic(auto, using(crate::proofs::NodeLemmas::nodes))]
+    pub fn pop_box(&mut self) -> Option<BoxNode>
+        ensures value { result ≡ last_box (nodes_of self.old) }
+        ensures rest { self.new ≡ items_of (without (last_box (nodes_of self.old)) (nodes_of self.old)) }
+        ensures nodes { nodes_of self.new ≡ without (last_box (nodes_of self.old)) (nodes_of self.old) }
+    {
+        match self.nodes.last() {
+            Some(Node::Box(..)) => match self.nodes.pop() {
+                Some(Node::Box(_, shown)) => Some(shown),
+                _ => unreachable!(),
+            },
+            _ => None,
+        }
+    }
+
     /// An equal list in memory of its own; refused only where a growth is.
+    #[cycle(copying)]
     #[tactic(auto, using(crate::proofs::NodeLemmas::nodes))]
     pub fn copy(&self, alloc: Global) -> Result<NodeList, AllocError>
         ensures { IfOk result (λ copy. copy ≡ self.now) }
     {
         let mut nodes = Vec::with_capacity(alloc, self.nodes.len())?;
         for node in &self.nodes {
-            nodes.push(node.copy())?;
+            nodes.push(node.copy(alloc)?)?;
         }
         Ok(NodeList { nodes })
     }
+
+    /// How deep boxes nest in the list, 0 for a list without boxes; cut at the greatest number. It takes no memory.
+    #[tactic(auto, using(crate::proofs::NodeLemmas::nodes))]
+    pub fn depth(&self) -> u64
+        ensures { result ≡ min (items_depth self.now) u64.MAX }
+    {
+        let mut deepest = 0;
+        for node in &self.nodes {
+            if let Node::Box(_, inner) = node {
+                deepest = greater(deepest, inner.list.depth().saturating_add(1));
+            }
+        }
+        deepest
+    }
+
+    /// The number of items, those of inner boxes and the boxes counted; cut at the greatest number. It takes no memory.
+    #[tactic(auto, using(crate::proofs::NodeLemmas::nodes))]
+    pub fn count(&self) -> u64
+        ensures { result ≡ min (items_count self.now) u64.MAX }
+    {
+        let mut count: u64 = 0;
+        for node in &self.nodes {
+            count = count.saturating_add(1);
+            if let Node::Box(_, inner) = node {
+                count = count.saturating_add(inner.list.count());
+            }
+        }
+        count
+    }
+}
+
+/// The greater of two numbers.
+fn greater(a: u64, b: u64) -> u64
+    ensures { result ≡ max a b }
+{
+    if a < b { b } else { a }
 }
 
 impl Node {
-    /// An equal node. It takes no memory: no node holds a list yet.
-    pub fn copy(&self) -> Node
-        ensures { result ≡ self.now }
+    /// An equal node in memory of its own; refused only where a growth is.
+    #[cycle(copying)]
+    pub fn copy(&self, alloc: Global) -> Result<Node, AllocError>
+        ensures { IfOk result (λ copy. copy ≡ self.now) }
     {
-        match self {
+        Ok(match self {
             Node::Glyph(glyph) => Node::Glyph(*glyph),
             Node::FontKern(width) => Node::FontKern(*width),
             Node::Kern(width) => Node::Kern(*width),
             Node::Glue(glue) => Node::Glue(*glue),
             Node::Penalty(penalty) => Node::Penalty(*penalty),
             Node::Rule(rule) => Node::Rule(*rule),
-        }
+            Node::Box(shift, shown) => Node::Box(*shift, shown.copy(alloc)?),
+        })
     }
 }
 
 impl BoxNode {
     /// An equal box in memory of its own; refused only where a growth is.
+    #[cycle(copying)]
     pub fn copy(&self, alloc: Global) -> Result<BoxNode, AllocError>
         ensures { IfOk result (λ copy. copy ≡ self.now) }
     {
@@ -261,18 +341,16 @@ impl BoxNode {
     }
 
     /// How deep boxes nest, 1 for a box without inner boxes; cut at the greatest number. It takes no memory.
-    #[tactic(auto, using(crate::proofs::NodeLemmas::nodes))]
     pub fn depth(&self) -> u64
         ensures { result ≡ min (box_depth self.now) u64.MAX }
     {
-        1
+        self.list.depth().saturating_add(1)
     }
 
-    /// The number of nodes: the box itself and every item in it; cut at the greatest number. It takes no memory.
-    #[tactic(auto, using(crate::proofs::NodeLemmas::nodes))]
+    /// The number of nodes: the box itself and every item in it, in its inner boxes too; cut at the greatest number. It takes no memory.
     pub fn count(&self) -> u64
         ensures { result ≡ min (box_count self.now) u64.MAX }
     {
-        (self.list.len() as u64).saturating_add(1)
+        self.list.count().saturating_add(1)
     }
 }

@@ -1,6 +1,6 @@
 //! A dimension: a whole number of scaled points that fits.
 
-ghost use Rattle.std.specs.Prelude.{◌≡◌};
+ghost use Rattle.std.specs.Prelude.{◌≡◌, ◌*◌, pos};
 ghost use Rattle.std.specs.Option.{SomeIff};
 ghost use Rattle.scaled_core.specs.Dimensions.{Fits};
 
@@ -33,6 +33,18 @@ impl Dimen {
     pub const MAX: Dimen = Dimen {
         value: 1_073_741_823,
     };
+
+    /// -1000pt: a depth that counts as none (TeX: The Program, part 16, `ignore_depth`).
+    pub const IGNORE_DEPTH: Dimen = Dimen { value: -65_536_000 };
+
+    /// So many points, of 65,536 sp each.
+    pub fn points(number: u8) -> Dimen
+        ensures { result ≡ pos (65536 * number) }
+    {
+        Dimen {
+            value: 65_536 * i32::from(number),
+        }
+    }
 
     /// The dimension of that many scaled points, or None exactly where the number does not fit.
     pub fn try_new(value: i64) -> Option<Dimen>

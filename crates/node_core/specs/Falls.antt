@@ -1,0 +1,19 @@
+-- A list in a box nests less deep than the list that the box stands in (own).
+use Rattle.std.specs.Prelude.{◌≤◌, max, List, [], ◌∷◌}
+use Rattle.std.proofs.Common.{arith}
+use denote.Param.Weighed.{most}
+use Rattle.node_core.specs.declared.tree.Node.{Node}
+use Rattle.node_core.specs.declared.tree.Node.TheVariants.{Glyph, FontKern, Kern, Glue, Penalty, Rule, Box}
+use Rattle.node_core.specs.declared.tree.NodeList.TheDeep.{deep-Node}
+use Rattle.node_core.specs.Items.{items_depth}
+use Rattle.node_core.specs.Nodes.{items_of}
+
+pub most_le-items_depth : (nodes : List Node) → max (most deep-Node nodes) 0 ≤ items_depth (items_of nodes)
+most_le-items_depth [] = omega arith
+most_le-items_depth ((Glyph g) ∷ rest) = omega (arith, most_le-items_depth rest)
+most_le-items_depth ((FontKern width) ∷ rest) = omega (arith, most_le-items_depth rest)
+most_le-items_depth ((Kern width) ∷ rest) = omega (arith, most_le-items_depth rest)
+most_le-items_depth ((Glue g) ∷ rest) = omega (arith, most_le-items_depth rest)
+most_le-items_depth ((Penalty p) ∷ rest) = omega (arith, most_le-items_depth rest)
+most_le-items_depth ((Rule sizes) ∷ rest) = omega (arith, most_le-items_depth rest)
+most_le-items_depth ((Box shift b) ∷ rest) = omega (arith, most_le-items_depth rest)
