@@ -40,3 +40,9 @@ abbrev pub items_count : Items → ℕ
 items_count none = 0
 items_count (leaf x rest) = items_count rest + 1
 items_count (box shift frame inner rest) = items_count inner + 1 + items_count rest
+
+-- Each leaf of a list has a property, those of its boxes too (own).
+abbrev pub EachLeaf : (Leaf → Type 0) → Items → Type 0
+EachLeaf P none = Unit {0}
+EachLeaf P (leaf x rest) = P x × EachLeaf P rest
+EachLeaf P (box shift frame inner rest) = EachLeaf P inner × EachLeaf P rest
