@@ -88,7 +88,7 @@ abbrev pub shaped_missing : (ℕ → Option GlyphSize) → (ℕ → ℕ → Opti
 shaped_missing sizes steps [] = 0
 shaped_missing sizes steps (c ∷ word) = missing_from sizes steps c word
 
--- a glyph is one of this slot and has the sizes of its character
+-- a glyph is one of this slot and has the sizes of its character; no box comes of characters
 abbrev pub IsGlyphOf : ℕ → (ℕ → Option GlyphSize) → Node → Type 0
 IsGlyphOf slot sizes (Glyph g) = (g.slot ≡ slot) × (sizes g.code ≡ Some (record { width = g.width; height = g.height; depth = g.depth }))
 IsGlyphOf slot sizes (FontKern width) = Unit {0}
@@ -96,3 +96,4 @@ IsGlyphOf slot sizes (nodes.Kern width) = Unit {0}
 IsGlyphOf slot sizes (nodes.Glue g) = Unit {0}
 IsGlyphOf slot sizes (nodes.Penalty penalty) = Unit {0}
 IsGlyphOf slot sizes (nodes.Rule rule) = Unit {0}
+IsGlyphOf slot sizes (nodes.Box shift b) = ⊥
