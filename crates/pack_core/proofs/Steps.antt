@@ -143,41 +143,39 @@ pub hbox-given :
     (target : Target) (nodes : List Node) (natural width height depth : ℤ) (set : GlueSet)
     → given (fits (total across nodes)) (total across nodes) ≡ Some natural
     → given (fits (wanted target natural)) (wanted target natural) ≡ Some width
+    → given (fits (greatest above nodes)) (greatest above nodes) ≡ Some height
+    → given (fits (greatest below nodes)) (greatest below nodes) ≡ Some depth
     → given (list_all fits (glue_totals nodes)) (glue_set (width -ℤ natural) nodes) ≡ Some set
-    → height ≡ greatest above nodes
-    → depth ≡ greatest below nodes
-    → Within 1073741823 height
-    → Within 1073741823 depth
     → Some (record { kind = Horizontal; width = width; height = height; depth = depth; set = set })
     ≡ given (list_all fits (hbox_numbers target nodes)) (hbox_shell target nodes)
 unfolding hbox_shell
-hbox-given target nodes natural width height depth set n w s h d high deep =
+hbox-given target nodes natural width height depth set n w h d s =
     let n' = given-some (fits (total across nodes)) (total across nodes) natural n in
     let w' = given-some (fits (wanted target natural)) (wanted target natural) width w in
+    let h' = given-some (fits (greatest above nodes)) (greatest above nodes) height h in
+    let d' = given-some (fits (greatest below nodes)) (greatest below nodes) depth d in
     let s' = given-some (list_all fits (glue_totals nodes)) (glue_set (width -ℤ natural) nodes) set s in
     let width-fits : fits (hbox_width target nodes) ≡ true = rw n'.1 w'.0 in
     let width-is : hbox_width target nodes ≡ width = rw n'.1 w'.1 in
     let set-is : glue_set (hbox_excess target nodes) nodes ≡ set = rw (width-is, n'.1) s'.1 in
-    let high-fits : fits (greatest above nodes) ≡ true = rw (← h) (dimension_fits height high) in
-    let deep-fits : fits (greatest below nodes) ≡ true = rw (← d) (dimension_fits depth deep) in
-    let all : list_all fits (hbox_numbers target nodes) ≡ true = rw (n'.0, width-fits, high-fits, deep-fits) s'.0 in
-    rw (h, d, ← width-is, ← set-is) (given-all _ _ all)
+    let all : list_all fits (hbox_numbers target nodes) ≡ true = rw (n'.0, width-fits, h'.0, d'.0) s'.0 in
+    rw (← h'.1, ← d'.1, ← width-is, ← set-is) (given-all _ _ all)
 
 pub vbox-given :
     (target : Target) (limit : ℤ) (nodes : List Node) (natural width height depth : ℤ) (set : GlueSet)
     → depth ≡ vbox_depth limit nodes
     → given (fits (total downward nodes -ℤ depth)) (total downward nodes -ℤ depth) ≡ Some natural
     → given (fits (wanted target natural)) (wanted target natural) ≡ Some height
+    → given (fits (greatest breadth nodes)) (greatest breadth nodes) ≡ Some width
     → given (list_all fits (glue_totals nodes)) (glue_set (height -ℤ natural) nodes) ≡ Some set
-    → width ≡ greatest breadth nodes
-    → Within 1073741823 width
     → Within 1073741823 depth
     → Some (record { kind = Vertical; width = width; height = height; depth = depth; set = set })
     ≡ given (list_all fits (vbox_numbers target limit nodes)) (vbox_shell target limit nodes)
 unfolding vbox_shell
-vbox-given target limit nodes natural width height depth set d n h s w wide deep =
+vbox-given target limit nodes natural width height depth set d n h w s deep =
     let n' = given-some (fits (total downward nodes -ℤ depth)) (total downward nodes -ℤ depth) natural n in
     let h' = given-some (fits (wanted target natural)) (wanted target natural) height h in
+    let w' = given-some (fits (greatest breadth nodes)) (greatest breadth nodes) width w in
     let s' = given-some (list_all fits (glue_totals nodes)) (glue_set (height -ℤ natural) nodes) set s in
     let natural-is : natural_height limit nodes ≡ natural = rw (← d) n'.1 in
     let natural-fits : fits (natural_height limit nodes) ≡ true = rw (← d) n'.0 in
@@ -185,9 +183,8 @@ vbox-given target limit nodes natural width height depth set d n h s w wide deep
     let height-is : vbox_height target limit nodes ≡ height = rw natural-is h'.1 in
     let set-is : glue_set (vbox_excess target limit nodes) nodes ≡ set = rw (height-is, natural-is) s'.1 in
     let deep-fits : fits (vbox_depth limit nodes) ≡ true = rw (← d) (dimension_fits depth deep) in
-    let wide-fits : fits (greatest breadth nodes) ≡ true = rw (← w) (dimension_fits width wide) in
-    let all : list_all fits (vbox_numbers target limit nodes) ≡ true = rw (natural-fits, height-fits, deep-fits, wide-fits) s'.0 in
-    rw (w, d, ← height-is, ← set-is) (given-all _ _ all)
+    let all : list_all fits (vbox_numbers target limit nodes) ≡ true = rw (natural-fits, height-fits, deep-fits, w'.0) s'.0 in
+    rw (← w'.1, d, ← height-is, ← set-is) (given-all _ _ all)
 
 pub given-refused : {A B : Type 0} (b : Bool) (x : A) (y : B) → given b x ≡ None → None ≡ given b y
 given-refused b x y e = rw (given-none b x e) (sym (given-false y))

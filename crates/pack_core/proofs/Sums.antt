@@ -68,6 +68,7 @@ pending-append [] (nodes.Kern width) = refl
 pending-append [] (nodes.Glue g) = refl
 pending-append [] (nodes.Penalty p) = refl
 pending-append [] (nodes.Rule sizes) = refl
+pending-append [] (nodes.Box shift b) = refl
 pending-append (y ∷ ys) x =
     rw (penalties-append ys x, pending-append ys x) (choice (list_all is_penalty ys) (is_penalty x) (last_below y) (pending_depth ys) (last_below x))
 
@@ -94,3 +95,4 @@ pending-none ((nodes.FontKern width) ∷ xs) all = absurd (cc)
 pending-none ((nodes.Kern width) ∷ xs) all = absurd (cc)
 pending-none ((nodes.Glue g) ∷ xs) all = absurd (cc)
 pending-none ((nodes.Rule sizes) ∷ xs) all = absurd (cc)
+pending-none ((nodes.Box shift b) ∷ xs) all = absurd (cc)

@@ -63,7 +63,7 @@ unfoldable pub hpacked : Target → Items → Result Packed TooLarge
 hpacked target items =
     packed_if (hbox_numbers target (nodes_of items)) (record { shown = hbox target items; badness = hbox_badness target items }) items
 
--- The depth of a vbox: that of its last rule, but no more than the limit.
+-- The depth of a vbox: that of its last rule or box, but no more than the limit.
 abbrev pub vbox_depth : (limit : ℤ) → List Node → ℤ
 vbox_depth limit nodes = int_min (pending_depth nodes) limit
 

@@ -1,5 +1,5 @@
 -- What an item adds to the list that it stands in (TeX: The Program, part 33).
-use Rattle.std.specs.Prelude.{◌+ℤ◌, ℤ, pos, Bool, true, false, if◌then◌else◌}
+use Rattle.std.specs.Prelude.{◌+ℤ◌, ◌-ℤ◌, ℤ, pos, Bool, true, false, if◌then◌else◌}
 use Rattle.node_core.specs.declared.tree.Kind.{Kind}
 use Rattle.node_core.specs.declared.tree.Kind.TheVariants.{Horizontal, Vertical}
 use Rattle.node_core.specs.declared.tree.Order.{Order}
@@ -22,8 +22,9 @@ across (nodes.Kern width) = width
 across (nodes.Glue glue) = glue.width
 across (nodes.Penalty penalty) = pos 0
 across (nodes.Rule rule) = own_size rule.width
+across (nodes.Box shift b) = b.width
 
--- How far an item stands above the baseline.
+-- How far an item stands above the baseline: a box that is shifted down, by its shift less.
 abbrev pub above : Node → ℤ
 above (nodes.Glyph glyph) = glyph.height
 above (nodes.FontKern width) = pos 0
@@ -31,8 +32,9 @@ above (nodes.Kern width) = pos 0
 above (nodes.Glue glue) = pos 0
 above (nodes.Penalty penalty) = pos 0
 above (nodes.Rule rule) = own_size rule.height
+above (nodes.Box shift b) = b.height -ℤ shift
 
--- How far it stands below.
+-- How far it stands below: a box that is shifted down, by its shift more.
 abbrev pub below : Node → ℤ
 below (nodes.Glyph glyph) = glyph.depth
 below (nodes.FontKern width) = pos 0
@@ -40,8 +42,9 @@ below (nodes.Kern width) = pos 0
 below (nodes.Glue glue) = pos 0
 below (nodes.Penalty penalty) = pos 0
 below (nodes.Rule rule) = own_size rule.depth
+below (nodes.Box shift b) = b.depth +ℤ shift
 
--- Its advance in a vertical list: of a rule height plus depth, of glue and kerns their width. A character does not stand in one.
+-- Its advance in a vertical list: of a rule or a box height plus depth, of glue and kerns their width. A character does not stand in one.
 abbrev pub downward : Node → ℤ
 downward (nodes.Glyph glyph) = pos 0
 downward (nodes.FontKern width) = width
@@ -49,8 +52,9 @@ downward (nodes.Kern width) = width
 downward (nodes.Glue glue) = glue.width
 downward (nodes.Penalty penalty) = pos 0
 downward (nodes.Rule rule) = own_size rule.height +ℤ own_size rule.depth
+downward (nodes.Box shift b) = b.height +ℤ b.depth
 
--- How far an item of a vertical list goes to the right.
+-- How far an item of a vertical list goes to the right: a box that is shifted to the right, by its shift more.
 abbrev pub breadth : Node → ℤ
 breadth (nodes.Glyph glyph) = pos 0
 breadth (nodes.FontKern width) = pos 0
@@ -58,6 +62,7 @@ breadth (nodes.Kern width) = pos 0
 breadth (nodes.Glue glue) = pos 0
 breadth (nodes.Penalty penalty) = pos 0
 breadth (nodes.Rule rule) = own_size rule.width
+breadth (nodes.Box shift b) = b.width +ℤ shift
 
 -- The advance of an item, by the kind of its list.
 abbrev pub advance : Kind → Node → ℤ
@@ -80,6 +85,7 @@ stretch_in order (nodes.FontKern width) = pos 0
 stretch_in order (nodes.Kern width) = pos 0
 stretch_in order (nodes.Penalty penalty) = pos 0
 stretch_in order (nodes.Rule rule) = pos 0
+stretch_in order (nodes.Box shift b) = pos 0
 
 -- How much it can shrink.
 abbrev pub shrink_in : Order → Node → ℤ
@@ -89,6 +95,7 @@ shrink_in order (nodes.FontKern width) = pos 0
 shrink_in order (nodes.Kern width) = pos 0
 shrink_in order (nodes.Penalty penalty) = pos 0
 shrink_in order (nodes.Rule rule) = pos 0
+shrink_in order (nodes.Box shift b) = pos 0
 
 -- Whether an item is a penalty.
 abbrev pub is_penalty : Node → Bool
@@ -98,19 +105,22 @@ is_penalty (nodes.FontKern width) = false
 is_penalty (nodes.Kern width) = false
 is_penalty (nodes.Glue glue) = false
 is_penalty (nodes.Rule rule) = false
+is_penalty (nodes.Box shift b) = false
 
--- The height of an item that is a rule, else 0: how far the first item of a vtop stands above its baseline.
+-- The height of an item that is a rule or a box, else 0: how far the first item of a vtop stands above its baseline.
 abbrev pub first_above : Node → ℤ
 first_above (nodes.Rule rule) = own_size rule.height
+first_above (nodes.Box shift b) = b.height
 first_above (nodes.Glyph glyph) = pos 0
 first_above (nodes.FontKern width) = pos 0
 first_above (nodes.Kern width) = pos 0
 first_above (nodes.Glue glue) = pos 0
 first_above (nodes.Penalty penalty) = pos 0
 
--- The depth of an item that is a rule, else 0: how far the last item of a vertical list hangs below its baseline.
+-- The depth of an item that is a rule or a box, else 0: how far the last item of a vertical list hangs below its baseline.
 abbrev pub last_below : Node → ℤ
 last_below (nodes.Rule rule) = own_size rule.depth
+last_below (nodes.Box shift b) = b.depth
 last_below (nodes.Glyph glyph) = pos 0
 last_below (nodes.FontKern width) = pos 0
 last_below (nodes.Kern width) = pos 0

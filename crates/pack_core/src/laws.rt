@@ -26,7 +26,7 @@ pub fn highest_order_is_set()
     ensures none { (totals : Order → ℤ) → ((highest totals ≡ None) ↔ ((order : Order) → totals order ≡ pos 0)) }
 {}
 
-/// The depth that is pending at the end of a list is that of the last item that is no penalty, where it is a rule, and else 0.
+/// The depth that is pending at the end of a list is that of the last item that is no penalty, where it is a rule or a box, and else 0.
 pub fn depth_of_the_last_rule()
     ensures last { (front : List Node) → (item : Node) → (penalties : List Node) → is_penalty item ≡ false → IsTrue (list_all is_penalty penalties) →
         pending_depth (front ++ item ∷ penalties) ≡ last_below item }

@@ -6,12 +6,14 @@ ghost use Rattle.std.specs.List.{list_all};
 ghost use Rattle.scaled_core.specs.Dimensions.{Fits, Within};
 ghost use Rattle.node_core.specs.Nodes.{most_nodes, nodes_of};
 ghost use Rattle.pack_core.specs.Items.{across, downward};
-ghost use Rattle.pack_core.specs.Totals.{fits, total, first_height};
+ghost use Rattle.pack_core.specs.Totals.{fits, total, greatest, first_height};
+ghost use Rattle.pack_core.specs.Measures.{extent_in};
 ghost use Rattle.pack_core.specs.Boxes.{wanted, hbox, hbox_badness, hbox_numbers, hpacked, vbox, vbox_badness, vbox_numbers, vpacked, vtop_box, vtop_numbers, vtopped};
 ghost use Rattle.pack_core.specs.Places.{place_in};
 ghost use Rattle.pack_core.specs.Steps.{given, hbox_shell, vbox_shell, vtop_shell, vtop_list, box_of, boxed};
 
 use crate::setting::{GlueSet, set_glue};
+use crate::sizes::sum;
 use crate::totals::{
     Extent, Quantity, dimension, first_height, greatest_of, pending_depth_of, smaller, total_of,
 };
@@ -60,7 +62,7 @@ pub fn hpack(list: NodeList, target: Target) -> Result<Packed, TooLarge>
     boxed(list, shell)
 }
 
-/// The vbox of a vertical list: as high as the target says, its baseline at that of the last rule, but no deeper than the limit. It is
+/// The vbox of a vertical list: as high as the target says, its baseline at that of the last rule or box, but no deeper than the limit. It is
 /// refused exactly where one of its numbers does not fit, and the list comes back. It takes no memory.
 #[tactic(auto, using(crate::proofs::Packing::packing))]
 pub fn vpack(list: NodeList, target: Target, depth_limit: Dimen) -> Result<Packed, TooLarge>
@@ -75,7 +77,7 @@ pub fn vpack(list: NodeList, target: Target, depth_limit: Dimen) -> Result<Packe
     boxed(list, shell)
 }
 
-/// The vtop of a vertical list: the vbox with its baseline at that of its first item. It is refused exactly where one of its numbers
+/// The vtop of a vertical list: the vbox with its baseline at that of its first item, where that is a rule or a box, and else at its top. It is refused exactly where one of its numbers
 /// does not fit, and the list comes back. It takes no memory.
 #[tactic(auto, using(crate::proofs::Packing::packing))]
 pub fn vtop(list: NodeList, target: Target, depth_limit: Dimen) -> Result<Packed, TooLarge>
@@ -98,14 +100,6 @@ struct Shell {
     height: Dimen,
     depth: Dimen,
     set: GlueSet,
-}
-
-/// The sum of two dimensions.
-fn sum(a: Dimen, b: Dimen) -> i64
-    ensures value { result ≡ a +ℤ b }
-    ensures small { Within (2 ^ 32) result }
-{
-    i64::from(a.get()) + i64::from(b.get())
 }
 
 /// What a total is more than a dimension.
@@ -156,6 +150,14 @@ fn height_above(depth: Dimen, nodes: &[Node]) -> Option<Dimen>
     fitted(less(total_of(Quantity::Advance(Kind::Vertical), nodes), depth))
 }
 
+/// The greatest size that way, where it fits.
+#[tactic(auto, using(crate::proofs::Steps::steps))]
+fn extent(way: Extent, nodes: &[Node]) -> Option<Dimen>
+    ensures { result ≡ given (fits (greatest (extent_in way) nodes.now)) (greatest (extent_in way) nodes.now) }
+{
+    fitted(greatest_of(way, nodes))
+}
+
 /// The hbox of a list, where its numbers fit.
 #[tactic(auto, using(crate::proofs::Steps::steps))]
 fn hbox_shell(target: Target, nodes: &[Node]) -> Option<Shell>
@@ -164,12 +166,14 @@ fn hbox_shell(target: Target, nodes: &[Node]) -> Option<Shell>
 {
     let natural = natural_width(nodes)?;
     let width = wanted_size(target, natural)?;
+    let height = extent(Extent::Above, nodes)?;
+    let depth = extent(Extent::Below, nodes)?;
     let set = set_glue(width, natural, nodes)?;
     Some(Shell {
         kind: Kind::Horizontal,
         width,
-        height: greatest_of(Extent::Above, nodes),
-        depth: greatest_of(Extent::Below, nodes),
+        height,
+        depth,
         set,
     })
 }
@@ -183,10 +187,11 @@ fn vbox_shell(target: Target, limit: Dimen, nodes: &[Node]) -> Option<Shell>
     let depth = smaller(pending_depth_of(nodes), limit);
     let natural = height_above(depth, nodes)?;
     let height = wanted_size(target, natural)?;
+    let width = extent(Extent::Breadth, nodes)?;
     let set = set_glue(height, natural, nodes)?;
     Some(Shell {
         kind: Kind::Vertical,
-        width: greatest_of(Extent::Breadth, nodes),
+        width,
         height,
         depth,
         set,

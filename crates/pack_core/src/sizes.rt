@@ -1,6 +1,6 @@
 //! What an item adds to the list that it stands in (TeX: The Program, part 33).
 
-ghost use Rattle.std.specs.Prelude.{◌≡◌, ◌+ℤ◌, ◌^◌};
+ghost use Rattle.std.specs.Prelude.{◌≡◌, ◌+ℤ◌, ◌-ℤ◌, ◌^◌};
 ghost use Rattle.scaled_core.specs.Dimensions.{Within};
 ghost use Rattle.pack_core.specs.Items.{own_size, across, above, below, downward, breadth, advance, is_order, stretch_in, shrink_in, is_penalty, first_above, last_below};
 ghost use Rattle.pack_core.specs.Places.{share};
@@ -18,6 +18,22 @@ pub fn counted(size: RuleSize) -> Dimen
     }
 }
 
+/// The sum of two dimensions.
+pub fn sum(a: Dimen, b: Dimen) -> i64
+    ensures value { result ≡ a +ℤ b }
+    ensures small { Within (2 ^ 31) result }
+{
+    i64::from(a.get()) + i64::from(b.get())
+}
+
+/// How much more a dimension is than another.
+pub fn difference(a: Dimen, b: Dimen) -> i64
+    ensures value { result ≡ a -ℤ b }
+    ensures small { Within (2 ^ 31) result }
+{
+    i64::from(a.get()) - i64::from(b.get())
+}
+
 /// How wide an item is.
 pub fn width_of(node: &Node) -> Dimen
     ensures { result ≡ across node.now }
@@ -29,57 +45,66 @@ pub fn width_of(node: &Node) -> Dimen
         Node::Glue(glue) => glue.width,
         Node::Penalty(_) => Dimen::ZERO,
         Node::Rule(rule) => counted(rule.width),
+        Node::Box(_, inner) => inner.width,
     }
 }
 
-/// How far it stands above the baseline.
-pub fn height_of(node: &Node) -> Dimen
-    ensures { result ≡ above node.now }
+/// How far it stands above the baseline; a box that is shifted down, by its shift less.
+pub fn height_of(node: &Node) -> i64
+    ensures value { result ≡ above node.now }
+    ensures small { Within (2 ^ 31) result }
 {
     match node {
-        Node::Glyph(glyph) => glyph.height,
-        Node::Rule(rule) => counted(rule.height),
-        _ => Dimen::ZERO,
+        Node::Glyph(glyph) => i64::from(glyph.height.get()),
+        Node::Rule(rule) => i64::from(counted(rule.height).get()),
+        Node::Box(shift, inner) => difference(inner.height, *shift),
+        _ => 0,
     }
 }
 
-/// How far it stands below.
-pub fn depth_of(node: &Node) -> Dimen
-    ensures { result ≡ below node.now }
+/// How far it stands below; a box that is shifted down, by its shift more.
+pub fn depth_of(node: &Node) -> i64
+    ensures value { result ≡ below node.now }
+    ensures small { Within (2 ^ 31) result }
 {
     match node {
-        Node::Glyph(glyph) => glyph.depth,
-        Node::Rule(rule) => counted(rule.depth),
-        _ => Dimen::ZERO,
+        Node::Glyph(glyph) => i64::from(glyph.depth.get()),
+        Node::Rule(rule) => i64::from(counted(rule.depth).get()),
+        Node::Box(shift, inner) => sum(inner.depth, *shift),
+        _ => 0,
     }
 }
 
-/// How far an item of a vertical list goes to the right.
-pub fn breadth_of(node: &Node) -> Dimen
-    ensures { result ≡ breadth node.now }
+/// How far an item of a vertical list goes to the right; a box that is shifted to the right, by its shift more.
+pub fn breadth_of(node: &Node) -> i64
+    ensures value { result ≡ breadth node.now }
+    ensures small { Within (2 ^ 31) result }
 {
     match node {
-        Node::Rule(rule) => counted(rule.width),
-        _ => Dimen::ZERO,
+        Node::Rule(rule) => i64::from(counted(rule.width).get()),
+        Node::Box(shift, inner) => sum(inner.width, *shift),
+        _ => 0,
     }
 }
 
-/// The height of an item that is a rule, else 0.
+/// The height of an item that is a rule or a box, else 0.
 pub fn first_height_of(node: &Node) -> Dimen
     ensures { result ≡ first_above node.now }
 {
     match node {
         Node::Rule(rule) => counted(rule.height),
+        Node::Box(_, inner) => inner.height,
         _ => Dimen::ZERO,
     }
 }
 
-/// The depth of an item that is a rule, else 0.
+/// The depth of an item that is a rule or a box, else 0.
 pub fn last_depth_of(node: &Node) -> Dimen
     ensures { result ≡ last_below node.now }
 {
     match node {
         Node::Rule(rule) => counted(rule.depth),
+        Node::Box(_, inner) => inner.depth,
         _ => Dimen::ZERO,
     }
 }
@@ -102,14 +127,6 @@ fn across_of(node: &Node) -> i64
     i64::from(width_of(node).get())
 }
 
-/// How far a rule in a vertical list moves what follows it.
-fn length_of(height: Dimen, depth: Dimen) -> i64
-    ensures value { result ≡ height +ℤ depth }
-    ensures small { Within (2 ^ 31) result }
-{
-    i64::from(height.get()) + i64::from(depth.get())
-}
-
 /// How far an item of a vertical list moves what follows it.
 fn downward_of(node: &Node) -> i64
     ensures value { result ≡ downward node.now }
@@ -121,7 +138,8 @@ fn downward_of(node: &Node) -> i64
         Node::Kern(width) => i64::from(width.get()),
         Node::Glue(glue) => i64::from(glue.width.get()),
         Node::Penalty(_) => 0,
-        Node::Rule(rule) => length_of(counted(rule.height), counted(rule.depth)),
+        Node::Rule(rule) => sum(counted(rule.height), counted(rule.depth)),
+        Node::Box(_, inner) => sum(inner.height, inner.depth),
     }
 }
 

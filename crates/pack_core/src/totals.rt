@@ -2,7 +2,7 @@
 
 ghost use Rattle.std.specs.Prelude.{◌≡◌, ◌≤◌, ◌^◌, Option, Some, None, if◌then◌else◌, length};
 ghost use Rattle.std.specs.Int.{int_max, int_min};
-ghost use Rattle.scaled_core.specs.Dimensions.{Within, Fits};
+ghost use Rattle.scaled_core.specs.Dimensions.{Fits, Within};
 ghost use Rattle.node_core.specs.Nodes.{most_nodes};
 ghost use Rattle.pack_core.specs.Totals.{fits, total, greatest, pending_depth, first_height};
 ghost use Rattle.pack_core.specs.Measures.{amount_in, extent_in, pending_behind};
@@ -75,8 +75,9 @@ pub enum Extent {
 }
 
 /// How far an item goes that way.
-fn extent_of(way: Extent, node: &Node) -> Dimen
-    ensures { result ≡ extent_in way node.now }
+fn extent_of(way: Extent, node: &Node) -> i64
+    ensures value { result ≡ extent_in way node.now }
+    ensures small { Within (2 ^ 31) result }
 {
     match way {
         Extent::Above => height_of(node),
@@ -86,23 +87,22 @@ fn extent_of(way: Extent, node: &Node) -> Dimen
 }
 
 /// The greatest size that way, at least 0.
-pub fn greatest_of(way: Extent, nodes: &[Node]) -> Dimen
+pub fn greatest_of(way: Extent, nodes: &[Node]) -> i64
     ensures value { result ≡ greatest (extent_in way) nodes.now }
-    ensures fits { Fits result }
+    ensures small { Within (2 ^ 31) result }
 {
-    let mut most = Dimen::ZERO;
+    let mut most = 0;
     for node in nodes {
         most = greater(most, extent_of(way, node));
     }
     most
 }
 
-/// The greater of two dimensions.
-fn greater(a: Dimen, b: Dimen) -> Dimen
-    ensures value { result ≡ int_max a b }
-    ensures fits { Fits result }
+/// The greater of two numbers.
+fn greater(a: i64, b: i64) -> i64
+    ensures { result ≡ int_max a b }
 {
-    if a.get() < b.get() { b } else { a }
+    if a < b { b } else { a }
 }
 
 /// The smaller of two dimensions.
@@ -113,7 +113,7 @@ pub fn smaller(a: Dimen, b: Dimen) -> Dimen
     if b.get() < a.get() { b } else { a }
 }
 
-/// The depth of the last rule if only penalties follow it, else 0.
+/// The depth of the last rule or box if only penalties follow it, else 0.
 pub fn pending_depth_of(nodes: &[Node]) -> Dimen
     ensures { result ≡ pending_depth nodes.now }
 {
@@ -135,7 +135,7 @@ fn pending_behind(before: Dimen, node: &Node) -> Dimen
     }
 }
 
-/// The height of the first item if that is a rule, else 0.
+/// The height of the first item if that is a rule or a box, else 0.
 pub fn first_height(nodes: &[Node]) -> Dimen
     ensures { result ≡ first_height nodes.now }
 {

@@ -1,3 +1,5 @@
+use Rattle.std.proofs.Common.{arith}
+use Rattle.std.proofs.lemmas.Int.{ints, clamps}
 use Rattle.pack_core.specs.Measures.{extent_in}
 use Rattle.pack_core.proofs.Sums.{greatest_more}
 use Rattle.pack_core.proofs.totals.greatest_of.Goals as goal
@@ -6,6 +8,6 @@ pub loop-node-preserved : goal.loop-node-preserved
 loop-node-preserved c =
     let more = greatest_more (extent_in c.args.way) c.args.nodes.now c.loop-node.node-index c.node-item.result c.loop-node-test.true c.node-item.is in
     record {
-      value = cc (more, c.greater-most.ensures.value, c.extent_of.ensures, c.loop-node.invariant.value);
-      fits = c.greater-most.ensures.fits;
+      value = omega (arith, ints, clamps, more);
+      small = record { low = omega (arith, ints, clamps); high = omega (arith, ints, clamps) };
     }
