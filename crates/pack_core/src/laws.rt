@@ -1,16 +1,19 @@
 //! Laws of the definitions, each on a function that does nothing.
 
-ghost use Rattle.std.specs.Prelude.{◌≡◌, ◌≢◌, ◌↔◌, ◌+ℤ◌, ◌++◌, ◌∷◌, ℤ, pos, negsuc, List, Some, None, IsTrue, false, map};
+ghost use Rattle.std.specs.Prelude.{◌≡◌, ◌≢◌, ◌↔◌, ◌+ℤ◌, ◌-ℤ◌, ◌++◌, ◌∷◌, ℤ, pos, negsuc, List, Some, None, IsTrue, false, map};
+ghost use Rattle.std.specs.Int.{int_max};
 ghost use Rattle.std.specs.List.{list_all};
+ghost use Rattle.node_core.specs.Items.{Frame, Items, box};
 ghost use Rattle.node_core.specs.declared.tree.Kind.{Kind};
 ghost use Rattle.node_core.specs.declared.tree.Node.{Node};
 ghost use Rattle.node_core.specs.declared.tree.Order.{Order};
 ghost use Rattle.node_core.specs.declared.tree.Setting.TheVariants.{Natural};
+ghost use Rattle.pack_core.specs.declared.pack.Target.{Target};
 ghost use Rattle.pack_core.specs.declared.pack.Target.TheVariants as targets;
 ghost use Rattle.pack_core.specs.Items.{advance, is_penalty, last_below};
 ghost use Rattle.pack_core.specs.Totals.{total, pending_depth};
 ghost use Rattle.pack_core.specs.Glue.{highest, setting_of, setting_badness};
-ghost use Rattle.pack_core.specs.Boxes.{hbox, hbox_badness};
+ghost use Rattle.pack_core.specs.Boxes.{hbox, hbox_badness, vbox, vtop_box};
 ghost use Rattle.pack_core.specs.Places.{place, place_in};
 ghost use Rattle.pack_core.specs.Laws.{IsHighest, three_stretching, two_shrinking, kern_and_fil};
 
@@ -31,6 +34,25 @@ pub fn depth_of_the_last_rule()
     ensures last { (front : List Node) → (item : Node) → (penalties : List Node) → is_penalty item ≡ false → IsTrue (list_all is_penalty penalties) →
         pending_depth (front ++ item ∷ penalties) ≡ last_below item }
     ensures none { (penalties : List Node) → IsTrue (list_all is_penalty penalties) → pending_depth penalties ≡ pos 0 }
+{}
+
+/// A box in front of a horizontal list adds its width, and its shift moves it down: it stands so much less above the baseline, and so
+/// much more below.
+pub fn box_in_an_hbox()
+    ensures width { (shift : ℤ) → (frame : Frame) → (inner rest : Items) →
+        (hbox targets.Natural (box shift frame inner rest)).width ≡ frame.width +ℤ (hbox targets.Natural rest).width }
+    ensures height { (target : Target) → (shift : ℤ) → (frame : Frame) → (inner rest : Items) →
+        (hbox target (box shift frame inner rest)).height ≡ int_max (frame.height -ℤ shift) (hbox target rest).height }
+    ensures depth { (target : Target) → (shift : ℤ) → (frame : Frame) → (inner rest : Items) →
+        (hbox target (box shift frame inner rest)).depth ≡ int_max (frame.depth +ℤ shift) (hbox target rest).depth }
+{}
+
+/// A box in front of a vertical list is moved to the right by its shift, and the vtop of the list has the baseline of the box.
+pub fn box_in_a_vbox()
+    ensures width { (target : Target) → (limit shift : ℤ) → (frame : Frame) → (inner rest : Items) →
+        (vbox target limit (box shift frame inner rest)).width ≡ int_max (frame.width +ℤ shift) (vbox target limit rest).width }
+    ensures baseline { (target : Target) → (limit shift : ℤ) → (frame : Frame) → (inner rest : Items) →
+        (vtop_box target limit (box shift frame inner rest)).height ≡ frame.height }
 {}
 
 /// Ten scaled points are shared by three equal glues as 3, 4 and 3.
