@@ -1,7 +1,7 @@
 //! Packed boxes, and the places of their items.
 
 use dvi_ops::{Op, spell};
-use node_core::{BoxNode, Glue, Node, NodeList, Order, Rule, RuleSize, Setting};
+use node_core::{BoxNode, Glue, Kind, Node, NodeList, Order, Rule, RuleSize, Setting};
 use pack_core::{Packed, Target, TooLarge, hpack, offset, vpack, vtop};
 use scaled_core::{Dimen, Ratio};
 use ship_core::plan;
@@ -86,7 +86,8 @@ fn assert_sizes(rt: &impl Abort, b: &BoxNode, width: i64, height: i64, depth: i6
 #[test]
 fn three_glues_share_ten(rt: HostRuntime) -> Result<(), Fail> {
     let glue = stretching(&rt, 1, Order::Normal);
-    let list = three(rt.alloc(), glue.copy(), glue.copy(), glue)?;
+    let (second, third) = (glue.copy(rt.alloc())?, glue.copy(rt.alloc())?);
+    let list = three(rt.alloc(), glue, second, third)?;
     let packed = fitting(&rt, hpack(list, Target::To(sp(&rt, 10))));
     assert_places(&rt, &packed.shown, &[0, 3, 7, 10]);
     Ok(())
@@ -95,11 +96,13 @@ fn three_glues_share_ten(rt: HostRuntime) -> Result<(), Fail> {
 #[test]
 fn halves_go_away_from_zero(rt: HostRuntime) -> Result<(), Fail> {
     let glue = stretching(&rt, 1, Order::Normal);
-    let list = two(rt.alloc(), glue.copy(), glue)?;
+    let second = glue.copy(rt.alloc())?;
+    let list = two(rt.alloc(), glue, second)?;
     let packed = fitting(&rt, hpack(list, Target::Spread(sp(&rt, 1))));
     assert_places(&rt, &packed.shown, &[0, 1, 1]);
     let glue = shrinking(&rt, 0, 1);
-    let list = two(rt.alloc(), glue.copy(), glue)?;
+    let second = glue.copy(rt.alloc())?;
+    let list = two(rt.alloc(), glue, second)?;
     let packed = fitting(&rt, hpack(list, Target::Spread(sp(&rt, -1))));
     assert_places(&rt, &packed.shown, &[0, -1, -1]);
     Ok(())
@@ -184,6 +187,89 @@ fn parts_may_leave_the_range(rt: HostRuntime) -> Result<(), Fail> {
     match hpack(list, Target::Natural) {
         Ok(_) => panic!(rt; "it does not fit"),
         Err(refused) => assert_eq!(rt; refused.list.len(), 2),
+    }
+    Ok(())
+}
+
+/// An hbox of a rule, shifted.
+fn boxed_rule(
+    rt: &impl Abort,
+    alloc: Global,
+    shift: i64,
+    sizes: (i64, i64, i64),
+) -> Result<Node, Fail> {
+    let (width, height, depth) = sizes;
+    let list = one(alloc, rule(rt, width, height, depth))?;
+    let packed = fitting(rt, hpack(list, Target::Natural));
+    Ok(Node::Box(sp(rt, shift), packed.shown))
+}
+
+#[test]
+fn a_shifted_box_beside_a_rule(rt: HostRuntime) -> Result<(), Fail> {
+    let shifted = boxed_rule(&rt, rt.alloc(), 2 * POINT, (POINT, POINT, 0))?;
+    let target = Target::To(sp(&rt, 3 * POINT));
+    let empty = fitting(&rt, hpack(NodeList::new(rt.alloc()), target));
+    let space = Node::Box(Dimen::ZERO, empty.shown);
+    let list = three(rt.alloc(), shifted, space, rule(&rt, POINT, POINT, 0))?;
+    let packed = fitting(&rt, hpack(list, Target::Natural));
+    assert_sizes(&rt, &packed.shown, 5 * POINT, POINT, 2 * POINT);
+    assert_places(&rt, &packed.shown, &[0, 65536, 262144, 327680]);
+    Ok(())
+}
+
+#[test]
+fn a_vtop_that_begins_with_a_box(rt: HostRuntime) -> Result<(), Fail> {
+    let sizes = (POINT, 4 * POINT, POINT);
+    let shifted = boxed_rule(&rt, rt.alloc(), 2 * POINT, sizes)?;
+    let last = rule(&rt, 2 * POINT, 3 * POINT, 2 * POINT);
+    let list = two(rt.alloc(), shifted, last)?;
+    let packed = fitting(&rt, vtop(list, Target::Natural, Dimen::MAX));
+    assert_sizes(&rt, &packed.shown, 3 * POINT, 4 * POINT, 6 * POINT);
+    assert_places(&rt, &packed.shown, &[0, 327680, 655360]);
+    Ok(())
+}
+
+#[test]
+fn a_vbox_that_ends_with_a_box_and_a_penalty(rt: HostRuntime) -> Result<(), Fail> {
+    for (limit, height, depth) in [(2, 6, 2), (1, 7, 1)] {
+        let last = boxed_rule(&rt, rt.alloc(), POINT, (POINT, 3 * POINT, 2 * POINT))?;
+        let first = rule(&rt, 10 * POINT, 2 * POINT, POINT);
+        let list = three(rt.alloc(), first, last, Node::Penalty(10_000))?;
+        let packed = fitting(&rt, vpack(list, Target::Natural, sp(&rt, limit * POINT)));
+        let (height, depth) = (height * POINT, depth * POINT);
+        assert_sizes(&rt, &packed.shown, 10 * POINT, height, depth);
+    }
+    Ok(())
+}
+
+/// A list of an empty box whose width, height and depth are the greatest dimension, shifted.
+fn largest_box(rt: &impl Abort, alloc: Global, shift: i64) -> Result<NodeList, Fail> {
+    let largest = BoxNode {
+        kind: Kind::Horizontal,
+        width: Dimen::MAX,
+        height: Dimen::MAX,
+        depth: Dimen::MAX,
+        setting: Setting::Natural,
+        list: NodeList::new(alloc),
+    };
+    one(alloc, Node::Box(sp(rt, shift), largest))
+}
+
+#[test]
+fn a_shift_may_leave_the_range(rt: HostRuntime) -> Result<(), Fail> {
+    for (shift, fits) in [(-1, false), (0, true), (1, false)] {
+        let list = largest_box(&rt, rt.alloc(), shift)?;
+        match hpack(list, Target::Natural) {
+            Ok(_) => assert!(rt; fits, "shifted by {shift}"),
+            Err(refused) => assert!(rt; !fits && refused.list.len() == 1, "shifted by {shift}"),
+        }
+    }
+    for (shift, fits) in [(-1, true), (0, true), (1, false)] {
+        let list = largest_box(&rt, rt.alloc(), shift)?;
+        match vpack(list, Target::Natural, Dimen::MAX) {
+            Ok(_) => assert!(rt; fits, "shifted by {shift}"),
+            Err(refused) => assert!(rt; !fits && refused.list.len() == 1, "shifted by {shift}"),
+        }
     }
     Ok(())
 }
