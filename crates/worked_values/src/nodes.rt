@@ -142,6 +142,8 @@ fn boxes_in_boxes_are_copied_and_counted(rt: HostRuntime) {
 fn lists_with_boxes_are_appended(rt: HostRuntime) {
     let mut list = three_nodes(rt.alloc()).expect(&rt, "there is memory");
     let mut boxes = boxes_in_boxes(rt.alloc()).expect(&rt, "there is memory");
+    assert_eq!(rt; list.len(), 3);
+    assert_eq!(rt; boxes.len(), 2);
     let appended = list.append(&mut boxes);
     assert!(rt; appended.is_ok());
     assert!(rt; boxes.is_empty());

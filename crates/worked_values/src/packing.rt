@@ -231,12 +231,12 @@ fn a_vtop_that_begins_with_a_box(rt: HostRuntime) -> Result<(), Fail> {
 
 #[test]
 fn a_vbox_that_ends_with_a_box_and_a_penalty(rt: HostRuntime) -> Result<(), Fail> {
-    for (limit, height, depth) in [(2, 6, 2), (1, 7, 1)] {
+    let (deeper, lower, higher) = (2 * POINT, 6 * POINT, 7 * POINT);
+    for (limit, height, depth) in [(deeper, lower, deeper), (POINT, higher, POINT)] {
         let last = boxed_rule(&rt, rt.alloc(), POINT, (POINT, 3 * POINT, 2 * POINT))?;
         let first = rule(&rt, 10 * POINT, 2 * POINT, POINT);
         let list = three(rt.alloc(), first, last, Node::Penalty(10_000))?;
-        let packed = fitting(&rt, vpack(list, Target::Natural, sp(&rt, limit * POINT)));
-        let (height, depth) = (height * POINT, depth * POINT);
+        let packed = fitting(&rt, vpack(list, Target::Natural, sp(&rt, limit)));
         assert_sizes(&rt, &packed.shown, 10 * POINT, height, depth);
     }
     Ok(())
