@@ -1,0 +1,2 @@
+-- Vertical lists: what a box brings.
+pub mod Interline

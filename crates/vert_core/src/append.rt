@@ -1,0 +1,104 @@
+//! Boxes are put behind a vertical list.
+
+ghost use Rattle.std.specs.Prelude.{◌≡◌, ◌++◌, [], ◌∷◌, is_ok, if◌then◌else◌, IsOk, OnOk, OnErr, IfOk, IfErr};
+ghost use Rattle.vert_core.specs.Interline.{interline, glue_of, appended};
+
+use crate::interline::{DimensionTooLarge, interline_glue};
+use node_core::{BoxNode, Glue, Node, Params};
+use scaled_core::Dimen;
+use thiserror::Error;
+
+/// Why a box was not appended.
+#[derive(Clone, Copy, Debug, PartialEq, Eq, Error)]
+pub enum AppendFault {
+    /// The glue in front of it does not fit.
+    #[error("the distance between two boxes is too large")]
+    DimensionTooLarge,
+    /// A growth of the list was refused.
+    #[error("out of memory")]
+    OutOfMemory,
+}
+
+/// The box was not appended; it comes back.
+#[derive(Debug, Drop, Error)]
+#[error("the box was not appended: {fault}")]
+pub struct Unappended {
+    pub shown: BoxNode,
+    pub fault: AppendFault,
+}
+
+/// Puts a box behind a vertical list whose last box is so deep, with the glue in front of it, and answers the depth that is then the
+/// previous one. Where the glue does not fit or memory is refused, the box comes back and the list is as it was.
+pub fn append_box(
+    nodes: &mut Vec<Node>,
+    shown: BoxNode,
+    shift: Dimen,
+    previous_depth: Dimen,
+    params: &Params,
+) -> Result<Dimen, Unappended>
+    ensures ok { OnOk result (nodes.new.items ≡
+        nodes.old.items ++ appended (glue_of (interline params.now previous_depth shown.height)) shift shown) }
+    ensures depth { IfOk result (λ depth. depth ≡ shown.depth) }
+    // The glue fits, and else this is the fault, even where memory would be refused too.
+    ensures fits { OnOk result (IsOk (interline params.now previous_depth shown.height)) }
+    ensures fault { IfErr result (λ e. e.fault ≡
+        (if is_ok (interline params.now previous_depth shown.height) then AppendFault.OutOfMemory else AppendFault.DimensionTooLarge)) }
+    ensures err { OnErr result (nodes.new.items ≡ nodes.old.items) }
+    ensures back { IfErr result (λ e. e.shown ≡ shown) }
+{
+    let depth = shown.depth;
+    match interline_glue(previous_depth, shown.height, params) {
+        Err(DimensionTooLarge) => Err(Unappended {
+            shown,
+            fault: AppendFault::DimensionTooLarge,
+        }),
+        Ok(glue) => match push_with_glue(nodes, glue, shift, shown) {
+            Ok(()) => Ok(depth),
+            Err(shown) => Err(Unappended {
+                shown,
+                fault: AppendFault::OutOfMemory,
+            }),
+        },
+    }
+}
+
+/// Puts glue, if there is some, and a box behind a list. Where a growth is refused, the box comes back and the list is as it was.
+fn push_with_glue(
+    nodes: &mut Vec<Node>,
+    glue: Option<Glue>,
+    shift: Dimen,
+    shown: BoxNode,
+) -> Result<(), BoxNode>
+    ensures ok { OnOk result (nodes.new.items ≡ nodes.old.items ++ appended glue shift shown) }
+    ensures err { OnErr result (nodes.new.items ≡ nodes.old.items) }
+    ensures back { IfErr result (λ back. back ≡ shown) }
+{
+    let Some(glue) = glue else {
+        return push_box(nodes, shift, shown);
+    };
+    if nodes.push(Node::Glue(glue)).is_err() {
+        return Err(shown);
+    }
+    match push_box(nodes, shift, shown) {
+        Ok(()) => Ok(()),
+        Err(shown) => {
+            nodes.pop();
+            Err(shown)
+        }
+    }
+}
+
+/// Puts a box behind a list, or gives it back where the growth is refused.
+fn push_box(nodes: &mut Vec<Node>, shift: Dimen, shown: BoxNode) -> Result<(), BoxNode>
+    ensures ok { OnOk result (nodes.new.items ≡ nodes.old.items ++ Node.Box shift shown ∷ []) }
+    ensures err { OnErr result (nodes.new.items ≡ nodes.old.items) }
+    ensures back { IfErr result (λ back. back ≡ shown) }
+{
+    match nodes.push(Node::Box(shift, shown)) {
+        Ok(()) => Ok(()),
+        Err(failed) => match failed.value {
+            Node::Box(_, shown) => Err(shown),
+            _ => unreachable!(),
+        },
+    }
+}

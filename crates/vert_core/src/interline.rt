@@ -1,0 +1,62 @@
+//! The glue between two boxes of a vertical list (TeX: The Program, part 47, append_to_vlist).
+
+ghost use Rattle.std.specs.Prelude.{◌≡◌, ◌-ℤ◌, ◌^◌};
+ghost use Rattle.scaled_core.specs.Dimensions.{Within};
+ghost use Rattle.vert_core.specs.Interline.{distance, baseline_glue, interline};
+
+use node_core::{Glue, Params};
+use pack_core::dimension;
+use scaled_core::Dimen;
+use thiserror::Error;
+
+/// A size or a total does not fit.
+#[derive(Clone, Copy, Debug, PartialEq, Eq, Error)]
+#[error("a size is too large")]
+pub struct DimensionTooLarge;
+
+/// The glue in front of a box of that height, in a vertical list whose last box is so deep. It takes no memory.
+#[tactic(auto, unfolding(crate::specs::Interline::interline))]
+pub fn interline_glue(
+    previous_depth: Dimen,
+    height: Dimen,
+    params: &Params,
+) -> Result<Option<Glue>, DimensionTooLarge>
+    ensures { result ≡ interline params.now previous_depth height }
+{
+    if previous_depth.get() <= Dimen::IGNORE_DEPTH.get() {
+        return Ok(None);
+    }
+    let apart = distance(previous_depth, height, params);
+    if apart < i64::from(params.line_skip_limit.get()) {
+        return Ok(Some(params.line_skip));
+    }
+    baseline_glue(apart, params)
+}
+
+/// Glue of that width, which stretches and shrinks as baselineskip does, where the width fits.
+fn baseline_glue(width: i64, params: &Params) -> Result<Option<Glue>, DimensionTooLarge>
+    ensures { result ≡ baseline_glue params.now width }
+{
+    match dimension(i128::from(width)) {
+        None => Err(DimensionTooLarge),
+        Some(width) => Ok(Some(Glue {
+            width,
+            ..params.baseline_skip
+        })),
+    }
+}
+
+/// How far apart two boxes are whose baselines are apart by baselineskip.
+fn distance(previous_depth: Dimen, height: Dimen, params: &Params) -> i64
+    ensures { result ≡ distance params.now previous_depth height }
+{
+    difference(params.baseline_skip.width, previous_depth) - i64::from(height.get())
+}
+
+/// How much a dimension is more than another.
+fn difference(a: Dimen, b: Dimen) -> i64
+    ensures value { result ≡ a -ℤ b }
+    ensures small { Within (2 ^ 32) result }
+{
+    i64::from(a.get()) - i64::from(b.get())
+}

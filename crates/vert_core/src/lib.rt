@@ -1,0 +1,11 @@
+//! Vertical lists: the glue between the boxes that are put into them.
+//!
+//! Sizes are dimensions: whole numbers of scaled points.
+#![tactic(auto)]
+
+mod append;
+mod interline;
+pub mod laws;
+
+pub use append::{AppendFault, Unappended, append_box};
+pub use interline::{DimensionTooLarge, interline_glue};
