@@ -7,6 +7,8 @@ mod font_files;
 #[cfg(test)]
 mod instructions;
 #[cfg(test)]
+mod interline;
+#[cfg(test)]
 mod jobs;
 #[cfg(test)]
 mod nodes;

@@ -1,0 +1,115 @@
+//! Boxes in vertical lists, and the glue between them.
+
+use node_core::{BoxNode, Glue, Kind, Node, NodeList, Order, Params, Setting};
+use scaled_core::Dimen;
+use std::alloc::Global;
+use std::process::Abort;
+use vert_core::{AppendFault, DimensionTooLarge, append_box, interline_glue};
+
+const POINT: i64 = 65536;
+
+/// The dimension of so many scaled points.
+fn sp(rt: &impl Abort, value: i64) -> Dimen {
+    Dimen::try_new(value).expect(rt, "it fits")
+}
+
+/// An empty hbox, 10pt wide, of that height and depth.
+fn hbox(rt: &impl Abort, alloc: Global, height: i64, depth: i64) -> BoxNode {
+    BoxNode {
+        kind: Kind::Horizontal,
+        width: sp(rt, 10 * POINT),
+        height: sp(rt, height),
+        depth: sp(rt, depth),
+        setting: Setting::Natural,
+        list: NodeList::new(alloc),
+    }
+}
+
+/// Glue of that width, which stretches by 1fil.
+fn glue(rt: &impl Abort, width: i64) -> Glue {
+    Glue {
+        width: sp(rt, width),
+        stretch: sp(rt, POINT),
+        stretch_order: Order::Fil,
+        shrink: Dimen::ZERO,
+        shrink_order: Order::Normal,
+    }
+}
+
+/// The parameters of a new job, but for a baselineskip of that width.
+fn baselines(rt: &impl Abort, width: i64) -> Params {
+    let mut params = Params::first();
+    params.baseline_skip = glue(rt, width);
+    params
+}
+
+/// Asserts that a node is a box of that height and depth, shifted by so much.
+fn expect_box(rt: &impl Abort, node: &Node, shift: i64, height: i64, depth: i64) {
+    let Node::Box(by, shown) = node else {
+        panic!(rt; "not a box");
+    };
+    assert_eq!(rt; *by, sp(rt, shift));
+    assert_eq!(rt; shown.height, sp(rt, height));
+    assert_eq!(rt; shown.depth, sp(rt, depth));
+}
+
+#[test]
+fn two_boxes_and_the_glue_between(rt: HostRuntime) {
+    let params = baselines(&rt, 12 * POINT);
+    let mut nodes = Vec::new(rt.alloc());
+    let first = hbox(&rt, rt.alloc(), 5 * POINT, 2 * POINT);
+    let depth = append_box(&mut nodes, first, Dimen::ZERO, Dimen::IGNORE_DEPTH, &params);
+    let depth = depth.expect(&rt, "there is memory");
+    assert_eq!(rt; depth, sp(&rt, 2 * POINT));
+    let second = hbox(&rt, rt.alloc(), 6 * POINT, POINT);
+    let depth = append_box(&mut nodes, second, sp(&rt, 3 * POINT), depth, &params);
+    let depth = depth.expect(&rt, "there is memory");
+    assert_eq!(rt; depth, sp(&rt, POINT));
+    let [first, Node::Glue(between), second] = &nodes[..] else {
+        panic!(rt; "not a box, glue and a box");
+    };
+    expect_box(&rt, first, 0, 5 * POINT, 2 * POINT);
+    assert_eq!(rt; *between, glue(&rt, 4 * POINT));
+    expect_box(&rt, second, 3 * POINT, 6 * POINT, POINT);
+}
+
+#[test]
+fn near_boxes_and_the_limit(rt: HostRuntime) {
+    let mut params = baselines(&rt, 12 * POINT);
+    let (previous, height) = (sp(&rt, 2 * POINT), sp(&rt, 12 * POINT));
+    let near = interline_glue(previous, height, &params);
+    assert!(rt; near == Ok(Some(params.line_skip)));
+    params.line_skip_limit = sp(&rt, -2 * POINT);
+    let at_the_limit = interline_glue(previous, height, &params);
+    assert!(rt; at_the_limit == Ok(Some(glue(&rt, -2 * POINT))));
+    let first = interline_glue(sp(&rt, -1000 * POINT), height, &params);
+    assert!(rt; first == Ok(None));
+    let below = interline_glue(sp(&rt, 1 - 1000 * POINT), Dimen::ZERO, &params);
+    assert!(rt; below == Ok(Some(glue(&rt, 1012 * POINT - 1))));
+}
+
+#[test]
+fn a_box_too_far_away_comes_back(rt: HostRuntime) {
+    let (most, half) = (1_073_741_823, POINT / 2);
+    let params = baselines(&rt, most);
+    let mut nodes = Vec::new(rt.alloc());
+    let shown = hbox(&rt, rt.alloc(), half - 1, POINT);
+    let refused = append_box(&mut nodes, shown, sp(&rt, POINT), sp(&rt, -half), &params);
+    let Err(unappended) = refused else {
+        panic!(rt; "the glue does not fit");
+    };
+    assert!(rt; unappended.fault == AppendFault::DimensionTooLarge);
+    assert_eq!(rt; unappended.shown.height, sp(&rt, half - 1));
+    assert_eq!(rt; nodes.len(), 0);
+    let none = interline_glue(sp(&rt, -half), sp(&rt, half - 1), &params);
+    assert!(rt; none == Err(DimensionTooLarge));
+    let mut shown = unappended.shown;
+    shown.height = sp(&rt, half);
+    let depth = append_box(&mut nodes, shown, Dimen::ZERO, sp(&rt, -half), &params);
+    assert_eq!(rt; depth.expect(&rt, "there is memory"), sp(&rt, POINT));
+    let [Node::Glue(between), shown] = &nodes[..] else {
+        panic!(rt; "not glue and a box");
+    };
+    assert_eq!(rt; *between, glue(&rt, most));
+    expect_box(&rt, shown, 0, half, POINT);
+}
