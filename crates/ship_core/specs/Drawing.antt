@@ -1,38 +1,55 @@
 -- How the writer draws the marks of a page (own).
-use Rattle.std.specs.Prelude.{◌+ℤ◌, ◌-ℤ◌, ℤ, pos, negsuc, zero, suc, if◌then◌else◌, Option, Some, None, List, [], ◌∷◌, ◌++◌, map}
+use Rattle.std.specs.Prelude.{◌+ℤ◌, ◌-ℤ◌, ℤ, pos, negsuc, zero, suc, if◌then◌else◌, Option, Some, None, List, [], ◌∷◌, ◌++◌}
 use Rattle.std.specs.Ordering.{int_eq}
 use Rattle.node_core.specs.declared.tree.Kind.{Kind}
 use Rattle.node_core.specs.declared.tree.Kind.TheVariants.{Horizontal, Vertical}
 use Rattle.node_core.specs.declared.tree.Node.{Node}
-use Rattle.node_core.specs.declared.tree.Node.TheVariants as nodes
+use Rattle.node_core.specs.declared.tree.Node.TheVariants.{Box}
 use Rattle.node_core.specs.declared.tree.BoxNode.{BoxNode}
-use Rattle.node_core.specs.Nodes.{nodes_of}
-use Rattle.dvi_ops.specs.Instruction.{Axis, Across, Downward, By, Leaf, Move, SetChar, SetRule, PutRule, FontNum}
+use Rattle.node_core.specs.Items.{Leaf, glyph, font_kern, kern, glue, penalty, rule, Items, none, leaf, box}
+use Rattle.node_core.specs.Nodes.{node_of, box_of}
+use Rattle.dvi_ops.specs.Instruction as instructions
+use Rattle.dvi_ops.specs.Instruction.{Axis, Across, Downward, By, Move, SetChar, SetRule, PutRule, FontNum}
 use Rattle.dvi_ops.specs.Body.{Mark, Glyph, Rule}
-use Rattle.dvi_ops.specs.Forest.{Forest, Empty, Then}
-use Rattle.ship_core.specs.Marks.{Page, rule_wide, mark_of, item_h, item_v, page_v}
+use Rattle.dvi_ops.specs.Forest.{Forest, Empty, Then, Group}
+use Rattle.ship_core.specs.Marks.{Page, rule_wide, mark_of, item_h, item_v, box_h, box_v, list_v, page_v}
 
 -- How wide the mark of an item is.
-abbrev pub width_in : BoxNode → Node → ℤ
-width_in b (nodes.Glyph glyph) = glyph.width
-width_in b (nodes.FontKern width) = pos 0
-width_in b (nodes.Kern width) = pos 0
-width_in b (nodes.Glue glue) = pos 0
-width_in b (nodes.Penalty penalty) = pos 0
-width_in b (nodes.Rule rule) = rule_wide b.kind b rule
+abbrev pub width_in : BoxNode → Leaf → ℤ
+width_in b (glyph g) = g.width
+width_in b (font_kern width) = pos 0
+width_in b (kern width) = pos 0
+width_in b (glue g) = pos 0
+width_in b (penalty p) = pos 0
+width_in b (rule sizes) = rule_wide b.kind b sizes
 
--- A mark, and how wide it is.
-abbrev pub Stroke : Type 0
-Stroke = Mark × ℤ
+-- What is seen of a list: strokes, each a mark and its width, and the pictures of boxes, each with the kind of its list.
+pub data Picture : Type 0 where
+  blank : Picture
+  stroke : Mark → (width : ℤ) → Picture → Picture
+  group : Kind → Picture → Picture → Picture
 
--- The marks of an item that stands at (h, v), each with its width.
-abbrev pub strokes_of : BoxNode → (h v : ℤ) → Node → List Stroke
-strokes_of b h v x = map (λ mark. (mark, width_in b x)) (mark_of b h v x)
+-- Marks of that width in front of a picture.
+abbrev pub in_front : List Mark → (width : ℤ) → Picture → Picture
+in_front [] width rest = rest
+in_front (mark ∷ marks) width rest = stroke mark width (in_front marks width rest)
 
--- Those of the items `after`, which stand in the list of the box behind the items `before`; the list begins at (h, v).
-abbrev pub strokes_behind : BoxNode → (h v : ℤ) → (before after : List Node) → List Stroke
-strokes_behind b h v before [] = []
-strokes_behind b h v before (x ∷ after) = strokes_of b (item_h b h before) (item_v b v before) x ++ strokes_behind b h v (before ++ x ∷ []) after
+-- The picture of a box in front of another; a box without items is not seen.
+abbrev pub grouped : Items → Kind → Picture → Picture → Picture
+grouped none kind inner rest = rest
+grouped (leaf x items) kind inner rest = group kind inner rest
+grouped (box shift frame more items) kind inner rest = group kind inner rest
+
+-- The picture of the items `after`, which stand in the list of the box behind the items `before`; the list begins at (h, v).
+abbrev pub picture_behind : BoxNode → (h v : ℤ) → (before : List Node) → (after : Items) → Picture
+picture_behind b h v before none = blank
+picture_behind b h v before (leaf x after) =
+    in_front (mark_of b (item_h b h before) (item_v b v before) x) (width_in b x) (picture_behind b h v (before ++ node_of x ∷ []) after)
+picture_behind b h v before (box shift frame inner after) =
+    grouped inner frame.kind
+    (picture_behind (box_of frame inner) (box_h b.kind (item_h b h before) shift)
+    (list_v frame.kind frame.height (box_v b.kind (item_v b v before) shift frame.height)) [] inner)
+    (picture_behind b h v (before ++ Box shift (box_of frame inner) ∷ []) after)
 
 -- A movement by an amount, where it is not 0.
 abbrev pub moved_by : Axis → ℤ → Forest → Forest
@@ -46,7 +63,7 @@ selected None font rest = Then (FontNum font) rest
 selected (Some current) font rest = if int_eq font current then rest else Then (FontNum font) rest
 
 -- A rule: in a horizontal list it moves to the right by its width, in a vertical one it moves nothing.
-abbrev pub ruled : Kind → (height width : ℤ) → Leaf
+abbrev pub ruled : Kind → (height width : ℤ) → instructions.Leaf
 ruled Horizontal height width = SetRule height width
 ruled Vertical height width = PutRule height width
 
@@ -54,21 +71,31 @@ abbrev pub behind_rule : Kind → (h width : ℤ) → ℤ
 behind_rule Horizontal h width = h +ℤ width
 behind_rule Vertical h width = h
 
--- What draws these strokes of a list where (h, v) is the place and `current` the font: before each mark, right and down by what is missing,
--- and before a glyph its font, if that is another one.
-abbrev pub drawn : Kind → (h v : ℤ) → (current : Option ℤ) → List Stroke → Forest
-drawn kind h v current [] = Empty
-drawn kind h v current ((Rule x y height width, by) ∷ rest) =
+-- The font behind a picture, where `current` is that in front of it.
+abbrev pub font_behind : (current : Option ℤ) → Picture → Option ℤ
+font_behind current blank = current
+font_behind current (stroke (Rule x y height width) by rest) = font_behind current rest
+font_behind current (stroke (Glyph font code x y) by rest) = font_behind (Some font) rest
+font_behind current (group kind inner rest) = font_behind (font_behind current inner) rest
+
+-- What draws a picture of a list of that kind where (h, v) is the place and `current` the font: before each mark, right and down by what is
+-- missing, and before a glyph its font, if that is another one. A box is drawn between push and pop, from where the place is; behind it the
+-- place is that from before it, and the font stays.
+abbrev pub drawn : Kind → (h v : ℤ) → (current : Option ℤ) → Picture → Forest
+drawn kind h v current blank = Empty
+drawn kind h v current (stroke (Rule x y height width) by rest) =
     moved_by Across (x -ℤ h)
     (moved_by Downward (y -ℤ v) (Then (ruled kind height width) (drawn kind (behind_rule kind x width) y current rest)))
-drawn kind h v current ((Glyph font code x y, by) ∷ rest) =
+drawn kind h v current (stroke (Glyph font code x y) by rest) =
     moved_by Across (x -ℤ h)
     (moved_by Downward (y -ℤ v) (selected current font (Then (SetChar code) (drawn kind (x +ℤ by) y (Some font) rest))))
+drawn kind h v current (group own inner rest) =
+    Group (drawn own h v current inner) (drawn kind h v (font_behind current inner) rest)
 
--- The strokes of a page.
-abbrev pub strokes_of_page : Page → List Stroke
-strokes_of_page page = strokes_behind page.shown page.h (page_v page) [] (nodes_of page.shown.list)
+-- The picture of a page.
+abbrev pub picture_of_page : Page → Picture
+picture_of_page page = picture_behind page.shown page.h (page_v page) [] page.shown.list
 
 -- The body of a page, from its origin and without a font.
 unfoldable pub body_of : Page → Forest
-body_of page = drawn page.shown.kind (pos 0) (pos 0) None (strokes_of_page page)
+body_of page = drawn page.shown.kind (pos 0) (pos 0) None (picture_of_page page)

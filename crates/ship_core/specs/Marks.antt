@@ -4,13 +4,14 @@ use Rattle.std.specs.List.{list_all}
 use Rattle.node_core.specs.declared.tree.Kind.{Kind}
 use Rattle.node_core.specs.declared.tree.Kind.TheVariants.{Horizontal, Vertical}
 use Rattle.node_core.specs.declared.tree.Node.{Node}
-use Rattle.node_core.specs.declared.tree.Node.TheVariants as nodes
+use Rattle.node_core.specs.declared.tree.Node.TheVariants.{Box}
 use Rattle.node_core.specs.declared.tree.Glyph.{Glyph}
 use Rattle.node_core.specs.declared.tree.Rule.{Rule}
 use Rattle.node_core.specs.declared.tree.RuleSize.{RuleSize}
 use Rattle.node_core.specs.declared.tree.RuleSize.TheVariants.{Running, Fixed}
 use Rattle.node_core.specs.declared.tree.BoxNode.{BoxNode}
-use Rattle.node_core.specs.Nodes.{nodes_of}
+use Rattle.node_core.specs.Items.{Leaf, glyph, font_kern, kern, glue, penalty, rule, Frame, Items, none, leaf, box}
+use Rattle.node_core.specs.Nodes.{node_of, box_of}
 use Rattle.dvi_ops.specs.Body as marks
 use Rattle.dvi_ops.specs.Body.{Mark}
 use Rattle.pack_core.specs.Items.{own_size}
@@ -38,18 +39,18 @@ down_at Vertical v place = v +ℤ place
 
 -- How far the corner of a rule is below the place of its item: by its depth, or in a vertical list by height plus depth.
 abbrev pub rule_below : Kind → BoxNode → Rule → ℤ
-rule_below Horizontal b rule = size_in b.depth rule.depth
-rule_below Vertical b rule = own_size rule.height +ℤ own_size rule.depth
+rule_below Horizontal b r = size_in b.depth r.depth
+rule_below Vertical b r = own_size r.height +ℤ own_size r.depth
 
 -- Its height plus depth.
 abbrev pub rule_tall : Kind → BoxNode → Rule → ℤ
-rule_tall Horizontal b rule = size_in b.height rule.height +ℤ size_in b.depth rule.depth
-rule_tall Vertical b rule = own_size rule.height +ℤ own_size rule.depth
+rule_tall Horizontal b r = size_in b.height r.height +ℤ size_in b.depth r.depth
+rule_tall Vertical b r = own_size r.height +ℤ own_size r.depth
 
 -- Its width.
 abbrev pub rule_wide : Kind → BoxNode → Rule → ℤ
-rule_wide Horizontal b rule = own_size rule.width
-rule_wide Vertical b rule = size_in b.width rule.width
+rule_wide Horizontal b r = own_size r.width
+rule_wide Vertical b r = size_in b.width r.width
 
 -- A rule with its corner at (h, v), as a list of one mark; it is no mark where its height or its width is not positive.
 abbrev pub rule_mark : (h v height width : ℤ) → List Mark
@@ -57,17 +58,17 @@ rule_mark h v height width = if int_lt (pos 0) height && int_lt (pos 0) width th
 
 -- A glyph stands at its place in a horizontal list; in a vertical one there are none.
 abbrev pub glyph_mark : Kind → (h v : ℤ) → Glyph → List Mark
-glyph_mark Horizontal h v glyph = marks.Glyph (pos glyph.slot) (pos glyph.code) h v ∷ []
-glyph_mark Vertical h v glyph = []
+glyph_mark Horizontal h v g = marks.Glyph (pos g.slot) (pos g.code) h v ∷ []
+glyph_mark Vertical h v g = []
 
 -- The mark of an item that stands at (h, v) in the list of a box.
-abbrev pub mark_of : BoxNode → (h v : ℤ) → Node → List Mark
-mark_of b h v (nodes.Glyph glyph) = glyph_mark b.kind h v glyph
-mark_of b h v (nodes.FontKern width) = []
-mark_of b h v (nodes.Kern width) = []
-mark_of b h v (nodes.Glue glue) = []
-mark_of b h v (nodes.Penalty penalty) = []
-mark_of b h v (nodes.Rule rule) = rule_mark h (v +ℤ rule_below b.kind b rule) (rule_tall b.kind b rule) (rule_wide b.kind b rule)
+abbrev pub mark_of : BoxNode → (h v : ℤ) → Leaf → List Mark
+mark_of b h v (glyph g) = glyph_mark b.kind h v g
+mark_of b h v (font_kern width) = []
+mark_of b h v (kern width) = []
+mark_of b h v (glue g) = []
+mark_of b h v (penalty p) = []
+mark_of b h v (rule sizes) = rule_mark h (v +ℤ rule_below b.kind b sizes) (rule_tall b.kind b sizes) (rule_wide b.kind b sizes)
 
 -- The point where an item stands that has the items `before` in front of it, in a list that begins at (h, v).
 abbrev pub item_h : BoxNode → (h : ℤ) → (before : List Node) → ℤ
@@ -76,35 +77,53 @@ item_h b h before = right_at b.kind h (place b.kind b.setting before)
 abbrev pub item_v : BoxNode → (v : ℤ) → (before : List Node) → ℤ
 item_v b v before = down_at b.kind v (place b.kind b.setting before)
 
+-- The reference point of a box that stands at (h, v): in a horizontal list it is lower by its shift; in a vertical one it is further to the
+-- right by its shift, and lower by its height.
+abbrev pub box_h : Kind → (h shift : ℤ) → ℤ
+box_h Horizontal h shift = h
+box_h Vertical h shift = h +ℤ shift
+
+abbrev pub box_v : Kind → (v shift height : ℤ) → ℤ
+box_v Horizontal v shift height = v +ℤ shift
+box_v Vertical v shift height = v +ℤ height
+
 -- The marks of the items `after`, which stand in the list of the box behind the items `before`; the list begins at (h, v).
-abbrev pub marks_behind : BoxNode → (h v : ℤ) → (before after : List Node) → List Mark
-marks_behind b h v before [] = []
-marks_behind b h v before (x ∷ after) = mark_of b (item_h b h before) (item_v b v before) x ++ marks_behind b h v (before ++ x ∷ []) after
+abbrev pub marks_behind : BoxNode → (h v : ℤ) → (before : List Node) → (after : Items) → List Mark
+marks_behind b h v before none = []
+marks_behind b h v before (leaf x after) =
+    mark_of b (item_h b h before) (item_v b v before) x ++ marks_behind b h v (before ++ node_of x ∷ []) after
+marks_behind b h v before (box shift frame inner after) =
+    marks_behind (box_of frame inner) (box_h b.kind (item_h b h before) shift)
+    (list_v frame.kind frame.height (box_v b.kind (item_v b v before) shift frame.height)) [] inner
+    ++ marks_behind b h v (before ++ Box shift (box_of frame inner) ∷ []) after
 
 -- The marks of a box whose reference point is (h, v).
 unfoldable pub marks_of_box : BoxNode → (h v : ℤ) → List Mark
-marks_of_box b h v = marks_behind b h (list_v b.kind b.height v) [] (nodes_of b.list)
+marks_of_box b h v = marks_behind b h (list_v b.kind b.height v) [] b.list
 
--- The numbers of an item that stands at (h, v) before the place (next_h, next_v): the two places, and of a rule its corner and its sizes
--- (the width is a dimension and fits in any case).
-abbrev pub numbers_of : BoxNode → (h v next_h next_v : ℤ) → Node → List ℤ
-numbers_of b h v next_h next_v (nodes.Glyph glyph) = h ∷ v ∷ next_h ∷ next_v ∷ []
-numbers_of b h v next_h next_v (nodes.FontKern width) = h ∷ v ∷ next_h ∷ next_v ∷ []
-numbers_of b h v next_h next_v (nodes.Kern width) = h ∷ v ∷ next_h ∷ next_v ∷ []
-numbers_of b h v next_h next_v (nodes.Glue glue) = h ∷ v ∷ next_h ∷ next_v ∷ []
-numbers_of b h v next_h next_v (nodes.Penalty penalty) = h ∷ v ∷ next_h ∷ next_v ∷ []
-numbers_of b h v next_h next_v (nodes.Rule rule) =
-    h ∷ v ∷ next_h ∷ next_v ∷ (v +ℤ rule_below b.kind b rule) ∷ rule_tall b.kind b rule ∷ rule_wide b.kind b rule ∷ []
+-- The numbers that an item adds to its place: of a rule its corner and its sizes (the width is a dimension and fits in any case).
+abbrev pub own_numbers : BoxNode → (v : ℤ) → Leaf → List ℤ
+own_numbers b v (glyph g) = []
+own_numbers b v (font_kern width) = []
+own_numbers b v (kern width) = []
+own_numbers b v (glue g) = []
+own_numbers b v (penalty p) = []
+own_numbers b v (rule sizes) = (v +ℤ rule_below b.kind b sizes) ∷ rule_tall b.kind b sizes ∷ rule_wide b.kind b sizes ∷ []
 
--- Those of the item x behind the items `before`.
-abbrev pub numbers_at : BoxNode → (h v : ℤ) → (before : List Node) → Node → List ℤ
-numbers_at b h v before x =
-    numbers_of b (item_h b h before) (item_v b v before) (item_h b h (before ++ x ∷ [])) (item_v b v (before ++ x ∷ [])) x
-
--- Those of the items `after`.
-abbrev pub numbers_behind : BoxNode → (h v : ℤ) → (before after : List Node) → List ℤ
-numbers_behind b h v before [] = []
-numbers_behind b h v before (x ∷ after) = numbers_at b h v before x ++ numbers_behind b h v (before ++ x ∷ []) after
+-- The numbers of the items `after`, which stand in the list of the box behind the items `before`: of each its place and the place behind it;
+-- of a leaf its own; of a box its reference point and the numbers of its items.
+abbrev pub numbers_behind : BoxNode → (h v : ℤ) → (before : List Node) → (after : Items) → List ℤ
+numbers_behind b h v before none = []
+numbers_behind b h v before (leaf x after) =
+    item_h b h before ∷ item_v b v before ∷ item_h b h (before ++ node_of x ∷ []) ∷ item_v b v (before ++ node_of x ∷ [])
+    ∷ (own_numbers b (item_v b v before) x ++ numbers_behind b h v (before ++ node_of x ∷ []) after)
+numbers_behind b h v before (box shift frame inner after) =
+    item_h b h before ∷ item_v b v before ∷ item_h b h (before ++ Box shift (box_of frame inner) ∷ [])
+    ∷ item_v b v (before ++ Box shift (box_of frame inner) ∷ []) ∷ box_h b.kind (item_h b h before) shift
+    ∷ box_v b.kind (item_v b v before) shift frame.height
+    ∷ (numbers_behind (box_of frame inner) (box_h b.kind (item_h b h before) shift)
+    (list_v frame.kind frame.height (box_v b.kind (item_v b v before) shift frame.height)) [] inner
+    ++ numbers_behind b h v (before ++ Box shift (box_of frame inner) ∷ []) after)
 
 -- A page: its ten counts, and a box with its reference point.
 pub record Page : Type 0 where
@@ -121,10 +140,10 @@ marks_of_page page = marks_of_box page.shown page.h page.v
 abbrev pub page_v : Page → ℤ
 page_v page = list_v page.shown.kind page.shown.height page.v
 
--- The numbers of a page that have to fit: how far it reaches down and to the right, and those of its items.
+-- The numbers of a page that have to fit: how far it reaches down and to the right, and those of its items, in inner boxes too.
 abbrev pub numbers_of_page : Page → List ℤ
 numbers_of_page page =
-    (page.v +ℤ page.shown.depth) ∷ (page.h +ℤ page.shown.width) ∷ numbers_behind page.shown page.h (page_v page) [] (nodes_of page.shown.list)
+    (page.v +ℤ page.shown.depth) ∷ (page.h +ℤ page.shown.width) ∷ numbers_behind page.shown page.h (page_v page) [] page.shown.list
 
 -- Whether a page is huge: one of those numbers does not fit.
 unfoldable pub is_huge : Page → Bool

@@ -52,6 +52,7 @@ Reaches kind h next_h (nodes.Kern width) = Unit {0}
 Reaches kind h next_h (nodes.Glue glue) = Unit {0}
 Reaches kind h next_h (nodes.Penalty penalty) = Unit {0}
 Reaches kind h next_h (nodes.Rule rule) = next_h ≡ right_at kind h (own_size rule.width)
+Reaches kind h next_h (nodes.Box shift b) = Unit {0}
 
 -- An instruction, unless an amount is 0.
 abbrev pub unless_zero : ℤ → Instruction → List Instruction
