@@ -1,39 +1,51 @@
--- What is drawn for strokes has their marks, by the meaning of instructions, and can be spelled.
-use Rattle.std.proofs.Common.{◌≡◌, zero, suc, ◌<◌, ◌^◌, List, [], ◌∷◌, ◌++◌, map, refl, ap, sym, ◌∙◌, subst, arith}
+-- What is drawn for a picture has its marks, by the meaning of instructions, and can be spelled.
+use Rattle.std.proofs.Common.{◌≡◌, ℕ, zero, suc, ◌+◌, ◌<◌, max, ◌^◌, List, [], ◌∷◌, ◌++◌, refl, ap, sym, ◌∙◌, arith}
 use Rattle.std.specs.Prelude.{ℤ, pos, negsuc, ◌+ℤ◌, ◌-ℤ◌, ◌≤ℤ◌, neg_ℤ, Bool, true, false, ◌&&◌, if◌then◌else◌, int_lt, Option, Some, None}
 use Rattle.std.specs.List.{list_all, AllByRecursion}
 use Rattle.std.specs.Ordering.{int_eq}
 use Rattle.std.proofs.lemmas.Int.{ints}
 use Rattle.std.proofs.lemmas.Bool.{lt-ltb}
 use Rattle.std.proofs.lemmas.Bool.Decides.{Decides-int_eq}
-use Rattle.std.proofs.lemmas.List.Folds.{list_all-append}
 use Rattle.scaled_core.specs.Dimensions.{Within}
 use Rattle.node_core.specs.declared.tree.Kind.{Kind}
 use Rattle.node_core.specs.declared.tree.Kind.TheVariants.{Horizontal, Vertical}
-use Rattle.node_core.specs.declared.tree.Node.{Node}
-use Rattle.node_core.specs.declared.tree.Node.TheVariants as nodes
-use Rattle.node_core.specs.declared.tree.Glyph.{Glyph}
-use Rattle.node_core.specs.declared.tree.Rule.{Rule}
-use Rattle.node_core.specs.declared.tree.BoxNode.{BoxNode}
-use Rattle.dvi_ops.specs.Instruction.{Axis, Across, Downward, SetChar, FontNum, Do}
+use Rattle.dvi_ops.specs.Instruction.{Axis, Across, Downward, By, Move, SetChar, SetRule, PutRule, FontNum, Instruction, Do, Push, Pop}
 use Rattle.dvi_ops.specs.Body as body
-use Rattle.dvi_ops.specs.Body.{State, Registers, Meaning, Widths, acts, kept, in_range}
-use Rattle.dvi_ops.specs.Forest.{Forest, Then, flat, meaning, nests, ahead}
-use Rattle.dvi_ops.specs.Fonts.{definitions, selections}
+use Rattle.dvi_ops.specs.Body.{Mark, Place, State, Registers, Meaning, Widths, acts, kept, in_range}
+use Rattle.dvi_ops.specs.Forest.{Forest, Then, flat, meaning, nests, ahead, and_then, restored}
 use Rattle.dvi_ops.specs.Spelling.{NumberFits}
 use Rattle.dvi_ops.specs.Layout.{IsWritable}
 use Rattle.dvi_ops.proofs.Appends.{all_append}
-use Rattle.pack_core.specs.Items.{own_size}
 use Rattle.pack_core.specs.Totals.{fits}
-use Rattle.ship_core.specs.Marks.{right_at, rule_below, rule_tall, rule_wide, rule_mark, glyph_mark, item_h, item_v, numbers_of, numbers_at, numbers_behind}
-use Rattle.ship_core.specs.Drawing.{Stroke, strokes_of, strokes_behind, moved_by, selected, ruled, behind_rule, drawn}
-use Rattle.ship_core.specs.Placing.{Reaches}
-use Rattle.ship_core.specs.Shown.{HasWidth, at}
+use Rattle.ship_core.specs.Drawing.{Picture, blank, stroke, group, moved_by, selected, ruled, behind_rule, font_behind, drawn}
+use Rattle.ship_core.specs.Shown.{at}
 use Rattle.ship_core.proofs.Fitting.{fits_within}
-use Rattle.ship_core.proofs.Places.{first_of_and, rest_of_and, reach}
+
+-- The marks of a picture.
+abbrev pub marks_in : Picture → List Mark
+marks_in blank = []
+marks_in (stroke mark by rest) = mark ∷ marks_in rest
+marks_in (group kind inner rest) = marks_in inner ++ marks_in rest
+
+-- A property of each stroke of a picture, by the kind of its list, its mark and its width.
+abbrev pub EachStroke : (Kind → Mark → (by : ℤ) → Type 0) → Kind → Picture → Type 0
+EachStroke P kind blank = Unit {0}
+EachStroke P kind (stroke mark by rest) = P kind mark by × EachStroke P kind rest
+EachStroke P kind (group own inner rest) = EachStroke P own inner × EachStroke P kind rest
+
+pub every_stroke : (P : Kind → Mark → (by : ℤ) → Type 0) → ((kind : Kind) (mark : Mark) (by : ℤ) → P kind mark by) → (kind : Kind) (p : Picture) → EachStroke P kind p
+every_stroke P holds kind blank = tt
+every_stroke P holds kind (stroke mark by rest) = (holds kind mark by, every_stroke P holds kind rest)
+every_stroke P holds kind (group own inner rest) = (every_stroke P holds own inner, every_stroke P holds kind rest)
+
+-- A meaning has these marks, and leaves that font.
+pub record Shows (m : Meaning) (marks : List Mark) (font : Option ℤ) : Type 0 where
+  pub last : State
+  pub left : last.font ≡ font
+  pub shows : m ≡ Some (marks, last)
 
 -- Numbers that all fit.
-all_within : (numbers : List ℤ) → list_all fits numbers ≡ true → AllByRecursion (Within 1073741823) numbers
+pub all_within : (numbers : List ℤ) → list_all fits numbers ≡ true → AllByRecursion (Within 1073741823) numbers
 all_within [] all = tt
 all_within (z ∷ rest) all = by_test (fits z) refl all (all_within rest)
   where
@@ -85,9 +97,9 @@ pub record IsLettered (widths : Widths) (font code x y by : ℤ) : Type 0 where
   pub font_byte : IsByte font
   pub code_byte : IsByte code
 
-abbrev pub IsDrawn : Kind → Widths → Stroke → Type 0
-IsDrawn kind widths (body.Rule x y height width, by) = IsSeen kind x y height width
-IsDrawn kind widths (body.Glyph font code x y, by) = IsLettered widths font code x y by
+abbrev pub IsDrawn : Widths → Kind → Mark → (by : ℤ) → Type 0
+IsDrawn widths kind (body.Rule x y height width) by = IsSeen kind x y height width
+IsDrawn widths kind (body.Glyph font code x y) by = IsLettered widths font code x y by
 
 ahead_none : (m : Meaning) → ahead [] m ≡ m
 ahead_none None = refl
@@ -149,27 +161,47 @@ module _ (widths : Widths) (held : Registers) where
   unfolding shown
   lettered font code h v by rest can = rw (can.wide, point_within (h +ℤ by) can.end, point_within v can.v) refl
 
-  -- What is drawn for strokes has their marks.
+  -- After a group, what follows begins at the place before it, with the font of its end.
+  behind_group :
+      (m : Meaning) (p : Place) (marks : List Mark) (last : State) (font : Option ℤ) (next : State → Meaning) → m ≡ Some (marks, last) → last.font ≡ font
+      → and_then (restored p m) next ≡ ahead marks (next (record { place = p; font = font }))
+  behind_group m p marks last font next is left = rw (is, left) refl
+
+  -- What is drawn for a picture has its marks, and leaves its font.
   pub drawn_marks :
-      (kind : Kind) (h v : ℤ) (current : Option ℤ) (strokes : List Stroke) → in_range v ≡ true → AllByRecursion (IsDrawn kind widths) strokes
-      → (last : State) × (meaning (kept (acts widths)) (drawn kind h v current strokes) (at h v held current) ≡ Some (map (λ s. s.0) strokes, last))
+      (kind : Kind) (h v : ℤ) (current : Option ℤ) (p : Picture) → in_range v ≡ true → EachStroke (IsDrawn widths) kind p
+      → Shows (meaning (kept (acts widths)) (drawn kind h v current p) (at h v held current)) (marks_in p) (font_behind current p)
   unfolding shown
-  drawn_marks kind h v current [] below all = (at h v held current, refl)
-  drawn_marks kind h v current ((body.Rule x y height width, by) ∷ rest) below (seen, all) =
+  drawn_marks kind h v current blank below all = record { last = at h v held current; left = refl; shows = refl }
+  drawn_marks kind h v current (stroke (body.Rule x y height width) by rest) below (seen, all) =
       let later = drawn_marks kind (behind_rule kind x width) y current rest (point_within y seen.v) all in
-      let others = drawn kind (behind_rule kind x width) y current rest in (
-        later.0,
-        moved_to h v x y current (Then (ruled kind height width) others) below (point_within x seen.h) (point_within y seen.v)
-            ∙ (inked_rule kind x y height width current others seen ∙ ap (ahead (body.Rule x y height width ∷ [])) later.1),
-      )
-  drawn_marks kind h v current ((body.Glyph font code x y, by) ∷ rest) below (can, all) =
+      let others = drawn kind (behind_rule kind x width) y current rest in
+      record {
+        last = later.last;
+        left = later.left;
+        shows = moved_to h v x y current (Then (ruled kind height width) others) below (point_within x seen.h) (point_within y seen.v)
+            ∙ (inked_rule kind x y height width current others seen ∙ ap (ahead (body.Rule x y height width ∷ [])) later.shows);
+      }
+  drawn_marks kind h v current (stroke (body.Glyph font code x y) by rest) below (can, all) =
       let later = drawn_marks kind (x +ℤ by) y (Some font) rest (point_within y can.v) all in
-      let others = drawn kind (x +ℤ by) y (Some font) rest in (
-        later.0,
-        moved_to h v x y current (selected current font (Then (SetChar code) others)) below (point_within x can.h) (point_within y can.v)
+      let others = drawn kind (x +ℤ by) y (Some font) rest in
+      record {
+        last = later.last;
+        left = later.left;
+        shows = moved_to h v x y current (selected current font (Then (SetChar code) others)) below (point_within x can.h) (point_within y can.v)
             ∙ (selected_font x y current font (Then (SetChar code) others) (point_within x can.h) (point_within y can.v)
-            ∙ (lettered font code x y by others can ∙ ap (ahead (body.Glyph font code x y ∷ [])) later.1)),
-      )
+            ∙ (lettered font code x y by others can ∙ ap (ahead (body.Glyph font code x y ∷ [])) later.shows));
+      }
+  drawn_marks kind h v current (group own inner rest) below (within, all) =
+      let first = drawn_marks own h v current inner below within in
+      let later = drawn_marks kind h v (font_behind current inner) rest below all in
+      record {
+        last = later.last;
+        left = later.left;
+        shows = behind_group (shown (drawn own h v current inner) h v current) (at h v held current).place (marks_in inner) first.last (font_behind current inner)
+            (λ t. meaning (kept (acts widths)) (drawn kind h v (font_behind current inner) rest) t) first.shows first.left
+            ∙ ap (ahead (marks_in inner)) later.shows;
+      }
 
 -- It can be spelled, and the numbers fit their fields.
 writable_movement : (axis : Axis) (z : ℤ) (rest : Forest) → NumberFits z → AllByRecursion IsWritable (flat rest) → AllByRecursion IsWritable (flat (moved_by axis z rest))
@@ -192,50 +224,95 @@ writable_rule Horizontal height width tall wide = (tt, (tall, wide))
 writable_rule Vertical height width tall wide = (tt, (tall, wide))
 
 pub drawn_writable :
-    (kind : Kind) (widths : Widths) (h v : ℤ) (current : Option ℤ) (strokes : List Stroke) → Within 1073741823 h → Within 1073741823 v
-    → AllByRecursion (IsDrawn kind widths) strokes → AllByRecursion IsWritable (flat (drawn kind h v current strokes))
-drawn_writable kind widths h v current [] right low all = tt
-drawn_writable kind widths h v current ((body.Rule x y height width, by) ∷ rest) right low (seen, all) =
+    (widths : Widths) (kind : Kind) (h v : ℤ) (current : Option ℤ) (p : Picture) → Within 1073741823 h → Within 1073741823 v
+    → EachStroke (IsDrawn widths) kind p → AllByRecursion IsWritable (flat (drawn kind h v current p))
+drawn_writable widths kind h v current blank right low all = tt
+drawn_writable widths kind h v current (stroke (body.Rule x y height width) by rest) right low (seen, all) =
     writable_movement Across (x -ℤ h) _ (difference_fits x h seen.h right)
     (writable_movement Downward (y -ℤ v) _ (difference_fits y v seen.v low) (
       writable_rule kind height width (number_within height seen.tall) (number_within width seen.wide),
-      drawn_writable kind widths (behind_rule kind x width) y current rest seen.end seen.v all,
+      drawn_writable widths kind (behind_rule kind x width) y current rest seen.end seen.v all,
     ))
-drawn_writable kind widths h v current ((body.Glyph font code x y, by) ∷ rest) right low (can, all) =
+drawn_writable widths kind h v current (stroke (body.Glyph font code x y) by rest) right low (can, all) =
     writable_movement Across (x -ℤ h) _ (difference_fits x h can.h right)
     (writable_movement Downward (y -ℤ v) _ (difference_fits y v can.v low)
     (writable_selection current font _ (byte_fits font can.font_byte)
-    ((tt, byte_fits code can.code_byte), drawn_writable kind widths (x +ℤ by) y (Some font) rest can.end can.v all)))
+    ((tt, byte_fits code can.code_byte), drawn_writable widths kind (x +ℤ by) y (Some font) rest can.end can.v all)))
+drawn_writable widths kind h v current (group own inner rest) right low (within, all) =
+    (
+      (tt, tt),
+      all_append IsWritable (flat (drawn own h v current inner)) (Pop ∷ flat (drawn kind h v (font_behind current inner) rest))
+      (drawn_writable widths own h v current inner right low within)
+      ((tt, tt), drawn_writable widths kind h v (font_behind current inner) rest right low all),
+    )
 
--- No font is defined in it.
-definitions_moved : (axis : Axis) (z : ℤ) (rest : Forest) → definitions (flat (moved_by axis z rest)) ≡ definitions (flat rest)
-definitions_moved axis (pos zero) rest = refl
-definitions_moved axis (pos (suc n)) rest = refl
-definitions_moved axis (negsuc n) rest = refl
+-- What holds of movements, pushes and pops, and of what is made for each stroke, holds of each instruction that draws a picture.
+module _ (P : Instruction → Type 0) where
+  -- What is made for a mark: a rule; a character, and before it the selection of its font.
+  abbrev pub IsInked : Kind → Mark → (by : ℤ) → Type 0
+  IsInked kind (body.Rule x y height width) by = P (Do (ruled kind height width))
+  IsInked kind (body.Glyph font code x y) by = P (Do (FontNum font)) × P (Do (SetChar code))
 
-definitions_selected : (current : Option ℤ) (font : ℤ) (rest : Forest) → definitions (flat (selected current font rest)) ≡ definitions (flat rest)
-definitions_selected None font rest = refl
-definitions_selected (Some current) font rest = by_test (int_eq font current)
-  where
-    by_test : (same : Bool) → definitions (flat (if same then rest else Then (FontNum font) rest)) ≡ definitions (flat rest)
-    by_test true = refl
-    by_test false = refl
+  pub record HoldsBetween : Type 0 where
+    pub moves : (axis : Axis) (z : ℤ) → P (Do (Move axis (By z)))
+    pub push : P Push
+    pub pop : P Pop
 
-definitions_ruled : (kind : Kind) (height width : ℤ) (rest : Forest) → definitions (flat (Then (ruled kind height width) rest)) ≡ definitions (flat rest)
-definitions_ruled Horizontal height width rest = refl
-definitions_ruled Vertical height width rest = refl
+  each_movement :
+      (axis : Axis) (z : ℤ) (rest : Forest) → P (Do (Move axis (By z))) → AllByRecursion P (flat rest) → AllByRecursion P (flat (moved_by axis z rest))
+  each_movement axis (pos zero) rest here all = all
+  each_movement axis (pos (suc n)) rest here all = (here, all)
+  each_movement axis (negsuc n) rest here all = (here, all)
 
-pub definitions-drawn : (kind : Kind) (h v : ℤ) (current : Option ℤ) (strokes : List Stroke) → definitions (flat (drawn kind h v current strokes)) ≡ []
-definitions-drawn kind h v current [] = refl
-definitions-drawn kind h v current ((body.Rule x y height width, by) ∷ rest) =
-    definitions_moved Across (x -ℤ h) _
-    ∙ (definitions_moved Downward (y -ℤ v) _
-    ∙ (definitions_ruled kind height width (drawn kind (behind_rule kind x width) y current rest) ∙ definitions-drawn kind (behind_rule kind x width) y current rest))
-definitions-drawn kind h v current ((body.Glyph font code x y, by) ∷ rest) =
-    definitions_moved Across (x -ℤ h) _
-    ∙ (definitions_moved Downward (y -ℤ v) _ ∙ (definitions_selected current font _ ∙ definitions-drawn kind (x +ℤ by) y (Some font) rest))
+  each_selection :
+      (current : Option ℤ) (font : ℤ) (rest : Forest) → P (Do (FontNum font)) → AllByRecursion P (flat rest) → AllByRecursion P (flat (selected current font rest))
+  each_selection None font rest here all = (here, all)
+  each_selection (Some current) font rest here all = by_test (int_eq font current)
+    where
+      by_test : (same : Bool) → AllByRecursion P (flat (if same then rest else Then (FontNum font) rest))
+      by_test true = all
+      by_test false = (here, all)
 
--- Nothing is pushed.
+  pub each_drawn :
+      HoldsBetween → (kind : Kind) (h v : ℤ) (current : Option ℤ) (p : Picture) → EachStroke IsInked kind p → AllByRecursion P (flat (drawn kind h v current p))
+  each_drawn holds kind h v current blank all = tt
+  each_drawn holds kind h v current (stroke (body.Rule x y height width) by rest) (here, all) =
+      each_movement Across (x -ℤ h) _ (holds.moves Across (x -ℤ h))
+      (each_movement Downward (y -ℤ v) _ (holds.moves Downward (y -ℤ v)) (here, each_drawn holds kind (behind_rule kind x width) y current rest all))
+  each_drawn holds kind h v current (stroke (body.Glyph font code x y) by rest) (here, all) =
+      each_movement Across (x -ℤ h) _ (holds.moves Across (x -ℤ h))
+      (each_movement Downward (y -ℤ v) _ (holds.moves Downward (y -ℤ v))
+      (each_selection current font _ here.0 (here.1, each_drawn holds kind (x +ℤ by) y (Some font) rest all)))
+  each_drawn holds kind h v current (group own inner rest) (within, all) =
+      (
+        holds.push,
+        all_append P (flat (drawn own h v current inner)) (Pop ∷ flat (drawn kind h v (font_behind current inner) rest))
+        (each_drawn holds own h v current inner within)
+        (holds.pop, each_drawn holds kind h v (font_behind current inner) rest all),
+      )
+
+  -- What holds of all that is made holds of each instruction.
+  pub record HoldsOfAll : Type 0 where
+    pub between : HoldsBetween
+    pub fonts : (font : ℤ) → P (Do (FontNum font))
+    pub chars : (code : ℤ) → P (Do (SetChar code))
+    pub set_rules : (height width : ℤ) → P (Do (SetRule height width))
+    pub put_rules : (height width : ℤ) → P (Do (PutRule height width))
+
+  all_inked : HoldsOfAll → (kind : Kind) (mark : Mark) (by : ℤ) → IsInked kind mark by
+  all_inked holds Horizontal (body.Rule x y height width) by = holds.set_rules height width
+  all_inked holds Vertical (body.Rule x y height width) by = holds.put_rules height width
+  all_inked holds kind (body.Glyph font code x y) by = (holds.fonts font, holds.chars code)
+
+  pub all_drawn : HoldsOfAll → (kind : Kind) (h v : ℤ) (current : Option ℤ) (p : Picture) → AllByRecursion P (flat (drawn kind h v current p))
+  all_drawn holds kind h v current p = each_drawn holds.between kind h v current p (every_stroke IsInked (all_inked holds) kind p)
+
+-- How deep the groups of a picture nest; and what is drawn for it opens as many.
+abbrev pub groups : Picture → ℕ
+groups blank = 0
+groups (stroke mark by rest) = groups rest
+groups (group kind inner rest) = max (groups inner + 1) (groups rest)
+
 nests_moved : (axis : Axis) (z : ℤ) (rest : Forest) → nests (moved_by axis z rest) ≡ nests rest
 nests_moved axis (pos zero) rest = refl
 nests_moved axis (pos (suc n)) rest = refl
@@ -249,137 +326,12 @@ nests_selected (Some current) font rest = by_test (int_eq font current)
     by_test true = refl
     by_test false = refl
 
-pub nests-drawn : (kind : Kind) (h v : ℤ) (current : Option ℤ) (strokes : List Stroke) → nests (drawn kind h v current strokes) ≡ 0
-nests-drawn kind h v current [] = refl
-nests-drawn kind h v current ((body.Rule x y height width, by) ∷ rest) =
+pub nests-drawn : (kind : Kind) (h v : ℤ) (current : Option ℤ) (p : Picture) → nests (drawn kind h v current p) ≡ groups p
+nests-drawn kind h v current blank = refl
+nests-drawn kind h v current (stroke (body.Rule x y height width) by rest) =
     nests_moved Across (x -ℤ h) _ ∙ (nests_moved Downward (y -ℤ v) _ ∙ nests-drawn kind (behind_rule kind x width) y current rest)
-nests-drawn kind h v current ((body.Glyph font code x y, by) ∷ rest) =
+nests-drawn kind h v current (stroke (body.Glyph font code x y) by rest) =
     nests_moved Across (x -ℤ h) _
     ∙ (nests_moved Downward (y -ℤ v) _ ∙ (nests_selected current font _ ∙ nests-drawn kind (x +ℤ by) y (Some font) rest))
-
--- Each selected font is that of a glyph.
-module _ (P : ℤ → Type 0) where
-  abbrev pub OfFont : Stroke → Type 0
-  OfFont (body.Rule x y height width, by) = Unit {0}
-  OfFont (body.Glyph font code x y, by) = P font
-
-  selections_moved :
-      (axis : Axis) (z : ℤ) (rest : Forest) → AllByRecursion P (selections (flat rest)) → AllByRecursion P (selections (flat (moved_by axis z rest)))
-  selections_moved axis (pos zero) rest all = all
-  selections_moved axis (pos (suc n)) rest all = all
-  selections_moved axis (negsuc n) rest all = all
-
-  selections_selected :
-      (current : Option ℤ) (font : ℤ) (rest : Forest) → P font → AllByRecursion P (selections (flat rest))
-      → AllByRecursion P (selections (flat (selected current font rest)))
-  selections_selected None font rest here all = (here, all)
-  selections_selected (Some current) font rest here all = by_test (int_eq font current)
-    where
-      by_test : (same : Bool) → AllByRecursion P (selections (flat (if same then rest else Then (FontNum font) rest)))
-      by_test true = all
-      by_test false = (here, all)
-
-  selections_ruled :
-      (kind : Kind) (height width : ℤ) (rest : Forest) → AllByRecursion P (selections (flat rest))
-      → AllByRecursion P (selections (flat (Then (ruled kind height width) rest)))
-  selections_ruled Horizontal height width rest all = all
-  selections_ruled Vertical height width rest all = all
-
-  pub selections_drawn :
-      (kind : Kind) (h v : ℤ) (current : Option ℤ) (strokes : List Stroke) → AllByRecursion OfFont strokes
-      → AllByRecursion P (selections (flat (drawn kind h v current strokes)))
-  selections_drawn kind h v current [] all = tt
-  selections_drawn kind h v current ((body.Rule x y height width, by) ∷ rest) (here, all) =
-      selections_moved Across (x -ℤ h) _
-      (selections_moved Downward (y -ℤ v) _
-      (selections_ruled kind height width (drawn kind (behind_rule kind x width) y current rest) (selections_drawn kind (behind_rule kind x width) y current rest all)))
-  selections_drawn kind h v current ((body.Glyph font code x y, by) ∷ rest) (here, all) =
-      selections_moved Across (x -ℤ h) _
-      (selections_moved Downward (y -ℤ v) _ (selections_selected current font _ here (selections_drawn kind (x +ℤ by) y (Some font) rest all)))
-
--- Where h is behind a rule.
-rule_end : (kind : Kind) (b : BoxNode) (h next_h : ℤ) (rule : Rule) → next_h ≡ right_at kind h (own_size rule.width) → next_h ≡ behind_rule kind h (rule_wide kind b rule)
-rule_end Horizontal b h next_h rule is = is
-rule_end Vertical b h next_h rule is = is
-
--- A rule's stroke can be drawn where its numbers fit.
-rule_drawn :
-    (kind : Kind) (widths : Widths) (h v next_h next_v corner height width : ℤ) → next_h ≡ behind_rule kind h width
-    → list_all fits (h ∷ v ∷ next_h ∷ next_v ∷ corner ∷ height ∷ width ∷ []) ≡ true
-    → AllByRecursion (IsDrawn kind widths) (map (λ mark. (mark, width)) (rule_mark h corner height width))
-rule_drawn kind widths h v next_h next_v corner height width edge all = by_test (int_lt (pos 0) height && int_lt (pos 0) width) refl
-  where
-    by_test : (seen : Bool) → (int_lt (pos 0) height && int_lt (pos 0) width) ≡ seen
-        → AllByRecursion (IsDrawn kind widths) (map (λ mark. (mark, width)) (if seen then body.Rule h corner height width ∷ [] else []))
-    by_test false is = tt
-    by_test true is =
-        let fit = all_within (h ∷ v ∷ next_h ∷ next_v ∷ corner ∷ height ∷ width ∷ []) all in (
-          record {
-            h = fit.0;
-            v = fit.1.1.1.1.0;
-            end = subst (Within 1073741823) edge fit.1.1.0;
-            tall = fit.1.1.1.1.1.0;
-            wide = fit.1.1.1.1.1.1.0;
-            positive = is;
-          },
-          tt,
-        )
-
--- A glyph's stroke.
-glyph_drawn :
-    (kind : Kind) (widths : Widths) (h v next_h next_v : ℤ) (g : Glyph) → HasWidth widths (nodes.Glyph g) → next_h ≡ right_at kind h g.width
-    → list_all fits (h ∷ v ∷ next_h ∷ next_v ∷ []) ≡ true → AllByRecursion (IsDrawn kind widths) (map (λ mark. (mark, g.width)) (glyph_mark kind h v g))
-glyph_drawn Vertical widths h v next_h next_v g wide edge all = tt
-glyph_drawn Horizontal widths h v next_h next_v g (wide, (slot, code)) edge all =
-    let fit = all_within (h ∷ v ∷ next_h ∷ next_v ∷ []) all in
-    (record { h = fit.0; v = fit.1.0; end = subst (Within 1073741823) edge fit.1.1.0; wide = wide; font_byte = slot; code_byte = code }, tt)
-
--- The stroke of an item can be drawn where its numbers fit.
-stroke_drawn :
-    (widths : Widths) (b : BoxNode) (h v next_h next_v : ℤ) (x : Node) → HasWidth widths x → Reaches b.kind h next_h x
-    → list_all fits (numbers_of b h v next_h next_v x) ≡ true → AllByRecursion (IsDrawn b.kind widths) (strokes_of b h v x)
-stroke_drawn widths b h v next_h next_v (nodes.Glyph glyph) wide edge all = glyph_drawn b.kind widths h v next_h next_v glyph wide edge all
-stroke_drawn widths b h v next_h next_v (nodes.FontKern width) wide edge all = tt
-stroke_drawn widths b h v next_h next_v (nodes.Kern width) wide edge all = tt
-stroke_drawn widths b h v next_h next_v (nodes.Glue glue) wide edge all = tt
-stroke_drawn widths b h v next_h next_v (nodes.Penalty penalty) wide edge all = tt
-stroke_drawn widths b h v next_h next_v (nodes.Rule rule) wide edge all =
-    rule_drawn b.kind widths h v next_h next_v (v +ℤ rule_below b.kind b rule) (rule_tall b.kind b rule) (rule_wide b.kind b rule) (rule_end b.kind b h next_h rule edge) all
-
--- All strokes of a list can be drawn where all its numbers fit.
-pub strokes_drawn :
-    (widths : Widths) (b : BoxNode) (h v : ℤ) (before after : List Node) → AllByRecursion (HasWidth widths) after
-    → list_all fits (numbers_behind b h v before after) ≡ true → AllByRecursion (IsDrawn b.kind widths) (strokes_behind b h v before after)
-strokes_drawn widths b h v before [] wide all = tt
-strokes_drawn widths b h v before (x ∷ after) wide all =
-    let here = numbers_at b h v before x in
-    let rest = numbers_behind b h v (before ++ x ∷ []) after in
-    let both : (list_all fits here && list_all fits rest) ≡ true = sym (list_all-append fits here rest) ∙ all in
-    let first = first_of_and (list_all fits here) (list_all fits rest) both in
-    all_append (IsDrawn b.kind widths) (strokes_of b (item_h b h before) (item_v b v before) x) (strokes_behind b h v (before ++ x ∷ []) after)
-    (stroke_drawn widths b (item_h b h before) (item_v b v before) (item_h b h (before ++ x ∷ [])) (item_v b v (before ++ x ∷ [])) x wide.0 (reach b h before x) first)
-    (strokes_drawn widths b h v (before ++ x ∷ []) after wide.1 (rest_of_and (list_all fits here) (list_all fits rest) true (sym first) both))
-
--- What holds of each rule of a box holds of its strokes, and what holds of the strokes of each item holds of all.
-module _ (P : Stroke → Type 0) where
-  pub each_rule :
-      (h v height width by : ℤ) → P (body.Rule h v height width, by) → AllByRecursion P (map (λ mark. (mark, by)) (rule_mark h v height width))
-  each_rule h v height width by here = by_test (int_lt (pos 0) height && int_lt (pos 0) width)
-    where
-      by_test : (seen : Bool) → AllByRecursion P (map (λ mark. (mark, by)) (if seen then body.Rule h v height width ∷ [] else []))
-      by_test true = (here, tt)
-      by_test false = tt
-
-  pub each_glyph :
-      (kind : Kind) (h v by : ℤ) (g : Glyph) → P (body.Glyph (pos g.slot) (pos g.code) h v, by) → AllByRecursion P (map (λ mark. (mark, by)) (glyph_mark kind h v g))
-  each_glyph Horizontal h v by g here = (here, tt)
-  each_glyph Vertical h v by g here = tt
-
-  pub each_behind :
-      (Q : Node → Type 0) (b : BoxNode) → ((h v : ℤ) (x : Node) → Q x → AllByRecursion P (strokes_of b h v x))
-      → (h v : ℤ) (before after : List Node) → AllByRecursion Q after → AllByRecursion P (strokes_behind b h v before after)
-  each_behind Q b each h v before [] all = tt
-  each_behind Q b each h v before (x ∷ after) (here, all) =
-      all_append P (strokes_of b (item_h b h before) (item_v b v before) x) (strokes_behind b h v (before ++ x ∷ []) after)
-      (each (item_h b h before) (item_v b v before) x here)
-      (each_behind Q b each h v (before ++ x ∷ []) after all)
+nests-drawn kind h v current (group own inner rest) =
+    omega (arith, nests-drawn own h v current inner, nests-drawn kind h v (font_behind current inner) rest)

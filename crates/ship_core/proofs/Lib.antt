@@ -6,3 +6,4 @@ pub mod Places
 pub mod DrawnMarks
 pub mod DrawnPages
 pub mod DrawnBytes
+pub mod Pictures

@@ -1,0 +1,282 @@
+-- The picture of a list: its marks, its strokes, how many they are, and how deep its groups nest.
+use Rattle.std.proofs.Common.{◌≡◌, ℕ, ◌+◌, ◌≤◌, max, List, [], ◌∷◌, ◌++◌, append_assoc, length, refl, ap, sym, ◌∙◌, subst, arith}
+use Rattle.std.specs.Prelude.{ℤ, pos, ◌+ℤ◌, Bool, true, false, ◌&&◌, if◌then◌else◌, int_lt, Some, None}
+use Rattle.std.specs.List.{AllByRecursion}
+use Rattle.std.proofs.lemmas.Int.{ints}
+use Rattle.scaled_core.specs.Dimensions.{Within}
+use Rattle.node_core.specs.declared.tree.Kind.{Kind}
+use Rattle.node_core.specs.declared.tree.Kind.TheVariants.{Horizontal, Vertical}
+use Rattle.node_core.specs.declared.tree.Glyph.{Glyph}
+use Rattle.node_core.specs.declared.tree.Rule.{Rule}
+use Rattle.node_core.specs.declared.tree.Node.{Node}
+use Rattle.node_core.specs.declared.tree.Node.TheVariants as nodes
+use Rattle.node_core.specs.declared.tree.Node.TheVariants.{Box}
+use Rattle.node_core.specs.declared.tree.BoxNode.{BoxNode}
+use Rattle.node_core.specs.declared.tree.Setting.{Setting}
+use Rattle.node_core.specs.declared.tree.Setting.TheVariants as settings
+use Rattle.node_core.specs.Items.{Leaf, glyph, font_kern, kern, glue, penalty, rule, Frame, Items, none, leaf, box, EachLeaf, items_count, items_depth}
+use Rattle.node_core.specs.Nodes.{node_of, box_of}
+use Rattle.dvi_ops.specs.Body as body
+use Rattle.dvi_ops.specs.Body.{Mark, Widths}
+use Rattle.dvi_ops.proofs.Appends.{all_front, all_back}
+use Rattle.pack_core.specs.Items.{own_size, advance}
+use Rattle.pack_core.specs.Totals.{total}
+use Rattle.pack_core.specs.Places.{share, set_by, place}
+use Rattle.pack_core.proofs.Sums.{total-append}
+use Rattle.ship_core.specs.Marks.{right_at, rule_below, rule_tall, rule_wide, rule_mark, glyph_mark, mark_of, list_v, item_h, item_v, box_h, box_v, marks_behind, own_numbers, numbers_behind}
+use Rattle.ship_core.specs.Drawing.{Picture, blank, stroke, group, width_in, in_front, grouped, picture_behind, behind_rule}
+use Rattle.ship_core.specs.Shown.{HasWidth}
+use Rattle.ship_core.proofs.DrawnMarks.{marks_in, groups, EachStroke, IsDrawn}
+
+-- The marks of the picture of a list are those of the list.
+marks-in_front : (marks : List Mark) (by : ℤ) (rest : Picture) → marks_in (in_front marks by rest) ≡ marks ++ marks_in rest
+marks-in_front [] by rest = refl
+marks-in_front (mark ∷ marks) by rest = ap (λ more. mark ∷ more) (marks-in_front marks by rest)
+
+marks-grouped :
+    (c : BoxNode) (h v : ℤ) (own : Kind) (items : Items) (rest : Picture)
+    → marks_in (grouped items own (picture_behind c h v [] items) rest) ≡ marks_in (picture_behind c h v [] items) ++ marks_in rest
+marks-grouped c h v own none rest = refl
+marks-grouped c h v own (leaf x items) rest = refl
+marks-grouped c h v own (box shift frame inner items) rest = refl
+
+pub marks-picture : (b : BoxNode) (h v : ℤ) (before : List Node) (after : Items) → marks_in (picture_behind b h v before after) ≡ marks_behind b h v before after
+marks-picture b h v before none = refl
+marks-picture b h v before (leaf x after) =
+    let here = mark_of b (item_h b h before) (item_v b v before) x in
+    marks-in_front here (width_in b x) (picture_behind b h v (before ++ node_of x ∷ []) after)
+    ∙ ap (λ marks. here ++ marks) (marks-picture b h v (before ++ node_of x ∷ []) after)
+marks-picture b h v before (box shift frame inner after) =
+    let x = box_h b.kind (item_h b h before) shift in
+    let y = list_v frame.kind frame.height (box_v b.kind (item_v b v before) shift frame.height) in
+    let later = picture_behind b h v (before ++ Box shift (box_of frame inner) ∷ []) after in
+    marks-grouped (box_of frame inner) x y frame.kind inner later
+    ∙ (ap (λ marks. marks ++ marks_in later) (marks-picture (box_of frame inner) x y [] inner)
+    ∙ ap (λ marks. marks_behind (box_of frame inner) x y [] inner ++ marks) (marks-picture b h v (before ++ Box shift (box_of frame inner) ∷ []) after))
+
+-- What holds of a rule of a box holds of its marks; so with a glyph.
+module _ (P : Mark → Type 0) where
+  pub each_rule : (h v height width : ℤ) → P (body.Rule h v height width) → AllByRecursion P (rule_mark h v height width)
+  each_rule h v height width here = by_test (int_lt (pos 0) height && int_lt (pos 0) width)
+    where
+      by_test : (seen : Bool) → AllByRecursion P (if seen then body.Rule h v height width ∷ [] else [])
+      by_test true = (here, tt)
+      by_test false = tt
+
+  pub each_glyph : (kind : Kind) (h v : ℤ) (g : Glyph) → P (body.Glyph (pos g.slot) (pos g.code) h v) → AllByRecursion P (glyph_mark kind h v g)
+  each_glyph Horizontal h v g here = (here, tt)
+  each_glyph Vertical h v g here = tt
+
+-- Strokes in front of a picture, and the picture of a box.
+module _ (P : Kind → Mark → (by : ℤ) → Type 0) where
+  each_in_front :
+      (kind : Kind) (marks : List Mark) (by : ℤ) (rest : Picture) → AllByRecursion (λ mark. P kind mark by) marks → EachStroke P kind rest
+      → EachStroke P kind (in_front marks by rest)
+  each_in_front kind [] by rest all later = later
+  each_in_front kind (mark ∷ marks) by rest (here, all) later = (here, each_in_front kind marks by rest all later)
+
+  each_grouped :
+      (kind own : Kind) (items : Items) (inner rest : Picture) → EachStroke P own inner → EachStroke P kind rest → EachStroke P kind (grouped items own inner rest)
+  each_grouped kind own none inner rest within later = later
+  each_grouped kind own (leaf x items) inner rest within later = (within, later)
+  each_grouped kind own (box shift frame more items) inner rest within later = (within, later)
+
+  -- What holds of the strokes of each leaf of a list holds of all.
+  pub each_behind :
+      (Q : Leaf → Type 0) → ((b : BoxNode) (h v : ℤ) (x : Leaf) → Q x → AllByRecursion (λ mark. P b.kind mark (width_in b x)) (mark_of b h v x))
+      → (b : BoxNode) (h v : ℤ) (before : List Node) (after : Items) → EachLeaf Q after → EachStroke P b.kind (picture_behind b h v before after)
+  each_behind Q each b h v before none all = tt
+  each_behind Q each b h v before (leaf x after) (here, all) =
+      each_in_front b.kind (mark_of b (item_h b h before) (item_v b v before) x) (width_in b x) (picture_behind b h v (before ++ node_of x ∷ []) after)
+      (each b (item_h b h before) (item_v b v before) x here)
+      (each_behind Q each b h v (before ++ node_of x ∷ []) after all)
+  each_behind Q each b h v before (box shift frame inner after) (within, all) =
+      each_grouped b.kind frame.kind inner _ _
+      (each_behind Q each (box_of frame inner) (box_h b.kind (item_h b h before) shift)
+      (list_v frame.kind frame.height (box_v b.kind (item_v b v before) shift frame.height)) [] inner within)
+      (each_behind Q each b h v (before ++ Box shift (box_of frame inner) ∷ []) after all)
+
+-- The item behind one that takes no part in a setting stands where that ends: no glue lies between.
+set_by-none : (setting : Setting) (shares part : ℤ) → part ≡ pos 0 → set_by setting (shares +ℤ (part +ℤ pos 0)) ≡ set_by setting shares
+set_by-none setting shares part no_share = ap (set_by setting) (omega (arith, ints, no_share))
+
+place-behind :
+    (kind : Kind) (setting : Setting) (before : List Node) (x : Node) → share setting x ≡ pos 0
+    → place kind setting (before ++ x ∷ []) ≡ place kind setting before +ℤ advance kind x
+unfolding place
+place-behind kind setting before x no_share =
+    rw (total-append (advance kind) before (x ∷ []), total-append (share setting) before (x ∷ []), set_by-none setting (total (share setting) before) (share setting x) no_share)
+    (omega (arith, ints))
+
+right_of :
+    (setting : Setting) (h : ℤ) (before : List Node) (x : Node) → share setting x ≡ pos 0
+    → h +ℤ place Horizontal setting (before ++ x ∷ []) ≡ (h +ℤ place Horizontal setting before) +ℤ advance Horizontal x
+right_of setting h before x no_share = omega (arith, ints, place-behind Horizontal setting before x no_share)
+
+glyph_share : (setting : Setting) (g : Glyph) → share setting (nodes.Glyph g) ≡ pos 0
+glyph_share settings.Natural g = refl
+glyph_share (settings.Stretch order ratio) g = refl
+glyph_share (settings.Shrink order ratio) g = refl
+
+rule_share : (setting : Setting) (r : Rule) → share setting (nodes.Rule r) ≡ pos 0
+rule_share settings.Natural r = refl
+rule_share (settings.Stretch order ratio) r = refl
+rule_share (settings.Shrink order ratio) r = refl
+
+rule_end :
+    (kind : Kind) (b : BoxNode) (h : ℤ) (before : List Node) (r : Rule)
+    → right_at kind h (place kind b.setting (before ++ nodes.Rule r ∷ [])) ≡ behind_rule kind (right_at kind h (place kind b.setting before)) (rule_wide kind b r)
+rule_end Horizontal b h before r = right_of b.setting h before (nodes.Rule r) (rule_share b.setting r)
+rule_end Vertical b h before r = refl
+
+-- A rule's stroke can be drawn where its numbers fit.
+rule_drawn :
+    (widths : Widths) (kind : Kind) (h v next_h height width : ℤ) → next_h ≡ behind_rule kind h width → Within 1073741823 h → Within 1073741823 next_h
+    → AllByRecursion (Within 1073741823) (v ∷ height ∷ width ∷ []) → AllByRecursion (λ mark. IsDrawn widths kind mark width) (rule_mark h v height width)
+rule_drawn widths kind h v next_h height width edge left right (corner, (tall, (wide, all))) = by_test (int_lt (pos 0) height && int_lt (pos 0) width) refl
+  where
+    by_test : (seen : Bool) → (int_lt (pos 0) height && int_lt (pos 0) width) ≡ seen
+        → AllByRecursion (λ mark. IsDrawn widths kind mark width) (if seen then body.Rule h v height width ∷ [] else [])
+    by_test false is = tt
+    by_test true is = (record { h = left; v = corner; end = subst (Within 1073741823) edge right; tall = tall; wide = wide; positive = is }, tt)
+
+-- A glyph's stroke.
+glyph_drawn :
+    (widths : Widths) (kind : Kind) (setting : Setting) (h v : ℤ) (before : List Node) (g : Glyph) → HasWidth widths (glyph g)
+    → Within 1073741823 (right_at kind h (place kind setting before)) → Within 1073741823 v
+    → Within 1073741823 (right_at kind h (place kind setting (before ++ nodes.Glyph g ∷ [])))
+    → AllByRecursion (λ mark. IsDrawn widths kind mark g.width) (glyph_mark kind (right_at kind h (place kind setting before)) v g)
+glyph_drawn widths Vertical setting h v before g wide left low right = tt
+glyph_drawn widths Horizontal setting h v before g (wide, (slot, code)) left low right =
+    (
+      record {
+        h = left;
+        v = low;
+        end = subst (Within 1073741823) (right_of setting h before (nodes.Glyph g) (glyph_share setting g)) right;
+        wide = wide;
+        font_byte = slot;
+        code_byte = code;
+      },
+      tt,
+    )
+
+-- The stroke of a leaf can be drawn where its numbers fit.
+leaf_drawn :
+    (widths : Widths) (b : BoxNode) (h v : ℤ) (before : List Node) (x : Leaf) → HasWidth widths x → Within 1073741823 (item_h b h before) → Within 1073741823 (item_v b v before)
+    → Within 1073741823 (item_h b h (before ++ node_of x ∷ [])) → AllByRecursion (Within 1073741823) (own_numbers b (item_v b v before) x)
+    → AllByRecursion (λ mark. IsDrawn widths b.kind mark (width_in b x)) (mark_of b (item_h b h before) (item_v b v before) x)
+leaf_drawn widths b h v before (glyph g) wide left low right fit = glyph_drawn widths b.kind b.setting h (item_v b v before) before g wide left low right
+leaf_drawn widths b h v before (font_kern width) wide left low right fit = tt
+leaf_drawn widths b h v before (kern width) wide left low right fit = tt
+leaf_drawn widths b h v before (glue g) wide left low right fit = tt
+leaf_drawn widths b h v before (penalty p) wide left low right fit = tt
+leaf_drawn widths b h v before (rule r) wide left low right fit =
+    rule_drawn widths b.kind (item_h b h before) (item_v b v before +ℤ rule_below b.kind b r) (item_h b h (before ++ nodes.Rule r ∷ [])) (rule_tall b.kind b r)
+    (rule_wide b.kind b r) (rule_end b.kind b h before r) left right fit
+
+-- All strokes of a list can be drawn where all its numbers fit.
+pub strokes_drawn :
+    (widths : Widths) (b : BoxNode) (h v : ℤ) (before : List Node) (after : Items) → EachLeaf (HasWidth widths) after
+    → AllByRecursion (Within 1073741823) (numbers_behind b h v before after) → EachStroke (IsDrawn widths) b.kind (picture_behind b h v before after)
+strokes_drawn widths b h v before none wide fit = tt
+strokes_drawn widths b h v before (leaf x after) (here, wide) (left, (low, (right, (next, fit)))) =
+    let own = own_numbers b (item_v b v before) x in
+    let rest = numbers_behind b h v (before ++ node_of x ∷ []) after in
+    each_in_front (IsDrawn widths) b.kind (mark_of b (item_h b h before) (item_v b v before) x) (width_in b x) (picture_behind b h v (before ++ node_of x ∷ []) after)
+    (leaf_drawn widths b h v before x here left low right (all_front (Within 1073741823) own rest fit))
+    (strokes_drawn widths b h v (before ++ node_of x ∷ []) after wide (all_back (Within 1073741823) own rest fit))
+strokes_drawn widths b h v before (box shift frame inner after) (within, wide) (left, (low, (right, (next, (across, (down, fit)))))) =
+    let x = box_h b.kind (item_h b h before) shift in
+    let y = list_v frame.kind frame.height (box_v b.kind (item_v b v before) shift frame.height) in
+    let own = numbers_behind (box_of frame inner) x y [] inner in
+    let rest = numbers_behind b h v (before ++ Box shift (box_of frame inner) ∷ []) after in
+    each_grouped (IsDrawn widths) b.kind frame.kind inner _ _
+    (strokes_drawn widths (box_of frame inner) x y [] inner within (all_front (Within 1073741823) own rest fit))
+    (strokes_drawn widths b h v (before ++ Box shift (box_of frame inner) ∷ []) after wide (all_back (Within 1073741823) own rest fit))
+
+-- How many strokes and groups a picture has.
+abbrev pub parts : Picture → ℕ
+parts blank = 0
+parts (stroke mark by rest) = parts rest + 1
+parts (group kind inner rest) = parts inner + 1 + parts rest
+
+-- An item has at most one mark.
+one_rule : (h v height width : ℤ) → length (rule_mark h v height width) ≤ 1
+one_rule h v height width = cases (int_lt (pos 0) height && int_lt (pos 0) width)
+  where
+    cases : (b : Bool) → length {A = Mark} (if b then body.Rule h v height width ∷ [] else []) ≤ 1
+    cases true = omega arith
+    cases false = omega arith
+
+one_glyph : (kind : Kind) (h v : ℤ) (g : Glyph) → length (glyph_mark kind h v g) ≤ 1
+one_glyph Horizontal h v g = omega arith
+one_glyph Vertical h v g = omega arith
+
+one_mark : (b : BoxNode) (h v : ℤ) (x : Leaf) → length (mark_of b h v x) ≤ 1
+one_mark b h v (glyph g) = one_glyph b.kind h v g
+one_mark b h v (font_kern width) = omega arith
+one_mark b h v (kern width) = omega arith
+one_mark b h v (glue g) = omega arith
+one_mark b h v (penalty p) = omega arith
+one_mark b h v (rule r) = one_rule h (v +ℤ rule_below b.kind b r) (rule_tall b.kind b r) (rule_wide b.kind b r)
+
+parts-in_front : (marks : List Mark) (by : ℤ) (rest : Picture) → parts (in_front marks by rest) ≡ length marks + parts rest
+parts-in_front [] by rest = omega arith
+parts-in_front (mark ∷ marks) by rest = omega (arith, parts-in_front marks by rest)
+
+groups-in_front : (marks : List Mark) (by : ℤ) (rest : Picture) → groups (in_front marks by rest) ≡ groups rest
+groups-in_front [] by rest = refl
+groups-in_front (mark ∷ marks) by rest = groups-in_front marks by rest
+
+few_grouped : (items : Items) (own : Kind) (inner rest : Picture) → parts (grouped items own inner rest) ≤ parts inner + 1 + parts rest
+few_grouped none own inner rest = omega arith
+few_grouped (leaf x items) own inner rest = omega arith
+few_grouped (box shift frame more items) own inner rest = omega arith
+
+grouped_depth : (items : Items) (own : Kind) (inner rest : Picture) → groups (grouped items own inner rest) ≤ max (groups inner + 1) (groups rest)
+grouped_depth none own inner rest = omega arith
+grouped_depth (leaf x items) own inner rest = omega arith
+grouped_depth (box shift frame more items) own inner rest = omega arith
+
+pub few_parts : (b : BoxNode) (h v : ℤ) (before : List Node) (after : Items) → parts (picture_behind b h v before after) ≤ items_count after
+few_parts b h v before none = omega arith
+few_parts b h v before (leaf x after) =
+    let here = mark_of b (item_h b h before) (item_v b v before) x in
+    omega (
+      arith,
+      parts-in_front here (width_in b x) (picture_behind b h v (before ++ node_of x ∷ []) after),
+      one_mark b (item_h b h before) (item_v b v before) x,
+      few_parts b h v (before ++ node_of x ∷ []) after,
+    )
+few_parts b h v before (box shift frame inner after) =
+    let x = box_h b.kind (item_h b h before) shift in
+    let y = list_v frame.kind frame.height (box_v b.kind (item_v b v before) shift frame.height) in
+    let own = picture_behind (box_of frame inner) x y [] inner in
+    let later = picture_behind b h v (before ++ Box shift (box_of frame inner) ∷ []) after in
+    omega (
+      arith,
+      few_grouped inner frame.kind own later,
+      few_parts (box_of frame inner) x y [] inner,
+      few_parts b h v (before ++ Box shift (box_of frame inner) ∷ []) after,
+    )
+
+pub few_groups : (b : BoxNode) (h v : ℤ) (before : List Node) (after : Items) → groups (picture_behind b h v before after) ≤ items_depth after
+few_groups b h v before none = omega arith
+few_groups b h v before (leaf x after) =
+    let here = mark_of b (item_h b h before) (item_v b v before) x in
+    omega (
+      arith,
+      groups-in_front here (width_in b x) (picture_behind b h v (before ++ node_of x ∷ []) after),
+      few_groups b h v (before ++ node_of x ∷ []) after,
+    )
+few_groups b h v before (box shift frame inner after) =
+    let x = box_h b.kind (item_h b h before) shift in
+    let y = list_v frame.kind frame.height (box_v b.kind (item_v b v before) shift frame.height) in
+    let own = picture_behind (box_of frame inner) x y [] inner in
+    let later = picture_behind b h v (before ++ Box shift (box_of frame inner) ∷ []) after in
+    omega (
+      arith,
+      grouped_depth inner frame.kind own later,
+      few_groups (box_of frame inner) x y [] inner,
+      few_groups b h v (before ++ Box shift (box_of frame inner) ∷ []) after,
+    )
