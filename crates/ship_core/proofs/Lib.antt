@@ -7,3 +7,4 @@ pub mod DrawnMarks
 pub mod DrawnPages
 pub mod DrawnBytes
 pub mod Pictures
+pub mod PushDepth

@@ -3,3 +3,4 @@ pub mod Marks
 pub mod Drawing
 pub mod Placing
 pub mod Shown
+pub mod Pushes

@@ -5,6 +5,8 @@ mod drawing;
 pub mod laws;
 pub mod page_plan;
 mod placing;
+mod pushes;
 
 pub use page_plan::{ShipFault, is_huge, plan};
 pub use placing::sum;
+pub use pushes::push_depth;
