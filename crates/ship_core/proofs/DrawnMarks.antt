@@ -238,13 +238,12 @@ drawn_writable widths kind h v current (stroke (body.Glyph font code x y) by res
     (writable_movement Downward (y -ℤ v) _ (difference_fits y v can.v low)
     (writable_selection current font _ (byte_fits font can.font_byte)
     ((tt, byte_fits code can.code_byte), drawn_writable widths kind (x +ℤ by) y (Some font) rest can.end can.v all)))
-drawn_writable widths kind h v current (group own inner rest) right low (within, all) =
-    (
-      (tt, tt),
-      all_append IsWritable (flat (drawn own h v current inner)) (Pop ∷ flat (drawn kind h v (font_behind current inner) rest))
+drawn_writable widths kind h v current (group own inner rest) right low (within, all) = (
+  (tt, tt),
+  all_append IsWritable (flat (drawn own h v current inner)) (Pop ∷ flat (drawn kind h v (font_behind current inner) rest))
       (drawn_writable widths own h v current inner right low within)
       ((tt, tt), drawn_writable widths kind h v (font_behind current inner) rest right low all),
-    )
+)
 
 -- What holds of movements, pushes and pops, and of what is made for each stroke, holds of each instruction that draws a picture.
 module _ (P : Instruction → Type 0) where
@@ -283,13 +282,12 @@ module _ (P : Instruction → Type 0) where
       each_movement Across (x -ℤ h) _ (holds.moves Across (x -ℤ h))
       (each_movement Downward (y -ℤ v) _ (holds.moves Downward (y -ℤ v))
       (each_selection current font _ here.0 (here.1, each_drawn holds kind (x +ℤ by) y (Some font) rest all)))
-  each_drawn holds kind h v current (group own inner rest) (within, all) =
-      (
-        holds.push,
-        all_append P (flat (drawn own h v current inner)) (Pop ∷ flat (drawn kind h v (font_behind current inner) rest))
+  each_drawn holds kind h v current (group own inner rest) (within, all) = (
+    holds.push,
+    all_append P (flat (drawn own h v current inner)) (Pop ∷ flat (drawn kind h v (font_behind current inner) rest))
         (each_drawn holds own h v current inner within)
         (holds.pop, each_drawn holds kind h v (font_behind current inner) rest all),
-      )
+  )
 
   -- What holds of all that is made holds of each instruction.
   pub record HoldsOfAll : Type 0 where

@@ -19,40 +19,25 @@ use Rattle.pack_core.specs.Totals.{fits}
 use Rattle.ship_core.specs.Marks.{Page, rule_below, rule_tall, rule_wide, mark_of, marks_of_box, marks_of_page, page_v, numbers_behind, is_huge}
 use Rattle.ship_core.specs.Drawing.{width_in, picture_of_page, body_of}
 use Rattle.ship_core.specs.Shown.{HasWidth, at, NamesNoRegister}
+use Rattle.ship_core.proofs.Places.{first_of_three, second_of_three, last_of_three}
 use Rattle.ship_core.proofs.DrawnMarks.{EachStroke, IsDrawn, IsInked, HoldsBetween, HoldsOfAll, all_within, drawn_marks, drawn_writable, each_drawn, all_drawn, nests-drawn}
 use Rattle.ship_core.proofs.Pictures.{marks-picture, each_rule, each_glyph, each_behind, strokes_drawn, few_groups}
-
--- The parts of a test on a page.
-last_and : (a b c : Bool) → not (a && (b && c)) ≡ false → c ≡ true
-last_and true true true all = refl
-last_and true true false all = cc
-last_and true false c all = cc
-last_and false b c all = cc
-
-first_and : (a b c : Bool) → not (a && (b && c)) ≡ false → a ≡ true
-first_and true b c all = refl
-first_and false b c all = cc
-
-second_and : (a b c : Bool) → not (a && (b && c)) ≡ false → b ≡ true
-second_and true true c all = refl
-second_and true false c all = cc
-second_and false b c all = cc
 
 -- The numbers of the items of a page that is not huge fit, and how far it reaches down and to the right.
 pub fitting : (page : Page) → is_huge page ≡ false → list_all fits (numbers_behind page.shown page.h (page_v page) [] page.shown.list) ≡ true
 unfolding is_huge
-fitting page small = last_and _ _ _ small
+fitting page small = last_of_three _ _ _ small
 
 pub fits_down : (page : Page) → is_huge page ≡ false → fits (page.v +ℤ page.shown.depth) ≡ true
 unfolding is_huge
 fits_down page small =
-    first_and (fits (page.v +ℤ page.shown.depth)) (fits (page.h +ℤ page.shown.width))
+    first_of_three (fits (page.v +ℤ page.shown.depth)) (fits (page.h +ℤ page.shown.width))
     (list_all fits (numbers_behind page.shown page.h (page_v page) [] page.shown.list)) small
 
 pub fits_right : (page : Page) → is_huge page ≡ false → fits (page.h +ℤ page.shown.width) ≡ true
 unfolding is_huge
 fits_right page small =
-    second_and (fits (page.v +ℤ page.shown.depth)) (fits (page.h +ℤ page.shown.width))
+    second_of_three (fits (page.v +ℤ page.shown.depth)) (fits (page.h +ℤ page.shown.width))
     (list_all fits (numbers_behind page.shown page.h (page_v page) [] page.shown.list)) small
 
 -- The strokes of a page that is not huge can be drawn.
@@ -90,16 +75,16 @@ unfolding body_of
 each_page P holds page = all_drawn P holds page.shown.kind (pos 0) (pos 0) None (picture_of_page page)
 
 -- None names w, x, y or z.
-pub registers_page : (page : Page) → AllByRecursion NamesNoRegister (flat (body_of page))
-registers_page page =
+pub no_register_page : (page : Page) → AllByRecursion NamesNoRegister (flat (body_of page))
+no_register_page page =
     each_page NamesNoRegister (
-      record {
-        between = record { moves = λ axis z. tt; push = tt; pop = tt };
-        fonts = λ font. tt;
-        chars = λ code. tt;
-        set_rules = λ height width. tt;
-        put_rules = λ height width. tt;
-      }
+    record {
+      between = record { moves = λ axis z. tt; push = tt; pop = tt };
+      fonts = λ font. tt;
+      chars = λ code. tt;
+      set_rules = λ height width. tt;
+      put_rules = λ height width. tt;
+    }
     ) page
 
 -- The body of a page defines no font.
@@ -110,15 +95,15 @@ none_defined (i ∷ is) (here, all) = rw (here) (none_defined is all)
 pub definitions-page : (page : Page) → definitions (flat (body_of page)) ≡ []
 definitions-page page =
     none_defined (flat (body_of page)) (
-      each_page (λ i. definition_of i ≡ []) (
-        record {
-          between = record { moves = λ axis z. refl; push = refl; pop = refl };
-          fonts = λ font. refl;
-          chars = λ code. refl;
-          set_rules = λ height width. refl;
-          put_rules = λ height width. refl;
-        }
-      ) page
+    each_page (λ i. definition_of i ≡ []) (
+    record {
+      between = record { moves = λ axis z. refl; push = refl; pop = refl };
+      fonts = λ font. refl;
+      chars = λ code. refl;
+      set_rules = λ height width. refl;
+      put_rules = λ height width. refl;
+    }
+    ) page
     )
 
 -- Its groups nest less deep than the box.
@@ -169,6 +154,6 @@ pub selections_page :
 unfolding body_of
 selections_page P page all =
     all_selections P (flat (body_of page)) (
-      each_drawn (Selects P) (record { moves = λ axis z. tt; push = tt; pop = tt }) page.shown.kind (pos 0) (pos 0) None (picture_of_page page)
-      (each_behind (IsInked (Selects P)) (HasFont P) (leaf_selects P) page.shown page.h (page_v page) [] page.shown.list all)
+    each_drawn (Selects P) (record { moves = λ axis z. tt; push = tt; pop = tt }) page.shown.kind (pos 0) (pos 0) None (picture_of_page page)
+    (each_behind (IsInked (Selects P)) (HasFont P) (leaf_selects P) page.shown page.h (page_v page) [] page.shown.list all)
     )

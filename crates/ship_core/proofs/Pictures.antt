@@ -2,7 +2,6 @@
 use Rattle.std.proofs.Common.{◌≡◌, ℕ, ◌+◌, ◌≤◌, max, List, [], ◌∷◌, ◌++◌, append_assoc, length, refl, ap, sym, ◌∙◌, subst, arith}
 use Rattle.std.specs.Prelude.{ℤ, pos, ◌+ℤ◌, Bool, true, false, ◌&&◌, if◌then◌else◌, int_lt, Some, None}
 use Rattle.std.specs.List.{AllByRecursion}
-use Rattle.std.proofs.lemmas.Int.{ints}
 use Rattle.scaled_core.specs.Dimensions.{Within}
 use Rattle.node_core.specs.declared.tree.Kind.{Kind}
 use Rattle.node_core.specs.declared.tree.Kind.TheVariants.{Horizontal, Vertical}
@@ -12,20 +11,16 @@ use Rattle.node_core.specs.declared.tree.Node.{Node}
 use Rattle.node_core.specs.declared.tree.Node.TheVariants as nodes
 use Rattle.node_core.specs.declared.tree.Node.TheVariants.{Box}
 use Rattle.node_core.specs.declared.tree.BoxNode.{BoxNode}
-use Rattle.node_core.specs.declared.tree.Setting.{Setting}
-use Rattle.node_core.specs.declared.tree.Setting.TheVariants as settings
 use Rattle.node_core.specs.Items.{Leaf, glyph, font_kern, kern, glue, penalty, rule, Frame, Items, none, leaf, box, EachLeaf, items_count, items_depth}
 use Rattle.node_core.specs.Nodes.{node_of, box_of}
 use Rattle.dvi_ops.specs.Body as body
 use Rattle.dvi_ops.specs.Body.{Mark, Widths}
 use Rattle.dvi_ops.proofs.Appends.{all_front, all_back}
-use Rattle.pack_core.specs.Items.{own_size, advance}
-use Rattle.pack_core.specs.Totals.{total}
-use Rattle.pack_core.specs.Places.{share, set_by, place}
-use Rattle.pack_core.proofs.Sums.{total-append}
+use Rattle.pack_core.specs.Items.{own_size}
 use Rattle.ship_core.specs.Marks.{right_at, rule_below, rule_tall, rule_wide, rule_mark, glyph_mark, mark_of, list_v, item_h, item_v, box_h, box_v, marks_behind, own_numbers, numbers_behind}
 use Rattle.ship_core.specs.Drawing.{Picture, blank, stroke, group, width_in, in_front, grouped, picture_behind, behind_rule}
 use Rattle.ship_core.specs.Shown.{HasWidth}
+use Rattle.ship_core.proofs.Places.{reach}
 use Rattle.ship_core.proofs.DrawnMarks.{marks_in, groups, EachStroke, IsDrawn}
 
 -- The marks of the picture of a list are those of the list.
@@ -96,38 +91,10 @@ module _ (P : Kind → Mark → (by : ℤ) → Type 0) where
       (list_v frame.kind frame.height (box_v b.kind (item_v b v before) shift frame.height)) [] inner within)
       (each_behind Q each b h v (before ++ Box shift (box_of frame inner) ∷ []) after all)
 
--- The item behind one that takes no part in a setting stands where that ends: no glue lies between.
-set_by-none : (setting : Setting) (shares part : ℤ) → part ≡ pos 0 → set_by setting (shares +ℤ (part +ℤ pos 0)) ≡ set_by setting shares
-set_by-none setting shares part no_share = ap (set_by setting) (omega (arith, ints, no_share))
-
-place-behind :
-    (kind : Kind) (setting : Setting) (before : List Node) (x : Node) → share setting x ≡ pos 0
-    → place kind setting (before ++ x ∷ []) ≡ place kind setting before +ℤ advance kind x
-unfolding place
-place-behind kind setting before x no_share =
-    rw (total-append (advance kind) before (x ∷ []), total-append (share setting) before (x ∷ []), set_by-none setting (total (share setting) before) (share setting x) no_share)
-    (omega (arith, ints))
-
-right_of :
-    (setting : Setting) (h : ℤ) (before : List Node) (x : Node) → share setting x ≡ pos 0
-    → h +ℤ place Horizontal setting (before ++ x ∷ []) ≡ (h +ℤ place Horizontal setting before) +ℤ advance Horizontal x
-right_of setting h before x no_share = omega (arith, ints, place-behind Horizontal setting before x no_share)
-
-glyph_share : (setting : Setting) (g : Glyph) → share setting (nodes.Glyph g) ≡ pos 0
-glyph_share settings.Natural g = refl
-glyph_share (settings.Stretch order ratio) g = refl
-glyph_share (settings.Shrink order ratio) g = refl
-
-rule_share : (setting : Setting) (r : Rule) → share setting (nodes.Rule r) ≡ pos 0
-rule_share settings.Natural r = refl
-rule_share (settings.Stretch order ratio) r = refl
-rule_share (settings.Shrink order ratio) r = refl
-
-rule_end :
-    (kind : Kind) (b : BoxNode) (h : ℤ) (before : List Node) (r : Rule)
-    → right_at kind h (place kind b.setting (before ++ nodes.Rule r ∷ [])) ≡ behind_rule kind (right_at kind h (place kind b.setting before)) (rule_wide kind b r)
-rule_end Horizontal b h before r = right_of b.setting h before (nodes.Rule r) (rule_share b.setting r)
-rule_end Vertical b h before r = refl
+-- Where h is behind a rule.
+rule_end : (kind : Kind) (b : BoxNode) (h next_h : ℤ) (r : Rule) → next_h ≡ right_at kind h (own_size r.width) → next_h ≡ behind_rule kind h (rule_wide kind b r)
+rule_end Horizontal b h next_h r is = is
+rule_end Vertical b h next_h r is = is
 
 -- A rule's stroke can be drawn where its numbers fit.
 rule_drawn :
@@ -142,37 +109,26 @@ rule_drawn widths kind h v next_h height width edge left right (corner, (tall, (
 
 -- A glyph's stroke.
 glyph_drawn :
-    (widths : Widths) (kind : Kind) (setting : Setting) (h v : ℤ) (before : List Node) (g : Glyph) → HasWidth widths (glyph g)
-    → Within 1073741823 (right_at kind h (place kind setting before)) → Within 1073741823 v
-    → Within 1073741823 (right_at kind h (place kind setting (before ++ nodes.Glyph g ∷ [])))
-    → AllByRecursion (λ mark. IsDrawn widths kind mark g.width) (glyph_mark kind (right_at kind h (place kind setting before)) v g)
-glyph_drawn widths Vertical setting h v before g wide left low right = tt
-glyph_drawn widths Horizontal setting h v before g (wide, (slot, code)) left low right =
-    (
-      record {
-        h = left;
-        v = low;
-        end = subst (Within 1073741823) (right_of setting h before (nodes.Glyph g) (glyph_share setting g)) right;
-        wide = wide;
-        font_byte = slot;
-        code_byte = code;
-      },
-      tt,
-    )
+    (widths : Widths) (kind : Kind) (h v next_h : ℤ) (g : Glyph) → HasWidth widths (glyph g) → next_h ≡ right_at kind h g.width → Within 1073741823 h
+    → Within 1073741823 v → Within 1073741823 next_h → AllByRecursion (λ mark. IsDrawn widths kind mark g.width) (glyph_mark kind h v g)
+glyph_drawn widths Vertical h v next_h g wide edge left low right = tt
+glyph_drawn widths Horizontal h v next_h g (wide, (slot, code)) edge left low right =
+    (record { h = left; v = low; end = subst (Within 1073741823) edge right; wide = wide; font_byte = slot; code_byte = code }, tt)
 
 -- The stroke of a leaf can be drawn where its numbers fit.
 leaf_drawn :
     (widths : Widths) (b : BoxNode) (h v : ℤ) (before : List Node) (x : Leaf) → HasWidth widths x → Within 1073741823 (item_h b h before) → Within 1073741823 (item_v b v before)
     → Within 1073741823 (item_h b h (before ++ node_of x ∷ [])) → AllByRecursion (Within 1073741823) (own_numbers b (item_v b v before) x)
     → AllByRecursion (λ mark. IsDrawn widths b.kind mark (width_in b x)) (mark_of b (item_h b h before) (item_v b v before) x)
-leaf_drawn widths b h v before (glyph g) wide left low right fit = glyph_drawn widths b.kind b.setting h (item_v b v before) before g wide left low right
+leaf_drawn widths b h v before (glyph g) wide left low right fit =
+    glyph_drawn widths b.kind (item_h b h before) (item_v b v before) (item_h b h (before ++ nodes.Glyph g ∷ [])) g wide (reach b h before (nodes.Glyph g)) left low right
 leaf_drawn widths b h v before (font_kern width) wide left low right fit = tt
 leaf_drawn widths b h v before (kern width) wide left low right fit = tt
 leaf_drawn widths b h v before (glue g) wide left low right fit = tt
 leaf_drawn widths b h v before (penalty p) wide left low right fit = tt
 leaf_drawn widths b h v before (rule r) wide left low right fit =
     rule_drawn widths b.kind (item_h b h before) (item_v b v before +ℤ rule_below b.kind b r) (item_h b h (before ++ nodes.Rule r ∷ [])) (rule_tall b.kind b r)
-    (rule_wide b.kind b r) (rule_end b.kind b h before r) left right fit
+    (rule_wide b.kind b r) (rule_end b.kind b (item_h b h before) (item_h b h (before ++ nodes.Rule r ∷ [])) r (reach b h before (nodes.Rule r))) left right fit
 
 -- All strokes of a list can be drawn where all its numbers fit.
 pub strokes_drawn :

@@ -66,14 +66,14 @@ seen_more ops i pushed deepest next deeper d within before is most =
     let rest = map view (drop (i + 1) ops) in
     record {
       value = omega (
-            arith,
-            most_pushed-more pushed ops i d within,
-            ap (λ n. most_pushed n rest) is,
-            pushed_before next rest,
-            before.value,
-            before.seen,
-            most,
-          );
+        arith,
+        most_pushed-more pushed ops i d within,
+        ap (λ n. most_pushed n rest) is,
+        pushed_before next rest,
+        before.value,
+        before.seen,
+        most,
+      );
       seen = omega (arith, most);
       few = omega (arith, is, one_more pushed (view (get_or ops i d)), before.few);
     }

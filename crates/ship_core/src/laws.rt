@@ -2,13 +2,13 @@
 
 ghost use Rattle.ship_core.specs.Shown.{ShowsItsMarks, CanBeWritten};
 
-/// The plan of a page that is not huge shows, by the meaning of DVI instructions, exactly the marks of the page, where each glyph has the
-/// width that its font gives: from 0 and 0, without a font, and whatever w, x, y and z hold.
+/// The plan of a page that is not huge shows, by the meaning of DVI instructions, exactly the marks of the page, those of inner boxes
+/// included, where each glyph has the width that its font gives: from 0 and 0, without a font, and whatever w, x, y and z hold.
 pub fn a_plan_shows_its_marks()
     ensures { ShowsItsMarks }
 {}
 
-/// Each of its instructions can be written, and it opens no group.
+/// Each of its instructions can be written, none sets or reads w, x, y or z, and its groups nest less deep than the box.
 pub fn a_plan_can_be_written()
     ensures { CanBeWritten }
 {}
