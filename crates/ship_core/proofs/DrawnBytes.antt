@@ -1,5 +1,5 @@
 -- How many bytes the body of a page takes at most.
-use Rattle.std.proofs.Common.{◌≡◌, ℕ, zero, suc, ◌+◌, ◌*◌, ◌<◌, ◌≤◌, List, [], ◌∷◌, ◌++◌, length, refl, ap, arith, length-append}
+use Rattle.std.proofs.Common.{◌≡◌, ℕ, zero, suc, ◌+◌, ◌*◌, ◌<◌, ◌≤◌, [], ◌∷◌, ◌++◌, length, refl, arith, length-append}
 use Rattle.std.specs.Prelude.{ℤ, pos, negsuc, ◌+ℤ◌, ◌-ℤ◌, Bool, true, false, nat_lt, if◌then◌else◌, Option, Some, None}
 use Rattle.byteorder.specs.Numbers.{length-bytes_high_first}
 use Rattle.std.specs.Int.{w32, cast_unsigned}

@@ -1,7 +1,7 @@
 -- The body of a page that is not huge shows its marks, and can be written.
-use Rattle.std.proofs.Common.{◌≡◌, ◌≤◌, List, [], ◌∷◌, ◌++◌, refl, ap, sym, ◌∙◌, subst, arith}
-use Rattle.std.specs.Prelude.{ℤ, pos, ◌+ℤ◌, Bool, true, false, not, ◌&&◌, Some, None}
-use Rattle.std.specs.List.{flat_map, list_all, AllByRecursion}
+use Rattle.std.proofs.Common.{◌≡◌, ◌≤◌, List, [], ◌∷◌, refl, ap, ◌∙◌, arith}
+use Rattle.std.specs.Prelude.{ℤ, pos, ◌+ℤ◌, true, false, Some, None}
+use Rattle.std.specs.List.{list_all, AllByRecursion}
 use Rattle.std.proofs.lemmas.Int.{ints}
 use Rattle.scaled_core.specs.Dimensions.{Within}
 use Rattle.node_core.specs.declared.tree.Kind.{Kind}
@@ -20,7 +20,7 @@ use Rattle.ship_core.specs.Marks.{Page, rule_below, rule_tall, rule_wide, mark_o
 use Rattle.ship_core.specs.Drawing.{width_in, picture_of_page, body_of}
 use Rattle.ship_core.specs.Shown.{HasWidth, at, NamesNoRegister}
 use Rattle.ship_core.proofs.Places.{first_of_three, second_of_three, last_of_three}
-use Rattle.ship_core.proofs.DrawnMarks.{EachStroke, IsDrawn, IsInked, HoldsBetween, HoldsOfAll, all_within, drawn_marks, drawn_writable, each_drawn, all_drawn, nests-drawn}
+use Rattle.ship_core.proofs.DrawnMarks.{EachStroke, IsDrawn, IsInked, HoldsOfAll, all_within, drawn_marks, drawn_writable, each_drawn, all_drawn, nests-drawn}
 use Rattle.ship_core.proofs.Pictures.{marks-picture, each_rule, each_glyph, each_behind, strokes_drawn, few_groups}
 
 -- The numbers of the items of a page that is not huge fit, and how far it reaches down and to the right.
