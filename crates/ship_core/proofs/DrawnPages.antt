@@ -13,6 +13,7 @@ use Rattle.dvi_ops.specs.Body as body
 use Rattle.dvi_ops.specs.Body.{Mark, State, Registers, Widths, acts, kept}
 use Rattle.dvi_ops.specs.Forest.{flat, meaning, nests}
 use Rattle.dvi_ops.specs.Fonts.{definition_of, definitions, selection_of, selections}
+use Rattle.dvi_ops.specs.Spelling.{HasSpelling}
 use Rattle.dvi_ops.specs.Layout.{IsWritable}
 use Rattle.dvi_ops.proofs.Appends.{all_append}
 use Rattle.pack_core.specs.Totals.{fits}
@@ -78,6 +79,19 @@ each_page P holds page = all_drawn P holds page.shown.kind (pos 0) (pos 0) None 
 pub no_register_page : (page : Page) → AllByRecursion NamesNoRegister (flat (body_of page))
 no_register_page page =
     each_page NamesNoRegister (
+    record {
+      between = record { moves = λ axis z. tt; push = tt; pop = tt };
+      fonts = λ font. tt;
+      chars = λ code. tt;
+      set_rules = λ height width. tt;
+      put_rules = λ height width. tt;
+    }
+    ) page
+
+-- Each can be spelled, whether the page is huge or not.
+pub spelled_page : (page : Page) → AllByRecursion HasSpelling (flat (body_of page))
+spelled_page page =
+    each_page HasSpelling (
     record {
       between = record { moves = λ axis z. tt; push = tt; pop = tt };
       fonts = λ font. tt;
