@@ -7,7 +7,7 @@ use Rattle.dvi_ops.specs.Instruction.{Axis, Across, Downward, SetChar, FontNum, 
 use Rattle.node_core.specs.declared.tree.Kind.{Kind}
 use Rattle.dvi_ops.specs.Body as body
 use Rattle.dvi_ops.specs.Forest.{Forest, Then, flat}
-use Rattle.ship_core.specs.Drawing.{Stroke, moved_by, selected, ruled, behind_rule, drawn}
+use Rattle.ship_core.specs.Drawing.{Picture, stroke, moved_by, selected, ruled, behind_rule, font_behind, drawn}
 use Rattle.ship_core.specs.declared.placing.Ink.{Ink}
 use Rattle.ship_core.specs.declared.placing.Ink.TheVariants as ink
 use Rattle.ship_core.specs.Placing.{mark_with, movement, selection, inked, behind}
@@ -27,8 +27,8 @@ flat-selected (Some current) font rest = by_test (int_eq font current)
 
 -- A rule is drawn by a movement right, one down, and the rule.
 pub flat-drawn_rule :
-    (kind : Kind) (h v : ℤ) (current : Option ℤ) (x y height width by : ℤ) (rest : List Stroke)
-    → flat (drawn kind h v current ((body.Rule x y height width, by) ∷ rest))
+    (kind : Kind) (h v : ℤ) (current : Option ℤ) (x y height width by : ℤ) (rest : Picture)
+    → flat (drawn kind h v current (stroke (body.Rule x y height width) by rest))
     ≡ movement Across (x -ℤ h)
     ++ (movement Downward (y -ℤ v) ++ (Do (ruled kind height width) ∷ flat (drawn kind (behind_rule kind x width) y current rest)))
 flat-drawn_rule kind h v current x y height width by rest =
@@ -36,8 +36,8 @@ flat-drawn_rule kind h v current x y height width by rest =
 
 -- A glyph is drawn by a movement right, one down, the selection of its font, and the character.
 pub flat-drawn_glyph :
-    (kind : Kind) (h v : ℤ) (current : Option ℤ) (font code x y by : ℤ) (rest : List Stroke)
-    → flat (drawn kind h v current ((body.Glyph font code x y, by) ∷ rest))
+    (kind : Kind) (h v : ℤ) (current : Option ℤ) (font code x y by : ℤ) (rest : Picture)
+    → flat (drawn kind h v current (stroke (body.Glyph font code x y) by rest))
     ≡ movement Across (x -ℤ h)
     ++ (movement Downward (y -ℤ v) ++ (selection current font ++ (Do (SetChar code) ∷ flat (drawn kind (x +ℤ by) y (Some font) rest))))
 flat-drawn_glyph kind h v current font code x y by rest =
@@ -56,8 +56,8 @@ left_by current (ink.Rule height) = current
 left_by current (ink.Glyph slot code) = Some (pos slot)
 
 drawn_ink :
-    (kind : Kind) (before : List Instruction) (h v : ℤ) (current : Option ℤ) (x y width : ℤ) (i : Ink) (rest : List Stroke)
-    → before ++ flat (drawn kind h v current ((mark_with x y width i, width) ∷ rest))
+    (kind : Kind) (before : List Instruction) (h v : ℤ) (current : Option ℤ) (x y width : ℤ) (i : Ink) (rest : Picture)
+    → before ++ flat (drawn kind h v current (stroke (mark_with x y width i) width rest))
     ≡ ((((before ++ movement Across (x -ℤ h)) ++ movement Downward (y -ℤ v)) ++ chosen current i) ++ inked kind width i)
     ++ flat (drawn kind (behind kind x width i) y (left_by current i) rest)
 drawn_ink kind before h v current x y width (ink.Rule height) rest =
@@ -67,14 +67,21 @@ drawn_ink kind before h v current x y width (ink.Glyph slot code) rest =
 
 -- What stands when a mark was drawn makes the same as before, for the strokes that follow.
 pub drawn_mark :
-    (kind : Kind) (before after : List Instruction) (h v : ℤ) (current left : Option ℤ) (x y width end down : ℤ) (i : Ink) (rest : List Stroke)
+    (kind : Kind) (before after : List Instruction) (h v : ℤ) (current left : Option ℤ) (x y width end down : ℤ) (i : Ink) (rest : Picture)
     → after ≡ (((before ++ movement Across (x -ℤ h)) ++ movement Downward (y -ℤ v)) ++ chosen current i) ++ inked kind width i
     → end ≡ behind kind x width i
     → left ≡ left_by current i
     → down ≡ y
-    → before ++ flat (drawn kind h v current ((mark_with x y width i, width) ∷ rest)) ≡ after ++ flat (drawn kind end down left rest)
+    → before ++ flat (drawn kind h v current (stroke (mark_with x y width i) width rest)) ≡ after ++ flat (drawn kind end down left rest)
 drawn_mark kind before after h v current left x y width end down i rest is edge font below =
     rw (is, edge, font, below) (drawn_ink kind before h v current x y width i rest)
+
+-- And it leaves the same font behind them.
+pub left_font :
+    (current left : Option ℤ) (x y width : ℤ) (i : Ink) (rest : Picture) → left ≡ left_by current i
+    → font_behind current (stroke (mark_with x y width i) width rest) ≡ font_behind left rest
+left_font current left x y width (ink.Rule height) rest font = rw font refl
+left_font current left x y width (ink.Glyph slot code) rest font = rw font refl
 
 -- The instructions behind a selection, and where none is needed.
 pub selected_ops :

@@ -1,21 +1,24 @@
 -- The items of a list, gone over one by one: what stands behind the first ones.
-use Rattle.std.proofs.Common.{◌≡◌, ℕ, suc, ◌+◌, ◌<◌, List, [], ◌∷◌, ◌++◌, length, take, drop, get_or, refl, ap, sym, ◌∙◌, add-one, drop-cons, ◌≤◌, arith}
+use Rattle.std.proofs.Common.{◌≡◌, ◌≢◌, ℕ, zero, suc, ◌+◌, ◌<◌, List, [], ◌∷◌, ◌++◌, length, take, drop, get_or, refl, ap, sym, ◌∙◌, add-one, drop-cons, ◌≤◌, arith}
 use Rattle.std.proofs.lemmas.List.{take_more, length-take-le}
 use Rattle.std.specs.Prelude.{ℤ, pos, Bool, true, false, not, ◌&&◌}
 use Rattle.std.specs.List.{list_all}
 use Rattle.std.proofs.lemmas.List.Folds.{list_all-append}
 use Rattle.node_core.specs.declared.tree.Kind.{Kind}
 use Rattle.node_core.specs.declared.tree.Setting.{Setting}
-use Rattle.node_core.specs.Nodes.{most_nodes}
+use Rattle.node_core.specs.Items.{Items, items_depth}
+use Rattle.node_core.specs.Nodes.{most_nodes, items_of, nodes_of}
+use Rattle.node_core.proofs.NodeLemmas.{items_of-nodes_of}
 use Rattle.node_core.specs.declared.tree.Node.{Node}
+use Rattle.node_core.specs.declared.tree.Node.TheVariants as nodes
 use Rattle.node_core.specs.declared.tree.BoxNode.{BoxNode}
 use Rattle.pack_core.specs.Totals.{fits}
 use Rattle.pack_core.specs.Places.{place}
 use Rattle.pack_core.specs.Cursors.{Reached, reached, one_more, place_at}
 use Rattle.pack_core.proofs.Walks.{one_more-reached, place-reached, reached-passed}
-use Rattle.ship_core.specs.Marks.{right_at, item_h, item_v, numbers_at, numbers_behind}
-use Rattle.ship_core.specs.Drawing.{Stroke, strokes_of, strokes_behind}
-use Rattle.ship_core.specs.Placing.{Reaches, numbers_between, strokes_at}
+use Rattle.ship_core.specs.Marks.{Page, page_v, is_huge, right_at, down_at, list_v, item_h, item_v, box_h, box_v, numbers_behind}
+use Rattle.ship_core.specs.Drawing.{Picture, grouped, picture_behind}
+use Rattle.ship_core.specs.Placing.{Reaches, numbers_of, numbers_inside, numbers_between, strokes_of, strokes_at, reference_h, reference_v, inside}
 use Rattle.ship_core.proofs.Walked.{reach_by}
 
 -- What is left from place i on is the item there and what is left behind it.
@@ -26,31 +29,80 @@ left_at xs i x within is = rw (add-one, drop-cons xs i x) (ap (λ y. y ∷ drop 
 pub taken_at : (xs : List Node) (i : ℕ) (x : Node) → i < length xs → x ≡ get_or xs i x → take i xs ++ x ∷ [] ≡ take (i + 1) xs
 taken_at xs i x within is = sym (take_more xs i x within ∙ ap (λ y. take i xs ++ y ∷ []) (sym is))
 
-pub strokes_more :
+-- What is seen of an item and of the items behind it, and their numbers, by cases on the item.
+pub picture-one :
+    (b : BoxNode) (h v : ℤ) (before rest : List Node) (x : Node)
+    → picture_behind b h v before (items_of (x ∷ rest))
+    ≡ strokes_of b (item_h b h before) (item_v b v before) x
+    (inside b (item_h b h before) (item_v b v before) x (picture_behind b h v (before ++ x ∷ []) (items_of rest)))
+picture-one b h v before rest (nodes.Glyph g) = refl
+picture-one b h v before rest (nodes.FontKern width) = refl
+picture-one b h v before rest (nodes.Kern width) = refl
+picture-one b h v before rest (nodes.Glue g) = refl
+picture-one b h v before rest (nodes.Penalty p) = refl
+picture-one b h v before rest (nodes.Rule sizes) = refl
+picture-one b h v before rest (nodes.Box shift inner) = refl
+
+-- The numbers of the item x behind the items `before`, without those of its own items.
+abbrev pub numbers_at : BoxNode → (h v : ℤ) → (before : List Node) → Node → List ℤ
+numbers_at b h v before x =
+    numbers_of b (item_h b h before) (item_v b v before) (item_h b h (before ++ x ∷ [])) (item_v b v (before ++ x ∷ [])) x
+
+pub numbers-one :
+    (b : BoxNode) (h v : ℤ) (before rest : List Node) (x : Node)
+    → numbers_behind b h v before (items_of (x ∷ rest))
+    ≡ numbers_at b h v before x
+    ++ (numbers_inside b (item_h b h before) (item_v b v before) x ++ numbers_behind b h v (before ++ x ∷ []) (items_of rest))
+numbers-one b h v before rest (nodes.Glyph g) = refl
+numbers-one b h v before rest (nodes.FontKern width) = refl
+numbers-one b h v before rest (nodes.Kern width) = refl
+numbers-one b h v before rest (nodes.Glue g) = refl
+numbers-one b h v before rest (nodes.Penalty p) = refl
+numbers-one b h v before rest (nodes.Rule sizes) = refl
+numbers-one b h v before rest (nodes.Box shift inner) = refl
+
+-- The picture of what is left, and its numbers.
+abbrev pub picture_left : BoxNode → (h v : ℤ) → List Node → ℕ → Picture
+picture_left b h v xs i = picture_behind b h v (take i xs) (items_of (drop i xs))
+
+abbrev pub numbers_left : BoxNode → (h v : ℤ) → List Node → ℕ → List ℤ
+numbers_left b h v xs i = numbers_behind b h v (take i xs) (items_of (drop i xs))
+
+pub picture_more :
     (b : BoxNode) (h v : ℤ) (xs : List Node) (i : ℕ) (x : Node) → i < length xs → x ≡ get_or xs i x
-    → strokes_behind b h v (take i xs) (drop i xs)
-    ≡ strokes_of b (item_h b h (take i xs)) (item_v b v (take i xs)) x ++ strokes_behind b h v (take (i + 1) xs) (drop (i + 1) xs)
-strokes_more b h v xs i x within is =
-    ap (strokes_behind b h v (take i xs)) (left_at xs i x within is)
-    ∙ ap (λ before. strokes_of b (item_h b h (take i xs)) (item_v b v (take i xs)) x ++ strokes_behind b h v before (drop (i + 1) xs)) (taken_at xs i x within is)
+    → picture_left b h v xs i
+    ≡ strokes_of b (item_h b h (take i xs)) (item_v b v (take i xs)) x
+    (inside b (item_h b h (take i xs)) (item_v b v (take i xs)) x (picture_left b h v xs (i + 1)))
+picture_more b h v xs i x within is =
+    ap (λ after. picture_behind b h v (take i xs) (items_of after)) (left_at xs i x within is)
+    ∙ (picture-one b h v (take i xs) (drop (i + 1) xs) x
+    ∙ ap (λ before. strokes_of b (item_h b h (take i xs)) (item_v b v (take i xs)) x
+    (inside b (item_h b h (take i xs)) (item_v b v (take i xs)) x (picture_behind b h v before (items_of (drop (i + 1) xs))))) (taken_at xs i x within is))
 
 pub numbers_more :
     (b : BoxNode) (h v : ℤ) (xs : List Node) (i : ℕ) (x : Node) → i < length xs → x ≡ get_or xs i x
-    → numbers_behind b h v (take i xs) (drop i xs) ≡ numbers_at b h v (take i xs) x ++ numbers_behind b h v (take (i + 1) xs) (drop (i + 1) xs)
+    → numbers_left b h v xs i
+    ≡ numbers_at b h v (take i xs) x ++ (numbers_inside b (item_h b h (take i xs)) (item_v b v (take i xs)) x ++ numbers_left b h v xs (i + 1))
 numbers_more b h v xs i x within is =
-    ap (numbers_behind b h v (take i xs)) (left_at xs i x within is)
-    ∙ ap (λ before. numbers_at b h v (take i xs) x ++ numbers_behind b h v before (drop (i + 1) xs)) (taken_at xs i x within is)
+    ap (λ after. numbers_behind b h v (take i xs) (items_of after)) (left_at xs i x within is)
+    ∙ (numbers-one b h v (take i xs) (drop (i + 1) xs) x
+    ∙ ap (λ before. numbers_at b h v (take i xs) x
+    ++ (numbers_inside b (item_h b h (take i xs)) (item_v b v (take i xs)) x ++ numbers_behind b h v before (items_of (drop (i + 1) xs)))) (taken_at xs i x within is))
 
 -- Whether the numbers of what is left fit.
 pub fits_more :
     (b : BoxNode) (h v : ℤ) (xs : List Node) (i : ℕ) (x : Node) → i < length xs → x ≡ get_or xs i x
-    → list_all fits (numbers_behind b h v (take i xs) (drop i xs))
-    ≡ (list_all fits (numbers_at b h v (take i xs) x) && list_all fits (numbers_behind b h v (take (i + 1) xs) (drop (i + 1) xs)))
+    → list_all fits (numbers_left b h v xs i)
+    ≡ (list_all fits (numbers_at b h v (take i xs) x)
+    && (list_all fits (numbers_inside b (item_h b h (take i xs)) (item_v b v (take i xs)) x) && list_all fits (numbers_left b h v xs (i + 1))))
 fits_more b h v xs i x within is =
+    let here = numbers_at b h v (take i xs) x in
+    let inner = numbers_inside b (item_h b h (take i xs)) (item_v b v (take i xs)) x in
+    let later = numbers_left b h v xs (i + 1) in
     ap (list_all fits) (numbers_more b h v xs i x within is)
-    ∙ list_all-append fits (numbers_at b h v (take i xs) x) (numbers_behind b h v (take (i + 1) xs) (drop (i + 1) xs))
+    ∙ (list_all-append fits here (inner ++ later) ∙ ap (λ rest. list_all fits here && rest) (list_all-append fits inner later))
 
--- The numbers and the strokes of an item behind those that a walk has passed.
+-- The numbers and the marks of an item behind those that a walk has passed.
 pub between-at :
     (b : BoxNode) (h v : ℤ) (before : List Node) (x : Node)
     → numbers_between b h v (place_at b.setting (reached b.kind b.setting before)) (place_at b.setting (one_more b.kind b.setting (reached b.kind b.setting before) x)) x
@@ -61,10 +113,10 @@ between-at b h v before x =
     (ap (place_at b.setting) (one_more-reached b.kind b.setting before x) ∙ place-reached b.kind b.setting (before ++ x ∷ []))
     ∙ ap (λ here. numbers_between b h v here next x) (place-reached b.kind b.setting before)
 
-pub strokes-at :
-    (b : BoxNode) (h v : ℤ) (before : List Node) (x : Node)
-    → strokes_at b h v (place_at b.setting (reached b.kind b.setting before)) x ≡ strokes_of b (item_h b h before) (item_v b v before) x
-strokes-at b h v before x = ap (λ here. strokes_at b h v here x) (place-reached b.kind b.setting before)
+-- Where a walk stands that has passed those before an item.
+pub reached-place :
+    (b : BoxNode) (before : List Node) (from : Reached) → from ≡ reached b.kind b.setting before → place_at b.setting from ≡ place b.kind b.setting before
+reached-place b before from at = ap (place_at b.setting) at ∙ place-reached b.kind b.setting before
 
 -- The second part of a conjunction whose first part is true.
 pub rest_of_and : (a b c : Bool) → true ≡ a → (a && b) ≡ c → b ≡ c
@@ -111,17 +163,21 @@ pub first_false : (a b : Bool) → false ≡ a → (a && b) ≡ false
 first_false false b is = refl
 first_false true b is = absurd (cc)
 
+pub second_false : (a b c : Bool) → false ≡ b → (a && (b && c)) ≡ false
+second_false false b c is = refl
+second_false true false c is = refl
+second_false true true c is = absurd (cc)
+
 -- In front of all items.
 pub reached-none : (kind : Kind) (setting : Setting) → record { natural = pos 0; shares = pos 0; passed = 0 } ≡ reached kind setting []
 unfolding reached
 reached-none kind setting = refl
 
--- The strokes of an item, as such a walk sees it.
+-- The marks of an item and its reference point, as such a walk sees them.
 pub item_strokes :
-    (b : BoxNode) (h v : ℤ) (before : List Node) (x : Node) (from : Reached) (found : List Stroke) → from ≡ reached b.kind b.setting before
-    → found ≡ strokes_at b h v (place_at b.setting from) x → found ≡ strokes_of b (item_h b h before) (item_v b v before) x
-item_strokes b h v before x from found at is =
-    is ∙ (ap (λ (r : Reached). strokes_at b h v (place_at b.setting r) x) at ∙ strokes-at b h v before x)
+    (b : BoxNode) (h v : ℤ) (before : List Node) (x : Node) (from : Reached) (rest found : Picture) → from ≡ reached b.kind b.setting before
+    → found ≡ strokes_at b h v (place_at b.setting from) x rest → found ≡ strokes_of b (item_h b h before) (item_v b v before) x rest
+item_strokes b h v before x from rest found at is = is ∙ ap (λ here. strokes_at b h v here x rest) (reached-place b before from at)
 
 pub no_rest : (a b : Bool) → false ≡ a → (a && b) ≡ true → ⊥
 no_rest false b is all = cc
@@ -134,3 +190,80 @@ reach b h before x =
     let next = ap (place_at b.setting) (one_more-reached b.kind b.setting before x) ∙ place-reached b.kind b.setting (before ++ x ∷ []) in
     reach_by b.kind b.setting from h (item_h b h before) (item_h b h (before ++ x ∷ [])) x (sym (ap (right_at b.kind h) (place-reached b.kind b.setting before)))
     (sym (ap (right_at b.kind h) next))
+
+-- Where the list of an inner box begins, whose reference point is found by a walk that has passed the items before it.
+pub inner_begin :
+    (b inner : BoxNode) (h v : ℤ) (before : List Node) (x : Node) (shift : ℤ) (from : Reached) (at_h at_v begin_h begin_v : ℤ)
+    → from ≡ reached b.kind b.setting before → x ≡ nodes.Box shift inner
+    → at_h ≡ reference_h b.kind (right_at b.kind h (place_at b.setting from)) x
+    → at_v ≡ reference_v b.kind (down_at b.kind v (place_at b.setting from)) x
+    → begin_h ≡ at_h → begin_v ≡ list_v inner.kind inner.height at_v
+    → (begin_h ≡ box_h b.kind (item_h b h before) shift) × (begin_v ≡ list_v inner.kind inner.height (box_v b.kind (item_v b v before) shift inner.height))
+inner_begin b inner h v before x shift from at_h at_v begin_h begin_v at is right down first second =
+    let here = reached-place b before from at in (
+      first ∙ (right ∙ (ap (reference_h b.kind (right_at b.kind h (place_at b.setting from))) is ∙ ap (λ place. box_h b.kind (right_at b.kind h place) shift) here)),
+      second
+      ∙ ap (list_v inner.kind inner.height)
+      (down ∙ (ap (reference_v b.kind (down_at b.kind v (place_at b.setting from))) is ∙ ap (λ place. box_v b.kind (down_at b.kind v place) shift inner.height) here)),
+    )
+
+-- The numbers of the items of such a box, and its picture.
+pub inner_numbers :
+    (b inner : BoxNode) (h v shift begin_h begin_v : ℤ) (x : Node) → x ≡ nodes.Box shift inner
+    → (begin_h ≡ box_h b.kind h shift) × (begin_v ≡ list_v inner.kind inner.height (box_v b.kind v shift inner.height))
+    → numbers_inside b h v x ≡ numbers_behind inner begin_h begin_v [] inner.list
+inner_numbers b inner h v shift begin_h begin_v x is (right, down) = rw (is, right, down) refl
+
+pub inner_picture :
+    (b inner : BoxNode) (h v shift begin_h begin_v : ℤ) (x : Node) (rest : Picture) → x ≡ nodes.Box shift inner
+    → (begin_h ≡ box_h b.kind h shift) × (begin_v ≡ list_v inner.kind inner.height (box_v b.kind v shift inner.height))
+    → inside b h v x rest ≡ grouped inner.list inner.kind (picture_behind inner begin_h begin_v [] inner.list) rest
+inner_picture b inner h v shift begin_h begin_v x rest is (right, down) = rw (is, right, down) refl
+
+-- An item that is no box has no items.
+pub leaf_numbers : (b : BoxNode) (h v : ℤ) (x : Node) → ((shift : ℤ) (inner : BoxNode) → x ≢ nodes.Box shift inner) → numbers_inside b h v x ≡ []
+leaf_numbers b h v (nodes.Box shift inner) other = absurd (other shift inner refl)
+leaf_numbers b h v (nodes.Glyph g) other = refl
+leaf_numbers b h v (nodes.FontKern width) other = refl
+leaf_numbers b h v (nodes.Kern width) other = refl
+leaf_numbers b h v (nodes.Glue g) other = refl
+leaf_numbers b h v (nodes.Penalty p) other = refl
+leaf_numbers b h v (nodes.Rule sizes) other = refl
+
+pub leaf_picture :
+    (b : BoxNode) (h v : ℤ) (x : Node) (rest : Picture) → ((shift : ℤ) (inner : BoxNode) → x ≢ nodes.Box shift inner) → inside b h v x rest ≡ rest
+leaf_picture b h v (nodes.Box shift inner) rest other = absurd (other shift inner refl)
+leaf_picture b h v (nodes.Glyph g) rest other = refl
+leaf_picture b h v (nodes.FontKern width) rest other = refl
+leaf_picture b h v (nodes.Kern width) rest other = refl
+leaf_picture b h v (nodes.Glue g) rest other = refl
+leaf_picture b h v (nodes.Penalty p) rest other = refl
+leaf_picture b h v (nodes.Rule sizes) rest other = refl
+
+-- A box in a list nests less deep than the list.
+tail_depth : (x : Node) (rest : List Node) → items_depth (items_of rest) ≤ items_depth (items_of (x ∷ rest))
+tail_depth (nodes.Box shift inner) rest = omega arith
+tail_depth (nodes.Glyph g) rest = omega arith
+tail_depth (nodes.FontKern width) rest = omega arith
+tail_depth (nodes.Kern width) rest = omega arith
+tail_depth (nodes.Glue g) rest = omega arith
+tail_depth (nodes.Penalty p) rest = omega arith
+tail_depth (nodes.Rule sizes) rest = omega arith
+
+left_depth : (i : ℕ) (xs : List Node) → items_depth (items_of (drop i xs)) ≤ items_depth (items_of xs)
+left_depth zero xs = omega arith
+left_depth (suc i) [] = omega arith
+left_depth (suc i) (x ∷ xs) = omega (arith, left_depth i xs, tail_depth x xs)
+
+pub inner_depth :
+    (items : Items) (xs : List Node) (i : ℕ) (x : Node) (shift : ℤ) (inner : BoxNode) → i < length xs → x ≡ get_or xs i x → xs ≡ nodes_of items
+    → x ≡ nodes.Box shift inner → items_depth inner.list < items_depth items
+inner_depth items xs i x shift inner within at all is =
+    let left : drop i xs ≡ nodes.Box shift inner ∷ drop (i + 1) xs = left_at xs i x within at ∙ ap (λ y. y ∷ drop (i + 1) xs) is in
+    let whole : items_of xs ≡ items = ap items_of all ∙ items_of-nodes_of items in
+    omega (arith, left_depth i xs, ap (λ nodes. items_depth (items_of nodes)) left, ap items_depth whole)
+
+-- The numbers of the items of a page that is not huge fit.
+pub items_fit : (page : Page) → is_huge page ≡ false → list_all fits (numbers_behind page.shown page.h (page_v page) [] page.shown.list) ≡ true
+unfolding is_huge
+items_fit page small = last_of_three _ _ _ small

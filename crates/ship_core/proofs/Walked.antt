@@ -17,11 +17,11 @@ use Rattle.pack_core.specs.Totals.{fits}
 use Rattle.pack_core.specs.Places.{share, set_by}
 use Rattle.pack_core.specs.Cursors.{Reached, one_more, place_at}
 use Rattle.ship_core.specs.declared.placing.Place.{Place}
-use Rattle.ship_core.specs.Marks.{right_at, down_at, rule_below, rule_tall, rule_wide, numbers_of}
-use Rattle.ship_core.specs.Drawing.{Stroke, strokes_of}
-use Rattle.ship_core.specs.declared.placing.MarkAt.{MarkAt}
+use Rattle.ship_core.specs.Marks.{right_at, down_at, rule_below, rule_tall, rule_wide, box_h, box_v}
+use Rattle.ship_core.specs.Drawing.{Picture}
+use Rattle.ship_core.specs.declared.placing.Seen.{Seen}
 use Rattle.std.specs.Option.{IfSome}
-use Rattle.ship_core.specs.Placing.{strokes_in, point, point_in, numbers_between, strokes_at, Reaches}
+use Rattle.ship_core.specs.Placing.{strokes_of, point, point_in, numbers_of, numbers_between, strokes_at, Reaches}
 
 -- A point is at its numbers.
 pub point-is : (h v : ℤ) (p : Place) → point h v ≡ Some p → (p.h ≡ h) × (p.v ≡ v)
@@ -72,6 +72,7 @@ between-none b h v place next x is = by_node x
     by_node (nodes.Glue g) = third_fits x0 y0 x1 y1 [] (no_point x1 y1 is)
     by_node (nodes.Penalty p) = third_fits x0 y0 x1 y1 [] (no_point x1 y1 is)
     by_node (nodes.Rule r) = third_fits x0 y0 x1 y1 ((y0 +ℤ rule_below b.kind b r) ∷ rule_tall b.kind b r ∷ rule_wide b.kind b r ∷ []) (no_point x1 y1 is)
+    by_node (nodes.Box shift inner) = third_fits x0 y0 x1 y1 (box_h b.kind x0 shift ∷ box_v b.kind y0 shift inner.height ∷ []) (no_point x1 y1 is)
 
 -- And one whose two places fit.
 pub between-points :
@@ -82,8 +83,10 @@ between-points b h v place next at behind x here there =
     let q = point-is (right_at b.kind h next) (down_at b.kind v next) behind there in
     cc (p.0, p.1, q.0, q.1)
 
-pub strokes-point : (b : BoxNode) (h v place : ℤ) (at : Place) (x : Node) → point_in b h v place ≡ Some at → strokes_at b h v place x ≡ strokes_of b at.h at.v x
-strokes-point b h v place at x here = let p = point-is (right_at b.kind h place) (down_at b.kind v place) at here in cc (p.0, p.1)
+pub strokes-point :
+    (b : BoxNode) (h v place : ℤ) (at : Place) (x : Node) (rest : Picture) → point_in b h v place ≡ Some at
+    → strokes_at b h v place x rest ≡ strokes_of b at.h at.v x rest
+strokes-point b h v place at x rest here = let p = point-is (right_at b.kind h place) (down_at b.kind v place) at here in cc (p.0, p.1)
 
 -- A glyph or a rule takes no part in a setting.
 share_glyph : (setting : Setting) (g : Glyph) → share setting (nodes.Glyph g) ≡ pos 0
@@ -121,6 +124,7 @@ reach_by kind setting from h at behind (nodes.Glue g) first next = tt
 reach_by kind setting from h at behind (nodes.Penalty n) first next = tt
 reach_by Horizontal setting from h at behind (nodes.Rule r) first next = right_by setting from h (own_size r.width) (share setting (nodes.Rule r)) (share_rule setting r) at behind first next
 reach_by Vertical setting from h at behind (nodes.Rule r) first next = next ∙ sym first
+reach_by kind setting from h at behind (nodes.Box shift inner) first next = tt
 
 pub reaches :
     (b : BoxNode) (h v : ℤ) (from : Reached) (at behind : Place) (x : Node) → point_in b h v (place_at b.setting from) ≡ Some at
@@ -131,7 +135,7 @@ reaches b h v from at behind x here there =
     let q = point-is (right_at b.kind h next) (down_at b.kind v next) behind there in
     reach_by b.kind b.setting from h at.h behind.h x p.0 q.0
 
--- The strokes of an item, said in another way.
-pub strokes_some :
-    (one other : List Stroke) → one ≡ other → (result : Option (Option MarkAt)) → IfSome result (λ m. strokes_in m ≡ one) → IfSome result (λ m. strokes_in m ≡ other)
-strokes_some one other same result is = rw (sym same) is
+-- What is known of an item that is found, said in another way.
+pub found_so : (P Q : Seen → Type 0) → ((s : Seen) → P s → Q s) → (result : Option Seen) → IfSome result P → IfSome result Q
+found_so P Q so None is = tt
+found_so P Q so (Some s) is = so s is

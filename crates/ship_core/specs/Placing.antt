@@ -6,6 +6,7 @@ use Rattle.node_core.specs.declared.tree.Kind.{Kind}
 use Rattle.node_core.specs.declared.tree.Node.{Node}
 use Rattle.node_core.specs.declared.tree.BoxNode.{BoxNode}
 use Rattle.node_core.specs.declared.tree.Node.TheVariants as nodes
+use Rattle.node_core.specs.Items as items
 use Rattle.dvi_ops.specs.Instruction.{Axis, Move, By, FontNum, SetChar, Instruction, Do}
 use Rattle.dvi_ops.specs.Body as body
 use Rattle.dvi_ops.specs.Body.{Mark}
@@ -13,13 +14,13 @@ use Rattle.dvi_ops.specs.Forest.{flat}
 use Rattle.dvi_ops.specs.View.{view}
 use Rattle.pack_core.specs.Items.{own_size}
 use Rattle.pack_core.specs.Totals.{fits}
-use Rattle.ship_core.specs.Marks.{right_at, down_at, numbers_of}
+use Rattle.ship_core.specs.Marks.{right_at, down_at, rule_below, rule_tall, rule_wide, box_h, box_v, list_v, mark_of, numbers_behind}
 use Rattle.ship_core.specs.declared.placing.Place.{Place}
 use Rattle.ship_core.specs.declared.placing.Ink.{Ink}
 use Rattle.ship_core.specs.declared.placing.Ink.TheVariants as ink
 use Rattle.ship_core.specs.declared.placing.MarkAt.{MarkAt}
 use Rattle.ship_core.specs.declared.drawing.Drawing.{Drawing}
-use Rattle.ship_core.specs.Drawing.{Stroke, strokes_of, ruled, behind_rule, drawn}
+use Rattle.ship_core.specs.Drawing.{Picture, stroke, width_in, in_front, grouped, picture_behind, ruled, behind_rule, font_behind, drawn}
 
 -- A point of a page, where both numbers fit.
 abbrev pub point : (h v : ℤ) → Option Place
@@ -30,10 +31,10 @@ abbrev pub mark_with : (h v width : ℤ) → Ink → Mark
 mark_with h v width (ink.Rule height) = body.Rule h v height width
 mark_with h v width (ink.Glyph slot code) = body.Glyph (pos slot) (pos code) h v
 
--- The strokes of an item, at most one.
-abbrev pub strokes_in : Option MarkAt → List Stroke
-strokes_in None = []
-strokes_in (Some m) = (mark_with m.h m.v m.width m.ink, m.width) ∷ []
+-- A mark, if there is one, in front of a picture.
+abbrev pub strokes_in : Option MarkAt → Picture → Picture
+strokes_in None rest = rest
+strokes_in (Some m) rest = stroke (mark_with m.h m.v m.width m.ink) m.width rest
 
 -- Where h is behind ink of that width.
 abbrev pub behind : Kind → (h width : ℤ) → Ink → ℤ
@@ -74,9 +75,62 @@ abbrev pub inked : Kind → (width : ℤ) → Ink → List Instruction
 inked kind width (ink.Rule height) = Do (ruled kind height width) ∷ []
 inked kind width (ink.Glyph slot code) = Do (SetChar (pos code)) ∷ []
 
--- The instructions so far, and those for the strokes that follow.
-abbrev pub makes : Kind → Drawing → List Stroke → List Instruction
+-- The instructions so far, and those for the picture that follows.
+abbrev pub makes : Kind → Drawing → Picture → List Instruction
 makes kind d rest = map view d.ops.items ++ flat (drawn kind d.h d.v (option_map pos d.font) rest)
+
+-- The font behind the picture that follows.
+abbrev pub leaves : Drawing → Picture → Option ℤ
+leaves d rest = font_behind (option_map pos d.font) rest
+
+-- The marks of an item that stands at (h, v), in front of a picture; those of its own items do not count.
+abbrev pub strokes_of : BoxNode → (h v : ℤ) → Node → Picture → Picture
+strokes_of b h v (nodes.Glyph g) rest = in_front (mark_of b h v (items.glyph g)) (width_in b (items.glyph g)) rest
+strokes_of b h v (nodes.FontKern width) rest = rest
+strokes_of b h v (nodes.Kern width) rest = rest
+strokes_of b h v (nodes.Glue g) rest = rest
+strokes_of b h v (nodes.Penalty p) rest = rest
+strokes_of b h v (nodes.Rule sizes) rest = in_front (mark_of b h v (items.rule sizes)) (width_in b (items.rule sizes)) rest
+strokes_of b h v (nodes.Box shift inner) rest = rest
+
+-- The reference point of an item that stands at (h, v), if it is a box.
+abbrev pub reference_h : Kind → (h : ℤ) → Node → ℤ
+reference_h kind h (nodes.Box shift inner) = box_h kind h shift
+reference_h kind h other = h
+
+abbrev pub reference_v : Kind → (v : ℤ) → Node → ℤ
+reference_v kind v (nodes.Box shift inner) = box_v kind v shift inner.height
+reference_v kind v other = v
+
+-- The picture of the list of a box whose reference point is (h, v), and the numbers of its items.
+abbrev pub picture_of : BoxNode → (h v : ℤ) → Picture
+picture_of b h v = picture_behind b h (list_v b.kind b.height v) [] b.list
+
+abbrev pub numbers_in : BoxNode → (h v : ℤ) → List ℤ
+numbers_in b h v = numbers_behind b h (list_v b.kind b.height v) [] b.list
+
+-- The items of an item that stands at (h, v), in front of a picture: of a box its picture, as a group; and their numbers.
+abbrev pub inside : BoxNode → (h v : ℤ) → Node → Picture → Picture
+inside b h v (nodes.Box shift inner) rest =
+    grouped inner.list inner.kind (picture_of inner (box_h b.kind h shift) (box_v b.kind v shift inner.height)) rest
+inside b h v other rest = rest
+
+abbrev pub numbers_inside : BoxNode → (h v : ℤ) → Node → List ℤ
+numbers_inside b h v (nodes.Box shift inner) = numbers_in inner (box_h b.kind h shift) (box_v b.kind v shift inner.height)
+numbers_inside b h v other = []
+
+-- The numbers of an item that stands at (h, v) before the place (next_h, next_v): the two places, of a rule its corner and its sizes, and of
+-- a box its reference point.
+abbrev pub numbers_of : BoxNode → (h v next_h next_v : ℤ) → Node → List ℤ
+numbers_of b h v next_h next_v (nodes.Glyph g) = h ∷ v ∷ next_h ∷ next_v ∷ []
+numbers_of b h v next_h next_v (nodes.FontKern width) = h ∷ v ∷ next_h ∷ next_v ∷ []
+numbers_of b h v next_h next_v (nodes.Kern width) = h ∷ v ∷ next_h ∷ next_v ∷ []
+numbers_of b h v next_h next_v (nodes.Glue g) = h ∷ v ∷ next_h ∷ next_v ∷ []
+numbers_of b h v next_h next_v (nodes.Penalty p) = h ∷ v ∷ next_h ∷ next_v ∷ []
+numbers_of b h v next_h next_v (nodes.Rule sizes) =
+    h ∷ v ∷ next_h ∷ next_v ∷ (v +ℤ rule_below b.kind b sizes) ∷ rule_tall b.kind b sizes ∷ rule_wide b.kind b sizes ∷ []
+numbers_of b h v next_h next_v (nodes.Box shift inner) =
+    h ∷ v ∷ next_h ∷ next_v ∷ box_h b.kind h shift ∷ box_v b.kind v shift inner.height ∷ []
 
 -- Where an item of a box stands at a place of its list, which begins at (h, v).
 abbrev pub point_in : BoxNode → (h v place : ℤ) → Option Place
@@ -87,6 +141,6 @@ abbrev pub numbers_between : BoxNode → (h v place next : ℤ) → Node → Lis
 numbers_between b h v place next x =
     numbers_of b (right_at b.kind h place) (down_at b.kind v place) (right_at b.kind h next) (down_at b.kind v next) x
 
--- The strokes of an item at a place of the list.
-abbrev pub strokes_at : BoxNode → (h v place : ℤ) → Node → List Stroke
-strokes_at b h v place x = strokes_of b (right_at b.kind h place) (down_at b.kind v place) x
+-- The marks of an item at a place of the list, in front of a picture.
+abbrev pub strokes_at : BoxNode → (h v place : ℤ) → Node → Picture → Picture
+strokes_at b h v place x rest = strokes_of b (right_at b.kind h place) (down_at b.kind v place) x rest

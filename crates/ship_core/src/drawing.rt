@@ -1,15 +1,15 @@
 //! The instructions that draw marks.
 
-ghost use Rattle.std.specs.Prelude.{◌≡◌, ◌-ℤ◌, ◌++◌, [], ◌∷◌, pos, map, None, Some, Option, IfSome, OnOk, List};
+ghost use Rattle.std.specs.Prelude.{◌≡◌, ◌-ℤ◌, ◌++◌, [], ◌∷◌, pos, map, None, Some, Option, IfSome, IfOk, OnOk};
 ghost use Rattle.std.specs.Option.{option_map};
 ghost use Rattle.node_core.specs.declared.tree.Kind.{Kind};
 ghost use Rattle.dvi_ops.specs.Forest.{flat};
-ghost use Rattle.dvi_ops.specs.Instruction.{Across, Downward, Do};
+ghost use Rattle.dvi_ops.specs.Instruction.{Across, Downward, Do, Push, Pop};
 ghost use Rattle.dvi_ops.specs.View.{view};
-ghost use Rattle.ship_core.specs.Drawing.{Stroke, ruled, drawn};
-ghost use Rattle.ship_core.specs.Placing.{Ends, strokes_in, inked, makes, movement, selection};
+ghost use Rattle.ship_core.specs.Drawing.{Picture, ruled, drawn};
+ghost use Rattle.ship_core.specs.Placing.{Ends, strokes_in, inked, makes, leaves, movement, selection};
 
-use crate::placing::{Ink, MarkAt};
+use crate::placing::{Ink, MarkAt, Place};
 use dvi_ops::Op;
 use node_core::Kind;
 use scaled_core::Dimen;
@@ -84,7 +84,7 @@ fn append_ink(
 impl Drawing {
     /// No instruction yet, where h and v are 0 and no font is chosen.
     pub fn new(alloc: Global) -> Drawing
-        ensures { (kind : Kind) → (rest : List Stroke) → makes kind result rest ≡ flat (drawn kind (pos 0) (pos 0) None rest) }
+        ensures { (kind : Kind) → (rest : Picture) → makes kind result rest ≡ flat (drawn kind (pos 0) (pos 0) None rest) }
     {
         Drawing {
             ops: Vec::new(alloc),
@@ -128,7 +128,8 @@ impl Drawing {
     #[tactic(auto, using(crate::proofs::Drawings::movements))]
     fn draw_mark(&mut self, kind: Kind, mark: MarkAt) -> Result<(), AllocError>
         requires { Ends kind mark }
-        ensures { OnOk result ((rest : List Stroke) → makes kind self.old (strokes_in (Some mark) ++ rest) ≡ makes kind self.new rest) }
+        ensures ops { OnOk result ((rest : Picture) → makes kind self.old (strokes_in (Some mark) rest) ≡ makes kind self.new rest) }
+        ensures font { OnOk result ((rest : Picture) → leaves self.old (strokes_in (Some mark) rest) ≡ leaves self.new rest) }
     {
         self.move_to(mark.h, mark.v)?;
         if let Ink::Glyph { slot, .. } = mark.ink {
@@ -142,11 +143,40 @@ impl Drawing {
     /// Draws a mark of a list of that kind, if there is one.
     pub fn draw(&mut self, kind: Kind, mark: Option<MarkAt>) -> Result<(), AllocError>
         requires { IfSome mark (Ends kind) }
-        ensures { OnOk result ((rest : List Stroke) → makes kind self.old (strokes_in mark ++ rest) ≡ makes kind self.new rest) }
+        ensures ops { OnOk result ((rest : Picture) → makes kind self.old (strokes_in mark rest) ≡ makes kind self.new rest) }
+        ensures font { OnOk result ((rest : Picture) → leaves self.old (strokes_in mark rest) ≡ leaves self.new rest) }
     {
         match mark {
             None => Ok(()),
             Some(mark) => self.draw_mark(kind, mark),
         }
+    }
+
+    /// Begins a group, and gives the place in front of it.
+    pub fn open(&mut self) -> Result<Place, AllocError>
+        ensures h { OnOk result (self.new.h ≡ self.old.h) }
+        ensures v { OnOk result (self.new.v ≡ self.old.v) }
+        ensures font { OnOk result (self.new.font ≡ self.old.font) }
+        ensures ops { OnOk result (map view self.new.ops.items ≡ map view self.old.ops.items ++ Push ∷ []) }
+        ensures place { IfOk result (λ before. before ≡ record { h = self.old.h; v = self.old.v }) }
+    {
+        self.ops.push(Op::Push)?;
+        Ok(Place {
+            h: self.h,
+            v: self.v,
+        })
+    }
+
+    /// Ends a group that began at that place, where the place is again behind it; the font stays.
+    pub fn close(&mut self, before: Place) -> Result<(), AllocError>
+        ensures h { OnOk result (self.new.h ≡ before.h) }
+        ensures v { OnOk result (self.new.v ≡ before.v) }
+        ensures font { OnOk result (self.new.font ≡ self.old.font) }
+        ensures ops { OnOk result (map view self.new.ops.items ≡ map view self.old.ops.items ++ Pop ∷ []) }
+    {
+        self.ops.push(Op::Pop)?;
+        self.h = before.h;
+        self.v = before.v;
+        Ok(())
     }
 }

@@ -2,18 +2,19 @@
 
 ghost use Rattle.std.specs.Prelude.{◌≡◌, ◌↔◌, ◌+ℤ◌, ◌-ℤ◌, ◌<◌, ◌^◌, [], ℤ, pos, List, true, false, not, map, is_some, length, None, Some, IfOk, IfErr, OnOk, IfSome, OnSome};
 ghost use Rattle.std.specs.List.{list_all};
+ghost use Rattle.std.specs.Option.{option_map};
 ghost use Rattle.scaled_core.specs.Dimensions.{Within};
-ghost use Rattle.node_core.specs.Nodes.{most_nodes, nodes_of};
+ghost use Rattle.node_core.specs.Nodes.{most_nodes};
 ghost use Rattle.dvi_ops.specs.Forest.{flat};
 ghost use Rattle.dvi_ops.specs.View.{view};
 ghost use Rattle.pack_core.specs.Totals.{fits};
 ghost use Rattle.pack_core.specs.Cursors.{one_more, place_at};
-ghost use Rattle.ship_core.specs.Marks.{list_v, numbers_behind, is_huge};
-ghost use Rattle.ship_core.specs.Drawing.{strokes_behind, drawn, body_of};
-ghost use Rattle.ship_core.specs.Placing.{Ends, point_in, numbers_between, strokes_at, strokes_in};
+ghost use Rattle.ship_core.specs.Marks.{right_at, down_at, list_v, numbers_behind, is_huge};
+ghost use Rattle.ship_core.specs.Drawing.{Picture, picture_behind, body_of};
+ghost use Rattle.ship_core.specs.Placing.{Ends, point_in, numbers_between, strokes_at, strokes_in, reference_h, reference_v, makes, leaves};
 
 use crate::drawing::Drawing;
-use crate::placing::{MarkAt, Place, place_item, point_at, sum};
+use crate::placing::{Place, Seen, place_item, point_at, sum};
 use dvi_ops::Op;
 use node_core::{BoxNode, Kind, Node};
 use pack_core::Cursor;
@@ -55,15 +56,17 @@ impl Walk {
         }
     }
 
-    /// Goes behind the next item, and gives its mark, if it has one; None exactly where one of its numbers does not fit.
-    fn step(&mut self, shown: &BoxNode, begin: &Begin, node: &Node) -> Option<Option<MarkAt>>
+    /// Goes behind the next item, and tells how it is seen; None exactly where one of its numbers does not fit.
+    fn step(&mut self, shown: &BoxNode, begin: &Begin, node: &Node) -> Option<Seen>
         requires few { self.old.cursor.passed < most_nodes }
         requires here { self.old.here ≡ point_in shown.now begin.now.h begin.now.v (place_at shown.now.setting self.old.cursor) }
         ensures cursor { OnSome result (self.new.cursor ≡ one_more shown.now.kind shown.now.setting self.old.cursor node.now) }
         ensures here { OnSome result (self.new.here ≡ point_in shown.now begin.now.h begin.now.v (place_at shown.now.setting self.new.cursor)) }
         ensures fits { is_some result ≡ list_all fits (numbers_between shown.now begin.now.h begin.now.v (place_at shown.now.setting self.old.cursor) (place_at shown.now.setting (one_more shown.now.kind shown.now.setting self.old.cursor node.now)) node.now) }
-        ensures mark { IfSome result (λ m. strokes_in m ≡ strokes_at shown.now begin.now.h begin.now.v (place_at shown.now.setting self.old.cursor) node.now) }
-        ensures end { IfSome result (λ m. IfSome m (Ends shown.now.kind)) }
+        ensures mark { IfSome result (λ s. (rest : Picture) → strokes_in s.mark rest ≡ strokes_at shown.now begin.now.h begin.now.v (place_at shown.now.setting self.old.cursor) node.now rest) }
+        ensures end { IfSome result (λ s. IfSome s.mark (Ends shown.now.kind)) }
+        ensures h { IfSome result (λ s. s.at.h ≡ reference_h shown.now.kind (right_at shown.now.kind begin.now.h (place_at shown.now.setting self.old.cursor)) node.now) }
+        ensures v { IfSome result (λ s. s.at.v ≡ reference_v shown.now.kind (down_at shown.now.kind begin.now.v (place_at shown.now.setting self.old.cursor)) node.now) }
     {
         let at = self.here?;
         self.cursor.pass(shown.kind, &shown.setting, node);
@@ -73,15 +76,20 @@ impl Walk {
     }
 }
 
-/// Whether the numbers of all items of a list fit.
+/// Whether the numbers of all items of a list fit, those of inner boxes too.
 fn all_fit(shown: &BoxNode, begin: &Begin) -> bool
-    ensures { result ≡ list_all fits (numbers_behind shown.now begin.now.h begin.now.v [] (nodes_of shown.now.list)) }
+    ensures { result ≡ list_all fits (numbers_behind shown.now begin.now.h begin.now.v [] shown.now.list) }
 {
     let mut walk = Walk::new(shown, begin);
     for node in shown.list.as_slice() {
-        let Some(_) = walk.step(shown, begin, node) else {
+        let Some(seen) = walk.step(shown, begin, node) else {
             return false;
         };
+        if let Node::Box(_, inner) = node {
+            if !all_fit(inner, &begin_of(inner, seen.at.h, seen.at.v)) {
+                return false;
+            }
+        }
     }
     true
 }
@@ -119,20 +127,27 @@ pub fn is_huge(shown: &BoxNode, h: Dimen, v: Dimen) -> bool
     !all_fit(shown, &begin_of(shown, h, v))
 }
 
-/// The instructions that draw the list of a box.
-fn draw_list(alloc: Global, shown: &BoxNode, begin: &Begin) -> Result<Vec<Op<'static>>, AllocError>
-    requires { list_all fits (numbers_behind shown.now begin.now.h begin.now.v [] (nodes_of shown.now.list)) ≡ true }
-    ensures { IfOk result (λ ops. map view ops.items ≡ flat (drawn shown.now.kind (pos 0) (pos 0) None (strokes_behind shown.now begin.now.h begin.now.v [] (nodes_of shown.now.list)))) }
+/// Draws the list of a box, and its inner boxes as groups.
+fn draw_list(drawing: &mut Drawing, shown: &BoxNode, begin: &Begin) -> Result<(), AllocError>
+    requires { list_all fits (numbers_behind shown.now begin.now.h begin.now.v [] shown.now.list) ≡ true }
+    ensures ops { OnOk result (map view drawing.new.ops.items ≡ makes shown.now.kind drawing.old (picture_behind shown.now begin.now.h begin.now.v [] shown.now.list)) }
+    ensures font { OnOk result (option_map pos drawing.new.font ≡ leaves drawing.old (picture_behind shown.now begin.now.h begin.now.v [] shown.now.list)) }
 {
     let mut walk = Walk::new(shown, begin);
-    let mut drawing = Drawing::new(alloc);
     for node in shown.list.as_slice() {
-        let Some(mark) = walk.step(shown, begin, node) else {
+        let Some(seen) = walk.step(shown, begin, node) else {
             unreachable!();
         };
-        drawing.draw(shown.kind, mark)?;
+        drawing.draw(shown.kind, seen.mark)?;
+        if let Node::Box(_, inner) = node {
+            if !inner.list.is_empty() {
+                let before = drawing.open()?;
+                draw_list(drawing, inner, &begin_of(inner, seen.at.h, seen.at.v))?;
+                drawing.close(before)?;
+            }
+        }
     }
-    Ok(drawing.ops)
+    Ok(())
 }
 
 /// Why a page is not drawn.
@@ -161,8 +176,9 @@ pub fn plan(
     if is_huge(shown, h, v) {
         return Err(ShipFault::HugePage);
     }
-    match draw_list(alloc, shown, &begin_of(shown, h, v)) {
-        Ok(ops) => Ok(ops),
+    let mut drawing = Drawing::new(alloc);
+    match draw_list(&mut drawing, shown, &begin_of(shown, h, v)) {
+        Ok(()) => Ok(drawing.ops),
         Err(_) => Err(ShipFault::OutOfMemory),
     }
 }

@@ -1,13 +1,13 @@
 //! Where the items of a box stand on a page, and their marks.
 
-ghost use Rattle.std.specs.Prelude.{◌≡◌, ◌+ℤ◌, ◌+◌, ◌^◌, pos, true, None, Some, is_some, map, if◌then◌else◌, IfSome};
+ghost use Rattle.std.specs.Prelude.{◌≡◌, ◌+ℤ◌, ◌+◌, ◌^◌, [], ◌∷◌, pos, true, None, is_some, IfSome};
 ghost use Rattle.std.specs.List.{list_all};
 ghost use Rattle.scaled_core.specs.Dimensions.{Within};
 ghost use Rattle.pack_core.specs.Items.{own_size};
 ghost use Rattle.pack_core.specs.Totals.{fits};
-ghost use Rattle.ship_core.specs.Marks.{size_in, right_at, down_at, rule_below, rule_tall, rule_wide, rule_mark, numbers_of};
-ghost use Rattle.ship_core.specs.Drawing.{strokes_of};
-ghost use Rattle.ship_core.specs.Placing.{point, Reaches, Ends, strokes_in};
+ghost use Rattle.ship_core.specs.Marks.{size_in, right_at, down_at, rule_below, rule_tall, rule_wide, rule_mark, box_h, box_v};
+ghost use Rattle.ship_core.specs.Drawing.{Picture, in_front};
+ghost use Rattle.ship_core.specs.Placing.{point, Reaches, Ends, strokes_in, strokes_of, reference_h, reference_v, numbers_of};
 ghost use Rattle.node_core.specs.declared.tree.Kind.TheVariants as kinds;
 ghost use Rattle.node_core.specs.declared.tree.Node.TheVariants as nodes;
 
@@ -49,6 +49,13 @@ pub struct MarkAt {
     pub width: Dimen,
     pub end: Dimen,
     pub ink: Ink,
+}
+
+/// An item on a page: its mark, if it has one, and its place; of a box that of its reference point.
+#[derive(Clone, Copy, Debug)]
+pub struct Seen {
+    pub mark: Option<MarkAt>,
+    pub at: Place,
 }
 
 /// The point with these numbers, where both fit.
@@ -154,7 +161,7 @@ fn sizes_of(shown: &BoxNode, rule: Rule) -> Option<RuleSizes>
 
 /// A rule of that height that is seen; None exactly where its height or its width is not positive.
 fn visible(height: Dimen, h: Dimen, v: Dimen, width: Dimen, end: Dimen) -> Option<MarkAt>
-    ensures mark { strokes_in result ≡ map (λ m. (m, width)) (rule_mark h v height width) }
+    ensures mark { (rest : Picture) → strokes_in result rest ≡ in_front (rule_mark h v height width) width rest }
     ensures end { IfSome result (λ m. m ≡ record { h = h; v = v; width = width; end = end; ink = Ink.Rule height }) }
 {
     if height.get() <= 0 {
@@ -172,24 +179,61 @@ fn visible(height: Dimen, h: Dimen, v: Dimen, width: Dimen, end: Dimen) -> Optio
     })
 }
 
-/// The mark of a rule at a place of the list of a box; None exactly where one of its numbers does not fit.
-fn place_rule(shown: &BoxNode, at: Place, next: Place, rule: Rule) -> Option<Option<MarkAt>>
+/// The sum of two dimensions, whether it fits or not.
+fn added(a: Dimen, b: Dimen) -> i128
+    ensures { result ≡ a +ℤ b }
+{
+    i128::from(a.get()) + i128::from(b.get())
+}
+
+/// The reference point of a box that stands at a place of a list of that kind, where it fits.
+fn reference_of(kind: Kind, at: Place, shift: Dimen, height: Dimen) -> Option<Place>
+    ensures { result ≡ point (box_h kind at.h shift) (box_v kind at.v shift height) }
+{
+    match kind {
+        Kind::Horizontal => point(i128::from(at.h.get()), added(at.v, shift)),
+        Kind::Vertical => point(added(at.h, shift), added(at.v, height)),
+    }
+}
+
+/// A box at a place of the list of another; None exactly where its reference point does not fit.
+fn place_box(kind: Kind, at: Place, next: Place, shift: Dimen, inner: &BoxNode) -> Option<Seen>
+    ensures fits { is_some result ≡ list_all fits (at.h ∷ at.v ∷ next.h ∷ next.v ∷ box_h kind at.h shift ∷ box_v kind at.v shift inner.now.height ∷ []) }
+    ensures mark { IfSome result (λ s. s.mark ≡ None) }
+    ensures h { IfSome result (λ s. s.at.h ≡ box_h kind at.h shift) }
+    ensures v { IfSome result (λ s. s.at.v ≡ box_v kind at.v shift inner.now.height) }
+{
+    at.known();
+    next.known();
+    let reference = reference_of(kind, at, shift, inner.height)?;
+    Some(Seen {
+        mark: None,
+        at: reference,
+    })
+}
+
+/// A rule at a place of the list of a box; None exactly where one of its numbers does not fit.
+fn place_rule(shown: &BoxNode, at: Place, next: Place, rule: Rule) -> Option<Seen>
     requires { Reaches shown.now.kind at.h next.h (nodes.Rule rule) }
     ensures fits { is_some result ≡ list_all fits (numbers_of shown.now at.h at.v next.h next.v (nodes.Rule rule)) }
-    ensures mark { IfSome result (λ m. strokes_in m ≡ strokes_of shown.now at.h at.v (nodes.Rule rule)) }
-    ensures end { IfSome result (λ m. IfSome m (Ends shown.now.kind)) }
+    ensures mark { IfSome result (λ s. (rest : Picture) → strokes_in s.mark rest ≡ strokes_of shown.now at.h at.v (nodes.Rule rule) rest) }
+    ensures end { IfSome result (λ s. IfSome s.mark (Ends shown.now.kind)) }
+    ensures at { IfSome result (λ s. s.at ≡ at) }
 {
     at.known();
     next.known();
     let sizes = sizes_of(shown, rule)?;
     let v = sum(at.v, sizes.below)?;
-    Some(visible(sizes.tall, at.h, v, sizes.wide, next.h))
+    Some(Seen {
+        mark: visible(sizes.tall, at.h, v, sizes.wide, next.h),
+        at,
+    })
 }
 
 /// The mark of a glyph at a place of the list of a box.
 fn place_glyph(shown: &BoxNode, at: Place, next: Place, glyph: Glyph) -> Option<MarkAt>
     requires { Reaches shown.now.kind at.h next.h (nodes.Glyph glyph) }
-    ensures mark { strokes_in result ≡ strokes_of shown.now at.h at.v (nodes.Glyph glyph) }
+    ensures mark { (rest : Picture) → strokes_in result rest ≡ strokes_of shown.now at.h at.v (nodes.Glyph glyph) rest }
     ensures end { IfSome result (Ends shown.now.kind) }
 {
     match shown.kind {
@@ -207,18 +251,24 @@ fn place_glyph(shown: &BoxNode, at: Place, next: Place, glyph: Glyph) -> Option<
     }
 }
 
-/// The mark of an item at a place of the list of a box, if it has one; None exactly where one of its numbers does not fit.
-pub fn place_item(shown: &BoxNode, at: Place, next: Place, node: &Node) -> Option<Option<MarkAt>>
+/// An item at a place of the list of a box; None exactly where one of its numbers does not fit. Those of its own items are not looked at.
+pub fn place_item(shown: &BoxNode, at: Place, next: Place, node: &Node) -> Option<Seen>
     requires { Reaches shown.now.kind at.h next.h node.now }
     ensures fits { is_some result ≡ list_all fits (numbers_of shown.now at.h at.v next.h next.v node.now) }
-    ensures mark { IfSome result (λ m. strokes_in m ≡ strokes_of shown.now at.h at.v node.now) }
-    ensures end { IfSome result (λ m. IfSome m (Ends shown.now.kind)) }
+    ensures mark { IfSome result (λ s. (rest : Picture) → strokes_in s.mark rest ≡ strokes_of shown.now at.h at.v node.now rest) }
+    ensures end { IfSome result (λ s. IfSome s.mark (Ends shown.now.kind)) }
+    ensures h { IfSome result (λ s. s.at.h ≡ reference_h shown.now.kind at.h node.now) }
+    ensures v { IfSome result (λ s. s.at.v ≡ reference_v shown.now.kind at.v node.now) }
 {
     at.known();
     next.known();
     match node {
+        Node::Box(shift, inner) => place_box(shown.kind, at, next, *shift, inner),
         Node::Rule(rule) => place_rule(shown, at, next, *rule),
-        Node::Glyph(glyph) => Some(place_glyph(shown, at, next, *glyph)),
-        _ => Some(None),
+        Node::Glyph(glyph) => Some(Seen {
+            mark: place_glyph(shown, at, next, *glyph),
+            at,
+        }),
+        _ => Some(Seen { mark: None, at }),
     }
 }

@@ -5,12 +5,12 @@ use Rattle.dvi_ops.specs.View.{view}
 use Rattle.dvi_ops.specs.Instruction.{Across, Downward}
 use Rattle.ship_core.specs.Placing.{movement, inked}
 use Rattle.ship_core.specs.declared.drawing.Drawing.{Drawing}
-use Rattle.ship_core.proofs.Drawings.{drawn_mark, selected_ops, unselected_ops, chosen, left_by}
+use Rattle.ship_core.proofs.Drawings.{drawn_mark, selected_ops, unselected_ops, chosen, left_by, left_font}
 use Rattle.ship_core.proofs.drawing.Drawing.draw_mark.Goals as goal
 use Rattle.ship_core.proofs.drawing.Drawing.draw_mark.Goals.{in-Glyph+in_ok-select, in_default}
 
-pub returns : goal.returns
-returns c rest =
+pub returns-clause-ops : goal.returns-clause-ops
+returns-clause-ops c rest =
     let self = c.args.self.now in
     let mark = c.args.mark in
     let current = option_map pos self.font in
@@ -33,3 +33,11 @@ returns c rest =
     let inky : map view c.append_ink.new.ops.items ≡ (moved ++ chosen current mark.ink) ++ inked c.args.kind mark.width mark.ink =
     c.in_ok-append_ink.ensures ∙ ap (λ is. is ++ inked c.args.kind mark.width mark.ink) chose in
     drawn_mark c.args.kind (map view self.ops.items) _ self.h self.v current (option_map pos joined.font) mark.h mark.v mark.width mark.end joined.v mark.ink rest inky c.requires font v
+
+pub returns-clause-font : goal.returns-clause-font
+returns-clause-font c rest =
+    let current = option_map pos c.args.self.now.font in
+    let mark = c.args.mark in
+    let font : option_map pos c.match-mark.self.font ≡ left_by current mark.ink =
+    elim c.match-mark.branch [ in-Glyph+in_ok-select w ↦ cc (w.in_ok-select.ensures.font) | in_default w ↦ cc (c.in_ok-move_to.ensures.font) ] in
+    left_font current (option_map pos c.match-mark.self.font) mark.h mark.v mark.width mark.ink rest font

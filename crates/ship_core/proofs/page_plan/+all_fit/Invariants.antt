@@ -1,14 +1,18 @@
 use Rattle.std.proofs.Common.{◌≡◌, [], take, drop}
 use Rattle.std.specs.List.{list_all}
+use Rattle.node_core.specs.Nodes.{items_of}
 use Rattle.pack_core.specs.Totals.{fits}
 use Rattle.pack_core.specs.Cursors.{reached, place_at}
 use Rattle.ship_core.specs.Marks.{numbers_behind}
 use Rattle.ship_core.specs.Placing.{point_in}
-use Rattle.ship_core.proofs.page_plan.all_fit.Given as goal
+use Rattle.ship_core.proofs.page_plan.+all_fit.Given as goal
+
+abbrev pub decreases-all_fit : goal.decreases-all_fit
+decreases-all_fit l = goal.size-all_fit l
 
 abbrev pub invariant-loop-node : goal.invariant-loop-node
 invariant-loop-node l = record {
   cursor : l.walk.cursor ≡ reached l.shown.kind l.shown.setting (take l.node-index l.node-items);
   here : l.walk.here ≡ point_in l.shown l.begin.h l.begin.v (place_at l.shown.setting l.walk.cursor);
-  left : list_all fits (numbers_behind l.shown l.begin.h l.begin.v (take l.node-index l.node-items) (drop l.node-index l.node-items)) ≡ list_all fits (numbers_behind l.shown l.begin.h l.begin.v [] l.node-items);
+  left : list_all fits (numbers_behind l.shown l.begin.h l.begin.v (take l.node-index l.node-items) (items_of (drop l.node-index l.node-items))) ≡ list_all fits (numbers_behind l.shown l.begin.h l.begin.v [] (items_of l.node-items));
 }

@@ -1,0 +1,22 @@
+use Rattle.std.proofs.Common.{◌≡◌, [], take, drop}
+use Rattle.std.specs.Prelude.{true}
+use Rattle.std.specs.List.{list_all}
+use Rattle.node_core.specs.Nodes.{items_of}
+use Rattle.pack_core.specs.Totals.{fits}
+use Rattle.pack_core.specs.Cursors.{reached, place_at}
+use Rattle.ship_core.specs.Marks.{numbers_behind}
+use Rattle.ship_core.specs.Drawing.{picture_behind}
+use Rattle.ship_core.specs.Placing.{point_in, makes, leaves}
+use Rattle.ship_core.proofs.page_plan.+draw_list.Given as goal
+
+abbrev pub decreases-draw_list : goal.decreases-draw_list
+decreases-draw_list l = goal.size-draw_list l
+
+abbrev pub invariant-loop-node : goal.invariant-loop-node
+invariant-loop-node l = record {
+  cursor : l.walk.cursor ≡ reached l.shown.kind l.shown.setting (take l.node-index l.node-items);
+  here : l.walk.here ≡ point_in l.shown l.begin.h l.begin.v (place_at l.shown.setting l.walk.cursor);
+  left : list_all fits (numbers_behind l.shown l.begin.h l.begin.v (take l.node-index l.node-items) (items_of (drop l.node-index l.node-items))) ≡ true;
+  makes : makes l.shown.kind l.drawing (picture_behind l.shown l.begin.h l.begin.v (take l.node-index l.node-items) (items_of (drop l.node-index l.node-items))) ≡ makes l.shown.kind l.initial.drawing (picture_behind l.shown l.begin.h l.begin.v [] (items_of l.node-items));
+  leaves : leaves l.drawing (picture_behind l.shown l.begin.h l.begin.v (take l.node-index l.node-items) (items_of (drop l.node-index l.node-items))) ≡ leaves l.initial.drawing (picture_behind l.shown l.begin.h l.begin.v [] (items_of l.node-items));
+}
