@@ -1,16 +1,22 @@
 -- What the writer draws, as lists of instructions.
-use Rattle.std.proofs.Common.{◌≡◌, ℕ, zero, suc, List, [], ◌∷◌, ◌++◌, refl, append_assoc, ◌∙◌, ap, sym}
-use Rattle.std.specs.Prelude.{ℤ, pos, negsuc, ◌+ℤ◌, ◌-ℤ◌, Bool, true, false, if◌then◌else◌, Option, Some, None}
+use Rattle.std.proofs.Common.{◌≡◌, ℕ, zero, suc, List, [], ◌∷◌, ◌++◌, map, length, refl, append_assoc, ◌∙◌, ap, sym, arith}
+use Rattle.std.specs.Prelude.{ℤ, pos, negsuc, ◌+ℤ◌, ◌-ℤ◌, Bool, true, false, if◌then◌else◌, Option, Some, None, ◌==◌}
+use Rattle.std.specs.Option.{option_map}
 use Rattle.std.specs.Ordering.{int_eq}
 use Rattle.std.proofs.lemmas.List.{append-nil}
-use Rattle.dvi_ops.specs.Instruction.{Axis, Across, Downward, SetChar, FontNum, Instruction, Do}
+use Rattle.std.proofs.lemmas.Bool.{eqb-true}
+use Rattle.dvi_ops.specs.Instruction.{Axis, Across, Downward, SetChar, FontNum, Instruction, Do, Push, Pop}
+use Rattle.dvi_ops.specs.View.{view}
+use Rattle.node_core.specs.Items.{Items, none, leaf, box}
+use Rattle.node_core.specs.Nodes.{nodes_of}
 use Rattle.node_core.specs.declared.tree.Kind.{Kind}
 use Rattle.dvi_ops.specs.Body as body
 use Rattle.dvi_ops.specs.Forest.{Forest, Then, flat}
-use Rattle.ship_core.specs.Drawing.{Picture, stroke, moved_by, selected, ruled, behind_rule, font_behind, drawn}
+use Rattle.ship_core.specs.Drawing.{Picture, stroke, group, grouped, moved_by, selected, ruled, behind_rule, font_behind, drawn}
 use Rattle.ship_core.specs.declared.placing.Ink.{Ink}
 use Rattle.ship_core.specs.declared.placing.Ink.TheVariants as ink
-use Rattle.ship_core.specs.Placing.{mark_with, movement, selection, inked, behind}
+use Rattle.ship_core.specs.declared.drawing.Drawing.{Drawing}
+use Rattle.ship_core.specs.Placing.{mark_with, movement, selection, inked, behind, makes, leaves}
 
 pub flat-moved_by : (axis : Axis) (z : ℤ) (rest : Forest) → flat (moved_by axis z rest) ≡ movement axis z ++ flat rest
 flat-moved_by axis (pos zero) rest = refl
@@ -92,3 +98,52 @@ selected_ops after between moved here current slot code i glyph same left is = r
 pub unselected_ops :
     (after moved : List Instruction) (current : Option ℤ) (height : ℤ) (i : Ink) → i ≡ ink.Rule height → after ≡ moved → after ≡ moved ++ chosen current i
 unselected_ops after moved current height i rule is = rw (rule, is, append-nil moved) refl
+
+-- From one drawing on, a picture makes and leaves the same as another picture from another drawing on.
+abbrev pub Draws : Kind → Drawing → Picture → Drawing → Picture → Type 0
+Draws kind from picture to rest = (makes kind from picture ≡ makes kind to rest) × (leaves from picture ≡ leaves to rest)
+
+pub then_draws :
+    (kind : Kind) (a b c : Drawing) (p q r : Picture) → Draws kind a p b q → Draws kind b q c r → Draws kind a p c r
+then_draws kind a b c p q r (first, font) (second, left) = (first ∙ second, font ∙ left)
+
+pub same_picture : (kind : Kind) (d : Drawing) (p q : Picture) → p ≡ q → Draws kind d p d q
+same_picture kind d p q is = (ap (makes kind d) is, ap (leaves d) is)
+
+pub same_drawing : (kind : Kind) (d e : Drawing) (p : Picture) → e ≡ d → Draws kind d p e p
+same_drawing kind d e p is = (sym (ap (λ (x : Drawing). makes kind x p) is), sym (ap (λ (x : Drawing). leaves x p) is))
+
+-- A box without items is no group, and one with items is one.
+pub grouped-none : (items : Items) (kind : Kind) (inner rest : Picture) → (length (nodes_of items) == 0) ≡ true → grouped items kind inner rest ≡ rest
+grouped-none none kind inner rest empty = refl
+grouped-none (leaf x items) kind inner rest empty = absurd (more (length (nodes_of items)) (eqb-true (length (nodes_of (leaf x items))) 0 empty))
+  where
+    more : (n : ℕ) → suc n ≡ 0 → ⊥
+    more n is = omega (arith, is)
+grouped-none (box shift frame some items) kind inner rest empty =
+    absurd (more (length (nodes_of items)) (eqb-true (length (nodes_of (box shift frame some items))) 0 empty))
+  where
+    more : (n : ℕ) → suc n ≡ 0 → ⊥
+    more n is = omega (arith, is)
+
+pub grouped-some : (items : Items) (kind : Kind) (inner rest : Picture) → (length (nodes_of items) == 0) ≡ false → grouped items kind inner rest ≡ group kind inner rest
+grouped-some none kind inner rest full = absurd (cc)
+grouped-some (leaf x items) kind inner rest full = refl
+grouped-some (box shift frame some items) kind inner rest full = refl
+
+-- What stands when a box was drawn as a group makes the same as before it, for the picture that follows, and leaves the same font.
+pub drawn_group :
+    (kind own : Kind) (before opened inside after : Drawing) (inner rest : Picture)
+    → map view opened.ops.items ≡ map view before.ops.items ++ Push ∷ []
+    → opened.h ≡ before.h → opened.v ≡ before.v → opened.font ≡ before.font
+    → map view inside.ops.items ≡ makes own opened inner
+    → option_map pos inside.font ≡ leaves opened inner
+    → map view after.ops.items ≡ map view inside.ops.items ++ Pop ∷ []
+    → after.h ≡ before.h → after.v ≡ before.v → after.font ≡ inside.font
+    → Draws kind before (group own inner rest) after rest
+drawn_group kind own before opened inside after inner rest push h v font drawn left pop right down same =
+    let current : leaves opened inner ≡ leaves before inner = ap (λ (f : Option ℕ). font_behind (option_map pos f) inner) font in
+    let behind : option_map pos after.font ≡ leaves before inner = ap (option_map pos) same ∙ (left ∙ current) in (
+      rw (behind, right, down, pop, drawn, h, v, font, push) (simp append_assoc),
+      ap (λ (f : Option ℤ). font_behind f rest) (sym behind),
+    )

@@ -127,6 +127,10 @@ pub first_of_and : (a b : Bool) → (a && b) ≡ true → a ≡ true
 first_of_and true b all = refl
 first_of_and false b all = all
 
+pub last_of_and : (a b : Bool) → (a && b) ≡ true → b ≡ true
+last_of_and true b all = all
+last_of_and false b all = cc
+
 pub last_of_three : (a b c : Bool) → not (a && (b && c)) ≡ false → c ≡ true
 last_of_three true true true all = refl
 last_of_three true true false all = cc

@@ -1,10 +1,148 @@
+use Rattle.std.proofs.Common.{◌≡◌, ◌∙◌, refl, sym, ap, take, [], ◌+◌, map, arith}
+use Rattle.std.specs.Prelude.{true}
+use Rattle.std.specs.List.{list_all}
+use Rattle.std.proofs.lemmas.List.{drop_all, append-nil}
+use Rattle.dvi_ops.specs.View.{view}
+use Rattle.node_core.specs.Nodes.{items_of}
+use Rattle.node_core.proofs.NodeLemmas.{items_of-nodes_of}
+use Rattle.pack_core.specs.Totals.{fits}
+use Rattle.pack_core.specs.Cursors.{one_more}
+use Rattle.pack_core.proofs.Walks.{reached-more}
+use Rattle.ship_core.specs.Marks.{item_h, item_v, box_h, box_v, list_v, numbers_behind}
+use Rattle.ship_core.specs.Drawing.{group, picture_behind}
+use Rattle.ship_core.specs.Placing.{strokes_in, inside, makes, leaves}
+use Rattle.ship_core.specs.declared.placing.Place.{Place}
+use Rattle.ship_core.proofs.Drawings.{Draws, then_draws, same_picture, same_drawing, grouped-none, grouped-some, drawn_group}
+use Rattle.ship_core.proofs.Places.{picture_left, fits_more, picture_more, item_fits, item_strokes, inner_begin, inner_numbers, inner_picture, inner_depth, leaf_picture, first_of_and, last_of_and, rest_of_and, no_rest, few_passed, reached-none}
 use Rattle.ship_core.proofs.page_plan.+draw_list.Goals as goal
+use Rattle.ship_core.proofs.page_plan.+draw_list.Goals.{in-Box+then-not-is_empty+in_ok-before+in_ok-draw_list+in_ok-close, in-Box+else-not-is_empty, in_default-node}
+
+pub loop-node-init : goal.loop-node-init
+loop-node-init t c =
+    let b = c.args.shown.now in
+    let whole : items_of c.as_slice-node-items.result.now ≡ b.list = ap items_of c.as_slice-node-items.ensures.nodes ∙ items_of-nodes_of b.list in
+    record {
+      cursor = c.new-walk.ensures.cursor ∙ reached-none b.kind b.setting;
+      here = c.new-walk.ensures.here;
+      left = ap (λ items. list_all fits (numbers_behind b c.args.begin.now.h c.args.begin.now.v [] items)) whole ∙ c.requires;
+      makes = refl;
+      leaves = refl;
+    }
+
+pub step-requires-clause-few : goal.step-requires-clause-few
+step-requires-clause-few t c =
+    few_passed c.args.shown.now.kind c.args.shown.now.setting c.as_slice-node-items.result.now c.loop-node.node-index c.loop-node.walk.cursor
+    c.loop-node.invariant.cursor c.loop-node-test.true (rw c.as_slice-node-items.ensures.nodes c.as_slice-node-items.ensures.short)
+
+pub unreachable-requires : goal.unreachable-requires
+unreachable-requires t c =
+    let b = c.args.shown.now in
+    let h = c.args.begin.now.h in
+    let v = c.args.begin.now.v in
+    let xs = c.as_slice-node-items.result.now in
+    let i = c.loop-node.node-index in
+    let x = c.node-item.result in
+    let here = item_fits b h v (take i xs) x c.loop-node.walk.cursor _ c.loop-node.invariant.cursor c.in_default.ensures.fits in
+    no_rest _ _ here (sym (fits_more b h v xs i x c.loop-node-test.true c.node-item.is) ∙ c.loop-node.invariant.left)
 
 pub draw_list-requires : goal.draw_list-requires
-draw_list-requires t c = ?
+draw_list-requires t c =
+    let b = c.args.shown.now in
+    let h = c.args.begin.now.h in
+    let v = c.args.begin.now.v in
+    let xs = c.as_slice-node-items.result.now in
+    let i = c.loop-node.node-index in
+    let x = c.node-item.result in
+    let deep = inner_depth b.list xs i x c.in-Box.field-0 c.in-Box.inner c.loop-node-test.true c.node-item.is c.as_slice-node-items.ensures.nodes c.in-Box.is in
+    let here = item_fits b h v (take i xs) x c.loop-node.walk.cursor _ c.loop-node.invariant.cursor c.in-Some.ensures.fits in
+    let begin = inner_begin b c.in-Box.inner h v (take i xs) x c.in-Box.field-0 c.loop-node.walk.cursor c.in-Some.seen.at.h c.in-Some.seen.at.v c.begin_of.result.h c.begin_of.result.v
+    c.loop-node.invariant.cursor c.in-Box.is c.in-Some.ensures.h c.in-Some.ensures.v c.begin_of.ensures.h c.begin_of.ensures.v in
+    let inner = inner_numbers b c.in-Box.inner (item_h b h (take i xs)) (item_v b v (take i xs)) c.in-Box.field-0 c.begin_of.result.h c.begin_of.result.v x c.in-Box.is begin in
+    let left = rest_of_and _ _ _ here (sym (fits_more b h v xs i x c.loop-node-test.true c.node-item.is) ∙ c.loop-node.invariant.left) in
+    (omega (arith, deep, c.decreases), sym (ap (list_all fits) inner) ∙ first_of_and _ _ left)
 
 pub loop-node-preserved : goal.loop-node-preserved
-loop-node-preserved t c = ?
+loop-node-preserved t c =
+    let b = c.args.shown.now in
+    let h = c.args.begin.now.h in
+    let v = c.args.begin.now.v in
+    let xs = c.as_slice-node-items.result.now in
+    let i = c.loop-node.node-index in
+    let x = c.node-item.result in
+    let x_h = item_h b h (take i xs) in
+    let x_v = item_v b v (take i xs) in
+    let later = picture_left b h v xs (i + 1) in
+    let own = inside b x_h x_v x later in
+    let first = c.loop-node.drawing in
+    let marked = c.draw.new.self in
+    let here = item_fits b h v (take i xs) x c.loop-node.walk.cursor _ c.loop-node.invariant.cursor c.in-Some.ensures.fits in
+    let left = rest_of_and _ _ _ here (sym (fits_more b h v xs i x c.loop-node-test.true c.node-item.is) ∙ c.loop-node.invariant.left) in
+    let mark = item_strokes b h v (take i xs) x c.loop-node.walk.cursor own _ c.loop-node.invariant.cursor (c.in-Some.ensures.mark own) in
+    let drawn : Draws b.kind first (picture_left b h v xs i) marked own =
+    then_draws b.kind first first marked (picture_left b h v xs i) (strokes_in c.in-Some.seen.mark own) own
+    (same_picture b.kind first _ _ (picture_more b h v xs i x c.loop-node-test.true c.node-item.is ∙ sym mark))
+    (c.in_ok-draw.ensures.ops own, c.in_ok-draw.ensures.font own) in
+    let inner : Draws b.kind marked own c.match-node.drawing later = elim c.match-node.branch [
+      | in-Box+then-not-is_empty+in_ok-before+in_ok-draw_list+in_ok-close w ↦
+          let box = w.in-Box.inner in
+          let start = w.begin_of.result in
+          let begin = inner_begin b box h v (take i xs) x w.in-Box.field-0 c.loop-node.walk.cursor c.in-Some.seen.at.h c.in-Some.seen.at.v start.h start.v
+          c.loop-node.invariant.cursor w.in-Box.is c.in-Some.ensures.h c.in-Some.ensures.v w.begin_of.ensures.h w.begin_of.ensures.v in
+          let picture = picture_behind box start.h start.v [] box.list in
+          let grouped = inner_picture b box x_h x_v w.in-Box.field-0 start.h start.v x later w.in-Box.is begin
+          ∙ grouped-some box.list box.kind picture later (sym w.is_empty.ensures ∙ w.if-not-is_empty.true) in
+          let before = w.in_ok-before.ensures.place in
+          let framed = group box.kind picture later in
+          then_draws b.kind marked marked c.match-node.drawing own framed later (same_picture b.kind marked own framed grouped)
+          (then_draws b.kind marked w.close.new.self c.match-node.drawing framed later later
+          (drawn_group b.kind box.kind marked w.open.new.self w.draw_list.new.drawing w.close.new.self picture later
+          w.in_ok-before.ensures.ops w.in_ok-before.ensures.h w.in_ok-before.ensures.v w.in_ok-before.ensures.font
+          w.in_ok-draw_list.ensures.ops w.in_ok-draw_list.ensures.font w.in_ok-close.ensures.ops
+          (w.in_ok-close.ensures.h ∙ ap (λ (p : Place). p.h) before) (w.in_ok-close.ensures.v ∙ ap (λ (p : Place). p.v) before) w.in_ok-close.ensures.font)
+          (same_drawing b.kind w.close.new.self c.match-node.drawing later w.drawing-is))
+      | in-Box+else-not-is_empty w ↦
+          let box = w.in-Box.inner in
+          let at_h = box_h b.kind x_h w.in-Box.field-0 in
+          let at_v = list_v box.kind box.height (box_v b.kind x_v w.in-Box.field-0 box.height) in
+          let none = inner_picture b box x_h x_v w.in-Box.field-0 at_h at_v x later w.in-Box.is (refl, refl)
+          ∙ grouped-none box.list box.kind (picture_behind box at_h at_v [] box.list) later (sym w.is_empty.ensures ∙ w.if-not-is_empty.false) in
+          then_draws b.kind marked marked c.match-node.drawing own later later (same_picture b.kind marked own later none)
+          (same_drawing b.kind marked c.match-node.drawing later w.drawing-is)
+      | in_default-node w ↦
+          then_draws b.kind marked marked c.match-node.drawing own later later
+          (same_picture b.kind marked own later (leaf_picture b x_h x_v x later w.in_default-node.not-Box))
+          (same_drawing b.kind marked c.match-node.drawing later w.drawing-is)
+    ] in
+    let all = then_draws b.kind first marked c.match-node.drawing (picture_left b h v xs i) own later drawn inner in
+    record {
+      cursor =
+          c.in-Some.ensures.cursor
+          ∙ (ap (λ r. one_more b.kind b.setting r x) c.loop-node.invariant.cursor ∙ reached-more b.kind b.setting xs i x c.loop-node-test.true c.node-item.is);
+      here = c.in-Some.ensures.here;
+      left = last_of_and _ _ left;
+      makes = sym all.0 ∙ c.loop-node.invariant.makes;
+      leaves = sym all.1 ∙ c.loop-node.invariant.leaves;
+    }
 
 pub returns-clause-ops : goal.returns-clause-ops
-returns-clause-ops t c = ?
+returns-clause-ops t c =
+    let b = c.args.shown.now in
+    let h = c.args.begin.now.h in
+    let v = c.args.begin.now.v in
+    let xs = c.as_slice-node-items.result.now in
+    let i = c.loop-node.node-index in
+    let whole : items_of xs ≡ b.list = ap items_of c.as_slice-node-items.ensures.nodes ∙ items_of-nodes_of b.list in
+    let done = ap (λ after. makes b.kind c.loop-node.drawing (picture_behind b h v (take i xs) (items_of after))) (drop_all i xs c.loop-node-test.false) in
+    sym (append-nil (map view c.loop-node.drawing.ops.items))
+    ∙ (sym done ∙ (c.loop-node.invariant.makes ∙ ap (λ items. makes b.kind c.args.drawing.now (picture_behind b h v [] items)) whole))
+
+pub returns-clause-font : goal.returns-clause-font
+returns-clause-font t c =
+    let b = c.args.shown.now in
+    let h = c.args.begin.now.h in
+    let v = c.args.begin.now.v in
+    let xs = c.as_slice-node-items.result.now in
+    let i = c.loop-node.node-index in
+    let whole : items_of xs ≡ b.list = ap items_of c.as_slice-node-items.ensures.nodes ∙ items_of-nodes_of b.list in
+    let done = ap (λ after. leaves c.loop-node.drawing (picture_behind b h v (take i xs) (items_of after))) (drop_all i xs c.loop-node-test.false) in
+    sym done ∙ (c.loop-node.invariant.leaves ∙ ap (λ items. leaves c.args.drawing.now (picture_behind b h v [] items)) whole)
