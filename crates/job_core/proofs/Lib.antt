@@ -1,3 +1,5 @@
+pub mod Nests
+pub mod PackedItems
 pub mod Spelled
 pub mod Tellings
 pub mod PageBytes

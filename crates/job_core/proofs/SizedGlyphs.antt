@@ -170,28 +170,6 @@ nest_sized fonts nest more (Some l) all is here =
 items_sized : (s : State) (more : List Node) → AreSized s.fonts more → HasSizedGlyphs s → HasSizedGlyphs (with_items s more)
 items_sized s more here sized = record { nest = nest_sized s.fonts s.nest more (innermost s.nest) sized.nest refl here; registers = sized.registers }
 
--- A packed box has the items of its list.
-items_packed : (b : Bool) (p q : packs.Packed) (items : Items) → if◌then◌else◌ {A = Result packs.Packed TooLarge} b (Ok p) (Err (record { list = items })) ≡ Ok q → p ≡ q
-items_packed true p q items is = cc
-items_packed false p q items is = cc
-
-hpacked_items : (target : Target) (items : Items) (q : packs.Packed) → hpacked target items ≡ Ok q → items ≡ q.shown.list
-unfolding hpacked hbox
-hpacked_items target items q is = ap (λ (p : packs.Packed). p.shown.list) (items_packed _ _ q items is)
-
-vpacked_items : (target : Target) (limit : ℤ) (items : Items) (q : packs.Packed) → vpacked target limit items ≡ Ok q → items ≡ q.shown.list
-unfolding vpacked vbox
-vpacked_items target limit items q is = ap (λ (p : packs.Packed). p.shown.list) (items_packed _ _ q items is)
-
-vtopped_items : (target : Target) (limit : ℤ) (items : Items) (q : packs.Packed) → vtopped target limit items ≡ Ok q → items ≡ q.shown.list
-unfolding vtopped vtop_box vbox
-vtopped_items target limit items q is = ap (λ (p : packs.Packed). p.shown.list) (items_packed _ _ q items is)
-
-packed_items : (form : BoxForm) (params : Params) (target : Target) (items : Items) (q : packs.Packed) → packed_as form params target items ≡ Ok q → items ≡ q.shown.list
-packed_items Hbox params target items q is = hpacked_items target items q is
-packed_items Vbox params target items q is = vpacked_items target params.box_max_depth items q is
-packed_items Vtop params target items q is = vtopped_items target params.box_max_depth items q is
-
 box_sized : (fonts : Slots) (registers : List (Option BoxNode)) (l : OpenList) (result : Result packs.Packed TooLarge) → AllByRecursion (IsSizedHeld fonts) registers
     → AreSized fonts (nodes_of l.list) → ((q : packs.Packed) → result ≡ Ok q → l.list ≡ q.shown.list) → AllByRecursion (IsSizedHeld fonts) (with_packed registers (Some l) (if_packed result))
 box_sized fonts registers l (Err large) all sized same = all

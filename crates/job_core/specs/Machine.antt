@@ -1,5 +1,5 @@
 -- The abstract machine: what a job keeps, and what each command answers and changes (own; after TeX: The Program, parts 16, 32 and 33).
-use Rattle.std.specs.Prelude.{◌+◌, ◌-◌, ◌==◌, ◌++◌, ◌∷◌, ◌||◌, [], ℕ, pos, Bool, true, false, nat_le, nat_lt, if◌then◌else◌, List, length, take, replicate, slice_get, slice_set, Option, Some, None, is_none, is_some, unwrap_or, Result, Ok, Err}
+use Rattle.std.specs.Prelude.{◌≡◌, ◌+◌, ◌-◌, ◌==◌, ◌++◌, ◌∷◌, ◌&&◌, ◌||◌, [], ℕ, ℤ, pos, Bool, true, false, not, nat_le, nat_lt, if◌then◌else◌, List, length, take, replicate, slice_get, slice_set, Option, Some, None, is_none, is_some, unwrap_or, Result, Ok, Err, is_ok}
 use Rattle.node_core.specs.declared.tree.Node.{Node}
 use Rattle.node_core.specs.declared.tree.Node.TheVariants as nodes
 use Rattle.node_core.specs.declared.tree.Kind.{Kind}
@@ -9,21 +9,28 @@ use Rattle.node_core.specs.declared.tree.RuleSize.{RuleSize}
 use Rattle.node_core.specs.declared.tree.RuleSize.TheVariants.{Running, Fixed}
 use Rattle.node_core.specs.declared.tree.BoxNode.{BoxNode}
 use Rattle.node_core.specs.declared.params.Params.{Params}
+use Rattle.node_core.specs.declared.tree.Glue as glues
 use Rattle.node_core.specs.Items.{Items, none}
-use Rattle.node_core.specs.Nodes.{items_of, nodes_of, box_count}
+use Rattle.node_core.specs.Nodes.{items_of, nodes_of, box_count, box_depth, last_box, without}
+use Rattle.node_core.specs.Parameters.{first_params}
+use Rattle.vert_core.specs.declared.interline.DimensionTooLarge as distances
+use Rattle.vert_core.specs.Interline.{ignored_depth, interline, glue_of, appended}
 use Rattle.job_core.specs.declared.nest.OpenList.{OpenList}
 use Rattle.job_core.specs.declared.command.Sizes.{Sizes}
 use Rattle.job_core.specs.declared.command.FontLoad.{FontLoad}
 use Rattle.job_core.specs.declared.command.BoxForm.{BoxForm}
 use Rattle.job_core.specs.declared.command.BoxForm.TheVariants.{Hbox, Vbox, Vtop}
 use Rattle.job_core.specs.declared.command.Parameter.{Parameter}
-use Rattle.job_core.specs.declared.command.Parameter.TheVariants.{BoxMaxDepth}
+use Rattle.job_core.specs.declared.command.Parameter.TheVariants.{BoxMaxDepth, BaselineSkip, LineSkip, LineSkipLimit}
+use Rattle.job_core.specs.declared.command.Opening.{Opening}
+use Rattle.job_core.specs.declared.command.Taking.{Taking}
+use Rattle.job_core.specs.declared.command.Taking.TheVariants.{Moved, Copied}
 use Rattle.job_core.specs.declared.command.Command.{Command}
-use Rattle.job_core.specs.declared.command.Command.TheVariants.{LoadFont, UseFont, Open, End, Text, Character, Rule, Kern, Glue, Penalty, Measure, Void, Set, Ship}
+use Rattle.job_core.specs.declared.command.Command.TheVariants.{LoadFont, UseFont, Open, End, Text, Character, Rule, Kern, Glue, Penalty, Append, Unbox, LastBox, Measure, Void, Set, Ship}
 use Rattle.job_core.specs.declared.command.Answer.{Answer}
-use Rattle.job_core.specs.declared.command.Answer.TheVariants.{Done, Packed, Measured, MeasuredVoid, Shaped, Shipped}
+use Rattle.job_core.specs.declared.command.Answer.TheVariants.{Done, Packed, Measured, MeasuredVoid, Shaped, Added, Shipped}
 use Rattle.job_core.specs.declared.command.Refusal.{Refusal}
-use Rattle.job_core.specs.declared.command.Refusal.TheVariants.{DimensionTooLarge, NoFont, SlotTaken, NoOpenList, WrongMode, ListTooLong, TooDeep, HugePage, TooManyPages, TooMuchShipped, JobOver, VoidBox}
+use Rattle.job_core.specs.declared.command.Refusal.TheVariants.{DimensionTooLarge, NoFont, SlotTaken, NoOpenList, WrongMode, WrongKind, ListTooLong, TooDeep, HugePage, TooManyPages, TooMuchShipped, JobOver, VoidBox}
 use Rattle.job_core.specs.Reply.{Reply}
 use Rattle.pack_core.specs.declared.pack.Target.{Target}
 use Rattle.pack_core.specs.declared.pack.Packed as packs
@@ -48,9 +55,12 @@ pub record State : Type 0 where
   pub pages : ℕ
   pub over : Bool
 
--- The limits: open lists, items of an open list, pages, and nodes that are shipped in a job.
+-- The limits: open lists, how deep a box is, items of an open list, pages, and nodes that are shipped in a job.
 abbrev pub most_open : ℕ
 most_open = 64
+
+abbrev pub most_deep : ℕ
+most_deep = 200
 
 abbrev pub most_items : ℕ
 most_items = 65536
@@ -60,10 +70,6 @@ most_pages = 1
 
 abbrev pub most_shipped : ℕ
 most_shipped = 16777216
-
--- The parameters of a new job: boxmaxdepth is the greatest dimension.
-abbrev pub first_params : Params
-first_params = record { box_max_depth = pos 1073741823 }
 
 -- The state of a new job with these files.
 abbrev pub first_state : List NamedBytes → State
@@ -79,6 +85,10 @@ first_state files =
       pages = 0;
       over = false;
     }
+
+-- A list that was just opened: it has no items, and no previous depth.
+abbrev pub opened : Opening → OpenList
+opened opening = record { opening = opening; list = none; previous_depth = ignored_depth }
 
 -- The innermost open list: the last one.
 abbrev pub innermost : List OpenList → Option OpenList
@@ -98,6 +108,13 @@ abbrev pub with_nodes : List OpenList → List Node → Option OpenList → List
 with_nodes nest nodes None = nest
 with_nodes nest nodes (Some open_list) =
     slice_set nest (length nest - 1) (record open_list { list = items_of (nodes_of open_list.list ++ nodes) })
+
+-- The nest with a rule at the end of its innermost list, whose previous depth is then ignored (TeX: The Program, part 47).
+abbrev pub with_rule : List OpenList → rules.Rule → Option OpenList → List OpenList
+with_rule nest rule None = nest
+with_rule nest rule (Some open_list) =
+    slice_set nest (length nest - 1)
+    (record open_list { list = items_of (nodes_of open_list.list ++ nodes.Rule rule ∷ []); previous_depth = ignored_depth })
 
 -- How many items the innermost list has.
 abbrev pub open_count : State → ℕ
@@ -122,6 +139,35 @@ abbrev pub is_vertical : Kind → Bool
 is_vertical Horizontal = false
 is_vertical Vertical = true
 
+-- The glue in front of a box of that height: interline glue in a vertical list, none in a horizontal one.
+abbrev pub glue_by : Kind → Params → (previous height : ℤ) → Result (Option glues.Glue) distances.DimensionTooLarge
+glue_by Horizontal params previous height = Ok None
+glue_by Vertical params previous height = interline params previous height
+
+abbrev pub glue_in : Params → OpenList → (height : ℤ) → Result (Option glues.Glue) distances.DimensionTooLarge
+glue_in params open_list height = glue_by (kind_of open_list.opening.form) params open_list.previous_depth height
+
+-- The items that a box brings to an open list: that glue, and the box with its shift.
+abbrev pub box_items : Params → OpenList → (shift : ℤ) → BoxNode → List Node
+box_items params open_list shift b = appended (glue_of (glue_in params open_list b.height)) shift b
+
+-- The list with a box at its end: the previous depth is then that of the box.
+abbrev pub list_with_box : Params → (shift : ℤ) → BoxNode → OpenList → OpenList
+list_with_box params shift b open_list =
+    record open_list { list = items_of (nodes_of open_list.list ++ box_items params open_list shift b); previous_depth = b.depth }
+
+-- The nest with a box at the end of its innermost list.
+abbrev pub with_box : Params → List OpenList → (shift : ℤ) → BoxNode → Option OpenList → List OpenList
+with_box params nest shift b None = nest
+with_box params nest shift b (Some open_list) = slice_set nest (length nest - 1) (list_with_box params shift b open_list)
+
+-- The nest without a box at the end of its innermost list.
+abbrev pub without_last : List OpenList → Option OpenList → List OpenList
+without_last nest None = nest
+without_last nest (Some open_list) =
+    slice_set nest (length nest - 1)
+    (record open_list { list = items_of (without (last_box (nodes_of open_list.list)) (nodes_of open_list.list)) })
+
 -- The box that a list of items becomes, or the items where a size does not fit; a vbox is no deeper than boxmaxdepth.
 abbrev pub packed_as : BoxForm → Params → Target → Items → Result packs.Packed TooLarge
 packed_as Hbox params target items = hpacked target items
@@ -137,11 +183,10 @@ abbrev pub packed_list : Params → Option OpenList → Option packs.Packed
 packed_list params None = None
 packed_list params (Some open_list) = if_packed (packed_as open_list.opening.form params open_list.opening.target open_list.list)
 
--- The registers with the box of a list that was closed.
-abbrev pub with_packed : List (Option BoxNode) → Option OpenList → Option packs.Packed → List (Option BoxNode)
-with_packed registers None packed = registers
-with_packed registers (Some open_list) None = registers
-with_packed registers (Some open_list) (Some packed) = slice_set registers open_list.opening.into (Some packed.shown)
+-- The registers when the box of one was taken from it.
+abbrev pub with_taken : Taking → List (Option BoxNode) → ℕ → List (Option BoxNode)
+with_taken Moved registers r = slice_set registers r None
+with_taken Copied registers r = registers
 
 -- Whether a size of a rule is running.
 abbrev pub is_running : RuleSize → Bool
@@ -156,6 +201,9 @@ is_misplaced Vertical rule = is_running rule.height || is_running rule.depth
 -- The parameters with one of them changed.
 abbrev pub with_parameter : Params → Parameter → Params
 with_parameter params (BoxMaxDepth depth) = record params { box_max_depth = depth }
+with_parameter params (BaselineSkip glue) = record params { baseline_skip = glue }
+with_parameter params (LineSkip glue) = record params { line_skip = glue }
+with_parameter params (LineSkipLimit limit) = record params { line_skip_limit = limit }
 
 -- How many nodes a register holds: the box and its items.
 abbrev pub count_in : Option BoxNode → ℕ
@@ -200,9 +248,69 @@ shape_checks m shaped = character_checks m ++ length_checks m shaped.items
 abbrev pub item_checks : State → List (Bool × Refusal)
 item_checks m = (length m.nest == 0, NoOpenList) ∷ (nat_le most_items (open_count m), ListTooLong) ∷ []
 
+-- The refusals of a list that is opened: a box without a register goes into the enclosing list.
+abbrev pub open_checks : List OpenList → Option ℕ → List (Bool × Refusal)
+open_checks nest into = (is_none into && (length nest == 0), NoOpenList) ∷ (nat_le most_open (length nest), TooDeep) ∷ []
+
+-- The refusals of a box at the end of an open list: the glue in front of it does not fit, or the list would be too long.
+abbrev pub box_checks : Params → Option OpenList → BoxNode → List (Bool × Refusal)
+box_checks params None b = (true, NoOpenList) ∷ []
+box_checks params (Some open_list) b =
+    (not (is_ok (glue_in params open_list b.height)), DimensionTooLarge)
+    ∷ (nat_lt most_items (length (nodes_of open_list.list) + length (box_items params open_list (pos 0) b)), ListTooLong) ∷ []
+
+-- Those of the box of a closed list: a register takes any box.
+abbrev pub home_checks : Params → (around : List OpenList) → (into : Option ℕ) → BoxNode → List (Bool × Refusal)
+home_checks params around None b = box_checks params (innermost around) b
+home_checks params around (Some r) b = []
+
+-- And those with the depth of the box.
+abbrev pub place_checks : Params → (around : List OpenList) → (into : Option ℕ) → BoxNode → List (Bool × Refusal)
+place_checks params around into b = (nat_lt most_deep (box_depth b), TooDeep) ∷ home_checks params around into b
+
+abbrev pub packed_checks : Params → (around : List OpenList) → (into : Option ℕ) → Option packs.Packed → List (Bool × Refusal)
+packed_checks params around into None = (true, DimensionTooLarge) ∷ []
+packed_checks params around into (Some packed) = place_checks params around into packed.shown
+
+-- The refusals of the end of an open list that has these lists around.
+abbrev pub close_checks : Params → (around : List OpenList) → Option OpenList → List (Bool × Refusal)
+close_checks params around None = (true, NoOpenList) ∷ []
+close_checks params around (Some open_list) = packed_checks params around open_list.opening.into (packed_list params (Some open_list))
+
 -- The refusals of the end of the innermost list.
 abbrev pub end_checks : Params → List OpenList → List (Bool × Refusal)
-end_checks params nest = (length nest == 0, NoOpenList) ∷ (is_none (packed_list params (innermost nest)), DimensionTooLarge) ∷ []
+end_checks params nest = close_checks params (outer nest) (innermost nest)
+
+-- Whether the box of an open list goes into the list around it.
+abbrev pub GoesIntoList : Option OpenList → Type 0
+GoesIntoList None = ⊥
+GoesIntoList (Some open_list) = open_list.opening.into ≡ None
+
+-- The refusals of the box of a register at the end of the innermost list; a void register adds nothing.
+abbrev pub held_checks : Params → Option OpenList → Option BoxNode → List (Bool × Refusal)
+held_checks params open_list None = []
+held_checks params open_list (Some b) = box_checks params open_list b
+
+abbrev pub append_checks : State → (register : ℕ) → List (Bool × Refusal)
+append_checks m r = (length m.nest == 0, NoOpenList) ∷ held_checks m.params (innermost m.nest) (held_in m.registers r)
+
+-- Whether two lists do not go the same way.
+abbrev pub is_other : Kind → Kind → Bool
+is_other Horizontal Horizontal = false
+is_other Vertical Vertical = false
+is_other Horizontal Vertical = true
+is_other Vertical Horizontal = true
+
+-- The refusals of the items of a box at the end of a list of that kind that has so many.
+abbrev pub items_checks : Kind → (count : ℕ) → Option BoxNode → List (Bool × Refusal)
+items_checks kind count None = []
+items_checks kind count (Some b) =
+    (is_other kind b.kind, WrongKind) ∷ (nat_lt most_items (count + length (nodes_of b.list)), ListTooLong) ∷ []
+
+abbrev pub unbox_checks : State → Kind → (register : ℕ) → List (Bool × Refusal)
+unbox_checks m kind r =
+    (length m.nest == 0, NoOpenList) ∷ (is_other kind (kind_in (innermost m.nest)), WrongMode)
+    ∷ items_checks kind (open_count m) (held_in m.registers r)
 
 -- The refusals of each command in their order, each with the condition under which it is given.
 abbrev pub own_checks : State → Command → List (Bool × Refusal)
@@ -210,7 +318,7 @@ own_checks m (LoadFont load) = (is_some (font_in m.fonts load.slot), SlotTaken) 
 own_checks m (UseFont slot) = (is_none (font_in m.fonts slot), NoFont) ∷ []
 own_checks m (Text text) = shape_checks m (text_shaped m.fonts m.current text)
 own_checks m (Character code) = shape_checks m (character_shaped m.fonts m.current code)
-own_checks m (Open opening) = (nat_le most_open (length m.nest), TooDeep) ∷ []
+own_checks m (Open opening) = open_checks m.nest opening.into
 own_checks m End = end_checks m.params m.nest
 own_checks m (Rule rule) =
     (length m.nest == 0, NoOpenList) ∷ (is_misplaced (kind_in (innermost m.nest)) rule, WrongMode)
@@ -218,6 +326,9 @@ own_checks m (Rule rule) =
 own_checks m (Kern width) = item_checks m
 own_checks m (Glue glue) = item_checks m
 own_checks m (Penalty n) = item_checks m
+own_checks m (Append taken) = append_checks m taken.register
+own_checks m (Unbox taken) = unbox_checks m taken.kind taken.register
+own_checks m (LastBox r) = (length m.nest == 0, NoOpenList) ∷ []
 own_checks m (Measure r) = []
 own_checks m (Void r) = []
 own_checks m (Set parameter) = []
@@ -250,6 +361,16 @@ measured (Some b) = Measured b.kind (sizes_of b)
 abbrev pub shaped_answer : slots.Shaped → Answer
 shaped_answer shaped = Shaped (length shaped.items) shaped.missing
 
+-- How many items the box of a register brings to the innermost list, and how many there are in it.
+abbrev pub box_count_in : Params → Option OpenList → Option BoxNode → ℕ
+box_count_in params None held = 0
+box_count_in params (Some open_list) None = 0
+box_count_in params (Some open_list) (Some b) = length (box_items params open_list (pos 0) b)
+
+abbrev pub nodes_in : Option BoxNode → List Node
+nodes_in None = []
+nodes_in (Some b) = nodes_of b.list
+
 -- The answer to a command that is accepted.
 abbrev pub answer_of : State → Command → Answer
 answer_of m (LoadFont load) = Done
@@ -262,6 +383,9 @@ answer_of m (Rule rule) = Done
 answer_of m (Kern width) = Done
 answer_of m (Glue glue) = Done
 answer_of m (Penalty n) = Done
+answer_of m (Append taken) = Added (box_count_in m.params (innermost m.nest) (held_in m.registers taken.register))
+answer_of m (Unbox taken) = Added (length (nodes_in (held_in m.registers taken.register)))
+answer_of m (LastBox r) = Done
 answer_of m (Measure r) = measured (held_in m.registers r)
 answer_of m (Void r) = Done
 answer_of m (Set parameter) = Done
@@ -271,18 +395,47 @@ answer_of m (Ship r) = Shipped (m.pages + 1)
 abbrev pub with_items : State → List Node → State
 with_items m items = record m { nest = with_nodes m.nest items (innermost m.nest) }
 
+-- The state when the box of a closed list went into its register, or behind the innermost of the lists around.
+abbrev pub with_home : State → (around : List OpenList) → (into : Option ℕ) → BoxNode → State
+with_home m around None b = record m { nest = with_box m.params around (pos 0) b (innermost around) }
+with_home m around (Some r) b = record m { nest = around; registers = slice_set m.registers r (Some b) }
+
+abbrev pub with_closed : State → Option OpenList → Option packs.Packed → State
+with_closed m None packed = m
+with_closed m (Some open_list) None = m
+with_closed m (Some open_list) (Some packed) = with_home m (outer m.nest) open_list.opening.into packed.shown
+
+-- The state with the box of a register at the end of the innermost list.
+abbrev pub with_used : State → Taking → (register : ℕ) → (shift : ℤ) → Option BoxNode → State
+with_used m taking r shift None = m
+with_used m taking r shift (Some b) =
+    record m { nest = with_box m.params m.nest shift b (innermost m.nest); registers = with_taken taking m.registers r }
+
+-- That with the items of the box.
+abbrev pub with_unboxed : State → Taking → (register : ℕ) → Option BoxNode → State
+with_unboxed m taking r None = m
+with_unboxed m taking r (Some b) =
+    record m { nest = with_nodes m.nest (nodes_of b.list) (innermost m.nest); registers = with_taken taking m.registers r }
+
 -- The state after a command that is accepted.
 abbrev pub after : State → Command → State
 after m (LoadFont load) = record m { fonts = with_font m.fonts load.slot load.name (font_for m load) }
 after m (UseFont slot) = record m { current = Some slot }
 after m (Text text) = with_items m (text_shaped m.fonts m.current text).items
 after m (Character code) = with_items m (character_shaped m.fonts m.current code).items
-after m (Open opening) = record m { nest = m.nest ++ record { opening = opening; list = none } ∷ [] }
-after m End = record m { nest = outer m.nest; registers = with_packed m.registers (innermost m.nest) (packed_list m.params (innermost m.nest)) }
-after m (Rule rule) = with_items m (nodes.Rule rule ∷ [])
+after m (Open opening) = record m { nest = m.nest ++ opened opening ∷ [] }
+after m End = with_closed m (innermost m.nest) (packed_list m.params (innermost m.nest))
+after m (Rule rule) = record m { nest = with_rule m.nest rule (innermost m.nest) }
 after m (Kern width) = with_items m (nodes.Kern width ∷ [])
 after m (Glue glue) = with_items m (nodes.Glue glue ∷ [])
 after m (Penalty n) = with_items m (nodes.Penalty n ∷ [])
+after m (Append taken) = with_used m taken.taking taken.register taken.shift (held_in m.registers taken.register)
+after m (Unbox taken) = with_unboxed m taken.taking taken.register (held_in m.registers taken.register)
+after m (LastBox r) =
+    record m {
+      nest = without_last m.nest (innermost m.nest);
+      registers = slice_set m.registers r (last_box (nodes_of (items_in (innermost m.nest))));
+    }
 after m (Measure r) = m
 after m (Void r) = record m { registers = slice_set m.registers r None }
 after m (Set parameter) = record m { params = with_parameter m.params parameter }

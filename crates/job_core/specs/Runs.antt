@@ -2,35 +2,37 @@
 use Rattle.std.specs.Prelude.{◌≡◌, ◌≢◌, ◌<◌, ◌==◌, [], ◌∷◌, ℕ, Bool, false, not, List, length, Option, Some, None, is_none, is_some, IfSome, Result, Ok, Err}
 use Rattle.std.specs.List.{AllByRecursion}
 use Rattle.job_core.specs.declared.command.Command.{Command}
-use Rattle.job_core.specs.declared.command.Command.TheVariants.{LoadFont, UseFont, Open, End, Text, Character, Rule, Kern, Glue, Penalty, Measure, Void, Set, Ship}
+use Rattle.job_core.specs.declared.command.Command.TheVariants.{LoadFont, UseFont, Open, End, Text, Character, Rule, Kern, Glue, Penalty, Append, Unbox, LastBox, Measure, Void, Set, Ship}
 use Rattle.job_core.specs.declared.command.Refusal.{Refusal}
 use Rattle.job_core.specs.declared.command.Refusal.TheVariants.{OutOfMemory, NoFont, SlotTaken, Device, ListsOpen, JobOver}
 use Rattle.job_core.specs.declared.command.Summary.{Summary}
 use Rattle.job_core.specs.Reply.{Reply}
 use Rattle.ship_core.specs.Marks.{Page, is_huge}
-use Rattle.node_core.specs.Nodes.{nodes_of}
 use Rattle.tfm_core.specs.NamedBytes.{file_named}
 use Rattle.job_core.specs.FontSlots.{Slots, font_in}
-use Rattle.job_core.specs.Sized.{AreSized}
+use Rattle.job_core.specs.Sized.{IsSoundBox}
 use Rattle.job_core.specs.Draft.{Draft, draft_of, with_pages}
-use Rattle.job_core.specs.Machine.{State, Machine, checks, character_checks, first_of, reply_to, state_by, new_pages, step, stopped, page_of}
+use Rattle.job_core.specs.Machine.{State, Machine, innermost, GoesIntoList, checks, character_checks, first_of, reply_to, state_by, new_pages, step, stopped, page_of}
 
--- The commands for which memory may be wanted.
-abbrev pub TakesMemory : Command → Type 0
-TakesMemory (LoadFont load) = Unit {0}
-TakesMemory (UseFont slot) = ⊥
-TakesMemory (Open opening) = Unit {0}
-TakesMemory End = ⊥
-TakesMemory (Text text) = Unit {0}
-TakesMemory (Character code) = Unit {0}
-TakesMemory (Rule rule) = Unit {0}
-TakesMemory (Kern width) = Unit {0}
-TakesMemory (Glue glue) = Unit {0}
-TakesMemory (Penalty n) = Unit {0}
-TakesMemory (Measure r) = ⊥
-TakesMemory (Void r) = ⊥
-TakesMemory (Set parameter) = ⊥
-TakesMemory (Ship r) = Unit {0}
+-- The commands for which memory may be wanted. The end of a list takes none where the box goes into a register.
+abbrev pub TakesMemory : State → Command → Type 0
+TakesMemory m (LoadFont load) = Unit {0}
+TakesMemory m (UseFont slot) = ⊥
+TakesMemory m (Open opening) = Unit {0}
+TakesMemory m End = GoesIntoList (innermost m.nest)
+TakesMemory m (Text text) = Unit {0}
+TakesMemory m (Character code) = Unit {0}
+TakesMemory m (Rule rule) = Unit {0}
+TakesMemory m (Kern width) = Unit {0}
+TakesMemory m (Glue glue) = Unit {0}
+TakesMemory m (Penalty n) = Unit {0}
+TakesMemory m (Append taken) = Unit {0}
+TakesMemory m (Unbox taken) = Unit {0}
+TakesMemory m (LastBox r) = ⊥
+TakesMemory m (Measure r) = ⊥
+TakesMemory m (Void r) = ⊥
+TakesMemory m (Set parameter) = ⊥
+TakesMemory m (Ship r) = Unit {0}
 
 -- The refusals that are found before any memory is taken, in their order: all but those that a font file's bytes, its size or the number of
 -- items of a text decide.
@@ -49,7 +51,7 @@ IsShip command = ⊥
 -- says; or memory was wanted for a command that no early check refuses, and it stays; or the device failed in an accepted ship, and it stops.
 pub data Steps (m : Machine) (n : ℕ) (command : Command) (reply : Reply) (next : Machine) (k : ℕ) : Type 0 where
   Replies : reply ≡ reply_to m.state command → next ≡ step m command → k ≡ n → Steps m n command reply next k
-  LacksMemory : reply ≡ Err OutOfMemory → TakesMemory command → first_of (early_checks m.state command) ≡ None → next ≡ m → k ≡ n → Steps m n command reply next k
+  LacksMemory : reply ≡ Err OutOfMemory → TakesMemory m.state command → first_of (early_checks m.state command) ≡ None → next ≡ m → k ≡ n → Steps m n command reply next k
   LosesDevice : reply ≡ Err Device → IsShip command → first_of (checks m.state command) ≡ None → next ≡ stopped m → n < k → Steps m n command reply next k
 
 -- A machine takes the commands one after the other, one reply a command.
@@ -82,9 +84,9 @@ pub record Seen : Type 0 where
 abbrev pub draft_after : State → Draft → Command → Draft
 draft_after s draft command = state_by (first_of (checks s command)) draft (with_pages s.fonts draft (new_pages s command))
 
--- A page that a ship makes: it is that of its box, is not huge, and its glyphs have the sizes that the fonts give.
+-- A page that a ship makes: it is that of its box, is not huge, and its glyphs, in inner boxes too, have the sizes that the fonts give.
 abbrev pub IsShipped : Slots → Page → Type 0
-IsShipped fonts page = (page ≡ page_of page.shown) × (is_huge page ≡ false) × AreSized fonts (nodes_of page.shown.list)
+IsShipped fonts page = (page ≡ page_of page.shown) × (is_huge page ≡ false) × IsSoundBox fonts page.shown
 
 -- A job stands for a machine: it keeps the machine's state, and until it is over the draft of its pages; no byte has gone out by then.
 pub record Holds (job : Seen) (m : Machine) : Type 0 where

@@ -30,9 +30,6 @@ impl Model for Register {
 }
 
 impl Register {
-    /// The register of number 0.
-    pub const FIRST: Register = Register { number: 0 };
-
     /// The register of that number, or None exactly where there is none.
     pub fn try_new(number: u64) -> Option<Register>
         ensures { SomeIff result (number < 256) number }
@@ -118,12 +115,37 @@ impl BoxForm {
     }
 }
 
-/// Which list is opened: what it becomes, how large, and the register that the box goes into.
+/// Which list is opened: what it becomes, how large, and the register that the box goes into; none where it goes into the enclosing list.
 #[derive(Clone, Copy, Debug, PartialEq, Eq)]
 pub struct Opening {
     pub form: BoxForm,
     pub target: Target,
-    pub into: Register,
+    pub into: Option<Register>,
+}
+
+/// How a command takes the box of a register.
+#[derive(Clone, Copy, Debug, PartialEq, Eq)]
+pub enum Taking {
+    /// The box itself: the register becomes void.
+    Moved,
+    /// A copy: the register keeps its box.
+    Copied,
+}
+
+/// Which register's box is appended, and how far it is shifted, in scaled points: down in a horizontal list, to the right in a vertical one.
+#[derive(Clone, Copy, Debug, PartialEq, Eq)]
+pub struct BoxUse {
+    pub register: Register,
+    pub taking: Taking,
+    pub shift: Dimen,
+}
+
+/// Which register's items are appended: those of a box of that kind.
+#[derive(Clone, Copy, Debug, PartialEq, Eq)]
+pub struct Unboxing {
+    pub kind: Kind,
+    pub register: Register,
+    pub taking: Taking,
 }
 
 /// A parameter and a value for it.
@@ -131,6 +153,12 @@ pub struct Opening {
 pub enum Parameter {
     /// How deep a vbox may be, in scaled points: boxmaxdepth.
     BoxMaxDepth(Dimen),
+    /// The glue that sets the baselines of two boxes apart: baselineskip.
+    BaselineSkip(Glue),
+    /// The glue between boxes that would come too near: lineskip.
+    LineSkip(Glue),
+    /// How near boxes may come, in scaled points: lineskiplimit.
+    LineSkipLimit(Dimen),
 }
 
 /// A command to a job.
@@ -142,7 +170,7 @@ pub enum Command {
     UseFont(u8),
     /// Opens a list.
     Open(Opening),
-    /// Packs the innermost open list and puts the box into its register.
+    /// Packs the innermost open list and puts the box into its register or behind the enclosing list.
     End,
     /// Appends a text in the current font to the innermost open list: words with their kerns and ligatures, and a glue for each run of
     /// spaces.
@@ -157,6 +185,12 @@ pub enum Command {
     Glue(Glue),
     /// Appends a penalty to the innermost open list.
     Penalty(Number),
+    /// Appends the box of a register to the innermost open list, with interline glue in front of it in a vertical one.
+    Append(BoxUse),
+    /// Appends the items of a register's box to the innermost open list.
+    Unbox(Unboxing),
+    /// Takes the last item of the innermost open list, if it is a box, into a register, which else becomes void.
+    LastBox(Register),
     /// Tells what a register holds.
     Measure(Register),
     /// Makes a register void.
@@ -188,6 +222,8 @@ pub enum Answer {
     MeasuredVoid,
     /// How many items characters added to the open list, and how many of them are missing in the font.
     Shaped { items: usize, missing: usize },
+    /// How many items were added to the open list.
+    Added(usize),
     /// The number of pages that were shipped so far.
     Shipped(u32),
 }
@@ -209,9 +245,11 @@ pub enum Refusal {
     NoOpenList,
     #[error("the command does not belong in this kind of list")]
     WrongMode,
+    #[error("the register holds the other kind of box")]
+    WrongKind,
     #[error("an open list would exceed 65536 items")]
     ListTooLong,
-    #[error("more than 64 lists would be open")]
+    #[error("more than 64 lists would be open, or a box is deeper than 200")]
     TooDeep,
     #[error("a place or size of the page does not fit")]
     HugePage,

@@ -46,7 +46,7 @@ fn obey(kept: &mut Kept, writer: &mut Writer, command: &Command) -> Result<Reply
     ensures state { OnOk result (kept.new ≡ state_after kept.old command.now) }
     ensures draft { OnOk result (writer.new ≡ draft_after kept.old writer.old command.now) }
     ensures numbers { IfOk result (λ reply. IfOk reply (λ answer. GivesNumbersFor kept.old command.now)) }
-    ensures takes { OnErr result (TakesMemory command.now) }
+    ensures takes { OnErr result (TakesMemory kept.old command.now) }
     ensures early { OnErr result (first_of (early_checks kept.old command.now) ≡ None) }
     ensures err { OnErr result (kept.new ≡ kept.old) }
     ensures same { OnErr result (writer.new ≡ writer.old) }
@@ -58,13 +58,16 @@ fn obey(kept: &mut Kept, writer: &mut Writer, command: &Command) -> Result<Reply
         Command::LoadFont(load) => kept.load_font(load),
         Command::UseFont(slot) => Ok(kept.use_font(*slot)),
         Command::Open(opening) => kept.open_list(*opening),
-        Command::End => Ok(kept.end()),
+        Command::End => kept.end(),
         Command::Text(text) => kept.append_text(text),
         Command::Character(code) => kept.append_character(*code),
         Command::Rule(rule) => kept.append_rule(*rule),
         Command::Kern(width) => kept.append_item(Node::Kern(*width)),
         Command::Glue(glue) => kept.append_item(Node::Glue(*glue)),
         Command::Penalty(number) => kept.append_item(Node::Penalty(number.get())),
+        Command::Append(taken) => kept.append_box(taken),
+        Command::Unbox(taken) => kept.unbox(taken),
+        Command::LastBox(register) => Ok(kept.last_box(*register)),
         Command::Measure(register) => Ok(kept.measure(*register)),
         Command::Void(register) => Ok(kept.void(*register)),
         Command::Set(parameter) => Ok(kept.set(*parameter)),

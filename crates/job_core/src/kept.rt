@@ -5,16 +5,20 @@ ghost use Rattle.job_core.specs.declared.command.Command.TheVariants as commands
 ghost use Rattle.job_core.specs.FontSlots as slots;
 ghost use Rattle.job_core.specs.FontSlots.{font_in, text_shaped};
 ghost use Rattle.job_core.specs.Loaded.{GivesNumbers};
-ghost use Rattle.job_core.specs.Machine.{first_state, held_in, checks, first_of, reply_by, reply_to, state_by, state_after, after, sizes_of, character_checks, item_checks, length_checks, shaped_answer, with_items, is_running, is_misplaced};
+ghost use Rattle.node_core.specs.Nodes.{most_nodes, nodes_of};
+ghost use Rattle.job_core.specs.Closings.{refilled};
+ghost use Rattle.job_core.specs.Machine.{first_state, innermost, outer, items_in, held_in, nodes_in, checks, first_of, reply_by, reply_to, state_by, state_after, after, sizes_of, character_checks, item_checks, length_checks, held_checks, home_checks, place_checks, shaped_answer, with_items, with_used, with_unboxed, with_home, GoesIntoList, is_other, is_running, is_misplaced};
 ghost use Rattle.job_core.specs.Runs.{early_checks};
 
 use crate::command::{
-    Answer, Characters, FontLoad, Opening, Parameter, Refusal, Register, Reply, Sizes,
+    Answer, BoxUse, Characters, FontLoad, Opening, Parameter, Refusal, Register, Reply, Sizes, Taking,
+    Unboxing,
 };
 use crate::fonts::{Fonts, LoadedFont, read_font};
 use crate::nest::Nest;
 use crate::registers::Registers;
 use node_core::{BoxNode, Kind, Node, Params, Rule, RuleSize};
+use pack_core::Packed;
 use scaled_core::Dimen;
 use shape_core::{Missing, shape_character, shape_text};
 use ship_core::is_huge;
@@ -236,7 +240,11 @@ impl Kept {
         ensures err { OnErr result (self.new ≡ self.old) }
         ensures admitted { OnErr result (first_of (checks self.old (commands.Open opening)) ≡ None) }
     {
-        if self.nest.len() >= 64 {
+        let count = self.nest.len();
+        if opening.into.is_none() && count == 0 {
+            return Ok(Err(Refusal::NoOpenList));
+        }
+        if count >= 64 {
             return Ok(Err(Refusal::TooDeep));
         }
         self.nest.begin(opening)?;
@@ -274,19 +282,209 @@ impl Kept {
         if is_misplaced(innermost.opening.form.kind(), &rule) {
             return Ok(Err(Refusal::WrongMode));
         }
-        self.append_item(Node::Rule(rule))
+        if innermost.list.len() >= 65536 {
+            return Ok(Err(Refusal::ListTooLong));
+        }
+        self.nest.append_rule(rule)?;
+        Ok(Ok(Answer::Done))
     }
 
-    /// Packs the innermost list into its register.
-    pub fn end(&mut self) -> Reply
+    /// Appends the box of a register.
+    pub fn append_box(&mut self, taken: &BoxUse) -> Result<Reply, AllocError>
         requires { self.old.over ≡ false }
-        ensures reply { result ≡ reply_to self.old commands.End }
-        ensures state { self.new ≡ state_after self.old commands.End }
+        ensures reply { IfOk result (λ reply. reply ≡ reply_to self.old (commands.Append taken.now)) }
+        ensures state { OnOk result (self.new ≡ state_after self.old (commands.Append taken.now)) }
+        ensures err { OnErr result (self.new ≡ self.old) }
+        ensures admitted { OnErr result (first_of (checks self.old (commands.Append taken.now)) ≡ None) }
     {
-        let closed = self.nest.close(&self.params)?;
-        let answer = Answer::Packed(sizes_of(&closed.packed.shown), closed.packed.badness);
-        self.registers.put(closed.into, Some(closed.packed.shown));
-        Ok(answer)
+        let Some(innermost) = self.nest.innermost() else {
+            return Ok(Err(Refusal::NoOpenList));
+        };
+        let Some(shown) = self.registers.get(taken.register) else {
+            return Ok(Ok(Answer::Added(0)));
+        };
+        let count = match innermost.room_for_box(shown, &self.params) {
+            Ok(count) => count,
+            Err(refusal) => return Ok(Err(refusal)),
+        };
+        match taken.taking {
+            Taking::Moved => self.move_box(taken.register, taken.shift)?,
+            Taking::Copied => self.copy_box(taken.register, taken.shift)?,
+        }
+        Ok(Ok(Answer::Added(count)))
+    }
+
+    /// Moves the box of a register to the end of the innermost list, where it may stand.
+    fn move_box(&mut self, register: Register, shift: Dimen) -> Result<(), AllocError>
+        requires { first_of (held_checks self.old.params (innermost self.old.nest) (held_in self.old.registers register)) ≡ None }
+        ensures ok { OnOk result (self.new ≡ with_used self.old Taking.Moved register shift (held_in self.old.registers register)) }
+        ensures err { OnErr result (self.new ≡ self.old) }
+    {
+        let Some(shown) = self.registers.take(register) else {
+            return Ok(());
+        };
+        match self.nest.append_box(shown, shift, &self.params) {
+            Ok(()) => Ok(()),
+            Err(shown) => {
+                self.registers.put(register, Some(shown));
+                Err(AllocError)
+            }
+        }
+    }
+
+    /// Puts a copy of the box of a register at the end of the innermost list, where it may stand.
+    fn copy_box(&mut self, register: Register, shift: Dimen) -> Result<(), AllocError>
+        requires { first_of (held_checks self.old.params (innermost self.old.nest) (held_in self.old.registers register)) ≡ None }
+        ensures ok { OnOk result (self.new ≡ with_used self.old Taking.Copied register shift (held_in self.old.registers register)) }
+        ensures err { OnErr result (self.new ≡ self.old) }
+    {
+        let Some(shown) = self.registers.get(register) else {
+            return Ok(());
+        };
+        let copy = shown.copy(*self.files.allocator())?;
+        match self.nest.append_box(copy, shift, &self.params) {
+            Ok(()) => Ok(()),
+            Err(_) => Err(AllocError),
+        }
+    }
+
+    /// Appends the items of the box of a register.
+    pub fn unbox(&mut self, taken: &Unboxing) -> Result<Reply, AllocError>
+        requires { self.old.over ≡ false }
+        ensures reply { IfOk result (λ reply. reply ≡ reply_to self.old (commands.Unbox taken.now)) }
+        ensures state { OnOk result (self.new ≡ state_after self.old (commands.Unbox taken.now)) }
+        ensures err { OnErr result (self.new ≡ self.old) }
+        ensures admitted { OnErr result (first_of (checks self.old (commands.Unbox taken.now)) ≡ None) }
+    {
+        let Some(innermost) = self.nest.innermost() else {
+            return Ok(Err(Refusal::NoOpenList));
+        };
+        if is_other(taken.kind, innermost.opening.form.kind()) {
+            return Ok(Err(Refusal::WrongMode));
+        }
+        let Some(shown) = self.registers.get(taken.register) else {
+            return Ok(Ok(Answer::Added(0)));
+        };
+        if is_other(taken.kind, shown.kind) {
+            return Ok(Err(Refusal::WrongKind));
+        }
+        let count = shown.list.len();
+        if innermost.list.len() + count > 65536 {
+            return Ok(Err(Refusal::ListTooLong));
+        }
+        match taken.taking {
+            Taking::Moved => self.move_items(taken.register)?,
+            Taking::Copied => self.copy_items(taken.register)?,
+        }
+        Ok(Ok(Answer::Added(count)))
+    }
+
+    /// Moves the items of the box of a register to the end of the innermost list, where they have room.
+    fn move_items(&mut self, register: Register) -> Result<(), AllocError>
+        requires { length (nodes_of (items_in (innermost self.old.nest))) + length (nodes_in (held_in self.old.registers register)) ≤ most_nodes }
+        ensures ok { OnOk result (self.new ≡ with_unboxed self.old Taking.Moved register (held_in self.old.registers register)) }
+        ensures err { OnErr result (self.new ≡ self.old) }
+    {
+        let Some(mut shown) = self.registers.take(register) else {
+            return Ok(());
+        };
+        match self.nest.append_list(&mut shown.list) {
+            Ok(()) => Ok(()),
+            Err(AllocError) => {
+                self.registers.put(register, Some(shown));
+                Err(AllocError)
+            }
+        }
+    }
+
+    /// Puts copies of the items of the box of a register at the end of the innermost list, where they have room.
+    fn copy_items(&mut self, register: Register) -> Result<(), AllocError>
+        requires { length (nodes_of (items_in (innermost self.old.nest))) + length (nodes_in (held_in self.old.registers register)) ≤ most_nodes }
+        ensures ok { OnOk result (self.new ≡ with_unboxed self.old Taking.Copied register (held_in self.old.registers register)) }
+        ensures err { OnErr result (self.new ≡ self.old) }
+    {
+        let Some(shown) = self.registers.get(register) else {
+            return Ok(());
+        };
+        let mut copy = shown.list.copy(*self.files.allocator())?;
+        self.nest.append_list(&mut copy)
+    }
+
+    /// Takes the last item of the innermost list, if it is a box, into a register, which else becomes void.
+    pub fn last_box(&mut self, register: Register) -> Reply
+        requires { self.old.over ≡ false }
+        ensures reply { result ≡ reply_to self.old (commands.LastBox register) }
+        ensures state { self.new ≡ state_after self.old (commands.LastBox register) }
+    {
+        if self.nest.len() == 0 {
+            return Err(Refusal::NoOpenList);
+        }
+        let last = self.nest.pop_box();
+        self.registers.put(register, last);
+        Ok(Answer::Done)
+    }
+
+    /// Packs the innermost list, and puts the box into its register or behind the list around it.
+    pub fn end(&mut self) -> Result<Reply, AllocError>
+        requires { self.old.over ≡ false }
+        ensures reply { IfOk result (λ reply. reply ≡ reply_to self.old commands.End) }
+        ensures state { OnOk result (self.new ≡ state_after self.old commands.End) }
+        ensures err { OnErr result (self.new ≡ self.old) }
+        ensures admitted { OnErr result (first_of (checks self.old commands.End) ≡ None) }
+        ensures takes { OnErr result (GoesIntoList (innermost self.old.nest)) }
+    {
+        let Some(innermost) = self.nest.innermost() else {
+            return Ok(Err(Refusal::NoOpenList));
+        };
+        let into = innermost.opening.into;
+        let Some(Packed { shown, badness }) = self.nest.pack(&self.params) else {
+            return Ok(Err(Refusal::DimensionTooLarge));
+        };
+        if let Some(refusal) = self.refusal_of(&into, &shown) {
+            self.nest.refill(shown.list);
+            return Ok(Err(refusal));
+        }
+        let sizes = sizes_of(&shown);
+        self.settle(into, shown)?;
+        Ok(Ok(Answer::Packed(sizes, badness)))
+    }
+
+    /// Why the box of the innermost list may not go into its register or behind the list around it, if it may not.
+    fn refusal_of(&self, into: &Option<Register>, shown: &BoxNode) -> Option<Refusal>
+        ensures { result ≡ first_of (place_checks self.now.params (outer self.now.nest) into.now shown.now) }
+    {
+        if shown.depth() > 200 {
+            return Some(Refusal::TooDeep);
+        }
+        if into.is_some() {
+            return None;
+        }
+        let Some(around) = self.nest.around() else {
+            return Some(Refusal::NoOpenList);
+        };
+        around.room_for_box(shown, &self.params).err()
+    }
+
+    /// Takes the innermost list away, and puts its box into a register or behind the list around it. Where memory is refused, the list gets the
+    /// items of the box.
+    fn settle(&mut self, into: Option<Register>, shown: BoxNode) -> Result<(), AllocError>
+        requires { first_of (home_checks self.old.params (outer self.old.nest) into shown) ≡ None }
+        ensures ok { OnOk result (self.new ≡ with_home self.old (outer self.old.nest) into shown) }
+        ensures err { OnErr result (self.new ≡ record self.old { nest = refilled self.old.nest shown.list (innermost self.old.nest) }) }
+        ensures takes { OnErr result (into ≡ None) }
+    {
+        let Some(register) = into else {
+            return match self.nest.close_into(shown, &self.params) {
+                Ok(()) => Ok(()),
+                Err(shown) => {
+                    self.nest.refill(shown.list);
+                    Err(AllocError)
+                }
+            };
+        };
+        self.nest.leave();
+        self.registers.put(register, Some(shown));
+        Ok(())
     }
 
     /// Tells what a register holds.
@@ -319,6 +517,9 @@ impl Kept {
     {
         match parameter {
             Parameter::BoxMaxDepth(depth) => self.params.box_max_depth = depth,
+            Parameter::BaselineSkip(glue) => self.params.baseline_skip = glue,
+            Parameter::LineSkip(glue) => self.params.line_skip = glue,
+            Parameter::LineSkipLimit(limit) => self.params.line_skip_limit = limit,
         }
         Ok(Answer::Done)
     }
@@ -369,6 +570,13 @@ fn sizes_of(shown: &BoxNode) -> Sizes
         height: shown.height,
         depth: shown.depth,
     }
+}
+
+/// Whether two lists do not go the same way.
+fn is_other(a: Kind, b: Kind) -> bool
+    ensures { result ≡ is_other a b }
+{
+    a != b
 }
 
 /// Whether a size of a rule is running.

@@ -1,24 +1,29 @@
 //! The open lists of a job.
 
-ghost use Rattle.std.specs.Prelude.{◌≡◌, ◌<◌, ◌≤◌, ◌+◌, ◌-◌, ◌++◌, ◌∷◌, ℕ, [], List, length, take, slice_get, slice_set, None, OnOk, OnErr, IfOk, IfErr, IfSome, IsTrue, Some, is_some, option_copied, option_map};
+ghost use Rattle.std.specs.Prelude.{◌≡◌, ◌<◌, ◌≤◌, ◌+◌, ◌-◌, ◌++◌, ◌∷◌, ℕ, [], pos, List, length, take, slice_get, slice_set, None, OnOk, OnErr, IfOk, IfErr, IfSome, IsOk, Some, Ok, Err, option_copied};
 ghost use Rattle.node_core.specs.Items.{none};
-ghost use Rattle.node_core.specs.Nodes.{most_nodes, items_of, nodes_of};
-ghost use Rattle.job_core.specs.Machine.{innermost, items_in, outer, with_nodes, packed_as, packed_list, with_packed, end_checks, first_of};
+ghost use Rattle.node_core.specs.Nodes.{most_nodes, items_of, nodes_of, last_box, without};
+ghost use Rattle.vert_core.specs.Interline.{interline, glue_of, appended};
+ghost use Rattle.job_core.specs.Machine.{opened, kind_of, innermost, items_in, outer, with_nodes, with_rule, glue_in, box_items, list_with_box, with_box, without_last, packed_as, packed_list, box_checks, first_of};
+ghost use Rattle.job_core.specs.Closings.{emptied, refilled};
 
-use crate::command::{BoxForm, Opening, Refusal, Register};
-use node_core::{Node, NodeList, Params};
+use crate::command::{BoxForm, Opening, Refusal};
+use node_core::{BoxNode, Glue, Kind, Node, NodeList, Params, Rule};
 use pack_core::{Packed, Target, TooLarge, hpack, vpack, vtop};
+use scaled_core::Dimen;
 use smallvec::SmallVec;
 use std::alloc::{AllocError, Global};
 use std::default::MadeWith;
 use std::marker::Model;
 use std::mem::replace;
+use vert_core::{DimensionTooLarge, append_box, interline_glue};
 
-/// An open list, and how it was opened.
+/// An open list, how it was opened, and the depth of its last box: -1000pt or less where it counts as none.
 #[derive(Debug, Drop)]
 pub struct OpenList {
     pub opening: Opening,
     pub list: NodeList,
+    pub previous_depth: Dimen,
 }
 
 impl MadeWith<Global> for OpenList {
@@ -27,18 +32,12 @@ impl MadeWith<Global> for OpenList {
             opening: Opening {
                 form: BoxForm::Hbox,
                 target: Target::Natural,
-                into: Register::FIRST,
+                into: None,
             },
             list: NodeList::new(alloc),
+            previous_depth: Dimen::IGNORE_DEPTH,
         }
     }
-}
-
-/// The box of a list that was closed, and the register that it goes into.
-#[derive(Debug, Drop)]
-pub struct Closed {
-    pub into: Register,
-    pub packed: Packed,
 }
 
 /// The box that a list becomes, or the list where a size does not fit.
@@ -53,12 +52,29 @@ fn pack_as(opening: Opening, params: &Params, list: NodeList) -> Result<Packed, 
     }
 }
 
+/// Puts a box at the end of a list, or gives it back where the growth is refused.
+fn push_box(list: &mut NodeList, shown: BoxNode, shift: Dimen) -> Result<(), BoxNode>
+    requires { length (nodes_of list.old) < most_nodes }
+    ensures ok { OnOk result (list.new ≡ items_of (nodes_of list.old ++ Node.Box shift shown ∷ [])) }
+    ensures err { OnErr result (list.new ≡ list.old) }
+    ensures back { IfErr result (λ back. back ≡ shown) }
+{
+    match list.push(Node::Box(shift, shown)) {
+        Ok(()) => Ok(()),
+        Err(failed) => match failed.value {
+            Node::Box(_, shown) => Err(shown),
+            _ => unreachable!(),
+        },
+    }
+}
+
 impl OpenList {
     /// The box of the list, which is then empty; or None where a size does not fit, and the list stays as it was.
     fn pack(&mut self, alloc: Global, params: &Params) -> Option<Packed>
         ensures value { result ≡ packed_list params.now (Some self.old) }
-        ensures opening { self.new.opening ≡ self.old.opening }
+        ensures some { IfSome result (λ packed. self.new ≡ record self.old { list = none }) }
         ensures none { result ≡ None → self.new ≡ self.old }
+        ensures list { IfSome result (λ packed. packed.shown.list ≡ self.old.list) }
     {
         let list = replace(&mut self.list, NodeList::new(alloc));
         match pack_as(self.opening, params, list) {
@@ -67,6 +83,79 @@ impl OpenList {
                 self.list = large.list;
                 None
             }
+        }
+    }
+
+    /// The glue in front of a box of that height at the end of the list; None where there is none.
+    fn glue_before(&self, height: Dimen, params: &Params) -> Result<Option<Glue>, DimensionTooLarge>
+        ensures { result ≡ glue_in params.now self.now height }
+    {
+        match self.opening.form.kind() {
+            Kind::Horizontal => Ok(None),
+            Kind::Vertical => interline_glue(self.previous_depth, height, params),
+        }
+    }
+
+    /// How many items a box brings to the list, or why it may not stand at its end.
+    pub fn room_for_box(&self, shown: &BoxNode, params: &Params) -> Result<usize, Refusal>
+        ensures ok { OnOk result (first_of (box_checks params.now (Some self.now) shown.now) ≡ None) }
+        ensures count { IfOk result (λ count. count ≡ length (box_items params.now self.now (pos 0) shown.now)) }
+        ensures err { IfErr result (λ refusal. first_of (box_checks params.now (Some self.now) shown.now) ≡ Some refusal) }
+    {
+        let count = match self.glue_before(shown.height, params) {
+            Err(_) => return Err(Refusal::DimensionTooLarge),
+            Ok(None) => 1,
+            Ok(Some(_)) => 2,
+        };
+        if self.list.len() + count > 65536 {
+            return Err(Refusal::ListTooLong);
+        }
+        Ok(count)
+    }
+
+    /// Puts a box at the end of a horizontal list.
+    fn append_across(&mut self, shown: BoxNode, shift: Dimen) -> Result<(), BoxNode>
+        requires { length (nodes_of self.old.list) < most_nodes }
+        ensures ok { OnOk result (self.new ≡ record self.old { list = items_of (nodes_of self.old.list ++ appended None shift shown); previous_depth = shown.depth }) }
+        ensures err { OnErr result (self.new ≡ self.old) }
+        ensures back { IfErr result (λ back. back ≡ shown) }
+    {
+        let depth = shown.depth;
+        push_box(&mut self.list, shown, shift)?;
+        self.previous_depth = depth;
+        Ok(())
+    }
+
+    /// Puts a box at the end of a vertical list, with the glue in front of it.
+    fn append_down(&mut self, alloc: Global, shown: BoxNode, shift: Dimen, params: &Params) -> Result<(), BoxNode>
+        requires short { length (nodes_of self.old.list) + 2 ≤ most_nodes }
+        requires fits { IsOk (interline params.now self.old.previous_depth shown.height) }
+        ensures ok { OnOk result (self.new ≡ record self.old { list = items_of (nodes_of self.old.list ++ appended (glue_of (interline params.now self.old.previous_depth shown.height)) shift shown); previous_depth = shown.depth }) }
+        ensures err { OnErr result (self.new ≡ self.old) }
+        ensures back { IfErr result (λ back. back ≡ shown) }
+    {
+        let mut nodes = replace(&mut self.list, NodeList::new(alloc)).into_vec();
+        let result = append_box(&mut nodes, shown, shift, self.previous_depth, params);
+        self.list = NodeList::from_vec(nodes);
+        match result {
+            Ok(depth) => {
+                self.previous_depth = depth;
+                Ok(())
+            }
+            Err(unappended) => Err(unappended.shown),
+        }
+    }
+
+    /// Puts a box at the end of the list; where memory is refused, it comes back, and the list is as it was.
+    pub fn append_box(&mut self, alloc: Global, shown: BoxNode, shift: Dimen, params: &Params) -> Result<(), BoxNode>
+        requires { first_of (box_checks params.now (Some self.old) shown) ≡ None }
+        ensures ok { OnOk result (self.new ≡ list_with_box params.now shift shown self.old) }
+        ensures err { OnErr result (self.new ≡ self.old) }
+        ensures back { IfErr result (λ back. back ≡ shown) }
+    {
+        match self.opening.form.kind() {
+            Kind::Horizontal => self.append_across(shown, shift),
+            Kind::Vertical => self.append_down(alloc, shown, shift, params),
         }
     }
 }
@@ -130,11 +219,15 @@ impl Nest {
     /// Opens a list without nodes inside the others.
     pub fn begin(&mut self, opening: Opening) -> Result<(), AllocError>
         requires { length self.old < 64 }
-        ensures ok { OnOk result (self.new ≡ self.old ++ record { opening = opening; list = none } ∷ []) }
+        ensures ok { OnOk result (self.new ≡ self.old ++ opened opening ∷ []) }
         ensures err { OnErr result (self.new ≡ self.old) }
     {
         let list = NodeList::new(*self.lists.allocator());
-        self.lists.push(OpenList { opening, list })?;
+        self.lists.push(OpenList {
+            opening,
+            list,
+            previous_depth: Dimen::IGNORE_DEPTH,
+        })?;
         Ok(())
     }
 
@@ -173,27 +266,147 @@ impl Nest {
         innermost.list.extend(nodes)
     }
 
-    /// Packs the innermost list and takes it away; where that is refused, the lists stay as they were.
-    pub fn close(&mut self, params: &Params) -> Result<Closed, Refusal>
-        ensures ok { IfOk result (λ closed. (packed_list params.now (innermost self.old) ≡ Some closed.packed) × (option_map (λ l. l.opening.into) (innermost self.old) ≡ Some closed.into)) }
-        ensures rest { OnOk result (self.new ≡ outer self.old) }
-        ensures admitted { OnOk result (first_of (end_checks params.now self.old) ≡ None) }
-        ensures err { IfErr result (λ refusal. first_of (end_checks params.now self.old) ≡ Some refusal) }
-        ensures same { OnErr result (self.new ≡ self.old) }
+    /// Puts a rule at the end of the innermost list, whose previous depth is then ignored.
+    pub fn append_rule(&mut self, rule: Rule) -> Result<(), AllocError>
+        requires { length (nodes_of (items_in (innermost self.old))) < most_nodes }
+        ensures ok { OnOk result (self.new ≡ with_rule self.old rule (innermost self.old)) }
+        ensures err { OnErr result (self.new ≡ self.old) }
+    {
+        let count = self.lists.len();
+        if count == 0 {
+            return Ok(());
+        }
+        let Some(innermost) = self.lists.get_mut(count - 1) else {
+            return Ok(());
+        };
+        match innermost.list.push(Node::Rule(rule)) {
+            Ok(()) => {
+                innermost.previous_depth = Dimen::IGNORE_DEPTH;
+                Ok(())
+            }
+            Err(_) => Err(AllocError),
+        }
+    }
+
+    /// Puts the nodes of another list, which is then empty, at the end of the innermost list, in order. Where memory is refused, both are as
+    /// they were.
+    pub fn append_list(&mut self, list: &mut NodeList) -> Result<(), AllocError>
+        requires { length (nodes_of (items_in (innermost self.old))) + length (nodes_of list.old) ≤ most_nodes }
+        ensures ok { OnOk result (self.new ≡ with_nodes self.old (nodes_of list.old) (innermost self.old)) }
+        ensures err { OnErr result (self.new ≡ self.old) }
+        ensures back { OnErr result (list.new ≡ list.old) }
+    {
+        let count = self.lists.len();
+        if count == 0 {
+            return Ok(());
+        }
+        let Some(innermost) = self.lists.get_mut(count - 1) else {
+            return Ok(());
+        };
+        innermost.list.append(list)
+    }
+
+    /// Puts a box at the end of the innermost list; where memory is refused, it comes back.
+    pub fn append_box(&mut self, shown: BoxNode, shift: Dimen, params: &Params) -> Result<(), BoxNode>
+        requires { first_of (box_checks params.now (innermost self.old) shown) ≡ None }
+        ensures ok { OnOk result (self.new ≡ with_box params.now self.old shift shown (innermost self.old)) }
+        ensures err { OnErr result (self.new ≡ self.old) }
+        ensures back { IfErr result (λ back. back ≡ shown) }
     {
         let alloc = *self.lists.allocator();
         let count = self.lists.len();
         if count == 0 {
-            return Err(Refusal::NoOpenList);
+            return Err(shown);
         }
         let Some(innermost) = self.lists.get_mut(count - 1) else {
-            return Err(Refusal::NoOpenList);
+            return Err(shown);
         };
-        let Some(packed) = innermost.pack(alloc, params) else {
-            return Err(Refusal::DimensionTooLarge);
+        innermost.append_box(alloc, shown, shift, params)
+    }
+
+    /// Takes the last item of the innermost list away, if it is a box.
+    pub fn pop_box(&mut self) -> Option<BoxNode>
+        ensures value { result ≡ last_box (nodes_of (items_in (innermost self.old))) }
+        ensures rest { self.new ≡ without_last self.old (innermost self.old) }
+    {
+        let count = self.lists.len();
+        if count == 0 {
+            return None;
+        }
+        let Some(innermost) = self.lists.get_mut(count - 1) else {
+            return None;
         };
-        let into = innermost.opening.into;
+        innermost.list.pop_box()
+    }
+
+    /// The box of the innermost list, which is then empty; None where there is no list or a size does not fit, and the lists stay as they
+    /// were.
+    pub fn pack(&mut self, params: &Params) -> Option<Packed>
+        ensures value { result ≡ packed_list params.now (innermost self.old) }
+        ensures some { IfSome result (λ packed. self.new ≡ emptied self.old (innermost self.old)) }
+        ensures none { result ≡ None → self.new ≡ self.old }
+        ensures list { IfSome result (λ packed. packed.shown.list ≡ items_in (innermost self.old)) }
+    {
+        let alloc = *self.lists.allocator();
+        let count = self.lists.len();
+        if count == 0 {
+            return None;
+        }
+        let Some(innermost) = self.lists.get_mut(count - 1) else {
+            return None;
+        };
+        innermost.pack(alloc, params)
+    }
+
+    /// Gives the innermost list these items.
+    pub fn refill(&mut self, list: NodeList)
+        ensures { self.new ≡ refilled self.old list (innermost self.old) }
+    {
+        let count = self.lists.len();
+        if count == 0 {
+            return;
+        }
+        let Some(innermost) = self.lists.get_mut(count - 1) else {
+            return;
+        };
+        innermost.list = list;
+    }
+
+    /// Takes the innermost list away.
+    pub fn leave(&mut self)
+        ensures { self.new ≡ outer self.old }
+    {
         let _ = self.lists.pop();
-        Ok(Closed { into, packed })
+    }
+
+    /// The list around the innermost one.
+    pub fn around(&self) -> Option<&OpenList>
+        ensures { option_copied result ≡ innermost (outer self.now) }
+    {
+        let count = self.lists.len();
+        if count < 2 {
+            return None;
+        }
+        self.lists.get(count - 2)
+    }
+
+    /// Puts a box at the end of the list around the innermost one, and takes that one away; where memory is refused, the box comes back.
+    pub fn close_into(&mut self, shown: BoxNode, params: &Params) -> Result<(), BoxNode>
+        requires { first_of (box_checks params.now (innermost (outer self.old)) shown) ≡ None }
+        ensures ok { OnOk result (self.new ≡ with_box params.now (outer self.old) (pos 0) shown (innermost (outer self.old))) }
+        ensures err { OnErr result (self.new ≡ self.old) }
+        ensures back { IfErr result (λ back. back ≡ shown) }
+    {
+        let alloc = *self.lists.allocator();
+        let count = self.lists.len();
+        if count < 2 {
+            return Err(shown);
+        }
+        let Some(around) = self.lists.get_mut(count - 2) else {
+            return Err(shown);
+        };
+        around.append_box(alloc, shown, Dimen::ZERO, params)?;
+        let _ = self.lists.pop();
+        Ok(())
     }
 }

@@ -48,6 +48,14 @@ impl Registers {
         self.boxes[register.number()].as_ref()
     }
 
+    /// Takes the box out of a register, which is then void.
+    pub fn take(&mut self, register: Register) -> Option<BoxNode>
+        ensures value { result ≡ held_in self.old register }
+        ensures void { self.new ≡ slice_set self.old register None }
+    {
+        self.boxes[register.number()].take()
+    }
+
     /// Puts a box into a register, or makes it void.
     pub fn put(&mut self, register: Register, held: Option<BoxNode>)
         ensures { self.new ≡ slice_set self.old register held }

@@ -17,7 +17,7 @@ pub fn refusals_change_nothing()
 
 /// Want of memory is answered only to commands that take memory: never to use, end, measure, void and set.
 pub fn memory_is_wanted_by_few()
-    ensures { (m next : Machine) (n k : ℕ) (command : Command) → Steps m n command (Err refusals.OutOfMemory) next k → TakesMemory command }
+    ensures { (m next : Machine) (n k : ℕ) (command : Command) → Steps m n command (Err refusals.OutOfMemory) next k → TakesMemory m.state command }
 {}
 
 /// A fault of the device is answered only where its count of failures rose.
