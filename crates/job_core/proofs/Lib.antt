@@ -1,3 +1,5 @@
+pub mod Leaves
+pub mod KeptRest
 pub mod Nests
 pub mod PackedItems
 pub mod Spelled

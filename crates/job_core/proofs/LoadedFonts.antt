@@ -14,10 +14,11 @@ use Rattle.tfm_core.specs.FileWidths.{file_widths, widths_of_file, widths_by, wi
 use Rattle.tfm_core.proofs.ByteLemmas.{byte-glyph_of}
 use Rattle.job_core.specs.declared.fonts.LoadedFont.{LoadedFont}
 use Rattle.job_core.specs.declared.command.Command.{Command}
-use Rattle.job_core.specs.declared.command.Command.TheVariants.{LoadFont, UseFont, Open, End, Text, Character, Rule, Kern, Glue, Penalty, Measure, Void, Set, Ship}
+use Rattle.job_core.specs.declared.command.Command.TheVariants.{LoadFont, UseFont, Open, End, Text, Character, Rule, Kern, Glue, Penalty, Append, Unbox, LastBox, Measure, Void, Set, Ship}
 use Rattle.job_core.specs.declared.command.Refusal.{Refusal}
 use Rattle.job_core.specs.declared.command.Refusal.TheVariants.{DimensionTooLarge}
 use Rattle.job_core.specs.FontSlots.{Slots, font_in, sized_font, font_of, with_font}
+use Rattle.job_core.proofs.KeptRest.{KeepsRest, end_keeps, append_keeps, unbox_keeps}
 use Rattle.job_core.specs.Loaded.{IsLoaded, AreLoaded, GivesNumbersFor}
 use Rattle.job_core.specs.Machine.{State, checks, first_of, font_for, after}
 use Rattle.job_core.proofs.SizedGlyphs.{each_set, each_at, each_copy}
@@ -54,19 +55,26 @@ with_font_loaded files fonts slot name size (Ok font) is named numbers loaded =
           (record { read = read_again (file_named name files) size font is; name = named; numbers = numbers });
     }
 
+still_loaded : (s t : State) → KeepsRest s t → AreLoaded s.files s.fonts → AreLoaded t.files t.fonts
+still_loaded s t keeps loaded =
+    subst (λ (files : List NamedBytes). AreLoaded files t.fonts) (sym keeps.files) (subst (λ (fonts : Slots). AreLoaded s.files fonts) (sym keeps.fonts) loaded)
+
 -- A command that is accepted leaves them so.
 pub loaded_after : (s : State) (command : Command) → first_of (checks s command) ≡ None → GivesNumbersFor s command → AreLoaded s.files s.fonts
     → AreLoaded (after s command).files (after s command).fonts
 loaded_after s (LoadFont load) may gives loaded = with_font_loaded s.files s.fonts load.slot load.name load.size (font_for s load) refl gives.0 gives.1 loaded
 loaded_after s (UseFont slot) may gives loaded = loaded
 loaded_after s (Open opening) may gives loaded = loaded
-loaded_after s End may gives loaded = loaded
+loaded_after s End may gives loaded = still_loaded s (after s End) (end_keeps s) loaded
 loaded_after s (Text text) may gives loaded = loaded
 loaded_after s (Character code) may gives loaded = loaded
 loaded_after s (Rule rule) may gives loaded = loaded
 loaded_after s (Kern width) may gives loaded = loaded
 loaded_after s (Glue glue) may gives loaded = loaded
 loaded_after s (Penalty n) may gives loaded = loaded
+loaded_after s (Append taken) may gives loaded = still_loaded s (after s (Append taken)) (append_keeps s taken) loaded
+loaded_after s (Unbox taken) may gives loaded = still_loaded s (after s (Unbox taken)) (unbox_keeps s taken) loaded
+loaded_after s (LastBox r) may gives loaded = loaded
 loaded_after s (Measure r) may gives loaded = loaded
 loaded_after s (Void r) may gives loaded = loaded
 loaded_after s (Set parameter) may gives loaded = loaded

@@ -7,19 +7,19 @@ use Rattle.tfm_core.specs.NamedBytes.{NamedBytes, file_named}
 use Rattle.tfm_core.specs.Fonts.{SizedFont}
 use Rattle.tfm_core.specs.FileWidths.{width_at}
 use Rattle.tfm_core.specs.declared.font.GlyphSize.{GlyphSize}
-use Rattle.node_core.specs.declared.tree.Node.{Node}
 use Rattle.node_core.specs.declared.tree.Glyph as glyph_type
-use Rattle.node_core.specs.declared.tree.Node.TheVariants as nodes
 use Rattle.node_core.specs.declared.tree.BoxNode.{BoxNode}
-use Rattle.node_core.specs.Nodes.{nodes_of}
+use Rattle.node_core.specs.Items.{Leaf, glyph, font_kern, kern, glue, penalty, rule}
 use Rattle.dvi_ops.proofs.Appends.{all_append, all_weaker}
 use Rattle.job_core.specs.declared.fonts.LoadedFont.{LoadedFont}
 use Rattle.job_core.specs.declared.command.Command.{Command}
-use Rattle.job_core.specs.declared.command.Command.TheVariants.{LoadFont, UseFont, Open, End, Text, Character, Rule, Kern, Glue, Penalty, Measure, Void, Set, Ship}
+use Rattle.job_core.specs.declared.command.Command.TheVariants.{LoadFont, UseFont, Open, End, Text, Character, Rule, Kern, Glue, Penalty, Append, Unbox, LastBox, Measure, Void, Set, Ship}
 use Rattle.job_core.specs.declared.command.Refusal.{Refusal}
 use Rattle.job_core.specs.Reply.{Reply}
 use Rattle.job_core.specs.FontSlots.{Slots, font_in, font_of, with_font, glyph_by}
-use Rattle.job_core.specs.Sized.{IsSized, AreSized, HasSizedGlyphs}
+use Rattle.job_core.specs.Sized.{IsSizedLeaf, IsSoundBox, HasSizedGlyphs}
+use Rattle.job_core.proofs.Leaves.{each_leaf}
+use Rattle.job_core.proofs.KeptRest.{KeepsRest, end_keeps, append_keeps, unbox_keeps}
 use Rattle.ship_core.specs.Marks.{Page}
 use Rattle.job_core.specs.Machine.{State, Machine, first_machine, checks, first_of, after, font_for, held_in, pages_of, new_pages, state_by}
 use Rattle.job_core.specs.Runs.{Steps, Replies, LacksMemory, LosesDevice, Run}
@@ -38,7 +38,7 @@ AreRead s = AllByRecursion (λ slot. IfSome slot (IsRead s.files)) s.fonts
 record IsKnown (m : Machine) : Type 0 where
   read : AreRead m.state
   sized : HasSizedGlyphs m.state
-  pages : AllByRecursion (λ page. AreSized m.state.fonts (nodes_of page.shown.list)) m.pages
+  pages : AllByRecursion (λ page. IsSoundBox m.state.fonts page.shown) m.pages
 
 read_with : (files : List NamedBytes) (fonts : Slots) (slot : ℕ) (name : List ℕ) (size : Option _) (read : Result SizedFont Refusal) → font_of (file_named name files) size ≡ read
     → AllByRecursion (λ slot. IfSome slot (IsRead files)) fonts → AllByRecursion (λ slot. IfSome slot (IsRead files)) (with_font fonts slot name read)
@@ -46,24 +46,32 @@ read_with files fonts slot name size (Err refusal) is all = all
 read_with files fonts slot name size (Ok font) is all =
     each_set (λ slot. IfSome slot (IsRead files)) fonts slot (Some (record { name = name; font = font })) all (read_again (file_named name files) size font is)
 
+still_read : (s t : State) → KeepsRest s t → AreRead s → AreRead t
+still_read s t keeps all =
+    subst (λ (files : List NamedBytes). AllByRecursion (λ slot. IfSome slot (IsRead files)) t.fonts) (sym keeps.files)
+    (subst (λ (fonts : Slots). AllByRecursion (λ slot. IfSome slot (IsRead s.files)) fonts) (sym keeps.fonts) all)
+
 read_after : (s : State) (command : Command) → AreRead s → AreRead (after s command)
 read_after s (LoadFont load) all = read_with s.files s.fonts load.slot load.name load.size (font_for s load) refl all
 read_after s (UseFont slot) all = all
 read_after s (Open opening) all = all
-read_after s End all = all
+read_after s End all = still_read s (after s End) (end_keeps s) all
 read_after s (Text text) all = all
 read_after s (Character code) all = all
 read_after s (Rule rule) all = all
 read_after s (Kern width) all = all
 read_after s (Glue glue) all = all
 read_after s (Penalty n) all = all
+read_after s (Append taken) all = still_read s (after s (Append taken)) (append_keeps s taken) all
+read_after s (Unbox taken) all = still_read s (after s (Unbox taken)) (unbox_keeps s taken) all
+read_after s (LastBox r) all = all
 read_after s (Measure r) all = all
 read_after s (Void r) all = all
 read_after s (Set parameter) all = all
 read_after s (Ship r) all = all
 
 abbrev IsSizedPage : Slots → Page → Type 0
-IsSizedPage fonts page = AreSized fonts (nodes_of page.shown.list)
+IsSizedPage fonts page = IsSoundBox fonts page.shown
 
 sized_page : (s : State) (r : ℕ) (held : Option BoxNode) → held_in s.registers r ≡ held → HasSizedGlyphs s → AllByRecursion (IsSizedPage s.fonts) (pages_of held)
 sized_page s r None is sized = tt
@@ -80,6 +88,9 @@ new_sized s (Rule rule) sized = tt
 new_sized s (Kern width) sized = tt
 new_sized s (Glue glue) sized = tt
 new_sized s (Penalty n) sized = tt
+new_sized s (Append taken) sized = tt
+new_sized s (Unbox taken) sized = tt
+new_sized s (LastBox r) sized = tt
 new_sized s (Measure r) sized = tt
 new_sized s (Void r) sized = tt
 new_sized s (Set parameter) sized = tt
@@ -94,7 +105,7 @@ known_step m command None is known =
       sized = sized_after m.state command is known.sized;
       pages =
           all_weaker (IsSizedPage m.state.fonts) (IsSizedPage (after m.state command).fonts) (m.pages ++ new_pages m.state command)
-          (λ page sized. stays_sized m.state command is (nodes_of page.shown.list) sized)
+          (λ page sized. stays_sized m.state command is page.shown sized)
           (all_append (IsSizedPage m.state.fonts) m.pages (new_pages m.state command) known.pages (new_sized m.state command known.sized));
     }
 
@@ -130,13 +141,13 @@ measured_glyph s g (Some loaded) all is sized =
       width = ap (option_map (λ (size : GlyphSize). size.width)) sized;
     }
 
-measured : (s : State) → AreRead s → (x : Node) → IsSized s.fonts x → IsMeasured s x
-measured s all (nodes.Glyph g) sized = measured_glyph s g (font_in s.fonts g.slot) all refl sized
-measured s all (nodes.FontKern width) sized = tt
-measured s all (nodes.Kern width) sized = tt
-measured s all (nodes.Glue glue) sized = tt
-measured s all (nodes.Penalty penalty) sized = tt
-measured s all (nodes.Rule rule) sized = tt
+measured : (s : State) → AreRead s → (x : Leaf) → IsSizedLeaf s.fonts x → IsMeasured s x
+measured s all (glyph g) sized = measured_glyph s g (font_in s.fonts g.slot) all refl sized
+measured s all (font_kern width) sized = tt
+measured s all (kern width) sized = tt
+measured s all (glue g) sized = tt
+measured s all (penalty p) sized = tt
+measured s all (rule sizes) sized = tt
 
 pub measured_pages : (files : List NamedBytes) (n : ℕ) (commands : List Command) (replies : List Reply) (m : Machine) (k : ℕ) → Run (first_machine files) n commands replies m k
     → AllByRecursion (IsMeasuredPage m.state) m.pages
@@ -144,4 +155,4 @@ measured_pages files n commands replies m k run =
     let first : IsKnown (first_machine files) = record { read = each_copy (λ slot. IfSome slot (IsRead files)) 256 None tt; sized = sized_first files; pages = tt } in
     let known = known_run (first_machine files) n commands replies m k run first in
     all_weaker (IsSizedPage m.state.fonts) (IsMeasuredPage m.state) m.pages
-    (λ page sized. all_weaker (IsSized m.state.fonts) (IsMeasured m.state) (nodes_of page.shown.list) (measured m.state known.read) sized) known.pages
+    (λ page sized. each_leaf (IsSizedLeaf m.state.fonts) (IsMeasured m.state) (measured m.state known.read) page.shown.list sized.glyphs) known.pages

@@ -12,7 +12,7 @@ use Rattle.dvi_ops.specs.Forest.{flat}
 use Rattle.dvi_ops.specs.Layout.{bytes_of, define, sheet_from, table_widths}
 use Rattle.dvi_ops.proofs.Appends.{all_append, all_weaker}
 use Rattle.job_core.specs.declared.command.Command.{Command}
-use Rattle.job_core.specs.declared.command.Command.TheVariants.{LoadFont, UseFont, Open, End, Text, Character, Rule, Kern, Glue, Penalty, Measure, Void, Set, Ship}
+use Rattle.job_core.specs.declared.command.Command.TheVariants.{LoadFont, UseFont, Open, End, Text, Character, Rule, Kern, Glue, Penalty, Append, Unbox, LastBox, Measure, Void, Set, Ship}
 use Rattle.job_core.specs.declared.command.Refusal.{Refusal}
 use Rattle.job_core.specs.declared.command.Refusal.TheVariants.{OutOfMemory, JobOver, VoidBox, TooManyPages, TooMuchShipped, HugePage}
 use Rattle.job_core.specs.Reply.{Reply}
@@ -27,6 +27,7 @@ use Rattle.job_core.specs.Room.{HasRoom}
 use Rattle.job_core.specs.FontSlots.{Slots}
 use Rattle.job_core.specs.Loaded.{AreLoaded, GivesNumbersFor}
 use Rattle.job_core.specs.Sized.{IsSizedHeld, HasSizedGlyphs}
+use Rattle.job_core.proofs.KeptRest.{end_keeps, append_keeps, unbox_keeps}
 use Rattle.job_core.proofs.SizedGlyphs.{sized_first, sized_after, sized_held, stays_sized, stays_loaded}
 use Rattle.job_core.proofs.LoadedFonts.{loaded_first, loaded_after}
 use Rattle.job_core.proofs.DefinedFonts.{Extends, HasSelected, fresh_same, definitions_same, fresh_parts, among_fresh, defined_once, few_defined, none_rising}
@@ -69,13 +70,16 @@ after-over : (s : State) (command : Command) → (after s command).over ≡ s.ov
 after-over s (LoadFont load) = refl
 after-over s (UseFont slot) = refl
 after-over s (Open opening) = refl
-after-over s End = refl
+after-over s End = (end_keeps s).over
 after-over s (Text text) = refl
 after-over s (Character code) = refl
 after-over s (Rule rule) = refl
 after-over s (Kern width) = refl
 after-over s (Glue glue) = refl
 after-over s (Penalty n) = refl
+after-over s (Append taken) = (append_keeps s taken).over
+after-over s (Unbox taken) = (unbox_keeps s taken).over
+after-over s (LastBox r) = refl
 after-over s (Measure r) = refl
 after-over s (Void r) = refl
 after-over s (Set parameter) = refl
@@ -93,13 +97,16 @@ after-pages : (s : State) (command : Command) → first_of (checks s command) �
 after-pages s (LoadFont load) none = omega arith
 after-pages s (UseFont slot) none = omega arith
 after-pages s (Open opening) none = omega arith
-after-pages s End none = omega arith
+after-pages s End none = omega (arith, (end_keeps s).pages)
 after-pages s (Text text) none = omega arith
 after-pages s (Character code) none = omega arith
 after-pages s (Rule rule) none = omega arith
 after-pages s (Kern width) none = omega arith
 after-pages s (Glue glue) none = omega arith
 after-pages s (Penalty n) none = omega arith
+after-pages s (Append taken) none = omega (arith, (append_keeps s taken).pages)
+after-pages s (Unbox taken) none = omega (arith, (unbox_keeps s taken).pages)
+after-pages s (LastBox r) none = omega arith
 after-pages s (Measure r) none = omega arith
 after-pages s (Void r) none = omega arith
 after-pages s (Set parameter) none = omega arith
@@ -173,6 +180,9 @@ new_shipped s (Rule rule) none sized = tt
 new_shipped s (Kern width) none sized = tt
 new_shipped s (Glue glue) none sized = tt
 new_shipped s (Penalty n) none sized = tt
+new_shipped s (Append taken) none sized = tt
+new_shipped s (Unbox taken) none sized = tt
+new_shipped s (LastBox r) none sized = tt
 new_shipped s (Measure r) none sized = tt
 new_shipped s (Void r) none sized = tt
 new_shipped s (Set parameter) none sized = tt
@@ -194,7 +204,7 @@ pub record KnowsFonts (s : State) : Type 0 where
 
 stays_shipped : (s : State) (command : Command) (pages : List Page) → first_of (checks s command) ≡ None → AllByRecursion (IsShipped s.fonts) pages → AllByRecursion (IsShipped (after s command).fonts) pages
 stays_shipped s command pages none all =
-    all_weaker (IsShipped s.fonts) (IsShipped (after s command).fonts) pages (λ page of. (of.0, of.1, stays_sized s command none (nodes_of page.shown.list) of.2)) all
+    all_weaker (IsShipped s.fonts) (IsShipped (after s command).fonts) pages (λ page of. (of.0, of.1, stays_sized s command none page.shown of.2)) all
 
 all_shipped :
     (s : State) (command : Command) (pages : List Page) (refused : Option Refusal) → first_of (checks s command) ≡ refused → (s.over ≡ false → KnowsFonts s)
@@ -248,11 +258,11 @@ replied old new command reply says goes drafts tells fails knows m holds = (
 pub lacking :
     (old : Seen) (command : Command) (reply : Reply)
     → reply ≡ Err OutOfMemory
-    → TakesMemory command
+    → TakesMemory old.state command
     → first_of (early_checks old.state command) ≡ None
     → KeepsTo old command reply old
 lacking old command reply says takes accepted m holds =
-    (m, LacksMemory says takes (sym (ap (λ s. first_of (early_checks s command)) holds.state) ∙ accepted) refl refl, holds)
+    (m, LacksMemory says (subst (λ (s : State). TakesMemory s command) holds.state takes) (sym (ap (λ s. first_of (early_checks s command)) holds.state) ∙ accepted) refl refl, holds)
 
 -- What a job knows of its fonts behind a command.
 knows_after : (s : State) (command : Command) → first_of (checks s command) ≡ None → GivesNumbersFor s command → AreLoaded s.files s.fonts → HasSizedGlyphs s
@@ -319,13 +329,16 @@ pub roomy : (s : State) (draft : Draft) (command : Command) → (first_of (check
 roomy s draft (LoadFont load) numbers room = steady_room s draft (LoadFont load) (first_of (checks s (LoadFont load))) refl numbers refl refl refl room
 roomy s draft (UseFont slot) numbers room = steady_room s draft (UseFont slot) (first_of (checks s (UseFont slot))) refl numbers refl refl refl room
 roomy s draft (Open opening) numbers room = steady_room s draft (Open opening) (first_of (checks s (Open opening))) refl numbers refl refl refl room
-roomy s draft End numbers room = steady_room s draft End (first_of (checks s End)) refl numbers refl refl refl room
+roomy s draft End numbers room = steady_room s draft End (first_of (checks s End)) refl numbers (end_keeps s).shipped (end_keeps s).pages refl room
 roomy s draft (Text text) numbers room = steady_room s draft (Text text) (first_of (checks s (Text text))) refl numbers refl refl refl room
 roomy s draft (Character code) numbers room = steady_room s draft (Character code) (first_of (checks s (Character code))) refl numbers refl refl refl room
 roomy s draft (Rule rule) numbers room = steady_room s draft (Rule rule) (first_of (checks s (Rule rule))) refl numbers refl refl refl room
 roomy s draft (Kern width) numbers room = steady_room s draft (Kern width) (first_of (checks s (Kern width))) refl numbers refl refl refl room
 roomy s draft (Glue glue) numbers room = steady_room s draft (Glue glue) (first_of (checks s (Glue glue))) refl numbers refl refl refl room
 roomy s draft (Penalty n) numbers room = steady_room s draft (Penalty n) (first_of (checks s (Penalty n))) refl numbers refl refl refl room
+roomy s draft (Append taken) numbers room = steady_room s draft (Append taken) (first_of (checks s (Append taken))) refl numbers (append_keeps s taken).shipped (append_keeps s taken).pages refl room
+roomy s draft (Unbox taken) numbers room = steady_room s draft (Unbox taken) (first_of (checks s (Unbox taken))) refl numbers (unbox_keeps s taken).shipped (unbox_keeps s taken).pages refl room
+roomy s draft (LastBox r) numbers room = steady_room s draft (LastBox r) (first_of (checks s (LastBox r))) refl numbers refl refl refl room
 roomy s draft (Measure r) numbers room = steady_room s draft (Measure r) (first_of (checks s (Measure r))) refl numbers refl refl refl room
 roomy s draft (Void r) numbers room = steady_room s draft (Void r) (first_of (checks s (Void r))) refl numbers refl refl refl room
 roomy s draft (Set parameter) numbers room = steady_room s draft (Set parameter) (first_of (checks s (Set parameter))) refl numbers refl refl refl room
@@ -359,6 +372,9 @@ small_after s draft (Rule rule) room = steady_bytes s draft (Rule rule) (first_o
 small_after s draft (Kern width) room = steady_bytes s draft (Kern width) (first_of (checks s (Kern width))) refl room
 small_after s draft (Glue glue) room = steady_bytes s draft (Glue glue) (first_of (checks s (Glue glue))) refl room
 small_after s draft (Penalty n) room = steady_bytes s draft (Penalty n) (first_of (checks s (Penalty n))) refl room
+small_after s draft (Append taken) room = steady_bytes s draft (Append taken) (first_of (checks s (Append taken))) refl room
+small_after s draft (Unbox taken) room = steady_bytes s draft (Unbox taken) (first_of (checks s (Unbox taken))) refl room
+small_after s draft (LastBox r) room = steady_bytes s draft (LastBox r) (first_of (checks s (LastBox r))) refl room
 small_after s draft (Measure r) room = steady_bytes s draft (Measure r) (first_of (checks s (Measure r))) refl room
 small_after s draft (Void r) room = steady_bytes s draft (Void r) (first_of (checks s (Void r))) refl room
 small_after s draft (Set parameter) room = steady_bytes s draft (Set parameter) (first_of (checks s (Set parameter))) refl room

@@ -8,13 +8,18 @@ use Rattle.tfm_core.specs.Rules.{metric_file}
 use Rattle.tfm_core.specs.Fonts.{SizedFont, chosen_size, fits_at, font_at}
 use Rattle.job_core.specs.FontSlots.{font_of, sized_font}
 use Rattle.job_core.specs.declared.command.Command.{Command}
-use Rattle.job_core.specs.declared.command.Command.TheVariants.{LoadFont, UseFont, Open, End, Text, Character, Rule, Kern, Glue, Penalty, Measure, Void, Set, Ship}
+use Rattle.job_core.specs.declared.command.Command.TheVariants.{LoadFont, UseFont, Open, End, Text, Character, Rule, Kern, Glue, Penalty, Append, Unbox, LastBox, Measure, Void, Set, Ship}
 use Rattle.job_core.specs.declared.command.Answer.{Answer}
 use Rattle.job_core.specs.declared.command.Refusal.{Refusal}
-use Rattle.job_core.specs.declared.command.Refusal.TheVariants.{OutOfMemory, DimensionTooLarge, NoFont, BadTfm, Device, JobOver, ListsOpen}
+use Rattle.job_core.specs.declared.command.Refusal.TheVariants.{OutOfMemory, DimensionTooLarge, NoFont, BadTfm, NoOpenList, WrongKind, ListTooLong, TooDeep, Device, JobOver, ListsOpen}
 use Rattle.job_core.specs.declared.command.Summary.{Summary}
 use Rattle.job_core.specs.Reply.{Reply}
-use Rattle.job_core.specs.Machine.{State, Machine, checks, first_of, refusal_in, reply_by, reply_to, answer_of, step}
+use Rattle.node_core.specs.declared.params.Params.{Params}
+use Rattle.node_core.specs.declared.tree.Kind.{Kind}
+use Rattle.node_core.specs.declared.tree.BoxNode.{BoxNode}
+use Rattle.pack_core.specs.declared.pack.Packed as packs
+use Rattle.job_core.specs.declared.nest.OpenList.{OpenList}
+use Rattle.job_core.specs.Machine.{State, Machine, innermost, outer, open_count, held_in, packed_list, box_checks, held_checks, home_checks, packed_checks, close_checks, items_checks, checks, first_of, refusal_in, reply_by, reply_to, answer_of, step}
 use Rattle.job_core.specs.Runs.{early_checks, finish_checks, Finishes, Finished, Refuses, WantsMemory, LostDevice, TakesMemory, Steps, Replies, LacksMemory, LosesDevice, Run}
 
 -- None of the refusals is this one.
@@ -40,17 +45,47 @@ module _ (r : Refusal) (none : NoFont ≢ r) (bad : (cause : TfmCause) → BadTf
   lacked_by_font None size = (none, tt)
   lacked_by_font (Some file) size = lacked_by_read (metric_file file.bytes) size
 
+-- Nor those of a box or of items at the end of a list.
+module _ (r : Refusal) (none : NoOpenList ≢ r) (large : DimensionTooLarge ≢ r) (long : ListTooLong ≢ r) (deep : TooDeep ≢ r) where
+  lacked_by_box : (params : Params) (l : Option OpenList) (b : BoxNode) → LacksRefusal r (box_checks params l b)
+  lacked_by_box params None b = (none, tt)
+  lacked_by_box params (Some l) b = (large, (long, tt))
+
+  lacked_by_held : (params : Params) (l : Option OpenList) (held : Option BoxNode) → LacksRefusal r (held_checks params l held)
+  lacked_by_held params l None = tt
+  lacked_by_held params l (Some b) = lacked_by_box params l b
+
+  lacked_by_home : (params : Params) (around : List OpenList) (into : Option ℕ) (b : BoxNode) → LacksRefusal r (home_checks params around into b)
+  lacked_by_home params around None b = lacked_by_box params (innermost around) b
+  lacked_by_home params around (Some register) b = tt
+
+  lacked_by_packed : (params : Params) (around : List OpenList) (into : Option ℕ) (packed : Option packs.Packed) → LacksRefusal r (packed_checks params around into packed)
+  lacked_by_packed params around into None = (large, tt)
+  lacked_by_packed params around into (Some packed) = (deep, lacked_by_home params around into packed.shown)
+
+  lacked_by_end : (params : Params) (around : List OpenList) (l : Option OpenList) → LacksRefusal r (close_checks params around l)
+  lacked_by_end params around None = (none, tt)
+  lacked_by_end params around (Some l) = lacked_by_packed params around l.opening.into (packed_list params (Some l))
+
+module _ (r : Refusal) (kind_differs : WrongKind ≢ r) (long : ListTooLong ≢ r) where
+  lacked_by_items : (kind : Kind) (count : ℕ) (held : Option BoxNode) → LacksRefusal r (items_checks kind count held)
+  lacked_by_items kind count None = tt
+  lacked_by_items kind count (Some b) = (kind_differs, (long, tt))
+
 no_memory : (s : State) (command : Command) → LacksRefusal OutOfMemory (checks s command)
 no_memory s (LoadFont load) = ((λ e. cc), ((λ e. cc), lacked_by_font OutOfMemory (λ e. cc) (λ cause e. cc) (λ e. cc) (file_named load.name s.files) load.size))
 no_memory s (UseFont slot) = ((λ e. cc), ((λ e. cc), tt))
 no_memory s (Text text) = ((λ e. cc), ((λ e. cc), ((λ e. cc), ((λ e. cc), ((λ e. cc), tt)))))
 no_memory s (Character code) = ((λ e. cc), ((λ e. cc), ((λ e. cc), ((λ e. cc), ((λ e. cc), tt)))))
-no_memory s (Open opening) = ((λ e. cc), ((λ e. cc), tt))
-no_memory s End = ((λ e. cc), ((λ e. cc), ((λ e. cc), tt)))
+no_memory s (Open opening) = ((λ e. cc), ((λ e. cc), ((λ e. cc), tt)))
+no_memory s End = ((λ e. cc), lacked_by_end OutOfMemory (λ e. cc) (λ e. cc) (λ e. cc) (λ e. cc) s.params (outer s.nest) (innermost s.nest))
 no_memory s (Rule rule) = ((λ e. cc), ((λ e. cc), ((λ e. cc), ((λ e. cc), tt))))
 no_memory s (Kern width) = ((λ e. cc), ((λ e. cc), ((λ e. cc), tt)))
 no_memory s (Glue glue) = ((λ e. cc), ((λ e. cc), ((λ e. cc), tt)))
 no_memory s (Penalty n) = ((λ e. cc), ((λ e. cc), ((λ e. cc), tt)))
+no_memory s (Append taken) = ((λ e. cc), ((λ e. cc), lacked_by_held OutOfMemory (λ e. cc) (λ e. cc) (λ e. cc) (λ e. cc) s.params (innermost s.nest) (held_in s.registers taken.register)))
+no_memory s (Unbox taken) = ((λ e. cc), ((λ e. cc), ((λ e. cc), lacked_by_items OutOfMemory (λ e. cc) (λ e. cc) taken.kind (open_count s) (held_in s.registers taken.register))))
+no_memory s (LastBox r) = ((λ e. cc), ((λ e. cc), tt))
 no_memory s (Measure r) = ((λ e. cc), tt)
 no_memory s (Void r) = ((λ e. cc), tt)
 no_memory s (Set parameter) = ((λ e. cc), tt)
@@ -61,12 +96,15 @@ no_device s (LoadFont load) = ((λ e. cc), ((λ e. cc), lacked_by_font Device (�
 no_device s (UseFont slot) = ((λ e. cc), ((λ e. cc), tt))
 no_device s (Text text) = ((λ e. cc), ((λ e. cc), ((λ e. cc), ((λ e. cc), ((λ e. cc), tt)))))
 no_device s (Character code) = ((λ e. cc), ((λ e. cc), ((λ e. cc), ((λ e. cc), ((λ e. cc), tt)))))
-no_device s (Open opening) = ((λ e. cc), ((λ e. cc), tt))
-no_device s End = ((λ e. cc), ((λ e. cc), ((λ e. cc), tt)))
+no_device s (Open opening) = ((λ e. cc), ((λ e. cc), ((λ e. cc), tt)))
+no_device s End = ((λ e. cc), lacked_by_end Device (λ e. cc) (λ e. cc) (λ e. cc) (λ e. cc) s.params (outer s.nest) (innermost s.nest))
 no_device s (Rule rule) = ((λ e. cc), ((λ e. cc), ((λ e. cc), ((λ e. cc), tt))))
 no_device s (Kern width) = ((λ e. cc), ((λ e. cc), ((λ e. cc), tt)))
 no_device s (Glue glue) = ((λ e. cc), ((λ e. cc), ((λ e. cc), tt)))
 no_device s (Penalty n) = ((λ e. cc), ((λ e. cc), ((λ e. cc), tt)))
+no_device s (Append taken) = ((λ e. cc), ((λ e. cc), lacked_by_held Device (λ e. cc) (λ e. cc) (λ e. cc) (λ e. cc) s.params (innermost s.nest) (held_in s.registers taken.register)))
+no_device s (Unbox taken) = ((λ e. cc), ((λ e. cc), ((λ e. cc), lacked_by_items Device (λ e. cc) (λ e. cc) taken.kind (open_count s) (held_in s.registers taken.register))))
+no_device s (LastBox r) = ((λ e. cc), ((λ e. cc), tt))
 no_device s (Measure r) = ((λ e. cc), tt)
 no_device s (Void r) = ((λ e. cc), tt)
 no_device s (Set parameter) = ((λ e. cc), tt)
@@ -88,7 +126,7 @@ unchanged m next n k command r other (Replies says goes counts) = goes ∙ stays
 unchanged m next n k command r other (LacksMemory says takes may goes counts) = goes
 unchanged m next n k command r other (LosesDevice says ships may goes counts) = absurd (other (cc))
 
-pub takes_memory : (m next : Machine) (n k : ℕ) (command : Command) → Steps m n command (Err OutOfMemory) next k → TakesMemory command
+pub takes_memory : (m next : Machine) (n k : ℕ) (command : Command) → Steps m n command (Err OutOfMemory) next k → TakesMemory m.state command
 takes_memory m next n k command (Replies says goes counts) =
     absurd (lacked OutOfMemory (checks m.state command) (no_memory m.state command) (refuses m.state command OutOfMemory says))
 takes_memory m next n k command (LacksMemory says takes may goes counts) = takes
@@ -119,6 +157,9 @@ over_early s (Rule rule) over = rw over refl
 over_early s (Kern width) over = rw over refl
 over_early s (Glue glue) over = rw over refl
 over_early s (Penalty n) over = rw over refl
+over_early s (Append taken) over = rw over refl
+over_early s (Unbox taken) over = rw over refl
+over_early s (LastBox r) over = rw over refl
 over_early s (Measure r) over = rw over refl
 over_early s (Void r) over = rw over refl
 over_early s (Set parameter) over = rw over refl

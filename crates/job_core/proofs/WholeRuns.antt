@@ -2,11 +2,12 @@
 use Rattle.std.proofs.Common.{◌≡◌, ℕ, List, [], ◌∷◌, ◌++◌, length, Option, Some, None, Result, Ok, Err, refl, ap, sym, ◌∙◌, subst}
 use Rattle.std.specs.Prelude.{IfOk, IfSome}
 use Rattle.job_core.specs.declared.command.Command.{Command}
-use Rattle.job_core.specs.declared.command.Command.TheVariants.{LoadFont, UseFont, Open, End, Text, Character, Rule, Kern, Glue, Penalty, Measure, Void, Set, Ship}
+use Rattle.job_core.specs.declared.command.Command.TheVariants.{LoadFont, UseFont, Open, End, Text, Character, Rule, Kern, Glue, Penalty, Append, Unbox, LastBox, Measure, Void, Set, Ship}
 use Rattle.job_core.specs.declared.command.Refusal.{Refusal}
 use Rattle.job_core.specs.declared.command.Summary.{Summary}
 use Rattle.job_core.specs.Reply.{Reply}
 use Rattle.tfm_core.specs.NamedBytes.{NamedBytes}
+use Rattle.job_core.proofs.KeptRest.{end_keeps, append_keeps, unbox_keeps}
 use Rattle.job_core.specs.Machine.{State, Machine, first_machine, checks, first_of, after, state_by, state_after}
 use Rattle.job_core.specs.Runs.{Seen, Steps, Replies, LacksMemory, LosesDevice, Run, Holds, KeepsTo, RunsTo, FinishesTo}
 use Rattle.job_core.specs.Closing.{ClosesFile}
@@ -44,13 +45,16 @@ after-files : (s : State) (command : Command) → (after s command).files ≡ s.
 after-files s (LoadFont load) = refl
 after-files s (UseFont slot) = refl
 after-files s (Open opening) = refl
-after-files s End = refl
+after-files s End = (end_keeps s).files
 after-files s (Text text) = refl
 after-files s (Character code) = refl
 after-files s (Rule rule) = refl
 after-files s (Kern width) = refl
 after-files s (Glue glue) = refl
 after-files s (Penalty n) = refl
+after-files s (Append taken) = (append_keeps s taken).files
+after-files s (Unbox taken) = (unbox_keeps s taken).files
+after-files s (LastBox r) = refl
 after-files s (Measure r) = refl
 after-files s (Void r) = refl
 after-files s (Set parameter) = refl

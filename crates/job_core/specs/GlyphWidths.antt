@@ -1,11 +1,8 @@
 -- The widths of the glyphs of a job, and the font files that they come from (own; TeX: The Program, part 30).
 use Rattle.std.specs.Prelude.{◌≡◌, ℤ, pos, Option, Some}
-use Rattle.std.specs.List.{AllByRecursion}
 use Rattle.tfm_core.specs.FileWidths.{file_widths}
 use Rattle.node_core.specs.declared.tree.Glyph.{Glyph}
-use Rattle.node_core.specs.declared.tree.Node.{Node}
-use Rattle.node_core.specs.declared.tree.Node.TheVariants as nodes
-use Rattle.node_core.specs.Nodes.{nodes_of}
+use Rattle.node_core.specs.Items.{Leaf, glyph, font_kern, kern, glue, penalty, rule, EachLeaf}
 use Rattle.job_core.specs.declared.fonts.LoadedFont.{LoadedFont}
 use Rattle.job_core.specs.FontSlots.{font_in}
 use Rattle.ship_core.specs.Marks.{Page}
@@ -19,15 +16,15 @@ pub record HasFileWidth (s : State) (g : Glyph) : Type 0 where
   pub given : file_widths s.files loaded.name loaded.font.size ≡ Some widths
   pub width : widths (pos g.code) ≡ Some g.width
 
--- The same of a node that is a glyph.
-abbrev pub IsMeasured : State → Node → Type 0
-IsMeasured s (nodes.Glyph g) = HasFileWidth s g
-IsMeasured s (nodes.FontKern width) = Unit {0}
-IsMeasured s (nodes.Kern width) = Unit {0}
-IsMeasured s (nodes.Glue glue) = Unit {0}
-IsMeasured s (nodes.Penalty penalty) = Unit {0}
-IsMeasured s (nodes.Rule rule) = Unit {0}
+-- The same of a leaf that is a glyph.
+abbrev pub IsMeasured : State → Leaf → Type 0
+IsMeasured s (glyph g) = HasFileWidth s g
+IsMeasured s (font_kern width) = Unit {0}
+IsMeasured s (kern width) = Unit {0}
+IsMeasured s (glue g) = Unit {0}
+IsMeasured s (penalty p) = Unit {0}
+IsMeasured s (rule sizes) = Unit {0}
 
--- So has each glyph of a page.
+-- So has each glyph of a page, in its inner boxes too.
 abbrev pub IsMeasuredPage : State → Page → Type 0
-IsMeasuredPage s page = AllByRecursion (IsMeasured s) (nodes_of page.shown.list)
+IsMeasuredPage s page = EachLeaf (IsMeasured s) page.shown.list
