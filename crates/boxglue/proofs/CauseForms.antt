@@ -60,6 +60,10 @@ pub not_made : {A : Type 0} (make : A → Command) (r : Result A Cause) (cause :
 not_made make (Err other) cause h = cc
 not_made make (Ok x) cause h = absurd (cc)
 
+pub twice : {A B : Type 0} (make : B → Command) (part : A → B) (r : Result A Cause) → map_ok make (map_ok part r) ≡ map_ok (λ x. make (part x)) r
+twice make part (Err cause) = refl
+twice make part (Ok x) = refl
+
 -- right fields of each kind
 abbrev pub zero_text : List ℕ
 zero_text = codes "0"
@@ -115,8 +119,11 @@ plus_is_word = inr (4, omega arith, refl)
 pub minus_is_word : IsWord (codes "minus")
 minus_is_word = inr (5, omega arith, refl)
 
+pub shift_is_word : IsWord (codes "shift")
+shift_is_word = inr (6, omega arith, refl)
+
 pub depth_is_word : IsWord (codes "boxmaxdepth")
-depth_is_word = inr (6, omega arith, refl)
+depth_is_word = inr (7, omega arith, refl)
 
 -- with a right field behind some others a command is said
 abbrev pub Wanted : List (List ℕ) → List ℕ → List (List ℕ) → Command → Type 0

@@ -4,24 +4,24 @@ use Rattle.std.specs.Str.{bytes_eq}
 use Rattle.node_core.specs.declared.tree.RuleSize.{RuleSize}
 use Rattle.node_core.specs.declared.tree.RuleSize.TheVariants.{Running, Fixed}
 use Rattle.job_core.specs.declared.command.Command.{Command}
-use Rattle.job_core.specs.declared.command.Command.TheVariants.{UseFont, End, Character, Rule, Kern, Penalty, Measure, Void, Set, Ship}
-use Rattle.job_core.specs.declared.command.BoxForm.TheVariants as forms
-use Rattle.job_core.specs.declared.command.Parameter.TheVariants.{BoxMaxDepth}
+use Rattle.job_core.specs.declared.command.Command.TheVariants.{UseFont, End, Character, Rule, Kern, Penalty, LastBox, Measure, Void, Ship}
 use Rattle.boxglue.specs.declared.cause.Cause.{Cause}
 use Rattle.boxglue.specs.declared.cause.Cause.TheVariants.{Word, Missing, Extra, Dimension}
 use Rattle.boxglue.specs.declared.name.Name.{Name}
 use Rattle.boxglue.specs.declared.name.Name.TheVariants as names
 use Rattle.boxglue.specs.Names.{name_of}
 use Rattle.boxglue.specs.Causes.{IsWord, GivesSize, IsFieldCause}
-use Rattle.boxglue.specs.Reading.{word_first, dimension_or, dimension_first, map_ok, size_of, size_first, ended, last_number, last_dimension, last_penalty, right_and, set_of, rule_of, command_named, named_by, command_of}
+use Rattle.boxglue.specs.Reading.{dimension_or, map_ok, size_of, size_first, ended, last_number, last_dimension, last_penalty, right_and, unboxing, rule_of, command_named, named_by, command_of}
 use Rattle.scaled_core.specs.declared.fault.DimenFault.{DimenFault}
 use Rattle.scaled_core.specs.ParsedTexts.{read_dimension}
 use Rattle.boxglue.proofs.FieldLaws.{same_bytes}
-use Rattle.boxglue.proofs.CommandLaws.{name_text, name_written, name_read, named, form_named}
-use Rattle.boxglue.proofs.CauseForms.{missing, bad_field, extra, as_cause, not_made, star_given, star_size, zero_dimension, no_size_given, depth_is_word, number_cause, penalty_cause, dimension_cause}
+use Rattle.boxglue.proofs.CommandLaws.{name_text, name_written, name_read, named}
+use Rattle.boxglue.proofs.CauseForms.{missing, bad_field, extra, as_cause, not_made, star_given, star_size, no_size_given, number_cause, penalty_cause, dimension_cause}
 use Rattle.boxglue.proofs.FontCauses.{font_cause, font_reads}
 use Rattle.boxglue.proofs.OpeningCauses.{opening_cause}
+use Rattle.boxglue.proofs.BoxCauses.{append_cause}
 use Rattle.boxglue.proofs.GlueCauses.{glue_cause}
+use Rattle.boxglue.proofs.ParameterCauses.{set_reads, set_cause}
 
 -- the end of a list
 end_reads : (rest : List (List ℕ)) → command_of (codes "end" ∷ rest) ≡ right_and (ended rest) (Ok End)
@@ -31,50 +31,6 @@ end_reads rest = named names.End rest
 end_cause : (rest : List (List ℕ)) (cause : Cause) → right_and (ended rest) (Ok End) ≡ Err cause → IsFieldCause cause (codes "end" ∷ rest)
 end_cause [] cause h = absurd (cc)
 end_cause (f ∷ rest) cause h = as_cause _ Extra cause (cc) (extra (codes "end" ∷ []) f rest End (end_reads []) (λ later. (Extra, end_reads (f ∷ later))))
-
--- a parameter
-abbrev depth : ℤ → Command
-depth z = Set (BoxMaxDepth z)
-
-set_reads : (rest : List (List ℕ)) → command_of (codes "set" ∷ rest) ≡ set_of rest
-unfolding command_named
-set_reads rest = named names.Set rest
-
-depth_reads : (rest : List (List ℕ)) → command_of (codes "set" ∷ codes "boxmaxdepth" ∷ rest) ≡ map_ok depth (last_dimension rest)
-unfolding set_of word_first
-depth_reads rest = set_reads (codes "boxmaxdepth" ∷ rest)
-
-depth_zero : command_of (codes "set" ∷ codes "boxmaxdepth" ∷ codes "0sp" ∷ []) ≡ Ok (depth (pos 0))
-unfolding last_dimension dimension_first
-depth_zero = depth_reads (codes "0sp" ∷ []) ∙ (rw zero_dimension refl)
-
-set_lacks : command_of (codes "set" ∷ []) ≡ Err Missing
-unfolding set_of word_first
-set_lacks = set_reads []
-
-no_parameter : (w : List ℕ) (rest : List (List ℕ)) → bytes_eq w (codes "boxmaxdepth") ≡ false → command_of (codes "set" ∷ w ∷ rest) ≡ Err Word
-unfolding set_of word_first
-no_parameter w rest e = set_reads (w ∷ rest) ∙ (rw e refl)
-
-depth_cause : (rest : List (List ℕ)) (cause : Cause) → command_of (codes "set" ∷ codes "boxmaxdepth" ∷ rest) ≡ Err cause → IsFieldCause cause (codes "set" ∷ codes "boxmaxdepth" ∷ rest)
-depth_cause rest cause h =
-    dimension_cause (codes "set" ∷ codes "boxmaxdepth" ∷ []) depth depth_reads rest cause (not_made depth (last_dimension rest) cause (sym (depth_reads rest) ∙ h))
-
-set_by : (w : List ℕ) (rest : List (List ℕ)) (b : Bool) (cause : Cause) → bytes_eq w (codes "boxmaxdepth") ≡ b → command_of (codes "set" ∷ w ∷ rest) ≡ Err cause → IsFieldCause cause (codes "set" ∷ w ∷ rest)
-set_by w rest true cause e h =
-    let is : w ≡ codes "boxmaxdepth" = same_bytes w (codes "boxmaxdepth") e in
-    let P : List ℕ → Type 0 = λ x. IsFieldCause cause (codes "set" ∷ x ∷ rest) in
-    let Q : List ℕ → Type 0 = λ x. command_of (codes "set" ∷ x ∷ rest) ≡ Err cause in
-    subst P (sym is) (depth_cause rest cause (subst Q is h))
-set_by w rest false cause e h =
-    as_cause _ Word cause (let no = no_parameter w rest e in cc)
-    (bad_field IsWord (codes "set" ∷ []) w rest (codes "boxmaxdepth") (codes "0sp" ∷ []) (depth (pos 0)) depth_is_word depth_zero (λ later. (Word, no_parameter w later e)))
-
-set_cause : (rest : List (List ℕ)) (cause : Cause) → command_of (codes "set" ∷ rest) ≡ Err cause → IsFieldCause cause (codes "set" ∷ rest)
-set_cause [] cause h =
-    as_cause _ Missing cause (let lacks = set_lacks in cc)
-    (missing (codes "set" ∷ []) (codes "boxmaxdepth" ∷ codes "0sp" ∷ []) (depth (pos 0)) (Missing, set_lacks) depth_zero)
-set_cause (w ∷ rest) cause h = set_by w rest (bytes_eq w (codes "boxmaxdepth")) cause refl h
 
 -- a rule
 rule_reads : (rest : List (List ℕ)) → command_of (codes "rule" ∷ rest) ≡ rule_of rest
@@ -189,15 +145,16 @@ named_cause : (name : Name) (rest : List (List ℕ)) (cause : Cause) → command
 unfolding command_named
 named_cause names.Font rest cause h = font_cause rest cause (font_reads rest ∙ h)
 named_cause names.Use rest cause h = alone_cause names.Use UseFont rest cause (λ fields. refl) h
-named_cause names.Hbox rest cause h = opening_cause forms.Hbox rest cause (form_named forms.Hbox rest ∙ h)
-named_cause names.Vbox rest cause h = opening_cause forms.Vbox rest cause (form_named forms.Vbox rest ∙ h)
-named_cause names.Vtop rest cause h = opening_cause forms.Vtop rest cause (form_named forms.Vtop rest ∙ h)
+named_cause (names.Open form) rest cause h = opening_cause form rest cause (named (names.Open form) rest ∙ h)
 named_cause names.End rest cause h = end_cause rest cause h
 named_cause names.Character rest cause h = alone_cause names.Character Character rest cause (λ fields. refl) h
 named_cause names.Rule rest cause h = rule_cause rest cause (rule_reads rest ∙ h)
 named_cause names.Kern rest cause h = kern_cause rest cause h
 named_cause names.Glue rest cause h = glue_cause rest cause (named names.Glue rest ∙ h)
 named_cause names.Penalty rest cause h = penalties_cause rest cause h
+named_cause (names.Append taking) rest cause h = append_cause taking rest cause (named (names.Append taking) rest ∙ h)
+named_cause (names.Unbox kind taking) rest cause h = alone_cause (names.Unbox kind taking) (unboxing kind taking) rest cause (λ fields. refl) h
+named_cause names.LastBox rest cause h = alone_cause names.LastBox LastBox rest cause (λ fields. refl) h
 named_cause names.Measure rest cause h = alone_cause names.Measure Measure rest cause (λ fields. refl) h
 named_cause names.Void rest cause h = alone_cause names.Void Void rest cause (λ fields. refl) h
 named_cause names.Set rest cause h = set_cause rest cause (set_reads rest ∙ h)

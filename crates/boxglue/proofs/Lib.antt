@@ -7,7 +7,10 @@ pub mod CommandLaws
 pub mod CauseForms
 pub mod FontCauses
 pub mod OpeningCauses
+pub mod BoxCauses
 pub mod GlueCauses
+pub mod SharedCauses
+pub mod ParameterCauses
 pub mod CauseLaws
 pub mod TextLines
 pub mod ScriptLaws

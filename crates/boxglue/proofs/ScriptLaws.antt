@@ -11,7 +11,7 @@ use Rattle.boxglue.specs.declared.script.Line.{Line}
 use Rattle.boxglue.specs.declared.script.ScriptFault.{ScriptFault}
 use Rattle.boxglue.specs.declared.script.ScriptFault.TheVariants.{OutOfMemory, BadScript}
 use Rattle.boxglue.specs.ScriptLines.{is_passed_over, is_printable, fields_of, IsTextLine}
-use Rattle.boxglue.specs.Names.{box_name, item_name, name_of}
+use Rattle.boxglue.specs.Names.{box_name, register_name, item_name, name_of}
 use Rattle.boxglue.specs.Grammar.{Says}
 use Rattle.boxglue.specs.Causes.{IsPrintable, IsFieldCause, IsCause}
 use Rattle.boxglue.specs.Script.{IsPassedOver, Gives, SaysLine, SayFrom, IsScript, IsRightLine, IsFirstBad, Explains}
@@ -33,7 +33,7 @@ given_in line command (Some text) e h =
     subst P is (text_said line text e)
 
 no_command : (more : List (List ℕ)) → command_of (codes "text" ∷ more) ≡ Err Word
-unfolding command_of name_of box_name item_name
+unfolding command_of name_of box_name register_name item_name
 no_command more = refl
 
 fields_by : (line : List ℕ) (command : Command) (o : Option (List ℕ)) → text_of line ≡ o → Says (fields_of line) command → given_by o line ≡ Ok command

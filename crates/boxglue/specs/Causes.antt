@@ -21,7 +21,9 @@ Begins fields = (more : List (List ℕ)) × SaysSome (fields ++ more)
 
 -- a word that stands behind others: a keyword or the name of a parameter
 abbrev pub IsInnerWord : List ℕ → Type 0
-IsInnerWord field = Contains (codes "at" ∷ codes "to" ∷ codes "spread" ∷ codes "into" ∷ codes "plus" ∷ codes "minus" ∷ codes "boxmaxdepth" ∷ []) field
+IsInnerWord field =
+    Contains (codes "at" ∷ codes "to" ∷ codes "spread" ∷ codes "into" ∷ codes "plus" ∷ codes "minus" ∷ codes "shift"
+    ∷ codes "boxmaxdepth" ∷ codes "baselineskip" ∷ codes "lineskip" ∷ codes "lineskiplimit" ∷ []) field
 
 -- one of the words of the grammar of fields, to which `text` does not belong
 abbrev pub IsWord : List ℕ → Type 0

@@ -5,6 +5,9 @@ use Rattle.std.specs.Str.Parse.{IsNumeral, without_leading_sign, signed_digits_v
 use Rattle.scaled_core.specs.Dimensions.{Fits, Within}
 use Rattle.scaled_core.specs.DimensionTexts.{IsDimensionText}
 use Rattle.tfm_core.specs.Scaling.{IsFontSize}
+use Rattle.node_core.specs.declared.tree.Kind.{Kind}
+use Rattle.node_core.specs.declared.tree.Kind.TheVariants.{Horizontal, Vertical}
+use Rattle.node_core.specs.declared.tree.Glue as glues
 use Rattle.node_core.specs.declared.tree.Order.{Order}
 use Rattle.node_core.specs.declared.tree.Order.TheVariants.{Normal, Fil, Fill, Filll}
 use Rattle.node_core.specs.declared.tree.RuleSize.{RuleSize}
@@ -13,9 +16,11 @@ use Rattle.pack_core.specs.declared.pack.Target.{Target}
 use Rattle.pack_core.specs.declared.pack.Target.TheVariants.{Natural, To, Spread}
 use Rattle.job_core.specs.declared.command.BoxForm.{BoxForm}
 use Rattle.job_core.specs.declared.command.BoxForm.TheVariants.{Hbox, Vbox, Vtop}
-use Rattle.job_core.specs.declared.command.Parameter.TheVariants.{BoxMaxDepth}
+use Rattle.job_core.specs.declared.command.Taking.{Taking}
+use Rattle.job_core.specs.declared.command.Taking.TheVariants.{Moved, Copied}
+use Rattle.job_core.specs.declared.command.Parameter.TheVariants.{BoxMaxDepth, BaselineSkip, LineSkip, LineSkipLimit}
 use Rattle.job_core.specs.declared.command.Command.{Command}
-use Rattle.job_core.specs.declared.command.Command.TheVariants.{LoadFont, UseFont, Open, End, Text, Character, Rule, Kern, Glue, Penalty, Measure, Void, Set, Ship}
+use Rattle.job_core.specs.declared.command.Command.TheVariants.{LoadFont, UseFont, Open, End, Text, Character, Rule, Kern, Glue, Penalty, Append, Unbox, LastBox, Measure, Void, Set, Ship}
 
 -- a field that writes this whole number by an optional sign and digits
 pub record IsInteger (field : List ℕ) (z : ℤ) : Type 0 where
@@ -78,6 +83,27 @@ IsTarget fields Natural = fields ≡ []
 IsTarget fields (To z) = (d : List ℕ) × (fields ≡ codes "to" ∷ d ∷ []) × IsDimension d z
 IsTarget fields (Spread z) = (d : List ℕ) × (fields ≡ codes "spread" ∷ d ∷ []) × IsDimension d z
 
+-- where the box of a list goes: nothing for the enclosing list, or `into` and a register
+abbrev pub IsDestination : List (List ℕ) → Option ℕ → Type 0
+IsDestination fields None = fields ≡ []
+IsDestination fields (Some n) = (r : List ℕ) × (fields ≡ codes "into" ∷ r ∷ []) × IsNumber r n
+
+-- how the command is called that appends the box of a register so
+abbrev pub taking_text : Taking → List ℕ
+taking_text Moved = codes "box"
+taking_text Copied = codes "copy"
+
+-- how far a box is shifted: nothing for 0, or `shift` and a dimension
+abbrev pub IsShift : List (List ℕ) → ℤ → Type 0
+IsShift fields z = ((fields ≡ []) × (z ≡ pos 0)) ⊎ ((d : List ℕ) × (fields ≡ codes "shift" ∷ d ∷ []) × IsDimension d z)
+
+-- how the command is called that appends the items of a box of that kind so
+abbrev pub unboxing_text : Kind → Taking → List ℕ
+unboxing_text Horizontal Moved = codes "unhbox"
+unboxing_text Horizontal Copied = codes "unhcopy"
+unboxing_text Vertical Moved = codes "unvbox"
+unboxing_text Vertical Copied = codes "unvcopy"
+
 -- a field that writes a number with this unit: its value is that of the same number in points, and fits
 abbrev pub IsNumberOf : List ℕ → List ℕ → ℤ → Type 0
 IsNumberOf unit field z = (number : List ℕ) × (field ≡ number ++ unit) × IsDimension (number ++ codes "pt") z
@@ -96,6 +122,13 @@ IsPart word fields order z =
     ((fields ≡ []) × (order ≡ Normal) × (z ≡ pos 0))
     ⊎ ((x : List ℕ) × (fields ≡ word ∷ x ∷ []) × IsAmount x order z)
 
+-- fields that write this glue: its width, and its stretch, its shrink or both
+abbrev pub IsGlue : List (List ℕ) → glues.Glue → Type 0
+IsGlue fields glue =
+    (d : List ℕ) × (plus : List (List ℕ)) × (minus : List (List ℕ)) × (fields ≡ d ∷ (plus ++ minus))
+    × IsDimension d glue.width × IsPart (codes "plus") plus glue.stretch_order glue.stretch
+    × IsPart (codes "minus") minus glue.shrink_order glue.shrink
+
 -- the fields of a line say this command; those of a line of text are not looked at
 abbrev pub Says : List (List ℕ) → Command → Type 0
 Says fields (LoadFont load) =
@@ -103,8 +136,8 @@ Says fields (LoadFont load) =
     × IsNumber s load.slot × IsName load.name × IsChosenSize more load.size
 Says fields (UseFont n) = (s : List ℕ) × (fields ≡ codes "use" ∷ s ∷ []) × IsNumber s n
 Says fields (Open opening) =
-    (size : List (List ℕ)) × (r : List ℕ) × (fields ≡ form_text opening.form ∷ (size ++ codes "into" ∷ r ∷ []))
-    × IsTarget size opening.target × IsNumber r opening.into
+    (size : List (List ℕ)) × (into : List (List ℕ)) × (fields ≡ form_text opening.form ∷ (size ++ into))
+    × IsTarget size opening.target × IsDestination into opening.into
 Says fields End = fields ≡ codes "end" ∷ []
 Says fields (Text text) = ⊥
 Says fields (Character n) = (c : List ℕ) × (fields ≡ codes "char" ∷ c ∷ []) × IsNumber c n
@@ -112,12 +145,16 @@ Says fields (Rule sizes) =
     (w : List ℕ) × (h : List ℕ) × (d : List ℕ) × (fields ≡ codes "rule" ∷ w ∷ h ∷ d ∷ [])
     × IsSize w sizes.width × IsSize h sizes.height × IsSize d sizes.depth
 Says fields (Kern z) = (d : List ℕ) × (fields ≡ codes "kern" ∷ d ∷ []) × IsDimension d z
-Says fields (Glue glue) =
-    (d : List ℕ) × (plus : List (List ℕ)) × (minus : List (List ℕ)) × (fields ≡ codes "glue" ∷ d ∷ (plus ++ minus))
-    × IsDimension d glue.width × IsPart (codes "plus") plus glue.stretch_order glue.stretch
-    × IsPart (codes "minus") minus glue.shrink_order glue.shrink
+Says fields (Glue glue) = (more : List (List ℕ)) × (fields ≡ codes "glue" ∷ more) × IsGlue more glue
 Says fields (Penalty z) = (p : List ℕ) × (fields ≡ codes "penalty" ∷ p ∷ []) × IsPenalty p z
+Says fields (Append box_use) =
+    (r : List ℕ) × (shift : List (List ℕ)) × (fields ≡ taking_text box_use.taking ∷ r ∷ shift) × IsNumber r box_use.register × IsShift shift box_use.shift
+Says fields (Unbox unboxing) = (r : List ℕ) × (fields ≡ unboxing_text unboxing.kind unboxing.taking ∷ r ∷ []) × IsNumber r unboxing.register
+Says fields (LastBox n) = (r : List ℕ) × (fields ≡ codes "lastbox" ∷ r ∷ []) × IsNumber r n
 Says fields (Measure n) = (r : List ℕ) × (fields ≡ codes "measure" ∷ r ∷ []) × IsNumber r n
 Says fields (Void n) = (r : List ℕ) × (fields ≡ codes "void" ∷ r ∷ []) × IsNumber r n
 Says fields (Set (BoxMaxDepth z)) = (d : List ℕ) × (fields ≡ codes "set" ∷ codes "boxmaxdepth" ∷ d ∷ []) × IsDimension d z
+Says fields (Set (BaselineSkip glue)) = (more : List (List ℕ)) × (fields ≡ codes "set" ∷ codes "baselineskip" ∷ more) × IsGlue more glue
+Says fields (Set (LineSkip glue)) = (more : List (List ℕ)) × (fields ≡ codes "set" ∷ codes "lineskip" ∷ more) × IsGlue more glue
+Says fields (Set (LineSkipLimit z)) = (d : List ℕ) × (fields ≡ codes "set" ∷ codes "lineskiplimit" ∷ d ∷ []) × IsDimension d z
 Says fields (Ship n) = (r : List ℕ) × (fields ≡ codes "ship" ∷ r ∷ []) × IsNumber r n

@@ -6,6 +6,9 @@ use Rattle.std.specs.Str.{bytes_eq}
 use Rattle.std.specs.Str.Parse.{without_leading_sign, signed_digits_value}
 use Rattle.scaled_core.specs.declared.fault.DimenFault.{DimenFault}
 use Rattle.scaled_core.specs.ParsedTexts.{read_dimension}
+use Rattle.node_core.specs.declared.tree.Kind.{Kind}
+use Rattle.node_core.specs.declared.tree.Kind.TheVariants.{Horizontal, Vertical}
+use Rattle.node_core.specs.declared.tree.Glue as glues
 use Rattle.node_core.specs.declared.tree.Order.{Order}
 use Rattle.node_core.specs.declared.tree.Order.TheVariants.{Normal, Fil, Fill, Filll}
 use Rattle.node_core.specs.declared.tree.RuleSize.{RuleSize}
@@ -14,9 +17,12 @@ use Rattle.pack_core.specs.declared.pack.Target.{Target}
 use Rattle.pack_core.specs.declared.pack.Target.TheVariants.{Natural, To, Spread}
 use Rattle.job_core.specs.declared.command.BoxForm.{BoxForm}
 use Rattle.job_core.specs.declared.command.BoxForm.TheVariants as forms
-use Rattle.job_core.specs.declared.command.Parameter.TheVariants.{BoxMaxDepth}
+use Rattle.job_core.specs.declared.command.Taking.{Taking}
+use Rattle.job_core.specs.declared.command.Taking.TheVariants.{Moved, Copied}
+use Rattle.job_core.specs.declared.command.Parameter.{Parameter}
+use Rattle.job_core.specs.declared.command.Parameter.TheVariants.{BoxMaxDepth, BaselineSkip, LineSkip, LineSkipLimit}
 use Rattle.job_core.specs.declared.command.Command.{Command}
-use Rattle.job_core.specs.declared.command.Command.TheVariants.{LoadFont, UseFont, Open, End, Text, Character, Rule, Kern, Glue, Penalty, Measure, Void, Set, Ship}
+use Rattle.job_core.specs.declared.command.Command.TheVariants.{LoadFont, UseFont, Open, End, Text, Character, Rule, Kern, Glue, Penalty, Append, Unbox, LastBox, Measure, Void, Set, Ship}
 use Rattle.boxglue.specs.declared.cause.Cause.{Cause}
 use Rattle.boxglue.specs.declared.cause.Cause.TheVariants as causes
 use Rattle.boxglue.specs.declared.cause.Cause.TheVariants.{Byte, Word, Missing, Extra, Number, Dimension}
@@ -58,14 +64,6 @@ first_of (field ∷ rest) = Ok field
 abbrev pub rest_of : List (List ℕ) → List (List ℕ)
 rest_of [] = []
 rest_of (field ∷ rest) = rest
-
--- a field that is this word
-abbrev pub as_word : List ℕ → Result (List ℕ) Cause → Result (Unit {0}) Cause
-as_word word (Err cause) = Err cause
-as_word word (Ok field) = if bytes_eq field word then Ok tt else Err Word
-
-unfoldable pub word_first : List ℕ → List (List ℕ) → Result (Unit {0}) Cause
-word_first word fields = as_word word (first_of fields)
 
 abbrev pub some_or : {A : Type 0} → Cause → Option A → Result A Cause
 some_or cause None = Err cause
@@ -229,71 +227,89 @@ last_penalty fields = and_right (penalty_first fields) (ended (rest_of fields))
 unfoldable pub last_amount : List (List ℕ) → Result Amount Cause
 last_amount fields = and_right (amount_first fields) (ended (rest_of fields))
 
-abbrev pub opening : BoxForm → Target → ℕ → Command
-opening form target register = Open (record { form = form; target = target; into = register })
+abbrev pub opening : BoxForm → Target → Option ℕ → Command
+opening form target into = Open (record { form = form; target = target; into = into })
 
 -- the opening of a list with this register as the last field
 unfoldable pub opened : BoxForm → Target → List (List ℕ) → Result Command Cause
-opened form target fields = map_ok (opening form target) (last_number fields)
+opened form target fields = map_ok (λ register. opening form target (Some register)) (last_number fields)
 
--- and with `into` before it
+-- and with what stands behind its size: nothing, or `into` and a register
 unfoldable pub opened_into : BoxForm → Target → List (List ℕ) → Result Command Cause
-opened_into form target fields = right_and (word_first (codes "into") fields) (opened form target (rest_of fields))
+opened_into form target [] = Ok (opening form target None)
+opened_into form target (word ∷ rest) = if bytes_eq word (codes "into") then opened form target rest else Err Word
 
 -- and with a dimension before that
 unfoldable pub opened_sized : BoxForm → (ℤ → Target) → List (List ℕ) → Result Command Cause
 opened_sized form sized fields = and_then (dimension_first fields) (λ z. opened_into form (sized z) (rest_of fields))
 
--- what a word behind the name of a form and the fields behind that say
-abbrev pub opening_by : BoxForm → Result (List ℕ) Cause → List (List ℕ) → Result Command Cause
-opening_by form (Err cause) rest = Err cause
-opening_by form (Ok word) rest =
+-- what the fields behind `hbox`, `vbox` or `vtop` say
+unfoldable pub opening_of : BoxForm → List (List ℕ) → Result Command Cause
+opening_of form [] = Ok (opening form Natural None)
+opening_of form (word ∷ rest) =
     if bytes_eq word (codes "into") then opened form Natural rest
     else (if bytes_eq word (codes "to") then opened_sized form To rest
     else (if bytes_eq word (codes "spread") then opened_sized form Spread rest
     else Err Word))
 
--- what the fields behind `hbox`, `vbox` or `vtop` say
-unfoldable pub opening_of : BoxForm → List (List ℕ) → Result Command Cause
-opening_of form fields = opening_by form (first_of fields) (rest_of fields)
+abbrev pub append : Taking → ℕ → ℤ → Command
+append taking register shift = Append (record { register = register; taking = taking; shift = shift })
+
+-- what stands behind the register of a box: nothing, or `shift` and a dimension
+unfoldable pub shift_of : List (List ℕ) → Result ℤ Cause
+shift_of [] = Ok (pos 0)
+shift_of (word ∷ rest) = if bytes_eq word (codes "shift") then last_dimension rest else Err Word
+
+-- what the fields behind `box` or `copy` say
+unfoldable pub append_of : Taking → List (List ℕ) → Result Command Cause
+append_of taking fields = and_then (number_first fields) (λ register. map_ok (append taking register) (shift_of (rest_of fields)))
+
+abbrev pub unboxing : Kind → Taking → ℕ → Command
+unboxing kind taking register = Unbox (record { kind = kind; register = register; taking = taking })
 
 abbrev pub no_amount : Amount
 no_amount = amount Normal (pos 0)
 
-abbrev pub glue : ℤ → Amount → Amount → Command
+abbrev pub glue : ℤ → Amount → Amount → glues.Glue
 glue width stretch shrink =
-    Glue (record { width = width; stretch = stretch.size; stretch_order = stretch.order; shrink = shrink.size; shrink_order = shrink.order })
+    record { width = width; stretch = stretch.size; stretch_order = stretch.order; shrink = shrink.size; shrink_order = shrink.order }
 
 -- a glue of that width and stretch, and its shrink as the last field
-unfoldable pub last_shrink_of : ℤ → Amount → List (List ℕ) → Result Command Cause
+unfoldable pub last_shrink_of : ℤ → Amount → List (List ℕ) → Result glues.Glue Cause
 last_shrink_of width stretch fields = map_ok (glue width stretch) (last_amount fields)
 
 -- what stands behind the stretch of a glue: nothing, or `minus` and its shrink
-unfoldable pub shrink_of : ℤ → Amount → List (List ℕ) → Result Command Cause
+unfoldable pub shrink_of : ℤ → Amount → List (List ℕ) → Result glues.Glue Cause
 shrink_of width stretch [] = Ok (glue width stretch no_amount)
 shrink_of width stretch (word ∷ rest) = if bytes_eq word (codes "minus") then last_shrink_of width stretch rest else Err Word
 
 -- what stands behind the width of a glue: nothing, or its stretch, its shrink or both
-unfoldable pub parts_of : ℤ → List (List ℕ) → Result Command Cause
+unfoldable pub parts_of : ℤ → List (List ℕ) → Result glues.Glue Cause
 parts_of width [] = Ok (glue width no_amount no_amount)
 parts_of width (word ∷ rest) =
     if bytes_eq word (codes "plus") then and_then (amount_first rest) (λ stretch. shrink_of width stretch (rest_of rest))
     else (if bytes_eq word (codes "minus") then last_shrink_of width no_amount rest
     else Err Word)
 
--- what the fields behind `glue` say
-unfoldable pub glue_of : List (List ℕ) → Result Command Cause
+-- the glue that some fields write
+unfoldable pub glue_of : List (List ℕ) → Result glues.Glue Cause
 glue_of fields = and_then (dimension_first fields) (λ width. parts_of width (rest_of fields))
 
--- what the fields behind `set` say
-unfoldable pub set_of : List (List ℕ) → Result Command Cause
-set_of fields = right_and (word_first (codes "boxmaxdepth") fields) (map_ok (λ z. Set (BoxMaxDepth z)) (last_dimension (rest_of fields)))
+-- what the fields behind `set` say: the name of a parameter and its value
+unfoldable pub parameter_of : List (List ℕ) → Result Parameter Cause
+parameter_of [] = Err Missing
+parameter_of (word ∷ rest) =
+    if bytes_eq word (codes "boxmaxdepth") then map_ok BoxMaxDepth (last_dimension rest)
+    else (if bytes_eq word (codes "baselineskip") then map_ok BaselineSkip (glue_of rest)
+    else (if bytes_eq word (codes "lineskip") then map_ok LineSkip (glue_of rest)
+    else (if bytes_eq word (codes "lineskiplimit") then map_ok LineSkipLimit (last_dimension rest)
+    else Err Word)))
 
 -- the size behind the name of a font: none, or `at` and a size
 unfoldable pub chosen_size_of : List (List ℕ) → Result (Option ℤ) Cause
 chosen_size_of [] = Ok None
 chosen_size_of (word ∷ rest) =
-    right_and (as_word (codes "at") (Ok word)) (map_ok Some (and_right (size_of_font_first rest) (ended (rest_of rest))))
+    if bytes_eq word (codes "at") then map_ok Some (and_right (size_of_font_first rest) (ended (rest_of rest))) else Err Word
 
 abbrev pub font_by : Result ℕ Cause → Result (List ℕ) Cause → Result (Option ℤ) Cause → Result Command Cause
 font_by (Err cause) name size = Err cause
@@ -319,18 +335,19 @@ rule_of fields = rule_by (size_first fields) (size_first (rest_of fields)) (size
 unfoldable pub command_named : Name → List (List ℕ) → Result Command Cause
 command_named names.Font fields = font_of fields
 command_named names.Use fields = map_ok UseFont (last_number fields)
-command_named names.Hbox fields = opening_of forms.Hbox fields
-command_named names.Vbox fields = opening_of forms.Vbox fields
-command_named names.Vtop fields = opening_of forms.Vtop fields
+command_named (names.Open form) fields = opening_of form fields
 command_named names.End fields = right_and (ended fields) (Ok End)
 command_named names.Character fields = map_ok Character (last_number fields)
 command_named names.Rule fields = rule_of fields
 command_named names.Kern fields = map_ok Kern (last_dimension fields)
-command_named names.Glue fields = glue_of fields
+command_named names.Glue fields = map_ok Glue (glue_of fields)
 command_named names.Penalty fields = map_ok Penalty (last_penalty fields)
+command_named (names.Append taking) fields = append_of taking fields
+command_named (names.Unbox kind taking) fields = map_ok (unboxing kind taking) (last_number fields)
+command_named names.LastBox fields = map_ok LastBox (last_number fields)
 command_named names.Measure fields = map_ok Measure (last_number fields)
 command_named names.Void fields = map_ok Void (last_number fields)
-command_named names.Set fields = set_of fields
+command_named names.Set fields = map_ok Set (parameter_of fields)
 command_named names.Ship fields = map_ok Ship (last_number fields)
 
 abbrev pub named_by : Option Name → List (List ℕ) → Result Command Cause

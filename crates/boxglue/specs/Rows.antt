@@ -18,7 +18,7 @@ use Rattle.boxglue.specs.Texts.{answers_text}
 -- the lines of the one-rule script
 abbrev pub one_rule_lines : List Line
 one_rule_lines =
-    record { number = 1; command = Open (record { form = Hbox; target = Natural; into = 0 }) }
+    record { number = 1; command = Open (record { form = Hbox; target = Natural; into = Some 0 }) }
     ∷ record { number = 2; command = Rule (record { width = Fixed (pos 65536); height = Fixed (pos 65536); depth = Fixed (pos 0) }) }
     ∷ record { number = 3; command = End }
     ∷ record { number = 4; command = Ship 0 }
@@ -65,7 +65,7 @@ BadNameRow = IsFirstBad (codes "font 0 a/b at 0pt") 1 causes.Name
 abbrev pub tall_box_lines : List Line
 tall_box_lines =
     record { number = 1; command = Set (BoxMaxDepth (pos 65536)) }
-    ∷ record { number = 2; command = Open (record { form = Vbox; target = To (pos 1310720); into = 0 }) }
+    ∷ record { number = 2; command = Open (record { form = Vbox; target = To (pos 1310720); into = Some 0 }) }
     ∷ record { number = 3; command = Glue (record { width = pos 0; stretch = pos 65536; stretch_order = Fil; shrink = pos 0; shrink_order = Normal }) }
     ∷ record { number = 4; command = Penalty (negsuc 9999) }
     ∷ record { number = 5; command = End }
@@ -74,9 +74,9 @@ tall_box_lines =
 abbrev pub TallBoxScript : Type 0
 TallBoxScript = IsScript (codes "set boxmaxdepth 1pt\nvbox to 20pt into 0\nglue 0pt plus 1fil\npenalty -10000\nend\n") tall_box_lines
 
--- a size without its register, and a glue with its stretch behind its shrink
+-- `into` without its register, and a glue with its stretch behind its shrink
 abbrev pub NoRegisterRow : Type 0
-NoRegisterRow = IsFirstBad (codes "hbox to 1pt") 1 Missing
+NoRegisterRow = IsFirstBad (codes "hbox to 1pt into") 1 Missing
 
 abbrev pub LateStretchRow : Type 0
 LateStretchRow = IsFirstBad (codes "glue 1pt minus 1fil plus 1pt") 1 Extra

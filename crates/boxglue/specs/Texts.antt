@@ -6,9 +6,9 @@ use Rattle.node_core.specs.declared.tree.Kind.{Kind}
 use Rattle.node_core.specs.declared.tree.Kind.TheVariants.{Horizontal, Vertical}
 use Rattle.job_core.specs.declared.command.Sizes.{Sizes}
 use Rattle.job_core.specs.declared.command.Answer.{Answer}
-use Rattle.job_core.specs.declared.command.Answer.TheVariants.{Done, Packed, Measured, MeasuredVoid, Shaped, Shipped}
+use Rattle.job_core.specs.declared.command.Answer.TheVariants.{Done, Packed, Measured, MeasuredVoid, Shaped, Added, Shipped}
 use Rattle.job_core.specs.declared.command.Refusal.{Refusal}
-use Rattle.job_core.specs.declared.command.Refusal.TheVariants.{OutOfMemory, DimensionTooLarge, NoFont, BadTfm, SlotTaken, NoOpenList, WrongMode, ListTooLong, TooDeep, HugePage, TooManyPages, TooMuchShipped, ListsOpen, Device, JobOver, VoidBox}
+use Rattle.job_core.specs.declared.command.Refusal.TheVariants.{OutOfMemory, DimensionTooLarge, NoFont, BadTfm, SlotTaken, NoOpenList, WrongMode, WrongKind, ListTooLong, TooDeep, HugePage, TooManyPages, TooMuchShipped, ListsOpen, Device, JobOver, VoidBox}
 use Rattle.job_core.specs.declared.command.Summary.{Summary}
 use Rattle.tfm_core.specs.declared.fault.TfmCause.{TfmCause}
 use Rattle.tfm_core.specs.declared.fault.TfmCause.TheVariants.{TooShort, Counts, DesignSize, CharInfo, FixWord, LigKern}
@@ -25,6 +25,7 @@ refusal_number (BadTfm cause) = 5
 refusal_number SlotTaken = 6
 refusal_number NoOpenList = 7
 refusal_number WrongMode = 8
+refusal_number WrongKind = 9
 refusal_number ListTooLong = 10
 refusal_number TooDeep = 11
 refusal_number HugePage = 14
@@ -53,6 +54,7 @@ refusal_name (BadTfm cause) = bad_file_name cause
 refusal_name SlotTaken = codes "SlotTaken"
 refusal_name NoOpenList = codes "NoOpenList"
 refusal_name WrongMode = codes "WrongMode"
+refusal_name WrongKind = codes "WrongKind"
 refusal_name ListTooLong = codes "ListTooLong"
 refusal_name TooDeep = codes "TooDeep"
 refusal_name HugePage = codes "HugePage"
@@ -95,6 +97,7 @@ answer_text (Packed sizes badness) = codes "packed " ++ (sizes_text sizes ++ (co
 answer_text (Measured kind sizes) = codes "measured " ++ (kind_name kind ++ (codes " " ++ sizes_text sizes))
 answer_text MeasuredVoid = codes "measured void"
 answer_text (Shaped items missing) = codes "added " ++ (decimal items ++ (codes " missing " ++ decimal missing))
+answer_text (Added items) = codes "added " ++ decimal items
 answer_text (Shipped pages) = codes "shipped " ++ decimal pages
 
 abbrev pub reply_text : Result Answer Refusal → List ℕ

@@ -7,16 +7,17 @@ ghost use Rattle.tfm_core.specs.NamedBytes.{IsFontName};
 ghost use Rattle.job_core.specs.declared.command.Command.TheVariants as commands;
 ghost use Rattle.boxglue.specs.Grammar.{IsInteger, is_name_byte};
 ghost use Rattle.boxglue.specs.ScriptLines.{fields_of};
-ghost use Rattle.boxglue.specs.Reading.{first_of, rest_of, word_first, small_number, number_of, number_first, dimension_first, size_of_font, size_of_font_first, is_short, is_name, name_first, size_of, size_first, ended, last_number, last_dimension, chosen_size_of, font_of, penalty_of, penalty_first, last_penalty, amount_first, last_amount, opened, opened_into, opening_of, glue, shrink_of, last_shrink_of, parts_of, glue_of, set_of, rule_of, command_named, command_of};
+ghost use Rattle.boxglue.specs.Reading.{first_of, rest_of, small_number, number_of, number_first, dimension_first, size_of_font, size_of_font_first, is_short, is_name, name_first, size_of, size_first, ended, last_number, last_dimension, map_ok, chosen_size_of, font_of, penalty_of, penalty_first, last_penalty, amount_first, last_amount, opening, opened, opened_into, opening_of, shift_of, append_of, unboxing, glue, shrink_of, last_shrink_of, parts_of, glue_of, parameter_of, rule_of, command_named, command_of};
 
 use crate::amounts::{Amount, amount_of};
 use crate::cause::Cause;
 use crate::lines::first_field;
 use crate::name::Name;
 use job_core::{
-    BoxForm, Command, FontLoad, FontName, FontSize, Opening, Parameter, Register, Target,
+    BoxForm, BoxUse, Command, FontLoad, FontName, FontSize, Opening, Parameter, Register, Taking,
+    Target, Unboxing,
 };
-use node_core::{Glue, Number, Rule, RuleSize};
+use node_core::{Glue, Kind, Number, Rule, RuleSize};
 use scaled_core::{Dimen, parse_dimen};
 use std::alloc::{AllocError, Global};
 
@@ -59,19 +60,6 @@ impl<'a> Fields<'a> {
         }
     }
 
-    /// The next field is this word.
-    #[tactic(auto, unfolding(crate::specs::Reading::word_first))]
-    fn word(&mut self, word: &[u8]) -> Result<(), Cause>
-        ensures value { result ≡ word_first word.now (fields_of self.old.rest.now) }
-        ensures rest { fields_of self.new.rest.now ≡ rest_of (fields_of self.old.rest.now) }
-    {
-        if self.field()? == word {
-            Ok(())
-        } else {
-            Err(Cause::Word)
-        }
-    }
-
     /// The next field as a number from 0 to 255.
     #[tactic(auto, unfolding(crate::specs::Reading::number_first))]
     fn number(&mut self) -> Result<u8, Cause>
@@ -79,6 +67,14 @@ impl<'a> Fields<'a> {
         ensures rest { fields_of self.new.rest.now ≡ rest_of (fields_of self.old.rest.now) }
     {
         number_of(self.field()?).ok_or(Cause::Number)
+    }
+
+    /// The next field as a register.
+    fn register(&mut self) -> Result<Register, Cause>
+        ensures value { result ≡ number_first (fields_of self.old.rest.now) }
+        ensures rest { fields_of self.new.rest.now ≡ rest_of (fields_of self.old.rest.now) }
+    {
+        Register::try_new(u64::from(self.number()?)).ok_or(Cause::Number)
     }
 
     /// The next field as the number of a penalty.
@@ -232,32 +228,36 @@ impl<'a> Fields<'a> {
         }
     }
 
-    /// What stands behind `hbox`, `vbox` or `vtop`: a size or none, and a register.
+    /// What stands behind `hbox`, `vbox` or `vtop`: a size or none, and a register or none.
     #[tactic(auto, unfolding(crate::specs::Reading::opening_of, crate::specs::Reading::opened_sized))]
     fn opening(&mut self, form: BoxForm) -> Result<Command, Cause>
         ensures { result ≡ opening_of form (fields_of self.old.rest.now) }
     {
-        match self.field()? {
-            b"into" => self.opened(form, Target::Natural),
-            b"to" => {
+        match self.field() {
+            Ok(b"into") => self.opened(form, Target::Natural),
+            Ok(b"to") => {
                 let size = self.dimen()?;
                 self.opened_into(form, Target::To(size))
             }
-            b"spread" => {
+            Ok(b"spread") => {
                 let more = self.dimen()?;
                 self.opened_into(form, Target::Spread(more))
             }
-            _ => Err(Cause::Word),
+            Ok(_) => Err(Cause::Word),
+            Err(_) => Ok(opening(form, Target::Natural, None)),
         }
     }
 
-    /// The opening of a list, with `into` and a register as the last fields.
+    /// The opening of a list, with nothing behind its size, or with `into` and a register.
     #[tactic(auto, unfolding(crate::specs::Reading::opened_into))]
     fn opened_into(&mut self, form: BoxForm, target: Target) -> Result<Command, Cause>
         ensures { result ≡ opened_into form target (fields_of self.old.rest.now) }
     {
-        self.word(b"into")?;
-        self.opened(form, target)
+        match self.field() {
+            Ok(b"into") => self.opened(form, target),
+            Ok(_) => Err(Cause::Word),
+            Err(_) => Ok(opening(form, target, None)),
+        }
     }
 
     /// The opening of a list, with a register as the last field.
@@ -265,13 +265,51 @@ impl<'a> Fields<'a> {
     fn opened(&mut self, form: BoxForm, target: Target) -> Result<Command, Cause>
         ensures { result ≡ opened form target (fields_of self.old.rest.now) }
     {
-        let into = self.last_register()?;
-        Ok(Command::Open(Opening { form, target, into }))
+        let register = self.last_register()?;
+        Ok(opening(form, target, Some(register)))
     }
 
-    /// What stands behind `glue`.
+    /// What stands behind `box` or `copy`: a register, and a shift or none.
+    #[tactic(auto, unfolding(crate::specs::Reading::append_of))]
+    fn append(&mut self, taking: Taking) -> Result<Command, Cause>
+        ensures { result ≡ append_of taking (fields_of self.old.rest.now) }
+    {
+        let register = self.register()?;
+        let shift = self.shift()?;
+        Ok(Command::Append(BoxUse {
+            register,
+            taking,
+            shift,
+        }))
+    }
+
+    /// What stands behind the register of a box: nothing, or `shift` and a dimension.
+    #[tactic(auto, unfolding(crate::specs::Reading::shift_of))]
+    fn shift(&mut self) -> Result<Dimen, Cause>
+        ensures { result ≡ shift_of (fields_of self.old.rest.now) }
+    {
+        match self.field() {
+            Ok(b"shift") => self.last_dimen(),
+            Ok(_) => Err(Cause::Word),
+            Err(_) => Ok(Dimen::ZERO),
+        }
+    }
+
+    /// What stands behind `unhbox`, `unhcopy`, `unvbox` or `unvcopy`: a register.
+    fn unboxing(&mut self, kind: Kind, taking: Taking) -> Result<Command, Cause>
+        ensures { result ≡ map_ok (unboxing kind taking) (last_number (fields_of self.old.rest.now)) }
+    {
+        let register = self.last_register()?;
+        Ok(Command::Unbox(Unboxing {
+            kind,
+            register,
+            taking,
+        }))
+    }
+
+    /// A glue as the last fields: its width, and its stretch, its shrink or both.
     #[tactic(auto, unfolding(crate::specs::Reading::glue_of))]
-    fn glue(&mut self, alloc: Global) -> Result<Result<Command, Cause>, AllocError>
+    fn glue(&mut self, alloc: Global) -> Result<Result<Glue, Cause>, AllocError>
         ensures { IfOk result (λ read. read ≡ glue_of (fields_of self.old.rest.now)) }
     {
         match self.dimen() {
@@ -282,11 +320,7 @@ impl<'a> Fields<'a> {
 
     /// What stands behind the width of a glue: nothing, or its stretch, its shrink or both.
     #[tactic(auto, unfolding(crate::specs::Reading::parts_of))]
-    fn glue_parts(
-        &mut self,
-        alloc: Global,
-        width: Dimen,
-    ) -> Result<Result<Command, Cause>, AllocError>
+    fn glue_parts(&mut self, alloc: Global, width: Dimen) -> Result<Result<Glue, Cause>, AllocError>
         ensures { IfOk result (λ read. read ≡ parts_of width (fields_of self.old.rest.now)) }
     {
         match self.field() {
@@ -307,7 +341,7 @@ impl<'a> Fields<'a> {
         alloc: Global,
         width: Dimen,
         stretch: Amount,
-    ) -> Result<Result<Command, Cause>, AllocError>
+    ) -> Result<Result<Glue, Cause>, AllocError>
         ensures { IfOk result (λ read. read ≡ shrink_of width stretch (fields_of self.old.rest.now)) }
     {
         match self.field() {
@@ -324,7 +358,7 @@ impl<'a> Fields<'a> {
         alloc: Global,
         width: Dimen,
         stretch: Amount,
-    ) -> Result<Result<Command, Cause>, AllocError>
+    ) -> Result<Result<Glue, Cause>, AllocError>
         ensures { IfOk result (λ read. read ≡ last_shrink_of width stretch (fields_of self.old.rest.now)) }
     {
         Ok(match self.last_amount(alloc)? {
@@ -333,14 +367,28 @@ impl<'a> Fields<'a> {
         })
     }
 
-    /// What stands behind `set`.
-    #[tactic(auto, unfolding(crate::specs::Reading::set_of))]
-    fn set(&mut self) -> Result<Command, Cause>
-        ensures { result ≡ set_of (fields_of self.old.rest.now) }
+    /// What stands behind `set`: the name of a parameter and its value.
+    #[tactic(auto, unfolding(crate::specs::Reading::parameter_of))]
+    fn parameter(&mut self, alloc: Global) -> Result<Result<Parameter, Cause>, AllocError>
+        ensures { IfOk result (λ read. read ≡ parameter_of (fields_of self.old.rest.now)) }
     {
-        self.word(b"boxmaxdepth")?;
-        let depth = self.last_dimen()?;
-        Ok(Command::Set(Parameter::BoxMaxDepth(depth)))
+        let word = match self.field() {
+            Ok(word) => word,
+            Err(cause) => return Ok(Err(cause)),
+        };
+        if word == b"boxmaxdepth".as_slice() {
+            return Ok(self.last_dimen().map(Parameter::BoxMaxDepth));
+        }
+        if word == b"baselineskip".as_slice() {
+            return Ok(self.glue(alloc)?.map(Parameter::BaselineSkip));
+        }
+        if word == b"lineskip".as_slice() {
+            return Ok(self.glue(alloc)?.map(Parameter::LineSkip));
+        }
+        if word == b"lineskiplimit".as_slice() {
+            return Ok(self.last_dimen().map(Parameter::LineSkipLimit));
+        }
+        Ok(Err(Cause::Word))
     }
 
     /// What stands behind `rule`.
@@ -364,23 +412,24 @@ impl<'a> Fields<'a> {
     fn named(&mut self, alloc: Global, name: Name) -> Result<Result<Command, Cause>, AllocError>
         ensures { IfOk result (λ read. read ≡ command_named name (fields_of self.old.rest.now)) }
     {
-        Ok(match name {
-            Name::Font => self.font(alloc)?,
-            Name::Use => self.last_number().map(Command::UseFont),
-            Name::Hbox => self.opening(BoxForm::Hbox),
-            Name::Vbox => self.opening(BoxForm::Vbox),
-            Name::Vtop => self.opening(BoxForm::Vtop),
-            Name::End => self.end().map(|()| Command::End),
-            Name::Character => self.last_number().map(Command::Character),
-            Name::Rule => self.rule(),
-            Name::Kern => self.last_dimen().map(Command::Kern),
-            Name::Glue => self.glue(alloc)?,
-            Name::Penalty => self.last_penalty().map(Command::Penalty),
-            Name::Measure => self.last_register().map(Command::Measure),
-            Name::Void => self.last_register().map(Command::Void),
-            Name::Set => self.set(),
-            Name::Ship => self.last_register().map(Command::Ship),
-        })
+        match name {
+            Name::Font => self.font(alloc),
+            Name::Use => Ok(self.last_number().map(Command::UseFont)),
+            Name::Open(form) => Ok(self.opening(form)),
+            Name::End => Ok(self.end().map(|()| Command::End)),
+            Name::Character => Ok(self.last_number().map(Command::Character)),
+            Name::Rule => Ok(self.rule()),
+            Name::Kern => Ok(self.last_dimen().map(Command::Kern)),
+            Name::Glue => Ok(self.glue(alloc)?.map(Command::Glue)),
+            Name::Penalty => Ok(self.last_penalty().map(Command::Penalty)),
+            Name::Append(taking) => Ok(self.append(taking)),
+            Name::Unbox(kind, taking) => Ok(self.unboxing(kind, taking)),
+            Name::LastBox => Ok(self.last_register().map(Command::LastBox)),
+            Name::Measure => Ok(self.last_register().map(Command::Measure)),
+            Name::Void => Ok(self.last_register().map(Command::Void)),
+            Name::Set => Ok(self.parameter(alloc)?.map(Command::Set)),
+            Name::Ship => Ok(self.last_register().map(Command::Ship)),
+        }
     }
 
     /// The command that the fields say, or the cause at the first bad one from the left.
@@ -475,17 +524,24 @@ fn size_of(field: &[u8]) -> Result<RuleSize, Cause>
     }
 }
 
+/// The opening of a list of that form and target, for that register or for the enclosing list.
+fn opening(form: BoxForm, target: Target, into: Option<Register>) -> Command
+    ensures { result ≡ opening form target into }
+{
+    Command::Open(Opening { form, target, into })
+}
+
 /// A glue of that width, stretch and shrink.
-fn glue(width: Dimen, stretch: Amount, shrink: Amount) -> Command
+fn glue(width: Dimen, stretch: Amount, shrink: Amount) -> Glue
     ensures { result ≡ glue width stretch shrink }
 {
-    Command::Glue(Glue {
+    Glue {
         width,
         stretch: stretch.size,
         stretch_order: stretch.order,
         shrink: shrink.size,
         shrink_order: shrink.order,
-    })
+    }
 }
 
 /// The number from 0 to 255 that a field writes.

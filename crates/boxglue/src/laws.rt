@@ -38,7 +38,7 @@ pub fn tall_box_script()
     ensures { TallBoxScript }
 {}
 
-/// A size without its register is bad for what is missing, and a glue with its stretch behind its shrink for what is too many.
+/// `into` without its register is bad for what is missing, and a glue with its stretch behind its shrink for what is too many.
 pub fn bad_boxes_and_glue()
     ensures register { NoRegisterRow }
     ensures stretch { LateStretchRow }

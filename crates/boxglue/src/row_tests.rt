@@ -90,6 +90,11 @@ fn short_scripts(rt: HostRuntime) {
             "2: refused 21 VoidBox\n4: measured void\n5: ok\n6: ok\n7: packed -2.5pt 0.0pt 0.0pt badness 0\n8: measured hbox -2.5pt 0.0pt 0.0pt\n9: ok\nend: pages 0 bytes 0\n",
         ),
         (
+            "hbox\nbox 0\nunvcopy 0\nlastbox 0\n",
+            false,
+            "1: refused 7 NoOpenList\n2: refused 7 NoOpenList\n3: refused 7 NoOpenList\n4: refused 7 NoOpenList\nend: pages 0 bytes 0\n",
+        ),
+        (
             "hbox into 0\nkern x\n",
             false,
             "refused 2 BadScript 2 Dimension\n",
@@ -419,6 +424,204 @@ fn three_kerned_movements(rt: HostRuntime) -> Result<(), Fail> {
     assert_eq!(rt; body.len(), 53);
     assert_eq!(rt; memory.bytes().get(60..113), Some(body.as_slice()));
     assert_eq!(rt; memory.bytes().get(113), Some(&248));
+    Ok(())
+}
+
+#[test]
+fn fonts_in_nested_boxes(rt: HostRuntime) {
+    let script =
+        "font 0 tiny\nfont 1 tiny at 20pt\nuse 0\nhbox into 0\ntext c\nhbox\nuse 1\ntext b\nend\ntext c\nend\nship 0\n";
+    let out = answers_with(rt.alloc(), script, &TINY).expect(&rt, "it runs");
+    let expected = "1: ok
+2: ok
+3: ok
+4: ok
+5: added 1 missing 0
+6: ok
+7: ok
+8: added 1 missing 0
+9: packed 10.0pt 10.0pt 5.0pt badness 0
+10: added 1 missing 0
+11: packed 25.0pt 10.0pt 5.0pt badness 0
+12: shipped 1
+end: pages 1 bytes 196
+f702018392c01c3b0000000003e800f3
+0000000000000a0000000a0000000474
+696e79f3010000000000140000000a00
+00000474696e798b0000000000000000
+00000000000000000000000000000000
+00000000000000000000000000000000
+ffffffff9f0a0000ab638dac628e910a
+0000638cf800000037018392c01c3b00
+00000003e8000f000000190000000100
+01f30000000000000a0000000a000000
+0474696e79f301000000000014000000
+0a0000000474696e79f90000007402df
+dfdfdfdf
+";
+    assert_eq!(rt; out.as_slice(), expected.as_bytes());
+}
+
+#[test]
+fn shifted_boxes(rt: HostRuntime) {
+    let script =
+        "hbox into 1\nrule 1pt 1pt 0pt\nend\nhbox to 3pt into 2\nend\nhbox into 0\nbox 1 shift 2pt\nbox 2\nrule 1pt 1pt 0pt\nend\nship 0\n";
+    let (fine, out) = answers(rt.alloc(), script).expect(&rt, "it runs");
+    assert!(rt; fine);
+    let expected = "1: ok
+2: ok
+3: packed 1.0pt 1.0pt 0.0pt badness 0
+4: ok
+5: packed 3.0pt 0.0pt 0.0pt badness 0
+6: ok
+7: added 1
+8: added 2
+9: ok
+10: packed 5.0pt 1.0pt 2.0pt badness 0
+11: shipped 1
+end: pages 1 bytes 132
+f702018392c01c3b0000000003e8008b
+00000000000000000000000000000000
+00000000000000000000000000000000
+0000000000000000ffffffff8d9f0300
+008400010000000100008e910400009f
+0100008400010000000100008cf80000
+000f018392c01c3b0000000003e80003
+00000005000000010001f90000005d02
+dfdfdfdf
+";
+    assert_eq!(rt; out.as_slice(), expected.as_bytes());
+}
+
+#[test]
+fn two_boxes_with_interline_glue(rt: HostRuntime) {
+    let script = "hbox into 1\nrule 10pt 5pt 0pt\nend\nvbox into 0\ncopy 1\nbox 1\nend\nship 0\n";
+    let (fine, out) = answers(rt.alloc(), script).expect(&rt, "it runs");
+    assert!(rt; fine);
+    let expected = "1: ok
+2: ok
+3: packed 10.0pt 5.0pt 0.0pt badness 0
+4: ok
+5: added 1
+6: added 2
+7: packed 10.0pt 17.0pt 0.0pt badness 0
+8: shipped 1
+end: pages 1 bytes 132
+f702018392c01c3b0000000003e8008b
+00000000000000000000000000000000
+00000000000000000000000000000000
+0000000000000000ffffffff8d9f0500
+008400050000000a00008e8d9f110000
+8400050000000a00008e8cf80000000f
+018392c01c3b0000000003e800110000
+000a000000010001f90000005b02dfdf
+dfdfdfdf
+";
+    assert_eq!(rt; out.as_slice(), expected.as_bytes());
+}
+
+#[test]
+fn two_boxes_with_lineskip(rt: HostRuntime) {
+    let script = "hbox into 1\nrule 10pt 15pt 0pt\nend\nvbox into 0\ncopy 1\nbox 1\nend\nship 0\n";
+    let (fine, out) = answers(rt.alloc(), script).expect(&rt, "it runs");
+    assert!(rt; fine);
+    let expected = "1: ok
+2: ok
+3: packed 10.0pt 15.0pt 0.0pt badness 0
+4: ok
+5: added 1
+6: added 2
+7: packed 10.0pt 31.0pt 0.0pt badness 0
+8: shipped 1
+end: pages 1 bytes 132
+f702018392c01c3b0000000003e8008b
+00000000000000000000000000000000
+00000000000000000000000000000000
+0000000000000000ffffffff8d9f0f00
+0084000f0000000a00008e8d9f1f0000
+84000f0000000a00008e8cf80000000f
+018392c01c3b0000000003e8001f0000
+000a000000010001f90000005b02dfdf
+dfdfdfdf
+";
+    assert_eq!(rt; out.as_slice(), expected.as_bytes());
+}
+
+#[test]
+fn boxes_in_lists(rt: HostRuntime) {
+    for (script, expected) in [
+        // The last item of a list, where it is a box.
+        (
+            "hbox into 0\nhbox\nend\nlastbox 5\nlastbox 6\nend\nmeasure 5\nmeasure 6\n",
+            "1: ok\n2: ok\n3: packed 0.0pt 0.0pt 0.0pt badness 0\n4: ok\n5: ok\n6: packed 0.0pt 0.0pt 0.0pt badness 0\n7: measured hbox 0.0pt 0.0pt 0.0pt\n8: measured void\nend: pages 0 bytes 0\n",
+        ),
+        // The items of boxes, in lists of their kind.
+        (
+            "hbox into 1\nrule 10pt 5pt 0pt\nend\nvbox into 2\nrule 10pt 5pt 0pt\nend\nhbox into 0\nunhbox 1\nend\nvbox into 0\nunvcopy 2\nunvbox 2\nend\nmeasure 1\nmeasure 2\n",
+            "1: ok\n2: ok\n3: packed 10.0pt 5.0pt 0.0pt badness 0\n4: ok\n5: ok\n6: packed 10.0pt 5.0pt 0.0pt badness 0\n7: ok\n8: added 1\n9: packed 10.0pt 5.0pt 0.0pt badness 0\n10: ok\n11: added 1\n12: added 1\n13: packed 10.0pt 10.0pt 0.0pt badness 0\n14: measured void\n15: measured void\nend: pages 0 bytes 0\n",
+        ),
+        // Neither in lists of the other kind, nor of a box of the other kind.
+        (
+            "hbox into 1\nend\nvbox into 2\nend\nhbox into 0\nunvbox 2\nunhbox 2\nunhbox 9\nend\nvbox into 0\nunhcopy 1\nunvbox 1\nend\nmeasure 1\nmeasure 2\n",
+            "1: ok\n2: packed 0.0pt 0.0pt 0.0pt badness 0\n3: ok\n4: packed 0.0pt 0.0pt 0.0pt badness 0\n5: ok\n6: refused 8 WrongMode\n7: refused 9 WrongKind\n8: added 0\n9: packed 0.0pt 0.0pt 0.0pt badness 0\n10: ok\n11: refused 8 WrongMode\n12: refused 9 WrongKind\n13: packed 0.0pt 0.0pt 0.0pt badness 0\n14: measured hbox 0.0pt 0.0pt 0.0pt\n15: measured vbox 0.0pt 0.0pt 0.0pt\nend: pages 0 bytes 0\n",
+        ),
+    ] {
+        let (_, out) = answers(rt.alloc(), script).expect(&rt, "it runs");
+        assert_eq!(rt; out.as_slice(), expected.as_bytes(), "at {script}");
+    }
+}
+
+#[test]
+fn refusals_leave_the_job(rt: HostRuntime) {
+    let alloc = rt.alloc();
+    let script =
+        b"vbox into 3\nrule 10pt 5pt 0pt\nend\nhbox into 4\nunhbox 3\nbox 3\nbox 3\nkern 16383.99999pt\nend\nkern -10pt\nend\nship 3\nmeasure 4\n";
+    let mut out = Vec::new(alloc);
+    let Ok((fine, memory)) = run_script(alloc, script, &[], Memory::new(alloc), &mut out) else {
+        panic!(rt; "the script runs");
+    };
+    assert!(rt; !fine);
+    assert_eq!(rt; memory.bytes().len(), 0);
+    let expected = "1: ok
+2: ok
+3: packed 10.0pt 5.0pt 0.0pt badness 0
+4: ok
+5: refused 9 WrongKind
+6: added 1
+7: added 0
+8: ok
+9: refused 3 DimensionTooLarge
+10: ok
+11: packed 16383.99998pt 5.0pt 0.0pt badness 0
+12: refused 21 VoidBox
+13: measured hbox 16383.99998pt 5.0pt 0.0pt
+end: pages 0 bytes 0
+";
+    assert_eq!(rt; out.as_slice(), expected.as_bytes());
+}
+
+/// A box of depth 200 may be made, and none that is deeper: its list stays open.
+#[test]
+fn boxes_200_deep(rt: HostRuntime) -> Result<(), Fail> {
+    let alloc = rt.alloc();
+    let rounds = "hbox into 1\nbox 1\nend\n".repeat(alloc, 200)?;
+    let script = format!(in alloc; "hbox into 1\nend\n{}", rounds)?;
+    let (_, out) = answers(alloc, script.as_str()).expect(&rt, "it runs");
+    assert!(rt; out.ends_with(b"602: refused 11 TooDeep\nend: refused 17 ListsOpen\n"));
+    let refused = out
+        .windows(7)
+        .filter(|text| *text == b"refused".as_slice())
+        .count();
+    assert_eq!(rt; refused, 2);
+    Ok(())
+}
+
+#[test]
+fn lists_64_deep(rt: HostRuntime) -> Result<(), Fail> {
+    let alloc = rt.alloc();
+    let script = format!(in alloc; "hbox into 0\n{}", "hbox\n".repeat(alloc, 64)?)?;
+    let (_, out) = answers(alloc, script.as_str()).expect(&rt, "it runs");
+    assert!(rt; out.ends_with(b"64: ok\n65: refused 11 TooDeep\nend: refused 17 ListsOpen\n"));
     Ok(())
 }
 

@@ -22,7 +22,7 @@ fn reads_each_command(rt: HostRuntime) -> Result<(), Fail> {
     let commands = [
         (
             3,
-            "Open(Opening { form: Hbox, target: Natural, into: Register { number: 7 } })",
+            "Open(Opening { form: Hbox, target: Natural, into: Some(Register { number: 7 }) })",
         ),
         (
             4,
@@ -62,9 +62,9 @@ fn reads_boxes_glue_and_penalties(rt: HostRuntime) -> Result<(), Fail> {
         b"vbox to -1.5pt into 1\n vtop  spread 2sp into +0255\nhbox into 0\nglue 1pt\nglue 0sp plus 1fil\nglue -1pt minus -.5filll \nglue 1pt plus 2pt minus 3fill\nglue 0pt plus 16383.99998fil\npenalty -500000000\npenalty +00010\npenalty 500000000\nset boxmaxdepth -1sp";
     let lines = read_script(rt.alloc(), text).expect(&rt, "each line is right");
     let commands = [
-        "Open(Opening { form: Vbox, target: To(Dimen { value: -98304 }), into: Register { number: 1 } })",
-        "Open(Opening { form: Vtop, target: Spread(Dimen { value: 2 }), into: Register { number: 255 } })",
-        "Open(Opening { form: Hbox, target: Natural, into: Register { number: 0 } })",
+        "Open(Opening { form: Vbox, target: To(Dimen { value: -98304 }), into: Some(Register { number: 1 }) })",
+        "Open(Opening { form: Vtop, target: Spread(Dimen { value: 2 }), into: Some(Register { number: 255 }) })",
+        "Open(Opening { form: Hbox, target: Natural, into: Some(Register { number: 0 }) })",
         "Glue(Glue { width: Dimen { value: 65536 }, stretch: Dimen { value: 0 }, stretch_order: Normal, shrink: Dimen { value: 0 }, shrink_order: Normal })",
         "Glue(Glue { width: Dimen { value: 0 }, stretch: Dimen { value: 65536 }, stretch_order: Fil, shrink: Dimen { value: 0 }, shrink_order: Normal })",
         "Glue(Glue { width: Dimen { value: -65536 }, stretch: Dimen { value: 0 }, stretch_order: Normal, shrink: Dimen { value: -32768 }, shrink_order: Filll })",
@@ -84,10 +84,79 @@ fn reads_boxes_glue_and_penalties(rt: HostRuntime) -> Result<(), Fail> {
 }
 
 #[test]
+fn reads_boxes_of_registers_and_line_skips(rt: HostRuntime) -> Result<(), Fail> {
+    let text =
+        b"hbox\nvbox to 1pt\nvtop spread -1sp\nhbox to 1pt into 0\nbox 0\ncopy +0255 shift -2pt\n box  7  shift  0sp \nunhbox 1\nunhcopy 2\nunvbox 3\nunvcopy 4\nlastbox 5\nset baselineskip 12pt\nset lineskip 1pt plus 1fil minus -2sp\nset lineskiplimit -1sp";
+    let lines = read_script(rt.alloc(), text).expect(&rt, "each line is right");
+    let commands = [
+        "Open(Opening { form: Hbox, target: Natural, into: None })",
+        "Open(Opening { form: Vbox, target: To(Dimen { value: 65536 }), into: None })",
+        "Open(Opening { form: Vtop, target: Spread(Dimen { value: -1 }), into: None })",
+        "Open(Opening { form: Hbox, target: To(Dimen { value: 65536 }), into: Some(Register { number: 0 }) })",
+        "Append(BoxUse { register: Register { number: 0 }, taking: Moved, shift: Dimen { value: 0 } })",
+        "Append(BoxUse { register: Register { number: 255 }, taking: Copied, shift: Dimen { value: -131072 } })",
+        "Append(BoxUse { register: Register { number: 7 }, taking: Moved, shift: Dimen { value: 0 } })",
+        "Unbox(Unboxing { kind: Horizontal, register: Register { number: 1 }, taking: Moved })",
+        "Unbox(Unboxing { kind: Horizontal, register: Register { number: 2 }, taking: Copied })",
+        "Unbox(Unboxing { kind: Vertical, register: Register { number: 3 }, taking: Moved })",
+        "Unbox(Unboxing { kind: Vertical, register: Register { number: 4 }, taking: Copied })",
+        "LastBox(Register { number: 5 })",
+        "Set(BaselineSkip(Glue { width: Dimen { value: 786432 }, stretch: Dimen { value: 0 }, stretch_order: Normal, shrink: Dimen { value: 0 }, shrink_order: Normal }))",
+        "Set(LineSkip(Glue { width: Dimen { value: 65536 }, stretch: Dimen { value: 65536 }, stretch_order: Fil, shrink: Dimen { value: -2 }, shrink_order: Normal }))",
+        "Set(LineSkipLimit(Dimen { value: -1 }))",
+    ];
+    let shown = shown(rt.alloc(), &lines)?;
+    assert_eq!(rt; shown.len(), commands.len());
+    for ((_, text), command) in shown.iter().zip(commands) {
+        assert!(rt; text.as_str() == command);
+    }
+    Ok(())
+}
+
+#[test]
+fn names_bad_boxes_of_registers_and_line_skips(rt: HostRuntime) {
+    for (text, cause) in [
+        ("box", Cause::Missing),
+        ("box 256", Cause::Number),
+        ("box 0 foo", Cause::Word),
+        ("box 0 into 1", Cause::Word),
+        ("box 0 shift", Cause::Missing),
+        ("copy 0 shift 1", Cause::Dimension),
+        ("copy 0 shift 1fil", Cause::Dimension),
+        ("box 0 shift 1pt x", Cause::Extra),
+        ("copy foo shift", Cause::Number),
+        ("unhbox", Cause::Missing),
+        ("unhcopy 0 shift 1pt", Cause::Extra),
+        ("unvbox -1", Cause::Number),
+        ("unvcopy 0 0", Cause::Extra),
+        ("unbox 0", Cause::Word),
+        ("lastbox", Cause::Missing),
+        ("lastbox x", Cause::Number),
+        ("lastbox 0 0", Cause::Extra),
+        ("hbox 0 into 0", Cause::Word),
+        ("hbox to 1pt 0", Cause::Word),
+        ("set baselineskip", Cause::Missing),
+        ("set baselineskip 1fil", Cause::Dimension),
+        ("set baselineskip 1pt foo", Cause::Word),
+        ("set lineskip 1pt plus", Cause::Missing),
+        ("set lineskip 1pt plus 1pt plus 1pt", Cause::Word),
+        ("set lineskip 1pt minus 1pt x", Cause::Extra),
+        ("set lineskip 1pt minus x", Cause::Dimension),
+        ("set lineskiplimit", Cause::Missing),
+        ("set lineskiplimit 1", Cause::Dimension),
+        ("set lineskiplimit 1pt plus 1pt", Cause::Extra),
+        ("set lineskiplimits 1pt", Cause::Word),
+    ] {
+        let found = read_script(rt.alloc(), text.as_bytes()).err();
+        assert!(rt; found == Some(ScriptFault::BadScript { line: 1, cause }));
+    }
+}
+
+#[test]
 fn names_bad_boxes_glue_and_penalties(rt: HostRuntime) {
     for (text, cause) in [
-        ("vbox", Cause::Missing),
         ("hbox foo", Cause::Word),
+        ("vbox into", Cause::Missing),
         ("hbox 0", Cause::Word),
         ("hbox to 1pt foo", Cause::Word),
         ("hbox to 1pt to 2pt", Cause::Word),
@@ -139,12 +208,10 @@ fn names_the_first_bad_line(rt: HostRuntime) {
         ("end\r", 1, Cause::Byte),
         ("end\r\r\n", 1, Cause::Byte),
         ("\u{e9}", 1, Cause::Byte),
-        ("%\t\nbox 0\n", 2, Cause::Word),
+        ("%\t\nboxes 0\n", 2, Cause::Word),
         (" % x", 1, Cause::Word),
         ("par", 1, Cause::Word),
-        ("hbox to 1pt", 1, Cause::Missing),
         ("   ", 1, Cause::Missing),
-        ("hbox", 1, Cause::Missing),
         ("hbox into", 1, Cause::Missing),
         ("rule 1pt 1pt", 1, Cause::Missing),
         ("kern", 1, Cause::Missing),

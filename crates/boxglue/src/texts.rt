@@ -22,6 +22,7 @@ fn refusal_number(refusal: Refusal) -> u32
         Refusal::SlotTaken => 6,
         Refusal::NoOpenList => 7,
         Refusal::WrongMode => 8,
+        Refusal::WrongKind => 9,
         Refusal::ListTooLong => 10,
         Refusal::TooDeep => 11,
         Refusal::HugePage => 14,
@@ -60,6 +61,7 @@ fn refusal_name(refusal: Refusal) -> &'static str
         Refusal::SlotTaken => "SlotTaken",
         Refusal::NoOpenList => "NoOpenList",
         Refusal::WrongMode => "WrongMode",
+        Refusal::WrongKind => "WrongKind",
         Refusal::ListTooLong => "ListTooLong",
         Refusal::TooDeep => "TooDeep",
         Refusal::HugePage => "HugePage",
@@ -179,6 +181,15 @@ fn push_shaped(items: usize, missing: usize, out: &mut Vec<u8>) -> Result<(), Al
     push_number(missing as u64, out)
 }
 
+/// Appends how many items were added.
+#[tactic(auto, unfolding(crate::specs::Texts::answer_text))]
+fn push_added(items: usize, out: &mut Vec<u8>) -> Result<(), AllocError>
+    ensures { OnOk result (out.new.items ≡ out.old.items ++ answer_text (Answer.Added items)) }
+{
+    push_text("added ", out)?;
+    push_number(items as u64, out)
+}
+
 /// Appends the number of pages that were shipped.
 #[tactic(auto, unfolding(crate::specs::Texts::answer_text))]
 fn push_shipped(pages: u32, out: &mut Vec<u8>) -> Result<(), AllocError>
@@ -199,6 +210,7 @@ fn push_answer(answer: &Answer, out: &mut Vec<u8>) -> Result<(), AllocError>
         Answer::Measured(kind, sizes) => push_measured(*kind, sizes, out),
         Answer::MeasuredVoid => push_text("measured void", out),
         Answer::Shaped { items, missing } => push_shaped(*items, *missing, out),
+        Answer::Added(items) => push_added(*items, out),
         Answer::Shipped(pages) => push_shipped(*pages, out),
     }
 }
