@@ -1,5 +1,5 @@
 -- The cause that the function names holds of the fields behind `box` and `copy`.
-use Rattle.std.proofs.Common.{◌≡◌, ℕ, ℤ, pos, Bool, true, false, List, [], ◌∷◌, Option, Some, None, Result, Ok, Err, codes, refl, ap, sym, ◌∙◌, subst}
+use Rattle.std.proofs.Common.{◌≡◌, ℕ, pos, Bool, true, false, List, [], ◌∷◌, Option, Some, None, Ok, Err, codes, refl, ap, sym, ◌∙◌, subst}
 use Rattle.std.specs.Str.{bytes_eq}
 use Rattle.job_core.specs.declared.command.Taking.{Taking}
 use Rattle.boxglue.specs.declared.cause.Cause.{Cause}

@@ -1,5 +1,5 @@
 -- The cause that the function names holds of the fields.
-use Rattle.std.proofs.Common.{◌≡◌, inl, ℕ, ℤ, pos, Bool, true, false, List, [], ◌∷◌, Option, Some, None, Result, Ok, Err, codes, refl, sym, ◌∙◌, subst}
+use Rattle.std.proofs.Common.{◌≡◌, inl, ℕ, ℤ, Bool, true, false, List, [], ◌∷◌, Option, Some, None, Result, Ok, Err, codes, refl, sym, ◌∙◌, subst}
 use Rattle.std.specs.Str.{bytes_eq}
 use Rattle.node_core.specs.declared.tree.RuleSize.{RuleSize}
 use Rattle.node_core.specs.declared.tree.RuleSize.TheVariants.{Running, Fixed}
@@ -14,7 +14,6 @@ use Rattle.boxglue.specs.Causes.{IsWord, GivesSize, IsFieldCause}
 use Rattle.boxglue.specs.Reading.{dimension_or, map_ok, size_of, size_first, ended, last_number, last_dimension, last_penalty, right_and, unboxing, rule_of, command_named, named_by, command_of}
 use Rattle.scaled_core.specs.declared.fault.DimenFault.{DimenFault}
 use Rattle.scaled_core.specs.ParsedTexts.{read_dimension}
-use Rattle.boxglue.proofs.FieldLaws.{same_bytes}
 use Rattle.boxglue.proofs.CommandLaws.{name_text, name_written, name_read, named}
 use Rattle.boxglue.proofs.CauseForms.{missing, bad_field, extra, as_cause, not_made, star_given, star_size, no_size_given, number_cause, penalty_cause, dimension_cause}
 use Rattle.boxglue.proofs.FontCauses.{font_cause, font_reads}

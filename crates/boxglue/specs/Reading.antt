@@ -7,7 +7,6 @@ use Rattle.std.specs.Str.Parse.{without_leading_sign, signed_digits_value}
 use Rattle.scaled_core.specs.declared.fault.DimenFault.{DimenFault}
 use Rattle.scaled_core.specs.ParsedTexts.{read_dimension}
 use Rattle.node_core.specs.declared.tree.Kind.{Kind}
-use Rattle.node_core.specs.declared.tree.Kind.TheVariants.{Horizontal, Vertical}
 use Rattle.node_core.specs.declared.tree.Glue as glues
 use Rattle.node_core.specs.declared.tree.Order.{Order}
 use Rattle.node_core.specs.declared.tree.Order.TheVariants.{Normal, Fil, Fill, Filll}
@@ -16,9 +15,7 @@ use Rattle.node_core.specs.declared.tree.RuleSize.TheVariants.{Running, Fixed}
 use Rattle.pack_core.specs.declared.pack.Target.{Target}
 use Rattle.pack_core.specs.declared.pack.Target.TheVariants.{Natural, To, Spread}
 use Rattle.job_core.specs.declared.command.BoxForm.{BoxForm}
-use Rattle.job_core.specs.declared.command.BoxForm.TheVariants as forms
 use Rattle.job_core.specs.declared.command.Taking.{Taking}
-use Rattle.job_core.specs.declared.command.Taking.TheVariants.{Moved, Copied}
 use Rattle.job_core.specs.declared.command.Parameter.{Parameter}
 use Rattle.job_core.specs.declared.command.Parameter.TheVariants.{BoxMaxDepth, BaselineSkip, LineSkip, LineSkipLimit}
 use Rattle.job_core.specs.declared.command.Command.{Command}
