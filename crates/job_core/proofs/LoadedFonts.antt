@@ -1,5 +1,5 @@
 -- The fonts of the slots are what the font files of the job give.
-use Rattle.std.proofs.Common.{◌≡◌, ℕ, ℤ, ◌<◌, List, replicate, Bool, true, false, cond, Option, Some, None, Result, Ok, Err, refl, ◌∙◌, ap, subst, arith}
+use Rattle.std.proofs.Common.{◌≡◌, ℕ, ℤ, ◌<◌, List, replicate, Bool, true, false, cond, Option, Some, None, Result, Ok, Err, refl, sym, ◌∙◌, ap, subst, arith}
 use Rattle.std.specs.Prelude.{slice_get, unwrap_or, IfOk, IfSome}
 use Rattle.std.proofs.Math.ListN.{length-set}
 use Rattle.std.proofs.lemmas.List.{length-replicate}

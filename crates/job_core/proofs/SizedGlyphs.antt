@@ -37,7 +37,7 @@ use Rattle.job_core.proofs.PackedItems.{packed_items}
 use Rattle.job_core.specs.Sized.{HasSizes, IsSizedLeaf, IsSoundBox, IsSized, AreSized, IsSizedList, IsSizedHeld, HasSizedGlyphs}
 use Rattle.job_core.specs.declared.command.Taking.{Taking}
 use Rattle.job_core.specs.declared.command.Taking.TheVariants.{Moved, Copied}
-use Rattle.job_core.specs.Machine.{State, most_deep, first_state, innermost, outer, items_in, with_nodes, with_rule, with_items, glue_in, box_items, with_box, without_last, held_in, with_taken, if_packed, packed_as, packed_list, packed_checks, close_checks, with_home, with_closed, with_used, with_unboxed, checks, first_of, font_for, refusal_in, after}
+use Rattle.job_core.specs.Machine.{State, most_deep, first_state, innermost, outer, items_in, with_nodes, with_rule, with_items, glue_in, box_items, with_box, without_last, held_in, with_taken, if_packed, packed_as, packed_list, home_checks, packed_checks, close_checks, with_home, with_closed, with_used, with_unboxed, checks, first_of, font_for, refusal_in, after}
 
 -- Lists of which each element is such a one.
 module _ {A : Type 0} (P : A → Type 0) where
@@ -345,7 +345,8 @@ packed_sized : (s : State) (l : OpenList) (found : Result packs.Packed TooLarge)
 packed_sized s l (Err large) own may sized list = sized
 packed_sized s l (Ok q) own may sized list =
     let glyphs = subst (EachLeaf (IsSizedLeaf s.fonts)) (own q refl) (sized_leaves s.fonts l.list list) in
-    let shallow = second_fails s.over (nat_lt most_deep (box_depth q.shown)) JobOver TooDeep _ may in
+    let shallow =
+    second_fails s.over (nat_lt most_deep (box_depth q.shown)) JobOver TooDeep (home_checks s.params (outer s.nest) l.opening.into q.shown) may in
     home_sized s l.opening.into q.shown sized (record { glyphs = glyphs; depth = not_deeper (box_depth q.shown) shallow })
 
 closed_sized : (s : State) (l : Option OpenList) → innermost s.nest ≡ l → first_of ((s.over, JobOver) ∷ close_checks s.params (outer s.nest) l) ≡ None
