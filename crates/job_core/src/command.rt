@@ -30,6 +30,9 @@ impl Model for Register {
 }
 
 impl Register {
+    /// The register of number 0.
+    pub const FIRST: Register = Register { number: 0 };
+
     /// The register of that number, or None exactly where there is none.
     pub fn try_new(number: u64) -> Option<Register>
         ensures { SomeIff result (number < 256) number }

@@ -58,7 +58,7 @@ fn hbox() -> Command {
     Command::Open(Opening {
         form: BoxForm::Hbox,
         target: Target::Natural,
-        into: Register::FIRST,
+        into: Some(Register::FIRST),
     })
 }
 
