@@ -207,8 +207,8 @@ inner_begin b inner h v before x shift from at_h at_v begin_h begin_v at is righ
     let here = reached-place b before from at in (
       first ∙ (right ∙ (ap (reference_h b.kind (right_at b.kind h (place_at b.setting from))) is ∙ ap (λ place. box_h b.kind (right_at b.kind h place) shift) here)),
       second
-      ∙ ap (list_v inner.kind inner.height)
-      (down ∙ (ap (reference_v b.kind (down_at b.kind v (place_at b.setting from))) is ∙ ap (λ place. box_v b.kind (down_at b.kind v place) shift inner.height) here)),
+          ∙ ap (list_v inner.kind inner.height)
+          (down ∙ (ap (reference_v b.kind (down_at b.kind v (place_at b.setting from))) is ∙ ap (λ place. box_v b.kind (down_at b.kind v place) shift inner.height) here)),
     )
 
 -- The numbers of the items of such a box, and its picture.

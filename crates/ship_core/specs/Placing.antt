@@ -86,14 +86,10 @@ leaves d rest = font_behind (option_map pos d.font) rest
 -- The marks of an item that stands at (h, v), in front of a picture; those of its own items do not count.
 abbrev pub strokes_of : BoxNode → (h v : ℤ) → Node → Picture → Picture
 strokes_of b h v (nodes.Glyph g) rest = in_front (mark_of b h v (items.glyph g)) (width_in b (items.glyph g)) rest
-strokes_of b h v (nodes.FontKern width) rest = rest
-strokes_of b h v (nodes.Kern width) rest = rest
-strokes_of b h v (nodes.Glue g) rest = rest
-strokes_of b h v (nodes.Penalty p) rest = rest
 strokes_of b h v (nodes.Rule sizes) rest = in_front (mark_of b h v (items.rule sizes)) (width_in b (items.rule sizes)) rest
-strokes_of b h v (nodes.Box shift inner) rest = rest
+strokes_of b h v other rest = rest
 
--- The reference point of an item that stands at (h, v), if it is a box.
+-- The reference point of a box that stands at (h, v); of another item its place.
 abbrev pub reference_h : Kind → (h : ℤ) → Node → ℤ
 reference_h kind h (nodes.Box shift inner) = box_h kind h shift
 reference_h kind h other = h
@@ -122,15 +118,11 @@ numbers_inside b h v other = []
 -- The numbers of an item that stands at (h, v) before the place (next_h, next_v): the two places, of a rule its corner and its sizes, and of
 -- a box its reference point.
 abbrev pub numbers_of : BoxNode → (h v next_h next_v : ℤ) → Node → List ℤ
-numbers_of b h v next_h next_v (nodes.Glyph g) = h ∷ v ∷ next_h ∷ next_v ∷ []
-numbers_of b h v next_h next_v (nodes.FontKern width) = h ∷ v ∷ next_h ∷ next_v ∷ []
-numbers_of b h v next_h next_v (nodes.Kern width) = h ∷ v ∷ next_h ∷ next_v ∷ []
-numbers_of b h v next_h next_v (nodes.Glue g) = h ∷ v ∷ next_h ∷ next_v ∷ []
-numbers_of b h v next_h next_v (nodes.Penalty p) = h ∷ v ∷ next_h ∷ next_v ∷ []
 numbers_of b h v next_h next_v (nodes.Rule sizes) =
     h ∷ v ∷ next_h ∷ next_v ∷ (v +ℤ rule_below b.kind b sizes) ∷ rule_tall b.kind b sizes ∷ rule_wide b.kind b sizes ∷ []
 numbers_of b h v next_h next_v (nodes.Box shift inner) =
     h ∷ v ∷ next_h ∷ next_v ∷ box_h b.kind h shift ∷ box_v b.kind v shift inner.height ∷ []
+numbers_of b h v next_h next_v other = h ∷ v ∷ next_h ∷ next_v ∷ []
 
 -- Where an item of a box stands at a place of its list, which begins at (h, v).
 abbrev pub point_in : BoxNode → (h v place : ℤ) → Option Place

@@ -113,7 +113,8 @@ fn difference(a: Dimen, b: Dimen) -> i64
     i64::from(a.get()) - i64::from(b.get())
 }
 
-/// Whether the page of a box with its reference point at (h, v) is huge: a place or a size on it does not fit. It takes no memory.
+/// Whether the page of a box with its reference point at (h, v) is huge: a place or a size on it does not fit, in inner boxes too. It takes
+/// no memory.
 #[tactic(auto, unfolding(crate::specs::Marks::is_huge))]
 pub fn is_huge(shown: &BoxNode, h: Dimen, v: Dimen) -> bool
     ensures { (counts : List ℤ) → result ≡ is_huge (record { counts = counts; shown = shown.now; h = h; v = v }) }
@@ -127,7 +128,7 @@ pub fn is_huge(shown: &BoxNode, h: Dimen, v: Dimen) -> bool
     !all_fit(shown, &begin_of(shown, h, v))
 }
 
-/// Draws the list of a box, and its inner boxes as groups.
+/// Draws the list of a box; each inner box with items is a group, from the place in front of it.
 fn draw_list(drawing: &mut Drawing, shown: &BoxNode, begin: &Begin) -> Result<(), AllocError>
     requires { list_all fits (numbers_behind shown.now begin.now.h begin.now.v [] shown.now.list) ≡ true }
     ensures ops { OnOk result (map view drawing.new.ops.items ≡ makes shown.now.kind drawing.old (picture_behind shown.now begin.now.h begin.now.v [] shown.now.list)) }
@@ -160,8 +161,8 @@ pub enum ShipFault {
 }
 
 /// The instructions that draw the page of a box whose reference point is (h, v), in scaled points from the origin: plain movements,
-/// selections of fonts, characters and rules. HugePage exactly where a place or a size on the page does not fit; that is found before
-/// memory is taken.
+/// selections of fonts, characters and rules, and an inner box with items between push and pop. HugePage exactly where a place or a size
+/// on the page does not fit; that is found before memory is taken.
 #[tactic(auto, unfolding(crate::specs::Drawing::body_of))]
 pub fn plan(
     alloc: Global,

@@ -1,5 +1,4 @@
 use Rattle.std.proofs.Common.{◌≡◌, ◌∙◌, refl, sym, ap, take, [], ◌+◌, map, arith}
-use Rattle.std.specs.Prelude.{true}
 use Rattle.std.specs.List.{list_all}
 use Rattle.std.proofs.lemmas.List.{drop_all, append-nil}
 use Rattle.dvi_ops.specs.View.{view}
@@ -20,13 +19,16 @@ use Rattle.ship_core.proofs.page_plan.+draw_list.Goals.{in-Box+then-not-is_empty
 pub loop-node-init : goal.loop-node-init
 loop-node-init t c =
     let b = c.args.shown.now in
-    let whole : items_of c.as_slice-node-items.result.now ≡ b.list = ap items_of c.as_slice-node-items.ensures.nodes ∙ items_of-nodes_of b.list in
+    let h = c.args.begin.now.h in
+    let v = c.args.begin.now.v in
+    let items = items_of c.as_slice-node-items.result.now in
+    let whole : items ≡ b.list = ap items_of c.as_slice-node-items.ensures.nodes ∙ items_of-nodes_of b.list in
     record {
       cursor = c.new-walk.ensures.cursor ∙ reached-none b.kind b.setting;
       here = c.new-walk.ensures.here;
-      left = ap (λ items. list_all fits (numbers_behind b c.args.begin.now.h c.args.begin.now.v [] items)) whole ∙ c.requires;
-      makes = refl;
-      leaves = refl;
+      left = ap (λ items. list_all fits (numbers_behind b h v [] items)) whole ∙ c.requires;
+      makes = refl {a = makes b.kind c.args.drawing.now (picture_behind b h v [] items)};
+      leaves = refl {a = leaves c.args.drawing.now (picture_behind b h v [] items)};
     }
 
 pub step-requires-clause-few : goal.step-requires-clause-few
