@@ -1,6 +1,6 @@
 -- The end of the file that the writer writes for pages that ships make.
 use Rattle.std.proofs.Common.{◌≡◌, ◌≢◌, ℕ, zero, suc, ◌+◌, ◌≤◌, ◌<◌, ◌%◌, ◌^◌, List, [], ◌∷◌, ◌++◌, length, map, replicate, refl, ap, ap₂, sym, ◌∙◌, subst, arith, lit<, length-append, append-nil}
-use Rattle.std.specs.Prelude.{ℤ, pos, negsuc, ◌≤ℤ◌, Bool, true, false, int_lt, cond}
+use Rattle.std.specs.Prelude.{ℤ, pos, negsuc, max, ◌≤ℤ◌, Bool, true, false, int_lt, cond}
 use Rattle.std.specs.Int.{int_max}
 use Rattle.std.specs.List.{AllByRecursion, Contains, flat_map}
 use Rattle.std.proofs.lemmas.Int.{ints, clamps}
@@ -8,7 +8,7 @@ use Rattle.std.proofs.lemmas.List.{length-replicate}
 use Rattle.tfm_core.specs.NamedBytes.{NamedBytes}
 use Rattle.tfm_core.specs.FileWidths.{file_widths}
 use Rattle.dvi_ops.specs.Instruction.{Definition, Instruction, Bop, Eop, Post, PostPost, Postamble, Pre}
-use Rattle.dvi_ops.specs.Forest.{flat}
+use Rattle.dvi_ops.specs.Forest.{flat, nests}
 use Rattle.dvi_ops.specs.Fonts.{Metrics, definitions}
 use Rattle.dvi_ops.specs.File.{Part, Defines, Shows, instructions, depth_of}
 use Rattle.dvi_ops.specs.Spelling.{NumberFits, NumbersFit, UnitsFit}
@@ -23,16 +23,16 @@ use Rattle.ship_core.specs.Drawing.{body_of}
 use Rattle.job_core.specs.Draft.{first_draft, draft_of, definitions_of, fresh_slots, in_rising_order, sheet_of, reach_down, reach_right, closed, whole, file_of}
 use Rattle.job_core.specs.Runs.{IsShipped}
 use Rattle.job_core.specs.Closing.{IsGreatestOf, IsOfJob, IsClosedFor}
-use Rattle.ship_core.proofs.DrawnPages.{definitions-page, nests-page}
+use Rattle.ship_core.proofs.DrawnPages.{definitions-page}
 use Rattle.job_core.proofs.DefinedFonts.{AreKnown, each_of, none_known, known_next}
 use Rattle.job_core.proofs.PageFonts.{table_of}
-use Rattle.job_core.proofs.FileLaws.{farthest, tall-is, wide-is, tall_fits, wide_fits, shipped_good, sheets_of, laid_out, whole-is, closing_tabled}
+use Rattle.job_core.proofs.FileLaws.{farthest, tall-is, wide-is, tall_fits, wide_fits, few_pushes, shipped_good, sheets_of, laid_out, whole-is, closing_tabled}
 
--- The greatest of a size of some pages and a number z is one of them, and none is above it.
-farthest_bounds : (size : Page → ℤ) (z : ℤ) (pages : List Page) → (z ≤ℤ farthest size z pages) × AllByRecursion (λ x. x ≤ℤ farthest size z pages) (map size pages)
+-- The greatest of a size of some values and a number z is one of them, and none is above it.
+farthest_bounds : {X : Type 0} (size : X → ℤ) (z : ℤ) (xs : List X) → (z ≤ℤ farthest size z xs) × AllByRecursion (λ y. y ≤ℤ farthest size z xs) (map size xs)
 farthest_bounds size z [] = (omega (arith, ints), tt)
-farthest_bounds size z (page ∷ pages) =
-    let later = farthest_bounds size (int_max z (size page)) pages in
+farthest_bounds size z (x ∷ xs) =
+    let later = farthest_bounds size (int_max z (size x)) xs in
     (omega (arith, ints, clamps, later.0), (omega (arith, ints, clamps, later.0), later.1))
 
 -- An element of a list is one of a longer list.
@@ -50,13 +50,17 @@ either_first a x z xs has = by_test (int_lt x a) refl
     by_test true is = behind_first a x z xs (subst (λ y. Contains (y ∷ xs) z) (ap (λ t. cond t a x) is) has)
     by_test false is = behind a z (x ∷ xs) (subst (λ y. Contains (y ∷ xs) z) (ap (λ t. cond t a x) is) has)
 
-farthest_reached : (size : Page → ℤ) (z : ℤ) (pages : List Page) → Contains (z ∷ map size pages) (farthest size z pages)
+farthest_reached : {X : Type 0} (size : X → ℤ) (z : ℤ) (xs : List X) → Contains (z ∷ map size xs) (farthest size z xs)
 farthest_reached size z [] = (zero, omega arith, refl)
-farthest_reached size z (page ∷ pages) =
-    either_first z (size page) (farthest size (int_max z (size page)) pages) (map size pages) (farthest_reached size (int_max z (size page)) pages)
+farthest_reached size z (x ∷ xs) =
+    either_first z (size x) (farthest size (int_max z (size x)) xs) (map size xs) (farthest_reached size (int_max z (size x)) xs)
 
-farthest-greatest : (size : Page → ℤ) (pages : List Page) → IsGreatestOf (pos 0 ∷ map size pages) (farthest size (pos 0) pages)
-farthest-greatest size pages = record { bounds = farthest_bounds size (pos 0) pages; reached = farthest_reached size (pos 0) pages }
+farthest-greatest : {X : Type 0} (size : X → ℤ) (xs : List X) → IsGreatestOf (pos 0 ∷ map size xs) (farthest size (pos 0) xs)
+farthest-greatest size xs = record { bounds = farthest_bounds size (pos 0) xs; reached = farthest_reached size (pos 0) xs }
+
+farthest-append : {X : Type 0} (size : X → ℤ) (z : ℤ) (xs ys : List X) → farthest size z (xs ++ ys) ≡ farthest size (farthest size z xs) ys
+farthest-append size z [] ys = refl
+farthest-append size z (x ∷ xs) ys = farthest-append size (int_max z (size x)) xs ys
 
 -- What is laid out for the pages can be spelled, and the last place fits.
 grows : (fonts : Slots) (slots : List ℕ) (s : Written) (pages : List Page) → s.size ≤ (after_all s (sheets_of fonts slots pages)).size
@@ -127,26 +131,37 @@ instructions_from fonts slots s (page ∷ pages) =
     ap₂ (λ (a b : List Instruction). a ++ b) (one_page s.last sheet) (instructions_from fonts later (after s sheet) pages)
     ∙ sym (instructions-append (parts_of s.last sheet) (parts_from fonts later (after s sheet) pages))
 
--- No push is open in them.
-abbrev IsFlat : Part → Type 0
-IsFlat part = depth_of part ≡ 0
+-- How many pushes are open at once in a part.
+abbrev part_depth : Part → ℤ
+part_depth part = pos (depth_of part)
 
-flat_definitions : (ds : List Definition) → AllByRecursion IsFlat (map (λ d. Defines d) ds)
-flat_definitions [] = tt
-flat_definitions (d ∷ ds) = (refl, flat_definitions ds)
+max-deeper : (n m : ℕ) → int_max (pos n) (pos m) ≡ pos (max n m)
+max-deeper n m = omega (arith, ints, clamps)
 
-all_flat : (fonts : Slots) (slots : List ℕ) (s : Written) (pages : List Page) → AllByRecursion IsFlat (parts_from fonts slots s pages)
+-- None is open in a definition.
+definitions-flat : (n : ℕ) (ds : List Definition) → farthest part_depth (pos n) (map (λ d. Defines d) ds) ≡ pos n
+definitions-flat n [] = refl
+definitions-flat n (d ∷ ds) = ap (λ z. farthest part_depth z (map (λ d. Defines d) ds)) (max-deeper n 0) ∙ (ap (λ k. farthest part_depth (pos k) (map (λ d. Defines d) ds)) (max-none n) ∙ definitions-flat n ds)
+  where
+    max-none : (n : ℕ) → max n 0 ≡ n
+    max-none n = omega arith
+
+page-deeper : (n : ℕ) (last : ℤ) (p : Sheet) → farthest part_depth (pos n) (parts_of last p) ≡ pos (max n (nests p.body))
+page-deeper n last p =
+    farthest-append part_depth (pos n) (map (λ d. Defines d) p.fresh) (Shows p.counts last p.body ∷ [])
+    ∙ (ap (λ z. int_max z (pos (nests p.body))) (definitions-flat n p.fresh) ∙ max-deeper n (nests p.body))
+
+-- The layout keeps the most pushes that are open at once in its parts.
+depth-is : (fonts : Slots) (slots : List ℕ) (s : Written) (pages : List Page)
+    → farthest part_depth (pos s.depth) (parts_from fonts slots s pages) ≡ pos (after_all s (sheets_of fonts slots pages)).depth
 unfolding parts_from
-all_flat fonts slots s [] = tt
-all_flat fonts slots s (page ∷ pages) =
+depth-is fonts slots s [] = refl
+depth-is fonts slots s (page ∷ pages) =
     let sheet = sheet_of fonts slots page in
-    all_append IsFlat (parts_of s.last sheet) (parts_from fonts (slots ++ fresh_slots fonts slots (flat (body_of page))) (after s sheet) pages)
-    (all_append IsFlat (map (λ d. Defines d) sheet.fresh) (Shows page.counts s.last (body_of page) ∷ []) (flat_definitions sheet.fresh) (nests-page page, tt))
-    (all_flat fonts (slots ++ fresh_slots fonts slots (flat (body_of page))) (after s sheet) pages)
-
-no_depths : (parts : List Part) → AllByRecursion IsFlat parts → AllByRecursion (λ z. z ≤ℤ pos 0) (map (λ part. pos (depth_of part)) parts)
-no_depths [] all = tt
-no_depths (part ∷ parts) (here, all) = (omega (arith, ints, here), no_depths parts all)
+    let later = slots ++ fresh_slots fonts slots (flat (body_of page)) in
+    let parts = parts_from fonts later (after s sheet) pages in
+    farthest-append part_depth (pos s.depth) (parts_of s.last sheet) parts
+    ∙ (ap (λ z. farthest part_depth z parts) (page-deeper s.depth s.last sheet) ∙ depth-is fonts later (after s sheet) pages)
 
 -- The fonts that they define are the job's.
 job_definitions : (fonts : Slots) (slots : List ℕ) → AllByRecursion (IsOfJob fonts) (definitions_of fonts slots)
@@ -227,13 +242,12 @@ whole_closes files fonts pages loaded all small =
     subst (λ bytes. IsClosedFor fonts bytes pages) (sym laid_whole)
     (framed fonts is stop tail s.size padding pages parts (all_definitions fonts draft.defined pages) (ap (λ (is : List Instruction). preamble ∷ is) (instructions_from fonts [] at_first pages))
     (((lit< tt, units), pages_writable files fonts loaded [] at_first pages (none_known fonts) all first below))
-    (last_fits fonts [] at_first pages first below, units, tall_fits fonts pages all, wide_fits fonts pages all, omega (arith, laid.depth), omega arith)
+    (last_fits fonts [] at_first pages first below, units, tall_fits fonts pages all, wide_fits fonts pages all, omega (arith, few_pushes fonts [] at_first pages all (omega arith)), omega arith)
     (all_defined (table_of fonts) (definitions_of fonts (in_rising_order draft.defined)) (closing_tabled files fonts draft.defined loaded))
     (size_of_front sheets) below (padding_low size) (omega arith)
     (subst (IsGreatestOf (pos 0 ∷ map reach_down pages)) (sym (tall-is fonts first_draft pages)) (farthest-greatest reach_down pages))
     (subst (IsGreatestOf (pos 0 ∷ map reach_right pages)) (sym (wide-is fonts first_draft pages)) (farthest-greatest reach_right pages))
-    (subst (λ n. IsGreatestOf (pos 0 ∷ map (λ part. pos (depth_of part)) parts) (pos n)) (sym laid.depth)
-    (record { bounds = (omega (arith, ints), no_depths parts (all_flat fonts [] at_first pages)); reached = (zero, omega arith, refl) }))
+    (subst (IsGreatestOf (pos 0 ∷ map part_depth parts)) (depth-is fonts [] at_first pages) (farthest-greatest part_depth parts))
     (subst (λ (bytes : List ℕ). length bytes % 4 ≡ 0) laid_whole fills))
 
 -- The bytes of a job with these pages end as they should.

@@ -1,15 +1,14 @@
 -- What the writer writes for pages that ships make is a DVI file of them.
-use Rattle.std.proofs.Common.{◌≡◌, ℕ, zero, suc, ◌+◌, ◌<◌, ◌%◌, ◌^◌, List, [], ◌∷◌, ◌++◌, length, map, replicate, refl, ap, ap₂, sym, ◌∙◌, subst, arith, append_assoc, append-nil, length-append}
-use Rattle.std.specs.Prelude.{ℤ, pos, ◌+ℤ◌, true, false, IsSome, is_some}
+use Rattle.std.proofs.Common.{◌≡◌, ℕ, zero, suc, ◌+◌, ◌<◌, ◌≤◌, ◌%◌, ◌^◌, List, [], ◌∷◌, ◌++◌, length, map, replicate, refl, ap, ap₂, sym, ◌∙◌, subst, arith, append_assoc, append-nil, length-append}
+use Rattle.std.specs.Prelude.{ℤ, pos, ◌+ℤ◌, true, false, max, IsSome, is_some}
 use Rattle.std.specs.Int.{int_max}
 use Rattle.std.specs.List.{AllByRecursion, list_any}
 use Rattle.std.proofs.lemmas.Int.{ints, clamps}
 use Rattle.scaled_core.specs.Dimensions.{Within}
 use Rattle.tfm_core.specs.NamedBytes.{NamedBytes}
-use Rattle.node_core.specs.Nodes.{nodes_of}
 use Rattle.dvi_ops.specs.Instruction.{Definition, Instruction, Post, PostPost, Postamble}
 use Rattle.dvi_ops.specs.Body.{start}
-use Rattle.dvi_ops.specs.Forest.{flat}
+use Rattle.dvi_ops.specs.Forest.{flat, nests}
 use Rattle.dvi_ops.specs.Fonts.{Metrics, defined, known_after, font_in as font_by}
 use Rattle.dvi_ops.specs.File.{IsFile}
 use Rattle.dvi_ops.specs.Spelling.{spelling, operand, NumberFits}
@@ -18,15 +17,16 @@ use Rattle.dvi_ops.proofs.Layouts.{bytes_of-append}
 use Rattle.dvi_ops.proofs.WholeFile.{whole_file, padding_low}
 use Rattle.job_core.specs.FontSlots.{Slots}
 use Rattle.job_core.specs.Loaded.{AreLoaded}
-use Rattle.job_core.specs.Sized.{AreSized}
+use Rattle.job_core.specs.Sized.{IsSoundBox}
 use Rattle.ship_core.specs.Marks.{Page, marks_of_page, is_huge}
 use Rattle.ship_core.specs.Drawing.{body_of}
+use Rattle.job_core.specs.Machine.{most_deep}
 use Rattle.job_core.specs.Draft.{Draft, first_draft, with_page, with_pages, draft_of, definitions_of, fresh_slots, in_rising_order, selects, sheet_of, reach_down, reach_right, closing, closed, whole, file_of}
 use Rattle.job_core.specs.Runs.{IsShipped}
 use Rattle.job_core.specs.Shown.{GivesFiles, shown_page, IsFileOf}
 use Rattle.ship_core.proofs.Fitting.{fits_within}
 use Rattle.ship_core.proofs.DrawnMarks.{number_within}
-use Rattle.ship_core.proofs.DrawnPages.{drawn_page, writable_page, definitions-page, nests-page, fits_down, fits_right}
+use Rattle.ship_core.proofs.DrawnPages.{drawn_page, writable_page, definitions-page, nests_page, fits_down, fits_right}
 use Rattle.job_core.proofs.DefinedFonts.{AreKnown, none_known, known_next, selected_known, each_selected, each_of, rising_among, listed_at, defined_among}
 use Rattle.job_core.proofs.PageFonts.{table_of, tabled, IsSlot, selected_slots, font_measured, have_widths}
 
@@ -41,9 +41,9 @@ zero_within = record { low = omega (arith, ints); high = omega (arith, ints) }
 module _ (metrics : Metrics) (files : List NamedBytes) (fonts : Slots) (gives : GivesFiles metrics files) (loaded : AreLoaded files fonts) where
   -- A page that is not huge can be written behind what is known, and shows its marks.
   page_good : (slots : List ℕ) (known : List Definition) (page : Page) → page.counts ≡ replicate 10 (pos 0) → AreKnown fonts slots known → is_huge page ≡ false
-      → AreSized fonts (nodes_of page.shown.list) → IsGood metrics (table_of fonts) known (sheet_of fonts slots page) (marks_of_page page)
-  page_good slots known page zeros knows small sized =
-      let widths = have_widths files fonts loaded metrics gives (nodes_of page.shown.list) sized in
+      → IsSoundBox fonts page.shown → IsGood metrics (table_of fonts) known (sheet_of fonts slots page) (marks_of_page page)
+  page_good slots known page zeros knows small sound =
+      let widths = have_widths files fonts loaded metrics gives page.shown.list sound.glyphs in
       let is = flat (body_of page) in
       let shown = drawn_page (table_widths metrics (table_of fonts)) start.place.held page small widths in
       record {
@@ -61,19 +61,19 @@ module _ (metrics : Metrics) (files : List NamedBytes) (fonts : Slots) (gives : 
               λ e. subst (λ z. IsSome (defined z (known_after known (define (definitions_of fonts (fresh_slots fonts slots is)))))) (sym of.is)
                   (selected_known fonts slots is known knows of.slot of.loaded e of.small of.has),
             ))
-            (selected_slots files fonts loaded page sized);
+            (selected_slots files fonts loaded page sound.glyphs);
         measured =
             each_selected (IsSlot fonts) (λ f. IsSome (font_by metrics (table_of fonts f))) is (λ s. true) (λ s e. refl)
             (λ f of. (of.slot, of.is, λ e. ap (λ z. is_some (font_by metrics (table_of fonts z))) of.is ∙ ap is_some (font_measured files fonts loaded metrics gives of.slot of.loaded of.has)))
-            (selected_slots files fonts loaded page sized);
-        shallow = omega (arith, nests-page page);
+            (selected_slots files fonts loaded page sound.glyphs);
+        shallow = omega (arith, nests_page page, sound.depth);
         last = shown.0;
         shows = shown.1;
       }
 
   pub shipped_good : (slots : List ℕ) (known : List Definition) (page : Page) → AreKnown fonts slots known → IsShipped fonts page
       → IsGood metrics (table_of fonts) known (sheet_of fonts slots page) (marks_of_page page)
-  shipped_good slots known page knows (is, small, sized) = page_good slots known page (ap (λ (p : Page). p.counts) is) knows small sized
+  shipped_good slots known page knows (is, small, sound) = page_good slots known page (ap (λ (p : Page). p.counts) is) knows small sound
 
 -- What is written for pages, each behind the definitions before it.
 abbrev pub sheets_of : Slots → (slots : List ℕ) → List Page → List Sheet
@@ -100,7 +100,7 @@ pub record IsLaidOut (fonts : Slots) (draft : Draft) (s : Written) (front : List
   pub bytes : draft.bytes ≡ front
   pub last : s.last ≡ draft.last
   pub size : s.size ≡ length draft.bytes
-  pub depth : s.depth ≡ 0
+  pub depth : s.depth ≡ draft.deep
   pub known : AreKnown fonts draft.defined s.known
 
 laid_out_first : (fonts : Slots) → IsLaidOut fonts first_draft at_first (bytes_of (preamble ∷ []))
@@ -119,7 +119,7 @@ laid_out_next fonts draft s is page laid =
       last = ap (λ n. pos (n + length (bytes_of (define sheet.fresh)))) laid.size;
       size =
           omega (arith, laid.size, ap (λ is. length (bytes_of is)) same, length-append draft.bytes (bytes_of (sheet_from draft.last sheet)));
-      depth = omega (arith, laid.depth, nests-page page);
+      depth = ap (λ d. max d (nests (body_of page))) laid.depth;
       known = known_next fonts draft.defined (flat (body_of page)) s.known laid.known;
     }
 
@@ -158,10 +158,10 @@ whole-is fonts draft s front count laid =
     append_assoc draft.bytes (end (closing draft count) (length draft.bytes)) fill
     ∙ ap₂ (λ (a b : List ℕ). a ++ (b ++ fill)) laid.bytes (ap₂ end (closing-is fonts draft s front count laid) (sym laid.size))
 
--- The greatest of a size of some pages, and a number.
-abbrev pub farthest : (Page → ℤ) → ℤ → List Page → ℤ
+-- The greatest of a size of some values, and a number.
+abbrev pub farthest : {X : Type 0} → (X → ℤ) → ℤ → List X → ℤ
 farthest size z [] = z
-farthest size z (page ∷ pages) = farthest size (int_max z (size page)) pages
+farthest size z (x ∷ xs) = farthest size (int_max z (size x)) xs
 
 pub tall-is : (fonts : Slots) (draft : Draft) (pages : List Page) → (with_pages fonts draft pages).tall ≡ farthest reach_down draft.tall pages
 unfolding with_page
@@ -177,7 +177,7 @@ abbrev HasReach : Page → Type 0
 HasReach page = Within 1073741823 (reach_down page) × Within 1073741823 (reach_right page)
 
 reaches : (fonts : Slots) (page : Page) → IsShipped fonts page → HasReach page
-reaches fonts page (is, small, sized) =
+reaches fonts page (is, small, sound) =
     (fits_within (page.v +ℤ page.shown.depth) (fits_down page small), fits_within (page.h +ℤ page.shown.width) (fits_right page small))
 
 farthest_within : (fonts : Slots) (size : Page → ℤ) (z : ℤ) (pages : List Page) → Within 1073741823 z → ((page : Page) → IsShipped fonts page → Within 1073741823 (size page))
@@ -195,6 +195,14 @@ tall_fits fonts pages all =
 pub wide_fits : (fonts : Slots) (pages : List Page) → AllByRecursion (IsShipped fonts) pages → NumberFits (draft_of fonts pages).wide
 wide_fits fonts pages all =
     number_within _ (subst (Within 1073741823) (sym (wide-is fonts first_draft pages)) (farthest_within fonts reach_right (pos 0) pages zero_within (λ page here. (reaches fonts page here).1) all))
+
+-- Few pushes are open at once in the pages.
+pub few_pushes : (fonts : Slots) (slots : List ℕ) (s : Written) (pages : List Page) → AllByRecursion (IsShipped fonts) pages → s.depth ≤ most_deep
+    → (after_all s (sheets_of fonts slots pages)).depth ≤ most_deep
+few_pushes fonts slots s [] all few = few
+few_pushes fonts slots s (page ∷ pages) ((is, small, sound), all) few =
+    few_pushes fonts (slots ++ fresh_slots fonts slots (flat (body_of page))) (after s (sheet_of fonts slots page)) pages all
+    (omega (arith, few, nests_page page, sound.depth))
 
 -- The definitions of the postamble are the job's, and all that are known.
 pub closing_tabled : (files : List NamedBytes) (fonts : Slots) (slots : List ℕ) → AreLoaded files fonts → AllByRecursion (IsTabled (table_of fonts)) (definitions_of fonts (in_rising_order slots))

@@ -1,14 +1,14 @@
 -- How a job and the machine that it stands for move together.
 use Rattle.std.proofs.Common.{◌≡◌, ℕ, ◌+◌, ◌<◌, ◌^◌, Bool, true, false, List, [], ◌∷◌, ◌++◌, length, length-append, Option, Some, None, Err, refl, ap, ap₂, sym, ◌∙◌, subst, arith, lit≤}
 use Rattle.std.specs.Int.{int_max}
-use Rattle.std.specs.Prelude.{pos, nat_le, nat_lt, is_none, if◌then◌else◌, IfOk}
+use Rattle.std.specs.Prelude.{pos, max, nat_le, nat_lt, is_none, if◌then◌else◌, IfOk}
 use Rattle.std.specs.List.{AllByRecursion}
 use Rattle.std.proofs.lemmas.Bool.{leb-false, ltb-false}
 use Rattle.node_core.specs.declared.tree.BoxNode.{BoxNode}
 use Rattle.node_core.specs.Nodes.{nodes_of, box_count}
 use Rattle.tfm_core.specs.FileWidths.{file_widths}
 use Rattle.dvi_ops.specs.Instruction.{Definition}
-use Rattle.dvi_ops.specs.Forest.{flat}
+use Rattle.dvi_ops.specs.Forest.{flat, nests}
 use Rattle.dvi_ops.specs.Layout.{bytes_of, define, sheet_from, table_widths}
 use Rattle.dvi_ops.proofs.Appends.{all_append, all_weaker}
 use Rattle.job_core.specs.declared.command.Command.{Command}
@@ -33,6 +33,7 @@ use Rattle.job_core.proofs.LoadedFonts.{loaded_first, loaded_after}
 use Rattle.job_core.proofs.DefinedFonts.{Extends, HasSelected, fresh_same, definitions_same, fresh_parts, among_fresh, defined_once, few_defined, none_rising}
 use Rattle.job_core.proofs.PageFonts.{table_of, short_names, has_selected, have_widths}
 use Rattle.job_core.proofs.PageBytes.{page_bytes}
+use Rattle.ship_core.proofs.DrawnPages.{nests_page}
 
 -- The draft of pages, and of more pages behind them.
 pub with_pages-append : (fonts : Slots) (draft : Draft) (pages more : List Page) → with_pages fonts draft (pages ++ more) ≡ with_pages fonts (with_pages fonts draft pages) more
@@ -131,10 +132,11 @@ sheet-same fonts more draft page extends has =
       last = pos (length draft.bytes + length (bytes_of (define ds)));
       tall = int_max draft.tall (reach_down page);
       wide = int_max draft.wide (reach_right page);
+      deep = max draft.deep (nests (body_of page));
     }) defined same
 
 page_selects : (files : List NamedBytes) (fonts : Slots) (page : Page) → AreLoaded files fonts → IsShipped fonts page → HasSelected fonts (flat (body_of page))
-page_selects files fonts page loaded (is, small, sized) = has_selected files fonts loaded page sized
+page_selects files fonts page loaded (is, small, sound) = has_selected files fonts loaded page sound.glyphs
 
 pages-same : (files : List NamedBytes) (fonts more : Slots) (draft : Draft) (pages : List Page) → AreLoaded files fonts → Extends fonts more → AllByRecursion (IsShipped fonts) pages
     → with_pages fonts draft pages ≡ with_pages more draft pages
@@ -282,6 +284,7 @@ steady_room s draft command None is numbers nodes pages none room =
       pages = omega (arith, pages, room.pages);
       fonts = knows.0;
       glyphs = knows.1;
+      deep = room.deep;
       defined = room.defined;
       bytes = omega (arith, nodes, pages, room.bytes);
     })
@@ -298,13 +301,15 @@ shipped_room s draft r (Some b) none is admits room =
     let nodes = ltb-false most_shipped (s.shipped + count_in (held_in s.registers r)) admits.nodes in
     let pages = leb-false most_pages s.pages admits.pages in
     let knows = knows_after s (Ship r) none tt room.fonts room.glyphs in
-    let widths = have_widths s.files s.fonts room.fonts (file_widths s.files) (λ name size widths e. e) (nodes_of b.list) (sized_held s r b room.glyphs is) in
+    let sound = sized_held s r b room.glyphs is in
+    let widths = have_widths s.files s.fonts room.fonts (file_widths s.files) (λ name size widths e. e) b.list sound.glyphs in
     let fresh = fresh_slots s.fonts draft.defined (flat (body_of (page_of b))) in
     record {
       nodes = omega (arith, nodes);
       pages = omega (arith, pages);
       fonts = knows.0;
       glyphs = knows.1;
+      deep = omega (arith, room.deep, nests_page (page_of b), sound.depth);
       defined = defined_once s.fonts draft.defined (flat (body_of (page_of b))) room.defined;
       bytes =
           omega (
@@ -383,7 +388,7 @@ small_after s draft (Set parameter) room = steady_bytes s draft (Set parameter) 
 pub first_room : (files : List NamedBytes) → HasRoom (first_state files) first_draft
 unfolding spelling operand
 first_room files =
-    record { nodes = omega arith; pages = omega arith; fonts = loaded_first files; glyphs = sized_first files; defined = none_rising; bytes = lit≤ tt }
+    record { nodes = omega arith; pages = omega arith; fonts = loaded_first files; glyphs = sized_first files; deep = omega arith; defined = none_rising; bytes = lit≤ tt }
 
 -- A run of one command more.
 pub run_more :

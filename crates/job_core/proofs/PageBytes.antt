@@ -3,10 +3,10 @@ use Rattle.std.proofs.Common.{◌≡◌, ℕ, zero, suc, ◌+◌, ◌*◌, ◌�
 use Rattle.std.specs.Prelude.{ℤ, pos, nat_lt, if◌then◌else◌, Option, Some, None}
 use Rattle.std.proofs.lemmas.Bool.{lt-ltb}
 use Rattle.std.proofs.lemmas.List.{map-append}
-use Rattle.std.specs.List.{flat_map, AllByRecursion}
+use Rattle.std.specs.List.{flat_map}
 use Rattle.node_core.specs.declared.tree.BoxNode.{BoxNode}
-use Rattle.node_core.specs.Nodes.{nodes_of, box_count}
-use Rattle.node_core.proofs.NodeLemmas.{items_count-is}
+use Rattle.node_core.specs.Items.{EachLeaf}
+use Rattle.node_core.specs.Nodes.{box_count}
 use Rattle.dvi_ops.specs.Instruction.{Definition, FontDef, Instruction, Do, Bop, Eop}
 use Rattle.dvi_ops.specs.Body.{Widths}
 use Rattle.dvi_ops.specs.Forest.{flat}
@@ -84,7 +84,7 @@ definition_bytes fonts (s ∷ slots) short =
         let fine = short s l is in omega (arith, length-append (spelling (Do (FontDef (definition_of s l)))) [], length-definition s l fine.0 fine.1)
 
 -- A page takes at most 46 bytes, 19 for each node of its box, and 271 for each font that it defines.
-pub page_bytes : (widths : Widths) (fonts : Slots) (slots : List ℕ) (b : BoxNode) (last : ℤ) → HasShortNames fonts → AllByRecursion (HasWidth widths) (nodes_of b.list)
+pub page_bytes : (widths : Widths) (fonts : Slots) (slots : List ℕ) (b : BoxNode) (last : ℤ) → HasShortNames fonts → EachLeaf (HasWidth widths) b.list
     → length (bytes_of (sheet_from last (sheet_of fonts slots (page_of b)))) ≤ 46 + 19 * box_count b + 271 * length (fresh_slots fonts slots (flat (body_of (page_of b))))
 page_bytes widths fonts slots b last short sized =
     let bop = Bop (replicate 10 (pos 0)) last in
@@ -100,5 +100,4 @@ page_bytes widths fonts slots b last short sized =
       length-append (spelling Eop) [],
       length-eop,
       body_bytes widths (page_of b) sized,
-      items_count-is b.list,
     )

@@ -7,18 +7,15 @@ use Rattle.std.proofs.lemmas.Int.{ints}
 use Rattle.tfm_core.specs.declared.font.GlyphSize.{GlyphSize}
 use Rattle.tfm_core.specs.NamedBytes.{NamedBytes}
 use Rattle.tfm_core.specs.FileWidths.{width_at}
-use Rattle.node_core.specs.declared.tree.Node.{Node}
-use Rattle.node_core.specs.declared.tree.Node.TheVariants.{Glyph, FontKern, Kern, Glue, Penalty, Rule}
-use Rattle.node_core.specs.Nodes.{nodes_of}
+use Rattle.node_core.specs.Items.{Leaf, Items, glyph, font_kern, kern, glue, penalty, rule, EachLeaf}
 use Rattle.dvi_ops.specs.Forest.{flat}
 use Rattle.dvi_ops.specs.Fonts.{Metrics, selections, font_in as font_by, width_in}
 use Rattle.dvi_ops.specs.Spelling.{NumberFits}
 use Rattle.dvi_ops.specs.Layout.{Table, table_widths, IsTabled}
-use Rattle.dvi_ops.proofs.Appends.{all_weaker}
 use Rattle.job_core.specs.declared.fonts.LoadedFont.{LoadedFont}
 use Rattle.job_core.specs.FontSlots.{Slots, font_in, glyph_by}
 use Rattle.job_core.specs.Loaded.{AreLoaded}
-use Rattle.job_core.specs.Sized.{IsSized, AreSized}
+use Rattle.job_core.specs.Sized.{IsSizedLeaf}
 use Rattle.ship_core.specs.Marks.{Page}
 use Rattle.ship_core.specs.Drawing.{body_of}
 use Rattle.job_core.specs.Draft.{definition_of}
@@ -26,6 +23,7 @@ use Rattle.job_core.specs.Shown.{GivesFiles}
 use Rattle.job_core.proofs.LoadedFonts.{loaded_in, widths-loaded, code_small}
 use Rattle.ship_core.specs.Shown.{HasWidth}
 use Rattle.ship_core.proofs.DrawnPages.{HasFont, selections_page}
+use Rattle.job_core.proofs.Leaves.{each_leaf}
 use Rattle.job_core.proofs.PageBytes.{HasShortNames}
 use Rattle.job_core.proofs.DefinedFonts.{HasSelected, holds_selected}
 
@@ -69,19 +67,19 @@ module _ (files : List NamedBytes) (fonts : Slots) (loaded : AreLoaded files fon
   slot_of s code size (Some l) is sized =
       record { slot = s; loaded = l; is = refl; small = (loaded_in files fonts s l loaded is).1; has = is }
 
-  has_font : (x : Node) → IsSized fonts x → HasFont (IsSlot fonts) x
-  has_font (Glyph g) sized = slot_of g.slot g.code _ (font_in fonts g.slot) refl sized
-  has_font (FontKern width) sized = tt
-  has_font (Kern width) sized = tt
-  has_font (Glue glue) sized = tt
-  has_font (Penalty penalty) sized = tt
-  has_font (Rule rule) sized = tt
+  has_font : (x : Leaf) → IsSizedLeaf fonts x → HasFont (IsSlot fonts) x
+  has_font (glyph g) sized = slot_of g.slot g.code _ (font_in fonts g.slot) refl sized
+  has_font (font_kern width) sized = tt
+  has_font (kern width) sized = tt
+  has_font (glue g) sized = tt
+  has_font (penalty p) sized = tt
+  has_font (rule sizes) sized = tt
 
   -- Each font that a page selects is one of the job.
-  pub selected_slots : (page : Page) → AreSized fonts (nodes_of page.shown.list) → AllByRecursion (IsSlot fonts) (selections (flat (body_of page)))
-  selected_slots page sized = selections_page (IsSlot fonts) page (all_weaker (IsSized fonts) (HasFont (IsSlot fonts)) (nodes_of page.shown.list) has_font sized)
+  pub selected_slots : (page : Page) → EachLeaf (IsSizedLeaf fonts) page.shown.list → AllByRecursion (IsSlot fonts) (selections (flat (body_of page)))
+  selected_slots page sized = selections_page (IsSlot fonts) page (each_leaf (IsSizedLeaf fonts) (HasFont (IsSlot fonts)) has_font page.shown.list sized)
 
-  pub has_selected : (page : Page) → AreSized fonts (nodes_of page.shown.list) → HasSelected fonts (flat (body_of page))
+  pub has_selected : (page : Page) → EachLeaf (IsSizedLeaf fonts) page.shown.list → HasSelected fonts (flat (body_of page))
   has_selected page sized s selected =
       let of = holds_selected (IsSlot fonts) (flat (body_of page)) (selected_slots page sized) s selected in
       let same : s ≡ of.slot = cc (of.is) in
@@ -103,14 +101,14 @@ module _ (files : List NamedBytes) (fonts : Slots) (loaded : AreLoaded files fon
           (of.1, code_small files l code size of.0 sized),
         )
 
-    has_width : (x : Node) → IsSized fonts x → HasWidth (table_widths metrics (table_of fonts)) x
-    has_width (Glyph g) sized = glyph_width g.slot g.code _ (font_in fonts g.slot) refl sized
-    has_width (FontKern width) sized = tt
-    has_width (Kern width) sized = tt
-    has_width (Glue glue) sized = tt
-    has_width (Penalty penalty) sized = tt
-    has_width (Rule rule) sized = tt
+    has_width : (x : Leaf) → IsSizedLeaf fonts x → HasWidth (table_widths metrics (table_of fonts)) x
+    has_width (glyph g) sized = glyph_width g.slot g.code _ (font_in fonts g.slot) refl sized
+    has_width (font_kern width) sized = tt
+    has_width (kern width) sized = tt
+    has_width (glue g) sized = tt
+    has_width (penalty p) sized = tt
+    has_width (rule sizes) sized = tt
 
     -- Each glyph of a list has the width that its font's file gives.
-    pub have_widths : (nodes : List Node) → AreSized fonts nodes → AllByRecursion (HasWidth (table_widths metrics (table_of fonts))) nodes
-    have_widths nodes sized = all_weaker (IsSized fonts) (HasWidth (table_widths metrics (table_of fonts))) nodes has_width sized
+    pub have_widths : (items : Items) → EachLeaf (IsSizedLeaf fonts) items → EachLeaf (HasWidth (table_widths metrics (table_of fonts))) items
+    have_widths items sized = each_leaf (IsSizedLeaf fonts) (HasWidth (table_widths metrics (table_of fonts))) has_width items sized

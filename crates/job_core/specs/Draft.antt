@@ -1,10 +1,10 @@
 -- What the writer keeps of the pages that were shipped, and the bytes that it writes (own).
-use Rattle.std.specs.Prelude.{◌+◌, ◌%◌, ◌++◌, ◌+ℤ◌, ◌==◌, ◌&&◌, not, [], ◌∷◌, ℕ, zero, suc, ℤ, pos, negsuc, Bool, false, List, Option, Some, None, is_some, filter, length, replicate}
+use Rattle.std.specs.Prelude.{◌+◌, ◌%◌, ◌++◌, ◌+ℤ◌, ◌==◌, ◌&&◌, not, max, [], ◌∷◌, ℕ, zero, suc, ℤ, pos, negsuc, Bool, false, List, Option, Some, None, is_some, filter, length, replicate}
 use Rattle.std.specs.Int.{int_max}
 use Rattle.std.specs.Ordering.{int_eq}
 use Rattle.std.specs.List.{flat_map, list_any}
 use Rattle.dvi_ops.specs.Instruction.{Definition, FontNum, Instruction, Do, Post, PostPost, Postamble}
-use Rattle.dvi_ops.specs.Forest.{flat}
+use Rattle.dvi_ops.specs.Forest.{flat, nests}
 use Rattle.dvi_ops.specs.Layout.{Sheet, bytes_of, define, preamble, scaled_points, sheet_from, padding_after}
 use Rattle.job_core.specs.declared.fonts.LoadedFont.{LoadedFont}
 use Rattle.job_core.specs.FontSlots.{Slots, font_in}
@@ -69,18 +69,19 @@ reach_down page = page.v +ℤ page.shown.depth
 abbrev pub reach_right : Page → ℤ
 reach_right page = page.h +ℤ page.shown.width
 
--- The bytes up to the last eop; the slots of the fonts that they define, in order; the place of the last bop, or -1; and the greatest
--- reaches of the pages, at least 0.
+-- The bytes up to the last eop; the slots of the fonts that they define, in order; the place of the last bop, or -1; the greatest
+-- reaches of the pages, at least 0; and the most pushes that are open at once in a page.
 pub record Draft : Type 0 where
   pub bytes : List ℕ
   pub defined : List ℕ
   pub last : ℤ
   pub tall : ℤ
   pub wide : ℤ
+  pub deep : ℕ
 
 -- No page yet.
 abbrev pub first_draft : Draft
-first_draft = record { bytes = bytes_of (preamble ∷ []); defined = []; last = negsuc 0; tall = pos 0; wide = pos 0 }
+first_draft = record { bytes = bytes_of (preamble ∷ []); defined = []; last = negsuc 0; tall = pos 0; wide = pos 0; deep = 0 }
 
 -- One page more.
 unfoldable pub with_page : Slots → Draft → Page → Draft
@@ -91,6 +92,7 @@ with_page fonts draft page =
       last = pos (length draft.bytes + length (bytes_of (define (sheet_of fonts draft.defined page).fresh)));
       tall = int_max draft.tall (reach_down page);
       wide = int_max draft.wide (reach_right page);
+      deep = max draft.deep (nests (body_of page));
     }
 
 -- These pages more, in order.
@@ -102,10 +104,10 @@ with_pages fonts draft (page ∷ pages) = with_pages fonts (with_page fonts draf
 abbrev pub draft_of : Slots → List Page → Draft
 draft_of fonts pages = with_pages fonts first_draft pages
 
--- What post says: no push stands in a page yet.
+-- What post says.
 abbrev pub closing : Draft → ℕ → Postamble
 closing draft count =
-    record { last_bop = draft.last; units = scaled_points; height_plus_depth = draft.tall; width = draft.wide; stack_depth = 0; pages = count % 65536 }
+    record { last_bop = draft.last; units = scaled_points; height_plus_depth = draft.tall; width = draft.wide; stack_depth = draft.deep; pages = count % 65536 }
 
 -- The instructions of the postamble: post, all font definitions in rising order, and post_post, which names post's place.
 abbrev pub closing_ops : Slots → Draft → ℕ → List Instruction

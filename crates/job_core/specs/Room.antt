@@ -1,6 +1,6 @@
 -- How much a job may hold (own): the limits that keep every place in the file below 2^31; and what its fonts and glyphs are.
 use Rattle.std.specs.Prelude.{◌≡◌, ◌+◌, ◌*◌, ◌≤◌, length}
-use Rattle.job_core.specs.Machine.{State, most_shipped, most_pages}
+use Rattle.job_core.specs.Machine.{State, most_shipped, most_pages, most_deep}
 use Rattle.job_core.specs.Draft.{Draft, in_rising_order}
 use Rattle.job_core.specs.Sized.{HasSizedGlyphs}
 use Rattle.job_core.specs.Loaded.{AreLoaded}
@@ -10,6 +10,8 @@ pub record HasRoom (s : State) (draft : Draft) : Type 0 where
   pub pages : s.pages ≤ most_pages
   pub fonts : AreLoaded s.files s.fonts
   pub glyphs : HasSizedGlyphs s
+  -- A page nests its pushes less deep than its box.
+  pub deep : draft.deep ≤ most_deep
   -- Each slot is defined once, so that there are 256 definitions at most.
   pub defined : length (in_rising_order draft.defined) ≡ length draft.defined
   -- A page takes 46 bytes and 19 for each node, and a font definition at most 271.

@@ -37,8 +37,9 @@ coded_state =
 
 abbrev pub coded_draft : Coded Draft
 coded_draft =
-    code_by (((List ℕ × List ℕ) × ℤ) × (ℤ × ℤ)) (coded× (coded× (coded× (coded_list coded_ℕ) (coded_list coded_ℕ)) coded_ℤ) (coded× coded_ℤ coded_ℤ))
-    (λ d. (((d.bytes, d.defined), d.last), (d.tall, d.wide))) (λ p. record { bytes = p.0.0.0; defined = p.0.0.1; last = p.0.1; tall = p.1.0; wide = p.1.1 }) (λ _. refl)
+    code_by (((List ℕ × List ℕ) × ℤ) × ((ℤ × ℤ) × ℕ)) (coded× (coded× (coded× (coded_list coded_ℕ) (coded_list coded_ℕ)) coded_ℤ) (coded× (coded× coded_ℤ coded_ℤ) coded_ℕ))
+    (λ d. (((d.bytes, d.defined), d.last), ((d.tall, d.wide), d.deep)))
+    (λ p. record { bytes = p.0.0.0; defined = p.0.0.1; last = p.0.1; tall = p.1.0.0; wide = p.1.0.1; deep = p.1.1 }) (λ _. refl)
 
 abbrev pub coded_seen : Coded Seen
 coded_seen =

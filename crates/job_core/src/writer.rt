@@ -1,10 +1,10 @@
 //! The bytes of the pages that were shipped (DVItype, 13 to 19).
 
-ghost use Rattle.std.specs.Prelude.{◌≡◌, ◌<◌, ◌≤◌, ◌+◌, ◌*◌, ◌^◌, ◌++◌, ◌+ℤ◌, [], ◌∷◌, true, false, pos, negsuc, length, map, replicate, OnOk, OnErr, IfOk};
+ghost use Rattle.std.specs.Prelude.{◌≡◌, ◌<◌, ◌≤◌, ◌+◌, ◌*◌, ◌^◌, ◌++◌, ◌+ℤ◌, [], ◌∷◌, true, false, max, pos, negsuc, length, map, replicate, OnOk, OnErr, IfOk};
 ghost use Rattle.std.specs.Int.{int_max};
 ghost use Rattle.dvi_ops.specs.Instruction.{Bop, Do, Eop, FontDef, Post};
 ghost use Rattle.dvi_ops.specs.declared.op.Op.TheVariants as ops;
-ghost use Rattle.dvi_ops.specs.Forest.{flat};
+ghost use Rattle.dvi_ops.specs.Forest.{Forest, flat, nests};
 ghost use Rattle.dvi_ops.specs.Layout.{bytes_of, define, preamble, scaled_points, padding_after};
 ghost use Rattle.dvi_ops.specs.Spelling.{HasSpelling};
 ghost use Rattle.dvi_ops.specs.View.{view};
@@ -20,11 +20,12 @@ use crate::fonts::{Fonts, LoadedFont};
 use dvi_ops::{FontDefinition, Op, Postamble, Units, spell};
 use node_core::BoxNode;
 use scaled_core::Dimen;
-use ship_core::{ShipFault, plan, sum};
+use ship_core::{ShipFault, plan, push_depth, sum};
 use std::alloc::{AllocError, Global};
 use std::marker::Model;
 
-/// The draft of a file: its bytes up to the last page, the slots of the fonts that it defines, the place of the last bop, and the greatest reaches of the pages.
+/// The draft of a file: its bytes up to the last page, the slots of the fonts that it defines, the place of the last bop, the greatest reaches of the pages,
+/// and the most pushes that are open at once.
 #[derive(Debug, Drop)]
 pub struct Writer {
     bytes: Vec<u8>,
@@ -32,6 +33,7 @@ pub struct Writer {
     last: i32,
     tall: Dimen,
     wide: Dimen,
+    deep: usize,
 }
 
 impl Model for Writer {
@@ -39,7 +41,7 @@ impl Model for Writer {
 
     ghost Value = { Draft };
 
-    ghost view = { λ writer. record { bytes = writer.bytes.items; defined = writer.defined.items; last = writer.last; tall = writer.tall; wide = writer.wide } };
+    ghost view = { λ writer. record { bytes = writer.bytes.items; defined = writer.defined.items; last = writer.last; tall = writer.tall; wide = writer.wide; deep = writer.deep } };
 }
 
 /// A scaled point.
@@ -262,6 +264,7 @@ impl Writer {
             last: -1,
             tall: Dimen::ZERO,
             wide: Dimen::ZERO,
+            deep: 0,
         })
     }
 
@@ -295,6 +298,13 @@ impl Writer {
         self.wide = farther(self.wide, Dimen::ZERO, shown.width);
     }
 
+    /// Keeps how many pushes are open at once in a page with this body, where no page before it has more.
+    fn keep_depth(&mut self, body: &[Op<'static>])
+        ensures { (forest : Forest) → map view body.now ≡ flat forest → self.new ≡ record self.old { deep = max self.old.deep (nests forest) } }
+    {
+        self.deep = self.deep.max(push_depth(body));
+    }
+
     /// Adds the page of a box whose glyphs are in these fonts.
     #[tactic(auto, unfolding(crate::specs::Draft::with_page))]
     pub fn add_page(&mut self, shown: &BoxNode, fonts: &Fonts) -> Result<(), AllocError>
@@ -313,11 +323,13 @@ impl Writer {
             return Err(AllocError);
         };
         self.keep_reach(place, shown);
+        self.keep_depth(&body);
         Ok(())
     }
 
     /// What post says of that many pages.
     fn postamble(&self, pages: u32) -> Postamble
+        requires { self.now.deep < 2 ^ 16 }
         ensures { view (ops.Post result) ≡ Post (closing self.now pages) }
     {
         Postamble {
@@ -325,14 +337,15 @@ impl Writer {
             units: SCALED_POINTS,
             height_plus_depth: self.tall.get(),
             width: self.wide.get(),
-            stack_depth: 0,
+            stack_depth: self.deep as u16,
             pages: (pages % 65536) as u16,
         }
     }
 
     /// The instructions of the postamble of a file of that many pages.
     fn closing_ops<'a>(&self, fonts: &'a Fonts, pages: u32) -> Result<Vec<Op<'a>>, AllocError>
-        requires { length self.now.bytes < 2 ^ 31 }
+        requires room { length self.now.bytes < 2 ^ 31 }
+        requires deep { self.now.deep < 2 ^ 16 }
         ensures ok { IfOk result (λ ops. map view ops.items ≡ closing_ops fonts.now self.now pages) }
         ensures few { IfOk result (λ ops. AllByRecursion HasSpelling (map view ops.items)) }
     {
@@ -352,6 +365,7 @@ impl Writer {
     #[tactic(auto, unfolding(crate::specs::Draft::whole))]
     pub fn close(&mut self, fonts: &Fonts, pages: u32) -> Result<(), AllocError>
         requires room { length self.old.bytes < 2 ^ 31 }
+        requires deep { self.old.deep < 2 ^ 16 }
         ensures ok { OnOk result (self.new.bytes ≡ whole fonts.now self.old pages) }
         ensures err { OnErr result (self.new ≡ self.old) }
     {

@@ -8,7 +8,8 @@ use Rattle.job_core.proofs.job.Job.finish.Goals as goal
 
 pub close-requires : goal.close-requires
 close-requires g c =
-    record { room = small_enough c.self.inside.kept c.self.inside.writer (c.self.invariant.0 (sym c.is_over.ensures ∙ c.if-is_over.false)) }
+    let room = c.self.invariant.0 (sym c.is_over.ensures ∙ c.if-is_over.false) in
+    record { room = small_enough c.self.inside.kept c.self.inside.writer room; deep = omega (arith, room.deep) }
 
 pub returns-then-is_over-clause-finished : goal.returns-then-is_over-clause-finished
 returns-then-is_over-clause-finished g c = rw (← c.self.view_is) (over_refused _ (sym c.is_over.ensures ∙ c.if-is_over.true))
