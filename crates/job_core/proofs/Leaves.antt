@@ -1,5 +1,4 @@
 -- Properties of each leaf of a list.
-use Rattle.std.specs.Prelude.{◌∷◌}
 use Rattle.node_core.specs.Items.{Leaf, Items, none, leaf, box, EachLeaf}
 
 -- Each leaf is also such a one as each such leaf is.

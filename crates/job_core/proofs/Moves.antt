@@ -5,7 +5,7 @@ use Rattle.std.specs.Prelude.{pos, max, nat_le, nat_lt, is_none, if◌then◌els
 use Rattle.std.specs.List.{AllByRecursion}
 use Rattle.std.proofs.lemmas.Bool.{leb-false, ltb-false}
 use Rattle.node_core.specs.declared.tree.BoxNode.{BoxNode}
-use Rattle.node_core.specs.Nodes.{nodes_of, box_count}
+use Rattle.node_core.specs.Nodes.{box_count}
 use Rattle.tfm_core.specs.FileWidths.{file_widths}
 use Rattle.dvi_ops.specs.Instruction.{Definition}
 use Rattle.dvi_ops.specs.Forest.{flat, nests}

@@ -1,6 +1,6 @@
 -- Lists and registers that change in one place, and change back.
-use Rattle.std.proofs.Common.{◌≡◌, ◌∙◌, ℕ, zero, suc, ◌+◌, ◌-◌, ◌==◌, ◌≤◌, ◌<◌, List, [], ◌∷◌, ◌++◌, length, take, set, get_or, Bool, true, false, Option, Some, None, Result, Ok, Err, OnErr, refl, ap, sym, subst, arith}
-use Rattle.std.specs.Prelude.{ℤ, pos, slice_get}
+use Rattle.std.proofs.Common.{◌≡◌, ◌∙◌, ℕ, zero, suc, ◌-◌, ◌==◌, ◌≤◌, ◌<◌, List, [], ◌∷◌, ◌++◌, length, take, set, get_or, Bool, true, false, Option, Some, None, Result, Ok, Err, OnErr, refl, ap, sym, arith}
+use Rattle.std.specs.Prelude.{pos, slice_get}
 use Rattle.std.proofs.Math.Seq.{take-set-lt}
 use Rattle.std.proofs.lemmas.List.{take-set-le, length-take-le, length-set}
 use Rattle.node_core.specs.declared.tree.BoxNode.{BoxNode}

@@ -11,8 +11,8 @@ ghost use Rattle.job_core.specs.Machine.{first_state, innermost, outer, items_in
 ghost use Rattle.job_core.specs.Runs.{early_checks};
 
 use crate::command::{
-    Answer, BoxUse, Characters, FontLoad, Opening, Parameter, Refusal, Register, Reply, Sizes, Taking,
-    Unboxing,
+    Answer, BoxUse, Characters, FontLoad, Opening, Parameter, Refusal, Register, Reply, Sizes,
+    Taking, Unboxing,
 };
 use crate::fonts::{Fonts, LoadedFont, read_font};
 use crate::nest::Nest;

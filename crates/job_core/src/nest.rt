@@ -127,7 +127,13 @@ impl OpenList {
     }
 
     /// Puts a box at the end of a vertical list, with the glue in front of it.
-    fn append_down(&mut self, alloc: Global, shown: BoxNode, shift: Dimen, params: &Params) -> Result<(), BoxNode>
+    fn append_down(
+        &mut self,
+        alloc: Global,
+        shown: BoxNode,
+        shift: Dimen,
+        params: &Params,
+    ) -> Result<(), BoxNode>
         requires short { length (nodes_of self.old.list) + 2 ≤ most_nodes }
         requires fits { IsOk (interline params.now self.old.previous_depth shown.height) }
         ensures ok { OnOk result (self.new ≡ record self.old { list = items_of (nodes_of self.old.list ++ appended (glue_of (interline params.now self.old.previous_depth shown.height)) shift shown); previous_depth = shown.depth }) }
@@ -147,7 +153,13 @@ impl OpenList {
     }
 
     /// Puts a box at the end of the list; where memory is refused, it comes back, and the list is as it was.
-    pub fn append_box(&mut self, alloc: Global, shown: BoxNode, shift: Dimen, params: &Params) -> Result<(), BoxNode>
+    pub fn append_box(
+        &mut self,
+        alloc: Global,
+        shown: BoxNode,
+        shift: Dimen,
+        params: &Params,
+    ) -> Result<(), BoxNode>
         requires { first_of (box_checks params.now (Some self.old) shown) ≡ None }
         ensures ok { OnOk result (self.new ≡ list_with_box params.now shift shown self.old) }
         ensures err { OnErr result (self.new ≡ self.old) }
@@ -307,7 +319,12 @@ impl Nest {
     }
 
     /// Puts a box at the end of the innermost list; where memory is refused, it comes back.
-    pub fn append_box(&mut self, shown: BoxNode, shift: Dimen, params: &Params) -> Result<(), BoxNode>
+    pub fn append_box(
+        &mut self,
+        shown: BoxNode,
+        shift: Dimen,
+        params: &Params,
+    ) -> Result<(), BoxNode>
         requires { first_of (box_checks params.now (innermost self.old) shown) ≡ None }
         ensures ok { OnOk result (self.new ≡ with_box params.now self.old shift shown (innermost self.old)) }
         ensures err { OnErr result (self.new ≡ self.old) }

@@ -10,7 +10,7 @@ use Rattle.node_core.specs.declared.tree.Rule.{Rule}
 use Rattle.node_core.specs.declared.tree.RuleSize.{RuleSize}
 use Rattle.node_core.specs.declared.tree.RuleSize.TheVariants.{Running, Fixed}
 use Rattle.node_core.specs.declared.tree.BoxNode.{BoxNode}
-use Rattle.node_core.specs.Items.{Leaf, glyph, font_kern, kern, glue, penalty, rule, Frame, Items, none, leaf, box}
+use Rattle.node_core.specs.Items.{Leaf, glyph, font_kern, kern, glue, penalty, rule, Items, none, leaf, box}
 use Rattle.node_core.specs.Nodes.{node_of, box_of}
 use Rattle.dvi_ops.specs.Body as marks
 use Rattle.dvi_ops.specs.Body.{Mark}

@@ -2,7 +2,6 @@ use Rattle.std.proofs.Common.{◌≡◌, ◌∙◌, ap}
 use Rattle.node_core.specs.Items.{Items}
 use Rattle.node_core.specs.Nodes.{items_of, nodes_of}
 use Rattle.node_core.proofs.NodeLemmas.{items_of-nodes_of}
-use Rattle.job_core.specs.declared.nest.OpenList.{OpenList}
 use Rattle.job_core.proofs.nest.OpenList.append_down.Goals as goal
 
 pub returns-in-Err-clause-err : goal.returns-in-Err-clause-err
