@@ -13,8 +13,8 @@ pub mod totality;
 mod writer;
 
 pub use command::{
-    Answer, BoxForm, Characters, Command, FontLoad, Opening, Parameter, Refusal, Register, Reply,
-    Sizes, Summary,
+    Answer, BoxForm, BoxUse, Characters, Command, FontLoad, Opening, Parameter, Refusal, Register,
+    Reply, Sizes, Summary, Taking, Unboxing,
 };
 pub use device::{Device, DeviceFault, Memory};
 pub use pack_core::Target;
