@@ -475,7 +475,7 @@ fn shifted_boxes(rt: HostRuntime) {
 5: packed 3.0pt 0.0pt 0.0pt badness 0
 6: ok
 7: added 1
-8: added 2
+8: added 1
 9: ok
 10: packed 5.0pt 1.0pt 2.0pt badness 0
 11: shipped 1
