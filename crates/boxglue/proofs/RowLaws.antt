@@ -1,84 +1,15 @@
--- What is read of known scripts, and what is written of known answers.
-use Rattle.std.proofs.Common.{◌≡◌, Ok, Err, codes, refl}
-use Rattle.std.specs.Str.Lines.{lines}
+-- What is written of known answers.
+use Rattle.std.proofs.Common.{refl}
 use Rattle.std.specs.Fmt.{digits}
 use Rattle.scaled_core.specs.Rounding.{nearest}
-use Rattle.scaled_core.specs.Units.{of_points}
-use Rattle.scaled_core.specs.DimensionTexts.{decimal_fraction}
-use Rattle.scaled_core.specs.ParsedTexts.{read_dimension, dimension_value, fitted, measured, unit_named, is_negative, behind_sign, front_digits, behind_digits, point_digits, behind_fraction}
 use Rattle.scaled_core.specs.PrintedDimensions.{dimension_text, size_text, shortest_fraction, fraction_places, nearest_decimal, reads_back}
-use Rattle.boxglue.specs.declared.cause.Cause.TheVariants as causes
-use Rattle.boxglue.specs.declared.cause.Cause.TheVariants.{Missing, Extra, Number, Dimension}
-use Rattle.boxglue.specs.declared.script.ScriptFault.TheVariants.{BadScript}
-use Rattle.boxglue.specs.Names.{box_name, register_name, item_name, name_of}
-use Rattle.boxglue.specs.ScriptLines.{fields_of}
-use Rattle.boxglue.specs.Reading.{name_first, size_of_font_first, chosen_size_of, font_of, number_of, number_first, dimension_first, size_of, size_first, last_number, last_dimension, penalty_of, penalty_first, last_penalty, before_unit, amount_in, amount_of, amount_first, last_amount, opened, opened_into, opened_sized, opening_of, last_shrink_of, shrink_of, parts_of, glue_of, parameter_of, rule_of, command_named, command_of, text_of, line_of, reads}
 use Rattle.boxglue.specs.Texts.{points_text, sizes_text, refusal_text, answer_text, answer_line, end_line, answers_text}
-use Rattle.boxglue.specs.Rows.{one_rule_lines, OneRuleScript, OneRuleAnswers, BadRow, text_lines, TextScript, TextAnswers, BadSizeRow, BadNameRow, tall_box_lines, TallBoxScript, NoRegisterRow, LateStretchRow}
-use Rattle.boxglue.proofs.ScriptLaws.{script_read, script_refused}
-
-one_rule_read : reads 1 (lines (codes "hbox into 0\nrule 1pt 1pt 0pt\nend\nship 0\n")) ≡ Ok one_rule_lines
-unfolding line_of text_of fields_of command_of command_named name_of box_name register_name item_name opening_of opened rule_of number_first number_of last_number last_dimension dimension_first size_first size_of read_dimension dimension_value fitted measured unit_named is_negative behind_sign front_digits behind_digits point_digits behind_fraction decimal_fraction nearest of_points
-one_rule_read = refl
-
-pub one_rule_said : OneRuleScript
-one_rule_said = script_read (codes "hbox into 0\nrule 1pt 1pt 0pt\nend\nship 0\n") one_rule_lines one_rule_read
+use Rattle.boxglue.specs.Rows.{OneRuleAnswers, TextAnswers}
 
 pub one_rule_written : OneRuleAnswers
 unfolding points_text sizes_text refusal_text answer_text answer_line end_line answers_text dimension_text size_text shortest_fraction fraction_places nearest_decimal reads_back nearest digits
 one_rule_written = refl
 
-bad_read : reads 1 (lines (codes "end\nkern 1\n")) ≡ Err (BadScript 2 Dimension)
-unfolding line_of text_of fields_of command_of command_named name_of box_name register_name item_name opening_of opened rule_of number_first number_of last_number last_dimension dimension_first size_first size_of read_dimension dimension_value fitted measured unit_named is_negative behind_sign front_digits behind_digits point_digits behind_fraction decimal_fraction nearest of_points
-bad_read = refl
-
-pub bad_named : BadRow
-bad_named = (script_refused (codes "end\nkern 1\n") (BadScript 2 Dimension) bad_read).0
-
-text_script_read : reads 1 (lines (codes "font 0 tiny at 10pt\nuse +0\n% text\n  text  a \nchar 99\n")) ≡ Ok text_lines
-unfolding line_of text_of fields_of command_of command_named name_of box_name register_name item_name font_of name_first chosen_size_of size_of_font_first number_first number_of last_number dimension_first read_dimension dimension_value fitted measured unit_named is_negative behind_sign front_digits behind_digits point_digits behind_fraction decimal_fraction nearest of_points
-text_script_read = refl
-
-pub text_script_said : TextScript
-text_script_said = script_read (codes "font 0 tiny at 10pt\nuse +0\n% text\n  text  a \nchar 99\n") text_lines text_script_read
-
 pub text_answers_written : TextAnswers
 unfolding refusal_text answer_text answer_line end_line answers_text digits
 text_answers_written = refl
-
-bad_size_read : reads 1 (lines (codes "font 0 tiny at 0pt")) ≡ Err (BadScript 1 Number)
-unfolding line_of text_of fields_of command_of command_named name_of box_name register_name item_name font_of name_first chosen_size_of size_of_font_first number_first number_of last_number dimension_first read_dimension dimension_value fitted measured unit_named is_negative behind_sign front_digits behind_digits point_digits behind_fraction decimal_fraction nearest of_points
-bad_size_read = refl
-
-pub bad_size_named : BadSizeRow
-bad_size_named = (script_refused (codes "font 0 tiny at 0pt") (BadScript 1 Number) bad_size_read).0
-
-bad_name_read : reads 1 (lines (codes "font 0 a/b at 0pt")) ≡ Err (BadScript 1 causes.Name)
-unfolding line_of text_of fields_of command_of command_named name_of box_name register_name item_name font_of name_first chosen_size_of size_of_font_first number_first number_of last_number dimension_first read_dimension dimension_value fitted measured unit_named is_negative behind_sign front_digits behind_digits point_digits behind_fraction decimal_fraction nearest of_points
-bad_name_read = refl
-
-pub bad_name_named : BadNameRow
-bad_name_named = (script_refused (codes "font 0 a/b at 0pt") (BadScript 1 causes.Name) bad_name_read).0
-
-tall_box_read : reads 1 (lines (codes "set boxmaxdepth 1pt\nvbox to 20pt into 0\nglue 0pt plus 1fil\npenalty -10000\nend\n")) ≡ Ok tall_box_lines
-unfolding line_of text_of fields_of command_of command_named name_of box_name register_name item_name parameter_of opening_of opened opened_into opened_sized glue_of parts_of shrink_of amount_first amount_of amount_in before_unit last_penalty penalty_first penalty_of number_first number_of last_number last_dimension dimension_first read_dimension dimension_value fitted measured unit_named is_negative behind_sign front_digits behind_digits point_digits behind_fraction decimal_fraction nearest of_points
-tall_box_read = refl
-
-pub tall_box_said : TallBoxScript
-tall_box_said = script_read (codes "set boxmaxdepth 1pt\nvbox to 20pt into 0\nglue 0pt plus 1fil\npenalty -10000\nend\n") tall_box_lines tall_box_read
-
-no_register_read : reads 1 (lines (codes "hbox to 1pt into")) ≡ Err (BadScript 1 Missing)
-unfolding line_of text_of fields_of command_of command_named name_of box_name register_name item_name opening_of opened opened_into opened_sized number_first number_of last_number dimension_first read_dimension dimension_value fitted measured unit_named is_negative behind_sign front_digits behind_digits point_digits behind_fraction decimal_fraction nearest of_points
-no_register_read = refl
-
-pub no_register_named : NoRegisterRow
-no_register_named = (script_refused (codes "hbox to 1pt into") (BadScript 1 Missing) no_register_read).0
-
-late_stretch_read : reads 1 (lines (codes "glue 1pt minus 1fil plus 1pt")) ≡ Err (BadScript 1 Extra)
-unfolding line_of text_of fields_of command_of command_named name_of box_name register_name item_name glue_of parts_of last_shrink_of last_amount amount_first amount_of amount_in before_unit dimension_first read_dimension dimension_value fitted measured unit_named is_negative behind_sign front_digits behind_digits point_digits behind_fraction decimal_fraction nearest of_points
-late_stretch_read = refl
-
-pub late_stretch_named : LateStretchRow
-late_stretch_named = (script_refused (codes "glue 1pt minus 1fil plus 1pt") (BadScript 1 Extra) late_stretch_read).0
-
-pub ruleset rows = (one_rule_said, one_rule_written, bad_named, text_script_said, text_answers_written, bad_size_named, bad_name_named, tall_box_said, no_register_named, late_stretch_named)

@@ -1,9 +1,3 @@
-pub mod ScriptLines
-pub mod Names
-pub mod Grammar
-pub mod Causes
-pub mod Script
-pub mod Reading
 pub mod Texts
 pub mod Runs
 pub mod Rows

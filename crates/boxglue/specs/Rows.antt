@@ -1,31 +1,9 @@
--- Known scripts and texts (own).
-use Rattle.std.specs.Prelude.{◌≡◌, pos, negsuc, List, [], ◌∷◌, Some, Ok, Err, codes}
-use Rattle.node_core.specs.declared.tree.RuleSize.TheVariants.{Fixed}
-use Rattle.node_core.specs.declared.tree.Order.TheVariants.{Normal, Fil}
-use Rattle.pack_core.specs.declared.pack.Target.TheVariants.{Natural, To}
-use Rattle.job_core.specs.declared.command.BoxForm.TheVariants.{Hbox, Vbox}
-use Rattle.job_core.specs.declared.command.Parameter.TheVariants.{BoxMaxDepth}
-use Rattle.job_core.specs.declared.command.Command.TheVariants.{LoadFont, UseFont, Open, End, Text, Character, Rule, Glue, Penalty, Set, Ship}
+-- Known texts of answers (own).
+use Rattle.std.specs.Prelude.{◌≡◌, pos, [], ◌∷◌, Ok, Err, codes}
 use Rattle.job_core.specs.declared.command.Answer.TheVariants.{Done, Packed, Shaped, Shipped}
 use Rattle.job_core.specs.declared.command.Refusal.TheVariants.{NoFont, BadTfm, SlotTaken, ListsOpen}
 use Rattle.tfm_core.specs.declared.fault.TfmCause.TheVariants.{Counts}
-use Rattle.boxglue.specs.declared.cause.Cause.TheVariants as causes
-use Rattle.boxglue.specs.declared.cause.Cause.TheVariants.{Missing, Extra, Number, Dimension}
-use Rattle.boxglue.specs.declared.script.Line.{Line}
-use Rattle.boxglue.specs.Script.{IsScript, IsFirstBad}
 use Rattle.boxglue.specs.Texts.{answers_text}
-
--- the lines of the one-rule script
-abbrev pub one_rule_lines : List Line
-one_rule_lines =
-    record { number = 1; command = Open (record { form = Hbox; target = Natural; into = Some 0 }) }
-    ∷ record { number = 2; command = Rule (record { width = Fixed (pos 65536); height = Fixed (pos 65536); depth = Fixed (pos 0) }) }
-    ∷ record { number = 3; command = End }
-    ∷ record { number = 4; command = Ship 0 }
-    ∷ []
-
-abbrev pub OneRuleScript : Type 0
-OneRuleScript = IsScript (codes "hbox into 0\nrule 1pt 1pt 0pt\nend\nship 0\n") one_rule_lines
 
 abbrev pub OneRuleAnswers : Type 0
 OneRuleAnswers =
@@ -34,49 +12,7 @@ OneRuleAnswers =
     (Ok (record { pages = 1; bytes = 116 }))
     ≡ codes "1: ok\n2: ok\n3: packed 1.0pt 1.0pt 0.0pt badness 0\n4: shipped 1\nend: pages 1 bytes 116\n"
 
-abbrev pub BadRow : Type 0
-BadRow = IsFirstBad (codes "end\nkern 1\n") 2 Dimension
-
--- the lines of a script with a font and a text
-abbrev pub text_lines : List Line
-text_lines =
-    record { number = 1; command = LoadFont (record { slot = 0; name = codes "tiny"; size = Some (pos 655360) }) }
-    ∷ record { number = 2; command = UseFont 0 }
-    ∷ record { number = 4; command = Text (codes " a ") }
-    ∷ record { number = 5; command = Character 99 }
-    ∷ []
-
-abbrev pub TextScript : Type 0
-TextScript = IsScript (codes "font 0 tiny at 10pt\nuse +0\n% text\n  text  a \nchar 99\n") text_lines
-
 abbrev pub TextAnswers : Type 0
 TextAnswers =
     answers_text (1 ∷ 2 ∷ 4 ∷ 5 ∷ []) (Err (BadTfm Counts) ∷ Err NoFont ∷ Ok (Shaped 2 1) ∷ Err SlotTaken ∷ []) (Err ListsOpen)
     ≡ codes "1: refused 5 BadTfm Counts\n2: refused 4 NoFont\n4: added 2 missing 1\n5: refused 6 SlotTaken\nend: refused 17 ListsOpen\n"
-
--- a font of no size, and a name with a stroke
-abbrev pub BadSizeRow : Type 0
-BadSizeRow = IsFirstBad (codes "font 0 tiny at 0pt") 1 Number
-
-abbrev pub BadNameRow : Type 0
-BadNameRow = IsFirstBad (codes "font 0 a/b at 0pt") 1 causes.Name
-
--- the lines of a script of a vertical box of a given size
-abbrev pub tall_box_lines : List Line
-tall_box_lines =
-    record { number = 1; command = Set (BoxMaxDepth (pos 65536)) }
-    ∷ record { number = 2; command = Open (record { form = Vbox; target = To (pos 1310720); into = Some 0 }) }
-    ∷ record { number = 3; command = Glue (record { width = pos 0; stretch = pos 65536; stretch_order = Fil; shrink = pos 0; shrink_order = Normal }) }
-    ∷ record { number = 4; command = Penalty (negsuc 9999) }
-    ∷ record { number = 5; command = End }
-    ∷ []
-
-abbrev pub TallBoxScript : Type 0
-TallBoxScript = IsScript (codes "set boxmaxdepth 1pt\nvbox to 20pt into 0\nglue 0pt plus 1fil\npenalty -10000\nend\n") tall_box_lines
-
--- `into` without its register, and a glue with its stretch behind its shrink
-abbrev pub NoRegisterRow : Type 0
-NoRegisterRow = IsFirstBad (codes "hbox to 1pt into") 1 Missing
-
-abbrev pub LateStretchRow : Type 0
-LateStretchRow = IsFirstBad (codes "glue 1pt minus 1fil plus 1pt") 1 Extra

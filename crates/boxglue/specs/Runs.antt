@@ -14,11 +14,11 @@ use Rattle.job_core.specs.Draft.{file_of}
 use Rattle.job_core.specs.Shown.{GivesFiles, IsFileOf}
 use Rattle.job_core.specs.Machine.{Machine, first_machine}
 use Rattle.job_core.specs.Runs.{Run, Finishes}
-use Rattle.boxglue.specs.declared.cause.Cause.{Cause}
-use Rattle.boxglue.specs.declared.script.Line.{Line}
+use Rattle.script_core.specs.declared.cause.Cause.{Cause}
+use Rattle.script_core.specs.declared.script.Line.{Line}
 use Rattle.boxglue.specs.declared.run.RunFault.{RunFault}
 use Rattle.boxglue.specs.declared.run.RunFault.TheVariants.{Memory, Answers}
-use Rattle.boxglue.specs.Script.{IsScript, IsFirstBad}
+use Rattle.script_core.specs.Script.{IsScript, IsFirstBad}
 use Rattle.boxglue.specs.Texts.{answers_text, bad_script_text, hexadecimal_text}
 
 -- the commands of some lines

@@ -1,45 +1,13 @@
-//! Definitions held against known scripts and texts, each on a function that does nothing.
+//! Definitions held against known texts of answers, each on a function that does nothing.
 
-ghost use Rattle.boxglue.specs.Rows.{OneRuleScript, OneRuleAnswers, BadRow, TextScript, TextAnswers, BadSizeRow, BadNameRow, TallBoxScript, NoRegisterRow, LateStretchRow};
+ghost use Rattle.boxglue.specs.Rows.{OneRuleAnswers, TextAnswers};
 
-/// The script of the one-rule page says its four commands.
-pub fn one_rule_script()
-    ensures { OneRuleScript }
-{}
-
-/// Its answers are written so.
+/// The answers of the script of the one-rule page are written so.
 pub fn one_rule_answers()
     ensures { OneRuleAnswers }
-{}
-
-/// A dimension without unit in the second line: that line is the first bad one, for its dimension.
-pub fn bad_dimension()
-    ensures { BadRow }
-{}
-
-/// A script with a font at a size, a comment, a text with spaces at its front and its end, and a character.
-pub fn text_script()
-    ensures { TextScript }
 {}
 
 /// Answers and refusals of fonts and texts are written so.
 pub fn text_answers()
     ensures { TextAnswers }
-{}
-
-/// A font of no size is bad for its number, and a name with another byte for its name.
-pub fn bad_fonts()
-    ensures size { BadSizeRow }
-    ensures name { BadNameRow }
-{}
-
-/// A script of a vertical box of a given size, with a stretch of order fil, a penalty and a parameter.
-pub fn tall_box_script()
-    ensures { TallBoxScript }
-{}
-
-/// `into` without its register is bad for what is missing, and a glue with its stretch behind its shrink for what is too many.
-pub fn bad_boxes_and_glue()
-    ensures register { NoRegisterRow }
-    ensures stretch { LateStretchRow }
 {}

@@ -1,22 +1,16 @@
 //! Boxglue: a typesetter of command scripts with TeX's model of boxes and glue.
 #![tactic(auto)]
 
-mod amounts;
-mod cause;
-mod fields;
 mod hexadecimal;
 mod input;
 mod laws;
-mod lines;
 mod memory_run;
-mod name;
 mod program;
 #[cfg(test)]
 mod row_tests;
 mod run;
 #[cfg(test)]
 mod samples;
-mod script;
 #[cfg(test)]
 mod tests;
 mod texts;

@@ -4,11 +4,10 @@ ghost use Rattle.std.specs.Prelude.{◌≡◌, ◌<◌, ◌+◌, ◌^◌, ◌⊎
 ghost use Rattle.std.specs.List.{list_all};
 ghost use Rattle.boxglue.specs.Runs.{commands_of, numbers_of, is_accepted, WasRun, RanScript, RefusedScript, IsUntouched, IsLeft, device_of, WritesNothing};
 
-use crate::cause::Cause;
-use crate::script::{Line, ScriptFault, read_script};
 use crate::texts::{answers_text, bad_script_text};
 use job_core::job::Job;
 use job_core::{Command, Device, FontFile, Refusal, Reply, Summary};
+use script_core::{Cause, Line, ScriptFault, read_script};
 use std::alloc::{AllocError, Global};
 use std::io::Write;
 use thiserror::Error;

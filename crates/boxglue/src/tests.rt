@@ -1,7 +1,6 @@
 //! Scripts that are read and scripts that are refused.
 
-use crate::cause::Cause;
-use crate::script::{Line, ScriptFault, read_script};
+use script_core::{Cause, Line, ScriptFault, read_script};
 use std::alloc::{AllocError, Global};
 use std::test::Fail;
 

@@ -3,11 +3,11 @@
 ghost use Rattle.std.specs.Prelude.{◌≡◌, ◌++◌, ◌+◌, ◌*◌, ◌<◌, codes, decimal, OnOk, OnErr, IfOk};
 ghost use Rattle.boxglue.specs.Texts.{refusal_number, refusal_name, bad_file_name, cause_name, kind_name, line_feed, points_text, sizes_text, refusal_text, answer_text, reply_text, answer_line, summary_text, end_line, answer_lines, answers_text, bad_script_text, byte_text, hexadecimal_text};
 
-use crate::cause::Cause;
 use itoa::Buffer;
 use job_core::{Answer, Refusal, Reply, Sizes, Summary, TfmCause};
 use node_core::Kind;
 use scaled_core::{Dimen, print_dimen};
+use script_core::Cause;
 use std::alloc::{AllocError, Global};
 
 /// The number of a refusal.

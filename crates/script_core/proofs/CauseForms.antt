@@ -1,0 +1,228 @@
+-- The forms of causes, and right fields of each kind.
+use Rattle.std.proofs.Common.{◌≡◌, inl, inr, ℕ, ℤ, pos, List, [], ◌∷◌, ◌++◌, Option, Some, None, Result, Ok, Err, codes, refl, ap, sym, ◌∙◌, subst, arith, append_assoc}
+use Rattle.std.proofs.lemmas.List.{append-nil}
+use Rattle.node_core.specs.declared.tree.Order.TheVariants.{Normal}
+use Rattle.node_core.specs.declared.tree.RuleSize.TheVariants.{Running, Fixed}
+use Rattle.job_core.specs.declared.command.Command.{Command}
+use Rattle.script_core.specs.declared.amounts.Amount.{Amount}
+use Rattle.script_core.specs.declared.cause.Cause.{Cause}
+use Rattle.script_core.specs.declared.cause.Cause.TheVariants.{Missing, Extra, Number, Dimension}
+use Rattle.script_core.specs.Causes.{SaysSome, Begins, IsWord, GivesNumber, GivesDimension, GivesSize, HasBad, LacksField, HasExtra, IsFieldCause}
+use Rattle.script_core.specs.Reading.{some_or, number_of, number_first, last_number, penalty_of, penalty_first, last_penalty, dimension_or, dimension_first, last_dimension, no_amount, amount_of, amount_first, last_amount, map_ok, ended, and_right, size_of, command_of}
+use Rattle.scaled_core.specs.declared.fault.DimenFault.{DimenFault}
+use Rattle.scaled_core.specs.Rounding.{nearest}
+use Rattle.scaled_core.specs.DimensionTexts.{decimal_fraction}
+use Rattle.scaled_core.specs.ParsedTexts.{read_dimension, dimension_value, fitted, measured, unit_named, is_negative, behind_sign, front_digits, behind_digits, point_digits, behind_fraction}
+use Rattle.script_core.proofs.FieldLaws.{writes_number, reads_dimension, dimension_read, size_given}
+use Rattle.script_core.proofs.AmountLaws.{amount_given, amount_fault}
+use Rattle.script_core.proofs.CommandLaws.{complete, sound}
+
+-- reading fails
+abbrev pub Fails : List (List ℕ) → Type 0
+Fails fields = (cause : Cause) × (command_of fields ≡ Err cause)
+
+silent : (fields : List (List ℕ)) → Fails fields → SaysSome fields → ⊥
+silent fields (cause, e) (command, says) = let o = complete fields command says in cc
+
+pub not_begun : (fields : List (List ℕ)) → ((more : List (List ℕ)) → Fails (fields ++ more)) → Begins fields → ⊥
+not_begun fields all (more, some) = silent (fields ++ more) (all more) some
+
+pub missing : (front more : List (List ℕ)) (command : Command) → Fails front → command_of (front ++ more) ≡ Ok command → LacksField front
+missing front more command fails whole = record { begins = (more, (command, sound (front ++ more) command whole)); incomplete = silent front fails }
+
+abbrev pub bad_field : (IsRight : List ℕ → Type 0) (front : List (List ℕ)) (field : List ℕ) (rest : List (List ℕ)) (right : List ℕ) (more : List (List ℕ)) (command : Command) → IsRight right → command_of ((front ++ right ∷ []) ++ more) ≡ Ok command → ((later : List (List ℕ)) → Fails ((front ++ field ∷ []) ++ later)) → HasBad IsRight (front ++ field ∷ rest)
+bad_field IsRight front field rest right more command is whole fails = record {
+  front = front;
+  field = field;
+  rest = rest;
+  split = refl;
+  right = right;
+  is_right = is;
+  wanted = (more, (command, sound ((front ++ right ∷ []) ++ more) command whole));
+  bad = not_begun (front ++ field ∷ []) fails;
+}
+
+pub extra : (front : List (List ℕ)) (field : List ℕ) (rest : List (List ℕ)) (command : Command) → command_of front ≡ Ok command → ((later : List (List ℕ)) → Fails ((front ++ field ∷ []) ++ later)) → HasExtra (front ++ field ∷ rest)
+extra front field rest command whole fails = record {
+  front = front;
+  field = field;
+  rest = rest;
+  split = refl;
+  whole = (command, sound front command whole);
+  bad = not_begun (front ++ field ∷ []) fails;
+}
+
+-- a cause is another name of it
+pub as_cause : (fields : List (List ℕ)) (one other : Cause) → one ≡ other → IsFieldCause one fields → IsFieldCause other fields
+as_cause fields one other e h = let P : Cause → Type 0 = λ cause. IsFieldCause cause fields in subst P e h
+
+pub not_made : {A : Type 0} (make : A → Command) (r : Result A Cause) (cause : Cause) → map_ok make r ≡ Err cause → r ≡ Err cause
+not_made make (Err other) cause h = cc
+not_made make (Ok x) cause h = absurd (cc)
+
+pub twice : {A B : Type 0} (make : B → Command) (part : A → B) (r : Result A Cause) → map_ok make (map_ok part r) ≡ map_ok (λ x. make (part x)) r
+twice make part (Err cause) = refl
+twice make part (Ok x) = refl
+
+-- right fields of each kind
+abbrev pub zero_text : List ℕ
+zero_text = codes "0"
+
+pub zero_names : number_of zero_text ≡ Some 0
+unfolding number_of
+zero_names = refl
+
+pub zero_number : GivesNumber zero_text
+zero_number = (0, writes_number zero_text 0 zero_names)
+
+pub star_given : size_of (codes "*") ≡ Ok Running
+unfolding size_of
+star_given = refl
+
+pub star_size : GivesSize (codes "*")
+star_size = (Running, refl)
+
+pub zero_dimension : read_dimension (codes "0sp") ≡ Ok (pos 0)
+unfolding read_dimension dimension_value fitted measured unit_named is_negative behind_sign front_digits behind_digits point_digits behind_fraction decimal_fraction nearest
+zero_dimension = refl
+
+pub zero_size : GivesSize (codes "0sp")
+zero_size = (Fixed (pos 0), reads_dimension (codes "0sp") (pos 0) zero_dimension)
+
+-- what is read as no dimension is none
+pub no_dimension_given : (d : List ℕ) (fault : DimenFault) → read_dimension d ≡ Err fault → GivesDimension d → ⊥
+no_dimension_given d fault e (z, h) = let read = dimension_read d z h in cc
+
+pub no_size_given : (d : List ℕ) (cause : Cause) → size_of d ≡ Err cause → GivesDimension d → ⊥
+no_size_given d cause e (z, h) = let given = size_given d (Fixed z) h in cc
+
+pub no_amount_given : (x : List ℕ) (cause : Cause) → amount_of x ≡ Err cause → GivesDimension x → ⊥
+no_amount_given x cause e (z, h) = let given = amount_given x Normal z h in cc
+
+pub zero_amount : amount_of (codes "0sp") ≡ Ok no_amount
+zero_amount = amount_given (codes "0sp") Normal (pos 0) (reads_dimension (codes "0sp") (pos 0) zero_dimension)
+
+pub zero_penalty : penalty_of zero_text ≡ Some (pos 0)
+unfolding penalty_of
+zero_penalty = refl
+
+-- words that stand behind others
+pub at_is_word : IsWord (codes "at")
+at_is_word = inr (0, omega arith, refl)
+
+pub into_is_word : IsWord (codes "into")
+into_is_word = inr (3, omega arith, refl)
+
+pub plus_is_word : IsWord (codes "plus")
+plus_is_word = inr (4, omega arith, refl)
+
+pub minus_is_word : IsWord (codes "minus")
+minus_is_word = inr (5, omega arith, refl)
+
+pub shift_is_word : IsWord (codes "shift")
+shift_is_word = inr (6, omega arith, refl)
+
+pub depth_is_word : IsWord (codes "boxmaxdepth")
+depth_is_word = inr (7, omega arith, refl)
+
+-- with a right field behind some others a command is said
+abbrev pub Wanted : List (List ℕ) → List ℕ → List (List ℕ) → Command → Type 0
+Wanted front right more command = command_of ((front ++ right ∷ []) ++ more) ≡ Ok command
+
+-- and with another one there none is
+abbrev pub AllFail : List (List ℕ) → List ℕ → Type 0
+AllFail front field = (later : List (List ℕ)) → Fails ((front ++ field ∷ []) ++ later)
+
+no_number_by : (front : List (List ℕ)) (field : List ℕ) (rest more : List (List ℕ)) (command : Command) (o : Option ℕ) (cause : Cause) → some_or Number o ≡ Err cause → Wanted front zero_text more command → AllFail front field → IsFieldCause cause (front ++ field ∷ rest)
+no_number_by front field rest more command None cause e wanted fails = as_cause _ Number cause (cc) (inl (bad_field GivesNumber front field rest zero_text more command zero_number wanted fails))
+no_number_by front field rest more command (Some n) cause e wanted fails = absurd (cc)
+
+-- no number where one belongs
+pub bad_number : (front : List (List ℕ)) (field : List ℕ) (rest more : List (List ℕ)) (command : Command) (cause : Cause) → some_or Number (number_of field) ≡ Err cause → Wanted front zero_text more command → AllFail front field → IsFieldCause cause (front ++ field ∷ rest)
+bad_number front field rest more command cause e wanted fails = no_number_by front field rest more command (number_of field) cause e wanted fails
+
+no_penalty_by : (front : List (List ℕ)) (field : List ℕ) (rest more : List (List ℕ)) (command : Command) (o : Option ℤ) (cause : Cause) → some_or Number o ≡ Err cause → Wanted front zero_text more command → AllFail front field → IsFieldCause cause (front ++ field ∷ rest)
+no_penalty_by front field rest more command None cause e wanted fails = as_cause _ Number cause (cc) (inl (bad_field GivesNumber front field rest zero_text more command zero_number wanted fails))
+no_penalty_by front field rest more command (Some n) cause e wanted fails = absurd (cc)
+
+-- no number of a penalty where one belongs
+pub bad_penalty : (front : List (List ℕ)) (field : List ℕ) (rest more : List (List ℕ)) (command : Command) (cause : Cause) → some_or Number (penalty_of field) ≡ Err cause → Wanted front zero_text more command → AllFail front field → IsFieldCause cause (front ++ field ∷ rest)
+bad_penalty front field rest more command cause e wanted fails = no_penalty_by front field rest more command (penalty_of field) cause e wanted fails
+
+no_dimension_by : (front : List (List ℕ)) (field : List ℕ) (rest more : List (List ℕ)) (command : Command) (r : Result ℤ DimenFault) (cause : Cause) → read_dimension field ≡ r → dimension_or r ≡ Err cause → Wanted front (codes "0sp") more command → AllFail front field → IsFieldCause cause (front ++ field ∷ rest)
+no_dimension_by front field rest more command (Err fault) cause e h wanted fails =
+    as_cause _ Dimension cause (cc) (bad_field GivesSize front field rest (codes "0sp") more command zero_size wanted fails, no_dimension_given field fault e)
+no_dimension_by front field rest more command (Ok z) cause e h wanted fails = absurd (cc)
+
+-- no dimension where one belongs
+pub bad_dimension : (front : List (List ℕ)) (field : List ℕ) (rest more : List (List ℕ)) (command : Command) (cause : Cause) → dimension_or (read_dimension field) ≡ Err cause → Wanted front (codes "0sp") more command → AllFail front field → IsFieldCause cause (front ++ field ∷ rest)
+bad_dimension front field rest more command cause e wanted fails = no_dimension_by front field rest more command (read_dimension field) cause refl e wanted fails
+
+-- no amount of stretch or shrink where one belongs
+pub bad_amount : (front : List (List ℕ)) (field : List ℕ) (rest more : List (List ℕ)) (command : Command) (cause : Cause) → amount_of field ≡ Err cause → Wanted front (codes "0sp") more command → AllFail front field → IsFieldCause cause (front ++ field ∷ rest)
+bad_amount front field rest more command cause e wanted fails =
+    as_cause _ Dimension cause (sym (amount_fault field cause e)) (bad_field GivesSize front field rest (codes "0sp") more command zero_size wanted fails, no_amount_given field cause e)
+
+-- where one field of a kind and nothing else belongs behind these fields
+module _ (A : Type 0) (front : List (List ℕ)) (make : A → Command) (last : List (List ℕ) → Result A Cause) (read : List ℕ → Result A Cause)
+    (none : last [] ≡ Err Missing) (some : (field : List ℕ) (rest : List (List ℕ)) → last (field ∷ rest) ≡ and_right (read field) (ended rest))
+    (reads : (rest : List (List ℕ)) → command_of (front ++ rest) ≡ map_ok make (last rest))
+    (right : List ℕ) (x : A) (right_is : read right ≡ Ok x)
+    (bad : (field : List ℕ) (rest : List (List ℕ)) (cause : Cause) → read field ≡ Err cause → Wanted front right [] (make x) → AllFail front field → IsFieldCause cause (front ++ field ∷ rest)) where
+  behind : (fields rest : List (List ℕ)) → fields ≡ front ++ rest → command_of fields ≡ map_ok make (last rest)
+  behind fields rest e = ap command_of e ∙ reads rest
+
+  alone : (field : List ℕ) (y : A) → read field ≡ Ok y → map_ok make (last (field ∷ [])) ≡ Ok (make y)
+  alone field y e = rw (some field [], e) refl
+
+  lacks_last : LacksField (front ++ [])
+  lacks_last = missing (front ++ []) (right ∷ []) (make x) (Missing, reads [] ∙ (rw none refl)) (behind _ (right ∷ []) (append_assoc front [] (right ∷ [])) ∙ alone right x right_is)
+
+  bad_last : (field : List ℕ) (rest : List (List ℕ)) (cause : Cause) → read field ≡ Err cause → IsFieldCause cause (front ++ field ∷ rest)
+  bad_last field rest cause e =
+      bad field rest cause e (behind _ (right ∷ []) (append-nil (front ++ right ∷ [])) ∙ alone right x right_is)
+      (λ later. (cause, behind _ (field ∷ later) (append_assoc front (field ∷ []) later) ∙ (rw (some field later, e) refl)))
+
+  extra_behind : (field : List ℕ) (y : A) (f : List ℕ) (rest : List (List ℕ)) → read field ≡ Ok y → HasExtra ((front ++ field ∷ []) ++ f ∷ rest)
+  extra_behind field y f rest e =
+      extra (front ++ field ∷ []) f rest (make y) (reads (field ∷ []) ∙ alone field y e)
+      (λ later. (Extra, behind _ (field ∷ f ∷ later) (append_assoc (front ++ field ∷ []) (f ∷ []) later ∙ append_assoc front (field ∷ []) (f ∷ later)) ∙ (rw (some field (f ∷ later), e) refl)))
+
+  by_last : (field : List ℕ) (rest : List (List ℕ)) (r : Result A Cause) (cause : Cause) → read field ≡ r → and_right r (ended rest) ≡ Err cause → IsFieldCause cause (front ++ field ∷ rest)
+  by_last field rest (Err other) cause e h = bad_last field rest cause (e ∙ h)
+  by_last field [] (Ok y) cause e h = absurd (cc)
+  by_last field (f ∷ rest) (Ok y) cause e h =
+      let P : List (List ℕ) → Type 0 = λ fields. IsFieldCause cause fields in
+      subst P (append_assoc front (field ∷ []) (f ∷ rest)) (as_cause _ Extra cause (cc) (extra_behind field y f rest e))
+
+  pub last_cause : (rest : List (List ℕ)) (cause : Cause) → last rest ≡ Err cause → IsFieldCause cause (front ++ rest)
+  last_cause [] cause h = as_cause _ Missing cause (cc) lacks_last
+  last_cause (field ∷ rest) cause h = by_last field rest (read field) cause refl (sym (some field rest) ∙ h)
+
+-- one number and nothing else
+pub number_cause : (front : List (List ℕ)) (make : ℕ → Command) → ((rest : List (List ℕ)) → command_of (front ++ rest) ≡ map_ok make (last_number rest)) → (rest : List (List ℕ)) (cause : Cause) → last_number rest ≡ Err cause → IsFieldCause cause (front ++ rest)
+unfolding last_number number_first
+number_cause front make reads rest cause h =
+    last_cause ℕ front make last_number (λ field. some_or Number (number_of field)) refl (λ field rest. refl) reads zero_text 0 (rw zero_names refl)
+    (λ field rest cause e wanted fails. bad_number front field rest [] (make 0) cause e wanted fails) rest cause h
+
+-- one number of a penalty
+pub penalty_cause : (front : List (List ℕ)) (make : ℤ → Command) → ((rest : List (List ℕ)) → command_of (front ++ rest) ≡ map_ok make (last_penalty rest)) → (rest : List (List ℕ)) (cause : Cause) → last_penalty rest ≡ Err cause → IsFieldCause cause (front ++ rest)
+unfolding last_penalty penalty_first
+penalty_cause front make reads rest cause h =
+    last_cause ℤ front make last_penalty (λ field. some_or Number (penalty_of field)) refl (λ field rest. refl) reads zero_text (pos 0) (rw zero_penalty refl)
+    (λ field rest cause e wanted fails. bad_penalty front field rest [] (make (pos 0)) cause e wanted fails) rest cause h
+
+-- one dimension
+pub dimension_cause : (front : List (List ℕ)) (make : ℤ → Command) → ((rest : List (List ℕ)) → command_of (front ++ rest) ≡ map_ok make (last_dimension rest)) → (rest : List (List ℕ)) (cause : Cause) → last_dimension rest ≡ Err cause → IsFieldCause cause (front ++ rest)
+unfolding last_dimension dimension_first
+dimension_cause front make reads rest cause h =
+    last_cause ℤ front make last_dimension (λ field. dimension_or (read_dimension field)) refl (λ field rest. refl) reads (codes "0sp") (pos 0) (rw zero_dimension refl)
+    (λ field rest cause e wanted fails. bad_dimension front field rest [] (make (pos 0)) cause e wanted fails) rest cause h
+
+-- one amount of stretch or shrink
+pub amount_cause : (front : List (List ℕ)) (make : Amount → Command) → ((rest : List (List ℕ)) → command_of (front ++ rest) ≡ map_ok make (last_amount rest)) → (rest : List (List ℕ)) (cause : Cause) → last_amount rest ≡ Err cause → IsFieldCause cause (front ++ rest)
+unfolding last_amount amount_first
+amount_cause front make reads rest cause h =
+    last_cause Amount front make last_amount amount_of refl (λ field rest. refl) reads (codes "0sp") no_amount zero_amount
+    (λ field rest cause e wanted fails. bad_amount front field rest [] (make no_amount) cause e wanted fails) rest cause h

@@ -1,0 +1,178 @@
+-- The cause that the function names holds of the fields.
+use Rattle.std.proofs.Common.{◌≡◌, inl, ℕ, ℤ, Bool, true, false, List, [], ◌∷◌, Option, Some, None, Result, Ok, Err, codes, refl, sym, ◌∙◌, subst}
+use Rattle.std.specs.Str.{bytes_eq}
+use Rattle.node_core.specs.declared.tree.RuleSize.{RuleSize}
+use Rattle.node_core.specs.declared.tree.RuleSize.TheVariants.{Running, Fixed}
+use Rattle.job_core.specs.declared.command.Command.{Command}
+use Rattle.job_core.specs.declared.command.Command.TheVariants.{UseFont, End, Character, Rule, Kern, Penalty, LastBox, Measure, Void, Ship}
+use Rattle.script_core.specs.declared.cause.Cause.{Cause}
+use Rattle.script_core.specs.declared.cause.Cause.TheVariants.{Word, Missing, Extra, Dimension}
+use Rattle.script_core.specs.declared.name.Name.{Name}
+use Rattle.script_core.specs.declared.name.Name.TheVariants as names
+use Rattle.script_core.specs.Names.{name_of}
+use Rattle.script_core.specs.Causes.{IsWord, GivesSize, IsFieldCause}
+use Rattle.script_core.specs.Reading.{dimension_or, map_ok, size_of, size_first, ended, last_number, last_dimension, last_penalty, right_and, unboxing, rule_of, command_named, named_by, command_of}
+use Rattle.scaled_core.specs.declared.fault.DimenFault.{DimenFault}
+use Rattle.scaled_core.specs.ParsedTexts.{read_dimension}
+use Rattle.script_core.proofs.CommandLaws.{name_text, name_written, name_read, named}
+use Rattle.script_core.proofs.CauseForms.{missing, bad_field, extra, as_cause, not_made, star_given, star_size, no_size_given, number_cause, penalty_cause, dimension_cause}
+use Rattle.script_core.proofs.FontCauses.{font_cause, font_reads}
+use Rattle.script_core.proofs.OpeningCauses.{opening_cause}
+use Rattle.script_core.proofs.BoxCauses.{append_cause}
+use Rattle.script_core.proofs.GlueCauses.{glue_cause}
+use Rattle.script_core.proofs.ParameterCauses.{set_reads, set_cause}
+
+-- the end of a list
+end_reads : (rest : List (List ℕ)) → command_of (codes "end" ∷ rest) ≡ right_and (ended rest) (Ok End)
+unfolding command_named
+end_reads rest = named names.End rest
+
+end_cause : (rest : List (List ℕ)) (cause : Cause) → right_and (ended rest) (Ok End) ≡ Err cause → IsFieldCause cause (codes "end" ∷ rest)
+end_cause [] cause h = absurd (cc)
+end_cause (f ∷ rest) cause h = as_cause _ Extra cause (cc) (extra (codes "end" ∷ []) f rest End (end_reads []) (λ later. (Extra, end_reads (f ∷ later))))
+
+-- a rule
+rule_reads : (rest : List (List ℕ)) → command_of (codes "rule" ∷ rest) ≡ rule_of rest
+unfolding command_named
+rule_reads rest = named names.Rule rest
+
+rule_right : (w h d : List ℕ) (width height depth : RuleSize) → size_of w ≡ Ok width → size_of h ≡ Ok height → size_of d ≡ Ok depth
+    → command_of (codes "rule" ∷ w ∷ h ∷ d ∷ []) ≡ Ok (Rule (record { width = width; height = height; depth = depth }))
+unfolding rule_of size_first
+rule_right w h d width height depth a b c = rule_reads (w ∷ h ∷ d ∷ []) ∙ (rw (a, b, c) refl)
+
+rule_lacks_1 : command_of (codes "rule" ∷ []) ≡ Err Missing
+unfolding rule_of size_first
+rule_lacks_1 = rule_reads []
+
+rule_lacks_2 : (w : List ℕ) (width : RuleSize) → size_of w ≡ Ok width → command_of (codes "rule" ∷ w ∷ []) ≡ Err Missing
+unfolding rule_of size_first
+rule_lacks_2 w width a = rule_reads (w ∷ []) ∙ (rw a refl)
+
+rule_lacks_3 : (w h : List ℕ) (width height : RuleSize) → size_of w ≡ Ok width → size_of h ≡ Ok height → command_of (codes "rule" ∷ w ∷ h ∷ []) ≡ Err Missing
+unfolding rule_of size_first
+rule_lacks_3 w h width height a b = rule_reads (w ∷ h ∷ []) ∙ (rw (a, b) refl)
+
+rule_bad_1 : (w : List ℕ) (rest : List (List ℕ)) (cause : Cause) → size_of w ≡ Err cause → command_of (codes "rule" ∷ w ∷ rest) ≡ Err cause
+unfolding rule_of size_first
+rule_bad_1 w rest cause a = rule_reads (w ∷ rest) ∙ (rw a refl)
+
+rule_bad_2 : (w h : List ℕ) (rest : List (List ℕ)) (width : RuleSize) (cause : Cause) → size_of w ≡ Ok width → size_of h ≡ Err cause → command_of (codes "rule" ∷ w ∷ h ∷ rest) ≡ Err cause
+unfolding rule_of size_first
+rule_bad_2 w h rest width cause a b = rule_reads (w ∷ h ∷ rest) ∙ (rw (a, b) refl)
+
+rule_bad_3 : (w h d : List ℕ) (rest : List (List ℕ)) (width height : RuleSize) (cause : Cause) → size_of w ≡ Ok width → size_of h ≡ Ok height → size_of d ≡ Err cause → command_of (codes "rule" ∷ w ∷ h ∷ d ∷ rest) ≡ Err cause
+unfolding rule_of size_first
+rule_bad_3 w h d rest width height cause a b c = rule_reads (w ∷ h ∷ d ∷ rest) ∙ (rw (a, b, c) refl)
+
+rule_extra : (w h d f : List ℕ) (rest : List (List ℕ)) (width height depth : RuleSize) → size_of w ≡ Ok width → size_of h ≡ Ok height → size_of d ≡ Ok depth → command_of (codes "rule" ∷ w ∷ h ∷ d ∷ f ∷ rest) ≡ Err Extra
+unfolding rule_of size_first
+rule_extra w h d f rest width height depth a b c = rule_reads (w ∷ h ∷ d ∷ f ∷ rest) ∙ (rw (a, b, c) refl)
+
+fixed_fault : (r : Result ℤ DimenFault) (cause : Cause) → map_ok Fixed (dimension_or r) ≡ Err cause → cause ≡ Dimension
+fixed_fault (Err fault) cause h = cc
+fixed_fault (Ok z) cause h = absurd (cc)
+
+star_fault : (field : List ℕ) (cause : Cause) (b : Bool) → bytes_eq field (codes "*") ≡ b → size_of field ≡ Err cause → cause ≡ Dimension
+unfolding size_of
+star_fault field cause true e h = let s : Ok Running ≡ Err cause = rw e at h in absurd (cc)
+star_fault field cause false e h = fixed_fault (read_dimension field) cause (rw e at h)
+
+-- a field that gives no size is no dimension
+size_fault : (field : List ℕ) (cause : Cause) → size_of field ≡ Err cause → cause ≡ Dimension
+size_fault field cause h = star_fault field cause _ refl h
+
+abbrev star : List ℕ
+star = codes "*"
+
+abbrev running : Command
+running = Rule (record { width = Running; height = Running; depth = Running })
+
+rule_by_depth : (w h d : List ℕ) (rest : List (List ℕ)) (width height : RuleSize) (o : Result RuleSize Cause) (cause : Cause) → size_of w ≡ Ok width → size_of h ≡ Ok height → size_of d ≡ o → command_of (codes "rule" ∷ w ∷ h ∷ d ∷ rest) ≡ Err cause → IsFieldCause cause (codes "rule" ∷ w ∷ h ∷ d ∷ rest)
+rule_by_depth w h d rest width height (Err other) cause a b c e =
+    let is : other ≡ Dimension = size_fault d other c in
+    let bad = rule_bad_3 w h d rest width height other a b c in
+    as_cause _ Dimension cause (cc)
+    (bad_field GivesSize (codes "rule" ∷ w ∷ h ∷ []) d rest star [] _ star_size (rule_right w h star width height Running a b star_given) (λ later. (other, rule_bad_3 w h d later width height other a b c)), no_size_given d other c)
+rule_by_depth w h d [] width height (Ok depth) cause a b c e = absurd (let right = rule_right w h d width height depth a b c in cc)
+rule_by_depth w h d (f ∷ rest) width height (Ok depth) cause a b c e =
+    as_cause _ Extra cause (let more = rule_extra w h d f rest width height depth a b c in cc)
+    (extra (codes "rule" ∷ w ∷ h ∷ d ∷ []) f rest _ (rule_right w h d width height depth a b c) (λ later. (Extra, rule_extra w h d f later width height depth a b c)))
+
+rule_by_height : (w h : List ℕ) (rest : List (List ℕ)) (width : RuleSize) (o : Result RuleSize Cause) (cause : Cause) → size_of w ≡ Ok width → size_of h ≡ o → command_of (codes "rule" ∷ w ∷ h ∷ rest) ≡ Err cause → IsFieldCause cause (codes "rule" ∷ w ∷ h ∷ rest)
+rule_by_height w h rest width (Err other) cause a b e =
+    let is : other ≡ Dimension = size_fault h other b in
+    let bad = rule_bad_2 w h rest width other a b in
+    as_cause _ Dimension cause (cc)
+    (bad_field GivesSize (codes "rule" ∷ w ∷ []) h rest star (star ∷ []) _ star_size (rule_right w star star width Running Running a star_given star_given) (λ later. (other, rule_bad_2 w h later width other a b)), no_size_given h other b)
+rule_by_height w h [] width (Ok height) cause a b e =
+    as_cause _ Missing cause (let lacks = rule_lacks_3 w h width height a b in cc)
+    (missing (codes "rule" ∷ w ∷ h ∷ []) (star ∷ []) _ (Missing, rule_lacks_3 w h width height a b) (rule_right w h star width height Running a b star_given))
+rule_by_height w h (d ∷ rest) width (Ok height) cause a b e = rule_by_depth w h d rest width height (size_of d) cause a b refl e
+
+rule_by_width : (w : List ℕ) (rest : List (List ℕ)) (o : Result RuleSize Cause) (cause : Cause) → size_of w ≡ o → command_of (codes "rule" ∷ w ∷ rest) ≡ Err cause → IsFieldCause cause (codes "rule" ∷ w ∷ rest)
+rule_by_width w rest (Err other) cause a e =
+    let is : other ≡ Dimension = size_fault w other a in
+    let bad = rule_bad_1 w rest other a in
+    as_cause _ Dimension cause (cc)
+    (bad_field GivesSize (codes "rule" ∷ []) w rest star (star ∷ star ∷ []) running star_size (rule_right star star star Running Running Running star_given star_given star_given) (λ later. (other, rule_bad_1 w later other a)), no_size_given w other a)
+rule_by_width w [] (Ok width) cause a e =
+    as_cause _ Missing cause (let lacks = rule_lacks_2 w width a in cc)
+    (missing (codes "rule" ∷ w ∷ []) (star ∷ star ∷ []) _ (Missing, rule_lacks_2 w width a) (rule_right w star star width Running Running a star_given star_given))
+rule_by_width w (h ∷ rest) (Ok width) cause a e = rule_by_height w h rest width (size_of h) cause a refl e
+
+rule_cause : (rest : List (List ℕ)) (cause : Cause) → command_of (codes "rule" ∷ rest) ≡ Err cause → IsFieldCause cause (codes "rule" ∷ rest)
+rule_cause [] cause e =
+    as_cause _ Missing cause (let lacks = rule_lacks_1 in cc)
+    (missing (codes "rule" ∷ []) (star ∷ star ∷ star ∷ []) running (Missing, rule_lacks_1) (rule_right star star star Running Running Running star_given star_given star_given))
+rule_cause (w ∷ rest) cause e = rule_by_width w rest (size_of w) cause refl e
+
+-- a command of one number
+alone_cause : (name : Name) (make : ℕ → Command) (rest : List (List ℕ)) (cause : Cause) → ((fields : List (List ℕ)) → command_named name fields ≡ map_ok make (last_number fields)) → command_named name rest ≡ Err cause → IsFieldCause cause (name_text name ∷ rest)
+alone_cause name make rest cause is h =
+    number_cause (name_text name ∷ []) make (λ fields. named name fields ∙ is fields) rest cause (not_made make (last_number rest) cause (sym (is rest) ∙ h))
+
+kern_cause : (rest : List (List ℕ)) (cause : Cause) → command_named names.Kern rest ≡ Err cause → IsFieldCause cause (codes "kern" ∷ rest)
+unfolding command_named
+kern_cause rest cause h = dimension_cause (codes "kern" ∷ []) Kern (λ fields. named names.Kern fields) rest cause (not_made Kern (last_dimension rest) cause h)
+
+penalties_cause : (rest : List (List ℕ)) (cause : Cause) → command_named names.Penalty rest ≡ Err cause → IsFieldCause cause (codes "penalty" ∷ rest)
+unfolding command_named
+penalties_cause rest cause h = penalty_cause (codes "penalty" ∷ []) Penalty (λ fields. named names.Penalty fields) rest cause (not_made Penalty (last_penalty rest) cause h)
+
+named_cause : (name : Name) (rest : List (List ℕ)) (cause : Cause) → command_named name rest ≡ Err cause → IsFieldCause cause (name_text name ∷ rest)
+unfolding command_named
+named_cause names.Font rest cause h = font_cause rest cause (font_reads rest ∙ h)
+named_cause names.Use rest cause h = alone_cause names.Use UseFont rest cause (λ fields. refl) h
+named_cause (names.Open form) rest cause h = opening_cause form rest cause (named (names.Open form) rest ∙ h)
+named_cause names.End rest cause h = end_cause rest cause h
+named_cause names.Character rest cause h = alone_cause names.Character Character rest cause (λ fields. refl) h
+named_cause names.Rule rest cause h = rule_cause rest cause (rule_reads rest ∙ h)
+named_cause names.Kern rest cause h = kern_cause rest cause h
+named_cause names.Glue rest cause h = glue_cause rest cause (named names.Glue rest ∙ h)
+named_cause names.Penalty rest cause h = penalties_cause rest cause h
+named_cause (names.Append taking) rest cause h = append_cause taking rest cause (named (names.Append taking) rest ∙ h)
+named_cause (names.Unbox kind taking) rest cause h = alone_cause (names.Unbox kind taking) (unboxing kind taking) rest cause (λ fields. refl) h
+named_cause names.LastBox rest cause h = alone_cause names.LastBox LastBox rest cause (λ fields. refl) h
+named_cause names.Measure rest cause h = alone_cause names.Measure Measure rest cause (λ fields. refl) h
+named_cause names.Void rest cause h = alone_cause names.Void Void rest cause (λ fields. refl) h
+named_cause names.Set rest cause h = set_cause rest cause (set_reads rest ∙ h)
+named_cause names.Ship rest cause h = alone_cause names.Ship Ship rest cause (λ fields. refl) h
+
+no_name : (word : List ℕ) (rest : List (List ℕ)) → name_of word ≡ None → command_of (word ∷ rest) ≡ Err Word
+unfolding command_of
+no_name word rest e = rw e refl
+
+by_name : (word : List ℕ) (rest : List (List ℕ)) (cause : Cause) (o : Option Name) → name_of word ≡ o → named_by o rest ≡ Err cause → IsFieldCause cause (word ∷ rest)
+by_name word rest cause None e h =
+    as_cause _ Word cause (cc)
+    (bad_field IsWord [] word rest (codes "end") [] End (inl (names.End, name_read names.End)) (end_reads []) (λ later. (Word, no_name word later e)))
+by_name word rest cause (Some name) e h =
+    let P : List ℕ → Type 0 = λ w. IsFieldCause cause (w ∷ rest) in
+    subst P (sym (name_written word name e)) (named_cause name rest cause h)
+
+-- the cause that reading names holds of the fields
+pub cause_holds : (fields : List (List ℕ)) (cause : Cause) → command_of fields ≡ Err cause → IsFieldCause cause fields
+unfolding command_of
+cause_holds [] cause h = as_cause _ Missing cause (cc) (missing [] (codes "end" ∷ []) End (Missing, refl) (end_reads []))
+cause_holds (word ∷ rest) cause h = by_name word rest cause (name_of word) refl h

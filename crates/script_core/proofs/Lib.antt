@@ -1,0 +1,17 @@
+pub mod LineLemmas
+pub mod FieldLemmas
+pub mod Numbers
+pub mod FieldLaws
+pub mod AmountLaws
+pub mod CommandLaws
+pub mod CauseForms
+pub mod FontCauses
+pub mod OpeningCauses
+pub mod BoxCauses
+pub mod GlueCauses
+pub mod SharedCauses
+pub mod ParameterCauses
+pub mod CauseLaws
+pub mod TextLines
+pub mod ScriptLaws
+pub mod RowLaws

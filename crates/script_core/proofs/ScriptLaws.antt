@@ -1,0 +1,209 @@
+-- The function that reads lines gives the lines of the script.
+use Rattle.std.proofs.Common.{◌≡◌, inl, inr, ⊎_elim, ℕ, ◌+◌, Bool, true, false, List, [], ◌∷◌, ◌++◌, Option, Some, None, codes, length, Result, Ok, Err, refl, ap, sym, ◌∙◌, subst, arith}
+use Rattle.std.specs.List.{list_all, AllByRecursion}
+use Rattle.std.specs.Str.Lines.{lines}
+use Rattle.std.proofs.lemmas.List.{append-nil}
+use Rattle.job_core.specs.declared.command.Command.{Command}
+use Rattle.job_core.specs.declared.command.Command.TheVariants.{Text}
+use Rattle.script_core.specs.declared.cause.Cause.{Cause}
+use Rattle.script_core.specs.declared.cause.Cause.TheVariants.{Byte, Word}
+use Rattle.script_core.specs.declared.script.Line.{Line}
+use Rattle.script_core.specs.declared.script.ScriptFault.{ScriptFault}
+use Rattle.script_core.specs.declared.script.ScriptFault.TheVariants.{OutOfMemory, BadScript}
+use Rattle.script_core.specs.ScriptLines.{is_passed_over, is_printable, fields_of, IsTextLine}
+use Rattle.script_core.specs.Names.{box_name, register_name, item_name, name_of}
+use Rattle.script_core.specs.Grammar.{Says}
+use Rattle.script_core.specs.Causes.{IsPrintable, IsFieldCause, IsCause}
+use Rattle.script_core.specs.Script.{IsPassedOver, Gives, SaysLine, SayFrom, IsScript, IsRightLine, IsFirstBad, Explains}
+use Rattle.script_core.specs.Reading.{command_of, text_of, given_by, line_of, Found, prefixed, reads_by, reads}
+use Rattle.script_core.proofs.CommandLaws.{complete, sound}
+use Rattle.script_core.proofs.CauseLaws.{cause_holds}
+use Rattle.script_core.proofs.TextLines.{text_said, text_read, text_first}
+
+-- what the fields say is given, but for a text
+gives : (line : List ℕ) (command : Command) → Says (fields_of line) command → Gives line command
+gives line (Text text) h = absurd h
+gives line command h = h
+
+given_in : (line : List ℕ) (command : Command) (o : Option (List ℕ)) → text_of line ≡ o → given_by o line ≡ Ok command → Gives line command
+given_in line command None e h = gives line command (sound (fields_of line) command h)
+given_in line command (Some text) e h =
+    let is : Text text ≡ command = cc in
+    let P : Command → Type 0 = λ c. Gives line c in
+    subst P is (text_said line text e)
+
+no_command : (more : List (List ℕ)) → command_of (codes "text" ∷ more) ≡ Err Word
+unfolding command_of name_of box_name register_name item_name
+no_command more = refl
+
+fields_by : (line : List ℕ) (command : Command) (o : Option (List ℕ)) → text_of line ≡ o → Says (fields_of line) command → given_by o line ≡ Ok command
+fields_by line command None e h = complete (fields_of line) command h
+fields_by line command (Some text) e h =
+    let first = text_first line text (text_said line text e) in
+    let other : Err Word ≡ Ok command = sym (no_command first.0) ∙ ap command_of (sym first.1) ∙ complete (fields_of line) command h in
+    absurd (cc)
+
+-- what is given is read
+given_read : (line : List ℕ) (command : Command) → Gives line command → given_by (text_of line) line ≡ Ok command
+given_read line (Text text) h = rw (text_read line text h) refl
+given_read line command h = fields_by line command (text_of line) refl h
+
+-- what is read of a line
+line_by : (line : List ℕ) (command : Command) (b : Bool) → list_all is_printable line ≡ b → line_of line ≡ Ok command → IsPrintable line × Gives line command
+unfolding line_of
+line_by line command true e h = (e, given_in line command (text_of line) refl (rw e at h))
+line_by line command false e h = let s : Err Byte ≡ Ok command = rw e at h in absurd (cc)
+
+line_said : (line : List ℕ) (command : Command) → is_passed_over line ≡ false → line_of line ≡ Ok command → SaysLine line command
+line_said line command counted h =
+    let said = line_by line command _ refl h in
+    record { counted = counted; printable = said.0; says = said.1 }
+
+line_read : (line : List ℕ) (command : Command) → SaysLine line command → line_of line ≡ Ok command
+unfolding line_of
+line_read line command h = rw h.printable (given_read line command h.says)
+
+given_fault : (line : List ℕ) (cause : Cause) (o : Option (List ℕ)) → text_of line ≡ o → given_by o line ≡ Err cause → ((text : List ℕ) → IsTextLine line text → ⊥) × IsFieldCause cause (fields_of line)
+given_fault line cause None e h = (λ text said. let read = text_read line text said in cc, cause_holds (fields_of line) cause h)
+given_fault line cause (Some text) e h = absurd (cc)
+
+line_fault : (line : List ℕ) (cause : Cause) (b : Bool) → list_all is_printable line ≡ b → line_of line ≡ Err cause → IsCause cause line
+unfolding line_of
+line_fault line cause true e h =
+    let fault = given_fault line cause (text_of line) refl (rw e at h) in
+    inr (e, fault.0, fault.1)
+line_fault line cause false e h = let s : Err Byte ≡ Err cause = rw e at h in inl (cc, e)
+
+abbrev read_lines : List Line → Found
+read_lines found = Ok found
+
+-- what is found in front of more
+behind_one : (line : Line) (more : Found) (found : List Line) → prefixed (line ∷ []) more ≡ Ok found → (rest : List Line) × (more ≡ Ok rest) × (found ≡ line ∷ rest)
+behind_one line (Err fault) found h = absurd (cc)
+behind_one line (Ok rest) found h = (rest, refl, cc)
+
+read_by : (number : ℕ) (line : List ℕ) (r : Result Command Cause) (more : Found) (found : List Line) → line_of line ≡ r → reads_by number r more ≡ Ok found → (command : Command) × (rest : List Line) × (line_of line ≡ Ok command) × (more ≡ Ok rest) × (found ≡ record { number = number; command = command } ∷ rest)
+read_by number line (Err cause) more found e h = absurd (cc)
+read_by number line (Ok command) more found e h =
+    let rest = behind_one (record { number = number; command = command }) more found h in
+    (command, rest.0, e, rest.1, rest.2)
+
+said_line : (number : ℕ) (line : List ℕ) (rest : List (List ℕ)) (found : List Line) (b : Bool) → is_passed_over line ≡ b → ((later : List Line) → reads (number + 1) rest ≡ Ok later → SayFrom (number + 1) rest later) → reads number (line ∷ rest) ≡ Ok found → SayFrom number (line ∷ rest) found
+said_line number line rest found true e more h = inl (e, more found (rw e at h))
+said_line number line rest found false e more h =
+    let read = read_by number line (line_of line) (reads (number + 1) rest) found refl (rw e at h) in
+    inr (read.0, read.1, read.4, line_said line read.0 e read.2, more read.1 read.3)
+
+-- what is read is said
+pub said_from : (number : ℕ) (all : List (List ℕ)) (found : List Line) → reads number all ≡ Ok found → SayFrom number all found
+said_from number [] found h = cc
+said_from number (line ∷ rest) found h = said_line number line rest found _ refl (λ later e. said_from (number + 1) rest later e) h
+
+-- what is said is read
+pub read_from : (number : ℕ) (all : List (List ℕ)) (found : List Line) → SayFrom number all found → reads number all ≡ Ok found
+read_from number [] found h = rw h refl
+read_from number (line ∷ rest) found h = ⊎_elim
+    (λ (passed : IsPassedOver line × SayFrom (number + 1) rest found). rw passed.0 (read_from (number + 1) rest found passed.1))
+    (λ (said : (command : Command) × (more : List Line) × (found ≡ record { number = number; command = command } ∷ more) × SaysLine line command × SayFrom (number + 1) rest more).
+    rw (said.3.counted, line_read line said.0 said.3, read_from (number + 1) rest said.1 said.4, said.2) refl)
+    h
+
+-- the first bad line among some, the first of which has the number
+pub record BadFrom (number : ℕ) (all : List (List ℕ)) (fault : ScriptFault) : Type 0 where
+  pub front : List (List ℕ)
+  pub line : List ℕ
+  pub rest : List (List ℕ)
+  pub cause : Cause
+  pub split : all ≡ front ++ line ∷ rest
+  pub fault_is : fault ≡ BadScript (length front + number) cause
+  pub right : AllByRecursion IsRightLine front
+  pub counted : is_passed_over line ≡ false
+  pub holds : IsCause cause line
+
+-- a right line in front
+bad_behind : (number : ℕ) (line : List ℕ) (rest : List (List ℕ)) (fault : ScriptFault) → IsRightLine line → BadFrom (number + 1) rest fault → BadFrom number (line ∷ rest) fault
+bad_behind number line rest fault right bad = record {
+  front = line ∷ bad.front;
+  line = bad.line;
+  rest = bad.rest;
+  cause = bad.cause;
+  split = ap (λ (xs : List (List ℕ)). line ∷ xs) bad.split;
+  fault_is = bad.fault_is ∙ ap (λ (n : ℕ). BadScript n bad.cause) (omega arith);
+  right = (right, bad.right);
+  counted = bad.counted;
+  holds = bad.holds;
+}
+
+bad_here : (number : ℕ) (line : List ℕ) (rest : List (List ℕ)) (cause : Cause) → is_passed_over line ≡ false → line_of line ≡ Err cause → BadFrom number (line ∷ rest) (BadScript number cause)
+bad_here number line rest cause counted h = record {
+  front = [];
+  line = line;
+  rest = rest;
+  cause = cause;
+  split = refl;
+  fault_is = ap (λ (n : ℕ). BadScript n cause) (omega arith);
+  right = tt;
+  counted = counted;
+  holds = line_fault line cause _ refl h;
+}
+
+bad_more : (line : Line) (more : Found) (fault : ScriptFault) → prefixed (line ∷ []) more ≡ Err fault → more ≡ Err fault
+bad_more line (Err other) fault h = cc
+bad_more line (Ok rest) fault h = absurd (cc)
+
+bad_by : (number : ℕ) (line : List ℕ) (rest : List (List ℕ)) (fault : ScriptFault) (r : Result Command Cause) → is_passed_over line ≡ false → line_of line ≡ r → (reads (number + 1) rest ≡ Err fault → BadFrom (number + 1) rest fault) → reads_by number r (reads (number + 1) rest) ≡ Err fault → BadFrom number (line ∷ rest) fault
+bad_by number line rest fault (Err cause) counted e more h =
+    let here : BadScript number cause ≡ fault = cc in
+    let P : ScriptFault → Type 0 = λ f. BadFrom number (line ∷ rest) f in
+    subst P here (bad_here number line rest cause counted e)
+bad_by number line rest fault (Ok command) counted e more h =
+    bad_behind number line rest fault (inr (command, line_said line command counted e)) (more (bad_more _ (reads (number + 1) rest) fault h))
+
+bad_line : (number : ℕ) (line : List ℕ) (rest : List (List ℕ)) (fault : ScriptFault) (b : Bool) → is_passed_over line ≡ b → (reads (number + 1) rest ≡ Err fault → BadFrom (number + 1) rest fault) → reads number (line ∷ rest) ≡ Err fault → BadFrom number (line ∷ rest) fault
+bad_line number line rest fault true e more h = bad_behind number line rest fault (inl e) (more (rw e at h))
+bad_line number line rest fault false e more h = bad_by number line rest fault (line_of line) e refl more (rw e at h)
+
+pub bad_from : (number : ℕ) (all : List (List ℕ)) (fault : ScriptFault) → reads number all ≡ Err fault → BadFrom number all fault
+bad_from number [] fault h = absurd (cc)
+bad_from number (line ∷ rest) fault h = bad_line number line rest fault _ refl (λ e. bad_from (number + 1) rest fault e) h
+
+same_fault : (m n : ℕ) (c d : Cause) → BadScript m c ≡ BadScript n d → (m ≡ n) × (c ≡ d)
+same_fault m n c d e = (cc, cc)
+
+explained : (text : List ℕ) (number : ℕ) (cause : Cause) → BadFrom 1 (lines text) (BadScript number cause) → IsFirstBad text number cause
+explained text number cause bad =
+    let same = same_fault number (length bad.front + 1) cause bad.cause bad.fault_is in
+    let P : Cause → Type 0 = λ c. IsCause c bad.line in
+    record {
+      front = bad.front;
+      line = bad.line;
+      rest = bad.rest;
+      split = bad.split;
+      place = same.0;
+      right = bad.right;
+      counted = bad.counted;
+      holds = subst P (sym same.1) bad.holds;
+    }
+
+-- a text that is read is a script of these lines
+pub script_read : (text : List ℕ) (found : List Line) → reads 1 (lines text) ≡ Ok found → IsScript text found
+script_read text found h = said_from 1 (lines text) found h
+
+-- one that is not is none, and its first bad line is named
+pub script_refused : (text : List ℕ) (fault : ScriptFault) → reads 1 (lines text) ≡ Err fault → Explains text fault
+script_refused text OutOfMemory h = tt
+script_refused text (BadScript number cause) h =
+    let bad = bad_from 1 (lines text) (BadScript number cause) h in
+    (explained text number cause bad, λ found said. let o = read_from 1 (lines text) found said in cc)
+
+-- and has no other lines
+pub script_one : (text : List ℕ) (found : List Line) → reads 1 (lines text) ≡ Ok found → (others : List Line) → IsScript text others → others ≡ found
+script_one text found h others said = let o = read_from 1 (lines text) others said in cc
+
+-- the end of a text
+pub read_whole : (number : ℕ) (text rest : List ℕ) (found : List Line) → length rest ≡ 0 → prefixed found (reads number (lines rest)) ≡ reads 1 (lines text) → reads 1 (lines text) ≡ Ok found
+read_whole number text [] found empty h = sym h ∙ ap (λ (xs : List Line). read_lines xs) (append-nil found)
+read_whole number text (byte ∷ rest) found empty h = absurd (omega arith)
+
+-- what `read_script` says of a text
+pub ruleset reading = (script_read, script_one, script_refused)

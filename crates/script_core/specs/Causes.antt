@@ -1,0 +1,92 @@
+-- What is wrong with a line that says no command (own).
+use Rattle.std.specs.Prelude.{◌≡◌, ◌⊎◌, ℕ, ℤ, true, false, List, [], ◌∷◌, ◌++◌, codes, Some}
+use Rattle.std.specs.List.{Contains, list_all}
+use Rattle.node_core.specs.declared.tree.RuleSize.{RuleSize}
+use Rattle.job_core.specs.declared.command.Command.{Command}
+use Rattle.script_core.specs.declared.cause.Cause.{Cause}
+use Rattle.script_core.specs.declared.cause.Cause.TheVariants as causes
+use Rattle.script_core.specs.declared.cause.Cause.TheVariants.{Byte, Word, Missing, Extra, Number, Dimension}
+use Rattle.script_core.specs.declared.name.Name.{Name}
+use Rattle.script_core.specs.Names.{name_of}
+use Rattle.script_core.specs.ScriptLines.{is_printable, fields_of, IsTextLine}
+use Rattle.script_core.specs.Grammar.{IsNumber, IsDimension, IsSize, IsName, IsSizeOfFont, Says}
+
+-- the fields say some command
+abbrev pub SaysSome : List (List ℕ) → Type 0
+SaysSome fields = (command : Command) × Says fields command
+
+-- the fields begin some that say a command
+abbrev pub Begins : List (List ℕ) → Type 0
+Begins fields = (more : List (List ℕ)) × SaysSome (fields ++ more)
+
+-- a word that stands behind others: a keyword or the name of a parameter
+abbrev pub IsInnerWord : List ℕ → Type 0
+IsInnerWord field =
+    Contains (codes "at" ∷ codes "to" ∷ codes "spread" ∷ codes "into" ∷ codes "plus" ∷ codes "minus" ∷ codes "shift"
+    ∷ codes "boxmaxdepth" ∷ codes "baselineskip" ∷ codes "lineskip" ∷ codes "lineskiplimit" ∷ []) field
+
+-- one of the words of the grammar of fields, to which `text` does not belong
+abbrev pub IsWord : List ℕ → Type 0
+IsWord field = ((name : Name) × (name_of field ≡ Some name)) ⊎ IsInnerWord field
+
+-- a field that writes some number from 0 to 255
+abbrev pub GivesNumber : List ℕ → Type 0
+GivesNumber field = (n : ℕ) × IsNumber field n
+
+-- some dimension that fits
+abbrev pub GivesDimension : List ℕ → Type 0
+GivesDimension field = (z : ℤ) × IsDimension field z
+
+-- some size of a font
+abbrev pub GivesSizeOfFont : List ℕ → Type 0
+GivesSizeOfFont field = (z : ℤ) × IsSizeOfFont field z
+
+-- some size of a rule
+abbrev pub GivesSize : List ℕ → Type 0
+GivesSize field = (size : RuleSize) × IsSize field size
+
+-- a field is bad where one of that kind belongs: with a right one in its place the fields up to it begin a command, and with it they do not
+pub record HasBad (IsRight : List ℕ → Type 0) (fields : List (List ℕ)) : Type 0 where
+  pub front : List (List ℕ)
+  pub field : List ℕ
+  pub rest : List (List ℕ)
+  pub split : fields ≡ front ++ field ∷ rest
+  pub right : List ℕ
+  pub is_right : IsRight right
+  pub wanted : Begins (front ++ right ∷ [])
+  pub bad : Begins (front ++ field ∷ []) → ⊥
+
+-- a field is missing: the fields begin a command and do not say one
+pub record LacksField (fields : List (List ℕ)) : Type 0 where
+  pub begins : Begins fields
+  pub incomplete : SaysSome fields → ⊥
+
+-- a field is too many: those before it say a command, and with it they do not begin one
+pub record HasExtra (fields : List (List ℕ)) : Type 0 where
+  pub front : List (List ℕ)
+  pub field : List ℕ
+  pub rest : List (List ℕ)
+  pub split : fields ≡ front ++ field ∷ rest
+  pub whole : SaysSome front
+  pub bad : Begins (front ++ field ∷ []) → ⊥
+
+-- the cause holds of the fields. Dimension: the bad field is no dimension that fits. Number: it stands where a number belongs, 0 to 255 or
+-- that of a penalty, and is none; or, where the size of a font belongs, it is a dimension that is no such size
+abbrev pub IsFieldCause : Cause → List (List ℕ) → Type 0
+IsFieldCause Byte fields = ⊥
+IsFieldCause Word fields = HasBad IsWord fields
+IsFieldCause Missing fields = LacksField fields
+IsFieldCause Extra fields = HasExtra fields
+IsFieldCause Number fields = HasBad GivesNumber fields ⊎ ((bad : HasBad GivesSizeOfFont fields) × GivesDimension bad.field)
+IsFieldCause Dimension fields = (bad : HasBad GivesSize fields) × (GivesDimension bad.field → ⊥)
+IsFieldCause causes.Name fields = HasBad IsName fields
+
+-- each byte of the line is printable, 32 to 126
+abbrev pub IsPrintable : List ℕ → Type 0
+IsPrintable line = list_all is_printable line ≡ true
+
+-- the cause holds of the line: a byte is not printable; or all are, and it is no line of text, and the cause holds of the fields
+abbrev pub IsCause : Cause → List ℕ → Type 0
+IsCause cause line =
+    ((cause ≡ Byte) × (list_all is_printable line ≡ false))
+    ⊎ (IsPrintable line × ((text : List ℕ) → IsTextLine line text → ⊥) × IsFieldCause cause (fields_of line))

@@ -1,0 +1,7 @@
+pub mod ScriptLines
+pub mod Names
+pub mod Grammar
+pub mod Causes
+pub mod Script
+pub mod Reading
+pub mod Rows

@@ -1,0 +1,53 @@
+-- The names of commands, but for `text`, whose lines are no fields (own).
+use Rattle.std.specs.Prelude.{ℕ, if◌then◌else◌, List, Option, None, Some, codes}
+use Rattle.std.specs.Str.{bytes_eq}
+use Rattle.node_core.specs.declared.tree.Kind.TheVariants.{Horizontal, Vertical}
+use Rattle.job_core.specs.declared.command.BoxForm.TheVariants.{Hbox, Vbox, Vtop}
+use Rattle.job_core.specs.declared.command.Taking.TheVariants.{Moved, Copied}
+use Rattle.script_core.specs.declared.name.Name.{Name}
+use Rattle.script_core.specs.declared.name.Name.TheVariants.{Font, Use, Open, End, Character, Rule, Kern, Glue, Penalty, Append, Unbox, LastBox, Measure, Void, Set, Ship}
+
+-- the name of a command of lists and whole boxes that a word is
+unfoldable pub box_name : List ℕ → Option Name
+box_name word =
+    if bytes_eq word (codes "hbox") then Some (Open Hbox)
+    else (if bytes_eq word (codes "vbox") then Some (Open Vbox)
+    else (if bytes_eq word (codes "vtop") then Some (Open Vtop)
+    else (if bytes_eq word (codes "end") then Some End
+    else (if bytes_eq word (codes "measure") then Some Measure
+    else (if bytes_eq word (codes "void") then Some Void
+    else (if bytes_eq word (codes "ship") then Some Ship
+    else None))))))
+
+-- the name of a command that a word is, of those that take the box of a register into a list or the last one out of it
+unfoldable pub register_name : List ℕ → Option Name
+register_name word =
+    if bytes_eq word (codes "box") then Some (Append Moved)
+    else (if bytes_eq word (codes "copy") then Some (Append Copied)
+    else (if bytes_eq word (codes "unhbox") then Some (Unbox Horizontal Moved)
+    else (if bytes_eq word (codes "unhcopy") then Some (Unbox Horizontal Copied)
+    else (if bytes_eq word (codes "unvbox") then Some (Unbox Vertical Moved)
+    else (if bytes_eq word (codes "unvcopy") then Some (Unbox Vertical Copied)
+    else (if bytes_eq word (codes "lastbox") then Some LastBox
+    else None))))))
+
+-- the name of a command of fonts, items and parameters that a word is
+unfoldable pub item_name : List ℕ → Option Name
+item_name word =
+    if bytes_eq word (codes "font") then Some Font
+    else (if bytes_eq word (codes "use") then Some Use
+    else (if bytes_eq word (codes "char") then Some Character
+    else (if bytes_eq word (codes "rule") then Some Rule
+    else (if bytes_eq word (codes "kern") then Some Kern
+    else (if bytes_eq word (codes "glue") then Some Glue
+    else (if bytes_eq word (codes "penalty") then Some Penalty
+    else (if bytes_eq word (codes "set") then Some Set
+    else None)))))))
+
+abbrev pub name_or : Option Name → Option Name → Option Name
+name_or None later = later
+name_or (Some name) later = Some name
+
+-- the name that a word is
+unfoldable pub name_of : List ℕ → Option Name
+name_of word = name_or (box_name word) (name_or (register_name word) (item_name word))

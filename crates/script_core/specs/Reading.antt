@@ -1,0 +1,401 @@
+-- What the functions that read a script compute (own).
+use Rattle.std.specs.Prelude.{◌≡◌, ◌==◌, ℕ, ℤ, pos, negsuc, Bool, not, ◌&&◌, if◌then◌else◌, List, [], ◌∷◌, ◌++◌, ◌+◌, ◌-◌, Option, None, Some, Result, Ok, Err, codes, drop, take, length, nat_lt, nat_le, unsigned_abs}
+use Rattle.std.specs.List.{prefix_len, list_all}
+use Rattle.std.specs.Char.{digit_value}
+use Rattle.std.specs.Str.{bytes_eq}
+use Rattle.std.specs.Str.Parse.{without_leading_sign, signed_digits_value}
+use Rattle.scaled_core.specs.declared.fault.DimenFault.{DimenFault}
+use Rattle.scaled_core.specs.ParsedTexts.{read_dimension}
+use Rattle.node_core.specs.declared.tree.Kind.{Kind}
+use Rattle.node_core.specs.declared.tree.Glue as glues
+use Rattle.node_core.specs.declared.tree.Order.{Order}
+use Rattle.node_core.specs.declared.tree.Order.TheVariants.{Normal, Fil, Fill, Filll}
+use Rattle.node_core.specs.declared.tree.RuleSize.{RuleSize}
+use Rattle.node_core.specs.declared.tree.RuleSize.TheVariants.{Running, Fixed}
+use Rattle.pack_core.specs.declared.pack.Target.{Target}
+use Rattle.pack_core.specs.declared.pack.Target.TheVariants.{Natural, To, Spread}
+use Rattle.job_core.specs.declared.command.BoxForm.{BoxForm}
+use Rattle.job_core.specs.declared.command.Taking.{Taking}
+use Rattle.job_core.specs.declared.command.Parameter.{Parameter}
+use Rattle.job_core.specs.declared.command.Parameter.TheVariants.{BoxMaxDepth, BaselineSkip, LineSkip, LineSkipLimit}
+use Rattle.job_core.specs.declared.command.Command.{Command}
+use Rattle.job_core.specs.declared.command.Command.TheVariants.{LoadFont, UseFont, Open, End, Text, Character, Rule, Kern, Glue, Penalty, Append, Unbox, LastBox, Measure, Void, Set, Ship}
+use Rattle.script_core.specs.declared.cause.Cause.{Cause}
+use Rattle.script_core.specs.declared.cause.Cause.TheVariants as causes
+use Rattle.script_core.specs.declared.cause.Cause.TheVariants.{Byte, Word, Missing, Extra, Number, Dimension}
+use Rattle.script_core.specs.declared.amounts.Amount.{Amount}
+use Rattle.script_core.specs.declared.script.Line.{Line}
+use Rattle.script_core.specs.declared.script.ScriptFault.{ScriptFault}
+use Rattle.script_core.specs.declared.script.ScriptFault.TheVariants.{BadScript}
+use Rattle.script_core.specs.declared.name.Name.{Name}
+use Rattle.script_core.specs.declared.name.Name.TheVariants as names
+use Rattle.script_core.specs.Names.{name_of}
+use Rattle.script_core.specs.ScriptLines.{is_space, is_printable, is_passed_over, fields_of}
+use Rattle.script_core.specs.Grammar.{is_name_byte}
+
+-- a byte before the end of a line, and of a field
+abbrev pub in_line : ℕ → Bool
+in_line byte = not (byte == 10)
+
+abbrev pub in_field : ℕ → Bool
+in_field byte = not (is_space byte)
+
+-- a line without the spaces at its front
+abbrev pub without_spaces : List ℕ → List ℕ
+without_spaces line = drop (prefix_len is_space line) line
+
+-- the first field of a line, empty where there is none
+unfoldable pub front_field : List ℕ → List ℕ
+front_field line = take (prefix_len in_field (without_spaces line)) (without_spaces line)
+
+-- what stands behind it
+unfoldable pub behind_field : List ℕ → List ℕ
+behind_field line = drop (prefix_len in_field (without_spaces line)) (without_spaces line)
+
+-- the first of some fields
+abbrev pub first_of : List (List ℕ) → Result (List ℕ) Cause
+first_of [] = Err Missing
+first_of (field ∷ rest) = Ok field
+
+-- those behind it
+abbrev pub rest_of : List (List ℕ) → List (List ℕ)
+rest_of [] = []
+rest_of (field ∷ rest) = rest
+
+abbrev pub some_or : {A : Type 0} → Cause → Option A → Result A Cause
+some_or cause None = Err cause
+some_or cause (Some x) = Ok x
+
+abbrev pub is_numeral : List ℕ → Bool
+is_numeral digits = nat_lt 0 (length digits) && list_all (λ c. nat_lt (digit_value c) 10) digits
+
+-- a number that a register, a slot or a character has
+abbrev pub small_number : ℤ → Option ℕ
+small_number (pos n) = if nat_lt n 256 then Some n else None
+small_number (negsuc n) = None
+
+-- the number that a field writes
+unfoldable pub number_of : List ℕ → Option ℕ
+number_of field = if is_numeral (without_leading_sign field) then small_number (signed_digits_value 10 field) else None
+
+-- a number that a penalty has
+abbrev pub penalty_number : ℤ → Option ℤ
+penalty_number z = if nat_le (unsigned_abs z) 500000000 then Some z else None
+
+-- the number of a penalty that a field writes
+unfoldable pub penalty_of : List ℕ → Option ℤ
+penalty_of field = if is_numeral (without_leading_sign field) then penalty_number (signed_digits_value 10 field) else None
+
+abbrev pub as_number : Result (List ℕ) Cause → Result ℕ Cause
+as_number (Err cause) = Err cause
+as_number (Ok field) = some_or Number (number_of field)
+
+unfoldable pub number_first : List (List ℕ) → Result ℕ Cause
+number_first fields = as_number (first_of fields)
+
+abbrev pub as_penalty : Result (List ℕ) Cause → Result ℤ Cause
+as_penalty (Err cause) = Err cause
+as_penalty (Ok field) = some_or Number (penalty_of field)
+
+-- the first of some fields as the number of a penalty
+unfoldable pub penalty_first : List (List ℕ) → Result ℤ Cause
+penalty_first fields = as_penalty (first_of fields)
+
+abbrev pub dimension_or : Result ℤ DimenFault → Result ℤ Cause
+dimension_or (Err fault) = Err Dimension
+dimension_or (Ok z) = Ok z
+
+abbrev pub as_dimension : Result (List ℕ) Cause → Result ℤ Cause
+as_dimension (Err cause) = Err cause
+as_dimension (Ok field) = dimension_or (read_dimension field)
+
+unfoldable pub dimension_first : List (List ℕ) → Result ℤ Cause
+dimension_first fields = as_dimension (first_of fields)
+
+-- the size of a font that a dimension is: 1 sp to 2^27 - 1 sp
+abbrev pub size_of_font : ℤ → Option ℤ
+size_of_font (pos n) = if nat_lt 0 n && nat_lt n 134217728 then Some (pos n) else None
+size_of_font (negsuc n) = None
+
+abbrev pub as_size_of_font : Result ℤ Cause → Result ℤ Cause
+as_size_of_font (Err cause) = Err cause
+as_size_of_font (Ok z) = some_or Number (size_of_font z)
+
+-- the first of some fields as the size of a font
+unfoldable pub size_of_font_first : List (List ℕ) → Result ℤ Cause
+size_of_font_first fields = as_size_of_font (dimension_first fields)
+
+-- 1 to 255 bytes
+abbrev pub is_short : List ℕ → Bool
+is_short field = nat_lt 0 (length field) && nat_lt (length field) 256
+
+-- whether a field is the name of a font
+abbrev pub is_name : List ℕ → Bool
+is_name field = is_short field && list_all is_name_byte field
+
+abbrev pub as_name : Result (List ℕ) Cause → Result (List ℕ) Cause
+as_name (Err cause) = Err cause
+as_name (Ok field) = if is_name field then Ok field else Err causes.Name
+
+-- the first of some fields as the name of a font
+unfoldable pub name_first : List (List ℕ) → Result (List ℕ) Cause
+name_first fields = as_name (first_of fields)
+
+abbrev pub map_ok : {A B : Type 0} → (A → B) → Result A Cause → Result B Cause
+map_ok f (Err cause) = Err cause
+map_ok f (Ok x) = Ok (f x)
+
+-- the size of a rule that a field gives
+unfoldable pub size_of : List ℕ → Result RuleSize Cause
+size_of field = if bytes_eq field (codes "*") then Ok Running else map_ok Fixed (dimension_or (read_dimension field))
+
+abbrev pub as_size : Result (List ℕ) Cause → Result RuleSize Cause
+as_size (Err cause) = Err cause
+as_size (Ok field) = size_of field
+
+unfoldable pub size_first : List (List ℕ) → Result RuleSize Cause
+size_first fields = as_size (first_of fields)
+
+-- what stands before a unit, if a field ends with it
+unfoldable pub before_unit : List ℕ → List ℕ → Option (List ℕ)
+before_unit unit field = if bytes_eq (drop (length field - length unit) field) unit then Some (take (length field - length unit) field) else None
+
+abbrev pub amount : Order → ℤ → Amount
+amount order size = record { size = size; order = order }
+
+-- the amount of that order whose value is that of a dimension
+unfoldable pub amount_in : Order → List ℕ → Result Amount Cause
+amount_in order text = map_ok (amount order) (dimension_or (read_dimension text))
+
+-- the amount of that order whose value is that of a number in points
+abbrev pub number_in_points : Order → List ℕ → Result Amount Cause
+number_in_points order number = amount_in order (number ++ codes "pt")
+
+abbrev pub amount_or : Order → Option (List ℕ) → Result Amount Cause → Result Amount Cause
+amount_or order None other = other
+amount_or order (Some number) other = number_in_points order number
+
+-- the amount of stretch or shrink that a field writes
+unfoldable pub amount_of : List ℕ → Result Amount Cause
+amount_of field =
+    amount_or Filll (before_unit (codes "filll") field)
+    (amount_or Fill (before_unit (codes "fill") field)
+    (amount_or Fil (before_unit (codes "fil") field)
+    (amount_in Normal field)))
+
+abbrev pub as_amount : Result (List ℕ) Cause → Result Amount Cause
+as_amount (Err cause) = Err cause
+as_amount (Ok field) = amount_of field
+
+-- the first of some fields as an amount of stretch or shrink
+unfoldable pub amount_first : List (List ℕ) → Result Amount Cause
+amount_first fields = as_amount (first_of fields)
+
+-- no field is left
+abbrev pub ended : List (List ℕ) → Result (Unit {0}) Cause
+ended [] = Ok tt
+ended (field ∷ rest) = Err Extra
+
+-- what was read, if what follows it is right too
+abbrev pub and_right : {A : Type 0} → Result A Cause → Result (Unit {0}) Cause → Result A Cause
+and_right (Err cause) after = Err cause
+and_right (Ok x) (Err cause) = Err cause
+and_right (Ok x) (Ok u) = Ok x
+
+unfoldable pub last_number : List (List ℕ) → Result ℕ Cause
+last_number fields = and_right (number_first fields) (ended (rest_of fields))
+
+unfoldable pub last_dimension : List (List ℕ) → Result ℤ Cause
+last_dimension fields = and_right (dimension_first fields) (ended (rest_of fields))
+
+-- what follows, if what stands before it is right
+abbrev pub right_and : {A : Type 0} → Result (Unit {0}) Cause → Result A Cause → Result A Cause
+right_and (Err cause) after = Err cause
+right_and (Ok u) after = after
+
+-- what follows, by what was read before it, if that is right
+abbrev pub and_then : {A B : Type 0} → Result A Cause → (A → Result B Cause) → Result B Cause
+and_then (Err cause) more = Err cause
+and_then (Ok x) more = more x
+
+unfoldable pub last_penalty : List (List ℕ) → Result ℤ Cause
+last_penalty fields = and_right (penalty_first fields) (ended (rest_of fields))
+
+unfoldable pub last_amount : List (List ℕ) → Result Amount Cause
+last_amount fields = and_right (amount_first fields) (ended (rest_of fields))
+
+abbrev pub opening : BoxForm → Target → Option ℕ → Command
+opening form target into = Open (record { form = form; target = target; into = into })
+
+-- the opening of a list with this register as the last field
+unfoldable pub opened : BoxForm → Target → List (List ℕ) → Result Command Cause
+opened form target fields = map_ok (λ register. opening form target (Some register)) (last_number fields)
+
+-- and with what stands behind its size: nothing, or `into` and a register
+unfoldable pub opened_into : BoxForm → Target → List (List ℕ) → Result Command Cause
+opened_into form target [] = Ok (opening form target None)
+opened_into form target (word ∷ rest) = if bytes_eq word (codes "into") then opened form target rest else Err Word
+
+-- and with a dimension before that
+unfoldable pub opened_sized : BoxForm → (ℤ → Target) → List (List ℕ) → Result Command Cause
+opened_sized form sized fields = and_then (dimension_first fields) (λ z. opened_into form (sized z) (rest_of fields))
+
+-- what the fields behind `hbox`, `vbox` or `vtop` say
+unfoldable pub opening_of : BoxForm → List (List ℕ) → Result Command Cause
+opening_of form [] = Ok (opening form Natural None)
+opening_of form (word ∷ rest) =
+    if bytes_eq word (codes "into") then opened form Natural rest
+    else (if bytes_eq word (codes "to") then opened_sized form To rest
+    else (if bytes_eq word (codes "spread") then opened_sized form Spread rest
+    else Err Word))
+
+abbrev pub append : Taking → ℕ → ℤ → Command
+append taking register shift = Append (record { register = register; taking = taking; shift = shift })
+
+-- what stands behind the register of a box: nothing, or `shift` and a dimension
+unfoldable pub shift_of : List (List ℕ) → Result ℤ Cause
+shift_of [] = Ok (pos 0)
+shift_of (word ∷ rest) = if bytes_eq word (codes "shift") then last_dimension rest else Err Word
+
+-- what the fields behind `box` or `copy` say
+unfoldable pub append_of : Taking → List (List ℕ) → Result Command Cause
+append_of taking fields = and_then (number_first fields) (λ register. map_ok (append taking register) (shift_of (rest_of fields)))
+
+abbrev pub unboxing : Kind → Taking → ℕ → Command
+unboxing kind taking register = Unbox (record { kind = kind; register = register; taking = taking })
+
+abbrev pub no_amount : Amount
+no_amount = amount Normal (pos 0)
+
+abbrev pub glue : ℤ → Amount → Amount → glues.Glue
+glue width stretch shrink =
+    record { width = width; stretch = stretch.size; stretch_order = stretch.order; shrink = shrink.size; shrink_order = shrink.order }
+
+-- a glue of that width and stretch, and its shrink as the last field
+unfoldable pub last_shrink_of : ℤ → Amount → List (List ℕ) → Result glues.Glue Cause
+last_shrink_of width stretch fields = map_ok (glue width stretch) (last_amount fields)
+
+-- what stands behind the stretch of a glue: nothing, or `minus` and its shrink
+unfoldable pub shrink_of : ℤ → Amount → List (List ℕ) → Result glues.Glue Cause
+shrink_of width stretch [] = Ok (glue width stretch no_amount)
+shrink_of width stretch (word ∷ rest) = if bytes_eq word (codes "minus") then last_shrink_of width stretch rest else Err Word
+
+-- what stands behind the width of a glue: nothing, or its stretch, its shrink or both
+unfoldable pub parts_of : ℤ → List (List ℕ) → Result glues.Glue Cause
+parts_of width [] = Ok (glue width no_amount no_amount)
+parts_of width (word ∷ rest) =
+    if bytes_eq word (codes "plus") then and_then (amount_first rest) (λ stretch. shrink_of width stretch (rest_of rest))
+    else (if bytes_eq word (codes "minus") then last_shrink_of width no_amount rest
+    else Err Word)
+
+-- the glue that some fields write
+unfoldable pub glue_of : List (List ℕ) → Result glues.Glue Cause
+glue_of fields = and_then (dimension_first fields) (λ width. parts_of width (rest_of fields))
+
+-- what the fields behind `set` say: the name of a parameter and its value
+unfoldable pub parameter_of : List (List ℕ) → Result Parameter Cause
+parameter_of [] = Err Missing
+parameter_of (word ∷ rest) =
+    if bytes_eq word (codes "boxmaxdepth") then map_ok BoxMaxDepth (last_dimension rest)
+    else (if bytes_eq word (codes "baselineskip") then map_ok BaselineSkip (glue_of rest)
+    else (if bytes_eq word (codes "lineskip") then map_ok LineSkip (glue_of rest)
+    else (if bytes_eq word (codes "lineskiplimit") then map_ok LineSkipLimit (last_dimension rest)
+    else Err Word)))
+
+-- the size behind the name of a font: none, or `at` and a size
+unfoldable pub chosen_size_of : List (List ℕ) → Result (Option ℤ) Cause
+chosen_size_of [] = Ok None
+chosen_size_of (word ∷ rest) =
+    if bytes_eq word (codes "at") then map_ok Some (and_right (size_of_font_first rest) (ended (rest_of rest))) else Err Word
+
+abbrev pub font_by : Result ℕ Cause → Result (List ℕ) Cause → Result (Option ℤ) Cause → Result Command Cause
+font_by (Err cause) name size = Err cause
+font_by (Ok slot) (Err cause) size = Err cause
+font_by (Ok slot) (Ok name) (Err cause) = Err cause
+font_by (Ok slot) (Ok name) (Ok size) = Ok (LoadFont (record { slot = slot; name = name; size = size }))
+
+-- what the fields behind `font` say
+unfoldable pub font_of : List (List ℕ) → Result Command Cause
+font_of fields = font_by (number_first fields) (name_first (rest_of fields)) (chosen_size_of (rest_of (rest_of fields)))
+
+abbrev pub rule_by : Result RuleSize Cause → Result RuleSize Cause → Result RuleSize Cause → Result (Unit {0}) Cause → Result Command Cause
+rule_by (Err cause) height depth end = Err cause
+rule_by (Ok width) (Err cause) depth end = Err cause
+rule_by (Ok width) (Ok height) (Err cause) end = Err cause
+rule_by (Ok width) (Ok height) (Ok depth) (Err cause) = Err cause
+rule_by (Ok width) (Ok height) (Ok depth) (Ok u) = Ok (Rule (record { width = width; height = height; depth = depth }))
+
+unfoldable pub rule_of : List (List ℕ) → Result Command Cause
+rule_of fields = rule_by (size_first fields) (size_first (rest_of fields)) (size_first (rest_of (rest_of fields))) (ended (rest_of (rest_of (rest_of fields))))
+
+-- the command of that name with these fields behind it
+unfoldable pub command_named : Name → List (List ℕ) → Result Command Cause
+command_named names.Font fields = font_of fields
+command_named names.Use fields = map_ok UseFont (last_number fields)
+command_named (names.Open form) fields = opening_of form fields
+command_named names.End fields = right_and (ended fields) (Ok End)
+command_named names.Character fields = map_ok Character (last_number fields)
+command_named names.Rule fields = rule_of fields
+command_named names.Kern fields = map_ok Kern (last_dimension fields)
+command_named names.Glue fields = map_ok Glue (glue_of fields)
+command_named names.Penalty fields = map_ok Penalty (last_penalty fields)
+command_named (names.Append taking) fields = append_of taking fields
+command_named (names.Unbox kind taking) fields = map_ok (unboxing kind taking) (last_number fields)
+command_named names.LastBox fields = map_ok LastBox (last_number fields)
+command_named names.Measure fields = map_ok Measure (last_number fields)
+command_named names.Void fields = map_ok Void (last_number fields)
+command_named names.Set fields = map_ok Set (parameter_of fields)
+command_named names.Ship fields = map_ok Ship (last_number fields)
+
+abbrev pub named_by : Option Name → List (List ℕ) → Result Command Cause
+named_by None fields = Err Word
+named_by (Some name) fields = command_named name fields
+
+abbrev pub command_by : Result (List ℕ) Cause → List (List ℕ) → Result Command Cause
+command_by (Err cause) fields = Err cause
+command_by (Ok word) fields = named_by (name_of word) fields
+
+-- the command that the fields of a line say, or the cause at the first bad one from the left
+unfoldable pub command_of : List (List ℕ) → Result Command Cause
+command_of fields = command_by (first_of fields) (rest_of fields)
+
+-- what stands behind the word `text` at the front of a line without spaces in front: nothing, or one space and a text
+abbrev pub text_behind : List ℕ → Option (List ℕ)
+text_behind line = if bytes_eq line (codes "text") then Some [] else (if bytes_eq (take 5 line) (codes "text ") then Some (drop 5 line) else None)
+
+-- the text of a line of text
+unfoldable pub text_of : List ℕ → Option (List ℕ)
+text_of line = text_behind (without_spaces line)
+
+abbrev pub given_by : Option (List ℕ) → List ℕ → Result Command Cause
+given_by None line = command_of (fields_of line)
+given_by (Some text) line = Ok (Text text)
+
+-- the command that a line says, or why it says none
+unfoldable pub line_of : List ℕ → Result Command Cause
+line_of line = if list_all is_printable line then given_by (text_of line) line else Err Byte
+
+abbrev pub Found : Type 0
+Found = Result (List Line) ScriptFault
+
+-- what is found behind some lines
+abbrev pub prefixed : List Line → Found → Found
+prefixed found (Err fault) = Err fault
+prefixed found (Ok more) = Ok (found ++ more)
+
+abbrev pub reads_by : ℕ → Result Command Cause → Found → Found
+reads_by number (Err cause) more = Err (BadScript number cause)
+reads_by number (Ok command) more = prefixed (record { number = number; command = command } ∷ []) more
+
+-- what the lines from that number on say
+abbrev pub reads : ℕ → List (List ℕ) → Found
+reads number [] = Ok []
+reads number (line ∷ rest) = if is_passed_over line then reads (number + 1) rest else reads_by number (line_of line) (reads (number + 1) rest)
+
+-- reading goes on behind a line
+abbrev pub ReadsOn : ℕ → List ℕ → List Line → List Line → Type 0
+ReadsOn number line old new = (rest : List (List ℕ)) → prefixed old (reads number (line ∷ rest)) ≡ prefixed new (reads (number + 1) rest)
+
+-- or ends at it
+abbrev pub StopsAt : ℕ → List ℕ → List Line → ScriptFault → Type 0
+StopsAt number line old fault = (rest : List (List ℕ)) → prefixed old (reads number (line ∷ rest)) ≡ Err fault

@@ -1,0 +1,15 @@
+//! The script: a text is read into lines that say commands.
+//!
+//! A text with a bad line is refused whole, with the number of its first bad line, from 1, and a cause that holds of it.
+#![tactic(auto)]
+
+mod amounts;
+mod cause;
+mod fields;
+pub mod laws;
+mod lines;
+mod name;
+mod script;
+
+pub use cause::Cause;
+pub use script::{Line, ScriptFault, read_script};

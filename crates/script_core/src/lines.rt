@@ -1,0 +1,96 @@
+//! Lines of a text and fields of a line.
+
+ghost use Rattle.std.specs.Prelude.{◌≡◌, ◌∷◌, ◌+◌, ◌<◌, ◌≤◌, length, option_copied};
+ghost use Rattle.std.specs.List.{list_all, prefix_len};
+ghost use Rattle.std.specs.Str.Lines.{lines, strip_carriage_return};
+ghost use Rattle.script_core.specs.ScriptLines.{is_passed_over, is_printable, is_space};
+ghost use Rattle.script_core.specs.Reading.{in_line, in_field, front_field, behind_field, text_of};
+
+/// The first line of a text that is not empty, without its end, and the text behind it. A line ends with a line feed, which
+/// the last one may lack; one carriage return right before the line feed is not of the line.
+#[tactic(auto, using(crate::proofs::LineLemmas::splitting))]
+pub fn first_line(text: &[u8]) -> (&[u8], &[u8])
+    requires { 0 < length text.now }
+    ensures lines { lines text.now ≡ result.0.now ∷ lines result.1.now }
+    ensures shorter { length result.1.now < length text.now }
+{
+    let (line, behind) = text.split_at(line_size(text));
+    match behind {
+        [] => (line, behind),
+        [_feed, rest @ ..] => (without_return(line), rest),
+    }
+}
+
+/// How many bytes stand before the first line feed.
+fn line_size(text: &[u8]) -> usize
+    ensures size { result ≡ prefix_len in_line text.now }
+    ensures within { result ≤ length text.now }
+{
+    text.iter().take_while(|byte| **byte != b'\n').count()
+}
+
+/// The line without the one carriage return at its end, if there is one.
+fn without_return(line: &[u8]) -> &[u8]
+    ensures { result.now ≡ strip_carriage_return line.now }
+{
+    match line {
+        [front @ .., b'\r'] => front,
+        _ => line,
+    }
+}
+
+/// Whether a line counts but says nothing: it is empty, or it begins with `%`.
+pub fn is_passed_over(line: &[u8]) -> bool
+    ensures { result ≡ is_passed_over line.now }
+{
+    match line {
+        [] => true,
+        [first, ..] => *first == b'%',
+    }
+}
+
+/// Whether each byte of a line is printable ASCII, 32 to 126.
+pub fn is_printable(line: &[u8]) -> bool
+    ensures { result ≡ list_all is_printable line.now }
+{
+    line.iter().all(|byte| *byte >= 32 && *byte <= 126)
+}
+
+/// The first field of a line, empty where there is none, and what stands behind it.
+#[tactic(auto, unfolding(crate::specs::Reading::front_field, crate::specs::Reading::behind_field))]
+pub fn first_field(line: &[u8]) -> (&[u8], &[u8])
+    ensures field { result.0.now ≡ front_field line.now }
+    ensures rest { result.1.now ≡ behind_field line.now }
+{
+    let line = &line[space_count(line)..];
+    line.split_at(field_size(line))
+}
+
+/// The text of a line of text, or None where it is none: behind the spaces at its front stands the word `text`, and then nothing, for
+/// the empty text, or one space and the text as it stands.
+#[tactic(auto, unfolding(crate::specs::Reading::text_of))]
+pub fn text_of(line: &[u8]) -> Option<&[u8]>
+    ensures { option_copied result ≡ text_of line.now }
+{
+    match &line[space_count(line)..] {
+        b"text" => Some(&[]),
+        [b't', b'e', b'x', b't', b' ', text @ ..] => Some(text),
+        _ => None,
+    }
+}
+
+/// How many spaces stand at the front.
+fn space_count(line: &[u8]) -> usize
+    ensures count { result ≡ prefix_len is_space line.now }
+    ensures within { result ≤ length line.now }
+{
+    line.iter().take_while(|byte| **byte == b' ').count()
+}
+
+/// How many bytes stand before the first space.
+fn field_size(line: &[u8]) -> usize
+    ensures size { result ≡ prefix_len in_field line.now }
+    ensures within { result ≤ length line.now }
+{
+    line.iter().take_while(|byte| **byte != b' ').count()
+}

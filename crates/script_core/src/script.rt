@@ -1,0 +1,92 @@
+//! Reading a script.
+
+ghost use Rattle.std.specs.Prelude.{◌≡◌, ◌⊎◌, List, IfOk, OnOk, IfErr};
+ghost use Rattle.script_core.specs.Script.{IsScript, Explains};
+ghost use Rattle.script_core.specs.Reading.{line_of, ReadsOn, StopsAt};
+
+use crate::cause::Cause;
+use crate::fields::Fields;
+use crate::lines::{first_line, is_passed_over, is_printable, text_of};
+use job_core::{Characters, Command};
+use std::alloc::{AllocError, Global};
+use thiserror::Error;
+
+/// A line of a script that says a command.
+#[derive(Debug, Drop)]
+pub struct Line {
+    /// The number of the line in its script, from 1.
+    pub number: usize,
+    pub command: Command,
+}
+
+/// Why a script was not read.
+#[derive(Clone, Copy, Debug, PartialEq, Eq, Error)]
+pub enum ScriptFault {
+    #[error("a growth of memory was refused")]
+    OutOfMemory,
+    #[error("line {line} of the script says no command")]
+    BadScript { line: usize, cause: Cause },
+}
+
+/// The lines of a script text that say commands, each with its number. A text with a line that is neither passed over nor says a
+/// command is refused whole, and its first such line is named. A line feed ends a line, and one carriage return right before it
+/// is not of the line; a line that is empty or begins with `%` is passed over but counts.
+#[tactic(auto, using(crate::proofs::ScriptLaws::reading))]
+pub fn read_script(alloc: Global, text: &[u8]) -> Result<Vec<Line>, ScriptFault>
+    ensures lines { IfOk result (λ found. IsScript text.now found.items) }
+    ensures only { IfOk result (λ found. (others : List Line) → IsScript text.now others → others ≡ found.items) }
+    ensures refused { IfErr result (λ fault. Explains text.now fault) }
+{
+    let mut found = Vec::new(alloc);
+    let mut rest = text;
+    let mut number = 0;
+    while !rest.is_empty() {
+        let (line, behind) = first_line(rest);
+        number += 1;
+        read_line(alloc, number, line, &mut found)?;
+        rest = behind;
+    }
+    Ok(found)
+}
+
+/// Reads a line, and puts what it says behind what the lines before it said.
+fn read_line(
+    alloc: Global,
+    number: usize,
+    line: &[u8],
+    found: &mut Vec<Line>,
+) -> Result<(), ScriptFault>
+    ensures ok { OnOk result (ReadsOn number line.now found.old.items found.new.items) }
+    ensures bad { IfErr result (λ fault. (fault ≡ ScriptFault.OutOfMemory) ⊎ StopsAt number line.now found.old.items fault) }
+{
+    if is_passed_over(line) {
+        return Ok(());
+    }
+    let Ok(read) = command_of(alloc, line) else {
+        return Err(ScriptFault::OutOfMemory);
+    };
+    match read {
+        Ok(command) => match found.push(Line { number, command }) {
+            Ok(()) => Ok(()),
+            Err(_) => Err(ScriptFault::OutOfMemory),
+        },
+        Err(cause) => Err(ScriptFault::BadScript {
+            line: number,
+            cause,
+        }),
+    }
+}
+
+/// The command that a line says, or why it says none.
+#[tactic(auto, unfolding(crate::specs::Reading::line_of))]
+fn command_of(alloc: Global, line: &[u8]) -> Result<Result<Command, Cause>, AllocError>
+    ensures { IfOk result (λ read. read ≡ line_of line.now) }
+{
+    if !is_printable(line) {
+        return Ok(Err(Cause::Byte));
+    }
+    match text_of(line) {
+        Some(text) => Ok(Ok(Command::Text(Characters::new(text.to_vec(alloc)?)))),
+        None => Fields::new(line).command(alloc),
+    }
+}
