@@ -42,14 +42,14 @@ bad_field IsRight front field rest right more command is whole fails = record {
   bad = not_begun (front ++ field ∷ []) fails;
 }
 
-pub extra : (front : List (List ℕ)) (field : List ℕ) (rest : List (List ℕ)) (command : Command) → command_of front ≡ Ok command → ((later : List (List ℕ)) → Fails ((front ++ field ∷ []) ++ later)) → HasExtra (front ++ field ∷ rest)
+pub extra : (front : List (List ℕ)) (field : List ℕ) (rest : List (List ℕ)) (command : Command) → command_of front ≡ Ok command → ((other : List ℕ) (later : List (List ℕ)) → Fails ((front ++ other ∷ []) ++ later)) → HasExtra (front ++ field ∷ rest)
 extra front field rest command whole fails = record {
   front = front;
   field = field;
   rest = rest;
   split = refl;
   whole = (command, sound front command whole);
-  bad = not_begun (front ++ field ∷ []) fails;
+  last = λ other. not_begun (front ++ other ∷ []) (fails other);
 }
 
 -- a cause is another name of it
@@ -186,7 +186,7 @@ module _ (A : Type 0) (front : List (List ℕ)) (make : A → Command) (last : L
   extra_behind : (field : List ℕ) (y : A) (f : List ℕ) (rest : List (List ℕ)) → read field ≡ Ok y → HasExtra ((front ++ field ∷ []) ++ f ∷ rest)
   extra_behind field y f rest e =
       extra (front ++ field ∷ []) f rest (make y) (reads (field ∷ []) ∙ alone field y e)
-      (λ later. (Extra, behind _ (field ∷ f ∷ later) (append_assoc (front ++ field ∷ []) (f ∷ []) later ∙ append_assoc front (field ∷ []) (f ∷ later)) ∙ (rw (some field (f ∷ later), e) refl)))
+      (λ other later. (Extra, behind _ (field ∷ other ∷ later) (append_assoc (front ++ field ∷ []) (other ∷ []) later ∙ append_assoc front (field ∷ []) (other ∷ later)) ∙ (rw (some field (other ∷ later), e) refl)))
 
   by_last : (field : List ℕ) (rest : List (List ℕ)) (r : Result A Cause) (cause : Cause) → read field ≡ r → and_right r (ended rest) ≡ Err cause → IsFieldCause cause (front ++ field ∷ rest)
   by_last field rest (Err other) cause e h = bad_last field rest cause (e ∙ h)

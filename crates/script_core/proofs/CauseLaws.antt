@@ -29,7 +29,7 @@ end_reads rest = named names.End rest
 
 end_cause : (rest : List (List ℕ)) (cause : Cause) → right_and (ended rest) (Ok End) ≡ Err cause → IsFieldCause cause (codes "end" ∷ rest)
 end_cause [] cause h = absurd (cc)
-end_cause (f ∷ rest) cause h = as_cause _ Extra cause (cc) (extra (codes "end" ∷ []) f rest End (end_reads []) (λ later. (Extra, end_reads (f ∷ later))))
+end_cause (f ∷ rest) cause h = as_cause _ Extra cause (cc) (extra (codes "end" ∷ []) f rest End (end_reads []) (λ other later. (Extra, end_reads (other ∷ later))))
 
 -- a rule
 rule_reads : (rest : List (List ℕ)) → command_of (codes "rule" ∷ rest) ≡ rule_of rest
@@ -97,7 +97,7 @@ rule_by_depth w h d rest width height (Err other) cause a b c e =
 rule_by_depth w h d [] width height (Ok depth) cause a b c e = absurd (let right = rule_right w h d width height depth a b c in cc)
 rule_by_depth w h d (f ∷ rest) width height (Ok depth) cause a b c e =
     as_cause _ Extra cause (let more = rule_extra w h d f rest width height depth a b c in cc)
-    (extra (codes "rule" ∷ w ∷ h ∷ d ∷ []) f rest _ (rule_right w h d width height depth a b c) (λ later. (Extra, rule_extra w h d f later width height depth a b c)))
+    (extra (codes "rule" ∷ w ∷ h ∷ d ∷ []) f rest _ (rule_right w h d width height depth a b c) (λ other later. (Extra, rule_extra w h d other later width height depth a b c)))
 
 rule_by_height : (w h : List ℕ) (rest : List (List ℕ)) (width : RuleSize) (o : Result RuleSize Cause) (cause : Cause) → size_of w ≡ Ok width → size_of h ≡ o → command_of (codes "rule" ∷ w ∷ h ∷ rest) ≡ Err cause → IsFieldCause cause (codes "rule" ∷ w ∷ h ∷ rest)
 rule_by_height w h rest width (Err other) cause a b e =
@@ -166,7 +166,7 @@ no_name word rest e = rw e refl
 by_name : (word : List ℕ) (rest : List (List ℕ)) (cause : Cause) (o : Option Name) → name_of word ≡ o → named_by o rest ≡ Err cause → IsFieldCause cause (word ∷ rest)
 by_name word rest cause None e h =
     as_cause _ Word cause (cc)
-    (bad_field IsWord [] word rest (codes "end") [] End (inl (names.End, name_read names.End)) (end_reads []) (λ later. (Word, no_name word later e)))
+    (bad_field IsWord [] word rest (codes "end") [] End (inl ([], (End, refl))) (end_reads []) (λ later. (Word, no_name word later e)))
 by_name word rest cause (Some name) e h =
     let P : List ℕ → Type 0 = λ w. IsFieldCause cause (w ∷ rest) in
     subst P (sym (name_written word name e)) (named_cause name rest cause h)

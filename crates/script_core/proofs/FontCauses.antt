@@ -129,7 +129,7 @@ module _ (s : List ℕ) (n : ℕ) (name : List ℕ) (is_slot : number_of s ≡ S
   by_size d (g ∷ rest) z (Some y) cause e f h =
       as_cause _ Extra cause (let more = at_more d g rest z y e f in cc)
       (extra (codes "font" ∷ s ∷ name ∷ codes "at" ∷ d ∷ []) g rest (load n name (Some y)) (loads (codes "at" ∷ d ∷ []) (Some y) (at_size d z y e f))
-      (λ later. fails (codes "at" ∷ d ∷ g ∷ later) Extra (at_more d g later z y e f)))
+      (λ other later. fails (codes "at" ∷ d ∷ other ∷ later) Extra (at_more d other later z y e f)))
 
   by_dimension : (d : List ℕ) (rest : List (List ℕ)) (o : Result ℤ DimenFault) (cause : Cause) → read_dimension d ≡ o → chosen_size_of (codes "at" ∷ d ∷ rest) ≡ Err cause → IsFieldCause cause (codes "font" ∷ s ∷ name ∷ codes "at" ∷ d ∷ rest)
   by_dimension d rest (Err fault) cause e h =

@@ -69,5 +69,3 @@ late_stretch_read = refl
 
 pub late_stretch_named : LateStretchRow
 late_stretch_named = (script_refused (codes "glue 1pt minus 1fil plus 1pt") (BadScript 1 Extra) late_stretch_read).0
-
-pub ruleset rows = (one_rule_said, bad_named, text_script_said, bad_size_named, bad_name_named, tall_box_said, no_register_named, late_stretch_named)

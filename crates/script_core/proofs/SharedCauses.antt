@@ -65,26 +65,27 @@ module _ (A : Type 0) (read : List (List ℕ) → Result A Cause) (word first se
   bad_shared : (IsRight : List ℕ → Type 0) (rest : List (List ℕ)) (bad : HasBad IsRight (word ∷ rest)) → (new : HasBad IsRight (first ∷ second ∷ rest)) × (new.field ≡ bad.field)
   bad_shared IsRight rest bad = bad_by IsRight rest bad.front bad.field bad.rest bad.right bad.split bad.is_right bad.wanted bad.bad
 
-  extra_by : (rest front : List (List ℕ)) (field : List ℕ) (behind : List (List ℕ)) → word ∷ rest ≡ front ++ field ∷ behind → SaysSome front → (Begins (front ++ field ∷ []) → ⊥) → HasExtra (first ∷ second ∷ rest)
-  extra_by rest [] field behind split whole bad = absurd (not_first field rest behind split bad)
-  extra_by rest (w ∷ front) field behind split whole bad =
+  extra_by : (rest front : List (List ℕ)) (field : List ℕ) (behind : List (List ℕ)) → word ∷ rest ≡ front ++ field ∷ behind → SaysSome front → ((other : List ℕ) → Begins (front ++ other ∷ []) → ⊥) → HasExtra (first ∷ second ∷ rest)
+  extra_by rest [] field behind split whole last = absurd (last word starts)
+  extra_by rest (w ∷ front) field behind split whole last =
       let parts = behind_word w rest front field behind split in
       let P : List ℕ → Type 0 = λ y. SaysSome (y ∷ front) in
-      let Q : List ℕ → Type 0 = λ y. Begins (y ∷ (front ++ field ∷ [])) in
       record {
         front = first ∷ second ∷ front;
         field = field;
         rest = behind;
         split = ap (λ (xs : List (List ℕ)). first ∷ second ∷ xs) parts.1;
         whole = said front (subst P parts.0 whole);
-        bad = λ begins. bad (subst Q (sym parts.0) (begun_back (front ++ field ∷ []) begins));
+        last = λ other begins.
+            let Q : List ℕ → Type 0 = λ y. Begins (y ∷ (front ++ other ∷ [])) in
+            last other (subst Q (sym parts.0) (begun_back (front ++ other ∷ []) begins));
       }
 
   pub shared_cause : (cause : Cause) (rest : List (List ℕ)) → IsFieldCause cause (word ∷ rest) → IsFieldCause cause (first ∷ second ∷ rest)
   shared_cause causes.Byte rest h = h
   shared_cause causes.Word rest h = (bad_shared IsWord rest h).0
   shared_cause causes.Missing rest h = record { begins = begun rest h.begins; incomplete = λ some. h.incomplete (said_back rest some) }
-  shared_cause causes.Extra rest h = extra_by rest h.front h.field h.rest h.split h.whole h.bad
+  shared_cause causes.Extra rest h = extra_by rest h.front h.field h.rest h.split h.whole h.last
   shared_cause causes.Number rest (inl h) = inl (bad_shared GivesNumber rest h).0
   shared_cause causes.Number rest (inr (h, is)) =
       let new = bad_shared GivesSizeOfFont rest h in

@@ -1,13 +1,11 @@
 -- What is wrong with a line that says no command (own).
-use Rattle.std.specs.Prelude.{◌≡◌, ◌⊎◌, ℕ, ℤ, true, false, List, [], ◌∷◌, ◌++◌, codes, Some}
+use Rattle.std.specs.Prelude.{◌≡◌, ◌⊎◌, ℕ, ℤ, true, false, List, [], ◌∷◌, ◌++◌, codes}
 use Rattle.std.specs.List.{Contains, list_all}
 use Rattle.node_core.specs.declared.tree.RuleSize.{RuleSize}
 use Rattle.job_core.specs.declared.command.Command.{Command}
 use Rattle.script_core.specs.declared.cause.Cause.{Cause}
 use Rattle.script_core.specs.declared.cause.Cause.TheVariants as causes
 use Rattle.script_core.specs.declared.cause.Cause.TheVariants.{Byte, Word, Missing, Extra, Number, Dimension}
-use Rattle.script_core.specs.declared.name.Name.{Name}
-use Rattle.script_core.specs.Names.{name_of}
 use Rattle.script_core.specs.ScriptLines.{is_printable, fields_of, IsTextLine}
 use Rattle.script_core.specs.Grammar.{IsNumber, IsDimension, IsSize, IsName, IsSizeOfFont, Says}
 
@@ -25,9 +23,9 @@ IsInnerWord field =
     Contains (codes "at" ∷ codes "to" ∷ codes "spread" ∷ codes "into" ∷ codes "plus" ∷ codes "minus" ∷ codes "shift"
     ∷ codes "boxmaxdepth" ∷ codes "baselineskip" ∷ codes "lineskip" ∷ codes "lineskiplimit" ∷ []) field
 
--- one of the words of the grammar of fields, to which `text` does not belong
+-- one of the words of the grammar of fields, to which `text` does not belong: it begins a command, or stands behind others
 abbrev pub IsWord : List ℕ → Type 0
-IsWord field = ((name : Name) × (name_of field ≡ Some name)) ⊎ IsInnerWord field
+IsWord field = Begins (field ∷ []) ⊎ IsInnerWord field
 
 -- a field that writes some number from 0 to 255
 abbrev pub GivesNumber : List ℕ → Type 0
@@ -61,14 +59,14 @@ pub record LacksField (fields : List (List ℕ)) : Type 0 where
   pub begins : Begins fields
   pub incomplete : SaysSome fields → ⊥
 
--- a field is too many: those before it say a command, and with it they do not begin one
+-- a field is too many: those before it say a command that is at its end, as no field at all goes on with them
 pub record HasExtra (fields : List (List ℕ)) : Type 0 where
   pub front : List (List ℕ)
   pub field : List ℕ
   pub rest : List (List ℕ)
   pub split : fields ≡ front ++ field ∷ rest
   pub whole : SaysSome front
-  pub bad : Begins (front ++ field ∷ []) → ⊥
+  pub last : (other : List ℕ) → Begins (front ++ other ∷ []) → ⊥
 
 -- the cause holds of the fields. Dimension: the bad field is no dimension that fits. Number: it stands where a number belongs, 0 to 255 or
 -- that of a penalty, and is none; or, where the size of a font belongs, it is a dimension that is no such size
