@@ -1,7 +1,7 @@
 //! The program without words: a script from an input, its answers to an output.
 
-ghost use Rattle.std.specs.Prelude.{◌≡◌, ℕ, List, [], true};
-ghost use Rattle.std.specs.Io.KnownBytes.{Consumes, IsAtEnd};
+ghost use Rattle.std.specs.Prelude.{◌≡◌, ◌<◌, ℕ, List, [], true};
+ghost use Rattle.std.specs.Io.KnownBytes.{Consumes, IsAtEnd, Keeps};
 ghost use Rattle.boxglue.specs.Runs.{RanInMemory};
 
 use crate::input::{InputFault, read_input};
@@ -18,9 +18,11 @@ pub fn answer_input<R: Read, W: Write, E: Write>(
     output: &mut W,
     errors: &mut E,
 ) -> u8
-    ensures { result ≡ 0 → (text : List ℕ)
+    ensures accepted { result ≡ 0 → (text : List ℕ)
         × Consumes (R.remaining input.old) (R.remaining input.new) text × IsAtEnd (R.remaining input.new)
         × RanInMemory text [] (W.contents output.old) (W.contents output.new) true }
+    ensures status { result < 2 }
+    ensures silent { result ≡ 0 → Keeps (E.contents errors.old) (E.contents errors.new) }
 {
     match read_input(alloc, input) {
         Ok(text) => answer_script(alloc, &text, output),
@@ -34,7 +36,8 @@ pub fn answer_input<R: Read, W: Write, E: Write>(
 
 /// Runs a script text, and answers the exit status.
 fn answer_script<W: Write>(alloc: Global, text: &[u8], output: &mut W) -> u8
-    ensures { result ≡ 0 → RanInMemory text.now [] (W.contents output.old) (W.contents output.new) true }
+    ensures accepted { result ≡ 0 → RanInMemory text.now [] (W.contents output.old) (W.contents output.new) true }
+    ensures status { result < 2 }
 {
     match run_memory(alloc, text, &[], output) {
         Ok(true) => 0,
