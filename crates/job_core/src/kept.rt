@@ -6,7 +6,7 @@ ghost use Rattle.job_core.specs.FontSlots as slots;
 ghost use Rattle.job_core.specs.FontSlots.{font_in, text_shaped};
 ghost use Rattle.job_core.specs.Loaded.{GivesNumbers};
 ghost use Rattle.node_core.specs.Nodes.{most_nodes, nodes_of};
-ghost use Rattle.job_core.specs.Closings.{refilled};
+ghost use Rattle.job_core.specs.EmptiedNest.{refilled};
 ghost use Rattle.job_core.specs.Machine.{first_state, innermost, outer, items_in, held_in, nodes_in, checks, first_of, reply_by, reply_to, state_by, state_after, after, sizes_of, character_checks, item_checks, length_checks, held_checks, home_checks, place_checks, shaped_answer, with_items, with_used, with_unboxed, with_home, GoesIntoList, is_other, is_running, is_misplaced};
 ghost use Rattle.job_core.specs.Runs.{early_checks};
 
