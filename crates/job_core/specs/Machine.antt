@@ -39,8 +39,7 @@ use Rattle.pack_core.specs.Boxes.{hpacked, vpacked, vtopped}
 use Rattle.ship_core.specs.Marks.{Page, is_huge}
 use Rattle.tfm_core.specs.NamedBytes.{NamedBytes, file_named}
 use Rattle.tfm_core.specs.Fonts.{SizedFont}
-use Rattle.job_core.specs.FontSlots as slots
-use Rattle.job_core.specs.FontSlots.{Slots, font_in, current_font, font_of, with_font, text_shaped, character_shaped}
+use Rattle.job_core.specs.FontSlots.{Slots, font_in, current_font, font_of, with_font, CharacterItems, text_shaped, character_shaped}
 
 -- What commands read and change: the font files; the fonts by slot, and the slot of the current one; the parameters; the open lists, the
 -- outermost first; the registers by number; how many nodes and pages were shipped; and whether the job is over.
@@ -241,7 +240,7 @@ character_checks m =
     (length m.nest == 0, NoOpenList) ∷ (is_vertical (kind_in (innermost m.nest)), WrongMode) ∷ (is_none (current_font m.fonts m.current), NoFont) ∷ []
 
 -- Those of characters that come to these items.
-abbrev pub shape_checks : State → slots.Shaped → List (Bool × Refusal)
+abbrev pub shape_checks : State → CharacterItems → List (Bool × Refusal)
 shape_checks m shaped = character_checks m ++ length_checks m shaped.items
 
 -- The refusals of one more item.
@@ -358,7 +357,7 @@ abbrev pub measured : Option BoxNode → Answer
 measured None = MeasuredVoid
 measured (Some b) = Measured b.kind (sizes_of b)
 
-abbrev pub shaped_answer : slots.Shaped → Answer
+abbrev pub shaped_answer : CharacterItems → Answer
 shaped_answer shaped = Shaped (length shaped.items) shaped.missing
 
 -- How many items the box of a register brings to the innermost list, and how many there are in it.
