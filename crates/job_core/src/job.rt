@@ -1,11 +1,9 @@
 //! The job: commands are run, and the file of its pages goes to a device at the end.
 
-ghost use Rattle.std.specs.Prelude.{◌≡◌, ◌≢◌, ◌<◌, ◌≤◌, ◌+◌, ◌*◌, ◌^◌, ◌++◌, [], false, None, Some, Ok, Err, List, ℕ, length, IfOk, IfErr, OnOk, OnErr, IfSome};
+ghost use Rattle.std.specs.Prelude.{◌≡◌, ◌<◌, ◌+◌, ◌*◌, ◌^◌, ◌++◌, [], false, None, Err, List, length, IfOk, IfErr, OnOk, OnErr, IfSome};
 ghost use Rattle.job_core.specs.declared.command.Command.TheVariants as commands;
 ghost use Rattle.job_core.specs.Reply.{Reply as AReply};
-ghost use Rattle.job_core.specs.Told.{grown, GrowsByFront};
 ghost use Rattle.job_core.specs.Loaded.{GivesNumbersFor};
-ghost use Rattle.job_core.specs.Draft.{whole, draft_of};
 ghost use Rattle.job_core.specs.Machine.{Machine, first_machine, checks, first_of, reply_to, state_after};
 ghost use Rattle.job_core.specs.Runs.{TakesMemory, early_checks, draft_after, Holds, KeepsTo, RunsTo, FinishesTo};
 ghost use Rattle.job_core.specs.Shown.{FilesPages};
@@ -99,7 +97,7 @@ impl<D: Device> Model for Job<D> {
 }
 
 impl<D: Device> Job<D> {
-    ghost use Rattle.std.specs.Prelude.{◌≡◌, ◌<◌, ◌+◌, ◌^◌, ◌++◌, [], List, ℕ, IfOk, IfErr, OnOk, OnErr, IfSome, Err, length, true};
+    ghost use Rattle.std.specs.Prelude.{◌≡◌, ◌<◌, ◌+◌, ◌^◌, ◌++◌, [], List, IfOk, IfErr, OnOk, OnErr, IfSome, Err, length};
     ghost use Rattle.job_core.specs.Machine.{Machine, first_machine};
     ghost use Rattle.job_core.specs.Draft.{file_of};
     ghost use Rattle.job_core.specs.Told.{IsFrontOf};

@@ -1,9 +1,8 @@
 //! What a job keeps, but for its device and its bytes.
 
-ghost use Rattle.std.specs.Prelude.{◌≡◌, ◌==◌, ◌<◌, ◌≤◌, ◌+◌, ◌^◌, ◌∷◌, [], not, true, false, None, Some, Ok, IfOk, IfErr, OnOk, OnErr, length, option_copied};
+ghost use Rattle.std.specs.Prelude.{◌≡◌, ◌==◌, ◌<◌, ◌≤◌, ◌+◌, ◌∷◌, [], not, true, false, None, Some, IfOk, IfErr, OnOk, OnErr, length};
 ghost use Rattle.job_core.specs.declared.command.Command.TheVariants as commands;
-ghost use Rattle.job_core.specs.FontSlots as slots;
-ghost use Rattle.job_core.specs.FontSlots.{font_in, text_shaped};
+ghost use Rattle.job_core.specs.FontSlots.{font_in};
 ghost use Rattle.job_core.specs.Loaded.{GivesNumbers};
 ghost use Rattle.node_core.specs.Nodes.{most_nodes, nodes_of};
 ghost use Rattle.job_core.specs.EmptiedNest.{refilled};

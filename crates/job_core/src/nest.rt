@@ -1,10 +1,10 @@
 //! The open lists of a job.
 
-ghost use Rattle.std.specs.Prelude.{◌≡◌, ◌<◌, ◌≤◌, ◌+◌, ◌-◌, ◌++◌, ◌∷◌, ℕ, [], pos, List, length, take, slice_get, slice_set, None, OnOk, OnErr, IfOk, IfErr, IfSome, IsOk, Some, Ok, Err, option_copied};
+ghost use Rattle.std.specs.Prelude.{◌≡◌, ◌<◌, ◌≤◌, ◌+◌, ◌-◌, ◌++◌, ◌∷◌, [], pos, List, length, None, OnOk, OnErr, IfOk, IfErr, IfSome, IsOk, Some, option_copied};
 ghost use Rattle.node_core.specs.Items.{none};
-ghost use Rattle.node_core.specs.Nodes.{most_nodes, items_of, nodes_of, last_box, without};
+ghost use Rattle.node_core.specs.Nodes.{most_nodes, items_of, nodes_of, last_box};
 ghost use Rattle.vert_core.specs.Interline.{interline, glue_of, appended};
-ghost use Rattle.job_core.specs.Machine.{opened, kind_of, innermost, items_in, outer, with_nodes, with_rule, glue_in, box_items, list_with_box, with_box, without_last, packed_as, packed_list, box_checks, first_of};
+ghost use Rattle.job_core.specs.Machine.{opened, innermost, items_in, outer, with_nodes, with_rule, glue_in, box_items, list_with_box, with_box, without_last, packed_as, packed_list, box_checks, first_of};
 ghost use Rattle.job_core.specs.EmptiedNest.{emptied, refilled};
 
 use crate::command::{BoxForm, Opening, Refusal};
