@@ -1,6 +1,6 @@
 //! What a job keeps, but for its device and its bytes.
 
-ghost use Rattle.std.specs.Prelude.{◌≡◌, ◌==◌, ◌<◌, ◌≤◌, ◌+◌, ◌∷◌, [], not, true, false, None, Some, IfOk, IfErr, OnOk, OnErr, length};
+ghost use Rattle.std.specs.Prelude.{◌≡◌, ◌==◌, ◌<◌, ◌≤◌, ◌+◌, ◌∷◌, [], not, true, false, None, Some, IfOk, IfErr, OnOk, OnErr, IsSome, length};
 ghost use Rattle.job_core.specs.declared.command.Command.TheVariants as commands;
 ghost use Rattle.job_core.specs.FontSlots.{font_in};
 ghost use Rattle.job_core.specs.Loaded.{GivesNumbers};
@@ -295,6 +295,7 @@ impl Kept {
         ensures state { OnOk result (self.new ≡ state_after self.old (commands.Append taken.now)) }
         ensures err { OnErr result (self.new ≡ self.old) }
         ensures admitted { OnErr result (first_of (checks self.old (commands.Append taken.now)) ≡ None) }
+        ensures takes { OnErr result (IsSome (held_in self.old.registers taken.now.register)) }
     {
         let Some(innermost) = self.nest.innermost() else {
             return Ok(Err(Refusal::NoOpenList));
@@ -354,6 +355,7 @@ impl Kept {
         ensures state { OnOk result (self.new ≡ state_after self.old (commands.Unbox taken.now)) }
         ensures err { OnErr result (self.new ≡ self.old) }
         ensures admitted { OnErr result (first_of (checks self.old (commands.Unbox taken.now)) ≡ None) }
+        ensures takes { OnErr result (IsSome (held_in self.old.registers taken.now.register)) }
     {
         let Some(innermost) = self.nest.innermost() else {
             return Ok(Err(Refusal::NoOpenList));
