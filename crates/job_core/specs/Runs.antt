@@ -44,6 +44,7 @@ early_checks m (Text text) = (m.over, JobOver) ∷ character_checks m
 early_checks m (Character code) = (m.over, JobOver) ∷ character_checks m
 early_checks m command = checks m command
 
+-- A command that makes a page.
 abbrev pub IsShip : Command → Type 0
 IsShip (Ship r) = Unit {0}
 IsShip command = ⊥

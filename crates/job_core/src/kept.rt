@@ -573,7 +573,7 @@ fn sizes_of(shown: &BoxNode) -> Sizes
     }
 }
 
-/// Whether two lists do not go the same way.
+/// Whether two kinds are not the same.
 fn is_other(a: Kind, b: Kind) -> bool
     ensures { result ≡ is_other a b }
 {
