@@ -1,5 +1,5 @@
 -- Runs one behind another, and a job from its beginning to its end.
-use Rattle.std.proofs.Common.{◌≡◌, ℕ, List, [], ◌∷◌, ◌++◌, length, Option, Some, None, Result, Ok, Err, refl, ap, sym, ◌∙◌, subst}
+use Rattle.std.proofs.Common.{◌≡◌, ℕ, List, [], ◌∷◌, ◌++◌, length, Result, Ok, Err, refl, ap, sym, ◌∙◌, subst}
 use Rattle.std.specs.Prelude.{IfOk, IfSome}
 use Rattle.job_core.specs.declared.command.Command.{Command}
 use Rattle.job_core.specs.declared.command.Refusal.{Refusal}
@@ -7,7 +7,7 @@ use Rattle.job_core.specs.declared.command.Summary.{Summary}
 use Rattle.job_core.specs.Reply.{Reply}
 use Rattle.tfm_core.specs.NamedBytes.{NamedBytes}
 use Rattle.job_core.proofs.KeptRest.{job_kept}
-use Rattle.job_core.specs.Machine.{State, Machine, first_machine, checks, first_of, after, state_by, state_after}
+use Rattle.job_core.specs.Machine.{Machine, first_machine}
 use Rattle.job_core.specs.Runs.{Seen, Steps, Replies, LacksMemory, LosesDevice, Run, Holds, KeepsTo, RunsTo, FinishesTo}
 use Rattle.job_core.specs.Closing.{ClosesFile}
 use Rattle.job_core.specs.Shown.{FilesPages, GivesFiles}
