@@ -97,7 +97,7 @@ impl<D: Device> Model for Job<D> {
 }
 
 impl<D: Device> Job<D> {
-    ghost use Rattle.std.specs.Prelude.{◌≡◌, ◌<◌, ◌+◌, ◌^◌, ◌++◌, [], List, IfOk, IfErr, OnOk, OnErr, IfSome, Err, length};
+    ghost use Rattle.std.specs.Prelude.{◌≡◌, ◌<◌, ◌+◌, ◌^◌, ◌++◌, [], true, List, IfOk, IfErr, OnOk, OnErr, IfSome, Err, length};
     ghost use Rattle.job_core.specs.Machine.{Machine, first_machine};
     ghost use Rattle.job_core.specs.Draft.{file_of};
     ghost use Rattle.job_core.specs.Told.{IsFrontOf};
@@ -129,9 +129,10 @@ impl<D: Device> Job<D> {
         })
     }
 
-    /// Does what a command says, and answers it.
+    /// Does what a command says, and answers it. A job that is over is left as it is, and so is its device.
     pub fn step(&mut self, command: &Command) -> Result<Answer, Refusal>
-        ensures { KeepsTo self.old command.now result self.new }
+        ensures keeps { KeepsTo self.old command.now result self.new }
+        ensures idle { self.old.state.over ≡ true → self.new ≡ self.old }
     {
         let Ok(reply) = obey(&mut self.kept, &mut self.writer, command) else {
             return Err(Refusal::OutOfMemory);
@@ -145,6 +146,7 @@ impl<D: Device> Job<D> {
         ensures ran { OnOk result ((added : List AReply) × (replies.new.items ≡ replies.old.items ++ added) × RunsTo self.old commands.now added self.new) }
         ensures none { OnErr result (self.new ≡ self.old) }
         ensures cut { OnErr result (replies.new.items ≡ replies.old.items) }
+        ensures idle { self.old.state.over ≡ true → self.new ≡ self.old }
     {
         replies.reserve(commands.len())?;
         for command in commands {
@@ -159,6 +161,7 @@ impl<D: Device> Job<D> {
     /// Ends the job: where there are pages, their file goes to the device. All memory is taken before that.
     pub fn finish(&mut self) -> Result<Summary, Refusal>
         ensures finished { FinishesTo self.old result self.new }
+        ensures idle { self.old.state.over ≡ true → self.new ≡ self.old }
         ensures file { (m : Machine) → Holds self.old m → OnOk result (IfSome self.new.told (λ bytes. bytes ≡ file_of m.state.fonts m.pages)) }
         ensures dvi { FilesPages self.old result self.new }
         ensures end { ClosesFile self.old result self.new }

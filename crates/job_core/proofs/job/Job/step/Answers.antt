@@ -18,8 +18,8 @@ invariant_of-self-2 g c =
       λ running. c.self.invariant.1 (sym same ∙ running),
     )
 
-pub returns : goal.returns
-returns g c =
+pub returns-clause-keeps : goal.returns-clause-keeps
+returns-clause-keeps g c =
     rw (← c.self.view_is)
     (replied _ _ c.args.command.now c.in-Ok.reply c.in-Ok.ensures.reply c.in-Ok.ensures.state (λ running. c.in-Ok.ensures.draft) refl refl
     (λ running. record { fonts = (c.self.invariant.0 running).fonts; glyphs = (c.self.invariant.0 running).glyphs }))
