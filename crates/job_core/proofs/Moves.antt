@@ -199,10 +199,6 @@ goes_on s command pages None is running knows all =
     drafted s command pages None is knows.fonts (all_append (IsShipped s.fonts) pages (new_pages s command) all (new_shipped s command is knows.glyphs))
 goes_on s command pages (Some refusal) is running knows all = refl
 
--- A job that is over stays as it is.
-pub over_stays : (s : State) (draft : Draft) (command : Command) → s.over ≡ true → (state_after s command ≡ s) × (draft_after s draft command ≡ draft)
-over_stays s draft command over = rw over (refl, refl)
-
 -- A job that replies as the table says keeps to the machine.
 pub replied :
     (old new : Seen) (command : Command) (reply : Reply)

@@ -166,6 +166,7 @@ impl<D: Device> Job<D> {
         ensures dvi { FilesPages self.old result self.new }
         ensures end { ClosesFile self.old result self.new }
         ensures size { IfOk result (λ summary. (m : Machine) → Holds self.old m → IfSome self.new.told (λ bytes. summary.bytes ≡ length bytes)) }
+        ensures count { IfOk result (λ summary. (m : Machine) → Holds self.old m → summary.bytes ≡ length (file_of m.state.fonts m.pages)) }
         ensures front { result ≡ Err Refusal.Device → (m : Machine) → Holds self.old m → IfSome self.new.told (λ bytes. IsFrontOf bytes (file_of m.state.fonts m.pages)) }
     {
         if self.kept.is_over() {
