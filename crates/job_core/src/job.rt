@@ -129,7 +129,8 @@ impl<D: Device> Job<D> {
         })
     }
 
-    /// Does what a command says, and answers it. A job that is over is left as it is, and so is its device.
+    /// Does what a command says, and answers it; or refuses it, and nothing has changed, but that the job is over after a Device. A job that is
+    /// over is left as it is, and so is its device.
     pub fn step(&mut self, command: &Command) -> Result<Answer, Refusal>
         ensures keeps { KeepsTo self.old command.now result self.new }
         ensures idle { self.old.state.over ≡ true → self.new ≡ self.old }
@@ -158,7 +159,8 @@ impl<D: Device> Job<D> {
         Ok(())
     }
 
-    /// Ends the job: where there are pages, their file goes to the device. All memory is taken before that.
+    /// Ends the job: where there are pages, their file goes to the device. All memory is taken before that. Refused with JobOver, ListsOpen or
+    /// OutOfMemory, it has changed nothing; with Device, the job is over.
     pub fn finish(&mut self) -> Result<Summary, Refusal>
         ensures finished { FinishesTo self.old result self.new }
         ensures idle { self.old.state.over ≡ true → self.new ≡ self.old }
