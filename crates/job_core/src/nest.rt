@@ -249,11 +249,8 @@ impl Nest {
         ensures ok { OnOk result (self.new ≡ with_nodes self.old (node ∷ []) (innermost self.old)) }
         ensures err { OnErr result (self.new ≡ self.old) }
     {
-        let count = self.lists.len();
-        if count == 0 {
-            return Ok(());
-        }
-        let Some(innermost) = self.lists.get_mut(count - 1) else {
+        let last = self.lists.len().saturating_sub(1);
+        let Some(innermost) = self.lists.get_mut(last) else {
             return Ok(());
         };
         match innermost.list.push(node) {
@@ -268,11 +265,8 @@ impl Nest {
         ensures ok { OnOk result (self.new ≡ with_nodes self.old nodes.items (innermost self.old)) }
         ensures err { OnErr result (self.new ≡ self.old) }
     {
-        let count = self.lists.len();
-        if count == 0 {
-            return Ok(());
-        }
-        let Some(innermost) = self.lists.get_mut(count - 1) else {
+        let last = self.lists.len().saturating_sub(1);
+        let Some(innermost) = self.lists.get_mut(last) else {
             return Ok(());
         };
         innermost.list.extend(nodes)
@@ -284,11 +278,8 @@ impl Nest {
         ensures ok { OnOk result (self.new ≡ with_rule self.old rule (innermost self.old)) }
         ensures err { OnErr result (self.new ≡ self.old) }
     {
-        let count = self.lists.len();
-        if count == 0 {
-            return Ok(());
-        }
-        let Some(innermost) = self.lists.get_mut(count - 1) else {
+        let last = self.lists.len().saturating_sub(1);
+        let Some(innermost) = self.lists.get_mut(last) else {
             return Ok(());
         };
         match innermost.list.push(Node::Rule(rule)) {
@@ -308,11 +299,8 @@ impl Nest {
         ensures err { OnErr result (self.new ≡ self.old) }
         ensures back { OnErr result (list.new ≡ list.old) }
     {
-        let count = self.lists.len();
-        if count == 0 {
-            return Ok(());
-        }
-        let Some(innermost) = self.lists.get_mut(count - 1) else {
+        let last = self.lists.len().saturating_sub(1);
+        let Some(innermost) = self.lists.get_mut(last) else {
             return Ok(());
         };
         innermost.list.append(list)
@@ -331,11 +319,8 @@ impl Nest {
         ensures back { IfErr result (λ back. back ≡ shown) }
     {
         let alloc = *self.lists.allocator();
-        let count = self.lists.len();
-        if count == 0 {
-            return Err(shown);
-        }
-        let Some(innermost) = self.lists.get_mut(count - 1) else {
+        let last = self.lists.len().saturating_sub(1);
+        let Some(innermost) = self.lists.get_mut(last) else {
             return Err(shown);
         };
         innermost.append_box(alloc, shown, shift, params)
@@ -346,11 +331,8 @@ impl Nest {
         ensures value { result ≡ last_box (nodes_of (items_in (innermost self.old))) }
         ensures rest { self.new ≡ without_last self.old (innermost self.old) }
     {
-        let count = self.lists.len();
-        if count == 0 {
-            return None;
-        }
-        let Some(innermost) = self.lists.get_mut(count - 1) else {
+        let last = self.lists.len().saturating_sub(1);
+        let Some(innermost) = self.lists.get_mut(last) else {
             return None;
         };
         innermost.list.pop_box()
@@ -365,11 +347,8 @@ impl Nest {
         ensures list { IfSome result (λ packed. packed.shown.list ≡ items_in (innermost self.old)) }
     {
         let alloc = *self.lists.allocator();
-        let count = self.lists.len();
-        if count == 0 {
-            return None;
-        }
-        let Some(innermost) = self.lists.get_mut(count - 1) else {
+        let last = self.lists.len().saturating_sub(1);
+        let Some(innermost) = self.lists.get_mut(last) else {
             return None;
         };
         innermost.pack(alloc, params)
@@ -379,11 +358,8 @@ impl Nest {
     pub fn refill(&mut self, list: NodeList)
         ensures { self.new ≡ refilled self.old list (innermost self.old) }
     {
-        let count = self.lists.len();
-        if count == 0 {
-            return;
-        }
-        let Some(innermost) = self.lists.get_mut(count - 1) else {
+        let last = self.lists.len().saturating_sub(1);
+        let Some(innermost) = self.lists.get_mut(last) else {
             return;
         };
         innermost.list = list;
