@@ -1,3 +1,4 @@
+pub mod EachOf
 pub mod Leaves
 pub mod KeptRest
 pub mod Nests

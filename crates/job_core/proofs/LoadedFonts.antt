@@ -1,9 +1,8 @@
 -- The fonts of the slots are what the font files of the job give.
 use Rattle.std.proofs.Common.{◌≡◌, ℕ, ℤ, ◌<◌, List, replicate, Bool, true, false, cond, Option, Some, None, Result, Ok, Err, refl, sym, ◌∙◌, ap, subst, arith}
-use Rattle.std.specs.Prelude.{slice_get, unwrap_or, IfOk, IfSome}
+use Rattle.std.specs.Prelude.{IfOk, IfSome}
 use Rattle.std.proofs.Math.ListN.{length-set}
 use Rattle.std.proofs.lemmas.List.{length-replicate}
-use Rattle.std.proofs.lemmas.Option.{slice_get_within}
 use Rattle.tfm_core.specs.declared.fault.TfmCause.{TfmCause}
 use Rattle.tfm_core.specs.declared.font.GlyphSize.{GlyphSize}
 use Rattle.tfm_core.specs.NamedBytes.{NamedBytes, IsFontName, file_named}
@@ -21,7 +20,7 @@ use Rattle.job_core.specs.FontSlots.{Slots, font_in, sized_font, font_of, with_f
 use Rattle.job_core.proofs.KeptRest.{KeepsRest, end_keeps, append_keeps, unbox_keeps}
 use Rattle.job_core.specs.Loaded.{IsLoaded, AreLoaded, GivesNumbersFor}
 use Rattle.job_core.specs.Machine.{State, checks, first_of, font_for, after}
-use Rattle.job_core.proofs.SizedGlyphs.{each_set, each_at, each_copy}
+use Rattle.job_core.proofs.EachOf.{each_set, each_copy, each_held, held_within}
 
 -- What a metric file gives: a font of its sizes, which fit.
 given_by : (b : Bool) (font other : SizedFont) → cond b (Ok font) (Err DimensionTooLarge) ≡ Ok other → (b ≡ true) × (font ≡ other)
@@ -83,13 +82,8 @@ loaded_after s (Ship r) may gives loaded = loaded
 -- A font in a slot is one of them, and its slot is below 256.
 pub loaded_in : (files : List NamedBytes) (fonts : Slots) (slot : ℕ) (loaded : LoadedFont) → AreLoaded files fonts → font_in fonts slot ≡ Some loaded
     → IsLoaded files loaded × (slot < 256)
-loaded_in files fonts slot loaded all is = by_slot (slice_get fonts slot) refl is
-  where
-    by_slot : (held : Option (Option LoadedFont)) → slice_get fonts slot ≡ held → unwrap_or held None ≡ Some loaded → IsLoaded files loaded × (slot < 256)
-    by_slot None at holds = cc
-    by_slot (Some held) at holds =
-        let within = slice_get_within fonts slot held at in
-        (subst (λ h. IfSome h (IsLoaded files)) holds (each_at (λ h. IfSome h (IsLoaded files)) fonts slot held all.each at), omega (arith, within, all.slots))
+loaded_in files fonts slot loaded all is =
+    (each_held (λ held. IfSome held (IsLoaded files)) fonts slot loaded all.each is, omega (arith, held_within fonts slot loaded is, all.slots))
 
 -- Its widths are those that the files give for its name and size.
 widths_given : (b : Bool) (font other : SizedFont) → cond b (Ok font) (Err DimensionTooLarge) ≡ Ok other → cond b (Some (width_at font)) None ≡ Some (width_at other)

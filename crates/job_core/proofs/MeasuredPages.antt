@@ -1,6 +1,6 @@
 -- The glyphs of the pages of each machine that a run reaches have the widths that its font files give.
 use Rattle.std.proofs.Common.{◌≡◌, ℕ, List, [], ◌∷◌, ◌++◌, Option, Some, None, Result, Ok, Err, refl, ap, sym, subst}
-use Rattle.std.specs.Prelude.{slice_get, unwrap_or, IfSome}
+use Rattle.std.specs.Prelude.{IfSome}
 use Rattle.std.specs.Option.{option_map}
 use Rattle.std.specs.List.{AllByRecursion}
 use Rattle.tfm_core.specs.NamedBytes.{NamedBytes, file_named}
@@ -24,7 +24,8 @@ use Rattle.ship_core.specs.Marks.{Page}
 use Rattle.job_core.specs.Machine.{State, Machine, first_machine, checks, first_of, after, font_for, held_in, pages_of, new_pages, state_by}
 use Rattle.job_core.specs.Runs.{Steps, Replies, LacksMemory, LosesDevice, Run}
 use Rattle.job_core.specs.GlyphWidths.{HasFileWidth, IsMeasured, IsMeasuredPage}
-use Rattle.job_core.proofs.SizedGlyphs.{each_set, each_at, each_copy, sized_first, sized_after, sized_held, stays_sized}
+use Rattle.job_core.proofs.EachOf.{each_set, each_copy, each_held}
+use Rattle.job_core.proofs.SizedGlyphs.{sized_first, sized_after, sized_held, stays_sized}
 use Rattle.job_core.proofs.LoadedFonts.{read_again, widths_in}
 
 -- A font is what the first file of its name gives at its size.
@@ -123,11 +124,7 @@ known_run m n (command ∷ commands) (reply ∷ replies) next k run known =
     known_run run.0 run.1 commands replies next k run.3 (known_next m n command reply run.0 run.1 run.2 known)
 
 read_in : (s : State) (slot : ℕ) (loaded : LoadedFont) → AreRead s → font_in s.fonts slot ≡ Some loaded → IsRead s.files loaded
-read_in s slot loaded all is = by_slot (slice_get s.fonts slot) refl is
-  where
-    by_slot : (held : Option (Option LoadedFont)) → slice_get s.fonts slot ≡ held → unwrap_or held None ≡ Some loaded → IsRead s.files loaded
-    by_slot None at holds = cc
-    by_slot (Some held) at holds = subst (λ h. IfSome h (IsRead s.files)) holds (each_at (λ h. IfSome h (IsRead s.files)) s.fonts slot held all at)
+read_in s slot loaded all is = each_held (λ held. IfSome held (IsRead s.files)) s.fonts slot loaded all is
 
 measured_glyph : (s : State) (g : glyph_type.Glyph) (x : Option LoadedFont) → AreRead s → font_in s.fonts g.slot ≡ x
     → glyph_by x g.code ≡ Some (record { width = g.width; height = g.height; depth = g.depth }) → HasFileWidth s g

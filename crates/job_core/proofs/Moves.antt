@@ -27,7 +27,7 @@ use Rattle.job_core.specs.Room.{HasRoom}
 use Rattle.job_core.specs.FontSlots.{Slots}
 use Rattle.job_core.specs.Loaded.{AreLoaded, GivesNumbersFor}
 use Rattle.job_core.specs.Sized.{IsSizedHeld, HasSizedGlyphs}
-use Rattle.job_core.proofs.KeptRest.{end_keeps, append_keeps, unbox_keeps}
+use Rattle.job_core.proofs.KeptRest.{end_keeps, append_keeps, unbox_keeps, job_kept}
 use Rattle.job_core.proofs.SizedGlyphs.{sized_first, sized_after, sized_held, stays_sized, stays_loaded}
 use Rattle.job_core.proofs.LoadedFonts.{loaded_first, loaded_after}
 use Rattle.job_core.proofs.DefinedFonts.{Extends, HasSelected, fresh_same, definitions_same, fresh_parts, among_fresh, defined_once, few_defined, none_rising}
@@ -65,33 +65,6 @@ admitted s r none =
     (nat_lt most_shipped (s.shipped + count_in (held_in s.registers r))) (is_huge_in (held_in s.registers r))
     JobOver VoidBox TooManyPages TooMuchShipped HugePage none in
     record { held = all.0; pages = all.1.0; nodes = all.1.1.0; small = all.1.1.1 }
-
--- A command leaves it as it is whether the job is over.
-after-over : (s : State) (command : Command) → (after s command).over ≡ s.over
-after-over s (LoadFont load) = refl
-after-over s (UseFont slot) = refl
-after-over s (Open opening) = refl
-after-over s End = (end_keeps s).over
-after-over s (Text text) = refl
-after-over s (Character code) = refl
-after-over s (Rule rule) = refl
-after-over s (Kern width) = refl
-after-over s (Glue glue) = refl
-after-over s (Penalty n) = refl
-after-over s (Append taken) = (append_keeps s taken).over
-after-over s (Unbox taken) = (unbox_keeps s taken).over
-after-over s (LastBox r) = refl
-after-over s (Measure r) = refl
-after-over s (Void r) = refl
-after-over s (Set parameter) = refl
-after-over s (Ship r) = refl
-
-pub state_after-over : (s : State) (command : Command) → (state_after s command).over ≡ s.over
-state_after-over s command = cases (first_of (checks s command))
-  where
-    cases : (refused : Option Refusal) → (state_by refused s (after s command)).over ≡ s.over
-    cases None = after-over s command
-    cases (Some refusal) = refl
 
 -- A command counts the pages that it adds.
 after-pages : (s : State) (command : Command) → first_of (checks s command) ≡ None → (after s command).pages ≡ s.pages + length (new_pages s command)
@@ -244,12 +217,12 @@ replied old new command reply says goes drafts tells fails knows m holds = (
     count = counted m.state command m.pages (first_of (checks m.state command)) refl holds.count;
     pages = all_shipped m.state command m.pages (first_of (checks m.state command)) refl (known old m holds knows) holds.pages;
     draft = λ running.
-        let ran : m.state.over ≡ false = sym (state_after-over m.state command) ∙ running in
+        let ran : m.state.over ≡ false = sym (job_kept m.state command).over ∙ running in
         drafts (ap (λ (s : State). s.over) holds.state ∙ ran)
         ∙ (ap (λ s. draft_after s old.draft command) holds.state
         ∙ (ap (λ d. draft_after m.state d command) (holds.draft ran)
         ∙ goes_on m.state command m.pages (first_of (checks m.state command)) refl ran (known old m holds knows ran) holds.pages));
-    told = λ running. let ran : m.state.over ≡ false = sym (state_after-over m.state command) ∙ running in rw tells (holds.told ran);
+    told = λ running. let ran : m.state.over ≡ false = sym (job_kept m.state command).over ∙ running in rw tells (holds.told ran);
   },
 )
   where

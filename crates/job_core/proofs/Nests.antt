@@ -11,7 +11,7 @@ use Rattle.job_core.specs.declared.command.Refusal.{Refusal}
 use Rattle.pack_core.specs.declared.pack.Packed as packs
 use Rattle.job_core.specs.declared.command.Command.TheVariants.{End}
 use Rattle.job_core.specs.Machine.{State, checks, place_checks, packed_list, items_in, first_of, innermost, outer, held_in, list_with_box, with_box}
-use Rattle.job_core.specs.Closings.{refilled, emptied}
+use Rattle.job_core.specs.EmptiedNest.{refilled, emptied}
 
 module _ {A : Type 0} where
   some_same : (x y : A) → Some x ≡ Some y → x ≡ y

@@ -1,5 +1,5 @@
 -- What a step of the machine can reply, and what a machine that is over does.
-use Rattle.std.proofs.Common.{◌≡◌, ◌≢◌, ℕ, ◌<◌, ℤ, Bool, cond, true, false, List, [], ◌∷◌, Option, Some, None, Result, Ok, Err, refl, ap, sym, ◌∙◌}
+use Rattle.std.proofs.Common.{◌≡◌, ◌≢◌, ℕ, ◌<◌, ℤ, Bool, cond, true, false, List, [], ◌∷◌, Option, Some, None, Result, Ok, Err, refl, ap, sym, ◌∙◌, subst}
 use Rattle.std.specs.List.{AllByRecursion}
 use Rattle.tfm_core.specs.declared.fault.TfmCause.{TfmCause}
 use Rattle.tfm_core.specs.NamedBytes.{NamedBytes, file_named}
@@ -11,7 +11,7 @@ use Rattle.job_core.specs.declared.command.Command.{Command}
 use Rattle.job_core.specs.declared.command.Command.TheVariants.{LoadFont, UseFont, Open, End, Text, Character, Rule, Kern, Glue, Penalty, Append, Unbox, LastBox, Measure, Void, Set, Ship}
 use Rattle.job_core.specs.declared.command.Answer.{Answer}
 use Rattle.job_core.specs.declared.command.Refusal.{Refusal}
-use Rattle.job_core.specs.declared.command.Refusal.TheVariants.{OutOfMemory, DimensionTooLarge, NoFont, BadTfm, NoOpenList, WrongKind, ListTooLong, TooDeep, Device, JobOver, ListsOpen}
+use Rattle.job_core.specs.declared.command.Refusal.TheVariants.{OutOfMemory, DimensionTooLarge, Device, JobOver}
 use Rattle.job_core.specs.declared.command.Summary.{Summary}
 use Rattle.job_core.specs.Reply.{Reply}
 use Rattle.node_core.specs.declared.params.Params.{Params}
@@ -22,93 +22,79 @@ use Rattle.job_core.specs.declared.nest.OpenList.{OpenList}
 use Rattle.job_core.specs.Machine.{State, Machine, innermost, outer, open_count, held_in, packed_list, box_checks, held_checks, home_checks, packed_checks, close_checks, items_checks, checks, first_of, refusal_in, reply_by, reply_to, answer_of, step}
 use Rattle.job_core.specs.Runs.{early_checks, finish_checks, Finishes, Finished, Refuses, WantsMemory, LostDevice, TakesMemory, Steps, Replies, LacksMemory, LosesDevice, Run}
 
--- None of the refusals is this one.
-abbrev LacksRefusal : Refusal → List (Bool × Refusal) → Type 0
-LacksRefusal r list = AllByRecursion (λ (check : Bool × Refusal). check.1 ≢ r) list
+-- A refusal that the machine gives: any but want of memory and a device's failure.
+abbrev IsChosen : Refusal → Type 0
+IsChosen OutOfMemory = ⊥
+IsChosen Device = ⊥
+IsChosen refusal = Unit {0}
 
-lacked : (r : Refusal) (list : List (Bool × Refusal)) → LacksRefusal r list → first_of list ≢ Some r
-lacked r [] all is = cc
-lacked r ((true, s) ∷ rest) all is = all.0 (cc)
-lacked r ((false, s) ∷ rest) all is = lacked r rest all.1 is
+abbrev AreChosen : List (Bool × Refusal) → Type 0
+AreChosen list = AllByRecursion (λ (check : Bool × Refusal). IsChosen check.1) list
 
--- None of the refusals in the place of a font is this one, which is neither of three.
-module _ (r : Refusal) (none : NoFont ≢ r) (bad : (cause : TfmCause) → BadTfm cause ≢ r) (large : DimensionTooLarge ≢ r) where
-  lacked_by_size : (b : Bool) (font : SizedFont) → LacksRefusal r (refusal_in (cond b (Ok font) (Err DimensionTooLarge)))
-  lacked_by_size true font = tt
-  lacked_by_size false font = (large, tt)
+some_same : {r s : Refusal} → Some r ≡ Some s → r ≡ s
+some_same e = cc
 
-  lacked_by_read : (read : Result MetricFile TfmCause) (size : Option ℤ) → LacksRefusal r (refusal_in (sized_font read size))
-  lacked_by_read (Err cause) size = (bad cause, tt)
-  lacked_by_read (Ok file) size = lacked_by_size (fits_at file (chosen_size file size)) (font_at file (chosen_size file size))
+first_chosen : (list : List (Bool × Refusal)) (r : Refusal) → AreChosen list → first_of list ≡ Some r → IsChosen r
+first_chosen [] r all is = cc
+first_chosen ((true, s) ∷ rest) r all is = subst IsChosen (some_same is) all.0
+first_chosen ((false, s) ∷ rest) r all is = first_chosen rest r all.1 is
 
-  lacked_by_font : (file : Option NamedBytes) (size : Option ℤ) → LacksRefusal r (refusal_in (font_of file size))
-  lacked_by_font None size = (none, tt)
-  lacked_by_font (Some file) size = lacked_by_read (metric_file file.bytes) size
+-- Those in the place of a font.
+chosen_by_size : (b : Bool) (font : SizedFont) → AreChosen (refusal_in (cond b (Ok font) (Err DimensionTooLarge)))
+chosen_by_size true font = tt
+chosen_by_size false font = (tt, tt)
 
--- Nor those of a box or of items at the end of a list.
-module _ (r : Refusal) (none : NoOpenList ≢ r) (large : DimensionTooLarge ≢ r) (long : ListTooLong ≢ r) (deep : TooDeep ≢ r) where
-  lacked_by_box : (params : Params) (l : Option OpenList) (b : BoxNode) → LacksRefusal r (box_checks params l b)
-  lacked_by_box params None b = (none, tt)
-  lacked_by_box params (Some l) b = (large, (long, tt))
+chosen_by_read : (read : Result MetricFile TfmCause) (size : Option ℤ) → AreChosen (refusal_in (sized_font read size))
+chosen_by_read (Err cause) size = (tt, tt)
+chosen_by_read (Ok file) size = chosen_by_size (fits_at file (chosen_size file size)) (font_at file (chosen_size file size))
 
-  lacked_by_held : (params : Params) (l : Option OpenList) (held : Option BoxNode) → LacksRefusal r (held_checks params l held)
-  lacked_by_held params l None = tt
-  lacked_by_held params l (Some b) = lacked_by_box params l b
+chosen_by_font : (file : Option NamedBytes) (size : Option ℤ) → AreChosen (refusal_in (font_of file size))
+chosen_by_font None size = (tt, tt)
+chosen_by_font (Some file) size = chosen_by_read (metric_file file.bytes) size
 
-  lacked_by_home : (params : Params) (around : List OpenList) (into : Option ℕ) (b : BoxNode) → LacksRefusal r (home_checks params around into b)
-  lacked_by_home params around None b = lacked_by_box params (innermost around) b
-  lacked_by_home params around (Some register) b = tt
+-- Those of a box or of items at the end of a list.
+chosen_by_box : (params : Params) (l : Option OpenList) (b : BoxNode) → AreChosen (box_checks params l b)
+chosen_by_box params None b = (tt, tt)
+chosen_by_box params (Some l) b = (tt, (tt, tt))
 
-  lacked_by_packed : (params : Params) (around : List OpenList) (into : Option ℕ) (packed : Option packs.Packed) → LacksRefusal r (packed_checks params around into packed)
-  lacked_by_packed params around into None = (large, tt)
-  lacked_by_packed params around into (Some packed) = (deep, lacked_by_home params around into packed.shown)
+chosen_by_held : (params : Params) (l : Option OpenList) (held : Option BoxNode) → AreChosen (held_checks params l held)
+chosen_by_held params l None = tt
+chosen_by_held params l (Some b) = chosen_by_box params l b
 
-  lacked_by_end : (params : Params) (around : List OpenList) (l : Option OpenList) → LacksRefusal r (close_checks params around l)
-  lacked_by_end params around None = (none, tt)
-  lacked_by_end params around (Some l) = lacked_by_packed params around l.opening.into (packed_list params (Some l))
+chosen_by_home : (params : Params) (around : List OpenList) (into : Option ℕ) (b : BoxNode) → AreChosen (home_checks params around into b)
+chosen_by_home params around None b = chosen_by_box params (innermost around) b
+chosen_by_home params around (Some register) b = tt
 
-module _ (r : Refusal) (kind_differs : WrongKind ≢ r) (long : ListTooLong ≢ r) where
-  lacked_by_items : (kind : Kind) (count : ℕ) (held : Option BoxNode) → LacksRefusal r (items_checks kind count held)
-  lacked_by_items kind count None = tt
-  lacked_by_items kind count (Some b) = (kind_differs, (long, tt))
+chosen_by_packed : (params : Params) (around : List OpenList) (into : Option ℕ) (packed : Option packs.Packed) → AreChosen (packed_checks params around into packed)
+chosen_by_packed params around into None = (tt, tt)
+chosen_by_packed params around into (Some packed) = (tt, chosen_by_home params around into packed.shown)
 
-no_memory : (s : State) (command : Command) → LacksRefusal OutOfMemory (checks s command)
-no_memory s (LoadFont load) = ((λ e. cc), ((λ e. cc), lacked_by_font OutOfMemory (λ e. cc) (λ cause e. cc) (λ e. cc) (file_named load.name s.files) load.size))
-no_memory s (UseFont slot) = ((λ e. cc), ((λ e. cc), tt))
-no_memory s (Text text) = ((λ e. cc), ((λ e. cc), ((λ e. cc), ((λ e. cc), ((λ e. cc), tt)))))
-no_memory s (Character code) = ((λ e. cc), ((λ e. cc), ((λ e. cc), ((λ e. cc), ((λ e. cc), tt)))))
-no_memory s (Open opening) = ((λ e. cc), ((λ e. cc), ((λ e. cc), tt)))
-no_memory s End = ((λ e. cc), lacked_by_end OutOfMemory (λ e. cc) (λ e. cc) (λ e. cc) (λ e. cc) s.params (outer s.nest) (innermost s.nest))
-no_memory s (Rule rule) = ((λ e. cc), ((λ e. cc), ((λ e. cc), ((λ e. cc), tt))))
-no_memory s (Kern width) = ((λ e. cc), ((λ e. cc), ((λ e. cc), tt)))
-no_memory s (Glue glue) = ((λ e. cc), ((λ e. cc), ((λ e. cc), tt)))
-no_memory s (Penalty n) = ((λ e. cc), ((λ e. cc), ((λ e. cc), tt)))
-no_memory s (Append taken) = ((λ e. cc), ((λ e. cc), lacked_by_held OutOfMemory (λ e. cc) (λ e. cc) (λ e. cc) (λ e. cc) s.params (innermost s.nest) (held_in s.registers taken.register)))
-no_memory s (Unbox taken) = ((λ e. cc), ((λ e. cc), ((λ e. cc), lacked_by_items OutOfMemory (λ e. cc) (λ e. cc) taken.kind (open_count s) (held_in s.registers taken.register))))
-no_memory s (LastBox r) = ((λ e. cc), ((λ e. cc), tt))
-no_memory s (Measure r) = ((λ e. cc), tt)
-no_memory s (Void r) = ((λ e. cc), tt)
-no_memory s (Set parameter) = ((λ e. cc), tt)
-no_memory s (Ship r) = ((λ e. cc), ((λ e. cc), ((λ e. cc), ((λ e. cc), ((λ e. cc), tt)))))
+chosen_by_end : (params : Params) (around : List OpenList) (l : Option OpenList) → AreChosen (close_checks params around l)
+chosen_by_end params around None = (tt, tt)
+chosen_by_end params around (Some l) = chosen_by_packed params around l.opening.into (packed_list params (Some l))
 
-no_device : (s : State) (command : Command) → LacksRefusal Device (checks s command)
-no_device s (LoadFont load) = ((λ e. cc), ((λ e. cc), lacked_by_font Device (λ e. cc) (λ cause e. cc) (λ e. cc) (file_named load.name s.files) load.size))
-no_device s (UseFont slot) = ((λ e. cc), ((λ e. cc), tt))
-no_device s (Text text) = ((λ e. cc), ((λ e. cc), ((λ e. cc), ((λ e. cc), ((λ e. cc), tt)))))
-no_device s (Character code) = ((λ e. cc), ((λ e. cc), ((λ e. cc), ((λ e. cc), ((λ e. cc), tt)))))
-no_device s (Open opening) = ((λ e. cc), ((λ e. cc), ((λ e. cc), tt)))
-no_device s End = ((λ e. cc), lacked_by_end Device (λ e. cc) (λ e. cc) (λ e. cc) (λ e. cc) s.params (outer s.nest) (innermost s.nest))
-no_device s (Rule rule) = ((λ e. cc), ((λ e. cc), ((λ e. cc), ((λ e. cc), tt))))
-no_device s (Kern width) = ((λ e. cc), ((λ e. cc), ((λ e. cc), tt)))
-no_device s (Glue glue) = ((λ e. cc), ((λ e. cc), ((λ e. cc), tt)))
-no_device s (Penalty n) = ((λ e. cc), ((λ e. cc), ((λ e. cc), tt)))
-no_device s (Append taken) = ((λ e. cc), ((λ e. cc), lacked_by_held Device (λ e. cc) (λ e. cc) (λ e. cc) (λ e. cc) s.params (innermost s.nest) (held_in s.registers taken.register)))
-no_device s (Unbox taken) = ((λ e. cc), ((λ e. cc), ((λ e. cc), lacked_by_items Device (λ e. cc) (λ e. cc) taken.kind (open_count s) (held_in s.registers taken.register))))
-no_device s (LastBox r) = ((λ e. cc), ((λ e. cc), tt))
-no_device s (Measure r) = ((λ e. cc), tt)
-no_device s (Void r) = ((λ e. cc), tt)
-no_device s (Set parameter) = ((λ e. cc), tt)
-no_device s (Ship r) = ((λ e. cc), ((λ e. cc), ((λ e. cc), ((λ e. cc), ((λ e. cc), tt)))))
+chosen_by_items : (kind : Kind) (count : ℕ) (held : Option BoxNode) → AreChosen (items_checks kind count held)
+chosen_by_items kind count None = tt
+chosen_by_items kind count (Some b) = (tt, (tt, tt))
+
+all_chosen : (s : State) (command : Command) → AreChosen (checks s command)
+all_chosen s (LoadFont load) = (tt, (tt, chosen_by_font (file_named load.name s.files) load.size))
+all_chosen s (UseFont slot) = (tt, (tt, tt))
+all_chosen s (Text text) = (tt, (tt, (tt, (tt, (tt, tt)))))
+all_chosen s (Character code) = (tt, (tt, (tt, (tt, (tt, tt)))))
+all_chosen s (Open opening) = (tt, (tt, (tt, tt)))
+all_chosen s End = (tt, chosen_by_end s.params (outer s.nest) (innermost s.nest))
+all_chosen s (Rule rule) = (tt, (tt, (tt, (tt, tt))))
+all_chosen s (Kern width) = (tt, (tt, (tt, tt)))
+all_chosen s (Glue glue) = (tt, (tt, (tt, tt)))
+all_chosen s (Penalty n) = (tt, (tt, (tt, tt)))
+all_chosen s (Append taken) = (tt, (tt, chosen_by_held s.params (innermost s.nest) (held_in s.registers taken.register)))
+all_chosen s (Unbox taken) = (tt, (tt, (tt, chosen_by_items taken.kind (open_count s) (held_in s.registers taken.register))))
+all_chosen s (LastBox r) = (tt, (tt, tt))
+all_chosen s (Measure r) = (tt, tt)
+all_chosen s (Void r) = (tt, tt)
+all_chosen s (Set parameter) = (tt, tt)
+all_chosen s (Ship r) = (tt, (tt, (tt, (tt, (tt, tt)))))
 
 -- A reply that refuses comes from a check that holds.
 refused_by : (refused : Option Refusal) (answer : Answer) (r : Refusal) → Err r ≡ reply_by refused answer → refused ≡ Some r
@@ -128,13 +114,13 @@ unchanged m next n k command r other (LosesDevice says ships may goes counts) = 
 
 pub takes_memory : (m next : Machine) (n k : ℕ) (command : Command) → Steps m n command (Err OutOfMemory) next k → TakesMemory m.state command
 takes_memory m next n k command (Replies says goes counts) =
-    absurd (lacked OutOfMemory (checks m.state command) (no_memory m.state command) (refuses m.state command OutOfMemory says))
+    absurd (first_chosen (checks m.state command) OutOfMemory (all_chosen m.state command) (refuses m.state command OutOfMemory says))
 takes_memory m next n k command (LacksMemory says takes may goes counts) = takes
 takes_memory m next n k command (LosesDevice says ships may goes counts) = cc
 
 pub counted_fault : (m next : Machine) (n k : ℕ) (command : Command) → Steps m n command (Err Device) next k → n < k
 counted_fault m next n k command (Replies says goes counts) =
-    absurd (lacked Device (checks m.state command) (no_device m.state command) (refuses m.state command Device says))
+    absurd (first_chosen (checks m.state command) Device (all_chosen m.state command) (refuses m.state command Device says))
 counted_fault m next n k command (LacksMemory says takes may goes counts) = cc
 counted_fault m next n k command (LosesDevice says ships may goes counts) = counts
 
@@ -193,9 +179,6 @@ over_finish m next n k result over (Finished summary says may counts goes fails)
 over_finish m next n k result over (Refuses refusal says is goes fails) =
     let same : refusal ≡ JobOver = some_same (sym is ∙ over_last m.state over) in
     (says ∙ ap Err same, goes, fails)
-  where
-    some_same : {r s : Refusal} → Some r ≡ Some s → r ≡ s
-    some_same e = cc
 over_finish m next n k result over (WantsMemory says may some goes fails) = absurd (none_is_some (sym may ∙ over_last m.state over))
 over_finish m next n k result over (LostDevice says may some goes fails) = absurd (none_is_some (sym may ∙ over_last m.state over))
 
@@ -206,20 +189,20 @@ ended r = Err r
 err_same : {r s : Refusal} → ended r ≡ ended s → r ≡ s
 err_same e = cc
 
-no_other : (s : State) (r : Refusal) → r ≢ JobOver → r ≢ ListsOpen → first_of (finish_checks s) ≢ Some r
-no_other s r over nested is = lacked r (finish_checks s) ((λ e. over (sym e)), ((λ e. nested (sym e)), tt)) is
+end_chosen : (s : State) (r : Refusal) → first_of (finish_checks s) ≡ Some r → IsChosen r
+end_chosen s r is = first_chosen (finish_checks s) r (tt, (tt, tt)) is
 
 pub memory_for_pages : (m next : Machine) (n k : ℕ) → Finishes m n (Err OutOfMemory) next k → m.pages ≢ []
 memory_for_pages m next n k (Finished summary says may counts goes fails) = cc
 memory_for_pages m next n k (Refuses refusal says is goes fails) =
-    absurd (no_other m.state OutOfMemory (λ e. cc) (λ e. cc) (is ∙ ap Some (err_same (sym says))))
+    absurd (end_chosen m.state OutOfMemory (is ∙ ap Some (err_same (sym says))))
 memory_for_pages m next n k (WantsMemory says may some goes fails) = some
 memory_for_pages m next n k (LostDevice says may some goes fails) = cc
 
 pub device_counted : (m next : Machine) (n k : ℕ) → Finishes m n (Err Device) next k → n < k
 device_counted m next n k (Finished summary says may counts goes fails) = cc
 device_counted m next n k (Refuses refusal says is goes fails) =
-    absurd (no_other m.state Device (λ e. cc) (λ e. cc) (is ∙ ap Some (err_same (sym says))))
+    absurd (end_chosen m.state Device (is ∙ ap Some (err_same (sym says))))
 device_counted m next n k (WantsMemory says may some goes fails) = cc
 device_counted m next n k (LostDevice says may some goes fails) = fails
 

@@ -1,6 +1,6 @@
 -- Glyphs have the sizes of their fonts, whatever a command does.
-use Rattle.std.proofs.Common.{◌≡◌, ◌∙◌, ◌≤◌, ℕ, zero, suc, ◌-◌, List, [], ◌∷◌, ◌++◌, length, take, set, replicate, Bool, true, false, Option, Some, None, Result, Ok, Err, refl, ap, subst, arith}
-use Rattle.std.specs.Prelude.{ℤ, pos, nat_lt, slice_get, slice_set, unwrap_or, is_some}
+use Rattle.std.proofs.Common.{◌≡◌, ◌∙◌, ◌≤◌, ℕ, zero, suc, ◌-◌, List, [], ◌∷◌, ◌++◌, length, Bool, true, false, Option, Some, None, Result, Ok, Err, refl, ap, subst, arith}
+use Rattle.std.specs.Prelude.{ℤ, pos, nat_lt, slice_get, slice_set, is_some}
 use Rattle.std.proofs.lemmas.Bool.{ltb-false}
 use Rattle.std.specs.List.{AllByRecursion}
 use Rattle.node_core.specs.declared.tree.Node.{Node}
@@ -31,6 +31,7 @@ use Rattle.job_core.specs.declared.command.FontLoad.{FontLoad}
 use Rattle.job_core.specs.declared.command.Refusal.{Refusal}
 use Rattle.job_core.specs.declared.command.Refusal.TheVariants.{SlotTaken, TooDeep, JobOver}
 use Rattle.job_core.specs.FontSlots.{Slots, font_in, with_font, glyph_by, text_in, character_in, text_shaped, character_shaped}
+use Rattle.job_core.proofs.EachOf.{each_taken, each_set, each_at, each_copy, each_as, each_held}
 use Rattle.job_core.proofs.Leaves.{each_leaf}
 use Rattle.job_core.proofs.KeptRest.{KeepsRest, end_keeps, append_keeps, unbox_keeps}
 use Rattle.job_core.proofs.PackedItems.{packed_items}
@@ -38,35 +39,6 @@ use Rattle.job_core.specs.Sized.{HasSizes, IsSizedLeaf, IsSoundBox, IsSized, Are
 use Rattle.job_core.specs.declared.command.Taking.{Taking}
 use Rattle.job_core.specs.declared.command.Taking.TheVariants.{Moved, Copied}
 use Rattle.job_core.specs.Machine.{State, most_deep, first_state, innermost, outer, items_in, with_nodes, with_rule, with_items, glue_in, box_items, with_box, without_last, held_in, with_taken, if_packed, packed_as, packed_list, home_checks, packed_checks, close_checks, with_home, with_closed, with_used, with_unboxed, checks, first_of, font_for, refusal_in, after}
-
--- Lists of which each element is such a one.
-module _ {A : Type 0} (P : A → Type 0) where
-  each_taken : (n : ℕ) (xs : List A) → AllByRecursion P xs → AllByRecursion P (take n xs)
-  each_taken zero xs all = tt
-  each_taken (suc n) [] all = tt
-  each_taken (suc n) (x ∷ xs) all = (all.0, each_taken n xs all.1)
-
-  pub each_set : (xs : List A) (i : ℕ) (y : A) → AllByRecursion P xs → P y → AllByRecursion P (set xs i y)
-  each_set [] i y all here = tt
-  each_set (x ∷ xs) zero y all here = (here, all.1)
-  each_set (x ∷ xs) (suc i) y all here = (all.0, each_set xs i y all.1 here)
-
-  pub each_at : (xs : List A) (i : ℕ) (y : A) → AllByRecursion P xs → slice_get xs i ≡ Some y → P y
-  each_at [] i y all is = cc
-  each_at (x ∷ xs) zero y all is = subst P (some_same is) all.0
-    where
-      some_same : Some x ≡ Some y → x ≡ y
-      some_same e = cc
-  each_at (x ∷ xs) (suc i) y all is = each_at xs i y all.1 is
-
-  pub each_copy : (n : ℕ) (x : A) → P x → AllByRecursion P (replicate n x)
-  each_copy zero x here = tt
-  each_copy (suc n) x here = (here, each_copy n x here)
-
--- Such a list is also one of what each such element is.
-each_as : {A : Type 0} (P Q : A → Type 0) → ((x : A) → P x → Q x) → (xs : List A) → AllByRecursion P xs → AllByRecursion Q xs
-each_as P Q turns [] all = tt
-each_as P Q turns (x ∷ xs) all = (turns x all.0, each_as P Q turns xs all.1)
 
 -- A slot that has a font keeps it where another one is given a font.
 font_kept : (fonts : Slots) (other : ℕ) (font : LoadedFont) (slot : ℕ) (loaded : LoadedFont) → font_in fonts other ≡ None
@@ -242,11 +214,7 @@ list_kept old new keeps l is = each_as (IsSized old) (IsSized new) (node_kept ol
 
 -- What a register holds is sized.
 pub sized_held : (s : State) (r : ℕ) (b : BoxNode) → HasSizedGlyphs s → held_in s.registers r ≡ Some b → IsSoundBox s.fonts b
-sized_held s r b sized is = by_slot (slice_get s.registers r) refl is
-  where
-    by_slot : (slot : Option (Option BoxNode)) → slice_get s.registers r ≡ slot → unwrap_or slot None ≡ Some b → IsSoundBox s.fonts b
-    by_slot None at_r holds = cc
-    by_slot (Some held) at_r holds = subst (IsSizedHeld s.fonts) holds (each_at (IsSizedHeld s.fonts) s.registers r held sized.registers at_r)
+sized_held s r b sized is = each_held (IsSizedHeld s.fonts) s.registers r b sized.registers is
 
 -- A box behind the innermost list.
 items_of_box : (fonts : Slots) (glue : Option glues.Glue) (shift : ℤ) (b : BoxNode) → IsSoundBox fonts b → AreSized fonts (appended glue shift b)

@@ -1,14 +1,13 @@
 -- Runs one behind another, and a job from its beginning to its end.
-use Rattle.std.proofs.Common.{◌≡◌, ℕ, List, [], ◌∷◌, ◌++◌, length, Option, Some, None, Result, Ok, Err, refl, ap, sym, ◌∙◌, subst}
+use Rattle.std.proofs.Common.{◌≡◌, ℕ, List, [], ◌∷◌, ◌++◌, length, Result, Ok, Err, refl, ap, sym, ◌∙◌, subst}
 use Rattle.std.specs.Prelude.{IfOk, IfSome}
 use Rattle.job_core.specs.declared.command.Command.{Command}
-use Rattle.job_core.specs.declared.command.Command.TheVariants.{LoadFont, UseFont, Open, End, Text, Character, Rule, Kern, Glue, Penalty, Append, Unbox, LastBox, Measure, Void, Set, Ship}
 use Rattle.job_core.specs.declared.command.Refusal.{Refusal}
 use Rattle.job_core.specs.declared.command.Summary.{Summary}
 use Rattle.job_core.specs.Reply.{Reply}
 use Rattle.tfm_core.specs.NamedBytes.{NamedBytes}
-use Rattle.job_core.proofs.KeptRest.{end_keeps, append_keeps, unbox_keeps}
-use Rattle.job_core.specs.Machine.{State, Machine, first_machine, checks, first_of, after, state_by, state_after}
+use Rattle.job_core.proofs.KeptRest.{job_kept}
+use Rattle.job_core.specs.Machine.{Machine, first_machine}
 use Rattle.job_core.specs.Runs.{Seen, Steps, Replies, LacksMemory, LosesDevice, Run, Holds, KeepsTo, RunsTo, FinishesTo}
 use Rattle.job_core.specs.Closing.{ClosesFile}
 use Rattle.job_core.specs.Shown.{FilesPages, GivesFiles}
@@ -41,38 +40,12 @@ one_run old new command reply keeps m holds =
     (next.0, (next.0, new.failed, next.1, (refl, refl)), next.2)
 
 -- A command leaves the font files as they are.
-after-files : (s : State) (command : Command) → (after s command).files ≡ s.files
-after-files s (LoadFont load) = refl
-after-files s (UseFont slot) = refl
-after-files s (Open opening) = refl
-after-files s End = (end_keeps s).files
-after-files s (Text text) = refl
-after-files s (Character code) = refl
-after-files s (Rule rule) = refl
-after-files s (Kern width) = refl
-after-files s (Glue glue) = refl
-after-files s (Penalty n) = refl
-after-files s (Append taken) = (append_keeps s taken).files
-after-files s (Unbox taken) = (unbox_keeps s taken).files
-after-files s (LastBox r) = refl
-after-files s (Measure r) = refl
-after-files s (Void r) = refl
-after-files s (Set parameter) = refl
-after-files s (Ship r) = refl
-
-pub state_after-files : (s : State) (command : Command) → (state_after s command).files ≡ s.files
-state_after-files s command = cases (first_of (checks s command))
-  where
-    cases : (refused : Option Refusal) → (state_by refused s (after s command)).files ≡ s.files
-    cases None = after-files s command
-    cases (Some refusal) = refl
-
 files_of : Machine → List NamedBytes
 files_of m = m.state.files
 
 one_keeps : (m : Machine) (n : ℕ) (command : Command) (reply : Reply) (next : Machine) (k : ℕ) → Steps m n command reply next k → files_of next ≡ files_of m
 unfolding files_of
-one_keeps m n command reply next k (Replies says goes counts) = ap files_of goes ∙ state_after-files m.state command
+one_keeps m n command reply next k (Replies says goes counts) = ap files_of goes ∙ (job_kept m.state command).files
 one_keeps m n command reply next k (LacksMemory says takes may goes counts) = ap files_of goes
 one_keeps m n command reply next k (LosesDevice says ships may goes counts) = ap files_of goes
 

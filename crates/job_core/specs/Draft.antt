@@ -23,6 +23,7 @@ definition_of slot loaded =
       name = loaded.name;
     }
 
+-- The definition of the font in a slot, if it has one.
 abbrev pub definition_by : ℕ → Option LoadedFont → List Definition
 definition_by slot None = []
 definition_by slot (Some loaded) = definition_of slot loaded ∷ []

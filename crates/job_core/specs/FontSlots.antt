@@ -48,16 +48,16 @@ glyph_by None code = None
 glyph_by (Some loaded) code = glyph_of loaded.font code
 
 -- What characters come to: the items that they add, and how many of them are missing.
-pub record Shaped : Type 0 where
+pub record CharacterItems : Type 0 where
   pub items : List Node
   pub missing : ℕ
 
 -- Without a font they come to nothing.
-abbrev pub unshaped : Shaped
+abbrev pub unshaped : CharacterItems
 unshaped = record { items = []; missing = 0 }
 
 -- A text in the font of a slot.
-abbrev pub text_in : Option LoadedFont → ℕ → List ℕ → Shaped
+abbrev pub text_in : Option LoadedFont → ℕ → List ℕ → CharacterItems
 text_in None slot text = unshaped
 text_in (Some loaded) slot text =
     record {
@@ -66,7 +66,7 @@ text_in (Some loaded) slot text =
     }
 
 -- One character in the font of a slot: the word of this character.
-abbrev pub character_in : Option LoadedFont → ℕ → ℕ → Shaped
+abbrev pub character_in : Option LoadedFont → ℕ → ℕ → CharacterItems
 character_in None slot code = unshaped
 character_in (Some loaded) slot code =
     record {
@@ -75,10 +75,10 @@ character_in (Some loaded) slot code =
     }
 
 -- The same in the current font.
-abbrev pub text_shaped : Slots → Option ℕ → List ℕ → Shaped
+abbrev pub text_shaped : Slots → Option ℕ → List ℕ → CharacterItems
 text_shaped fonts None text = unshaped
 text_shaped fonts (Some slot) text = text_in (font_in fonts slot) slot text
 
-abbrev pub character_shaped : Slots → Option ℕ → ℕ → Shaped
+abbrev pub character_shaped : Slots → Option ℕ → ℕ → CharacterItems
 character_shaped fonts None code = unshaped
 character_shaped fonts (Some slot) code = character_in (font_in fonts slot) slot code

@@ -2,7 +2,7 @@ pub mod Told
 pub mod Held
 pub mod Reply
 pub mod Machine
-pub mod Closings
+pub mod EmptiedNest
 pub mod StateCode
 pub mod Draft
 pub mod Runs

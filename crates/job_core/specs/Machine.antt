@@ -39,8 +39,7 @@ use Rattle.pack_core.specs.Boxes.{hpacked, vpacked, vtopped}
 use Rattle.ship_core.specs.Marks.{Page, is_huge}
 use Rattle.tfm_core.specs.NamedBytes.{NamedBytes, file_named}
 use Rattle.tfm_core.specs.Fonts.{SizedFont}
-use Rattle.job_core.specs.FontSlots as slots
-use Rattle.job_core.specs.FontSlots.{Slots, font_in, current_font, font_of, with_font, text_shaped, character_shaped}
+use Rattle.job_core.specs.FontSlots.{Slots, font_in, current_font, font_of, with_font, CharacterItems, text_shaped, character_shaped}
 
 -- What commands read and change: the font files; the fonts by slot, and the slot of the current one; the parameters; the open lists, the
 -- outermost first; the registers by number; how many nodes and pages were shipped; and whether the job is over.
@@ -135,6 +134,7 @@ abbrev pub kind_in : Option OpenList → Kind
 kind_in None = Horizontal
 kind_in (Some open_list) = kind_of open_list.opening.form
 
+-- Whether lists of that kind are vertical.
 abbrev pub is_vertical : Kind → Bool
 is_vertical Horizontal = false
 is_vertical Vertical = true
@@ -144,6 +144,7 @@ abbrev pub glue_by : Kind → Params → (previous height : ℤ) → Result (Opt
 glue_by Horizontal params previous height = Ok None
 glue_by Vertical params previous height = interline params previous height
 
+-- That glue in front of a box at the end of an open list.
 abbrev pub glue_in : Params → OpenList → (height : ℤ) → Result (Option glues.Glue) distances.DimensionTooLarge
 glue_in params open_list height = glue_by (kind_of open_list.opening.form) params open_list.previous_depth height
 
@@ -174,6 +175,7 @@ packed_as Hbox params target items = hpacked target items
 packed_as Vbox params target items = vpacked target params.box_max_depth items
 packed_as Vtop params target items = vtopped target params.box_max_depth items
 
+-- What was packed, if the sizes fit.
 abbrev pub if_packed : Result packs.Packed TooLarge → Option packs.Packed
 if_packed (Ok packed) = Some packed
 if_packed (Err items) = None
@@ -205,7 +207,7 @@ with_parameter params (BaselineSkip glue) = record params { baseline_skip = glue
 with_parameter params (LineSkip glue) = record params { line_skip = glue }
 with_parameter params (LineSkipLimit limit) = record params { line_skip_limit = limit }
 
--- How many nodes a register holds: the box and its items.
+-- How many nodes a register holds: those of its box, of the boxes in it too.
 abbrev pub count_in : Option BoxNode → ℕ
 count_in None = 0
 count_in (Some b) = box_count b
@@ -214,6 +216,7 @@ count_in (Some b) = box_count b
 abbrev pub page_of : BoxNode → Page
 page_of b = record { counts = replicate 10 (pos 0); shown = b; h = pos 0; v = b.height }
 
+-- The page of the box of a register, if there is one, and whether that page is huge (TeX: The Program, part 32).
 abbrev pub pages_of : Option BoxNode → List Page
 pages_of None = []
 pages_of (Some b) = page_of b ∷ []
@@ -241,7 +244,7 @@ character_checks m =
     (length m.nest == 0, NoOpenList) ∷ (is_vertical (kind_in (innermost m.nest)), WrongMode) ∷ (is_none (current_font m.fonts m.current), NoFont) ∷ []
 
 -- Those of characters that come to these items.
-abbrev pub shape_checks : State → slots.Shaped → List (Bool × Refusal)
+abbrev pub shape_checks : State → CharacterItems → List (Bool × Refusal)
 shape_checks m shaped = character_checks m ++ length_checks m shaped.items
 
 -- The refusals of one more item.
@@ -259,15 +262,16 @@ box_checks params (Some open_list) b =
     (not (is_ok (glue_in params open_list b.height)), DimensionTooLarge)
     ∷ (nat_lt most_items (length (nodes_of open_list.list) + length (box_items params open_list (pos 0) b)), ListTooLong) ∷ []
 
--- Those of the box of a closed list: a register takes any box.
+-- The refusals of the box of a closed list: a register takes any box.
 abbrev pub home_checks : Params → (around : List OpenList) → (into : Option ℕ) → BoxNode → List (Bool × Refusal)
 home_checks params around None b = box_checks params (innermost around) b
 home_checks params around (Some r) b = []
 
--- And those with the depth of the box.
+-- With them that of a box which is too deep, in front.
 abbrev pub place_checks : Params → (around : List OpenList) → (into : Option ℕ) → BoxNode → List (Bool × Refusal)
 place_checks params around into b = (nat_lt most_deep (box_depth b), TooDeep) ∷ home_checks params around into b
 
+-- That of sizes which do not fit, or those of the box.
 abbrev pub packed_checks : Params → (around : List OpenList) → (into : Option ℕ) → Option packs.Packed → List (Bool × Refusal)
 packed_checks params around into None = (true, DimensionTooLarge) ∷ []
 packed_checks params around into (Some packed) = place_checks params around into packed.shown
@@ -291,10 +295,11 @@ abbrev pub held_checks : Params → Option OpenList → Option BoxNode → List 
 held_checks params open_list None = []
 held_checks params open_list (Some b) = box_checks params open_list b
 
+-- Those with the list that is needed, of `box` and of `copy`.
 abbrev pub append_checks : State → (register : ℕ) → List (Bool × Refusal)
 append_checks m r = (length m.nest == 0, NoOpenList) ∷ held_checks m.params (innermost m.nest) (held_in m.registers r)
 
--- Whether two lists do not go the same way.
+-- Whether two kinds are not the same.
 abbrev pub is_other : Kind → Kind → Bool
 is_other Horizontal Horizontal = false
 is_other Vertical Vertical = false
@@ -307,6 +312,7 @@ items_checks kind count None = []
 items_checks kind count (Some b) =
     (is_other kind b.kind, WrongKind) ∷ (nat_lt most_items (count + length (nodes_of b.list)), ListTooLong) ∷ []
 
+-- Those with the list that is needed, which has to be of the kind of the command.
 abbrev pub unbox_checks : State → Kind → (register : ℕ) → List (Bool × Refusal)
 unbox_checks m kind r =
     (length m.nest == 0, NoOpenList) ∷ (is_other kind (kind_in (innermost m.nest)), WrongMode)
@@ -346,27 +352,31 @@ abbrev pub first_of : List (Bool × Refusal) → Option Refusal
 first_of [] = None
 first_of ((holds, refusal) ∷ rest) = if holds then Some refusal else first_of rest
 
+-- The sizes of a box, as answers have them.
 abbrev pub sizes_of : BoxNode → Sizes
 sizes_of b = record { width = b.width; height = b.height; depth = b.depth }
 
--- Where there is no box, the end of the list is refused.
+-- The answer to the end of a list. Where there is no box, it is refused and this answer is not given.
 abbrev pub packed_answer : Option packs.Packed → Answer
 packed_answer None = Done
 packed_answer (Some packed) = Packed (sizes_of packed.shown) packed.badness
 
+-- What a register is measured as.
 abbrev pub measured : Option BoxNode → Answer
 measured None = MeasuredVoid
 measured (Some b) = Measured b.kind (sizes_of b)
 
-abbrev pub shaped_answer : slots.Shaped → Answer
+-- The answer to characters that come to these items.
+abbrev pub shaped_answer : CharacterItems → Answer
 shaped_answer shaped = Shaped (length shaped.items) shaped.missing
 
--- How many items the box of a register brings to the innermost list, and how many there are in it.
+-- How many items the box of a register brings to the innermost list.
 abbrev pub box_count_in : Params → Option OpenList → Option BoxNode → ℕ
 box_count_in params None held = 0
 box_count_in params (Some open_list) None = 0
 box_count_in params (Some open_list) (Some b) = length (box_items params open_list (pos 0) b)
 
+-- The items of the box of a register.
 abbrev pub nodes_in : Option BoxNode → List Node
 nodes_in None = []
 nodes_in (Some b) = nodes_of b.list
@@ -400,6 +410,7 @@ abbrev pub with_home : State → (around : List OpenList) → (into : Option ℕ
 with_home m around None b = record m { nest = with_box m.params around (pos 0) b (innermost around) }
 with_home m around (Some r) b = record m { nest = around; registers = slice_set m.registers r (Some b) }
 
+-- The state when the innermost list was packed into a box, which goes where the list says.
 abbrev pub with_closed : State → Option OpenList → Option packs.Packed → State
 with_closed m None packed = m
 with_closed m (Some open_list) None = m
@@ -411,7 +422,7 @@ with_used m taking r shift None = m
 with_used m taking r shift (Some b) =
     record m { nest = with_box m.params m.nest shift b (innermost m.nest); registers = with_taken taking m.registers r }
 
--- That with the items of the box.
+-- The state with the items of the box of a register at the end of the innermost list.
 abbrev pub with_unboxed : State → Taking → (register : ℕ) → Option BoxNode → State
 with_unboxed m taking r None = m
 with_unboxed m taking r (Some b) =

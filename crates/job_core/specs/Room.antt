@@ -5,6 +5,7 @@ use Rattle.job_core.specs.Draft.{Draft, in_rising_order}
 use Rattle.job_core.specs.Sized.{HasSizedGlyphs}
 use Rattle.job_core.specs.Loaded.{AreLoaded}
 
+-- A running job's state and draft are within these limits.
 pub record HasRoom (s : State) (draft : Draft) : Type 0 where
   pub nodes : s.shipped ≤ most_shipped
   pub pages : s.pages ≤ most_pages

@@ -1,5 +1,5 @@
 -- Runs of the machine, with what it does not choose: want of memory and a device that fails (own).
-use Rattle.std.specs.Prelude.{◌≡◌, ◌≢◌, ◌<◌, ◌==◌, [], ◌∷◌, ℕ, Bool, false, not, List, length, Option, Some, None, is_none, is_some, IfSome, Result, Ok, Err}
+use Rattle.std.specs.Prelude.{◌≡◌, ◌≢◌, ◌<◌, ◌==◌, [], ◌∷◌, ℕ, Bool, false, not, List, length, Option, Some, None, is_none, is_some, IfSome, IsSome, Result, Ok, Err}
 use Rattle.std.specs.List.{AllByRecursion}
 use Rattle.job_core.specs.declared.command.Command.{Command}
 use Rattle.job_core.specs.declared.command.Command.TheVariants.{LoadFont, UseFont, Open, End, Text, Character, Rule, Kern, Glue, Penalty, Append, Unbox, LastBox, Measure, Void, Set, Ship}
@@ -12,9 +12,10 @@ use Rattle.tfm_core.specs.NamedBytes.{file_named}
 use Rattle.job_core.specs.FontSlots.{Slots, font_in}
 use Rattle.job_core.specs.Sized.{IsSoundBox}
 use Rattle.job_core.specs.Draft.{Draft, draft_of, with_pages}
-use Rattle.job_core.specs.Machine.{State, Machine, innermost, GoesIntoList, checks, character_checks, first_of, reply_to, state_by, new_pages, step, stopped, page_of}
+use Rattle.job_core.specs.Machine.{State, Machine, innermost, held_in, GoesIntoList, checks, character_checks, first_of, reply_to, state_by, new_pages, step, stopped, page_of}
 
--- The commands for which memory may be wanted. The end of a list takes none where the box goes into a register.
+-- The commands for which memory may be wanted. The end of a list takes none where the box goes into a register, and what takes the box of a
+-- register none where that is void.
 abbrev pub TakesMemory : State → Command → Type 0
 TakesMemory m (LoadFont load) = Unit {0}
 TakesMemory m (UseFont slot) = ⊥
@@ -26,8 +27,8 @@ TakesMemory m (Rule rule) = Unit {0}
 TakesMemory m (Kern width) = Unit {0}
 TakesMemory m (Glue glue) = Unit {0}
 TakesMemory m (Penalty n) = Unit {0}
-TakesMemory m (Append taken) = Unit {0}
-TakesMemory m (Unbox taken) = Unit {0}
+TakesMemory m (Append taken) = IsSome (held_in m.registers taken.register)
+TakesMemory m (Unbox taken) = IsSome (held_in m.registers taken.register)
 TakesMemory m (LastBox r) = ⊥
 TakesMemory m (Measure r) = ⊥
 TakesMemory m (Void r) = ⊥
@@ -43,6 +44,7 @@ early_checks m (Text text) = (m.over, JobOver) ∷ character_checks m
 early_checks m (Character code) = (m.over, JobOver) ∷ character_checks m
 early_checks m command = checks m command
 
+-- A command that makes a page.
 abbrev pub IsShip : Command → Type 0
 IsShip (Ship r) = Unit {0}
 IsShip command = ⊥

@@ -217,7 +217,7 @@ pub struct Sizes {
 pub enum Answer {
     /// Nothing but that it is done.
     Done,
-    /// The sizes of the box that was packed, and the badness of its setting.
+    /// The sizes of the box that was packed, and the badness of its setting: 0 to 10000, or 1000000 where it is overfull.
     Packed(Sizes, u32),
     /// The kind and the sizes of the box in the register.
     Measured(Kind, Sizes),

@@ -1,6 +1,6 @@
 //! The fonts of a job.
 
-ghost use Rattle.std.specs.Prelude.{◌≡◌, List, Option, Some, None, IfOk, OnOk, option_copied, replicate, slice_set};
+ghost use Rattle.std.specs.Prelude.{◌≡◌, List, Option, Some, None, IfOk, option_copied, replicate, slice_set};
 ghost use Rattle.tfm_core.specs.Fonts.{HasNumbers};
 ghost use Rattle.job_core.specs.FontSlots.{font_in, font_of};
 

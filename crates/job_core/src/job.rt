@@ -1,11 +1,9 @@
 //! The job: commands are run, and the file of its pages goes to a device at the end.
 
-ghost use Rattle.std.specs.Prelude.{◌≡◌, ◌≢◌, ◌<◌, ◌≤◌, ◌+◌, ◌*◌, ◌^◌, ◌++◌, [], false, None, Some, Ok, Err, List, ℕ, length, IfOk, IfErr, OnOk, OnErr, IfSome};
+ghost use Rattle.std.specs.Prelude.{◌≡◌, ◌<◌, ◌+◌, ◌*◌, ◌^◌, ◌++◌, [], false, None, Err, List, length, IfOk, IfErr, OnOk, OnErr, IfSome};
 ghost use Rattle.job_core.specs.declared.command.Command.TheVariants as commands;
 ghost use Rattle.job_core.specs.Reply.{Reply as AReply};
-ghost use Rattle.job_core.specs.Told.{grown, GrowsByFront};
 ghost use Rattle.job_core.specs.Loaded.{GivesNumbersFor};
-ghost use Rattle.job_core.specs.Draft.{whole, draft_of};
 ghost use Rattle.job_core.specs.Machine.{Machine, first_machine, checks, first_of, reply_to, state_after};
 ghost use Rattle.job_core.specs.Runs.{TakesMemory, early_checks, draft_after, Holds, KeepsTo, RunsTo, FinishesTo};
 ghost use Rattle.job_core.specs.Shown.{FilesPages};
@@ -99,7 +97,7 @@ impl<D: Device> Model for Job<D> {
 }
 
 impl<D: Device> Job<D> {
-    ghost use Rattle.std.specs.Prelude.{◌≡◌, ◌<◌, ◌+◌, ◌^◌, ◌++◌, [], List, ℕ, IfOk, IfErr, OnOk, OnErr, IfSome, Err, length, true};
+    ghost use Rattle.std.specs.Prelude.{◌≡◌, ◌<◌, ◌+◌, ◌^◌, ◌++◌, [], true, List, IfOk, IfErr, OnOk, OnErr, IfSome, Err, length};
     ghost use Rattle.job_core.specs.Machine.{Machine, first_machine};
     ghost use Rattle.job_core.specs.Draft.{file_of};
     ghost use Rattle.job_core.specs.Told.{IsFrontOf};
@@ -131,9 +129,11 @@ impl<D: Device> Job<D> {
         })
     }
 
-    /// Does what a command says, and answers it.
+    /// Does what a command says, and answers it; or refuses it, and nothing has changed, but that the job is over after a Device. A job that is
+    /// over is left as it is, and so is its device.
     pub fn step(&mut self, command: &Command) -> Result<Answer, Refusal>
-        ensures { KeepsTo self.old command.now result self.new }
+        ensures keeps { KeepsTo self.old command.now result self.new }
+        ensures idle { self.old.state.over ≡ true → self.new ≡ self.old }
     {
         let Ok(reply) = obey(&mut self.kept, &mut self.writer, command) else {
             return Err(Refusal::OutOfMemory);
@@ -147,6 +147,7 @@ impl<D: Device> Job<D> {
         ensures ran { OnOk result ((added : List AReply) × (replies.new.items ≡ replies.old.items ++ added) × RunsTo self.old commands.now added self.new) }
         ensures none { OnErr result (self.new ≡ self.old) }
         ensures cut { OnErr result (replies.new.items ≡ replies.old.items) }
+        ensures idle { self.old.state.over ≡ true → self.new ≡ self.old }
     {
         replies.reserve(commands.len())?;
         for command in commands {
@@ -158,13 +159,16 @@ impl<D: Device> Job<D> {
         Ok(())
     }
 
-    /// Ends the job: where there are pages, their file goes to the device. All memory is taken before that.
+    /// Ends the job: where there are pages, their file goes to the device. All memory is taken before that. Refused with JobOver, ListsOpen or
+    /// OutOfMemory, it has changed nothing; with Device, the job is over.
     pub fn finish(&mut self) -> Result<Summary, Refusal>
         ensures finished { FinishesTo self.old result self.new }
+        ensures idle { self.old.state.over ≡ true → self.new ≡ self.old }
         ensures file { (m : Machine) → Holds self.old m → OnOk result (IfSome self.new.told (λ bytes. bytes ≡ file_of m.state.fonts m.pages)) }
         ensures dvi { FilesPages self.old result self.new }
         ensures end { ClosesFile self.old result self.new }
         ensures size { IfOk result (λ summary. (m : Machine) → Holds self.old m → IfSome self.new.told (λ bytes. summary.bytes ≡ length bytes)) }
+        ensures count { IfOk result (λ summary. (m : Machine) → Holds self.old m → summary.bytes ≡ length (file_of m.state.fonts m.pages)) }
         ensures front { result ≡ Err Refusal.Device → (m : Machine) → Holds self.old m → IfSome self.new.told (λ bytes. IsFrontOf bytes (file_of m.state.fonts m.pages)) }
     {
         if self.kept.is_over() {

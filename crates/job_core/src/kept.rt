@@ -1,12 +1,11 @@
 //! What a job keeps, but for its device and its bytes.
 
-ghost use Rattle.std.specs.Prelude.{◌≡◌, ◌==◌, ◌<◌, ◌≤◌, ◌+◌, ◌^◌, ◌∷◌, [], not, true, false, None, Some, Ok, IfOk, IfErr, OnOk, OnErr, length, option_copied};
+ghost use Rattle.std.specs.Prelude.{◌≡◌, ◌==◌, ◌<◌, ◌≤◌, ◌+◌, ◌∷◌, [], not, true, false, None, Some, IfOk, IfErr, OnOk, OnErr, IsSome, length};
 ghost use Rattle.job_core.specs.declared.command.Command.TheVariants as commands;
-ghost use Rattle.job_core.specs.FontSlots as slots;
-ghost use Rattle.job_core.specs.FontSlots.{font_in, text_shaped};
+ghost use Rattle.job_core.specs.FontSlots.{font_in};
 ghost use Rattle.job_core.specs.Loaded.{GivesNumbers};
 ghost use Rattle.node_core.specs.Nodes.{most_nodes, nodes_of};
-ghost use Rattle.job_core.specs.Closings.{refilled};
+ghost use Rattle.job_core.specs.EmptiedNest.{refilled};
 ghost use Rattle.job_core.specs.Machine.{first_state, innermost, outer, items_in, held_in, nodes_in, checks, first_of, reply_by, reply_to, state_by, state_after, after, sizes_of, character_checks, item_checks, length_checks, held_checks, home_checks, place_checks, shaped_answer, with_items, with_used, with_unboxed, with_home, GoesIntoList, is_other, is_running, is_misplaced};
 ghost use Rattle.job_core.specs.Runs.{early_checks};
 
@@ -296,6 +295,7 @@ impl Kept {
         ensures state { OnOk result (self.new ≡ state_after self.old (commands.Append taken.now)) }
         ensures err { OnErr result (self.new ≡ self.old) }
         ensures admitted { OnErr result (first_of (checks self.old (commands.Append taken.now)) ≡ None) }
+        ensures takes { OnErr result (IsSome (held_in self.old.registers taken.now.register)) }
     {
         let Some(innermost) = self.nest.innermost() else {
             return Ok(Err(Refusal::NoOpenList));
@@ -355,6 +355,7 @@ impl Kept {
         ensures state { OnOk result (self.new ≡ state_after self.old (commands.Unbox taken.now)) }
         ensures err { OnErr result (self.new ≡ self.old) }
         ensures admitted { OnErr result (first_of (checks self.old (commands.Unbox taken.now)) ≡ None) }
+        ensures takes { OnErr result (IsSome (held_in self.old.registers taken.now.register)) }
     {
         let Some(innermost) = self.nest.innermost() else {
             return Ok(Err(Refusal::NoOpenList));
@@ -572,7 +573,7 @@ fn sizes_of(shown: &BoxNode) -> Sizes
     }
 }
 
-/// Whether two lists do not go the same way.
+/// Whether two kinds are not the same.
 fn is_other(a: Kind, b: Kind) -> bool
     ensures { result ≡ is_other a b }
 {

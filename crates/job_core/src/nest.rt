@@ -1,11 +1,11 @@
 //! The open lists of a job.
 
-ghost use Rattle.std.specs.Prelude.{◌≡◌, ◌<◌, ◌≤◌, ◌+◌, ◌-◌, ◌++◌, ◌∷◌, ℕ, [], pos, List, length, take, slice_get, slice_set, None, OnOk, OnErr, IfOk, IfErr, IfSome, IsOk, Some, Ok, Err, option_copied};
+ghost use Rattle.std.specs.Prelude.{◌≡◌, ◌<◌, ◌≤◌, ◌+◌, ◌-◌, ◌++◌, ◌∷◌, [], pos, List, length, None, OnOk, OnErr, IfOk, IfErr, IfSome, IsOk, Some, option_copied};
 ghost use Rattle.node_core.specs.Items.{none};
-ghost use Rattle.node_core.specs.Nodes.{most_nodes, items_of, nodes_of, last_box, without};
+ghost use Rattle.node_core.specs.Nodes.{most_nodes, items_of, nodes_of, last_box};
 ghost use Rattle.vert_core.specs.Interline.{interline, glue_of, appended};
-ghost use Rattle.job_core.specs.Machine.{opened, kind_of, innermost, items_in, outer, with_nodes, with_rule, glue_in, box_items, list_with_box, with_box, without_last, packed_as, packed_list, box_checks, first_of};
-ghost use Rattle.job_core.specs.Closings.{emptied, refilled};
+ghost use Rattle.job_core.specs.Machine.{opened, innermost, items_in, outer, with_nodes, with_rule, glue_in, box_items, list_with_box, with_box, without_last, packed_as, packed_list, box_checks, first_of};
+ghost use Rattle.job_core.specs.EmptiedNest.{emptied, refilled};
 
 use crate::command::{BoxForm, Opening, Refusal};
 use node_core::{BoxNode, Glue, Kind, Node, NodeList, Params, Rule};
@@ -249,11 +249,8 @@ impl Nest {
         ensures ok { OnOk result (self.new ≡ with_nodes self.old (node ∷ []) (innermost self.old)) }
         ensures err { OnErr result (self.new ≡ self.old) }
     {
-        let count = self.lists.len();
-        if count == 0 {
-            return Ok(());
-        }
-        let Some(innermost) = self.lists.get_mut(count - 1) else {
+        let last = self.lists.len().saturating_sub(1);
+        let Some(innermost) = self.lists.get_mut(last) else {
             return Ok(());
         };
         match innermost.list.push(node) {
@@ -268,11 +265,8 @@ impl Nest {
         ensures ok { OnOk result (self.new ≡ with_nodes self.old nodes.items (innermost self.old)) }
         ensures err { OnErr result (self.new ≡ self.old) }
     {
-        let count = self.lists.len();
-        if count == 0 {
-            return Ok(());
-        }
-        let Some(innermost) = self.lists.get_mut(count - 1) else {
+        let last = self.lists.len().saturating_sub(1);
+        let Some(innermost) = self.lists.get_mut(last) else {
             return Ok(());
         };
         innermost.list.extend(nodes)
@@ -284,11 +278,8 @@ impl Nest {
         ensures ok { OnOk result (self.new ≡ with_rule self.old rule (innermost self.old)) }
         ensures err { OnErr result (self.new ≡ self.old) }
     {
-        let count = self.lists.len();
-        if count == 0 {
-            return Ok(());
-        }
-        let Some(innermost) = self.lists.get_mut(count - 1) else {
+        let last = self.lists.len().saturating_sub(1);
+        let Some(innermost) = self.lists.get_mut(last) else {
             return Ok(());
         };
         match innermost.list.push(Node::Rule(rule)) {
@@ -308,11 +299,8 @@ impl Nest {
         ensures err { OnErr result (self.new ≡ self.old) }
         ensures back { OnErr result (list.new ≡ list.old) }
     {
-        let count = self.lists.len();
-        if count == 0 {
-            return Ok(());
-        }
-        let Some(innermost) = self.lists.get_mut(count - 1) else {
+        let last = self.lists.len().saturating_sub(1);
+        let Some(innermost) = self.lists.get_mut(last) else {
             return Ok(());
         };
         innermost.list.append(list)
@@ -331,11 +319,8 @@ impl Nest {
         ensures back { IfErr result (λ back. back ≡ shown) }
     {
         let alloc = *self.lists.allocator();
-        let count = self.lists.len();
-        if count == 0 {
-            return Err(shown);
-        }
-        let Some(innermost) = self.lists.get_mut(count - 1) else {
+        let last = self.lists.len().saturating_sub(1);
+        let Some(innermost) = self.lists.get_mut(last) else {
             return Err(shown);
         };
         innermost.append_box(alloc, shown, shift, params)
@@ -346,11 +331,8 @@ impl Nest {
         ensures value { result ≡ last_box (nodes_of (items_in (innermost self.old))) }
         ensures rest { self.new ≡ without_last self.old (innermost self.old) }
     {
-        let count = self.lists.len();
-        if count == 0 {
-            return None;
-        }
-        let Some(innermost) = self.lists.get_mut(count - 1) else {
+        let last = self.lists.len().saturating_sub(1);
+        let Some(innermost) = self.lists.get_mut(last) else {
             return None;
         };
         innermost.list.pop_box()
@@ -365,11 +347,8 @@ impl Nest {
         ensures list { IfSome result (λ packed. packed.shown.list ≡ items_in (innermost self.old)) }
     {
         let alloc = *self.lists.allocator();
-        let count = self.lists.len();
-        if count == 0 {
-            return None;
-        }
-        let Some(innermost) = self.lists.get_mut(count - 1) else {
+        let last = self.lists.len().saturating_sub(1);
+        let Some(innermost) = self.lists.get_mut(last) else {
             return None;
         };
         innermost.pack(alloc, params)
@@ -379,11 +358,8 @@ impl Nest {
     pub fn refill(&mut self, list: NodeList)
         ensures { self.new ≡ refilled self.old list (innermost self.old) }
     {
-        let count = self.lists.len();
-        if count == 0 {
-            return;
-        }
-        let Some(innermost) = self.lists.get_mut(count - 1) else {
+        let last = self.lists.len().saturating_sub(1);
+        let Some(innermost) = self.lists.get_mut(last) else {
             return;
         };
         innermost.list = list;

@@ -1,6 +1,6 @@
 //! The box registers of a job.
 
-ghost use Rattle.std.specs.Prelude.{◌≡◌, ◌<◌, List, Option, Some, None, IfOk, option_copied, replicate, slice_get, slice_set};
+ghost use Rattle.std.specs.Prelude.{◌≡◌, ◌<◌, List, Option, None, IfOk, option_copied, replicate, slice_set};
 ghost use Rattle.job_core.specs.Machine.{held_in};
 
 use crate::command::Register;

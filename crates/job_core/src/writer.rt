@@ -1,20 +1,19 @@
 //! The bytes of the pages that were shipped (DVItype, 13 to 19).
 
-ghost use Rattle.std.specs.Prelude.{◌≡◌, ◌<◌, ◌≤◌, ◌+◌, ◌*◌, ◌^◌, ◌++◌, ◌+ℤ◌, [], ◌∷◌, true, false, max, pos, negsuc, length, map, replicate, OnOk, OnErr, IfOk};
+ghost use Rattle.std.specs.Prelude.{◌≡◌, ◌<◌, ◌+◌, ◌*◌, ◌^◌, ◌++◌, ◌+ℤ◌, [], ◌∷◌, true, false, max, pos, length, map, replicate, OnOk, OnErr, IfOk};
 ghost use Rattle.std.specs.Int.{int_max};
 ghost use Rattle.dvi_ops.specs.Instruction.{Bop, Do, Eop, FontDef, Post};
 ghost use Rattle.dvi_ops.specs.declared.op.Op.TheVariants as ops;
 ghost use Rattle.dvi_ops.specs.Forest.{Forest, flat, nests};
-ghost use Rattle.dvi_ops.specs.Layout.{bytes_of, define, preamble, scaled_points, padding_after};
+ghost use Rattle.dvi_ops.specs.Layout.{bytes_of, define, padding_after};
 ghost use Rattle.dvi_ops.specs.Spelling.{HasSpelling};
 ghost use Rattle.dvi_ops.specs.View.{view};
 ghost use Rattle.std.specs.List.{AllByRecursion, list_any};
-ghost use Rattle.node_core.specs.Nodes.{box_count};
 ghost use Rattle.pack_core.specs.Totals.{fits};
 ghost use Rattle.ship_core.specs.Marks.{is_huge};
 ghost use Rattle.job_core.specs.Machine.{page_of};
 ghost use Rattle.ship_core.specs.Drawing.{body_of};
-ghost use Rattle.job_core.specs.Draft.{Draft, closed, closing, closing_ops, definition_of, definitions_of, first_draft, fresh_slots, is_among, is_fresh, reach_down, reach_right, in_rising_order, selects, whole, with_page};
+ghost use Rattle.job_core.specs.Draft.{Draft, closing, closing_ops, definition_of, definitions_of, first_draft, fresh_slots, is_among, is_fresh, reach_down, reach_right, in_rising_order, selects, whole, with_page};
 
 use crate::fonts::{Fonts, LoadedFont};
 use dvi_ops::{FontDefinition, Op, Postamble, Units, spell};

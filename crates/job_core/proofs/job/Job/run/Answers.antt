@@ -2,7 +2,7 @@ use Rattle.std.proofs.Common.{◌≡◌, ◌+◌, ◌++◌, ◌∷◌, [], take,
 use Rattle.std.proofs.lemmas.List.{take_more}
 use Rattle.job_core.specs.declared.command.Command.{Command}
 use Rattle.job_core.specs.Reply.{Reply}
-use Rattle.job_core.specs.Runs.{RunsTo}
+use Rattle.job_core.specs.Runs.{Seen, RunsTo}
 use Rattle.job_core.proofs.Moves.{runs_more}
 use Rattle.job_core.proofs.job.Job.run.Goals as goal
 
@@ -16,12 +16,15 @@ loop-command-preserved g c =
     let taken : take i commands ++ command ∷ [] ≡ take (i + 1) commands =
     sym (take_more commands i command c.loop-command-test.true ∙ ap (λ x. take i commands ++ x ∷ []) (sym c.command-item.is)) in
     let runs : RunsTo c.args.self.now (take i commands ++ command ∷ []) (added ++ reply ∷ []) c.step-reply.new.self =
-    runs_more c.args.self.now c.loop-command.self c.step-reply.new.self (take i commands) added command reply c.loop-command.invariant.ran.2 c.step-reply.ensures in
+    runs_more c.args.self.now c.loop-command.self c.step-reply.new.self (take i commands) added command reply c.loop-command.invariant.ran.2 c.step-reply.ensures.keeps in
     record {
       ran = (
         added ++ reply ∷ [],
         c.in-Ok.ensures.items ∙ (ap (λ (xs : List Reply). xs ++ reply ∷ []) c.loop-command.invariant.ran.1 ∙ append_assoc c.reserve.new.self.items added (reply ∷ [])),
         subst (λ (xs : List Command). RunsTo c.args.self.now xs (added ++ reply ∷ []) c.step-reply.new.self) taken runs,
       );
+      idle = λ over.
+          let same = c.loop-command.invariant.idle over in
+          c.step-reply.ensures.idle (ap (λ (job : Seen). job.state.over) same ∙ over) ∙ same;
       room = omega (arith, c.in-Ok.ensures.len, c.in-Ok.ensures.capacity);
     }

@@ -1,4 +1,4 @@
-use Rattle.std.proofs.Common.{◌≡◌, ◌≤◌, ◌+◌, ◌-◌, ◌++◌, List, length, take, vec_len}
+use Rattle.std.proofs.Common.{◌≡◌, true, ◌≤◌, ◌+◌, ◌-◌, ◌++◌, List, length, take, vec_len}
 use Rattle.std.specs.Prelude.{vec_capacity}
 use Rattle.job_core.specs.Reply.{Reply}
 use Rattle.job_core.specs.Runs.{RunsTo}
@@ -7,5 +7,6 @@ use Rattle.job_core.proofs.job.Job.run.Given as goal
 abbrev pub invariant-loop-command : goal.invariant-loop-command
 invariant-loop-command g l = record {
   ran : (added : List Reply) × (l.replies.items ≡ l.initial.replies.items ++ added) × RunsTo l.initial.self (take l.command-index l.commands) added l.self;
+  idle : l.initial.self.state.over ≡ true → l.self ≡ l.initial.self;
   room : vec_len l.replies + (length l.commands - l.command-index) ≤ vec_capacity l.replies;
 }
