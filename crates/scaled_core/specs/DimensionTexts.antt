@@ -55,7 +55,8 @@ abbrev pub parts_value : DimensionParts → ℤ
 parts_value p = signed p.sign (scaled_points p.unit (digits_value 10 p.whole) (decimal_fraction (fraction_digits p.fraction)))
 
 -- the text writes a dimension of that many scaled points, which may be too large to fit: an optional sign, digits with at most one
--- point among them and at least one digit, and a unit with no space before it (TeX: The Program, part 26, scan_dimen)
+-- point among them and at least one digit, and a unit with no space before it (TeX: The Program, part 26, scan_dimen; that no space,
+-- comma, second sign or other unit is taken is own)
 pub record IsDimensionText (text : List ℕ) (value : ℤ) : Type 0 where
   pub parts : DimensionParts
   pub whole : IsTrue (all_ascii_digits parts.whole)
