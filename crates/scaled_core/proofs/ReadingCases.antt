@@ -1,11 +1,11 @@
 -- What reading a text gives, case by case.
-use Rattle.std.proofs.Common.{◌≡◌, ℕ, ℤ, pos, negsuc, ◌≤◌, true, false, List, Option, Some, None, Result, Ok, Err, ◌⊎◌, ⊎_elim, inl, inr, leb, ◌↔◌, subst, ◌∙◌, refl, arith, unsigned_abs}
+use Rattle.std.proofs.Common.{◌≡◌, ℕ, ℤ, pos, negsuc, ◌≤◌, true, false, List, Option, Some, None, Result, Ok, Err, ◌⊎◌, ⊎_elim, inl, inr, ◌↔◌, subst, ◌∙◌, refl, arith, unsigned_abs}
 use Rattle.std.specs.Result.{IfOk}
-use Rattle.std.proofs.lemmas.Bool.{leb-true, le-leb, leb-false, cases_Bool}
+use Rattle.std.proofs.lemmas.Bool.{leb-true, le-leb, cases_Bool}
 use Rattle.std.proofs.lemmas.Int.{ints}
 use Rattle.scaled_core.specs.declared.fault.DimenFault.{DimenFault}
 use Rattle.scaled_core.specs.declared.fault.DimenFault.TheVariants.{TooLarge, NotADimension}
-use Rattle.scaled_core.specs.Dimensions.{Fits}
+use Rattle.scaled_core.specs.Dimensions.{Fits, fits}
 use Rattle.scaled_core.specs.DimensionTexts.{IsDimensionText, IsTooLargeText, IsNoDimension}
 use Rattle.scaled_core.specs.ParsedTexts.{dimension_value, fitted, read_dimension}
 use Rattle.scaled_core.proofs.TextLaws.{dimension_value-from_text, IsDimensionText-from_value}
@@ -18,6 +18,10 @@ Fits-from_abs (negsuc n) h = record { low = omega (arith, ints); high = omega (a
 pub abs-le_from_fits : (z : ℤ) → Fits z → unsigned_abs z ≤ 1073741823
 abs-le_from_fits (pos n) h = omega (arith, ints, h.low, h.high)
 abs-le_from_fits (negsuc n) h = omega (arith, ints, h.low, h.high)
+
+-- the test says so
+pub fits-is : (z : ℤ) → (fits z ≡ true ↔ Fits z)
+fits-is z = (λ test. Fits-from_abs z (leb-true _ _ test), λ fit. le-leb _ _ (abs-le_from_fits z fit))
 
 -- the text's dimension, which fits, is what was read
 pub record ReadsDimension (text : List ℕ) (r : Result ℤ DimenFault) : Type 0 where
@@ -37,17 +41,17 @@ pub record ReadsNothing (text : List ℕ) (r : Result ℤ DimenFault) : Type 0 w
 abbrev pub Reads : List ℕ → Result ℤ DimenFault → Type 0
 Reads text r = ReadsDimension text r ⊎ (ReadsTooLarge text r ⊎ ReadsNothing text r)
 
-fitted-yes : (z : ℤ) → leb (unsigned_abs z) 1073741823 ≡ true → fitted (Some z) ≡ Ok z
+fitted-yes : (z : ℤ) → fits z ≡ true → fitted (Some z) ≡ Ok z
 unfolding fitted
 fitted-yes z e = rw e refl
 
-fitted-no : (z : ℤ) → leb (unsigned_abs z) 1073741823 ≡ false → fitted (Some z) ≡ Err TooLarge
+fitted-no : (z : ℤ) → fits z ≡ false → fitted (Some z) ≡ Err TooLarge
 unfolding fitted
 fitted-no z e = rw e refl
 
 -- a value that fits is read
 pub fitted-fits : (z : ℤ) → Fits z → fitted (Some z) ≡ Ok z
-fitted-fits z fits = fitted-yes z (le-leb _ _ (abs-le_from_fits z fits))
+fitted-fits z fit = fitted-yes z ((fits-is z).1 fit)
 
 fitted-nothing : fitted None ≡ Err NotADimension
 unfolding fitted
@@ -59,12 +63,12 @@ no_value text e value written = let f = dimension_value-from_text text value wri
 reads_by : (text : List ℕ) (r : Result ℤ DimenFault) (v : Option ℤ) → dimension_value text ≡ v → r ≡ fitted v → Reads text r
 reads_by text r None e h = inr (inr (record { none = no_value text e; read = h ∙ fitted-nothing }))
 reads_by text r (Some z) e h = ⊎_elim
-    (λ (yes : leb (unsigned_abs z) 1073741823 ≡ true). inl (record { value = z; written = IsDimensionText-from_value text z e; fits = Fits-from_abs z (leb-true _ _ yes); read = h ∙ fitted-yes z yes }))
-    (λ (no : leb (unsigned_abs z) 1073741823 ≡ false). inr (inl (record {
-      large = record { value = z; written = IsDimensionText-from_value text z e; misfit = λ fit. absurd (omega (arith, leb-false _ _ no, abs-le_from_fits z fit)) };
+    (λ (yes : fits z ≡ true). inl (record { value = z; written = IsDimensionText-from_value text z e; fits = (fits-is z).0 yes; read = h ∙ fitted-yes z yes }))
+    (λ (no : fits z ≡ false). inr (inl (record {
+      large = record { value = z; written = IsDimensionText-from_value text z e; misfit = λ fit. let yes = (fits-is z).1 fit in absurd (cc) };
       read = h ∙ fitted-no z no;
     })))
-    (cases_Bool (leb (unsigned_abs z) 1073741823))
+    (cases_Bool (fits z))
 
 -- reading a text gives one of the three
 pub reads : (text : List ℕ) (r : Result ℤ DimenFault) → r ≡ read_dimension text → Reads text r

@@ -2,7 +2,8 @@
 use Rattle.std.specs.Prelude.{◌≡◌, ℕ, ℤ, pos, suc, unsigned_abs, if◌then◌else◌, nat_lt, nat_le, ◌*◌, ◌/◌, ◌^◌, ◌<◌, ◌≤◌, ◌<ℤ◌, ◌≤ℤ◌}
 use Rattle.scaled_core.specs.Rounding.{IsNearest, nearest}
 
--- r, about 297 t / s, for t and s above 0: the whole part of it for small t, a quotient by s / 297 for large t and s, and else t itself, which is above 1290 as 297 t / s is (TeX: The Program, part 7, badness)
+-- r, about 297 t / s, for t and s above 0: the whole part of it for small t, a quotient by s / 297 for large t and s, and else t itself,
+-- which is above 1290 as 297 t / s is (TeX: The Program, part 7, badness)
 unfoldable pub badness_ratio : ℕ → ℕ → ℕ
 badness_ratio t s = if nat_le t 7230584 then t * 297 / s else (if nat_le 1663497 s then t / (s / 297) else t)
 

@@ -11,16 +11,19 @@ use Rattle.scaled_core.specs.Units.{unit_text, scaled_points}
 unfoldable pub decimal_fraction : List ℕ → ℕ
 decimal_fraction digits = nearest (digits_value 10 (take 17 digits) * 65536) (10 ^ length (take 17 digits))
 
+-- the sign of a dimension text, or none (TeX: The Program, part 26)
 pub data Sign : Type 0 where
   unsigned : Sign
   plus : Sign
   minus : Sign
 
+-- how it is written (TeX: The Program, part 26)
 abbrev pub sign_text : Sign → List ℕ
 sign_text unsigned = []
 sign_text plus = codes "+"
 sign_text minus = codes "-"
 
+-- the number of that sign and size (own)
 abbrev pub signed : Sign → ℕ → ℤ
 signed unsigned n = pos n
 signed plus n = pos n
@@ -33,25 +36,27 @@ pub record DimensionParts : Type 0 where
   pub fraction : Option (List ℕ)
   pub unit : LengthUnit
 
--- the digits behind the point
+-- the digits behind the point, if there is one (own)
 abbrev pub fraction_digits : Option (List ℕ) → List ℕ
 fraction_digits None = []
 fraction_digits (Some digits) = digits
 
+-- the point and the digits behind it (TeX: The Program, part 26)
 abbrev pub fraction_text : Option (List ℕ) → List ℕ
 fraction_text None = []
 fraction_text (Some digits) = codes "." ++ digits
 
--- the text that the parts write
+-- the text that the parts write (TeX: The Program, part 26)
 abbrev pub parts_text : DimensionParts → List ℕ
 parts_text p = sign_text p.sign ++ (p.whole ++ (fraction_text p.fraction ++ unit_text p.unit))
 
--- its number of scaled points
+-- its number of scaled points (TeX: The Program, part 26)
 abbrev pub parts_value : DimensionParts → ℤ
 parts_value p = signed p.sign (scaled_points p.unit (digits_value 10 p.whole) (decimal_fraction (fraction_digits p.fraction)))
 
 -- the text writes a dimension of that many scaled points, which may be too large to fit: an optional sign, digits with at most one
--- point among them and at least one digit, and a unit with no space before it (TeX: The Program, part 26, scan_dimen)
+-- point among them and at least one digit, and a unit with no space before it (TeX: The Program, part 26, scan_dimen; that no space,
+-- comma, second sign or other unit is taken is own)
 pub record IsDimensionText (text : List ℕ) (value : ℤ) : Type 0 where
   pub parts : DimensionParts
   pub whole : IsTrue (all_ascii_digits parts.whole)

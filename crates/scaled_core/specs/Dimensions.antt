@@ -1,11 +1,15 @@
 -- Dimensions: whole numbers of scaled points (TeX: The Program, part 7).
-use Rattle.std.specs.Prelude.{ℕ, ℤ, pos, neg_ℤ, ◌≤ℤ◌}
+use Rattle.std.specs.Prelude.{ℕ, ℤ, Bool, pos, neg_ℤ, unsigned_abs, nat_le, ◌≤ℤ◌}
 
 -- The absolute value is at most n (own).
 pub record Within (n : ℕ) (z : ℤ) : Type 0 where
   pub low : neg_ℤ (pos n) ≤ℤ z
   pub high : z ≤ℤ pos n
 
--- A dimension fits: its absolute value is below 2^30 scaled points (TeX: The Program, part 7, max_dimen).
+-- A dimension fits: its absolute value is below 2^30 scaled points (TeX: The Program, part 7; max_dimen of part 26).
 abbrev pub Fits : ℤ → Type 0
 Fits z = Within 1073741823 z
+
+-- The same as a test (TeX: The Program, part 7).
+abbrev pub fits : ℤ → Bool
+fits z = nat_le (unsigned_abs z) 1073741823

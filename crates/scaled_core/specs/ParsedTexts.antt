@@ -1,5 +1,5 @@
--- The value of a text as a function: its parts from the left (TeX: The Program, part 26, scan_dimen).
-use Rattle.std.specs.Prelude.{◌==◌, ℕ, ℤ, pos, neg_ℤ, Bool, true, false, ◌&&◌, if◌then◌else◌, List, [], ◌∷◌, Option, None, Some, Result, Ok, Err, length, drop, option_map, unsigned_abs, nat_le}
+-- The value of a text as a function: its parts from the left (own, after TeX: The Program, part 26, scan_dimen).
+use Rattle.std.specs.Prelude.{◌==◌, ℕ, ℤ, pos, neg_ℤ, Bool, true, false, ◌&&◌, if◌then◌else◌, List, [], ◌∷◌, Option, None, Some, Result, Ok, Err, length, drop, option_map}
 use Rattle.std.specs.List.{find, prefix_len, take_while}
 use Rattle.std.specs.Char.{is_ascii_digit}
 use Rattle.std.specs.Str.{bytes_eq}
@@ -8,65 +8,69 @@ use Rattle.scaled_core.specs.declared.units.LengthUnit.{LengthUnit}
 use Rattle.scaled_core.specs.declared.units.LengthUnit.TheVariants.{Point, Inch, Pica, Centimeter, Millimeter, BigPoint, DidotPoint, Cicero, ScaledPoint}
 use Rattle.scaled_core.specs.declared.fault.DimenFault.{DimenFault}
 use Rattle.scaled_core.specs.declared.fault.DimenFault.TheVariants.{TooLarge, NotADimension}
+use Rattle.scaled_core.specs.Dimensions.{fits}
 use Rattle.scaled_core.specs.DimensionTexts.{decimal_fraction}
 use Rattle.scaled_core.specs.Units.{scaled_points, unit_text}
 
+-- all units (TeX: The Program, part 26)
 abbrev pub units : List LengthUnit
 units = Point ∷ Inch ∷ Pica ∷ Centimeter ∷ Millimeter ∷ BigPoint ∷ DidotPoint ∷ Cicero ∷ ScaledPoint ∷ []
 
--- the unit that is written so
+-- the unit that is written so (TeX: The Program, part 26)
 unfoldable pub unit_named : List ℕ → Option LengthUnit
 unit_named text = find (λ u. bytes_eq text (unit_text u)) units
 
--- a minus stands first
+-- a minus stands first (own)
 unfoldable pub is_negative : List ℕ → Bool
 is_negative [] = false
 is_negative (c ∷ cs) = c == 45
 
--- the text behind an optional sign
+-- the text behind an optional sign (own)
 unfoldable pub behind_sign : List ℕ → List ℕ
 behind_sign [] = []
 behind_sign (c ∷ cs) = if c == 45 then cs else (if c == 43 then cs else c ∷ cs)
 
--- the digits from the front on
+-- the digits from the front on (own)
 unfoldable pub front_digits : List ℕ → List ℕ
 front_digits text = take_while is_ascii_digit text
 
--- what stands behind them
+-- what stands behind them (own)
 unfoldable pub behind_digits : List ℕ → List ℕ
 behind_digits text = drop (prefix_len is_ascii_digit text) text
 
--- the digits behind a point that stands first, or none
+-- the digits behind a point that stands first, or none (own)
 unfoldable pub point_digits : List ℕ → List ℕ
 point_digits [] = []
 point_digits (c ∷ cs) = if c == 46 then front_digits cs else []
 
--- the text behind an optional point and its digits
+-- the text behind an optional point and its digits (own)
 unfoldable pub behind_fraction : List ℕ → List ℕ
 behind_fraction [] = []
 behind_fraction (c ∷ cs) = if c == 46 then behind_digits cs else c ∷ cs
 
+-- the number of that size, with a minus or without (own)
 abbrev pub with_minus : Bool → ℕ → ℤ
 with_minus true n = neg_ℤ (pos n)
 with_minus false n = pos n
 
 -- the value of a number of that sign, those digits before and behind the point, and that unit; none where there is no digit or no unit
+-- (TeX: The Program, part 26)
 unfoldable pub measured : Bool → List ℕ → List ℕ → Option LengthUnit → Option ℤ
 measured negative whole fraction unit =
     if (length whole == 0) && (length fraction == 0) then None
     else option_map (λ u. with_minus negative (scaled_points u (digits_value 10 whole) (decimal_fraction fraction))) unit
 
--- the number of scaled points that a dimension text writes; none exactly where the text is no dimension
+-- the number of scaled points that a dimension text writes; none exactly where the text is no dimension (TeX: The Program, part 26, scan_dimen)
 unfoldable pub dimension_value : List ℕ → Option ℤ
 dimension_value text =
     let number = behind_sign text in
     measured (is_negative text) (front_digits number) (point_digits (behind_digits number)) (unit_named (behind_fraction (behind_digits number)))
 
--- the dimension of that value, if there is one and it fits
+-- the dimension of that value, if there is one and it fits (own)
 unfoldable pub fitted : Option ℤ → Result ℤ DimenFault
 fitted None = Err NotADimension
-fitted (Some value) = if nat_le (unsigned_abs value) 1073741823 then Ok value else Err TooLarge
+fitted (Some value) = if fits value then Ok value else Err TooLarge
 
--- what reading a text gives: its dimension, or why there is none
+-- what reading a text gives: its dimension, or why there is none (own)
 unfoldable pub read_dimension : List ℕ → Result ℤ DimenFault
 read_dimension text = fitted (dimension_value text)

@@ -10,7 +10,8 @@ pub record IsNearest (n d q : ℕ) : Type 0 where
 unfoldable pub nearest : ℕ → ℕ → ℕ
 nearest n d = (2 * n + d) / (2 * d)
 
--- q is the whole number nearest to x / d, halves away from zero: its size is the one nearest to the size of x / d, halves upward, and it has the sign of x or is 0 (own)
+-- q is the whole number nearest to x / d, halves away from zero: its size is the one nearest to the size of x / d, halves upward, and it
+-- has the sign of x or is 0 (own)
 pub record IsRounded (x : ℤ) (d : ℕ) (q : ℤ) : Type 0 where
   pub size : IsNearest (unsigned_abs x) d (unsigned_abs q)
   pub above : pos 0 ≤ℤ x → pos 0 ≤ℤ q

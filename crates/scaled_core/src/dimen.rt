@@ -29,7 +29,7 @@ impl Dimen {
     /// No length at all: 0 sp.
     pub const ZERO: Dimen = Dimen { value: 0 };
 
-    /// The greatest length: 1073741823 sp (TeX: The Program, part 7, `max_dimen`).
+    /// The greatest length: 1073741823 sp (TeX: The Program, part 26, `max_dimen`).
     pub const MAX: Dimen = Dimen {
         value: 1_073_741_823,
     };
@@ -61,7 +61,7 @@ impl Dimen {
         })
     }
 
-    /// The number of scaled points.
+    /// The number of scaled points, from -(2^30 - 1) to 2^30 - 1.
     pub fn get(self) -> i32
         ensures value { result ≡ self }
         ensures fits { Fits result }

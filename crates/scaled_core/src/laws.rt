@@ -1,12 +1,28 @@
-//! Laws of the definitions, each on a function that does nothing.
+//! Laws of the definitions, each on a function that does nothing; and the values of the named dimensions.
 
-ghost use Rattle.std.specs.Prelude.{◌≡◌, ◌↔◌, ◌++◌, ◌+◌, ◌*◌, ◌<◌, ◌≤◌, ◌≤ℤ◌, ℕ, ℤ, pos, negsuc, List, Some, Ok, codes, length};
-ghost use Rattle.scaled_core.specs.Dimensions.{Fits};
+ghost use Rattle.std.specs.Prelude.{◌≡◌, ◌↔◌, ◌++◌, ◌+◌, ◌*◌, ◌<◌, ◌≤◌, ◌≤ℤ◌, ℕ, ℤ, pos, negsuc, List, Some, Ok, true, codes, length};
+ghost use Rattle.scaled_core.specs.Dimensions.{Fits, fits};
 ghost use Rattle.scaled_core.specs.DimensionTexts.{IsDimensionText, decimal_fraction};
 ghost use Rattle.scaled_core.specs.ParsedTexts.{dimension_value, read_dimension};
 ghost use Rattle.scaled_core.specs.PrintedDimensions.{dimension_text, print_scaled, shortest_fraction};
 ghost use Rattle.scaled_core.specs.Rounding.{IsNearest, IsRounded, nearest, rounded};
 ghost use Rattle.scaled_core.specs.Badness.{IsBadness, badness_of};
+
+use crate::dimen::Dimen;
+
+/// The test of a dimension says that a number fits.
+pub fn numbers_that_fit()
+    ensures { (z : ℤ) → (fits z ≡ true ↔ Fits z) }
+{}
+
+/// The named dimensions: no length, the greatest one, and the depth that counts as none.
+pub fn named_dimensions() -> (Dimen, Dimen, Dimen)
+    ensures zero { result.0 ≡ pos 0 }
+    ensures greatest { result.1 ≡ pos 1073741823 }
+    ensures ignored { result.2 ≡ negsuc 65535999 }
+{
+    (Dimen::ZERO, Dimen::MAX, Dimen::IGNORE_DEPTH)
+}
 
 /// A text writes a dimension exactly where `dimension_value` gives one, and it is the one that it gives: each text has at most
 /// one value.

@@ -1,6 +1,6 @@
 //! Rounding.
 
-ghost use Rattle.std.specs.Prelude.{◌≡◌, ◌*◌, ◌^◌, ◌<◌, ◌≤◌, unsigned_abs};
+ghost use Rattle.std.specs.Prelude.{◌≡◌, ◌^◌, ◌<◌, ◌≤◌, unsigned_abs};
 ghost use Rattle.scaled_core.specs.Dimensions.{Within};
 ghost use Rattle.scaled_core.specs.Rounding.{IsNearest, IsRounded, nearest, rounded};
 

@@ -9,7 +9,7 @@ use Rattle.tfm_core.specs.declared.font.GlyphSize.{GlyphSize}
 use Rattle.tfm_core.specs.declared.font.Step.{Step}
 use Rattle.tfm_core.specs.declared.font.Step.TheVariants.{Kern, Ligature}
 
--- the glyph of a character
+-- the glyph of a character (own)
 abbrev pub glyph_node : ℕ → ℕ → GlyphSize → Node
 glyph_node slot code size = Glyph (record {
   slot = slot;
@@ -27,68 +27,76 @@ step_to sizes steps c (Some d) = if is_some (sizes d) then steps c d else None
 
 -- these are the items of a word, and so many of its characters are missing, by cases on the word:
 -- it is empty; its first character is not in the font, is dropped and counted (own); nothing stands between the first character and the
--- next one; a kern stands there; a ligature's character stands for both
+-- next one; a kern stands there; a ligature's character stands for both (TeX: The Program, part 46; TFtoPL, 13)
 pub data Shaping (slot : ℕ) (sizes : ℕ → Option GlyphSize) (steps : ℕ → ℕ → Option Step) : List ℕ → List Node → ℕ → Type 0 where
   empty : Shaping slot sizes steps [] [] 0
-  missing : {c : ℕ} {word : List ℕ} {items : List Node} {n : ℕ} → sizes c ≡ None → Shaping slot sizes steps word items n → Shaping slot sizes steps (c ∷ word) items (n + 1)
-  alone : {c : ℕ} {word : List ℕ} {items : List Node} {n : ℕ} {size : GlyphSize} → sizes c ≡ Some size → step_to sizes steps c (slice_get word 0) ≡ None → Shaping slot sizes steps word items n → Shaping slot sizes steps (c ∷ word) (glyph_node slot c size ∷ items) n
-  kern : {c : ℕ} {word : List ℕ} {items : List Node} {n : ℕ} {size : GlyphSize} {width : ℤ} → sizes c ≡ Some size → step_to sizes steps c (slice_get word 0) ≡ Some (Kern width) → Shaping slot sizes steps word items n → Shaping slot sizes steps (c ∷ word) (glyph_node slot c size ∷ FontKern width ∷ items) n
-  ligature : {c d e : ℕ} {word : List ℕ} {items : List Node} {n : ℕ} {size : GlyphSize} → sizes c ≡ Some size → step_to sizes steps c (Some d) ≡ Some (Ligature e) → Shaping slot sizes steps (e ∷ word) items n → Shaping slot sizes steps (c ∷ d ∷ word) items n
+  missing : {c : ℕ} {word : List ℕ} {items : List Node} {n : ℕ} → sizes c ≡ None
+      → Shaping slot sizes steps word items n → Shaping slot sizes steps (c ∷ word) items (n + 1)
+  alone : {c : ℕ} {word : List ℕ} {items : List Node} {n : ℕ} {size : GlyphSize} → sizes c ≡ Some size
+      → step_to sizes steps c (slice_get word 0) ≡ None
+      → Shaping slot sizes steps word items n → Shaping slot sizes steps (c ∷ word) (glyph_node slot c size ∷ items) n
+  kern : {c : ℕ} {word : List ℕ} {items : List Node} {n : ℕ} {size : GlyphSize} {width : ℤ} → sizes c ≡ Some size
+      → step_to sizes steps c (slice_get word 0) ≡ Some (Kern width)
+      → Shaping slot sizes steps word items n → Shaping slot sizes steps (c ∷ word) (glyph_node slot c size ∷ FontKern width ∷ items) n
+  ligature : {c d e : ℕ} {word : List ℕ} {items : List Node} {n : ℕ} {size : GlyphSize} → sizes c ≡ Some size
+      → step_to sizes steps c (Some d) ≡ Some (Ligature e)
+      → Shaping slot sizes steps (e ∷ word) items n → Shaping slot sizes steps (c ∷ d ∷ word) items n
 
--- The same as a function: what becomes of a character, by its sizes and what stands behind it.
+-- The same as a function: what becomes of a character, by its sizes and what stands behind it (own).
 abbrev pub outcome_of : Option GlyphSize → Option Step → Outcome
 outcome_of None step = Dropped
 outcome_of (Some size) None = Alone size
 outcome_of (Some size) (Some (Kern width)) = Kerned size width
 outcome_of (Some size) (Some (Ligature e)) = Joined e
 
+-- that of a character before the one that follows, if one does (own)
 unfoldable pub outcome_at : (ℕ → Option GlyphSize) → (ℕ → ℕ → Option Step) → ℕ → Option ℕ → Outcome
 outcome_at sizes steps c following = outcome_of (sizes c) (step_to sizes steps c following)
 
--- the items that it gives
+-- the items that it gives (own)
 abbrev pub outcome_items : ℕ → ℕ → Outcome → List Node
 outcome_items slot c Dropped = []
 outcome_items slot c (Alone size) = glyph_node slot c size ∷ []
 outcome_items slot c (Kerned size width) = glyph_node slot c size ∷ FontKern width ∷ []
 outcome_items slot c (Joined e) = []
 
--- how many characters are missing by it
+-- how many characters are missing by it (own)
 abbrev pub outcome_missing : Outcome → ℕ
 outcome_missing Dropped = 1
 outcome_missing (Alone size) = 0
 outcome_missing (Kerned size width) = 0
 outcome_missing (Joined e) = 0
 
--- the character that the rest is shaped with, where d follows
+-- the character that the rest is shaped with, where d follows (own)
 abbrev pub outcome_next : ℕ → Outcome → ℕ
 outcome_next d Dropped = d
 outcome_next d (Alone size) = d
 outcome_next d (Kerned size width) = d
 outcome_next d (Joined e) = e
 
--- the items of a character and the word behind it
+-- the items of a character and the word behind it (own)
 abbrev pub items_from : ℕ → (ℕ → Option GlyphSize) → (ℕ → ℕ → Option Step) → ℕ → List ℕ → List Node
 items_from slot sizes steps c [] = outcome_items slot c (outcome_at sizes steps c None)
 items_from slot sizes steps c (d ∷ word) =
     outcome_items slot c (outcome_at sizes steps c (Some d)) ++ items_from slot sizes steps (outcome_next d (outcome_at sizes steps c (Some d))) word
 
--- how many of them are missing
+-- how many of them are missing (own)
 abbrev pub missing_from : (ℕ → Option GlyphSize) → (ℕ → ℕ → Option Step) → ℕ → List ℕ → ℕ
 missing_from sizes steps c [] = outcome_missing (outcome_at sizes steps c None)
 missing_from sizes steps c (d ∷ word) =
     outcome_missing (outcome_at sizes steps c (Some d)) + missing_from sizes steps (outcome_next d (outcome_at sizes steps c (Some d))) word
 
--- the items of a word
+-- the items of a word (own)
 abbrev pub shaped_items : ℕ → (ℕ → Option GlyphSize) → (ℕ → ℕ → Option Step) → List ℕ → List Node
 shaped_items slot sizes steps [] = []
 shaped_items slot sizes steps (c ∷ word) = items_from slot sizes steps c word
 
--- how many of its characters are missing
+-- how many of its characters are missing (own)
 abbrev pub shaped_missing : (ℕ → Option GlyphSize) → (ℕ → ℕ → Option Step) → List ℕ → ℕ
 shaped_missing sizes steps [] = 0
 shaped_missing sizes steps (c ∷ word) = missing_from sizes steps c word
 
--- a glyph is one of this slot and has the sizes of its character; no box comes of characters
+-- a glyph is one of this slot and has the sizes of its character; no box comes of characters (own)
 abbrev pub IsGlyphOf : ℕ → (ℕ → Option GlyphSize) → Node → Type 0
 IsGlyphOf slot sizes (Glyph g) = (g.slot ≡ slot) × (sizes g.code ≡ Some (record { width = g.width; height = g.height; depth = g.depth }))
 IsGlyphOf slot sizes (FontKern width) = Unit {0}

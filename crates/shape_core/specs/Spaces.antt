@@ -1,4 +1,4 @@
--- The space of a font (TFtoPL, 12).
+-- The space of a font (TFtoPL, 15).
 use Rattle.node_core.specs.declared.tree.Glue.{Glue}
 use Rattle.node_core.specs.declared.tree.Order.TheVariants.{Normal}
 use Rattle.tfm_core.specs.declared.font.Space.{Space}

@@ -6,7 +6,7 @@ use Rattle.std.proofs.lemmas.Bool.{ltb-true, leb-true, leb-false, le-ltb}
 use Rattle.std.proofs.lemmas.Option.{option_and_then_some, slice_get-get_or}
 use Rattle.tfm_core.specs.declared.record.CharInfo.{CharInfo}
 use Rattle.tfm_core.specs.declared.record.LigKernStep.{LigKernStep}
-use Rattle.tfm_core.specs.Fonts.{HasAction, HasSizes, IsWhole, SizedFont, action_of, has_action, has_sizes, matching_step}
+use Rattle.tfm_core.specs.Fonts.{HasAction, IsInTables, IsWhole, SizedFont, action_of, has_action, is_in_tables, matching_step}
 use Rattle.tfm_core.specs.Program.{first_for, info_program, is_for, is_step_for}
 use Rattle.tfm_core.proofs.ProgramLemmas.{first_for-none}
 use Rattle.tfm_core.specs.declared.font.Step.TheVariants.{Kern, Ligature}
@@ -40,9 +40,9 @@ unfolding character_at
 character_at-passes p first characters code c h e =
     list_all-at p characters (code - first) c h (with_width-is _ c (none_by (ltb code first) _ c e))
 
-HasSizes-from_test : (font : SizedFont) (c : CharInfo) → has_sizes font c ≡ true → HasSizes font c
-unfolding has_sizes
-HasSizes-from_test font c h =
+IsInTables-from_test : (font : SizedFont) (c : CharInfo) → is_in_tables font c ≡ true → IsInTables font c
+unfolding is_in_tables
+IsInTables-from_test font c h =
     let p = and_true _ _ h in
     let q = and_true _ _ p.0 in
     record {
@@ -52,10 +52,10 @@ HasSizes-from_test font c h =
     }
 
 -- and it has its sizes
-pub HasSizes-from_character : (font : SizedFont) (code : ℕ) (found : Option CharInfo) → IsWhole font → found ≡ character_at font.first font.characters code → IfSome found (HasSizes font)
-HasSizes-from_character font code None w e = tt
-HasSizes-from_character font code (Some c) w e =
-    HasSizes-from_test font c (character_at-passes (has_sizes font) font.first font.characters code c w.characters (sym e))
+pub IsInTables-from_character : (font : SizedFont) (code : ℕ) (found : Option CharInfo) → IsWhole font → found ≡ character_at font.first font.characters code → IfSome found (IsInTables font)
+IsInTables-from_character font code None w e = tt
+IsInTables-from_character font code (Some c) w e =
+    IsInTables-from_test font c (character_at-passes (is_in_tables font) font.first font.characters code c w.characters (sym e))
 
 find_split : {X : Type 0} (b : Bool) (x y : X) (rest : Option X) → cond b (Some x) rest ≡ Some y → ((b ≡ true) × (x ≡ y)) ⊎ (rest ≡ Some y)
 find_split true x y rest h = inl (refl, cc)
@@ -106,6 +106,6 @@ HasAction-from_matching font code following (Some s) w e =
     let p = first_for-parts font.steps following (info_program font.steps (character_at font.first font.characters code)) s (sym e) in
     HasAction-from_parts font following s (list_all-at (has_action font) font.steps p.0 s w.steps p.1) p.2
 
-pub ruleset glyphs = (HasSizes-from_character)
+pub ruleset glyphs = (IsInTables-from_character)
 
 pub ruleset steps = (first_for-none)

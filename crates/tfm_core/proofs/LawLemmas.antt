@@ -1,22 +1,19 @@
 -- Laws of the definitions.
-use Rattle.std.proofs.Common.{◌≡◌, ◌↔◌, ℕ, ℤ, pos, negsuc, zero, suc, ◌+◌, ◌-◌, ◌*◌, ◌<◌, ◌≤◌, Bool, true, false, cond, List, [], ◌∷◌, Option, Some, None, length, get_or, map, refl, ap, sym, ◌∙◌, subst, arith, unsigned_abs, leb, ⊎_elim}
+use Rattle.std.proofs.Common.{◌≡◌, ◌↔◌, ℕ, ℤ, pos, zero, suc, ◌+◌, ◌-◌, ◌*◌, ◌<◌, ◌≤◌, Bool, true, false, cond, List, [], ◌∷◌, Option, Some, None, length, get_or, map, refl, ap, sym, ◌∙◌, subst, arith, leb, ⊎_elim}
 use Rattle.std.specs.List.{slice_get, slice_index}
 use Rattle.std.specs.List.Sorted.{IsStrictlyIncreasing}
 use Rattle.std.specs.Option.{IsSome, is_none, option_map}
-use Rattle.std.proofs.lemmas.Bool.{cases_lt, le-leb}
+use Rattle.std.proofs.lemmas.Bool.{cases_lt}
 use Rattle.std.proofs.Math.Nat.{zero-mul}
-use Rattle.std.proofs.lemmas.Int.{ints}
 use Rattle.std.proofs.lemmas.Option.{option_and_then_some, slice_get_cases, slice_get_past}
-use Rattle.scaled_core.specs.Dimensions.{Fits}
 use Rattle.tfm_core.specs.declared.record.CharInfo.{CharInfo}
 use Rattle.tfm_core.specs.declared.record.LigKernStep.{LigKernStep}
 use Rattle.tfm_core.specs.declared.font.GlyphSize.{GlyphSize}
 use Rattle.tfm_core.specs.declared.font.Step.TheVariants.{Kern, Ligature}
-use Rattle.tfm_core.specs.Fonts.{SizedFont, action_of, font_at, glyph_of, is_dimen_at, matching_step, sizes_in, sizes_of, step_of}
+use Rattle.tfm_core.specs.Fonts.{SizedFont, action_of, font_at, glyph_of, matching_step, sizes_in, sizes_of, step_of}
 use Rattle.tfm_core.specs.MetricFile.{MetricFile}
 use Rattle.tfm_core.specs.Rules.{character_at}
 use Rattle.tfm_core.specs.Scaling.{kept_size, scaled}
-use Rattle.tfm_core.proofs.SizeLemmas.{Fits-from_test}
 use Rattle.tfm_core.specs.Program.{Takes, past, last, next, taken}
 use Rattle.tfm_core.proofs.ProgramLemmas.{taken-past, taken-last, taken-next}
 
@@ -120,13 +117,3 @@ pub glyph_of-font_at : (file : MetricFile) (size : ℤ) (code : ℕ) → glyph_o
 unfolding glyph_of font_at
 glyph_of-font_at file size code =
     map_same (sizes_of (font_at file size)) (sizes_in file size) (sizes_same file size) (character_at file.counts.first file.characters code)
-
-small_by : (z : ℤ) → Fits z → leb (unsigned_abs z) 1073741823 ≡ true
-small_by (pos n) h = let small : n ≤ 1073741823 = omega (arith, ints, h.high) in le-leb n 1073741823 small
-small_by (negsuc n) h =
-    let small : suc n ≤ 1073741823 = omega (arith, ints, h.low) in le-leb (suc n) 1073741823 small
-
--- the test of a dimension
-pub is_dimen_at-fits : (size word : ℤ) → (is_dimen_at size word ≡ true ↔ Fits (scaled size word))
-unfolding is_dimen_at
-is_dimen_at-fits size word = (λ h. Fits-from_test size word h, λ f. small_by (scaled size word) f)

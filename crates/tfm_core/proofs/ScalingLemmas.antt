@@ -1,5 +1,5 @@
 -- The bits of a size that do not count, and the floor of the product.
-use Rattle.std.proofs.Common.{◌≡◌, ℕ, ℤ, pos, negsuc, ◌+◌, ◌^◌, ◌<◌, ◌≤◌, ◌+ℤ◌, ◌*ℤ◌, ◌≤ℤ◌, ◌<ℤ◌, refl, ⊎_elim, arith, unsigned_abs, ◌∙◌, to_z, of_z, SFits, w64}
+use Rattle.std.proofs.Common.{◌≡◌, ℕ, ℤ, pos, negsuc, ◌+◌, ◌^◌, ◌<◌, ◌≤◌, ◌+ℤ◌, ◌*ℤ◌, ◌≤ℤ◌, ◌<ℤ◌, ◌↔◌, ◌-◌, ◌%◌, ap, subst, refl, ⊎_elim, arith, unsigned_abs, ◌∙◌, to_z, of_z, SFits, w64}
 use Rattle.std.proofs.lemmas.Bool.{cases_lt, lt-ltb, le-ltb}
 use Rattle.std.proofs.lemmas.Int.{ints, to_z-of_z}
 use Rattle.std.proofs.Math.Nat.{pow-le-pow_right}
@@ -66,5 +66,38 @@ IsScaled-from_floor fix size q fits e cleared = rw (to_z-of_z w64 q fits) (rw e 
 pub scaled-from_floor : (fix size q : ℤ) → SFits w64 q → q ≡ int_div_euclid (fix *ℤ pos (kept_size size)) (pos (2 ^ 20)) → to_z w64 (of_z w64 q) ≡ scaled size fix
 unfolding scaled
 scaled-from_floor fix size q fits e = to_z-of_z w64 q fits ∙ e
+
+-- one number of bits is the least
+one_least : (size j k : ℕ) → IsCleared size j → IsCleared size k → j ≡ k
+one_least size j k a b =
+    ⊎_elim
+    (λ (h : j < k). let above = b.least j h in absurd (omega (arith, a.below, above)))
+    (λ (h : k ≤ j). ⊎_elim
+    (λ (l : k < j). let above = a.least k l in absurd (omega (arith, b.below, above)))
+    (λ (l : j ≤ k). omega (arith, h, l))
+    (cases_lt k j))
+    (cases_lt j k)
+
+-- a number has one floor
+one_floor : (a p q : ℤ) → (p *ℤ pos (2 ^ 20)) ≤ℤ a → a <ℤ ((p +ℤ pos 1) *ℤ pos (2 ^ 20)) → (q *ℤ pos (2 ^ 20)) ≤ℤ a
+    → a <ℤ ((q +ℤ pos 1) *ℤ pos (2 ^ 20)) → p ≡ q
+one_floor a p q low high least most = omega (arith, ints, low, high, least, most)
+
+-- the size of a word by a definition is the one that `scaled` computes
+pub IsScaled-only : (fix size q : ℤ) → IsFontSize size → IsScaled fix size q → q ≡ scaled size fix
+unfolding scaled kept_size
+IsScaled-only fix size q font s =
+    let cleared = IsCleared-from_font_size size font in
+    let bits = one_least (unsigned_abs size) s.j (cleared_bits (unsigned_abs size)) s.cleared cleared in
+    let kept : s.kept ≡ pos (kept_size size) = s.kept_is ∙ ap (λ j. pos (unsigned_abs size - unsigned_abs size % 2 ^ j)) bits in
+    one_floor (fix *ℤ pos (kept_size size)) q (scaled size fix)
+    (subst (λ z. (q *ℤ pos (2 ^ 20)) ≤ℤ (fix *ℤ z)) kept s.low)
+    (subst (λ z. (fix *ℤ z) <ℤ ((q +ℤ pos 1) *ℤ pos (2 ^ 20))) kept s.high)
+    (floor_low (fix *ℤ pos (kept_size size))) (floor_high (fix *ℤ pos (kept_size size)))
+
+-- and back
+pub IsScaled-is : (fix size q : ℤ) → IsFontSize size → (IsScaled fix size q ↔ (q ≡ scaled size fix))
+IsScaled-is fix size q font =
+    (λ s. IsScaled-only fix size q font s, λ e. rw e (IsScaled-scaled fix size (IsCleared-from_font_size size font)))
 
 pub ruleset scaling = (IsCleared-from_font_size, IsScaled-from_floor, scaled-from_floor)

@@ -1,22 +1,20 @@
 -- Sizes of a font that fit.
-use Rattle.std.proofs.Common.{◌≡◌, ℕ, ℤ, pos, negsuc, ◌<◌, ◌≤◌, true, List, length, get_or, arith, suc, unsigned_abs, leb}
-use Rattle.std.proofs.lemmas.Bool.{leb-true}
-use Rattle.std.proofs.lemmas.Int.{ints, to_z-of_z}
+use Rattle.std.proofs.Common.{◌≡◌, ◌↔◌, ℕ, ℤ, ◌<◌, true, List, length, get_or}
+use Rattle.std.proofs.lemmas.Int.{to_z-of_z}
 use Rattle.std.proofs.lemmas.Option.{slice_get-get_or}
 use Rattle.scaled_core.specs.Dimensions.{Fits}
+use Rattle.scaled_core.proofs.ReadingCases.{fits-is}
 use Rattle.tfm_core.specs.Fonts.{are_dimens_at, is_dimen_at, is_space_at, parameter}
 use Rattle.tfm_core.specs.Scaling.{scaled}
 use Rattle.tfm_core.proofs.FontLemmas.{and_true, list_all-at}
 
-fits_by : (z : ℤ) → leb (unsigned_abs z) 1073741823 ≡ true → Fits z
-fits_by (pos n) h = let small : n ≤ 1073741823 = leb-true n 1073741823 h in record { low = omega (arith, ints); high = omega (arith, ints) }
-fits_by (negsuc n) h =
-    let small : suc n ≤ 1073741823 = leb-true (suc n) 1073741823 h in record { low = omega (arith, ints); high = omega (arith, ints) }
-
--- a dimension fits
-pub Fits-from_test : (size word : ℤ) → is_dimen_at size word ≡ true → Fits (scaled size word)
+-- the test of a dimension says that it fits
+pub is_dimen_at-fits : (size word : ℤ) → (is_dimen_at size word ≡ true ↔ Fits (scaled size word))
 unfolding is_dimen_at
-Fits-from_test size word h = fits_by (scaled size word) h
+is_dimen_at-fits size word = fits-is (scaled size word)
+
+pub Fits-from_test : (size word : ℤ) → is_dimen_at size word ≡ true → Fits (scaled size word)
+Fits-from_test size word h = (is_dimen_at-fits size word).0 h
 
 -- each of the words does
 pub dimen-at : (size : ℤ) (words : List ℤ) (i : ℕ) (d : ℤ) → are_dimens_at size words ≡ true → i < length words → is_dimen_at size (get_or words i d) ≡ true

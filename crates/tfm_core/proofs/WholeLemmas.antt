@@ -3,7 +3,7 @@ use Rattle.std.proofs.Common.{◌≡◌, ℕ, ℤ, ◌+◌, ◌*◌, Bool, true,
 use Rattle.std.specs.List.{enumerate_from, list_all, list_any}
 use Rattle.tfm_core.specs.declared.record.CharInfo.{CharInfo}
 use Rattle.tfm_core.specs.declared.record.LigKernStep.{LigKernStep}
-use Rattle.tfm_core.specs.Fonts.{IsWhole, SizedFont, are_dimens_at, fits_at, font_at, has_action, has_sizes, is_space_at}
+use Rattle.tfm_core.specs.Fonts.{IsWhole, SizedFont, are_dimens_at, fits_at, font_at, has_action, is_in_tables, is_space_at}
 use Rattle.tfm_core.specs.Scaling.{scaled}
 use Rattle.tfm_core.proofs.RuleLemmas.{or_false}
 use Rattle.tfm_core.proofs.FontLemmas.{and_true}
@@ -30,8 +30,8 @@ within f xs i h = rw (length-map xs f) (lt-ltb i (length xs) (leb-false (length 
 and_both : (a b : Bool) → a ≡ true → b ≡ true → (a && b) ≡ true
 and_both a b h e = rw (h, e) refl
 
-sizes_kept : (file : MetricFile) (size : ℤ) (c : CharInfo) → breaks_character file c ≡ false → has_sizes (font_at file size) c ≡ true
-unfolding breaks_character has_sizes font_at
+sizes_kept : (file : MetricFile) (size : ℤ) (c : CharInfo) → breaks_character file c ≡ false → is_in_tables (font_at file size) c ≡ true
+unfolding breaks_character is_in_tables font_at
 sizes_kept file size c h =
     let e = or_false _ _ h in
     let d = or_false _ _ e.0 in
@@ -60,7 +60,7 @@ action_kept file size k s h =
 pub IsWhole-font_at : (file : MetricFile) (size : ℤ) → KeepsRules file → IsWhole (font_at file size)
 unfolding font_at breaks_char_info breaks_lig_kern
 IsWhole-font_at file size k = record {
-  characters = all_from_none (breaks_character file) (has_sizes (font_at file size)) (sizes_kept file size) file.characters k.char_info;
+  characters = all_from_none (breaks_character file) (is_in_tables (font_at file size)) (sizes_kept file size) file.characters k.char_info;
   steps = all_from_none_numbered (breaks_step file) (has_action (font_at file size)) (action_kept file size) 0 file.steps k.lig_kern;
 }
 

@@ -7,20 +7,21 @@ use Rattle.tfm_core.specs.Rules.{metric_file}
 use Rattle.tfm_core.specs.Fonts.{SizedFont, fits_at, font_at, glyph_of}
 use Rattle.tfm_core.specs.NamedBytes.{NamedBytes, file_named}
 
--- The width of a character of a font, where the font has it.
+-- The width of a character of a font, where the font has it (TFtoPL, 11).
 abbrev pub width_at : SizedFont → ℤ → Option ℤ
 width_at font (pos code) = option_map (λ size. size.width) (glyph_of font code)
 width_at font (negsuc n) = None
 
--- The widths at a size of what bytes hold: of a metric file whose dimensions fit at that size.
+-- The widths at a size of what bytes hold: of a metric file whose dimensions fit at that size (own).
 abbrev pub widths_by : Result MetricFile TfmCause → ℤ → Option (ℤ → Option ℤ)
 widths_by (Err cause) size = None
 widths_by (Ok file) size = if fits_at file size then Some (width_at (font_at file size)) else None
 
+-- Those of a file, if there is one (own).
 abbrev pub widths_of_file : Option NamedBytes → ℤ → Option (ℤ → Option ℤ)
 widths_of_file None size = None
 widths_of_file (Some file) size = widths_by (metric_file file.bytes) size
 
--- The widths of a font's characters by its name and its size: those that the first file of that name gives.
+-- The widths of a font's characters by its name and its size: those that the first file of that name gives (own).
 abbrev pub file_widths : List NamedBytes → List ℕ → ℤ → Option (ℤ → Option ℤ)
 file_widths files name size = widths_of_file (file_named name files) size

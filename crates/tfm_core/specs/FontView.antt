@@ -1,7 +1,8 @@
--- A font as its fields hold it.
+-- A font as its fields hold it (own).
 use Rattle.tfm_core.specs.declared.font.Font.TheInside.{Inside}
 use Rattle.tfm_core.specs.Fonts.{IsWhole, SizedFont}
 
+-- the font of these fields (own)
 abbrev pub font_view : Inside → SizedFont
 font_view f = record {
   size = f.size;
@@ -17,5 +18,6 @@ font_view f = record {
   space = f.space;
 }
 
+-- it is whole (own)
 abbrev pub font_is_whole : Inside → Type 0
 font_is_whole f = IsWhole (font_view f)

@@ -1,9 +1,10 @@
 -- A metric file at a size (TeX: The Program, part 30).
-use Rattle.std.specs.Prelude.{◌≡◌, ◌&&◌, ◌||◌, ◌+◌, ◌-◌, ◌*◌, ◌<◌, ℕ, ℤ, pos, Bool, true, not, List, Option, Some, None, if◌then◌else◌, IsSome, get_or, is_none, length, map, nat_le, nat_lt, slice_get, unsigned_abs, unwrap_or}
+use Rattle.std.specs.Prelude.{◌≡◌, ◌&&◌, ◌||◌, ◌+◌, ◌-◌, ◌*◌, ◌<◌, ℕ, ℤ, pos, Bool, true, not, List, Option, Some, None, if◌then◌else◌, IsSome, get_or, is_none, length, map, nat_le, nat_lt, slice_get, unwrap_or}
 use Rattle.std.specs.Int.{w32}
 use Rattle.std.specs.Int.RustNames.{FitsSigned}
 use Rattle.std.specs.List.{list_all}
 use Rattle.std.specs.Option.{option_and_then, option_map}
+use Rattle.scaled_core.specs.Dimensions.{fits}
 use Rattle.tfm_core.specs.declared.font.GlyphSize.{GlyphSize}
 use Rattle.tfm_core.specs.declared.font.Space.{Space}
 use Rattle.tfm_core.specs.declared.font.Step.{Step}
@@ -61,9 +62,9 @@ font_at file size = record {
   space = space_at size file.parameters;
 }
 
--- a word's size in scaled points is below 2^30: it is a dimension (own)
+-- a word at a size fits as a dimension (own)
 unfoldable pub is_dimen_at : ℤ → ℤ → Bool
-is_dimen_at size word = nat_le (unsigned_abs (scaled size word)) 1073741823
+is_dimen_at size word = fits (scaled size word)
 
 -- so is each of them (own)
 unfoldable pub are_dimens_at : ℤ → List ℤ → Bool
@@ -124,11 +125,11 @@ unfoldable pub step_of : SizedFont → ℕ → ℕ → Option Step
 step_of font code following = option_and_then (action_of font) (matching_step font code following)
 
 -- a character's indices are within their tables (own)
-unfoldable pub has_sizes : SizedFont → CharInfo → Bool
-has_sizes font c = nat_lt c.width (length font.widths) && nat_lt c.height (length font.heights) && nat_lt c.depth (length font.depths)
+unfoldable pub is_in_tables : SizedFont → CharInfo → Bool
+is_in_tables font c = nat_lt c.width (length font.widths) && nat_lt c.height (length font.heights) && nat_lt c.depth (length font.depths)
 
 -- the same as facts (own)
-pub record HasSizes (font : SizedFont) (c : CharInfo) : Type 0 where
+pub record IsInTables (font : SizedFont) (c : CharInfo) : Type 0 where
   pub width : c.width < length font.widths
   pub height : c.height < length font.heights
   pub depth : c.depth < length font.depths
@@ -143,5 +144,5 @@ pub record HasAction (font : SizedFont) (s : LigKernStep) : Type 0 where
 
 -- all characters have sizes and all steps name what is there (own)
 pub record IsWhole (font : SizedFont) : Type 0 where
-  pub characters : list_all (has_sizes font) font.characters ≡ true
+  pub characters : list_all (is_in_tables font) font.characters ≡ true
   pub steps : list_all (has_action font) font.steps ≡ true

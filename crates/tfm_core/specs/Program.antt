@@ -12,7 +12,8 @@ use Rattle.tfm_core.specs.declared.record.Tag.TheVariants.{Plain, Program, Large
 pub data Takes (steps : List LigKernStep) : ℕ → List ℕ → Type 0 where
   past : {k : ℕ} → length steps ≤ k → Takes steps k []
   last : {k : ℕ} {s : LigKernStep} → slice_get steps k ≡ Some s → 128 ≤ s.skip → Takes steps k (k ∷ [])
-  next : {k : ℕ} {s : LigKernStep} {later : List ℕ} → slice_get steps k ≡ Some s → s.skip < 128 → Takes steps (k + (s.skip + 1)) later → Takes steps k (k ∷ later)
+  next : {k : ℕ} {s : LigKernStep} {later : List ℕ} → slice_get steps k ≡ Some s → s.skip < 128
+      → Takes steps (k + (s.skip + 1)) later → Takes steps k (k ∷ later)
 
 -- those numbers: `pass` steps are passed over, and the steps in hand count from k (own)
 abbrev pub taken_from : ℕ → ℕ → List LigKernStep → List ℕ
@@ -50,6 +51,7 @@ info_program steps (Some c) = tag_program steps c.tag
 unfoldable pub is_for : ℕ → LigKernStep → Bool
 is_for following s = (s.next == following) && nat_le s.skip 128 && ((s.op == 0) || nat_le 128 s.op)
 
+-- step k is for that following character (own)
 abbrev pub is_step_for : List LigKernStep → ℕ → ℕ → Bool
 is_step_for steps following k = option_map_or (is_for following) (slice_get steps k) false
 

@@ -96,7 +96,7 @@ abbrev pub with_width : Option Info → Option Info
 with_width None = None
 with_width (Some c) = if c.width == 0 then None else Some c
 
--- the character of a code, if it is there; the list begins with the first code
+-- the character of a code, if it is there; the list begins with the first code (TFtoPL, 11)
 unfoldable pub character_at : ℕ → List Info → ℕ → Option Info
 character_at first characters code = if nat_lt code first then None else with_width (slice_get characters (code - first))
 
@@ -106,8 +106,8 @@ names_past first characters kerns s =
     if nat_le 128 s.op then nat_le kerns (256 * (s.op - 128) + s.remainder)
     else ((s.op == 0) && is_none (character_at first characters s.remainder))
 
--- step k is a restart past the steps; or it is none, and it names past, or the next step is past the steps
--- (TeX: The Program, part 30)
+-- step k is a restart past the steps; or it is none, and it names past, or the next step is past the steps (TeX: The Program, part 30);
+-- whether the following character is there is not asked (own)
 unfoldable pub breaks_step : MetricFile → ℕ × LigKernStep → Bool
 breaks_step file (k, s) =
     if nat_lt 128 s.skip then nat_le (length file.steps) (256 * s.op + s.remainder)

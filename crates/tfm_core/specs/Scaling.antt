@@ -7,7 +7,7 @@ pub record IsFontSize (size : ℤ) : Type 0 where
   pub positive : pos 0 <ℤ size
   pub below : size <ℤ pos (2 ^ 27)
 
--- the highest of the four bytes of a signed word (TFtoPL, 8)
+-- the highest of the four bytes of a signed word (TFtoPL, 8 and 9)
 abbrev pub first_byte : ℤ → ℕ
 first_byte word = cast_unsigned w32 word / 2 ^ 24
 

@@ -12,7 +12,7 @@ from_word bytes k = drop (4 * k) bytes
 abbrev pub halfword : List ℕ → ℕ → ℕ
 halfword bytes k = big_number 2 (drop (2 * k) bytes)
 
--- what the first four bytes say as a signed number (TFtoPL, 8)
+-- what the first four bytes say as a signed number, in two's complement (TFtoPL, 9)
 abbrev pub signed_word : List ℕ → ℤ
 signed_word bytes = cast_signed w32 (big_number 4 bytes)
 

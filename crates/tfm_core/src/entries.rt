@@ -1,6 +1,6 @@
 //! The entries of a metric file, read at their places.
 
-ghost use Rattle.std.specs.Prelude.{◌≡◌, ◌+◌, ◌*◌, ◌<◌, ◌≤◌, FitsSigned, IfOk, length};
+ghost use Rattle.std.specs.Prelude.{◌≡◌, ◌+◌, ◌*◌, ◌≤◌, FitsSigned, IfOk, length};
 ghost use Rattle.std.specs.Int.{w32};
 ghost use Rattle.tfm_core.specs.Words.{from_word, signed_word, table};
 ghost use Rattle.tfm_core.specs.MetricFile.{char_info, counts_in, end_place, lig_kern_step, record_with, tag_of};

@@ -1,8 +1,8 @@
 //! Fonts: metric files at a size (TeX: The Program, part 30).
 
-ghost use Rattle.std.specs.Prelude.{◌≡◌, ◌≤◌, ◌↔◌, map, ℤ, Err, IfOk, IfSome, IsSome, IsTrue, OnOk, false, true};
+ghost use Rattle.std.specs.Prelude.{◌≡◌, ◌≤◌, ◌↔◌, map, Err, IfOk, IfSome, IsSome, OnOk, false, true};
 ghost use Rattle.tfm_core.specs.declared.fault.FontFault.TheVariants.{DimensionTooLarge};
-ghost use Rattle.tfm_core.specs.Fonts.{HasAction, HasNumbers, HasSizes, action_of, are_dimens_at, chosen_size, fits_at, font_at, glyph_of, is_dimen_at, is_space_at, matching_step, parameter, sizes_of, space_at, step_of};
+ghost use Rattle.tfm_core.specs.Fonts.{HasAction, HasNumbers, IsInTables, action_of, are_dimens_at, chosen_size, fits_at, font_at, glyph_of, is_dimen_at, is_space_at, matching_step, parameter, sizes_of, space_at, step_of};
 ghost use Rattle.tfm_core.specs.Rules.{KeepsRules, character_at};
 ghost use Rattle.tfm_core.specs.Scaling.{scaled as scaled_by};
 
@@ -17,7 +17,7 @@ use scaled_core::Dimen;
 use std::alloc::{AllocError, Global};
 use std::marker::Model;
 
-/// The sizes of a character.
+/// The sizes of a character, in scaled points (TFtoPL, 11).
 #[derive(Clone, Copy, Debug, PartialEq, Eq)]
 pub struct GlyphSize {
     pub width: Dimen,
@@ -25,7 +25,7 @@ pub struct GlyphSize {
     pub depth: Dimen,
 }
 
-/// The space between words.
+/// The space between words: parameters 2, 3 and 4 of a metric file, in scaled points (TFtoPL, 15).
 #[derive(Clone, Copy, Debug, PartialEq, Eq)]
 pub struct Space {
     pub width: Dimen,
@@ -33,7 +33,7 @@ pub struct Space {
     pub shrink: Dimen,
 }
 
-/// What a font puts between two characters.
+/// What a font puts between two characters (TFtoPL, 13).
 #[derive(Clone, Copy, Debug, PartialEq, Eq)]
 pub enum Step {
     /// A kern of that width.
@@ -80,12 +80,12 @@ fn chosen_size(tfm: &Tfm, size: Option<FontSize>) -> FontSize
     }
 }
 
-/// Whether a word is below 2^30 scaled points at a size.
+/// Whether a word at a size fits as a dimension.
 #[tactic(auto, unfolding(crate::specs::Fonts::is_dimen_at))]
 fn is_dimen_at(size: FontSize, word: i32) -> bool
     ensures { result ≡ is_dimen_at size word }
 {
-    scaled_fix(word, size).unsigned_abs() <= 1_073_741_823
+    Dimen::try_new(scaled_fix(word, size)).is_some()
 }
 
 /// Whether all of these words are.
@@ -225,14 +225,14 @@ impl Font {
         self.size
     }
 
-    /// The check sum of its metric file.
+    /// The check sum of its metric file (TFtoPL, 10).
     pub fn check_sum(&self) -> i32
         ensures { result ≡ self.now.check_sum }
     {
         self.check_sum
     }
 
-    /// The design size in scaled points.
+    /// The design size of its metric file in scaled points (TFtoPL, 10).
     pub fn design_size(&self) -> FontSize
         ensures { result ≡ self.now.design_size }
     {
@@ -250,14 +250,14 @@ impl Font {
     #[tactic(auto, using(crate::proofs::FontLemmas::glyphs))]
     fn character(&self, code: u8) -> Option<CharInfo>
         ensures value { result ≡ character_at self.now.first self.now.characters code }
-        ensures sizes { IfSome result (HasSizes self.now) }
+        ensures sizes { IfSome result (IsInTables self.now) }
     {
         character_at(self.first, &self.characters, code)
     }
 
     /// The sizes that a character names.
     fn sizes(&self, info: CharInfo) -> GlyphSize
-        requires { HasSizes self.now info }
+        requires { IsInTables self.now info }
         ensures { result ≡ sizes_of self.now info }
     {
         GlyphSize {
@@ -267,7 +267,7 @@ impl Font {
         }
     }
 
-    /// The sizes of a character, or None where it is not there. Takes no memory.
+    /// The sizes of a character, or None exactly where it is not there (TFtoPL, 11). Takes no memory.
     #[tactic(auto, unfolding(crate::specs::Fonts::glyph_of))]
     pub fn glyph(&self, code: u8) -> Option<GlyphSize>
         ensures { result ≡ glyph_of self.now code }

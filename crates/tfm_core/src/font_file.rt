@@ -1,6 +1,6 @@
 //! Font files that are handed in by name.
 
-ghost use Rattle.std.specs.Prelude.{◌≡◌, ◌<◌, length, option_copied, IfOk};
+ghost use Rattle.std.specs.Prelude.{◌≡◌, option_copied, IfOk};
 ghost use Rattle.std.specs.Option.{SomeIff};
 ghost use Rattle.tfm_core.specs.NamedBytes.{NamedBytes, IsFontName, file_named};
 

@@ -1,6 +1,6 @@
 //! Laws of the definitions, each on a function that does nothing.
 
-ghost use Rattle.std.specs.Prelude.{◌≡◌, ◌↔◌, ◌<◌, ℕ, ℤ, List, Option, Some, Ok, Err, IsSome, true};
+ghost use Rattle.std.specs.Prelude.{◌≡◌, ◌↔◌, ◌<◌, ℕ, ℤ, List, Some, Ok, Err, IsSome, true};
 ghost use Rattle.std.specs.List.Sorted.{IsStrictlyIncreasing};
 ghost use Rattle.std.specs.Option.{option_map};
 ghost use Rattle.scaled_core.specs.Dimensions.{Fits};
@@ -12,7 +12,7 @@ ghost use Rattle.tfm_core.specs.Fonts.{SizedFont, font_at, glyph_of, is_dimen_at
 ghost use Rattle.tfm_core.specs.MetricFile.{MetricFile};
 ghost use Rattle.tfm_core.specs.Program.{Takes, taken};
 ghost use Rattle.tfm_core.specs.Rules.{IsFirstBroken, IsMetricFile, character_at, metric_file};
-ghost use Rattle.tfm_core.specs.Scaling.{scaled};
+ghost use Rattle.tfm_core.specs.Scaling.{IsFontSize, IsScaled, scaled};
 
 /// `metric_file` gives the one record that stands in the bytes where they keep all rules, and else the first broken rule.
 pub fn what_bytes_hold()
@@ -37,6 +37,11 @@ pub fn ligatures_are_there()
 pub fn sizes_are_scaled_words()
     ensures { (file : MetricFile) (size : ℤ) (code : ℕ) → glyph_of (font_at file size) code
         ≡ option_map (sizes_in file size) (character_at file.counts.first file.characters code) }
+{}
+
+/// A number is the size of a fix word exactly where it is the one that `scaled` gives: there is one, for each size of a font.
+pub fn one_scaled_size()
+    ensures { (fix size q : ℤ) → IsFontSize size → (IsScaled fix size q ↔ (q ≡ scaled size fix)) }
 {}
 
 /// The test of a dimension says that it fits.

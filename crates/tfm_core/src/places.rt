@@ -1,6 +1,6 @@
 //! Where the tables of a metric file begin.
 
-ghost use Rattle.std.specs.Prelude.{◌≡◌, ◌≤◌, ◌+◌};
+ghost use Rattle.std.specs.Prelude.{◌≡◌, ◌≤◌};
 ghost use Rattle.tfm_core.specs.MetricFile.{character_count, places_of};
 
 use crate::record::Counts;

@@ -1,6 +1,6 @@
 //! The entries of a metric file (TFtoPL, 8 to 15).
 
-/// The twelve numbers at the front of a metric file.
+/// The twelve numbers at the front of a metric file (TFtoPL, 8).
 #[derive(Clone, Copy, Debug, PartialEq, Eq)]
 pub struct Counts {
     /// lf: the words of the file, of four bytes each.
@@ -29,7 +29,7 @@ pub struct Counts {
     pub parameters: u16,
 }
 
-/// What a character has beside its sizes.
+/// What a character has beside its sizes (TFtoPL, 11 and 12).
 #[derive(Clone, Copy, Debug, PartialEq, Eq)]
 pub enum Tag {
     /// Nothing.
@@ -42,7 +42,7 @@ pub enum Tag {
     Recipe(u8),
 }
 
-/// What a metric file says of a character: indices into its tables. Where the width index is 0, the character is not there.
+/// What a metric file says of a character: indices into its tables. Where the width index is 0, the character is not there (TFtoPL, 11).
 #[derive(Clone, Copy, Debug, PartialEq, Eq)]
 pub struct CharInfo {
     pub width: u8,
@@ -52,7 +52,7 @@ pub struct CharInfo {
     pub tag: Tag,
 }
 
-/// A step of the ligature/kern program.
+/// A step of the ligature/kern program (TFtoPL, 13).
 #[derive(Clone, Copy, Debug, PartialEq, Eq)]
 pub struct LigKernStep {
     /// How many steps are passed over to the next one; the program ends where it is 128 or more, and above 128 the step is no

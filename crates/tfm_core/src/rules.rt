@@ -1,6 +1,6 @@
 //! The rules of a metric file (TeX: The Program, part 30).
 
-ghost use Rattle.std.specs.Prelude.{◌≡◌, ◌+◌, ◌<◌, length};
+ghost use Rattle.std.specs.Prelude.{◌≡◌, ◌<◌, length};
 ghost use Rattle.tfm_core.specs.Rules.{begins_otherwise, begins_past, begins_wrong, breaks_char_info, breaks_character, breaks_counts, breaks_design_size, breaks_fix_word, breaks_lig_kern, breaks_step, character_at, has_large_number, has_other_distance, has_other_size, has_other_word, has_wrong_codes, is_too_short, lacks_a_table, names_past, space_words};
 
 use crate::entries::{Entries, counts};

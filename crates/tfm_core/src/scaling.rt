@@ -1,6 +1,6 @@
 //! Sizes of fonts, and the scaling of words of a metric file (TeX: The Program, part 30).
 
-ghost use Rattle.std.specs.Prelude.{◌≡◌, ◌↔◌, ◌^◌, ◌+◌, ◌*ℤ◌, ◌<◌, ◌≤ℤ◌, ◌<ℤ◌, ℤ, false, pos, IsTrue, IsSome, IfSome, FitsSigned, unsigned_abs};
+ghost use Rattle.std.specs.Prelude.{◌≡◌, ◌↔◌, ◌^◌, ◌*ℤ◌, ◌<◌, false, pos, IsTrue, IsSome, IfSome, FitsSigned, unsigned_abs};
 ghost use Rattle.std.specs.Int.{w64, int_div_euclid};
 ghost use Rattle.std.specs.Option.{SomeIff};
 ghost use Rattle.tfm_core.specs.Rules.{breaks_design_size};

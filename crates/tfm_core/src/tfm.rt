@@ -1,6 +1,6 @@
 //! Metric files.
 
-ghost use Rattle.std.specs.Prelude.{◌≡◌, ◌*◌, ◌≤◌, ℕ, ℤ, None, Ok, Err, IfOk, length};
+ghost use Rattle.std.specs.Prelude.{◌≡◌, None, Ok, Err, IfOk};
 ghost use Rattle.tfm_core.specs.declared.fault.TfmCause.{TfmCause};
 ghost use Rattle.tfm_core.specs.declared.fault.TfmFault.TheVariants.{Bad};
 ghost use Rattle.tfm_core.specs.MetricFile.{HasTables, MetricFile};
@@ -87,14 +87,14 @@ impl Tfm {
 }
 
 impl Tfm {
-    /// The check sum: the header's word 0.
+    /// The check sum: the header's word 0 (TFtoPL, 10).
     pub fn check_sum(&self) -> i32
         ensures { result ≡ self.now.check_sum }
     {
         self.entries.check_sum
     }
 
-    /// The design size in scaled points.
+    /// The design size in scaled points: a sixteenth of the header's word 1 (TFtoPL, 10).
     pub fn design_size(&self) -> FontSize
         ensures { result ≡ design_size_of self.now.design_word }
     {

@@ -1,8 +1,8 @@
 use Rattle.std.proofs.Common.{ap, ◌∙◌}
 use Rattle.tfm_core.specs.Rules.{character_at}
-use Rattle.tfm_core.proofs.FontLemmas.{HasSizes-from_character}
+use Rattle.tfm_core.proofs.FontLemmas.{IsInTables-from_character}
 use Rattle.tfm_core.proofs.font.Font.character.Goals as goal
 
 pub returns-clause-sizes : goal.returns-clause-sizes
 returns-clause-sizes c =
-    rw (← c.self.view_is) (HasSizes-from_character _ c.args.code _ c.self.invariant (c.character_at.ensures ∙ ap (λ xs. character_at c.self.inside.first xs c.args.code) c.deref.ensures.value))
+    rw (← c.self.view_is) (IsInTables-from_character _ c.args.code _ c.self.invariant (c.character_at.ensures ∙ ap (λ xs. character_at c.self.inside.first xs c.args.code) c.deref.ensures.value))
