@@ -1,7 +1,6 @@
 //! The instruction at the front of some bytes.
 
-ghost use Rattle.std.specs.Prelude.{◌≡◌, ◌≤◌, ◌<◌, ◌+◌, ◌-◌, ◌++◌, ◌^◌, [], ◌∷◌, length, option_map, pos, slice_index, take, IfOk, OnErr, ◌↔◌, ℕ};
-ghost use Rattle.byteorder.specs.Endian.{big_number};
+ghost use Rattle.std.specs.Prelude.{◌≡◌, ◌≤◌, ◌-◌, length, option_map, slice_index, take, IfOk, OnErr, ◌↔◌, ℕ};
 ghost use Rattle.dvi_ops.specs.Instruction.{Across, Downward, Instruction};
 ghost use Rattle.dvi_ops.specs.Reading.{bop_at, char_at, code_at, comment_at, definition_at, font_at, frame_at, half_at, halves_at, long_at, movement_at, names_at, plain_at, post_at, post_post_at, pre_at, read, signed_at, text_at, three_at, two_at, words};
 ghost use Rattle.dvi_ops.specs.Table.{Spells, code, signed};

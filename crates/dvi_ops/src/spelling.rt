@@ -1,8 +1,7 @@
 //! The one spelling of an instruction.
 
-ghost use Rattle.std.specs.Prelude.{◌≡◌, ◌≤◌, ◌<◌, ◌+◌, ◌++◌, ◌^◌, [], ◌∷◌, length, pos, OnOk, OnErr};
+ghost use Rattle.std.specs.Prelude.{◌≡◌, ◌≤◌, ◌<◌, ◌+◌, ◌++◌, ◌^◌, ◌∷◌, length, pos, OnOk, OnErr};
 ghost use Rattle.std.specs.List.{AllByRecursion, flat_map};
-ghost use Rattle.byteorder.specs.Endian.{big_bytes};
 ghost use Rattle.dvi_ops.specs.Instruction.{FontDef, Post};
 ghost use Rattle.dvi_ops.specs.Spelling.{HasSpelling, LeafFits, NumberFits, NumbersFit, UnitsFit, char_spelling, code_size, coded, coded_signed, definition_spelling, font_spelling, leaf_spelling, operand, post_bytes, signed_size, spelling, text_spelling, units_bytes};
 ghost use Rattle.dvi_ops.specs.Table.{Spells};
