@@ -1,13 +1,12 @@
 //! Where the items of a box stand on a page, and their marks.
 
-ghost use Rattle.std.specs.Prelude.{◌≡◌, ◌+ℤ◌, ◌+◌, ◌^◌, [], ◌∷◌, pos, true, None, is_some, IfSome};
+ghost use Rattle.std.specs.Prelude.{◌≡◌, ◌+ℤ◌, ◌+◌, ◌^◌, [], ◌∷◌, true, None, is_some, IfSome};
 ghost use Rattle.std.specs.List.{list_all};
 ghost use Rattle.scaled_core.specs.Dimensions.{Within};
-ghost use Rattle.pack_core.specs.Items.{own_size};
 ghost use Rattle.pack_core.specs.Totals.{fits};
-ghost use Rattle.ship_core.specs.Marks.{size_in, right_at, down_at, rule_below, rule_tall, rule_wide, rule_mark, box_h, box_v};
+ghost use Rattle.ship_core.specs.Marks.{size_in, right_at, down_at, rule_below, rule_tall, rule_wide, rule_mark, box_h, box_v, numbers_of};
 ghost use Rattle.ship_core.specs.Drawing.{Picture, in_front};
-ghost use Rattle.ship_core.specs.Placing.{point, Reaches, Ends, strokes_in, strokes_of, reference_h, reference_v, numbers_of};
+ghost use Rattle.ship_core.specs.Placing.{point, Reaches, Ends, strokes_in, strokes_of, reference_h, reference_v};
 ghost use Rattle.node_core.specs.declared.tree.Kind.TheVariants as kinds;
 ghost use Rattle.node_core.specs.declared.tree.Node.TheVariants as nodes;
 
