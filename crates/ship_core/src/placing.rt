@@ -85,7 +85,14 @@ pub fn point_at(kind: Kind, h: Dimen, v: i64, distance: i128) -> Option<Place>
     }
 }
 
-/// The sum of two dimensions, where it fits.
+/// The sum of two dimensions, whether it fits or not.
+fn added(a: Dimen, b: Dimen) -> i128
+    ensures { result ≡ a +ℤ b }
+{
+    i128::from(a.get()) + i128::from(b.get())
+}
+
+/// The sum of two dimensions, in scaled points; None exactly where it does not fit. That the two fit themselves is said for callers that count.
 #[tactic(auto, using(crate::proofs::Fitting::dimension_fits))]
 pub fn sum(a: Dimen, b: Dimen) -> Option<Dimen>
     ensures value { IfSome result (λ sum. sum ≡ a +ℤ b) }
@@ -93,7 +100,7 @@ pub fn sum(a: Dimen, b: Dimen) -> Option<Dimen>
     ensures first { fits a ≡ true }
     ensures second { fits b ≡ true }
 {
-    dimension(i128::from(a.get()) + i128::from(b.get()))
+    dimension(added(a, b))
 }
 
 /// A size of a rule where it stands in a box.
@@ -176,13 +183,6 @@ fn visible(height: Dimen, h: Dimen, v: Dimen, width: Dimen, end: Dimen) -> Optio
         end,
         ink: Ink::Rule(height),
     })
-}
-
-/// The sum of two dimensions, whether it fits or not.
-fn added(a: Dimen, b: Dimen) -> i128
-    ensures { result ≡ a +ℤ b }
-{
-    i128::from(a.get()) + i128::from(b.get())
 }
 
 /// The reference point of a box that stands at a place of a list of that kind, where it fits.
