@@ -3,14 +3,14 @@ use Rattle.std.proofs.Common.{◌≡◌, [], ◌∷◌, List, length, replicate,
 use Rattle.std.proofs.lemmas.Int.{ints}
 use Rattle.std.specs.Ordering.{int_eq}
 use Rattle.std.specs.List.{AllByRecursion}
-use Rattle.dvi_ops.specs.Instruction.{Definition}
+use Rattle.dvi_ops.specs.Instruction.{Across, Downward, By, Definition, SetChar, Move, FontNum}
 use Rattle.dvi_ops.specs.Spelling.{operand, signed_size, code_size, char_spelling, font_spelling, leaf_spelling, spelling, NumberFits}
 use Rattle.dvi_ops.specs.Body.{Mark, Glyph, State, Widths, acts, kept, start}
-use Rattle.dvi_ops.specs.Forest.{meaning}
+use Rattle.dvi_ops.specs.Forest.{Forest, Empty, Then, Group, meaning}
 use Rattle.dvi_ops.specs.Fonts.{Metrics, defined}
 use Rattle.dvi_ops.specs.File.{IsFile}
 use Rattle.dvi_ops.specs.Layout.{Sheet, Table, table_widths, IsTabled, IsGood}
-use Rattle.dvi_ops.specs.Examples.{one_rule_body, one_rule_marks, one_rule_file, one_rule_pages, two_page_file, two_pages, fonts_in_nested_boxes_body, fonts_in_nested_boxes_file, fonts_in_nested_boxes_pages, tiny_name, GivesTiny}
+use Rattle.dvi_ops.specs.Examples.{one_rule_body, one_rule_marks, one_rule_file, one_rule_pages, two_page_file, two_pages, fonts_in_nested_boxes_file, fonts_in_nested_boxes_pages, tiny_name, GivesTiny}
 use Rattle.dvi_ops.proofs.WholeFile.{whole_file}
 
 abbrev pub zeros : List ℤ
@@ -75,15 +75,22 @@ small_tabled = record { listed = refl; size = (omega (arith, ints), omega (arith
 pub large_tabled : IsTabled fonts large
 large_tabled = record { listed = refl; size = (omega (arith, ints), omega (arith, ints)); writable = ((lit< tt, lit< tt), (record { sfits = lit< tt }, record { sfits = lit< tt }, record { sfits = lit< tt }, record { sfits = lit< tt })) }
 
+-- The body of the page with two fonts.
+abbrev pub nested_body : Forest
+nested_body =
+    Then (Move Downward (By (pos 655360))) (Then (FontNum (pos 0)) (Then (SetChar (pos 99))
+    (Group (Then (FontNum (pos 1)) (Then (SetChar (pos 98)) Empty))
+    (Then (Move Across (By (pos 655360))) (Then (SetChar (pos 99)) Empty)))))
+
 abbrev nested_sheet : Sheet
-nested_sheet = record { counts = zeros; fresh = small ∷ large ∷ []; body = fonts_in_nested_boxes_body }
+nested_sheet = record { counts = zeros; fresh = small ∷ large ∷ []; body = nested_body }
 
 abbrev nested_marks : List Mark
 nested_marks = Glyph (pos 0) (pos 99) (pos 0) (pos 655360) ∷ Glyph (pos 1) (pos 98) (pos 327680) (pos 655360) ∷ Glyph (pos 1) (pos 99) (pos 983040) (pos 655360) ∷ []
 
 -- The meaning of the body, by the three widths that it asks for.
 nested_shows : (widths : Widths) → widths (pos 0) (pos 99) ≡ Some (pos 327680) → widths (pos 1) (pos 98) ≡ Some (pos 655360) → widths (pos 1) (pos 99) ≡ Some (pos 655360) →
-    (last : State) × (meaning (kept (acts widths)) fonts_in_nested_boxes_body start ≡ Some (nested_marks, last))
+    (last : State) × (meaning (kept (acts widths)) nested_body start ≡ Some (nested_marks, last))
 nested_shows widths a b c = (record { place = record { h = pos 1638400; v = pos 655360; held = start.place.held }; font = Some (pos 1) }, rw (a, b, c) refl)
 
 nested_good : (metrics : Metrics) → GivesTiny metrics → IsGood metrics fonts [] nested_sheet nested_marks

@@ -9,8 +9,8 @@ use Rattle.dvi_ops.specs.Tokens.{Token, written, pointers}
 use Rattle.dvi_ops.specs.Fonts.{Metrics}
 use Rattle.dvi_ops.specs.File.{Part, Idle, Defines, Shows, instructions, Page, depth_of, IsFile}
 use Rattle.dvi_ops.specs.Layout.{scaled_points, preamble, IsWritable}
-use Rattle.dvi_ops.specs.Examples.{fonts_in_nested_boxes_body, self_naming_file, stray_pop_file, short_file, miscounted_file, undefined_font_file, shallow_file, one_rule_file}
-use Rattle.dvi_ops.proofs.KnownFiles.{zeros, all_fit, small, large, small_tabled, large_tabled}
+use Rattle.dvi_ops.specs.Examples.{self_naming_file, stray_pop_file, short_file, miscounted_file, undefined_font_file, shallow_file, one_rule_file}
+use Rattle.dvi_ops.proofs.KnownFiles.{nested_body, zeros, all_fit, small, large, small_tabled, large_tabled}
 use Rattle.dvi_ops.proofs.Appends.{length-pages}
 use Rattle.dvi_ops.proofs.Frames.{one_trailer, cut_of, one_parts}
 use Rattle.dvi_ops.proofs.WholeFile.{facts_of_written}
@@ -167,7 +167,7 @@ pub shallow_is_none : (metrics : Metrics) (pages : List Page) → IsFile metrics
 unfolding spelling leaf_spelling operand signed_size code_size char_spelling font_spelling
 shallow_is_none metrics pages f =
     let found = facts_of_written (nested (pos 1)) (nested_stop 0) nested_tail 116 5 metrics pages (nested_fits 1 (lit< tt)) (nested_stop_fits 0 (lit< tt)) nested_tail_fits refl (lit< tt) (lit≤ tt) f in
-    let parts : List Part = Defines small ∷ Defines large ∷ Shows zeros (negsuc 0) fonts_in_nested_boxes_body ∷ [] in
+    let parts : List Part = Defines small ∷ Defines large ∷ Shows zeros (negsuc 0) nested_body ∷ [] in
     let same : parts ≡ found.parts = one_parts parts found.parts (tails found.front_is) in
     let depth = subst (AllByRecursion (λ part. depth_of part ≤ min 1024 0)) (sym same) found.depth in
     let one : 1 ≤ 0 = depth.1.1.0 in

@@ -1,6 +1,6 @@
--- Pages and files whose meaning is known, to hold the definitions against.
+-- Pages and files whose meaning is known, to hold the definitions against (own).
 use Rattle.std.specs.Prelude.{◌≡◌, [], ◌∷◌, ◌++◌, List, take, drop, replicate, codes, ℕ, ℤ, pos, Option, Some}
-use Rattle.dvi_ops.specs.Instruction.{Across, Downward, First, By, Set, Again, SetChar, SetRule, PutRule, Move, FontNum}
+use Rattle.dvi_ops.specs.Instruction.{Across, Downward, First, By, Set, Again, SetRule, PutRule, Move}
 use Rattle.dvi_ops.specs.Body.{Mark, Glyph, Rule}
 use Rattle.dvi_ops.specs.Forest.{Forest, Empty, Then, Group}
 use Rattle.dvi_ops.specs.Fonts.{Metrics}
@@ -86,7 +86,7 @@ two_pages =
     record { counts = replicate 10 (pos 0); marks = one_rule_marks } ∷ record { counts = pos 7 ∷ replicate 9 (pos 0); marks = one_rule_marks } ∷ []
 
 -- A file with two fonts: a glyph of the first, a group with a glyph of the second, and behind the group another glyph of the second,
--- since pop does not bring the font back.
+-- since pop does not bring the font back. Its body: down 655360, fnt_num 0, set_char 99, push, fnt_num 1, set_char 98, pop, right 655360, set_char 99.
 abbrev pub fonts_in_nested_boxes_file : List ℕ
 fonts_in_nested_boxes_file =
     0xf7 ∷ 0x02 ∷ 0x01 ∷ 0x83 ∷ 0x92 ∷ 0xc0 ∷ 0x1c ∷ 0x3b ∷ 0x00 ∷ 0x00 ∷ 0x00 ∷ 0x00 ∷ 0x03 ∷ 0xe8 ∷ 0x00 ∷ 0xf3 ∷
@@ -103,18 +103,13 @@ fonts_in_nested_boxes_file =
     0x0a ∷ 0x00 ∷ 0x00 ∷ 0x00 ∷ 0x04 ∷ 0x74 ∷ 0x69 ∷ 0x6e ∷ 0x79 ∷ 0xf9 ∷ 0x00 ∷ 0x00 ∷ 0x00 ∷ 0x74 ∷ 0x02 ∷ 0xdf ∷
     0xdf ∷ 0xdf ∷ 0xdf ∷ 0xdf ∷ []
 
--- Its body: down 655360, fnt_num 0, set_char 99, push, fnt_num 1, set_char 98, pop, right 655360, set_char 99.
-abbrev pub fonts_in_nested_boxes_body : Forest
-fonts_in_nested_boxes_body =
-    Then (Move Downward (By (pos 655360))) (Then (FontNum (pos 0)) (Then (SetChar (pos 99))
-    (Group (Then (FontNum (pos 1)) (Then (SetChar (pos 98)) Empty))
-    (Then (Move Across (By (pos 655360))) (Then (SetChar (pos 99)) Empty)))))
-
 abbrev pub fonts_in_nested_boxes_pages : List Page
 fonts_in_nested_boxes_pages =
     record {
       counts = replicate 10 (pos 0);
-      marks = Glyph (pos 0) (pos 99) (pos 0) (pos 655360) ∷ Glyph (pos 1) (pos 98) (pos 327680) (pos 655360) ∷ Glyph (pos 1) (pos 99) (pos 983040) (pos 655360) ∷ [];
+      marks =
+          Glyph (pos 0) (pos 99) (pos 0) (pos 655360) ∷ Glyph (pos 1) (pos 98) (pos 327680) (pos 655360)
+          ∷ Glyph (pos 1) (pos 99) (pos 983040) (pos 655360) ∷ [];
     } ∷ []
 
 -- The same bytes, but fnt_num 2 in the place of fnt_num 1: font 2 has no definition.

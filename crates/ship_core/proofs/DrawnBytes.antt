@@ -1,8 +1,6 @@
 -- How many bytes the body of a page takes at most.
 use Rattle.std.proofs.Common.{◌≡◌, ℕ, zero, suc, ◌+◌, ◌*◌, ◌<◌, ◌≤◌, [], ◌∷◌, ◌++◌, length, refl, arith, length-append}
 use Rattle.std.specs.Prelude.{ℤ, pos, negsuc, ◌+ℤ◌, ◌-ℤ◌, Bool, true, false, nat_lt, if◌then◌else◌, Option, Some, None}
-use Rattle.byteorder.specs.Numbers.{length-bytes_high_first}
-use Rattle.std.specs.Int.{w32, cast_unsigned}
 use Rattle.std.specs.List.{AllByRecursion}
 use Rattle.std.specs.Ordering.{int_eq}
 use Rattle.std.proofs.lemmas.Bool.{lt-ltb}
@@ -10,57 +8,40 @@ use Rattle.node_core.specs.declared.tree.Kind.{Kind}
 use Rattle.node_core.specs.declared.tree.Kind.TheVariants.{Horizontal, Vertical}
 use Rattle.node_core.specs.declared.tree.BoxNode.{BoxNode}
 use Rattle.node_core.specs.Items.{Leaf, glyph, font_kern, kern, glue, penalty, rule, EachLeaf, items_count}
-use Rattle.dvi_ops.specs.Instruction.{Axis, Across, Downward, By, Move, SetChar, FontNum, Do, Push, Pop}
+use Rattle.dvi_ops.specs.Instruction.{Axis, Across, Downward, By, Move, SetChar, SetRule, PutRule, FontNum, Do, Push, Pop}
 use Rattle.dvi_ops.specs.Body as body
 use Rattle.dvi_ops.specs.Body.{Mark, Widths}
 use Rattle.dvi_ops.specs.Forest.{Forest, Then, flat}
-use Rattle.dvi_ops.specs.Spelling.{operand, bytes_for, signed_size, code_size, char_spelling, font_spelling, spelling, leaf_spelling}
+use Rattle.dvi_ops.specs.Spelling.{operand, code_size, char_spelling, font_spelling, spelling, leaf_spelling}
 use Rattle.dvi_ops.specs.Layout.{bytes_of}
 use Rattle.dvi_ops.proofs.Layouts.{length-bytes_of-append}
+use Rattle.dvi_ops.proofs.Spelled.{operand_length}
+use Rattle.dvi_ops.proofs.Shortest.{brief_length, movement_length, one_byte}
 use Rattle.ship_core.specs.Marks.{Page, rule_below, rule_tall, rule_wide, mark_of, page_v}
 use Rattle.ship_core.specs.Drawing.{Picture, blank, stroke, group, width_in, moved_by, selected, ruled, behind_rule, font_behind, drawn, picture_of_page, body_of}
 use Rattle.ship_core.specs.Shown.{HasWidth}
 use Rattle.ship_core.proofs.DrawnMarks.{EachStroke, IsByte}
 use Rattle.ship_core.proofs.Pictures.{parts, each_rule, each_glyph, each_behind, few_parts}
 
+-- How long an operand is, under the name that the crates above cite.
 pub length-operand : (n : ℕ) (z : ℤ) → length (operand n z) ≡ n
-unfolding operand
-length-operand n z = length-bytes_high_first n (cast_unsigned w32 z)
-
-few_bytes : (m : ℕ) → bytes_for m ≤ 4
-few_bytes m = cases (nat_lt m 128) (nat_lt m 32768) (nat_lt m 8388608)
-  where
-    cases : (a b c : Bool) → (if a then 1 else if b then 2 else if c then 3 else 4) ≤ 4
-    cases true b c = omega arith
-    cases false true c = omega arith
-    cases false false true = omega arith
-    cases false false false = omega arith
-
-few_signed : (z : ℤ) → signed_size z ≤ 4
-unfolding signed_size
-few_signed (pos m) = few_bytes m
-few_signed (negsuc m) = few_bytes m
-
-length-movement : (axis : Axis) (z : ℤ) → length (spelling (Do (Move axis (By z)))) ≤ 5
-unfolding spelling leaf_spelling
-length-movement axis z = omega (arith, length-operand (signed_size z) z, few_signed z)
+length-operand = operand_length
 
 moved_bytes : (axis : Axis) (z : ℤ) (rest : Forest) → length (bytes_of (flat (moved_by axis z rest))) ≤ 5 + length (bytes_of (flat rest))
 moved_bytes axis (pos zero) rest = omega arith
 moved_bytes axis (pos (suc n)) rest =
-    omega (arith, length-append (spelling (Do (Move axis (By (pos (suc n)))))) (bytes_of (flat rest)), length-movement axis (pos (suc n)))
+    omega (arith, length-append (spelling (Do (Move axis (By (pos (suc n)))))) (bytes_of (flat rest)), movement_length axis (By (pos (suc n))))
 moved_bytes axis (negsuc n) rest =
-    omega (arith, length-append (spelling (Do (Move axis (By (negsuc n))))) (bytes_of (flat rest)), length-movement axis (negsuc n))
+    omega (arith, length-append (spelling (Do (Move axis (By (negsuc n))))) (bytes_of (flat rest)), movement_length axis (By (negsuc n)))
 
-length-rule : (kind : Kind) (height width : ℤ) → length (spelling (Do (ruled kind height width))) ≡ 9
-unfolding spelling leaf_spelling
-length-rule Horizontal height width = omega (arith, length-append (operand 4 height) (operand 4 width), length-operand 4 height, length-operand 4 width)
-length-rule Vertical height width = omega (arith, length-append (operand 4 height) (operand 4 width), length-operand 4 height, length-operand 4 width)
+length-rule : (kind : Kind) (height width : ℤ) → length (spelling (Do (ruled kind height width))) ≤ 9
+length-rule Horizontal height width = brief_length (SetRule height width) tt
+length-rule Vertical height width = brief_length (PutRule height width) tt
 
 -- The number of a font or of a character that is a byte takes one.
-one_byte : (n : ℕ) → n < 256 → code_size (pos n) ≡ 1
+byte_size : (n : ℕ) → n < 256 → code_size (pos n) ≡ 1
 unfolding code_size
-one_byte n small = rw (lt-ltb n 256 small) refl
+byte_size n small = rw (lt-ltb n 256 small) refl
 
 length-char : (code : ℤ) → IsByte code → length (spelling (Do (SetChar code))) ≤ 2
 unfolding spelling leaf_spelling char_spelling
@@ -69,7 +50,7 @@ length-char (pos n) small = by_test (nat_lt n 128)
   where
     by_test : (short : Bool) → length (if short then n ∷ [] else (127 + code_size (pos n)) ∷ operand (code_size (pos n)) (pos n)) ≤ 2
     by_test true = omega arith
-    by_test false = omega (arith, length-operand (code_size (pos n)) (pos n), one_byte n small)
+    by_test false = omega (arith, operand_length (code_size (pos n)) (pos n), byte_size n small)
 
 length-font : (font : ℤ) → IsByte font → length (spelling (Do (FontNum font))) ≤ 2
 unfolding spelling leaf_spelling font_spelling
@@ -78,7 +59,7 @@ length-font (pos n) small = by_test (nat_lt n 64)
   where
     by_test : (short : Bool) → length (if short then (171 + n) ∷ [] else (234 + code_size (pos n)) ∷ operand (code_size (pos n)) (pos n)) ≤ 2
     by_test true = omega arith
-    by_test false = omega (arith, length-operand (code_size (pos n)) (pos n), one_byte n small)
+    by_test false = omega (arith, operand_length (code_size (pos n)) (pos n), byte_size n small)
 
 selected_bytes :
     (current : Option ℤ) (font : ℤ) (rest : Forest) → IsByte font → length (bytes_of (flat (selected current font rest))) ≤ 2 + length (bytes_of (flat rest))
@@ -88,14 +69,6 @@ selected_bytes (Some current) font rest small = by_test (int_eq font current)
     by_test : (same : Bool) → length (bytes_of (flat (if same then rest else Then (FontNum font) rest))) ≤ 2 + length (bytes_of (flat rest))
     by_test true = omega arith
     by_test false = omega (arith, length-append (spelling (Do (FontNum font))) (bytes_of (flat rest)), length-font font small)
-
-length-push : length (spelling Push) ≡ 1
-unfolding spelling
-length-push = refl
-
-length-pop : length (spelling Pop) ≡ 1
-unfolding spelling
-length-pop = refl
 
 -- The font and the character of a stroke are bytes.
 abbrev pub IsOfBytes : Kind → Mark → (by : ℤ) → Type 0
@@ -137,8 +110,8 @@ drawing_bytes kind h v current (group own inner rest) (within, all) =
       length-append (spelling Push) (bytes_of (first ++ Pop ∷ others)),
       length-bytes_of-append first (Pop ∷ others),
       length-append (spelling Pop) (bytes_of others),
-      length-push,
-      length-pop,
+      one_byte.1,
+      one_byte.2,
       drawing_bytes own h v current inner within,
       drawing_bytes kind h v (font_behind current inner) rest all,
     )

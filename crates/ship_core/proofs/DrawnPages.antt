@@ -10,7 +10,7 @@ use Rattle.node_core.specs.declared.tree.BoxNode.{BoxNode}
 use Rattle.node_core.specs.Items.{Leaf, glyph, font_kern, kern, glue, penalty, rule, EachLeaf, items_depth}
 use Rattle.dvi_ops.specs.Instruction.{Instruction}
 use Rattle.dvi_ops.specs.Body as body
-use Rattle.dvi_ops.specs.Body.{Mark, State, Registers, Widths, acts, kept}
+use Rattle.dvi_ops.specs.Body.{State, Registers, Widths, acts, kept}
 use Rattle.dvi_ops.specs.Forest.{flat, meaning, nests}
 use Rattle.dvi_ops.specs.Fonts.{definition_of, definitions, selection_of, selections}
 use Rattle.dvi_ops.specs.Spelling.{HasSpelling}
@@ -20,15 +20,11 @@ use Rattle.pack_core.specs.Totals.{fits}
 use Rattle.ship_core.specs.Marks.{Page, rule_below, rule_tall, rule_wide, mark_of, marks_of_box, marks_of_page, page_v, numbers_behind, is_huge}
 use Rattle.ship_core.specs.Drawing.{width_in, picture_of_page, body_of}
 use Rattle.ship_core.specs.Shown.{HasWidth, at, NamesNoRegister}
-use Rattle.ship_core.proofs.Places.{first_of_three, second_of_three, last_of_three}
+use Rattle.ship_core.proofs.Places.{first_of_three, second_of_three, items_fit}
 use Rattle.ship_core.proofs.DrawnMarks.{EachStroke, IsDrawn, IsInked, HoldsOfAll, all_within, drawn_marks, drawn_writable, each_drawn, all_drawn, nests-drawn}
 use Rattle.ship_core.proofs.Pictures.{marks-picture, each_rule, each_glyph, each_behind, strokes_drawn, few_groups}
 
--- The numbers of the items of a page that is not huge fit, and how far it reaches down and to the right.
-pub fitting : (page : Page) → is_huge page ≡ false → list_all fits (numbers_behind page.shown page.h (page_v page) [] page.shown.list) ≡ true
-unfolding is_huge
-fitting page small = last_of_three _ _ _ small
-
+-- How far a page that is not huge reaches down and to the right fits.
 pub fits_down : (page : Page) → is_huge page ≡ false → fits (page.v +ℤ page.shown.depth) ≡ true
 unfolding is_huge
 fits_down page small =
@@ -47,7 +43,7 @@ page_drawn :
     → EachStroke (IsDrawn widths) page.shown.kind (picture_of_page page)
 page_drawn widths page small wide =
     strokes_drawn widths page.shown page.h (page_v page) [] page.shown.list wide
-    (all_within (numbers_behind page.shown page.h (page_v page) [] page.shown.list) (fitting page small))
+    (all_within (numbers_behind page.shown page.h (page_v page) [] page.shown.list) (items_fit page small))
 
 -- What is drawn shows the marks of the page, whatever w, x, y and z hold at its start.
 pub drawn_page :

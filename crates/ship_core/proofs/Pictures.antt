@@ -17,7 +17,7 @@ use Rattle.dvi_ops.specs.Body as body
 use Rattle.dvi_ops.specs.Body.{Mark, Widths}
 use Rattle.dvi_ops.proofs.Appends.{all_front, all_back}
 use Rattle.pack_core.specs.Items.{own_size}
-use Rattle.ship_core.specs.Marks.{right_at, rule_below, rule_tall, rule_wide, rule_mark, glyph_mark, mark_of, list_v, item_h, item_v, box_h, box_v, marks_behind, own_numbers, numbers_behind}
+use Rattle.ship_core.specs.Marks.{right_at, rule_below, rule_tall, rule_wide, rule_mark, glyph_mark, mark_of, list_v, item_h, item_v, box_h, box_v, marks_behind, numbers_at, numbers_behind}
 use Rattle.ship_core.specs.Drawing.{Picture, blank, stroke, group, width_in, in_front, grouped, picture_behind, behind_rule}
 use Rattle.ship_core.specs.Shown.{HasWidth}
 use Rattle.ship_core.proofs.Places.{reach}
@@ -117,16 +117,16 @@ glyph_drawn widths Horizontal h v next_h g (wide, (slot, code)) edge left low ri
 
 -- The stroke of a leaf can be drawn where its numbers fit.
 leaf_drawn :
-    (widths : Widths) (b : BoxNode) (h v : ℤ) (before : List Node) (x : Leaf) → HasWidth widths x → Within 1073741823 (item_h b h before) → Within 1073741823 (item_v b v before)
-    → Within 1073741823 (item_h b h (before ++ node_of x ∷ [])) → AllByRecursion (Within 1073741823) (own_numbers b (item_v b v before) x)
+    (widths : Widths) (b : BoxNode) (h v : ℤ) (before : List Node) (x : Leaf) → HasWidth widths x
+    → AllByRecursion (Within 1073741823) (numbers_at b h v before (node_of x))
     → AllByRecursion (λ mark. IsDrawn widths b.kind mark (width_in b x)) (mark_of b (item_h b h before) (item_v b v before) x)
-leaf_drawn widths b h v before (glyph g) wide left low right fit =
+leaf_drawn widths b h v before (glyph g) wide (left, (low, (right, fit))) =
     glyph_drawn widths b.kind (item_h b h before) (item_v b v before) (item_h b h (before ++ nodes.Glyph g ∷ [])) g wide (reach b h before (nodes.Glyph g)) left low right
-leaf_drawn widths b h v before (font_kern width) wide left low right fit = tt
-leaf_drawn widths b h v before (kern width) wide left low right fit = tt
-leaf_drawn widths b h v before (glue g) wide left low right fit = tt
-leaf_drawn widths b h v before (penalty p) wide left low right fit = tt
-leaf_drawn widths b h v before (rule r) wide left low right fit =
+leaf_drawn widths b h v before (font_kern width) wide fit = tt
+leaf_drawn widths b h v before (kern width) wide fit = tt
+leaf_drawn widths b h v before (glue g) wide fit = tt
+leaf_drawn widths b h v before (penalty p) wide fit = tt
+leaf_drawn widths b h v before (rule r) wide (left, (low, (right, (next, fit)))) =
     rule_drawn widths b.kind (item_h b h before) (item_v b v before +ℤ rule_below b.kind b r) (item_h b h (before ++ nodes.Rule r ∷ [])) (rule_tall b.kind b r)
     (rule_wide b.kind b r) (rule_end b.kind b (item_h b h before) (item_h b h (before ++ nodes.Rule r ∷ [])) r (reach b h before (nodes.Rule r))) left right fit
 
@@ -135,11 +135,11 @@ pub strokes_drawn :
     (widths : Widths) (b : BoxNode) (h v : ℤ) (before : List Node) (after : Items) → EachLeaf (HasWidth widths) after
     → AllByRecursion (Within 1073741823) (numbers_behind b h v before after) → EachStroke (IsDrawn widths) b.kind (picture_behind b h v before after)
 strokes_drawn widths b h v before none wide fit = tt
-strokes_drawn widths b h v before (leaf x after) (here, wide) (left, (low, (right, (next, fit)))) =
-    let own = own_numbers b (item_v b v before) x in
+strokes_drawn widths b h v before (leaf x after) (here, wide) fit =
+    let own = numbers_at b h v before (node_of x) in
     let rest = numbers_behind b h v (before ++ node_of x ∷ []) after in
     each_in_front (IsDrawn widths) b.kind (mark_of b (item_h b h before) (item_v b v before) x) (width_in b x) (picture_behind b h v (before ++ node_of x ∷ []) after)
-    (leaf_drawn widths b h v before x here left low right (all_front (Within 1073741823) own rest fit))
+    (leaf_drawn widths b h v before x here (all_front (Within 1073741823) own rest fit))
     (strokes_drawn widths b h v (before ++ node_of x ∷ []) after wide (all_back (Within 1073741823) own rest fit))
 strokes_drawn widths b h v before (box shift frame inner after) (within, wide) (left, (low, (right, (next, (across, (down, fit)))))) =
     let x = box_h b.kind (item_h b h before) shift in

@@ -16,9 +16,9 @@ use Rattle.pack_core.specs.Totals.{fits}
 use Rattle.pack_core.specs.Places.{place}
 use Rattle.pack_core.specs.Cursors.{Reached, reached, one_more, place_at}
 use Rattle.pack_core.proofs.Walks.{one_more-reached, place-reached, reached-passed}
-use Rattle.ship_core.specs.Marks.{Page, page_v, is_huge, right_at, down_at, list_v, item_h, item_v, box_h, box_v, numbers_behind}
+use Rattle.ship_core.specs.Marks.{Page, page_v, is_huge, right_at, down_at, list_v, item_h, item_v, box_h, box_v, numbers_at, numbers_behind}
 use Rattle.ship_core.specs.Drawing.{Picture, grouped, picture_behind}
-use Rattle.ship_core.specs.Placing.{Reaches, numbers_of, numbers_inside, numbers_between, strokes_of, strokes_at, reference_h, reference_v, inside}
+use Rattle.ship_core.specs.Placing.{Reaches, numbers_between, strokes_of, strokes_at, reference_h, reference_v}
 use Rattle.ship_core.proofs.Walked.{reach_by}
 
 -- What is left from place i on is the item there and what is left behind it.
@@ -28,6 +28,18 @@ left_at xs i x within is = rw (add-one, drop-cons xs i x) (ap (λ y. y ∷ drop 
 -- The items up to the one at place i are those before it and that one.
 pub taken_at : (xs : List Node) (i : ℕ) (x : Node) → i < length xs → x ≡ get_or xs i x → take i xs ++ x ∷ [] ≡ take (i + 1) xs
 taken_at xs i x within is = sym (take_more xs i x within ∙ ap (λ y. take i xs ++ y ∷ []) (sym is))
+
+-- The items of an item that stands at (h, v), in front of a picture: of a box its picture, as a group; and their numbers.
+abbrev pub inside : BoxNode → (h v : ℤ) → Node → Picture → Picture
+inside b h v (nodes.Box shift inner) rest =
+    grouped inner.list inner.kind
+    (picture_behind inner (box_h b.kind h shift) (list_v inner.kind inner.height (box_v b.kind v shift inner.height)) [] inner.list) rest
+inside b h v other rest = rest
+
+abbrev pub numbers_inside : BoxNode → (h v : ℤ) → Node → List ℤ
+numbers_inside b h v (nodes.Box shift inner) =
+    numbers_behind inner (box_h b.kind h shift) (list_v inner.kind inner.height (box_v b.kind v shift inner.height)) [] inner.list
+numbers_inside b h v other = []
 
 -- What is seen of an item and of the items behind it, and their numbers, by cases on the item.
 pub picture-one :
@@ -42,11 +54,6 @@ picture-one b h v before rest (nodes.Glue g) = refl
 picture-one b h v before rest (nodes.Penalty p) = refl
 picture-one b h v before rest (nodes.Rule sizes) = refl
 picture-one b h v before rest (nodes.Box shift inner) = refl
-
--- The numbers of the item x behind the items `before`, without those of its own items.
-abbrev pub numbers_at : BoxNode → (h v : ℤ) → (before : List Node) → Node → List ℤ
-numbers_at b h v before x =
-    numbers_of b (item_h b h before) (item_v b v before) (item_h b h (before ++ x ∷ [])) (item_v b v (before ++ x ∷ [])) x
 
 pub numbers-one :
     (b : BoxNode) (h v : ℤ) (before rest : List Node) (x : Node)

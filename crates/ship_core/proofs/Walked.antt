@@ -17,11 +17,11 @@ use Rattle.pack_core.specs.Totals.{fits}
 use Rattle.pack_core.specs.Places.{share, set_by}
 use Rattle.pack_core.specs.Cursors.{Reached, one_more, place_at}
 use Rattle.ship_core.specs.declared.placing.Place.{Place}
-use Rattle.ship_core.specs.Marks.{right_at, down_at, rule_below, rule_tall, rule_wide, box_h, box_v}
+use Rattle.ship_core.specs.Marks.{right_at, down_at, rule_below, rule_tall, rule_wide, box_h, box_v, numbers_of}
 use Rattle.ship_core.specs.Drawing.{Picture}
 use Rattle.ship_core.specs.declared.placing.Seen.{Seen}
 use Rattle.std.specs.Option.{IfSome}
-use Rattle.ship_core.specs.Placing.{strokes_of, point, point_in, numbers_of, numbers_between, strokes_at, Reaches}
+use Rattle.ship_core.specs.Placing.{strokes_of, point, point_in, numbers_between, strokes_at, Reaches}
 
 -- A point is at its numbers.
 pub point-is : (h v : ℤ) (p : Place) → point h v ≡ Some p → (p.h ≡ h) × (p.v ≡ v)

@@ -1,10 +1,10 @@
--- What a box puts on a page, and which numbers of a page have to fit (TeX: The Program, part 32).
+-- What a box puts on a page (TeX: The Program, part 32), and which numbers of a page have to fit (own: TeX looks at those of its box alone).
 use Rattle.std.specs.Prelude.{◌+ℤ◌, ◌-ℤ◌, ◌&&◌, ℤ, pos, Bool, not, int_lt, if◌then◌else◌, List, [], ◌∷◌, ◌++◌}
 use Rattle.std.specs.List.{list_all}
 use Rattle.node_core.specs.declared.tree.Kind.{Kind}
 use Rattle.node_core.specs.declared.tree.Kind.TheVariants.{Horizontal, Vertical}
 use Rattle.node_core.specs.declared.tree.Node.{Node}
-use Rattle.node_core.specs.declared.tree.Node.TheVariants.{Box}
+use Rattle.node_core.specs.declared.tree.Node.TheVariants as nodes
 use Rattle.node_core.specs.declared.tree.Glyph.{Glyph}
 use Rattle.node_core.specs.declared.tree.Rule.{Rule}
 use Rattle.node_core.specs.declared.tree.RuleSize.{RuleSize}
@@ -95,35 +95,35 @@ marks_behind b h v before (leaf x after) =
 marks_behind b h v before (box shift frame inner after) =
     marks_behind (box_of frame inner) (box_h b.kind (item_h b h before) shift)
     (list_v frame.kind frame.height (box_v b.kind (item_v b v before) shift frame.height)) [] inner
-    ++ marks_behind b h v (before ++ Box shift (box_of frame inner) ∷ []) after
+    ++ marks_behind b h v (before ++ nodes.Box shift (box_of frame inner) ∷ []) after
 
 -- The marks of a box whose reference point is (h, v).
 unfoldable pub marks_of_box : BoxNode → (h v : ℤ) → List Mark
 marks_of_box b h v = marks_behind b h (list_v b.kind b.height v) [] b.list
 
--- The numbers that an item adds to its place: of a rule its corner and its sizes (the width is a dimension and fits in any case).
-abbrev pub own_numbers : BoxNode → (v : ℤ) → Leaf → List ℤ
-own_numbers b v (glyph g) = []
-own_numbers b v (font_kern width) = []
-own_numbers b v (kern width) = []
-own_numbers b v (glue g) = []
-own_numbers b v (penalty p) = []
-own_numbers b v (rule sizes) = (v +ℤ rule_below b.kind b sizes) ∷ rule_tall b.kind b sizes ∷ rule_wide b.kind b sizes ∷ []
+-- The numbers of an item that stands at (h, v), where the item behind it stands at (next_h, next_v): the two places; of a rule also its corner
+-- and its sizes; of a box also its reference point. (The width of a rule fits in any case.)
+abbrev pub numbers_of : BoxNode → (h v next_h next_v : ℤ) → Node → List ℤ
+numbers_of b h v next_h next_v (nodes.Rule sizes) =
+    h ∷ v ∷ next_h ∷ next_v ∷ (v +ℤ rule_below b.kind b sizes) ∷ rule_tall b.kind b sizes ∷ rule_wide b.kind b sizes ∷ []
+numbers_of b h v next_h next_v (nodes.Box shift inner) =
+    h ∷ v ∷ next_h ∷ next_v ∷ box_h b.kind h shift ∷ box_v b.kind v shift inner.height ∷ []
+numbers_of b h v next_h next_v other = h ∷ v ∷ next_h ∷ next_v ∷ []
 
--- The numbers of the items `after`, which stand in the list of the box behind the items `before`: of each its place and the place behind it;
--- of a leaf its own; of a box its reference point and the numbers of its items.
+-- The numbers of the item x behind the items `before`, in a list that begins at (h, v); those of its own items do not count.
+abbrev pub numbers_at : BoxNode → (h v : ℤ) → (before : List Node) → Node → List ℤ
+numbers_at b h v before x =
+    numbers_of b (item_h b h before) (item_v b v before) (item_h b h (before ++ x ∷ [])) (item_v b v (before ++ x ∷ [])) x
+
+-- The numbers of the items `after`, which stand in the list of the box behind the items `before`, and of the items of boxes among them.
 abbrev pub numbers_behind : BoxNode → (h v : ℤ) → (before : List Node) → (after : Items) → List ℤ
 numbers_behind b h v before none = []
-numbers_behind b h v before (leaf x after) =
-    item_h b h before ∷ item_v b v before ∷ item_h b h (before ++ node_of x ∷ []) ∷ item_v b v (before ++ node_of x ∷ [])
-    ∷ (own_numbers b (item_v b v before) x ++ numbers_behind b h v (before ++ node_of x ∷ []) after)
+numbers_behind b h v before (leaf x after) = numbers_at b h v before (node_of x) ++ numbers_behind b h v (before ++ node_of x ∷ []) after
 numbers_behind b h v before (box shift frame inner after) =
-    item_h b h before ∷ item_v b v before ∷ item_h b h (before ++ Box shift (box_of frame inner) ∷ [])
-    ∷ item_v b v (before ++ Box shift (box_of frame inner) ∷ []) ∷ box_h b.kind (item_h b h before) shift
-    ∷ box_v b.kind (item_v b v before) shift frame.height
-    ∷ (numbers_behind (box_of frame inner) (box_h b.kind (item_h b h before) shift)
+    numbers_at b h v before (nodes.Box shift (box_of frame inner))
+    ++ (numbers_behind (box_of frame inner) (box_h b.kind (item_h b h before) shift)
     (list_v frame.kind frame.height (box_v b.kind (item_v b v before) shift frame.height)) [] inner
-    ++ numbers_behind b h v (before ++ Box shift (box_of frame inner) ∷ []) after)
+    ++ numbers_behind b h v (before ++ nodes.Box shift (box_of frame inner) ∷ []) after)
 
 -- A page: its ten counts, and a box with its reference point.
 pub record Page : Type 0 where

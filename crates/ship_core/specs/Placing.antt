@@ -14,13 +14,13 @@ use Rattle.dvi_ops.specs.Forest.{flat}
 use Rattle.dvi_ops.specs.View.{view}
 use Rattle.pack_core.specs.Items.{own_size}
 use Rattle.pack_core.specs.Totals.{fits}
-use Rattle.ship_core.specs.Marks.{right_at, down_at, rule_below, rule_tall, rule_wide, box_h, box_v, list_v, mark_of, numbers_behind}
+use Rattle.ship_core.specs.Marks.{right_at, down_at, box_h, box_v, mark_of, numbers_of}
 use Rattle.ship_core.specs.declared.placing.Place.{Place}
 use Rattle.ship_core.specs.declared.placing.Ink.{Ink}
 use Rattle.ship_core.specs.declared.placing.Ink.TheVariants as ink
 use Rattle.ship_core.specs.declared.placing.MarkAt.{MarkAt}
 use Rattle.ship_core.specs.declared.drawing.Drawing.{Drawing}
-use Rattle.ship_core.specs.Drawing.{Picture, stroke, width_in, in_front, grouped, picture_behind, ruled, behind_rule, font_behind, drawn}
+use Rattle.ship_core.specs.Drawing.{Picture, stroke, width_in, in_front, ruled, behind_rule, font_behind, drawn}
 
 -- A point of a page, where both numbers fit.
 abbrev pub point : (h v : ℤ) → Option Place
@@ -97,32 +97,6 @@ reference_h kind h other = h
 abbrev pub reference_v : Kind → (v : ℤ) → Node → ℤ
 reference_v kind v (nodes.Box shift inner) = box_v kind v shift inner.height
 reference_v kind v other = v
-
--- The picture of the list of a box whose reference point is (h, v), and the numbers of its items.
-abbrev pub picture_of : BoxNode → (h v : ℤ) → Picture
-picture_of b h v = picture_behind b h (list_v b.kind b.height v) [] b.list
-
-abbrev pub numbers_in : BoxNode → (h v : ℤ) → List ℤ
-numbers_in b h v = numbers_behind b h (list_v b.kind b.height v) [] b.list
-
--- The items of an item that stands at (h, v), in front of a picture: of a box its picture, as a group; and their numbers.
-abbrev pub inside : BoxNode → (h v : ℤ) → Node → Picture → Picture
-inside b h v (nodes.Box shift inner) rest =
-    grouped inner.list inner.kind (picture_of inner (box_h b.kind h shift) (box_v b.kind v shift inner.height)) rest
-inside b h v other rest = rest
-
-abbrev pub numbers_inside : BoxNode → (h v : ℤ) → Node → List ℤ
-numbers_inside b h v (nodes.Box shift inner) = numbers_in inner (box_h b.kind h shift) (box_v b.kind v shift inner.height)
-numbers_inside b h v other = []
-
--- The numbers of an item that stands at (h, v) before the place (next_h, next_v): the two places, of a rule its corner and its sizes, and of
--- a box its reference point.
-abbrev pub numbers_of : BoxNode → (h v next_h next_v : ℤ) → Node → List ℤ
-numbers_of b h v next_h next_v (nodes.Rule sizes) =
-    h ∷ v ∷ next_h ∷ next_v ∷ (v +ℤ rule_below b.kind b sizes) ∷ rule_tall b.kind b sizes ∷ rule_wide b.kind b sizes ∷ []
-numbers_of b h v next_h next_v (nodes.Box shift inner) =
-    h ∷ v ∷ next_h ∷ next_v ∷ box_h b.kind h shift ∷ box_v b.kind v shift inner.height ∷ []
-numbers_of b h v next_h next_v other = h ∷ v ∷ next_h ∷ next_v ∷ []
 
 -- Where an item of a box stands at a place of its list, which begins at (h, v).
 abbrev pub point_in : BoxNode → (h v place : ℤ) → Option Place

@@ -1,13 +1,12 @@
 //! Where the items of a box stand on a page, and their marks.
 
-ghost use Rattle.std.specs.Prelude.{◌≡◌, ◌+ℤ◌, ◌+◌, ◌^◌, [], ◌∷◌, pos, true, None, is_some, IfSome};
+ghost use Rattle.std.specs.Prelude.{◌≡◌, ◌+ℤ◌, ◌+◌, ◌^◌, [], ◌∷◌, true, None, is_some, IfSome};
 ghost use Rattle.std.specs.List.{list_all};
 ghost use Rattle.scaled_core.specs.Dimensions.{Within};
-ghost use Rattle.pack_core.specs.Items.{own_size};
 ghost use Rattle.pack_core.specs.Totals.{fits};
-ghost use Rattle.ship_core.specs.Marks.{size_in, right_at, down_at, rule_below, rule_tall, rule_wide, rule_mark, box_h, box_v};
+ghost use Rattle.ship_core.specs.Marks.{size_in, right_at, down_at, rule_below, rule_tall, rule_wide, rule_mark, box_h, box_v, numbers_of};
 ghost use Rattle.ship_core.specs.Drawing.{Picture, in_front};
-ghost use Rattle.ship_core.specs.Placing.{point, Reaches, Ends, strokes_in, strokes_of, reference_h, reference_v, numbers_of};
+ghost use Rattle.ship_core.specs.Placing.{point, Reaches, Ends, strokes_in, strokes_of, reference_h, reference_v};
 ghost use Rattle.node_core.specs.declared.tree.Kind.TheVariants as kinds;
 ghost use Rattle.node_core.specs.declared.tree.Node.TheVariants as nodes;
 
@@ -86,7 +85,14 @@ pub fn point_at(kind: Kind, h: Dimen, v: i64, distance: i128) -> Option<Place>
     }
 }
 
-/// The sum of two dimensions, where it fits.
+/// The sum of two dimensions, whether it fits or not.
+fn added(a: Dimen, b: Dimen) -> i128
+    ensures { result ≡ a +ℤ b }
+{
+    i128::from(a.get()) + i128::from(b.get())
+}
+
+/// The sum of two dimensions, in scaled points; None exactly where it does not fit. That the two fit themselves is said for callers that count.
 #[tactic(auto, using(crate::proofs::Fitting::dimension_fits))]
 pub fn sum(a: Dimen, b: Dimen) -> Option<Dimen>
     ensures value { IfSome result (λ sum. sum ≡ a +ℤ b) }
@@ -94,7 +100,7 @@ pub fn sum(a: Dimen, b: Dimen) -> Option<Dimen>
     ensures first { fits a ≡ true }
     ensures second { fits b ≡ true }
 {
-    dimension(i128::from(a.get()) + i128::from(b.get()))
+    dimension(added(a, b))
 }
 
 /// A size of a rule where it stands in a box.
@@ -177,13 +183,6 @@ fn visible(height: Dimen, h: Dimen, v: Dimen, width: Dimen, end: Dimen) -> Optio
         end,
         ink: Ink::Rule(height),
     })
-}
-
-/// The sum of two dimensions, whether it fits or not.
-fn added(a: Dimen, b: Dimen) -> i128
-    ensures { result ≡ a +ℤ b }
-{
-    i128::from(a.get()) + i128::from(b.get())
 }
 
 /// The reference point of a box that stands at a place of a list of that kind, where it fits.

@@ -8,8 +8,7 @@ use Rattle.pack_core.specs.Totals.{fits}
 use Rattle.pack_core.specs.Cursors.{one_more}
 use Rattle.pack_core.proofs.Walks.{reached-more}
 use Rattle.ship_core.specs.Marks.{item_h, item_v, numbers_behind}
-use Rattle.ship_core.specs.Placing.{numbers_inside}
-use Rattle.ship_core.proofs.Places.{fits_more, item_fits, inner_begin, inner_numbers, inner_depth, leaf_numbers, rest_of_and, first_false, second_false, few_passed, reached-none}
+use Rattle.ship_core.proofs.Places.{numbers_inside, fits_more, item_fits, inner_begin, inner_numbers, inner_depth, leaf_numbers, rest_of_and, first_false, second_false, few_passed, reached-none}
 use Rattle.ship_core.proofs.page_plan.+all_fit.Goals as goal
 use Rattle.ship_core.proofs.page_plan.+all_fit.Goals.{in-Box+else-not-all_fit, in_default-node}
 

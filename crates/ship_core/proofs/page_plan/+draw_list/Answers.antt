@@ -9,10 +9,10 @@ use Rattle.pack_core.specs.Cursors.{one_more}
 use Rattle.pack_core.proofs.Walks.{reached-more}
 use Rattle.ship_core.specs.Marks.{item_h, item_v, box_h, box_v, list_v, numbers_behind}
 use Rattle.ship_core.specs.Drawing.{group, picture_behind}
-use Rattle.ship_core.specs.Placing.{strokes_in, inside, makes, leaves}
+use Rattle.ship_core.specs.Placing.{strokes_in, makes, leaves}
 use Rattle.ship_core.specs.declared.placing.Place.{Place}
 use Rattle.ship_core.proofs.Drawings.{Draws, then_draws, same_picture, same_drawing, grouped-none, grouped-some, drawn_group}
-use Rattle.ship_core.proofs.Places.{picture_left, fits_more, picture_more, item_fits, item_strokes, inner_begin, inner_numbers, inner_picture, inner_depth, leaf_picture, first_of_and, last_of_and, rest_of_and, no_rest, few_passed, reached-none}
+use Rattle.ship_core.proofs.Places.{inside, picture_left, fits_more, picture_more, item_fits, item_strokes, inner_begin, inner_numbers, inner_picture, inner_depth, leaf_picture, first_of_and, last_of_and, rest_of_and, no_rest, few_passed, reached-none}
 use Rattle.ship_core.proofs.page_plan.+draw_list.Goals as goal
 use Rattle.ship_core.proofs.page_plan.+draw_list.Goals.{in-Box+then-not-is_empty+in_ok-before+in_ok-draw_list+in_ok-close, in-Box+else-not-is_empty, in_default-node}
 
