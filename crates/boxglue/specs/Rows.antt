@@ -1,7 +1,7 @@
 -- Known texts of answers (own).
 use Rattle.std.specs.Prelude.{◌≡◌, pos, [], ◌∷◌, Ok, Err, codes}
-use Rattle.job_core.specs.declared.command.Answer.TheVariants.{Done, Packed, Shaped, Shipped}
-use Rattle.job_core.specs.declared.command.Refusal.TheVariants.{NoFont, BadTfm, SlotTaken, ListsOpen}
+use Rattle.command_core.specs.declared.command.Answer.TheVariants.{Done, Packed, Shaped, Shipped}
+use Rattle.command_core.specs.declared.command.Refusal.TheVariants.{NoFont, BadTfm, SlotTaken, ListsOpen}
 use Rattle.tfm_core.specs.declared.fault.TfmCause.TheVariants.{Counts}
 use Rattle.boxglue.specs.Texts.{answers_text}
 

@@ -2,15 +2,15 @@
 use Rattle.std.specs.Prelude.{◌≡◌, ◌⊎◌, ◌&&◌, ◌++◌, ℕ, Bool, false, List, [], length, map, Option, Some, IfSome, Result, Err, IfOk, OnOk, is_ok}
 use Rattle.std.specs.List.{list_all}
 use Rattle.std.specs.Io.KnownBytes.{Appends, Keeps}
-use Rattle.job_core.specs.declared.command.Command.{Command}
-use Rattle.job_core.specs.declared.command.Refusal.{Refusal}
-use Rattle.job_core.specs.declared.command.Refusal.TheVariants as refusals
-use Rattle.job_core.specs.declared.command.Summary.{Summary}
-use Rattle.job_core.specs.Reply.{Reply}
+use Rattle.command_core.specs.declared.command.Command.{Command}
+use Rattle.command_core.specs.declared.command.Refusal.{Refusal}
+use Rattle.command_core.specs.declared.command.Refusal.TheVariants as refusals
+use Rattle.command_core.specs.declared.command.Summary.{Summary}
+use Rattle.command_core.specs.Reply.{Reply}
 use Rattle.tfm_core.specs.NamedBytes.{NamedBytes}
 use Rattle.job_core.specs.Told.{IsFrontOf}
 use Rattle.dvi_ops.specs.Fonts.{Metrics}
-use Rattle.job_core.specs.Draft.{file_of}
+use Rattle.dvi_write.specs.Draft.{file_of}
 use Rattle.job_core.specs.Shown.{GivesFiles, IsFileOf}
 use Rattle.job_core.specs.Machine.{Machine, first_machine}
 use Rattle.job_core.specs.Runs.{Run, Finishes}

@@ -2,13 +2,13 @@
 use Rattle.std.proofs.Common.{◌≡◌, ◌≢◌, ℕ, ◌<◌, Bool, true, false, List, [], ◌∷◌, ◌++◌, length, take, Option, Some, None, Ok, Err, refl, ap, sym, ◌∙◌}
 use Rattle.std.specs.Prelude.{◌==◌, not, IfSome}
 use Rattle.std.proofs.lemmas.List.{nil_from_length}
-use Rattle.job_core.specs.declared.command.Refusal.TheVariants.{OutOfMemory, Device, JobOver, ListsOpen}
-use Rattle.job_core.specs.declared.command.Summary.{Summary}
+use Rattle.command_core.specs.declared.command.Refusal.TheVariants.{OutOfMemory, Device, JobOver, ListsOpen}
+use Rattle.command_core.specs.declared.command.Summary.{Summary}
 use Rattle.job_core.specs.Told.{grown, GrowsByFront, IsFrontOf}
-use Rattle.job_core.specs.FontSlots.{Slots}
+use Rattle.dvi_write.specs.Fonts.{Slots}
 use Rattle.ship_core.specs.Marks.{Page}
 use Rattle.job_core.specs.Machine.{State, Machine, first_of, stopped}
-use Rattle.job_core.specs.Draft.{draft_of, whole, file_of}
+use Rattle.dvi_write.specs.Draft.{draft_of, whole, file_of}
 use Rattle.job_core.specs.Runs.{Seen, finish_checks, Finished, Refuses, WantsMemory, LostDevice, Holds, FinishesTo}
 
 true_or_false : {b : Bool} → b ≡ true → b ≡ false → ⊥

@@ -5,7 +5,7 @@ use Rattle.std.proofs.lemmas.List.{nil_from_length}
 use Rattle.dvi_ops.specs.Fonts.{Metrics}
 use Rattle.job_core.specs.Told.{grown}
 use Rattle.job_core.specs.Machine.{State, Machine}
-use Rattle.job_core.specs.Draft.{Draft, draft_of, file_of, whole}
+use Rattle.dvi_write.specs.Draft.{Draft, draft_of, file_of, whole}
 use Rattle.job_core.specs.Runs.{Seen, Holds}
 use Rattle.job_core.specs.Room.{HasRoom}
 use Rattle.job_core.specs.Loaded.{AreLoaded}

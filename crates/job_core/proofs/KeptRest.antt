@@ -4,13 +4,13 @@ use Rattle.std.specs.Prelude.{ℤ}
 use Rattle.node_core.specs.declared.tree.BoxNode.{BoxNode}
 use Rattle.pack_core.specs.declared.pack.Packed as packs
 use Rattle.job_core.specs.declared.nest.OpenList.{OpenList}
-use Rattle.job_core.specs.declared.command.Taking.{Taking}
+use Rattle.command_core.specs.declared.command.Taking.{Taking}
 use Rattle.job_core.specs.Machine.{State, innermost, outer, packed_list, held_in, with_home, with_closed, with_used, with_unboxed, checks, first_of, state_by, after, state_after}
-use Rattle.job_core.specs.declared.command.BoxUse.{BoxUse}
-use Rattle.job_core.specs.declared.command.Unboxing.{Unboxing}
-use Rattle.job_core.specs.declared.command.Refusal.{Refusal}
-use Rattle.job_core.specs.declared.command.Command.{Command}
-use Rattle.job_core.specs.declared.command.Command.TheVariants.{LoadFont, UseFont, Open, End, Text, Character, Rule, Kern, Glue, Penalty, Append, Unbox, LastBox, Measure, Void, Set, Ship}
+use Rattle.command_core.specs.declared.command.BoxUse.{BoxUse}
+use Rattle.command_core.specs.declared.command.Unboxing.{Unboxing}
+use Rattle.command_core.specs.declared.command.Refusal.{Refusal}
+use Rattle.command_core.specs.declared.command.Command.{Command}
+use Rattle.command_core.specs.declared.command.Command.TheVariants.{LoadFont, UseFont, Open, End, Text, Character, Rule, Kern, Glue, Penalty, Append, Unbox, LastBox, Measure, Void, Set, Ship}
 
 pub record KeepsRest (s t : State) : Type 0 where
   pub files : t.files ≡ s.files

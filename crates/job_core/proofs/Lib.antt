@@ -3,9 +3,7 @@ pub mod Leaves
 pub mod KeptRest
 pub mod Nests
 pub mod PackedItems
-pub mod Spelled
 pub mod Tellings
-pub mod PageBytes
 pub mod Moves
 pub mod Endings
 pub mod Refusals
@@ -13,8 +11,6 @@ pub mod FileLaws
 pub mod FinishedFiles
 pub mod ClosedFiles
 pub mod WholeRuns
-pub mod FreshFonts
-pub mod DefinedFonts
 pub mod PageFonts
 pub mod SizedGlyphs
 pub mod LoadedFonts

@@ -11,12 +11,13 @@ use Rattle.tfm_core.specs.Rules.{metric_file}
 use Rattle.tfm_core.specs.Fonts.{SizedFont, HasNumbers, chosen_size, fits_at, font_at, glyph_of}
 use Rattle.tfm_core.specs.FileWidths.{file_widths, widths_of_file, widths_by, width_at}
 use Rattle.tfm_core.proofs.ByteLemmas.{byte-glyph_of}
-use Rattle.job_core.specs.declared.fonts.LoadedFont.{LoadedFont}
-use Rattle.job_core.specs.declared.command.Command.{Command}
-use Rattle.job_core.specs.declared.command.Command.TheVariants.{LoadFont, UseFont, Open, End, Text, Character, Rule, Kern, Glue, Penalty, Append, Unbox, LastBox, Measure, Void, Set, Ship}
-use Rattle.job_core.specs.declared.command.Refusal.{Refusal}
-use Rattle.job_core.specs.declared.command.Refusal.TheVariants.{DimensionTooLarge}
-use Rattle.job_core.specs.FontSlots.{Slots, font_in, sized_font, font_of, with_font}
+use Rattle.dvi_write.specs.declared.fonts.LoadedFont.{LoadedFont}
+use Rattle.command_core.specs.declared.command.Command.{Command}
+use Rattle.command_core.specs.declared.command.Command.TheVariants.{LoadFont, UseFont, Open, End, Text, Character, Rule, Kern, Glue, Penalty, Append, Unbox, LastBox, Measure, Void, Set, Ship}
+use Rattle.command_core.specs.declared.command.Refusal.{Refusal}
+use Rattle.command_core.specs.declared.command.Refusal.TheVariants.{DimensionTooLarge}
+use Rattle.dvi_write.specs.Fonts.{Slots, font_in}
+use Rattle.job_core.specs.FontSlots.{sized_font, font_of, with_font}
 use Rattle.job_core.proofs.KeptRest.{KeepsRest, end_keeps, append_keeps, unbox_keeps}
 use Rattle.job_core.specs.Loaded.{IsLoaded, AreLoaded, GivesNumbersFor}
 use Rattle.job_core.specs.Machine.{State, checks, first_of, font_for, after}

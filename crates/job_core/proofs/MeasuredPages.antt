@@ -11,12 +11,13 @@ use Rattle.node_core.specs.declared.tree.Glyph as glyph_type
 use Rattle.node_core.specs.declared.tree.BoxNode.{BoxNode}
 use Rattle.node_core.specs.Items.{Leaf, glyph, font_kern, kern, glue, penalty, rule}
 use Rattle.dvi_ops.proofs.Appends.{all_append, all_weaker}
-use Rattle.job_core.specs.declared.fonts.LoadedFont.{LoadedFont}
-use Rattle.job_core.specs.declared.command.Command.{Command}
-use Rattle.job_core.specs.declared.command.Command.TheVariants.{LoadFont, UseFont, Open, End, Text, Character, Rule, Kern, Glue, Penalty, Append, Unbox, LastBox, Measure, Void, Set, Ship}
-use Rattle.job_core.specs.declared.command.Refusal.{Refusal}
-use Rattle.job_core.specs.Reply.{Reply}
-use Rattle.job_core.specs.FontSlots.{Slots, font_in, font_of, with_font, glyph_by}
+use Rattle.dvi_write.specs.declared.fonts.LoadedFont.{LoadedFont}
+use Rattle.command_core.specs.declared.command.Command.{Command}
+use Rattle.command_core.specs.declared.command.Command.TheVariants.{LoadFont, UseFont, Open, End, Text, Character, Rule, Kern, Glue, Penalty, Append, Unbox, LastBox, Measure, Void, Set, Ship}
+use Rattle.command_core.specs.declared.command.Refusal.{Refusal}
+use Rattle.command_core.specs.Reply.{Reply}
+use Rattle.dvi_write.specs.Fonts.{Slots, font_in}
+use Rattle.job_core.specs.FontSlots.{font_of, with_font, glyph_by}
 use Rattle.job_core.specs.Sized.{IsSizedLeaf, IsSoundBox, HasSizedGlyphs}
 use Rattle.job_core.proofs.Leaves.{each_leaf}
 use Rattle.job_core.proofs.KeptRest.{KeepsRest, end_keeps, append_keeps, unbox_keeps}

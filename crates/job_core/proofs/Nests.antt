@@ -7,9 +7,9 @@ use Rattle.node_core.specs.declared.tree.BoxNode.{BoxNode}
 use Rattle.node_core.specs.Items.{Items, none}
 use Rattle.job_core.specs.declared.nest.OpenList.{OpenList}
 use Rattle.node_core.specs.declared.params.Params.{Params}
-use Rattle.job_core.specs.declared.command.Refusal.{Refusal}
+use Rattle.command_core.specs.declared.command.Refusal.{Refusal}
 use Rattle.pack_core.specs.declared.pack.Packed as packs
-use Rattle.job_core.specs.declared.command.Command.TheVariants.{End}
+use Rattle.command_core.specs.declared.command.Command.TheVariants.{End}
 use Rattle.job_core.specs.Machine.{State, checks, place_checks, packed_list, items_in, first_of, innermost, outer, held_in, list_with_box, with_box}
 use Rattle.job_core.specs.EmptiedNest.{refilled, emptied}
 

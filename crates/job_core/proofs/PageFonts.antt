@@ -12,20 +12,21 @@ use Rattle.dvi_ops.specs.Forest.{flat}
 use Rattle.dvi_ops.specs.Fonts.{Metrics, selections, font_in as font_by, width_in}
 use Rattle.dvi_ops.specs.Spelling.{NumberFits}
 use Rattle.dvi_ops.specs.Layout.{Table, table_widths, IsTabled}
-use Rattle.job_core.specs.declared.fonts.LoadedFont.{LoadedFont}
-use Rattle.job_core.specs.FontSlots.{Slots, font_in, glyph_by}
+use Rattle.dvi_write.specs.declared.fonts.LoadedFont.{LoadedFont}
+use Rattle.dvi_write.specs.Fonts.{Slots, font_in}
+use Rattle.job_core.specs.FontSlots.{glyph_by}
 use Rattle.job_core.specs.Loaded.{AreLoaded}
 use Rattle.job_core.specs.Sized.{IsSizedLeaf}
 use Rattle.ship_core.specs.Marks.{Page}
 use Rattle.ship_core.specs.Drawing.{body_of}
-use Rattle.job_core.specs.Draft.{definition_of}
+use Rattle.dvi_write.specs.Draft.{definition_of}
 use Rattle.job_core.specs.Shown.{GivesFiles}
 use Rattle.job_core.proofs.LoadedFonts.{loaded_in, widths-loaded, code_small}
 use Rattle.ship_core.specs.Shown.{HasWidth}
 use Rattle.ship_core.proofs.DrawnPages.{HasFont, selections_page}
 use Rattle.job_core.proofs.Leaves.{each_leaf}
-use Rattle.job_core.proofs.PageBytes.{HasShortNames}
-use Rattle.job_core.proofs.DefinedFonts.{HasSelected, holds_selected}
+use Rattle.dvi_write.proofs.PageBytes.{HasShortNames}
+use Rattle.dvi_write.proofs.DefinedFonts.{HasSelected, holds_selected}
 
 -- The definitions of a job's fonts by their numbers.
 abbrev pub table_of : Slots → Table

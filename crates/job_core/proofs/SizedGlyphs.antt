@@ -24,20 +24,21 @@ use Rattle.dvi_ops.proofs.Appends.{all_append}
 use Rattle.pack_core.specs.declared.pack.Packed as packs
 use Rattle.pack_core.specs.declared.pack.TooLarge.{TooLarge}
 use Rattle.job_core.specs.declared.nest.OpenList.{OpenList}
-use Rattle.job_core.specs.declared.fonts.LoadedFont.{LoadedFont}
-use Rattle.job_core.specs.declared.command.Command.{Command}
-use Rattle.job_core.specs.declared.command.Command.TheVariants.{LoadFont, UseFont, Open, End, Text, Character, Rule, Kern, Glue, Penalty, Append, Unbox, LastBox, Measure, Void, Set, Ship}
-use Rattle.job_core.specs.declared.command.FontLoad.{FontLoad}
-use Rattle.job_core.specs.declared.command.Refusal.{Refusal}
-use Rattle.job_core.specs.declared.command.Refusal.TheVariants.{SlotTaken, TooDeep, JobOver}
-use Rattle.job_core.specs.FontSlots.{Slots, font_in, with_font, glyph_by, text_in, character_in, text_shaped, character_shaped}
+use Rattle.dvi_write.specs.declared.fonts.LoadedFont.{LoadedFont}
+use Rattle.command_core.specs.declared.command.Command.{Command}
+use Rattle.command_core.specs.declared.command.Command.TheVariants.{LoadFont, UseFont, Open, End, Text, Character, Rule, Kern, Glue, Penalty, Append, Unbox, LastBox, Measure, Void, Set, Ship}
+use Rattle.command_core.specs.declared.command.FontLoad.{FontLoad}
+use Rattle.command_core.specs.declared.command.Refusal.{Refusal}
+use Rattle.command_core.specs.declared.command.Refusal.TheVariants.{SlotTaken, TooDeep, JobOver}
+use Rattle.dvi_write.specs.Fonts.{Slots, font_in}
+use Rattle.job_core.specs.FontSlots.{with_font, glyph_by, text_in, character_in, text_shaped, character_shaped}
 use Rattle.job_core.proofs.EachOf.{each_taken, each_set, each_at, each_copy, each_as, each_held}
 use Rattle.job_core.proofs.Leaves.{each_leaf}
 use Rattle.job_core.proofs.KeptRest.{KeepsRest, end_keeps, append_keeps, unbox_keeps}
 use Rattle.job_core.proofs.PackedItems.{packed_items}
 use Rattle.job_core.specs.Sized.{HasSizes, IsSizedLeaf, IsSoundBox, IsSized, AreSized, IsSizedList, IsSizedHeld, HasSizedGlyphs}
-use Rattle.job_core.specs.declared.command.Taking.{Taking}
-use Rattle.job_core.specs.declared.command.Taking.TheVariants.{Moved, Copied}
+use Rattle.command_core.specs.declared.command.Taking.{Taking}
+use Rattle.command_core.specs.declared.command.Taking.TheVariants.{Moved, Copied}
 use Rattle.job_core.specs.Machine.{State, most_deep, first_state, innermost, outer, items_in, with_nodes, with_rule, with_items, glue_in, box_items, with_box, without_last, held_in, with_taken, if_packed, packed_as, packed_list, home_checks, packed_checks, close_checks, with_home, with_closed, with_used, with_unboxed, checks, first_of, font_for, refusal_in, after}
 
 -- A slot that has a font keeps it where another one is given a font.

@@ -5,12 +5,12 @@ use Rattle.dvi_ops.specs.Instruction.{Definition, Pre}
 use Rattle.dvi_ops.specs.Fonts.{definitions}
 use Rattle.dvi_ops.specs.Tokens.{says}
 use Rattle.dvi_ops.specs.File.{Part, instructions, depth_of, Frame}
-use Rattle.job_core.specs.declared.command.Refusal.{Refusal}
-use Rattle.job_core.specs.declared.command.Summary.{Summary}
-use Rattle.job_core.specs.declared.fonts.LoadedFont.{LoadedFont}
-use Rattle.job_core.specs.FontSlots.{Slots, font_in}
+use Rattle.command_core.specs.declared.command.Refusal.{Refusal}
+use Rattle.command_core.specs.declared.command.Summary.{Summary}
+use Rattle.dvi_write.specs.declared.fonts.LoadedFont.{LoadedFont}
+use Rattle.dvi_write.specs.Fonts.{Slots, font_in}
 use Rattle.ship_core.specs.Marks.{Page}
-use Rattle.job_core.specs.Draft.{definition_of, reach_down, reach_right}
+use Rattle.dvi_write.specs.Draft.{definition_of, reach_down, reach_right}
 use Rattle.job_core.specs.Machine.{Machine}
 use Rattle.job_core.specs.Runs.{Seen, Holds}
 

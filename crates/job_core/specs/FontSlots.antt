@@ -10,17 +10,10 @@ use Rattle.shape_core.specs.Shaping.{shaped_items, shaped_missing}
 use Rattle.shape_core.specs.Texts.{text_items, text_missing}
 use Rattle.shape_core.specs.Spaces.{space_glue}
 use Rattle.node_core.specs.declared.tree.Node.{Node}
-use Rattle.job_core.specs.declared.fonts.LoadedFont.{LoadedFont}
-use Rattle.job_core.specs.declared.command.Refusal.{Refusal}
-use Rattle.job_core.specs.declared.command.Refusal.TheVariants.{NoFont, BadTfm, DimensionTooLarge}
-
--- The fonts of the slots, from slot 0 on.
-abbrev pub Slots : Type 0
-Slots = List (Option LoadedFont)
-
--- The font of a slot, if it has one.
-abbrev pub font_in : Slots → ℕ → Option LoadedFont
-font_in fonts slot = unwrap_or (slice_get fonts slot) None
+use Rattle.dvi_write.specs.declared.fonts.LoadedFont.{LoadedFont}
+use Rattle.dvi_write.specs.Fonts.{Slots, font_in}
+use Rattle.command_core.specs.declared.command.Refusal.{Refusal}
+use Rattle.command_core.specs.declared.command.Refusal.TheVariants.{NoFont, BadTfm, DimensionTooLarge}
 
 -- The current font, once one was chosen.
 abbrev pub current_font : Slots → Option ℕ → Option LoadedFont

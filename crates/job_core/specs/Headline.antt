@@ -1,10 +1,10 @@
 -- A job from its beginning to its end (own).
 use Rattle.std.specs.Prelude.{◌≡◌, ◌≢◌, [], List, length, Result, IfOk, OnOk, IfSome}
 use Rattle.dvi_ops.specs.Fonts.{Metrics}
-use Rattle.job_core.specs.declared.command.Command.{Command}
-use Rattle.job_core.specs.declared.command.Refusal.{Refusal}
-use Rattle.job_core.specs.declared.command.Summary.{Summary}
-use Rattle.job_core.specs.Reply.{Reply}
+use Rattle.command_core.specs.declared.command.Command.{Command}
+use Rattle.command_core.specs.declared.command.Refusal.{Refusal}
+use Rattle.command_core.specs.declared.command.Summary.{Summary}
+use Rattle.command_core.specs.Reply.{Reply}
 use Rattle.tfm_core.specs.NamedBytes.{NamedBytes}
 use Rattle.job_core.specs.Machine.{Machine, first_machine}
 use Rattle.job_core.specs.Runs.{Seen, Run, Finishes}

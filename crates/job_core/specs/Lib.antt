@@ -1,10 +1,8 @@
 pub mod Told
 pub mod Held
-pub mod Reply
 pub mod Machine
 pub mod EmptiedNest
 pub mod StateCode
-pub mod Draft
 pub mod Runs
 pub mod Room
 pub mod Shown

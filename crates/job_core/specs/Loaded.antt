@@ -3,11 +3,12 @@ use Rattle.std.specs.Prelude.{◌≡◌, List, length, Some, Ok, IfOk, IfSome}
 use Rattle.std.specs.List.{AllByRecursion}
 use Rattle.tfm_core.specs.NamedBytes.{NamedBytes, IsFontName, file_named}
 use Rattle.tfm_core.specs.Fonts.{HasNumbers}
-use Rattle.job_core.specs.declared.fonts.LoadedFont.{LoadedFont}
-use Rattle.job_core.specs.declared.command.FontLoad.{FontLoad}
-use Rattle.job_core.specs.declared.command.Command.{Command}
-use Rattle.job_core.specs.declared.command.Command.TheVariants.{LoadFont}
-use Rattle.job_core.specs.FontSlots.{Slots, font_of}
+use Rattle.dvi_write.specs.declared.fonts.LoadedFont.{LoadedFont}
+use Rattle.command_core.specs.declared.command.FontLoad.{FontLoad}
+use Rattle.command_core.specs.declared.command.Command.{Command}
+use Rattle.command_core.specs.declared.command.Command.TheVariants.{LoadFont}
+use Rattle.dvi_write.specs.Fonts.{Slots}
+use Rattle.job_core.specs.FontSlots.{font_of}
 use Rattle.job_core.specs.Machine.{State, font_for}
 
 -- A font is what the first file of its name gives at its size.

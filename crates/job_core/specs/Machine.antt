@@ -16,22 +16,24 @@ use Rattle.node_core.specs.Parameters.{first_params}
 use Rattle.vert_core.specs.declared.interline.DimensionTooLarge as distances
 use Rattle.vert_core.specs.Interline.{ignored_depth, interline, glue_of, appended}
 use Rattle.job_core.specs.declared.nest.OpenList.{OpenList}
-use Rattle.job_core.specs.declared.command.Sizes.{Sizes}
-use Rattle.job_core.specs.declared.command.FontLoad.{FontLoad}
-use Rattle.job_core.specs.declared.command.BoxForm.{BoxForm}
-use Rattle.job_core.specs.declared.command.BoxForm.TheVariants.{Hbox, Vbox, Vtop}
-use Rattle.job_core.specs.declared.command.Parameter.{Parameter}
-use Rattle.job_core.specs.declared.command.Parameter.TheVariants.{BoxMaxDepth, BaselineSkip, LineSkip, LineSkipLimit}
-use Rattle.job_core.specs.declared.command.Opening.{Opening}
-use Rattle.job_core.specs.declared.command.Taking.{Taking}
-use Rattle.job_core.specs.declared.command.Taking.TheVariants.{Moved, Copied}
-use Rattle.job_core.specs.declared.command.Command.{Command}
-use Rattle.job_core.specs.declared.command.Command.TheVariants.{LoadFont, UseFont, Open, End, Text, Character, Rule, Kern, Glue, Penalty, Append, Unbox, LastBox, Measure, Void, Set, Ship}
-use Rattle.job_core.specs.declared.command.Answer.{Answer}
-use Rattle.job_core.specs.declared.command.Answer.TheVariants.{Done, Packed, Measured, MeasuredVoid, Shaped, Added, Shipped}
-use Rattle.job_core.specs.declared.command.Refusal.{Refusal}
-use Rattle.job_core.specs.declared.command.Refusal.TheVariants.{DimensionTooLarge, NoFont, SlotTaken, NoOpenList, WrongMode, WrongKind, ListTooLong, TooDeep, HugePage, TooManyPages, TooMuchShipped, JobOver, VoidBox}
-use Rattle.job_core.specs.Reply.{Reply}
+use Rattle.command_core.specs.BoxForms.{kind_of}
+use Rattle.dvi_write.specs.Draft.{page_of}
+use Rattle.command_core.specs.declared.command.Sizes.{Sizes}
+use Rattle.command_core.specs.declared.command.FontLoad.{FontLoad}
+use Rattle.command_core.specs.declared.command.BoxForm.{BoxForm}
+use Rattle.command_core.specs.declared.command.BoxForm.TheVariants.{Hbox, Vbox, Vtop}
+use Rattle.command_core.specs.declared.command.Parameter.{Parameter}
+use Rattle.command_core.specs.declared.command.Parameter.TheVariants.{BoxMaxDepth, BaselineSkip, LineSkip, LineSkipLimit}
+use Rattle.command_core.specs.declared.command.Opening.{Opening}
+use Rattle.command_core.specs.declared.command.Taking.{Taking}
+use Rattle.command_core.specs.declared.command.Taking.TheVariants.{Moved, Copied}
+use Rattle.command_core.specs.declared.command.Command.{Command}
+use Rattle.command_core.specs.declared.command.Command.TheVariants.{LoadFont, UseFont, Open, End, Text, Character, Rule, Kern, Glue, Penalty, Append, Unbox, LastBox, Measure, Void, Set, Ship}
+use Rattle.command_core.specs.declared.command.Answer.{Answer}
+use Rattle.command_core.specs.declared.command.Answer.TheVariants.{Done, Packed, Measured, MeasuredVoid, Shaped, Added, Shipped}
+use Rattle.command_core.specs.declared.command.Refusal.{Refusal}
+use Rattle.command_core.specs.declared.command.Refusal.TheVariants.{DimensionTooLarge, NoFont, SlotTaken, NoOpenList, WrongMode, WrongKind, ListTooLong, TooDeep, HugePage, TooManyPages, TooMuchShipped, JobOver, VoidBox}
+use Rattle.command_core.specs.Reply.{Reply}
 use Rattle.pack_core.specs.declared.pack.Target.{Target}
 use Rattle.pack_core.specs.declared.pack.Packed as packs
 use Rattle.pack_core.specs.declared.pack.TooLarge.{TooLarge}
@@ -39,7 +41,8 @@ use Rattle.pack_core.specs.Boxes.{hpacked, vpacked, vtopped}
 use Rattle.ship_core.specs.Marks.{Page, is_huge}
 use Rattle.tfm_core.specs.NamedBytes.{NamedBytes, file_named}
 use Rattle.tfm_core.specs.Fonts.{SizedFont}
-use Rattle.job_core.specs.FontSlots.{Slots, font_in, current_font, font_of, with_font, CharacterItems, text_shaped, character_shaped}
+use Rattle.dvi_write.specs.Fonts.{Slots, font_in}
+use Rattle.job_core.specs.FontSlots.{current_font, font_of, with_font, CharacterItems, text_shaped, character_shaped}
 
 -- What commands read and change: the font files; the fonts by slot, and the slot of the current one; the parameters; the open lists, the
 -- outermost first; the registers by number; how many nodes and pages were shipped; and whether the job is over.
@@ -123,12 +126,6 @@ open_count m = length (nodes_of (items_in (innermost m.nest)))
 abbrev pub held_in : List (Option BoxNode) → ℕ → Option BoxNode
 held_in registers r = unwrap_or (slice_get registers r) None
 
--- Which way the list of a box goes.
-abbrev pub kind_of : BoxForm → Kind
-kind_of Hbox = Horizontal
-kind_of Vbox = Vertical
-kind_of Vtop = Vertical
-
 -- The kind of an open list; where there is none, no command asks for it.
 abbrev pub kind_in : Option OpenList → Kind
 kind_in None = Horizontal
@@ -211,10 +208,6 @@ with_parameter params (LineSkipLimit limit) = record params { line_skip_limit = 
 abbrev pub count_in : Option BoxNode → ℕ
 count_in None = 0
 count_in (Some b) = box_count b
-
--- The page that a box makes: all counts are 0, and the reference point is its height below the origin.
-abbrev pub page_of : BoxNode → Page
-page_of b = record { counts = replicate 10 (pos 0); shown = b; h = pos 0; v = b.height }
 
 -- The page of the box of a register, if there is one, and whether that page is huge (TeX: The Program, part 32).
 abbrev pub pages_of : Option BoxNode → List Page

@@ -1,7 +1,7 @@
 -- How much a job may hold (own): the limits that keep every place in the file below 2^31; and what its fonts and glyphs are.
 use Rattle.std.specs.Prelude.{◌≡◌, ◌+◌, ◌*◌, ◌≤◌, length}
 use Rattle.job_core.specs.Machine.{State, most_shipped, most_pages, most_deep}
-use Rattle.job_core.specs.Draft.{Draft, in_rising_order}
+use Rattle.dvi_write.specs.Draft.{Draft, in_rising_order}
 use Rattle.job_core.specs.Sized.{HasSizedGlyphs}
 use Rattle.job_core.specs.Loaded.{AreLoaded}
 

@@ -1,18 +1,18 @@
 -- Runs of the machine, with what it does not choose: want of memory and a device that fails (own).
 use Rattle.std.specs.Prelude.{◌≡◌, ◌≢◌, ◌<◌, ◌==◌, [], ◌∷◌, ℕ, Bool, false, not, List, length, Option, Some, None, is_none, is_some, IfSome, IsSome, Result, Ok, Err}
 use Rattle.std.specs.List.{AllByRecursion}
-use Rattle.job_core.specs.declared.command.Command.{Command}
-use Rattle.job_core.specs.declared.command.Command.TheVariants.{LoadFont, UseFont, Open, End, Text, Character, Rule, Kern, Glue, Penalty, Append, Unbox, LastBox, Measure, Void, Set, Ship}
-use Rattle.job_core.specs.declared.command.Refusal.{Refusal}
-use Rattle.job_core.specs.declared.command.Refusal.TheVariants.{OutOfMemory, NoFont, SlotTaken, Device, ListsOpen, JobOver}
-use Rattle.job_core.specs.declared.command.Summary.{Summary}
-use Rattle.job_core.specs.Reply.{Reply}
+use Rattle.command_core.specs.declared.command.Command.{Command}
+use Rattle.command_core.specs.declared.command.Command.TheVariants.{LoadFont, UseFont, Open, End, Text, Character, Rule, Kern, Glue, Penalty, Append, Unbox, LastBox, Measure, Void, Set, Ship}
+use Rattle.command_core.specs.declared.command.Refusal.{Refusal}
+use Rattle.command_core.specs.declared.command.Refusal.TheVariants.{OutOfMemory, NoFont, SlotTaken, Device, ListsOpen, JobOver}
+use Rattle.command_core.specs.declared.command.Summary.{Summary}
+use Rattle.command_core.specs.Reply.{Reply}
 use Rattle.ship_core.specs.Marks.{Page, is_huge}
 use Rattle.tfm_core.specs.NamedBytes.{file_named}
-use Rattle.job_core.specs.FontSlots.{Slots, font_in}
+use Rattle.dvi_write.specs.Fonts.{Slots, font_in}
 use Rattle.job_core.specs.Sized.{IsSoundBox}
-use Rattle.job_core.specs.Draft.{Draft, draft_of, with_pages}
-use Rattle.job_core.specs.Machine.{State, Machine, innermost, held_in, GoesIntoList, checks, character_checks, first_of, reply_to, state_by, new_pages, step, stopped, page_of}
+use Rattle.dvi_write.specs.Draft.{Draft, draft_of, with_pages, page_of}
+use Rattle.job_core.specs.Machine.{State, Machine, innermost, held_in, GoesIntoList, checks, character_checks, first_of, reply_to, state_by, new_pages, step, stopped}
 
 -- The commands for which memory may be wanted. The end of a list takes none where the box goes into a register, and what takes the box of a
 -- register none where that is void.

@@ -5,8 +5,8 @@ use Rattle.tfm_core.specs.FileWidths.{file_widths}
 use Rattle.dvi_ops.specs.Fonts.{Metrics}
 use Rattle.dvi_ops.specs.File as file
 use Rattle.dvi_ops.specs.File.{IsFile}
-use Rattle.job_core.specs.declared.command.Refusal.{Refusal}
-use Rattle.job_core.specs.declared.command.Summary.{Summary}
+use Rattle.command_core.specs.declared.command.Refusal.{Refusal}
+use Rattle.command_core.specs.declared.command.Summary.{Summary}
 use Rattle.ship_core.specs.Marks.{Page, marks_of_page}
 use Rattle.job_core.specs.Machine.{Machine}
 use Rattle.job_core.specs.Runs.{Seen, Holds}

@@ -8,7 +8,8 @@ use Rattle.node_core.specs.declared.tree.BoxNode.{BoxNode}
 use Rattle.node_core.specs.Items.{Leaf, glyph, font_kern, kern, glue, penalty, rule, EachLeaf}
 use Rattle.node_core.specs.Nodes.{nodes_of, box_depth}
 use Rattle.job_core.specs.declared.nest.OpenList.{OpenList}
-use Rattle.job_core.specs.FontSlots.{Slots, font_in, glyph_by}
+use Rattle.dvi_write.specs.Fonts.{Slots, font_in}
+use Rattle.job_core.specs.FontSlots.{glyph_by}
 use Rattle.job_core.specs.Machine.{State, most_deep}
 
 -- A glyph has the sizes of its character in the font of its slot.

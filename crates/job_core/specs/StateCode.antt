@@ -8,10 +8,10 @@ use Rattle.node_core.specs.contracts.params.Params as params_code
 use Rattle.job_core.specs.declared.nest.OpenList.{OpenList}
 use Rattle.job_core.specs.contracts.nest.OpenList as open_list
 use Rattle.tfm_core.specs.NamedBytes.{NamedBytes}
-use Rattle.job_core.specs.declared.fonts.LoadedFont.{LoadedFont}
-use Rattle.job_core.specs.contracts.fonts.LoadedFont as loaded_font
+use Rattle.dvi_write.specs.declared.fonts.LoadedFont.{LoadedFont}
+use Rattle.dvi_write.specs.contracts.fonts.LoadedFont as loaded_font
 use Rattle.job_core.specs.Machine.{State}
-use Rattle.job_core.specs.Draft.{Draft}
+use Rattle.dvi_write.specs.Draft.{Draft}
 use Rattle.job_core.specs.Runs.{Seen}
 
 abbrev pub coded_named : Coded NamedBytes

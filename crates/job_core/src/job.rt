@@ -1,18 +1,18 @@
 //! The job: commands are run, and the file of its pages goes to a device at the end.
 
 ghost use Rattle.std.specs.Prelude.{◌≡◌, ◌<◌, ◌+◌, ◌*◌, ◌^◌, ◌++◌, [], false, None, Err, List, length, IfOk, IfErr, OnOk, OnErr, IfSome};
-ghost use Rattle.job_core.specs.declared.command.Command.TheVariants as commands;
-ghost use Rattle.job_core.specs.Reply.{Reply as AReply};
+ghost use Rattle.command_core.specs.declared.command.Command.TheVariants as commands;
+ghost use Rattle.command_core.specs.Reply.{Reply as AReply};
 ghost use Rattle.job_core.specs.Loaded.{GivesNumbersFor};
 ghost use Rattle.job_core.specs.Machine.{Machine, first_machine, checks, first_of, reply_to, state_after};
 ghost use Rattle.job_core.specs.Runs.{TakesMemory, early_checks, draft_after, Holds, KeepsTo, RunsTo, FinishesTo};
 ghost use Rattle.job_core.specs.Shown.{FilesPages};
 ghost use Rattle.job_core.specs.Closing.{ClosesFile};
 
-use crate::command::{Answer, Command, Refusal, Register, Reply, Summary};
 use crate::device::{Device, write_all};
 use crate::kept::Kept;
-use crate::writer::Writer;
+use command_core::{Answer, Command, Refusal, Register, Reply, Summary};
+use dvi_write::Writer;
 use node_core::Node;
 use std::alloc::{AllocError, Global};
 use std::marker::Model;
@@ -99,10 +99,10 @@ impl<D: Device> Model for Job<D> {
 impl<D: Device> Job<D> {
     ghost use Rattle.std.specs.Prelude.{◌≡◌, ◌<◌, ◌+◌, ◌^◌, ◌++◌, [], true, List, IfOk, IfErr, OnOk, OnErr, IfSome, Err, length};
     ghost use Rattle.job_core.specs.Machine.{Machine, first_machine};
-    ghost use Rattle.job_core.specs.Draft.{file_of};
+    ghost use Rattle.dvi_write.specs.Draft.{file_of};
     ghost use Rattle.job_core.specs.Told.{IsFrontOf};
-    ghost use Rattle.job_core.specs.declared.command.Refusal.{Refusal};
-    ghost use Rattle.job_core.specs.Reply.{Reply as AReply};
+    ghost use Rattle.command_core.specs.declared.command.Refusal.{Refusal};
+    ghost use Rattle.command_core.specs.Reply.{Reply as AReply};
     ghost use Rattle.job_core.specs.Runs.{Holds, KeepsTo, RunsTo, FinishesTo};
     ghost use Rattle.job_core.specs.Shown.{FilesPages};
     ghost use Rattle.job_core.specs.Closing.{ClosesFile};

@@ -1,21 +1,22 @@
 //! What a job keeps, but for its device and its bytes.
 
 ghost use Rattle.std.specs.Prelude.{◌≡◌, ◌==◌, ◌<◌, ◌≤◌, ◌+◌, ◌∷◌, [], not, true, false, None, Some, IfOk, IfErr, OnOk, OnErr, IsSome, length};
-ghost use Rattle.job_core.specs.declared.command.Command.TheVariants as commands;
-ghost use Rattle.job_core.specs.FontSlots.{font_in};
+ghost use Rattle.command_core.specs.declared.command.Command.TheVariants as commands;
+ghost use Rattle.dvi_write.specs.Fonts.{font_in};
 ghost use Rattle.job_core.specs.Loaded.{GivesNumbers};
 ghost use Rattle.node_core.specs.Nodes.{most_nodes, nodes_of};
 ghost use Rattle.job_core.specs.EmptiedNest.{refilled};
 ghost use Rattle.job_core.specs.Machine.{first_state, innermost, outer, items_in, held_in, nodes_in, checks, first_of, reply_by, reply_to, state_by, state_after, after, sizes_of, character_checks, item_checks, length_checks, held_checks, home_checks, place_checks, shaped_answer, with_items, with_used, with_unboxed, with_home, GoesIntoList, is_other, is_running, is_misplaced};
 ghost use Rattle.job_core.specs.Runs.{early_checks};
 
-use crate::command::{
+use crate::fonts::read_font;
+use crate::nest::Nest;
+use crate::registers::Registers;
+use command_core::{
     Answer, BoxUse, Characters, FontLoad, Opening, Parameter, Refusal, Register, Reply, Sizes,
     Taking, Unboxing,
 };
-use crate::fonts::{Fonts, LoadedFont, read_font};
-use crate::nest::Nest;
-use crate::registers::Registers;
+use dvi_write::{Fonts, LoadedFont};
 use node_core::{BoxNode, Kind, Node, Params, Rule, RuleSize};
 use pack_core::Packed;
 use scaled_core::Dimen;

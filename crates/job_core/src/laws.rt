@@ -1,10 +1,10 @@
 //! What holds of a job from its beginning to its end, as the contracts of functions that do nothing.
 
 ghost use Rattle.std.specs.Prelude.{◌≡◌, ◌++◌, [], ◌∷◌, ℕ, List, length, Result, IfOk, IfSome};
-ghost use Rattle.job_core.specs.declared.command.Command.{Command};
-ghost use Rattle.job_core.specs.declared.command.Refusal.{Refusal};
-ghost use Rattle.job_core.specs.declared.command.Summary.{Summary};
-ghost use Rattle.job_core.specs.Reply.{Reply};
+ghost use Rattle.command_core.specs.declared.command.Command.{Command};
+ghost use Rattle.command_core.specs.declared.command.Refusal.{Refusal};
+ghost use Rattle.command_core.specs.declared.command.Summary.{Summary};
+ghost use Rattle.command_core.specs.Reply.{Reply};
 ghost use Rattle.tfm_core.specs.NamedBytes.{NamedBytes};
 ghost use Rattle.job_core.specs.Machine.{Machine, first_machine};
 ghost use Rattle.job_core.specs.Runs.{Seen, Run, Holds, KeepsTo, RunsTo, FinishesTo};

@@ -1,7 +1,6 @@
 //! The job: a list of commands is run, and what is shipped goes to a device.
 #![tactic(auto)]
 
-pub mod command;
 pub mod device;
 mod fonts;
 pub mod job;
@@ -10,9 +9,8 @@ pub mod laws;
 mod nest;
 mod registers;
 pub mod totality;
-mod writer;
 
-pub use command::{
+pub use command_core::{
     Answer, BoxForm, BoxUse, Characters, Command, FontLoad, Opening, Parameter, Refusal, Register,
     Reply, Sizes, Summary, Taking, Unboxing,
 };

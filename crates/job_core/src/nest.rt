@@ -7,7 +7,7 @@ ghost use Rattle.vert_core.specs.Interline.{interline, glue_of, appended};
 ghost use Rattle.job_core.specs.Machine.{opened, innermost, items_in, outer, with_nodes, with_rule, glue_in, box_items, list_with_box, with_box, without_last, packed_as, packed_list, box_checks, first_of};
 ghost use Rattle.job_core.specs.EmptiedNest.{emptied, refilled};
 
-use crate::command::{BoxForm, Opening, Refusal};
+use command_core::{BoxForm, Opening, Refusal};
 use node_core::{BoxNode, Glue, Kind, Node, NodeList, Params, Rule};
 use pack_core::{Packed, Target, TooLarge, hpack, vpack, vtop};
 use scaled_core::Dimen;

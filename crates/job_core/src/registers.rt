@@ -3,7 +3,7 @@
 ghost use Rattle.std.specs.Prelude.{◌≡◌, ◌<◌, List, Option, None, IfOk, option_copied, replicate, slice_set};
 ghost use Rattle.job_core.specs.Machine.{held_in};
 
-use crate::command::Register;
+use command_core::Register;
 use node_core::BoxNode;
 use std::alloc::{AllocError, Global};
 use std::marker::Model;

@@ -2,11 +2,11 @@
 
 ghost use Rattle.std.specs.Prelude.{◌≡◌, ◌≢◌, ◌<◌, [], ℕ, true, List, Result, Err};
 ghost use Rattle.std.specs.List.{AllByRecursion};
-ghost use Rattle.job_core.specs.declared.command.Command.{Command};
-ghost use Rattle.job_core.specs.declared.command.Refusal.{Refusal as ARefusal};
-ghost use Rattle.job_core.specs.declared.command.Refusal.TheVariants as refusals;
-ghost use Rattle.job_core.specs.declared.command.Summary.{Summary};
-ghost use Rattle.job_core.specs.Reply.{Reply as AReply};
+ghost use Rattle.command_core.specs.declared.command.Command.{Command};
+ghost use Rattle.command_core.specs.declared.command.Refusal.{Refusal as ARefusal};
+ghost use Rattle.command_core.specs.declared.command.Refusal.TheVariants as refusals;
+ghost use Rattle.command_core.specs.declared.command.Summary.{Summary};
+ghost use Rattle.command_core.specs.Reply.{Reply as AReply};
 ghost use Rattle.job_core.specs.Machine.{Machine};
 ghost use Rattle.job_core.specs.Runs.{Steps, Run, Finishes, TakesMemory};
 

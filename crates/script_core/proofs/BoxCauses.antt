@@ -1,7 +1,7 @@
 -- The cause that the function names holds of the fields behind `box` and `copy`.
 use Rattle.std.proofs.Common.{◌≡◌, ℕ, pos, Bool, true, false, List, [], ◌∷◌, Option, Some, None, Ok, Err, codes, refl, ap, sym, ◌∙◌, subst}
 use Rattle.std.specs.Str.{bytes_eq}
-use Rattle.job_core.specs.declared.command.Taking.{Taking}
+use Rattle.command_core.specs.declared.command.Taking.{Taking}
 use Rattle.script_core.specs.declared.cause.Cause.{Cause}
 use Rattle.script_core.specs.declared.cause.Cause.TheVariants.{Word, Missing, Number}
 use Rattle.script_core.specs.declared.name.Name.TheVariants as names

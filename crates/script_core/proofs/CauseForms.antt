@@ -3,7 +3,7 @@ use Rattle.std.proofs.Common.{◌≡◌, inl, inr, ℕ, ℤ, pos, List, [], ◌�
 use Rattle.std.proofs.lemmas.List.{append-nil}
 use Rattle.node_core.specs.declared.tree.Order.TheVariants.{Normal}
 use Rattle.node_core.specs.declared.tree.RuleSize.TheVariants.{Running, Fixed}
-use Rattle.job_core.specs.declared.command.Command.{Command}
+use Rattle.command_core.specs.declared.command.Command.{Command}
 use Rattle.script_core.specs.declared.amounts.Amount.{Amount}
 use Rattle.script_core.specs.declared.cause.Cause.{Cause}
 use Rattle.script_core.specs.declared.cause.Cause.TheVariants.{Missing, Extra, Number, Dimension}

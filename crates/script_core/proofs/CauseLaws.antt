@@ -3,8 +3,8 @@ use Rattle.std.proofs.Common.{◌≡◌, inl, ℕ, ℤ, Bool, true, false, List,
 use Rattle.std.specs.Str.{bytes_eq}
 use Rattle.node_core.specs.declared.tree.RuleSize.{RuleSize}
 use Rattle.node_core.specs.declared.tree.RuleSize.TheVariants.{Running, Fixed}
-use Rattle.job_core.specs.declared.command.Command.{Command}
-use Rattle.job_core.specs.declared.command.Command.TheVariants.{UseFont, End, Character, Rule, Kern, Penalty, LastBox, Measure, Void, Ship}
+use Rattle.command_core.specs.declared.command.Command.{Command}
+use Rattle.command_core.specs.declared.command.Command.TheVariants.{UseFont, End, Character, Rule, Kern, Penalty, LastBox, Measure, Void, Ship}
 use Rattle.script_core.specs.declared.cause.Cause.{Cause}
 use Rattle.script_core.specs.declared.cause.Cause.TheVariants.{Word, Missing, Extra, Dimension}
 use Rattle.script_core.specs.declared.name.Name.{Name}

@@ -7,14 +7,14 @@ use Rattle.node_core.specs.declared.tree.Order.{Order}
 use Rattle.node_core.specs.declared.tree.RuleSize.{RuleSize}
 use Rattle.pack_core.specs.declared.pack.Target.{Target}
 use Rattle.pack_core.specs.declared.pack.Target.TheVariants.{Natural, To, Spread}
-use Rattle.job_core.specs.declared.command.BoxForm.{BoxForm}
-use Rattle.job_core.specs.declared.command.BoxForm.TheVariants as forms
-use Rattle.job_core.specs.declared.command.Taking.{Taking}
-use Rattle.job_core.specs.declared.command.Taking.TheVariants.{Moved, Copied}
-use Rattle.job_core.specs.declared.command.Parameter.{Parameter}
-use Rattle.job_core.specs.declared.command.Parameter.TheVariants.{BoxMaxDepth, BaselineSkip, LineSkip, LineSkipLimit}
-use Rattle.job_core.specs.declared.command.Command.{Command}
-use Rattle.job_core.specs.declared.command.Command.TheVariants.{LoadFont, UseFont, Open, End, Text, Character, Rule, Kern, Glue, Penalty, Append, Unbox, LastBox, Measure, Void, Set, Ship}
+use Rattle.command_core.specs.declared.command.BoxForm.{BoxForm}
+use Rattle.command_core.specs.declared.command.BoxForm.TheVariants as forms
+use Rattle.command_core.specs.declared.command.Taking.{Taking}
+use Rattle.command_core.specs.declared.command.Taking.TheVariants.{Moved, Copied}
+use Rattle.command_core.specs.declared.command.Parameter.{Parameter}
+use Rattle.command_core.specs.declared.command.Parameter.TheVariants.{BoxMaxDepth, BaselineSkip, LineSkip, LineSkipLimit}
+use Rattle.command_core.specs.declared.command.Command.{Command}
+use Rattle.command_core.specs.declared.command.Command.TheVariants.{LoadFont, UseFont, Open, End, Text, Character, Rule, Kern, Glue, Penalty, Append, Unbox, LastBox, Measure, Void, Set, Ship}
 use Rattle.script_core.specs.declared.cause.Cause.{Cause}
 use Rattle.script_core.specs.declared.cause.Cause.TheVariants as causes
 use Rattle.script_core.specs.declared.cause.Cause.TheVariants.{Word, Number}

@@ -3,8 +3,8 @@ use Rattle.std.proofs.Common.{◌≡◌, ℕ, ℤ, pos, Bool, true, false, List,
 use Rattle.std.specs.Str.{bytes_eq}
 use Rattle.pack_core.specs.declared.pack.Target.{Target}
 use Rattle.pack_core.specs.declared.pack.Target.TheVariants.{Natural, To, Spread}
-use Rattle.job_core.specs.declared.command.BoxForm.{BoxForm}
-use Rattle.job_core.specs.declared.command.Command.{Command}
+use Rattle.command_core.specs.declared.command.BoxForm.{BoxForm}
+use Rattle.command_core.specs.declared.command.Command.{Command}
 use Rattle.scaled_core.specs.declared.fault.DimenFault.{DimenFault}
 use Rattle.scaled_core.specs.ParsedTexts.{read_dimension}
 use Rattle.script_core.specs.declared.cause.Cause.{Cause}

@@ -3,9 +3,9 @@ use Rattle.std.specs.Prelude.{pos, negsuc, List, [], ◌∷◌, Some, codes}
 use Rattle.node_core.specs.declared.tree.RuleSize.TheVariants.{Fixed}
 use Rattle.node_core.specs.declared.tree.Order.TheVariants.{Normal, Fil}
 use Rattle.pack_core.specs.declared.pack.Target.TheVariants.{Natural, To}
-use Rattle.job_core.specs.declared.command.BoxForm.TheVariants.{Hbox, Vbox}
-use Rattle.job_core.specs.declared.command.Parameter.TheVariants.{BoxMaxDepth}
-use Rattle.job_core.specs.declared.command.Command.TheVariants.{LoadFont, UseFont, Open, End, Text, Character, Rule, Glue, Penalty, Set, Ship}
+use Rattle.command_core.specs.declared.command.BoxForm.TheVariants.{Hbox, Vbox}
+use Rattle.command_core.specs.declared.command.Parameter.TheVariants.{BoxMaxDepth}
+use Rattle.command_core.specs.declared.command.Command.TheVariants.{LoadFont, UseFont, Open, End, Text, Character, Rule, Glue, Penalty, Set, Ship}
 use Rattle.script_core.specs.declared.cause.Cause.TheVariants as causes
 use Rattle.script_core.specs.declared.cause.Cause.TheVariants.{Missing, Extra, Number, Dimension}
 use Rattle.script_core.specs.declared.script.Line.{Line}

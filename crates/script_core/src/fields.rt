@@ -4,7 +4,7 @@ ghost use Rattle.std.specs.Prelude.{◌≡◌, ℤ, Ok, Err, IfOk, IfErr, IfNone
 ghost use Rattle.std.specs.Int.{w64};
 ghost use Rattle.std.specs.List.{list_all};
 ghost use Rattle.tfm_core.specs.NamedBytes.{IsFontName};
-ghost use Rattle.job_core.specs.declared.command.Command.TheVariants as commands;
+ghost use Rattle.command_core.specs.declared.command.Command.TheVariants as commands;
 ghost use Rattle.script_core.specs.Grammar.{IsInteger, is_name_byte};
 ghost use Rattle.script_core.specs.ScriptLines.{fields_of};
 ghost use Rattle.script_core.specs.Reading.{first_of, rest_of, small_number, number_of, number_first, dimension_first, size_of_font, size_of_font_first, is_short, is_name, name_first, size_of, size_first, ended, last_number, last_dimension, map_ok, chosen_size_of, font_of, penalty_of, penalty_first, last_penalty, amount_first, last_amount, opening, opened, opened_into, opening_of, shift_of, append_of, unboxing, glue, shrink_of, last_shrink_of, parts_of, glue_of, parameter_of, rule_of, command_named, command_of};
@@ -13,7 +13,7 @@ use crate::amounts::{Amount, amount_of};
 use crate::cause::Cause;
 use crate::lines::first_field;
 use crate::name::Name;
-use job_core::{
+use command_core::{
     BoxForm, BoxUse, Command, FontLoad, FontName, FontSize, Opening, Parameter, Register, Taking,
     Target, Unboxing,
 };

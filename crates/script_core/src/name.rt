@@ -3,7 +3,7 @@
 ghost use Rattle.std.specs.Prelude.{◌≡◌};
 ghost use Rattle.script_core.specs.Names.{box_name, register_name, item_name, name_of};
 
-use job_core::{BoxForm, Taking};
+use command_core::{BoxForm, Taking};
 use node_core::Kind;
 
 /// The first word of a command.

@@ -7,7 +7,7 @@ ghost use Rattle.script_core.specs.Reading.{line_of, ReadsOn, StopsAt};
 use crate::cause::Cause;
 use crate::fields::Fields;
 use crate::lines::{first_line, is_passed_over, is_printable, text_of};
-use job_core::{Characters, Command};
+use command_core::{Characters, Command};
 use std::alloc::{AllocError, Global};
 use thiserror::Error;
 

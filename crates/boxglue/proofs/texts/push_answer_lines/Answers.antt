@@ -1,8 +1,8 @@
 -- No line is left.
 use Rattle.std.proofs.Common.{◌≡◌, ◌++◌, inl, inr, List, [], ◌∷◌, length, Result, refl, sym, ◌∙◌, ap, arith, ℕ}
 use Rattle.std.proofs.lemmas.List.{append-nil}
-use Rattle.job_core.specs.declared.command.Answer.{Answer}
-use Rattle.job_core.specs.declared.command.Refusal.{Refusal}
+use Rattle.command_core.specs.declared.command.Answer.{Answer}
+use Rattle.command_core.specs.declared.command.Refusal.{Refusal}
 use Rattle.boxglue.specs.Texts.{answer_lines}
 use Rattle.boxglue.proofs.texts.push_answer_lines.Goals as goal
 

@@ -1,7 +1,7 @@
 use Rattle.std.proofs.Common.{◌≢◌, length, refl, ap, ap₂, sym, ◌∙◌, arith}
 use Rattle.job_core.proofs.Endings.{may_finish, over_refused, open_refused, finished, losing}
 use Rattle.job_core.specs.Told.{grown}
-use Rattle.job_core.specs.Draft.{whole}
+use Rattle.dvi_write.specs.Draft.{whole}
 use Rattle.job_core.proofs.Moves.{small_enough}
 use Rattle.job_core.proofs.FinishedFiles.{filed_pages, filed_end, no_pages}
 use Rattle.job_core.proofs.job.Job.finish.Goals as goal

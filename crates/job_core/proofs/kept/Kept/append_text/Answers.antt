@@ -1,6 +1,6 @@
 use Rattle.std.proofs.Common.{ap, sym}
-use Rattle.job_core.specs.declared.command.Command.TheVariants.{Text}
-use Rattle.job_core.specs.declared.command.Refusal.TheVariants.{JobOver}
+use Rattle.command_core.specs.declared.command.Command.TheVariants.{Text}
+use Rattle.command_core.specs.declared.command.Refusal.TheVariants.{JobOver}
 use Rattle.job_core.specs.FontSlots.{text_shaped}
 use Rattle.job_core.specs.Machine.{character_checks, length_checks, reply_by, state_by, answer_of, after}
 use Rattle.job_core.proofs.Nests.{first_refused}

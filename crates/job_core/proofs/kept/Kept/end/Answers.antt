@@ -2,7 +2,7 @@ use Rattle.std.proofs.Common.{◌∙◌, List, ap, sym, refl}
 use Rattle.std.specs.Option.{option_copied}
 use Rattle.job_core.specs.declared.nest.OpenList.{OpenList}
 use Rattle.job_core.specs.contracts.kept.Kept as a_kept
-use Rattle.job_core.specs.declared.command.Command.TheVariants.{End}
+use Rattle.command_core.specs.declared.command.Command.TheVariants.{End}
 use Rattle.job_core.specs.Machine.{State, checks, first_of, state_by, after}
 use Rattle.job_core.proofs.Nests.{put_back, end_refused, on_err}
 use Rattle.job_core.proofs.kept.Kept.end.Goals as goal

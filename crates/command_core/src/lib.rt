@@ -1,0 +1,11 @@
+//! What a job is told, and what it answers.
+#![tactic(auto)]
+
+pub mod command;
+
+pub use command::{
+    Answer, BoxForm, BoxUse, Characters, Command, FontLoad, Opening, Parameter, Refusal, Register,
+    Reply, Sizes, Summary, Taking, Unboxing,
+};
+pub use pack_core::Target;
+pub use tfm_core::{FontName, FontSize, TfmCause};

@@ -1,0 +1,4 @@
+pub mod Spelled
+pub mod PageBytes
+pub mod FreshFonts
+pub mod DefinedFonts

@@ -1,0 +1,386 @@
+//! The bytes of the pages that were shipped (DVItype, 13 to 19).
+
+ghost use Rattle.std.specs.Prelude.{◌≡◌, ◌<◌, ◌+◌, ◌*◌, ◌^◌, ◌++◌, ◌+ℤ◌, [], ◌∷◌, true, false, max, pos, length, map, replicate, OnOk, OnErr, IfOk};
+ghost use Rattle.std.specs.Int.{int_max};
+ghost use Rattle.dvi_ops.specs.Instruction.{Bop, Do, Eop, FontDef, Post};
+ghost use Rattle.dvi_ops.specs.declared.op.Op.TheVariants as ops;
+ghost use Rattle.dvi_ops.specs.Forest.{Forest, flat, nests};
+ghost use Rattle.dvi_ops.specs.Layout.{bytes_of, define, padding_after};
+ghost use Rattle.dvi_ops.specs.Spelling.{HasSpelling};
+ghost use Rattle.dvi_ops.specs.View.{view};
+ghost use Rattle.std.specs.List.{AllByRecursion, list_any};
+ghost use Rattle.pack_core.specs.Totals.{fits};
+ghost use Rattle.ship_core.specs.Marks.{is_huge};
+ghost use Rattle.dvi_write.specs.Draft.{page_of, Draft, closing, closing_ops, definition_of, definitions_of, first_draft, fresh_slots, is_among, is_fresh, reach_down, reach_right, in_rising_order, selects, whole, with_page};
+ghost use Rattle.ship_core.specs.Drawing.{body_of};
+
+use crate::fonts::{Fonts, LoadedFont};
+use dvi_ops::{FontDefinition, Op, Postamble, Units, spell};
+use node_core::BoxNode;
+use scaled_core::Dimen;
+use ship_core::{ShipFault, plan, push_depth, sum};
+use std::alloc::{AllocError, Global};
+use std::marker::Model;
+
+/// The draft of a file: its bytes up to the last page, the slots of the fonts that it defines, the place of the last bop, the greatest reaches of the pages,
+/// and the most pushes that are open at once.
+#[derive(Debug, Drop)]
+pub struct Writer {
+    bytes: Vec<u8>,
+    defined: Vec<u8>,
+    last: i32,
+    tall: Dimen,
+    wide: Dimen,
+    deep: usize,
+}
+
+impl Model for Writer {
+    ghost use Rattle.dvi_write.specs.Draft.{Draft};
+
+    ghost Value = { Draft };
+
+    ghost view = { λ writer. record { bytes = writer.bytes.items; defined = writer.defined.items; last = writer.last; tall = writer.tall; wide = writer.wide; deep = writer.deep } };
+}
+
+/// A scaled point.
+const SCALED_POINTS: Units = Units {
+    num: 25_400_000,
+    den: 473_628_672,
+    mag: 1000,
+};
+
+/// Appends the spellings of instructions, or nothing.
+fn append_all(bytes: &mut Vec<u8>, ops: &[Op<'_>]) -> Result<(), AllocError>
+    requires { AllByRecursion HasSpelling (map view ops.now) }
+    ensures ok { OnOk result (bytes.new.items ≡ bytes.old.items ++ bytes_of (map view ops.now)) }
+    ensures err { OnErr result (bytes.new.items ≡ bytes.old.items) }
+{
+    let held = bytes.len();
+    for op in ops {
+        if spell(op, bytes).is_err() {
+            bytes.truncate(held);
+            return Err(AllocError);
+        }
+    }
+    Ok(())
+}
+
+/// The instructions of a page, from bop to eop, behind a bop at a place (or -1).
+fn page_ops(alloc: Global, body: &[Op<'static>], last: i32) -> Result<Vec<Op<'static>>, AllocError>
+    ensures { IfOk result (λ ops. map view ops.items ≡ Bop (replicate 10 (pos 0)) last ∷ (map view body.now ++ Eop ∷ [])) }
+{
+    let mut ops = Vec::new(alloc);
+    ops.push(Op::Bop {
+        counts: [0; 10],
+        pointer: last,
+    })?;
+    ops.extend_from_slice(body)?;
+    ops.push(Op::Eop)?;
+    Ok(ops)
+}
+
+/// Whether an instruction selects the font of a slot.
+fn selects(slot: u8, op: &Op<'_>) -> bool
+    ensures { result ≡ selects slot (view op.now) }
+{
+    match op {
+        Op::FontNum(font) => *font == i32::from(slot),
+        _ => false,
+    }
+}
+
+/// Whether one of these instructions selects the font of a slot.
+fn is_selected(slot: u8, ops: &[Op<'_>]) -> bool
+    ensures { result ≡ list_any (λ op. selects slot (view op)) ops.now }
+{
+    ops.iter().any(|op| selects(slot, op))
+}
+
+/// Whether a slot is among others.
+fn is_among(slot: u8, slots: &[u8]) -> bool
+    ensures { result ≡ is_among slot slots.now }
+{
+    slots.iter().any(|other| *other == slot)
+}
+
+/// Whether the font of a slot is selected by these instructions and not defined yet.
+#[tactic(auto, using(crate::proofs::FreshFonts::views), unfolding(crate::specs::Draft::is_fresh))]
+fn is_fresh(fonts: &Fonts, defined: &[u8], ops: &[Op<'_>], slot: u8) -> bool
+    ensures { result ≡ is_fresh fonts.now defined.now (map view ops.now) slot }
+{
+    if fonts.get(slot).is_none() {
+        return false;
+    }
+    if is_among(slot, defined) {
+        return false;
+    }
+    is_selected(slot, ops)
+}
+
+/// The slots of the fonts that are selected by these instructions and not defined yet, rising.
+fn fresh_slots(
+    alloc: Global,
+    fonts: &Fonts,
+    defined: &[u8],
+    ops: &[Op<'_>],
+) -> Result<Vec<u8>, AllocError>
+    ensures { IfOk result (λ slots. slots.items ≡ fresh_slots fonts.now defined.now (map view ops.now)) }
+{
+    let mut slots = Vec::new(alloc);
+    for slot in 0..256usize {
+        if is_fresh(fonts, defined, ops, slot as u8) {
+            slots.push(slot as u8)?;
+        }
+    }
+    Ok(slots)
+}
+
+/// The slots of the fonts that are defined, rising.
+fn in_rising_order(alloc: Global, defined: &[u8]) -> Result<Vec<u8>, AllocError>
+    ensures { IfOk result (λ slots. slots.items ≡ in_rising_order defined.now) }
+{
+    let mut slots = Vec::new(alloc);
+    for slot in 0..256usize {
+        if is_among(slot as u8, defined) {
+            slots.push(slot as u8)?;
+        }
+    }
+    Ok(slots)
+}
+
+/// The definition of the font in a slot.
+fn definition_of(slot: u8, loaded: &LoadedFont) -> FontDefinition<'_>
+    ensures value { view (ops.FontDef result) ≡ Do (FontDef (definition_of slot loaded.now)) }
+    ensures few { HasSpelling (view (ops.FontDef result)) }
+{
+    FontDefinition {
+        number: i32::from(slot),
+        check_sum: loaded.font.check_sum(),
+        size: loaded.font.size().get(),
+        design_size: loaded.font.design_size().get(),
+        area: &[],
+        name: loaded.name.as_bytes(),
+    }
+}
+
+/// Appends the definitions of the fonts in these slots, or a front of them.
+fn append_definitions<'a>(
+    fonts: &'a Fonts,
+    slots: &[u8],
+    ops: &mut Vec<Op<'a>>,
+) -> Result<(), AllocError>
+    requires { AllByRecursion HasSpelling (map view ops.old.items) }
+    ensures ok { OnOk result (map view ops.new.items ≡ map view ops.old.items ++ define (definitions_of fonts.now slots.now)) }
+    ensures few { OnOk result (AllByRecursion HasSpelling (map view ops.new.items)) }
+{
+    for slot in slots {
+        if let Some(loaded) = fonts.get(*slot) {
+            ops.push(Op::FontDef(definition_of(*slot, loaded)))?;
+        }
+    }
+    Ok(())
+}
+
+/// Appends the spellings of instructions and of others behind them, and tells where the others begin; or appends nothing.
+fn append_both(
+    bytes: &mut Vec<u8>,
+    first: &[Op<'_>],
+    second: &[Op<'_>],
+) -> Result<usize, AllocError>
+    requires first { AllByRecursion HasSpelling (map view first.now) }
+    requires second { AllByRecursion HasSpelling (map view second.now) }
+    ensures ok { OnOk result (bytes.new.items ≡ bytes.old.items ++ bytes_of (map view first.now ++ map view second.now)) }
+    ensures place { IfOk result (λ place. place ≡ length bytes.old.items + length (bytes_of (map view first.now))) }
+    ensures err { OnErr result (bytes.new.items ≡ bytes.old.items) }
+{
+    let held = bytes.len();
+    append_all(bytes, first)?;
+    let place = bytes.len();
+    if append_all(bytes, second).is_err() {
+        bytes.truncate(held);
+        return Err(AllocError);
+    }
+    Ok(place)
+}
+
+/// Appends four to seven bytes 223, so that the length is a multiple of 4, or nothing.
+fn append_padding(bytes: &mut Vec<u8>) -> Result<(), AllocError>
+    ensures ok { OnOk result (bytes.new.items ≡ bytes.old.items ++ replicate (padding_after (length bytes.old.items)) 223) }
+    ensures err { OnErr result (bytes.new.items ≡ bytes.old.items) }
+{
+    let padding = 7 - (bytes.len() + 3) % 4;
+    bytes.extend_from_slice(&[223; 7][..padding])
+}
+
+/// The instructions of the page of a box.
+fn page_body(alloc: Global, shown: &BoxNode) -> Result<Vec<Op<'static>>, AllocError>
+    requires { is_huge (page_of shown.now) ≡ false }
+    ensures { IfOk result (λ ops. map view ops.items ≡ flat (body_of (page_of shown.now))) }
+{
+    match plan(alloc, shown, Dimen::ZERO, shown.height) {
+        Ok(ops) => Ok(ops),
+        Err(ShipFault::OutOfMemory) => Err(AllocError),
+        Err(ShipFault::HugePage) => unreachable!(),
+    }
+}
+
+/// The greater of two dimensions.
+fn higher(a: Dimen, b: Dimen) -> Dimen
+    ensures { result ≡ int_max a b }
+{
+    if a.get() < b.get() { b } else { a }
+}
+
+/// The greater of a reach so far and that of a page, from its point and its size.
+fn farther(reach: Dimen, from: Dimen, size: Dimen) -> Dimen
+    requires { fits (from +ℤ size) ≡ true }
+    ensures { result ≡ int_max reach (from +ℤ size) }
+{
+    match sum(from, size) {
+        Some(farther) => higher(reach, farther),
+        None => unreachable!(),
+    }
+}
+
+impl Writer {
+    /// The draft of a file without pages.
+    pub fn new(alloc: Global) -> Result<Writer, AllocError>
+        ensures { IfOk result (λ writer. writer ≡ first_draft) }
+    {
+        let mut bytes = Vec::new(alloc);
+        append_all(
+            &mut bytes,
+            &[Op::Pre {
+                id: 2,
+                units: SCALED_POINTS,
+                comment: &[],
+            }],
+        )?;
+        Ok(Writer {
+            bytes,
+            defined: Vec::new(alloc),
+            last: -1,
+            tall: Dimen::ZERO,
+            wide: Dimen::ZERO,
+            deep: 0,
+        })
+    }
+
+    /// Appends the page with this body behind the definitions of the fonts in these slots, and tells the place of its bop.
+    fn append_page(
+        &mut self,
+        fonts: &Fonts,
+        slots: &[u8],
+        body: &[Op<'static>],
+    ) -> Result<usize, AllocError>
+        requires { AllByRecursion HasSpelling (map view body.now) }
+        ensures ok { OnOk result (self.new ≡ record self.old { bytes = self.old.bytes ++ bytes_of (define (definitions_of fonts.now slots.now) ++ (Bop (replicate 10 (pos 0)) self.old.last ∷ (map view body.now ++ Eop ∷ []))) }) }
+        ensures place { IfOk result (λ place. place ≡ length self.old.bytes + length (bytes_of (define (definitions_of fonts.now slots.now)))) }
+        ensures err { OnErr result (self.new ≡ self.old) }
+    {
+        let alloc = *self.bytes.allocator();
+        let mut definitions = Vec::new(alloc);
+        append_definitions(fonts, slots, &mut definitions)?;
+        let page = page_ops(alloc, body, self.last)?;
+        append_both(&mut self.bytes, &definitions, &page)
+    }
+
+    /// Keeps where the bop of a page stands, and how far the page reaches.
+    fn keep_reach(&mut self, place: usize, shown: &BoxNode)
+        requires huge { is_huge (page_of shown.now) ≡ false }
+        requires room { place < 2 ^ 31 }
+        ensures { self.new ≡ record self.old { last = pos place; tall = int_max self.old.tall (reach_down (page_of shown.now)); wide = int_max self.old.wide (reach_right (page_of shown.now)) } }
+    {
+        self.last = place as i32;
+        self.tall = farther(self.tall, shown.height, shown.depth);
+        self.wide = farther(self.wide, Dimen::ZERO, shown.width);
+    }
+
+    /// Keeps how many pushes are open at once in a page with this body, where no page before it has more.
+    fn keep_depth(&mut self, body: &[Op<'static>])
+        ensures { (forest : Forest) → map view body.now ≡ flat forest → self.new ≡ record self.old { deep = max self.old.deep (nests forest) } }
+    {
+        self.deep = self.deep.max(push_depth(body));
+    }
+
+    /// Adds the page of a box whose glyphs are in these fonts.
+    #[tactic(auto, unfolding(crate::specs::Draft::with_page))]
+    pub fn add_page(&mut self, shown: &BoxNode, fonts: &Fonts) -> Result<(), AllocError>
+        requires huge { is_huge (page_of shown.now) ≡ false }
+        requires room { length (with_page fonts.now self.old (page_of shown.now)).bytes < 2 ^ 31 }
+        ensures ok { OnOk result (self.new ≡ with_page fonts.now self.old (page_of shown.now)) }
+        ensures err { OnErr result (self.new ≡ self.old) }
+    {
+        let alloc = *self.bytes.allocator();
+        let body = page_body(alloc, shown)?;
+        let fresh = fresh_slots(alloc, fonts, &self.defined, &body)?;
+        let held = self.defined.len();
+        self.defined.extend_from_slice(&fresh)?;
+        let Ok(place) = self.append_page(fonts, &fresh, &body) else {
+            self.defined.truncate(held);
+            return Err(AllocError);
+        };
+        self.keep_reach(place, shown);
+        self.keep_depth(&body);
+        Ok(())
+    }
+
+    /// What post says of that many pages.
+    fn postamble(&self, pages: u32) -> Postamble
+        requires { self.now.deep < 2 ^ 16 }
+        ensures { view (ops.Post result) ≡ Post (closing self.now pages) }
+    {
+        Postamble {
+            last_bop: self.last,
+            units: SCALED_POINTS,
+            height_plus_depth: self.tall.get(),
+            width: self.wide.get(),
+            stack_depth: self.deep as u16,
+            pages: (pages % 65536) as u16,
+        }
+    }
+
+    /// The instructions of the postamble of a file of that many pages.
+    fn closing_ops<'a>(&self, fonts: &'a Fonts, pages: u32) -> Result<Vec<Op<'a>>, AllocError>
+        requires room { length self.now.bytes < 2 ^ 31 }
+        requires deep { self.now.deep < 2 ^ 16 }
+        ensures ok { IfOk result (λ ops. map view ops.items ≡ closing_ops fonts.now self.now pages) }
+        ensures few { IfOk result (λ ops. AllByRecursion HasSpelling (map view ops.items)) }
+    {
+        let alloc = *self.bytes.allocator();
+        let slots = in_rising_order(alloc, &self.defined)?;
+        let mut ops = Vec::new(alloc);
+        ops.push(Op::Post(self.postamble(pages)))?;
+        append_definitions(fonts, &slots, &mut ops)?;
+        ops.push(Op::PostPost {
+            place: self.bytes.len() as i32,
+            id: 2,
+        })?;
+        Ok(ops)
+    }
+
+    /// Adds the postamble of a file of that many pages, and what stands behind it.
+    #[tactic(auto, unfolding(crate::specs::Draft::whole))]
+    pub fn close(&mut self, fonts: &Fonts, pages: u32) -> Result<(), AllocError>
+        requires room { length self.old.bytes < 2 ^ 31 }
+        requires deep { self.old.deep < 2 ^ 16 }
+        ensures ok { OnOk result (self.new.bytes ≡ whole fonts.now self.old pages) }
+        ensures err { OnErr result (self.new ≡ self.old) }
+    {
+        let held = self.bytes.len();
+        let ops = self.closing_ops(fonts, pages)?;
+        append_all(&mut self.bytes, &ops)?;
+        if append_padding(&mut self.bytes).is_err() {
+            self.bytes.truncate(held);
+            return Err(AllocError);
+        }
+        Ok(())
+    }
+
+    /// The bytes of the draft.
+    pub fn bytes(&self) -> &[u8]
+        ensures { result.now ≡ self.now.bytes }
+    {
+        &self.bytes
+    }
+}
