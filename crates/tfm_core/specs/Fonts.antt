@@ -66,16 +66,16 @@ font_at file size = record {
 unfoldable pub is_dimen_at : ℤ → ℤ → Bool
 is_dimen_at size word = fits (scaled size word)
 
--- so is each of them (own)
+-- so does each of them (own)
 unfoldable pub are_dimens_at : ℤ → List ℤ → Bool
 are_dimens_at size words = list_all (is_dimen_at size) words
 
--- so are the sizes of the space (own)
+-- so do the sizes of the space (own)
 unfoldable pub is_space_at : ℤ → List ℤ → Bool
 is_space_at size parameters =
     is_dimen_at size (parameter 2 parameters) && is_dimen_at size (parameter 3 parameters) && is_dimen_at size (parameter 4 parameters)
 
--- each width, height, depth and kern of the font and its space is below 2^30 scaled points (own)
+-- each width, height, depth and kern of the font fits as a dimension, and so does its space (own)
 unfoldable pub fits_at : MetricFile → ℤ → Bool
 fits_at file size =
     are_dimens_at size file.widths && are_dimens_at size file.heights && are_dimens_at size file.depths

@@ -88,7 +88,7 @@ fn is_dimen_at(size: FontSize, word: i32) -> bool
     Dimen::try_new(scaled_fix(word, size)).is_some()
 }
 
-/// Whether all of these words are.
+/// Whether all of these words do.
 #[tactic(auto, unfolding(crate::specs::Fonts::are_dimens_at))]
 fn are_dimens_at(size: FontSize, words: &[i32]) -> bool
     ensures { result ≡ are_dimens_at size words.now }
@@ -104,7 +104,7 @@ fn parameter(n: usize, parameters: &[i32]) -> i32
     parameters.get(n - 1).copied().unwrap_or(0)
 }
 
-/// Whether the sizes of the space are.
+/// Whether the sizes of the space do.
 #[tactic(auto, unfolding(crate::specs::Fonts::is_space_at))]
 fn is_space_at(size: FontSize, parameters: &[i32]) -> bool
     ensures { result ≡ is_space_at size parameters.now }
@@ -114,7 +114,7 @@ fn is_space_at(size: FontSize, parameters: &[i32]) -> bool
         && is_dimen_at(size, parameter(4, parameters))
 }
 
-/// Whether all sizes of the font are.
+/// Whether all sizes of the font do.
 #[tactic(auto, unfolding(crate::specs::Fonts::fits_at))]
 fn fits_at(file: &Entries, size: FontSize) -> bool
     ensures { result ≡ fits_at file.now size }
