@@ -16,7 +16,8 @@ use Rattle.script_core.specs.Grammar.{IsName}
 use Rattle.script_core.specs.Causes.{IsWord, GivesNumber, GivesSizeOfFont, GivesSize, IsFieldCause}
 use Rattle.script_core.specs.Reading.{number_of, number_first, size_of_font, size_of_font_first, dimension_first, is_name, name_first, chosen_size_of, font_by, font_of, map_ok, command_named, command_of}
 use Rattle.script_core.proofs.FieldLaws.{same_bytes, reads_dimension, names_font, font_named, is_size_of_font}
-use Rattle.script_core.proofs.CommandLaws.{named, sound}
+use Rattle.script_core.proofs.NameLaws.{named}
+use Rattle.script_core.proofs.CommandLaws.{sound}
 use Rattle.script_core.proofs.CauseForms.{Fails, missing, bad_field, extra, as_cause, not_made, zero_text, zero_names, zero_number, no_dimension_given, at_is_word}
 
 abbrev load : ℕ → List ℕ → Option ℤ → Command

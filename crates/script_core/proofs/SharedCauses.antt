@@ -6,7 +6,9 @@ use Rattle.script_core.specs.declared.cause.Cause.TheVariants as causes
 use Rattle.script_core.specs.Grammar.{IsName}
 use Rattle.script_core.specs.Causes.{SaysSome, Begins, IsWord, GivesNumber, GivesDimension, GivesSizeOfFont, GivesSize, HasBad, HasExtra, IsFieldCause}
 use Rattle.script_core.specs.Reading.{map_ok, command_of}
-use Rattle.script_core.proofs.CommandLaws.{made, complete, sound}
+use Rattle.script_core.proofs.ReadFields.{made}
+use Rattle.script_core.proofs.GivenCommands.{complete}
+use Rattle.script_core.proofs.CommandLaws.{sound}
 
 -- behind `word` stands what is also read behind `first` and `second`, and something is right there
 module _ (A : Type 0) (read : List (List ℕ) → Result A Cause) (word first second : List ℕ) (make other : A → Command)
