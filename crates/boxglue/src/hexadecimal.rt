@@ -1,6 +1,6 @@
 //! Bytes in hexadecimal digits.
 
-ghost use Rattle.std.specs.Prelude.{◌≡◌, ◌++◌, ◌<◌, OnOk, IfOk, length};
+ghost use Rattle.std.specs.Prelude.{◌≡◌, ◌++◌, ◌<◌, OnOk, IfOk};
 ghost use Rattle.boxglue.specs.Texts.{hexadecimal_digit, ends_line, byte_text, hexadecimal_text};
 
 use std::alloc::{AllocError, Global};

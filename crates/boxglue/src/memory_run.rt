@@ -1,6 +1,6 @@
 //! Running a script on a device in memory.
 
-ghost use Rattle.std.specs.Prelude.{◌≡◌, ◌⊎◌, Some, IfOk, IfErr};
+ghost use Rattle.std.specs.Prelude.{◌⊎◌, Some, IfOk, IfErr};
 ghost use Rattle.boxglue.specs.Runs.{RanInMemory, RefusedScript, IsLeft, device_of};
 
 use crate::hexadecimal::hexadecimal_text;

@@ -1,6 +1,5 @@
 //! Whole scripts with their answers and bytes.
 
-ghost use Rattle.std.specs.Prelude.{OnOk};
 
 use crate::memory_run::run_memory;
 use crate::program::answer_input;

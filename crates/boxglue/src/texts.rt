@@ -1,7 +1,7 @@
 //! The texts of answers.
 
-ghost use Rattle.std.specs.Prelude.{◌≡◌, ◌++◌, ◌+◌, ◌*◌, ◌<◌, codes, decimal, OnOk, OnErr, IfOk};
-ghost use Rattle.boxglue.specs.Texts.{refusal_number, refusal_name, bad_file_name, cause_name, kind_name, line_feed, points_text, sizes_text, refusal_text, answer_text, reply_text, answer_line, summary_text, end_line, answer_lines, answers_text, bad_script_text, byte_text, hexadecimal_text};
+ghost use Rattle.std.specs.Prelude.{◌≡◌, ◌++◌, ◌+◌, ◌*◌, ◌<◌, decimal, OnOk, OnErr, IfOk};
+ghost use Rattle.boxglue.specs.Texts.{refusal_number, refusal_name, bad_file_name, cause_name, kind_name, points_text, sizes_text, refusal_text, answer_text, reply_text, answer_line, summary_text, end_line, answer_lines, answers_text, bad_script_text};
 
 use itoa::Buffer;
 use job_core::{Answer, Refusal, Reply, Sizes, Summary, TfmCause};

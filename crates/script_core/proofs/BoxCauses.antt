@@ -9,7 +9,7 @@ use Rattle.script_core.specs.Grammar.{taking_text}
 use Rattle.script_core.specs.Causes.{IsWord, IsFieldCause}
 use Rattle.script_core.specs.Reading.{number_of, number_first, dimension_first, last_dimension, map_ok, append, shift_of, append_of, command_named, command_of}
 use Rattle.script_core.proofs.FieldLaws.{same_bytes}
-use Rattle.script_core.proofs.CommandLaws.{named}
+use Rattle.script_core.proofs.NameLaws.{named}
 use Rattle.script_core.proofs.CauseForms.{missing, bad_field, as_cause, not_made, zero_text, zero_names, zero_dimension, shift_is_word, bad_number, dimension_cause}
 
 module _ (taking : Taking) where

@@ -15,7 +15,8 @@ use Rattle.scaled_core.specs.DimensionTexts.{decimal_fraction}
 use Rattle.scaled_core.specs.ParsedTexts.{read_dimension, dimension_value, fitted, measured, unit_named, is_negative, behind_sign, front_digits, behind_digits, point_digits, behind_fraction}
 use Rattle.script_core.proofs.FieldLaws.{writes_number, reads_dimension, dimension_read, size_given}
 use Rattle.script_core.proofs.AmountLaws.{amount_given, amount_fault}
-use Rattle.script_core.proofs.CommandLaws.{complete, sound}
+use Rattle.script_core.proofs.GivenCommands.{complete}
+use Rattle.script_core.proofs.CommandLaws.{sound}
 
 -- reading fails
 abbrev pub Fails : List (List ℕ) → Type 0

@@ -14,7 +14,7 @@ use Rattle.script_core.specs.Causes.{IsWord, GivesSize, IsFieldCause}
 use Rattle.script_core.specs.Reading.{dimension_or, map_ok, size_of, size_first, ended, last_number, last_dimension, last_penalty, right_and, unboxing, rule_of, command_named, named_by, command_of}
 use Rattle.scaled_core.specs.declared.fault.DimenFault.{DimenFault}
 use Rattle.scaled_core.specs.ParsedTexts.{read_dimension}
-use Rattle.script_core.proofs.CommandLaws.{name_text, name_written, name_read, named}
+use Rattle.script_core.proofs.NameLaws.{name_text, name_written, named}
 use Rattle.script_core.proofs.CauseForms.{missing, bad_field, extra, as_cause, not_made, star_given, star_size, no_size_given, number_cause, penalty_cause, dimension_cause}
 use Rattle.script_core.proofs.FontCauses.{font_cause, font_reads}
 use Rattle.script_core.proofs.OpeningCauses.{opening_cause}

@@ -15,8 +15,9 @@ use Rattle.script_core.specs.declared.name.Name.TheVariants as names
 use Rattle.script_core.specs.Grammar.{IsName}
 use Rattle.script_core.specs.Causes.{IsWord, GivesNumber, GivesSizeOfFont, GivesSize, IsFieldCause}
 use Rattle.script_core.specs.Reading.{number_of, number_first, size_of_font, size_of_font_first, dimension_first, is_name, name_first, chosen_size_of, font_by, font_of, map_ok, command_named, command_of}
-use Rattle.script_core.proofs.FieldLaws.{same_bytes, reads_dimension, names_font, is_size_of_font}
-use Rattle.script_core.proofs.CommandLaws.{named}
+use Rattle.script_core.proofs.FieldLaws.{same_bytes, reads_dimension, names_font, font_named, is_size_of_font}
+use Rattle.script_core.proofs.NameLaws.{named}
+use Rattle.script_core.proofs.CommandLaws.{sound}
 use Rattle.script_core.proofs.CauseForms.{Fails, missing, bad_field, extra, as_cause, not_made, zero_text, zero_names, zero_number, no_dimension_given, at_is_word}
 
 abbrev load : ℕ → List ℕ → Option ℤ → Command
@@ -166,8 +167,10 @@ with_letter s n e = loads s n letter e letter_passes [] None nothing_given
 
 name_by : (s : List ℕ) (n : ℕ) (name : List ℕ) (rest : List (List ℕ)) (b : Bool) (cause : Cause) → number_of s ≡ Some n → is_name name ≡ b → command_of (codes "font" ∷ s ∷ name ∷ rest) ≡ Err cause → IsFieldCause cause (codes "font" ∷ s ∷ name ∷ rest)
 name_by s n name rest false cause e f h =
-    as_cause _ causes.Name cause (let no = no_name s n name rest e f in cc)
-    (bad_field IsName (codes "font" ∷ s ∷ []) name rest letter [] (load n letter None) letter_names (with_letter s n e) (λ later. (causes.Name, no_name s n name later e f)))
+    as_cause _ causes.Name cause (let no = no_name s n name rest e f in cc) (
+      bad_field IsName (codes "font" ∷ s ∷ []) name rest letter [] (load n letter None) letter_names (with_letter s n e) (λ later. (causes.Name, no_name s n name later e f)),
+      λ other is. ([], (load n other None, sound (codes "font" ∷ s ∷ other ∷ []) (load n other None) (loads s n other e (font_named other is) [] None nothing_given))),
+    )
 name_by s n name rest true cause e f h =
     size_cause s n name e f rest cause (not_made (load n name) (chosen_size_of rest) cause (sym (behind_name s n name rest e f) ∙ h))
 

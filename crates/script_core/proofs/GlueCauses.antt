@@ -12,7 +12,7 @@ use Rattle.script_core.specs.declared.name.Name.TheVariants as names
 use Rattle.script_core.specs.Causes.{IsWord, IsFieldCause}
 use Rattle.script_core.specs.Reading.{dimension_first, amount_of, amount_first, last_amount, map_ok, no_amount, glue, last_shrink_of, shrink_of, parts_of, glue_of, command_named, command_of}
 use Rattle.script_core.proofs.FieldLaws.{same_bytes}
-use Rattle.script_core.proofs.CommandLaws.{named}
+use Rattle.script_core.proofs.NameLaws.{named}
 use Rattle.script_core.proofs.CauseForms.{missing, bad_field, as_cause, not_made, twice, zero_dimension, zero_amount, plus_is_word, minus_is_word, bad_dimension, bad_amount, amount_cause}
 
 abbrev zero : List ℕ

@@ -1,8 +1,12 @@
+pub mod LongWords
 pub mod LineLemmas
 pub mod FieldLemmas
 pub mod Numbers
 pub mod FieldLaws
 pub mod AmountLaws
+pub mod NameLaws
+pub mod GivenCommands
+pub mod ReadFields
 pub mod CommandLaws
 pub mod CauseForms
 pub mod FontCauses

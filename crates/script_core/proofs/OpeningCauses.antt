@@ -14,7 +14,7 @@ use Rattle.script_core.specs.Grammar.{form_text}
 use Rattle.script_core.specs.Causes.{IsWord, IsFieldCause}
 use Rattle.script_core.specs.Reading.{number_first, last_number, dimension_first, map_ok, opening, opened, opened_into, opened_sized, opening_of, command_named, command_of}
 use Rattle.script_core.proofs.FieldLaws.{same_bytes}
-use Rattle.script_core.proofs.CommandLaws.{named}
+use Rattle.script_core.proofs.NameLaws.{named}
 use Rattle.script_core.proofs.CauseForms.{missing, bad_field, as_cause, not_made, zero_text, zero_names, zero_dimension, into_is_word, bad_dimension, number_cause}
 
 opening_named : (form : BoxForm) (rest : List (List ℕ)) → command_of (form_text form ∷ rest) ≡ opening_of form rest

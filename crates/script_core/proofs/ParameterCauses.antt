@@ -11,7 +11,7 @@ use Rattle.script_core.specs.declared.name.Name.TheVariants as names
 use Rattle.script_core.specs.Causes.{IsWord, IsFieldCause}
 use Rattle.script_core.specs.Reading.{dimension_first, last_dimension, map_ok, no_amount, glue, parts_of, glue_of, parameter_of, command_named, command_of}
 use Rattle.script_core.proofs.FieldLaws.{same_bytes}
-use Rattle.script_core.proofs.CommandLaws.{named}
+use Rattle.script_core.proofs.NameLaws.{named}
 use Rattle.script_core.proofs.CauseForms.{missing, bad_field, as_cause, not_made, twice, zero_dimension, depth_is_word, dimension_cause}
 use Rattle.script_core.proofs.GlueCauses.{glue_reads, glue_cause}
 use Rattle.script_core.proofs.SharedCauses.{shared_cause}

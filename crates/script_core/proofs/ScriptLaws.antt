@@ -16,7 +16,8 @@ use Rattle.script_core.specs.Grammar.{Says}
 use Rattle.script_core.specs.Causes.{IsPrintable, IsFieldCause, IsCause}
 use Rattle.script_core.specs.Script.{IsPassedOver, Gives, SaysLine, SayFrom, IsScript, IsRightLine, IsFirstBad, Explains}
 use Rattle.script_core.specs.Reading.{command_of, text_of, given_by, line_of, Found, prefixed, reads_by, reads}
-use Rattle.script_core.proofs.CommandLaws.{complete, sound}
+use Rattle.script_core.proofs.GivenCommands.{complete}
+use Rattle.script_core.proofs.CommandLaws.{sound}
 use Rattle.script_core.proofs.CauseLaws.{cause_holds}
 use Rattle.script_core.proofs.TextLines.{text_said, text_read, text_first}
 

@@ -6,7 +6,9 @@ use Rattle.script_core.specs.declared.cause.Cause.TheVariants as causes
 use Rattle.script_core.specs.Grammar.{IsName}
 use Rattle.script_core.specs.Causes.{SaysSome, Begins, IsWord, GivesNumber, GivesDimension, GivesSizeOfFont, GivesSize, HasBad, HasExtra, IsFieldCause}
 use Rattle.script_core.specs.Reading.{map_ok, command_of}
-use Rattle.script_core.proofs.CommandLaws.{made, complete, sound}
+use Rattle.script_core.proofs.ReadFields.{made}
+use Rattle.script_core.proofs.GivenCommands.{complete}
+use Rattle.script_core.proofs.CommandLaws.{sound}
 
 -- behind `word` stands what is also read behind `first` and `second`, and something is right there
 module _ (A : Type 0) (read : List (List ℕ) → Result A Cause) (word first second : List ℕ) (make other : A → Command)
@@ -43,7 +45,7 @@ module _ (A : Type 0) (read : List (List ℕ) → Result A Cause) (word first se
   behind_word w rest front field behind split = (cc, cc)
 
   bad_by : (IsRight : List ℕ → Type 0) (rest front : List (List ℕ)) (field : List ℕ) (behind : List (List ℕ)) (r : List ℕ) → word ∷ rest ≡ front ++ field ∷ behind → IsRight r → Begins (front ++ r ∷ []) → (Begins (front ++ field ∷ []) → ⊥)
-      → (bad : HasBad IsRight (first ∷ second ∷ rest)) × (bad.field ≡ field)
+      → (bad : HasBad IsRight (first ∷ second ∷ rest)) × (bad.field ≡ field) × ((name : List ℕ) → Begins (front ++ name ∷ []) → Begins (bad.front ++ name ∷ []))
   bad_by IsRight rest [] field behind r split is wanted bad = absurd (not_first field rest behind split bad)
   bad_by IsRight rest (w ∷ front) field behind r split is wanted bad =
       let parts = behind_word w rest front field behind split in
@@ -60,9 +62,11 @@ module _ (A : Type 0) (read : List (List ℕ) → Result A Cause) (word first se
           bad = λ begins. bad (subst Q (sym parts.0) (begun_back (front ++ field ∷ []) begins));
         },
         refl,
+        λ name begins. let N : List ℕ → Type 0 = λ y. Begins (y ∷ (front ++ name ∷ [])) in begun (front ++ name ∷ []) (subst N parts.0 begins),
       )
 
-  bad_shared : (IsRight : List ℕ → Type 0) (rest : List (List ℕ)) (bad : HasBad IsRight (word ∷ rest)) → (new : HasBad IsRight (first ∷ second ∷ rest)) × (new.field ≡ bad.field)
+  bad_shared : (IsRight : List ℕ → Type 0) (rest : List (List ℕ)) (bad : HasBad IsRight (word ∷ rest))
+      → (new : HasBad IsRight (first ∷ second ∷ rest)) × (new.field ≡ bad.field) × ((name : List ℕ) → Begins (bad.front ++ name ∷ []) → Begins (new.front ++ name ∷ []))
   bad_shared IsRight rest bad = bad_by IsRight rest bad.front bad.field bad.rest bad.right bad.split bad.is_right bad.wanted bad.bad
 
   extra_by : (rest front : List (List ℕ)) (field : List ℕ) (behind : List (List ℕ)) → word ∷ rest ≡ front ++ field ∷ behind → SaysSome front → ((other : List ℕ) → Begins (front ++ other ∷ []) → ⊥) → HasExtra (first ∷ second ∷ rest)
@@ -93,4 +97,6 @@ module _ (A : Type 0) (read : List (List ℕ) → Result A Cause) (word first se
   shared_cause causes.Dimension rest (h, none) =
       let new = bad_shared GivesSize rest h in
       (new.0, λ given. none (subst GivesDimension new.1 given))
-  shared_cause causes.Name rest h = (bad_shared IsName rest h).0
+  shared_cause causes.Name rest (h, takes) =
+      let new = bad_shared IsName rest h in
+      (new.0, λ name is. new.2 name (takes name is))

@@ -68,8 +68,12 @@ pub record HasExtra (fields : List (List ℕ)) : Type 0 where
   pub whole : SaysSome front
   pub last : (other : List ℕ) → Begins (front ++ other ∷ []) → ⊥
 
+-- behind some fields each name of a font may stand
+abbrev pub TakesNames : List (List ℕ) → Type 0
+TakesNames front = (name : List ℕ) → IsName name → Begins (front ++ name ∷ [])
+
 -- the cause holds of the fields. Dimension: the bad field is no dimension that fits. Number: it stands where a number belongs, 0 to 255 or
--- that of a penalty, and is none; or, where the size of a font belongs, it is a dimension that is no such size
+-- that of a penalty, and is none; or, where the size of a font belongs, it is a dimension that is no such size. Name: it stands where every name of a font may
 abbrev pub IsFieldCause : Cause → List (List ℕ) → Type 0
 IsFieldCause Byte fields = ⊥
 IsFieldCause Word fields = HasBad IsWord fields
@@ -77,7 +81,7 @@ IsFieldCause Missing fields = LacksField fields
 IsFieldCause Extra fields = HasExtra fields
 IsFieldCause Number fields = HasBad GivesNumber fields ⊎ ((bad : HasBad GivesSizeOfFont fields) × GivesDimension bad.field)
 IsFieldCause Dimension fields = (bad : HasBad GivesSize fields) × (GivesDimension bad.field → ⊥)
-IsFieldCause causes.Name fields = HasBad IsName fields
+IsFieldCause causes.Name fields = (bad : HasBad IsName fields) × TakesNames bad.front
 
 -- each byte of the line is printable, 32 to 126
 abbrev pub IsPrintable : List ℕ → Type 0
