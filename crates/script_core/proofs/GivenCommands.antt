@@ -4,11 +4,11 @@ use Rattle.node_core.specs.declared.tree.Glue as glues
 use Rattle.node_core.specs.declared.tree.Order.{Order}
 use Rattle.pack_core.specs.declared.pack.Target.{Target}
 use Rattle.pack_core.specs.declared.pack.Target.TheVariants.{Natural, To, Spread}
-use Rattle.job_core.specs.declared.command.BoxForm.{BoxForm}
-use Rattle.job_core.specs.declared.command.Taking.{Taking}
-use Rattle.job_core.specs.declared.command.Parameter.TheVariants.{BoxMaxDepth, BaselineSkip, LineSkip, LineSkipLimit}
-use Rattle.job_core.specs.declared.command.Command.{Command}
-use Rattle.job_core.specs.declared.command.Command.TheVariants.{LoadFont, UseFont, Open, End, Text, Character, Rule, Kern, Glue, Penalty, Append, Unbox, LastBox, Measure, Void, Set, Ship}
+use Rattle.command_core.specs.declared.command.BoxForm.{BoxForm}
+use Rattle.command_core.specs.declared.command.Taking.{Taking}
+use Rattle.command_core.specs.declared.command.Parameter.TheVariants.{BoxMaxDepth, BaselineSkip, LineSkip, LineSkipLimit}
+use Rattle.command_core.specs.declared.command.Command.{Command}
+use Rattle.command_core.specs.declared.command.Command.TheVariants.{LoadFont, UseFont, Open, End, Text, Character, Rule, Kern, Glue, Penalty, Append, Unbox, LastBox, Measure, Void, Set, Ship}
 use Rattle.script_core.specs.declared.name.Name.TheVariants as names
 use Rattle.script_core.specs.declared.amounts.Amount.{Amount}
 use Rattle.script_core.specs.Grammar.{IsNumber, IsChosenSize, IsTarget, IsDestination, IsShift, IsAmount, IsPart, IsGlue, Says}

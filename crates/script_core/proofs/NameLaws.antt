@@ -2,8 +2,8 @@
 use Rattle.std.proofs.Common.{◌≡◌, ℕ, Bool, true, false, if◌then◌else◌, List, ◌∷◌, Option, Some, None, codes, refl, ap, ◌∙◌}
 use Rattle.std.specs.Str.{bytes_eq}
 use Rattle.node_core.specs.declared.tree.Kind.TheVariants.{Horizontal, Vertical}
-use Rattle.job_core.specs.declared.command.BoxForm.TheVariants as forms
-use Rattle.job_core.specs.declared.command.Taking.TheVariants.{Moved, Copied}
+use Rattle.command_core.specs.declared.command.BoxForm.TheVariants as forms
+use Rattle.command_core.specs.declared.command.Taking.TheVariants.{Moved, Copied}
 use Rattle.script_core.specs.declared.name.Name.{Name}
 use Rattle.script_core.specs.declared.name.Name.TheVariants as names
 use Rattle.script_core.specs.Names.{box_name, register_name, item_name, name_or, name_of}
