@@ -44,7 +44,11 @@ Acts = Leaf → State → Meaning
 abbrev pub start : State
 start =
     record {
-      place = record { h = pos 0; v = pos 0; held = record { across = record { first = pos 0; second = pos 0 }; down = record { first = pos 0; second = pos 0 } } };
+      place = record {
+        h = pos 0;
+        v = pos 0;
+        held = record { across = record { first = pos 0; second = pos 0 }; down = record { first = pos 0; second = pos 0 } };
+      };
       font = None;
     }
 

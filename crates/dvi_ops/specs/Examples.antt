@@ -1,4 +1,4 @@
--- Pages and files whose meaning is known, to hold the definitions against.
+-- Pages and files whose meaning is known, to hold the definitions against (own).
 use Rattle.std.specs.Prelude.{◌≡◌, [], ◌∷◌, ◌++◌, List, take, drop, replicate, codes, ℕ, ℤ, pos, Option, Some}
 use Rattle.dvi_ops.specs.Instruction.{Across, Downward, First, By, Set, Again, SetRule, PutRule, Move}
 use Rattle.dvi_ops.specs.Body.{Mark, Glyph, Rule}
@@ -107,7 +107,9 @@ abbrev pub fonts_in_nested_boxes_pages : List Page
 fonts_in_nested_boxes_pages =
     record {
       counts = replicate 10 (pos 0);
-      marks = Glyph (pos 0) (pos 99) (pos 0) (pos 655360) ∷ Glyph (pos 1) (pos 98) (pos 327680) (pos 655360) ∷ Glyph (pos 1) (pos 99) (pos 983040) (pos 655360) ∷ [];
+      marks =
+          Glyph (pos 0) (pos 99) (pos 0) (pos 655360) ∷ Glyph (pos 1) (pos 98) (pos 327680) (pos 655360)
+          ∷ Glyph (pos 1) (pos 99) (pos 983040) (pos 655360) ∷ [];
     } ∷ []
 
 -- The same bytes, but fnt_num 2 in the place of fnt_num 1: font 2 has no definition.

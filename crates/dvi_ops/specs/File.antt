@@ -1,4 +1,4 @@
--- A DVI file of these pages (DVItype, 13 to 20).
+-- A DVI file of these pages (DVItype, 13 to 20; that there may be no page is own).
 use Rattle.std.specs.Prelude.{◌≡◌, ◌≤◌, ◌<ℤ◌, ◌%◌, ◌++◌, min, [], ◌∷◌, List, length, map, replicate, ℕ, ℤ, pos, negsuc, Option, Some, None, IsSome}
 use Rattle.std.specs.List.{flat_map, AllByRecursion}
 use Rattle.dvi_ops.specs.Instruction.{Definition, Units, Postamble, Nop, FontDef, Instruction, Do, Bop, Eop, Pre, Post, PostPost}
@@ -50,6 +50,7 @@ IsIdle (Do Nop) = Unit {0}
 IsIdle (Do (FontDef d)) = Unit {0}
 IsIdle i = ⊥
 
+-- num, den and mag are positive (DVItype, 17).
 abbrev pub AreUnits : Units → Type 0
 AreUnits u = (pos 0 <ℤ u.num) × (pos 0 <ℤ u.den) × (pos 0 <ℤ u.mag)
 

@@ -5,6 +5,7 @@ use Rattle.std.specs.List.{flat_map, AllByRecursion}
 use Rattle.dvi_ops.specs.Instruction.{Definition, FontNum, FontDef, Instruction, Do}
 use Rattle.dvi_ops.specs.Body.{Widths}
 
+-- What an instruction defines, if it is a font definition.
 abbrev pub definition_of : Instruction → List Definition
 definition_of (Do (FontDef d)) = d ∷ []
 definition_of i = []
@@ -13,6 +14,7 @@ definition_of i = []
 abbrev pub definitions : List Instruction → List Definition
 definitions is = flat_map definition_of is
 
+-- The number of the font that an instruction selects, if it does.
 abbrev pub selection_of : Instruction → List ℤ
 selection_of (Do (FontNum f)) = f ∷ []
 selection_of i = []
@@ -30,7 +32,7 @@ defined f (d ∷ rest) = if int_eq f d.number then Some d else defined f rest
 abbrev pub IsSize : ℤ → Type 0
 IsSize z = (pos 0 <ℤ z) × (z <ℤ pos (2 ^ 27))
 
--- Two definitions of one number are the same (DVItype, 18).
+-- Two definitions of one number are the same (DVItype, 18; there only the postamble may define a font again: that it may be anywhere is own).
 abbrev pub AgreesWith : Definition → Definition → Type 0
 AgreesWith d e = d.number ≡ e.number → d ≡ e
 
@@ -51,7 +53,7 @@ abbrev pub known_after : List Definition → List Instruction → List Definitio
 known_after known [] = known
 known_after known (i ∷ rest) = known_after (definition_of i ++ known) rest
 
--- The widths of a font's characters by its name and its size, where its metric file was handed in and is good.
+-- The widths of a font's characters by its name and its size, where its metric file was handed in and is good (own).
 abbrev pub Metrics : Type 0
 Metrics = List ℕ → ℤ → Option (ℤ → Option ℤ)
 
@@ -64,6 +66,7 @@ font_in metrics (Some d) = metrics d.name d.size
 abbrev pub font : Metrics → List Definition → ℤ → Option (ℤ → Option ℤ)
 font metrics table f = font_in metrics (defined f table)
 
+-- The width of a character, where the widths of its font are known.
 abbrev pub width_in : Option (ℤ → Option ℤ) → ℤ → Option ℤ
 width_in None c = None
 width_in (Some widths) c = widths c

@@ -16,9 +16,11 @@ bytes_of is = flat_map spelling is
 abbrev pub scaled_points : Units
 scaled_points = record { num = pos 25400000; den = pos 473628672; mag = pos 1000 }
 
+-- Version 2, in scaled points, without a comment.
 abbrev pub preamble : Instruction
 preamble = Pre 2 scaled_points []
 
+-- The definitions of fonts, in order.
 abbrev pub define : List Definition → List Instruction
 define fonts = map (λ d. Do (FontDef d)) fonts
 

@@ -57,6 +57,7 @@ three_at bytes = followed (signed_at 4 bytes) (λ a rest. made (λ bc. (a, bc.0,
 unfoldable pub halves_at : List ℕ → Front (ℕ × ℕ)
 halves_at bytes = followed (half_at bytes) (λ a rest. made (λ b. (a, b)) (half_at rest))
 
+-- bop, behind its code.
 unfoldable pub bop_at : List ℕ → Front Instruction
 bop_at bytes = followed (cut 40 bytes) (λ counts rest. made (λ pointer. Bop (words 10 counts) pointer) (signed_at 4 rest))
 
@@ -118,6 +119,7 @@ long_at operation rest =
 unfoldable pub comment_at : List ℕ → Front (List ℕ)
 comment_at bytes = followed (byte_at bytes) (λ k rest. cut k rest)
 
+-- pre, post and post_post, each behind its code.
 unfoldable pub pre_at : List ℕ → Front Instruction
 pre_at bytes =
     followed (byte_at bytes) (λ id rest. followed (three_at rest) (λ u rest. made (λ comment. Pre id (record { num = u.0; den = u.1; mag = u.2 }) comment) (comment_at rest)))

@@ -1,4 +1,5 @@
--- The one spelling of an instruction that is written: the fewest bytes for every instruction whose operand may have several lengths; of xxx the first form or the last (own).
+-- The one spelling of an instruction that is written: the fewest bytes for every instruction whose operand may have several lengths; of xxx
+-- the first form or the last (own).
 use Rattle.std.specs.Prelude.{◌≡◌, ◌<◌, ◌+◌, ◌++◌, ◌^◌, ◌∷◌, [], List, length, ℕ, ℤ, pos, negsuc, nat_lt, if◌then◌else◌}
 use Rattle.std.specs.Int.{w32, cast_unsigned}
 use Rattle.std.specs.Int.RustNames.{FitsSigned}
@@ -15,6 +16,7 @@ operand n z = big_bytes n (cast_unsigned w32 z)
 abbrev pub bytes_for : ℕ → ℕ
 bytes_for m = if nat_lt m 128 then 1 else if nat_lt m 32768 then 2 else if nat_lt m 8388608 then 3 else 4
 
+-- How many bytes hold z as a signed number, at least.
 unfoldable pub signed_size : ℤ → ℕ
 signed_size (pos m) = bytes_for m
 signed_size (negsuc m) = bytes_for m
@@ -28,10 +30,11 @@ code_size (negsuc m) = 4
 abbrev pub coded : ℕ → ℕ → ℤ → List ℕ
 coded base n z = (base + n) ∷ operand n z
 
--- A movement, or what selects a character or a font.
+-- A movement, by the fewest bytes that hold its amount.
 abbrev pub coded_signed : ℕ → ℤ → List ℕ
 coded_signed base z = coded base (signed_size z) z
 
+-- What selects a character or a font, by the fewest bytes that hold its number.
 abbrev pub coded_number : ℕ → ℤ → List ℕ
 coded_number base z = coded base (code_size z) z
 
@@ -55,17 +58,22 @@ abbrev pub definition_bytes : Definition → List ℕ
 definition_bytes d =
     operand 4 d.check_sum ++ (operand 4 d.size ++ (operand 4 d.design_size ++ (length d.area ∷ length d.name ∷ (d.area ++ d.name))))
 
+-- fnt_def1 to fnt_def4, by the font's number.
 abbrev pub definition_spelling : Definition → List ℕ
 definition_spelling d = coded_number 242 d.number ++ definition_bytes d
 
+-- num, den and mag.
 abbrev pub units_bytes : Units → List ℕ
 units_bytes units = operand 4 units.num ++ (operand 4 units.den ++ operand 4 units.mag)
 
 -- What stands behind the code of post.
 abbrev pub post_bytes : Postamble → List ℕ
 post_bytes p =
-    operand 4 p.last_bop ++ (units_bytes p.units ++ (operand 4 p.height_plus_depth ++ (operand 4 p.width ++ (operand 2 (pos p.stack_depth) ++ operand 2 (pos p.pages)))))
+    operand 4 p.last_bop
+    ++ (units_bytes p.units
+    ++ (operand 4 p.height_plus_depth ++ (operand 4 p.width ++ (operand 2 (pos p.stack_depth) ++ operand 2 (pos p.pages)))))
 
+-- The spelling of what stands in a body.
 unfoldable pub leaf_spelling : Leaf → List ℕ
 leaf_spelling (SetChar c) = char_spelling c
 leaf_spelling (PutChar c) = coded_number 132 c
@@ -97,7 +105,7 @@ HasSpelling (Do (Xxx text)) = length text < 2 ^ 32
 HasSpelling (Pre id units comment) = length comment < 256
 HasSpelling i = Unit {0}
 
--- Each number fits its field.
+-- Each number of two bytes or more fits its field. (An identifier is its byte as it stands.)
 abbrev pub NumberFits : ℤ → Type 0
 NumberFits z = FitsSigned w32 z
 

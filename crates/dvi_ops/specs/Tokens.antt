@@ -1,4 +1,4 @@
--- Instructions with the bytes that spell them, and what stands in a list of them: where the pages begin, and what each names as the one before it.
+-- Instructions with the bytes that spell them (own), and what stands in a list of them: where the pages begin, and what each names as the one before it.
 use Rattle.std.specs.Prelude.{◌+◌, ◌++◌, [], ◌∷◌, List, length, map, ℕ, ℤ}
 use Rattle.std.specs.List.{flat_map}
 use Rattle.dvi_ops.specs.Instruction.{Instruction, Bop}
@@ -9,6 +9,7 @@ pub record Token : Type 0 where
   pub says : Instruction
   pub bytes : List ℕ
 
+-- Its bytes spell it.
 abbrev pub IsSpelled : Token → Type 0
 IsSpelled t = Spells t.says t.bytes
 
@@ -30,6 +31,7 @@ abbrev pub places : ℕ → List Token → List ℕ
 places at [] = []
 places at (t ∷ rest) = place_of at t.says ++ places (at + length t.bytes) rest
 
+-- What an instruction names as the bop before it, if it is a bop.
 abbrev pub pointer_of : Instruction → List ℤ
 pointer_of (Bop counts pointer) = pointer ∷ []
 pointer_of i = []

@@ -1,4 +1,4 @@
--- The instruction that an op stands for, line by line.
+-- The instruction that an op stands for, line by line (own).
 use Rattle.dvi_ops.specs.Instruction.{Across, Downward, First, Second, By, Set, Again, Definition, Units, Postamble, SetChar, PutChar, SetRule, PutRule, Nop, Move, FontNum, FontDef, Xxx, Instruction, Do, Push, Pop, Bop, Eop, Pre, Post, PostPost}
 use Rattle.dvi_ops.specs.declared.op.FontDefinition.{FontDefinition}
 use Rattle.dvi_ops.specs.declared.op.Op.{Op}

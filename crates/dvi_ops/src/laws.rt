@@ -17,12 +17,14 @@ pub fn written_is_spelled()
 
 /// No spelling of a movement is shorter than the one that is written: right, down, w, x, y and z.
 pub fn movements_are_shortest()
-    ensures { (axis : Axis) (step : Step) (bytes : List ℕ) → ((k : ℕ) → slice_index bytes k < 256) → Spells (Do (Move axis step)) bytes → length (spelling (Do (Move axis step))) ≤ length bytes }
+    ensures { (axis : Axis) (step : Step) (bytes : List ℕ) → ((k : ℕ) → slice_index bytes k < 256)
+        → Spells (Do (Move axis step)) bytes → length (spelling (Do (Move axis step))) ≤ length bytes }
 {}
 
 /// No spelling of any instruction is shorter than the one that is written, but for specials of more than 255 bytes, which have their last form.
 pub fn written_is_shortest()
-    ensures { (i : Instruction) (bytes : List ℕ) → HasShortText i → ((k : ℕ) → slice_index bytes k < 256) → Spells i bytes → length (spelling i) ≤ length bytes }
+    ensures { (i : Instruction) (bytes : List ℕ) → HasShortText i → ((k : ℕ) → slice_index bytes k < 256)
+        → Spells i bytes → length (spelling i) ≤ length bytes }
 {}
 
 /// How many bytes are written at most for what stands in the body of a page.

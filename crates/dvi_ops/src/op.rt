@@ -1,17 +1,17 @@
-//! An instruction of a DVI file as a value, without the lengths of its operands (DVItype, 13 to 18).
+//! An instruction of a DVI file as a value, without the lengths of its operands (DVItype, 13 to 20).
 //!
-//! All lengths are in DVI units; names and texts are slices of the file.
+//! All distances and sizes are in DVI units; names and texts are slices of the file. Each number may be any of its type; a file asks more of some.
 
-/// A font definition.
+/// A font definition (DVItype, 18).
 #[derive(Clone, Copy, Debug, PartialEq)]
 pub struct FontDefinition<'a> {
     /// The number by which the font is selected.
     pub number: i32,
     /// The check sum of its metric file.
     pub check_sum: i32,
-    /// The size at which the font is used.
+    /// The size at which the font is used, in DVI units; in a file 1 to 2^27 - 1.
     pub size: i32,
-    /// The size for which it was designed.
+    /// The size for which it was designed, in DVI units.
     pub design_size: i32,
     /// The first part of its name, up to 255 bytes: the area.
     pub area: &'a [u8],
@@ -19,7 +19,7 @@ pub struct FontDefinition<'a> {
     pub name: &'a [u8],
 }
 
-/// How DVI units are measured: num / den times 10^-7 metres, enlarged by mag / 1000.
+/// How DVI units are measured: num / den times 10^-7 metres, enlarged by mag / 1000 (DVItype, 17). In a file all three are positive.
 #[derive(Clone, Copy, Debug, PartialEq)]
 pub struct Units {
     pub num: i32,
@@ -27,16 +27,16 @@ pub struct Units {
     pub mag: i32,
 }
 
-/// What `post` says of the whole file.
+/// What `post` says of the whole file (DVItype, 19).
 #[derive(Clone, Copy, Debug, PartialEq)]
 pub struct Postamble {
     /// The place of the last bop, or -1.
     pub last_bop: i32,
     /// The units, as in the preamble.
     pub units: Units,
-    /// The greatest height plus depth of a page.
+    /// The greatest height plus depth of a page, in DVI units.
     pub height_plus_depth: i32,
-    /// The greatest width of a page.
+    /// The greatest width of a page, in DVI units.
     pub width: i32,
     /// How many pushes are open at once, at most.
     pub stack_depth: u16,
@@ -44,19 +44,19 @@ pub struct Postamble {
     pub pages: u16,
 }
 
-/// An instruction.
+/// An instruction, without the length of its operands (DVItype, 15 to 20).
 #[derive(Clone, Copy, Debug, PartialEq)]
 pub enum Op<'a> {
-    /// Sets the character of that number and moves right by its width.
+    /// Sets the character of that number in the current font and moves right by its width.
     SetChar(i32),
-    /// Sets the character of that number.
+    /// Sets the character of that number in the current font.
     PutChar(i32),
-    /// Sets a rule and moves right by its width.
+    /// Sets a rule with its bottom left corner at (h, v) and moves right by its width.
     SetRule {
         height: i32,
         width: i32,
     },
-    /// Sets a rule.
+    /// Sets a rule with its bottom left corner at (h, v).
     PutRule {
         height: i32,
         width: i32,
@@ -106,7 +106,7 @@ pub enum Op<'a> {
         units: Units,
         comment: &'a [u8],
     },
-    /// Begins the postamble.
+    /// Begins the postamble, with what it says of the file.
     Post(Postamble),
     /// Ends the postamble and names its place; the bytes 223 behind it do not belong to it.
     PostPost {

@@ -10,7 +10,7 @@ use crate::fault::OpFault;
 use crate::op::{FontDefinition, Op, Postamble, Units};
 use byteorder::{BigEndian, ByteOrder};
 
-// What the bytes say as a signed number.
+/// What the bytes say as a signed number.
 fn signed_of(operand: &[u8]) -> i32
     requires low { 1 ≤ length operand.now }
     requires high { length operand.now ≤ 4 }
@@ -19,7 +19,7 @@ fn signed_of(operand: &[u8]) -> i32
     BigEndian::read_int(operand, operand.len()) as i32
 }
 
-// The number of a character or of a font.
+/// The number of a character or of a font.
 fn code_of(operand: &[u8]) -> i32
     requires low { 1 ≤ length operand.now }
     requires high { length operand.now ≤ 4 }
@@ -31,7 +31,7 @@ fn code_of(operand: &[u8]) -> i32
     BigEndian::read_uint(operand, operand.len()) as i32
 }
 
-// A signed number of `size` bytes, and what is behind it.
+/// A signed number of `size` bytes, and what is behind it.
 #[tactic(auto, unfolding(crate::specs::Reading::signed_at))]
 fn signed_number(bytes: &[u8], size: usize) -> Option<(i32, &[u8])>
     requires low { 1 ≤ size }
@@ -42,7 +42,7 @@ fn signed_number(bytes: &[u8], size: usize) -> Option<(i32, &[u8])>
     Some((signed_of(operand), rest))
 }
 
-// The number of a character or of a font, of `size` bytes, and what is behind it.
+/// The number of a character or of a font, of `size` bytes, and what is behind it.
 #[tactic(auto, unfolding(crate::specs::Reading::code_at))]
 fn code_number(bytes: &[u8], size: usize) -> Option<(i32, &[u8])>
     requires low { 1 ≤ size }
@@ -53,7 +53,7 @@ fn code_number(bytes: &[u8], size: usize) -> Option<(i32, &[u8])>
     Some((code_of(operand), rest))
 }
 
-// A number of two bytes, and what is behind it.
+/// A number of two bytes, and what is behind it.
 #[tactic(auto, unfolding(crate::specs::Reading::half_at))]
 fn half(bytes: &[u8]) -> Option<(u16, &[u8])>
     ensures { option_map (λ found. (found.0, found.1.now)) result ≡ half_at bytes.now }
@@ -62,7 +62,7 @@ fn half(bytes: &[u8]) -> Option<(u16, &[u8])>
     Some((BigEndian::read_u16(operand), rest))
 }
 
-// A character, by its code from 0 to 131.
+/// A character, by its code from 0 to 131.
 #[tactic(auto, unfolding(crate::specs::Reading::char_at))]
 fn character(operation: u8, rest: &[u8]) -> Option<(Op<'_>, &[u8])>
     requires { operation ≤ 131 }
@@ -75,7 +75,7 @@ fn character(operation: u8, rest: &[u8]) -> Option<(Op<'_>, &[u8])>
     Some((Op::SetChar(number), rest))
 }
 
-// Two numbers of four bytes, and what is behind them.
+/// Two numbers of four bytes, and what is behind them.
 #[tactic(auto, unfolding(crate::specs::Reading::two_at))]
 fn two(bytes: &[u8]) -> Option<((i32, i32), &[u8])>
     ensures { option_map (λ found. ((found.0.0, found.0.1), found.1.now)) result ≡ two_at bytes.now }
@@ -85,7 +85,7 @@ fn two(bytes: &[u8]) -> Option<((i32, i32), &[u8])>
     Some(((first, second), rest))
 }
 
-// Three numbers of four bytes, and what is behind them.
+/// Three numbers of four bytes, and what is behind them.
 #[tactic(auto, unfolding(crate::specs::Reading::three_at))]
 fn three(bytes: &[u8]) -> Option<((i32, i32, i32), &[u8])>
     ensures { option_map (λ found. ((found.0.0, found.0.1, found.0.2), found.1.now)) result ≡ three_at bytes.now }
@@ -95,7 +95,7 @@ fn three(bytes: &[u8]) -> Option<((i32, i32, i32), &[u8])>
     Some(((first, second, third), rest))
 }
 
-// Two numbers of two bytes, and what is behind them.
+/// Two numbers of two bytes, and what is behind them.
 #[tactic(auto, unfolding(crate::specs::Reading::halves_at))]
 fn halves(bytes: &[u8]) -> Option<((u16, u16), &[u8])>
     ensures { option_map (λ found. ((found.0.0, found.0.1), found.1.now)) result ≡ halves_at bytes.now }
@@ -105,7 +105,7 @@ fn halves(bytes: &[u8]) -> Option<((u16, u16), &[u8])>
     Some(((first, second), rest))
 }
 
-// The ten counts of a page.
+/// The ten counts of a page.
 fn counts_of(operand: &[u8]) -> [i32; 10]
     requires { length operand.now ≡ 40 }
     ensures { result ≡ words 10 operand.now }
@@ -115,7 +115,7 @@ fn counts_of(operand: &[u8]) -> [i32; 10]
     counts
 }
 
-// The beginning of a page, behind its code.
+/// The beginning of a page, behind its code.
 #[tactic(auto, unfolding(crate::specs::Reading::bop_at))]
 fn bop(bytes: &[u8]) -> Option<(Op<'_>, &[u8])>
     ensures { option_map (λ found. (view found.0, found.1.now)) result ≡ bop_at bytes.now }
@@ -126,7 +126,7 @@ fn bop(bytes: &[u8]) -> Option<(Op<'_>, &[u8])>
     Some((Op::Bop { counts, pointer }, rest))
 }
 
-// Rules, put, nop, bop, eop, push and pop, by their code from 132 to 142.
+/// Rules, put, nop, bop, eop, push and pop, by their code from 132 to 142.
 #[tactic(auto, unfolding(crate::specs::Reading::plain_at))]
 fn plain(operation: u8, rest: &[u8]) -> Option<(Op<'_>, &[u8])>
     requires low { 132 ≤ operation }
@@ -154,7 +154,7 @@ fn plain(operation: u8, rest: &[u8]) -> Option<(Op<'_>, &[u8])>
     }
 }
 
-// Movements to the right, by their code from 143 to 156.
+/// Movements to the right, by their code from 143 to 156.
 #[tactic(auto, unfolding(crate::specs::Reading::movement_at))]
 fn across(operation: u8, rest: &[u8]) -> Option<(Op<'_>, &[u8])>
     requires low { 143 ≤ operation }
@@ -179,7 +179,7 @@ fn across(operation: u8, rest: &[u8]) -> Option<(Op<'_>, &[u8])>
     }
 }
 
-// Movements down, by their code from 157 to 170.
+/// Movements down, by their code from 157 to 170.
 #[tactic(auto, unfolding(crate::specs::Reading::movement_at))]
 fn down(operation: u8, rest: &[u8]) -> Option<(Op<'_>, &[u8])>
     requires low { 157 ≤ operation }
@@ -204,7 +204,7 @@ fn down(operation: u8, rest: &[u8]) -> Option<(Op<'_>, &[u8])>
     }
 }
 
-// The selection of a font, by its code from 171 to 238.
+/// The selection of a font, by its code from 171 to 238.
 #[tactic(auto, unfolding(crate::specs::Reading::font_at))]
 fn font(operation: u8, rest: &[u8]) -> Option<(Op<'_>, &[u8])>
     requires low { 171 ≤ operation }
@@ -218,7 +218,7 @@ fn font(operation: u8, rest: &[u8]) -> Option<(Op<'_>, &[u8])>
     Some((Op::FontNum(number), rest))
 }
 
-// A special whose length has `size` bytes.
+/// A special whose length has `size` bytes.
 #[tactic(auto, unfolding(crate::specs::Reading::text_at))]
 fn text(bytes: &[u8], size: usize) -> Option<(Op<'_>, &[u8])>
     requires low { 1 ≤ size }
@@ -231,7 +231,7 @@ fn text(bytes: &[u8], size: usize) -> Option<(Op<'_>, &[u8])>
     Some((Op::Xxx(text), rest))
 }
 
-// The two parts of a font's name behind their lengths.
+/// The two parts of a font's name behind their lengths.
 #[tactic(auto, unfolding(crate::specs::Reading::names_at))]
 fn names(bytes: &[u8]) -> Option<((&[u8], &[u8]), &[u8])>
     ensures { option_map (λ found. ((found.0.0.now, found.0.1.now), found.1.now)) result ≡ names_at bytes.now }
@@ -243,7 +243,7 @@ fn names(bytes: &[u8]) -> Option<((&[u8], &[u8]), &[u8])>
     Some(((area, name), rest))
 }
 
-// A font definition whose number has `size` bytes.
+/// A font definition whose number has `size` bytes.
 #[tactic(auto, unfolding(crate::specs::Reading::definition_at))]
 fn definition(bytes: &[u8], size: usize) -> Option<(FontDefinition<'_>, &[u8])>
     requires low { 1 ≤ size }
@@ -264,7 +264,7 @@ fn definition(bytes: &[u8], size: usize) -> Option<(FontDefinition<'_>, &[u8])>
     Some((font, rest))
 }
 
-// A special or a font definition, by its code from 239 to 246.
+/// A special or a font definition, by its code from 239 to 246.
 #[tactic(auto, unfolding(crate::specs::Reading::long_at))]
 fn long(operation: u8, rest: &[u8]) -> Option<(Op<'_>, &[u8])>
     requires low { 239 ≤ operation }
@@ -278,7 +278,7 @@ fn long(operation: u8, rest: &[u8]) -> Option<(Op<'_>, &[u8])>
     Some((Op::FontDef(font), rest))
 }
 
-// A text behind its length of one byte.
+/// A text behind its length of one byte.
 #[tactic(auto, unfolding(crate::specs::Reading::comment_at))]
 fn comment(bytes: &[u8]) -> Option<(&[u8], &[u8])>
     ensures { option_map (λ found. (found.0.now, found.1.now)) result ≡ comment_at bytes.now }
@@ -287,7 +287,7 @@ fn comment(bytes: &[u8]) -> Option<(&[u8], &[u8])>
     rest.split_at_checked(usize::from(*count))
 }
 
-// The preamble, behind its code.
+/// The preamble, behind its code.
 #[tactic(auto, unfolding(crate::specs::Reading::pre_at))]
 fn pre(bytes: &[u8]) -> Option<(Op<'_>, &[u8])>
     ensures { option_map (λ found. (view found.0, found.1.now)) result ≡ pre_at bytes.now }
@@ -305,7 +305,7 @@ fn pre(bytes: &[u8]) -> Option<(Op<'_>, &[u8])>
     ))
 }
 
-// The beginning of the postamble, behind its code.
+/// The beginning of the postamble, behind its code.
 #[tactic(auto, unfolding(crate::specs::Reading::post_at))]
 fn post(bytes: &[u8]) -> Option<(Op<'_>, &[u8])>
     ensures { option_map (λ found. (view found.0, found.1.now)) result ≡ post_at bytes.now }
@@ -328,7 +328,7 @@ fn post(bytes: &[u8]) -> Option<(Op<'_>, &[u8])>
     ))
 }
 
-// The end of the postamble, behind its code.
+/// The end of the postamble, behind its code.
 #[tactic(auto, unfolding(crate::specs::Reading::post_post_at))]
 fn post_post(bytes: &[u8]) -> Option<(Op<'_>, &[u8])>
     ensures { option_map (λ found. (view found.0, found.1.now)) result ≡ post_post_at bytes.now }
@@ -338,7 +338,7 @@ fn post_post(bytes: &[u8]) -> Option<(Op<'_>, &[u8])>
     Some((Op::PostPost { place, id: *id }, rest))
 }
 
-// What stands around the pages, by its code from 247.
+/// What stands around the pages, by its code from 247.
 #[tactic(auto, unfolding(crate::specs::Reading::frame_at))]
 fn frame(operation: u8, rest: &[u8]) -> Option<(Op<'_>, &[u8])>
     requires { 247 ≤ operation }
@@ -352,7 +352,7 @@ fn frame(operation: u8, rest: &[u8]) -> Option<(Op<'_>, &[u8])>
     }
 }
 
-// The instruction at the front of some bytes, and the bytes behind it.
+/// The instruction at the front of some bytes, and the bytes behind it.
 #[tactic(auto, unfolding(crate::specs::Reading::read))]
 fn front(bytes: &[u8]) -> Option<(Op<'_>, &[u8])>
     ensures { option_map (λ found. (view found.0, found.1.now)) result ≡ read bytes.now }
@@ -369,7 +369,7 @@ fn front(bytes: &[u8]) -> Option<(Op<'_>, &[u8])>
     }
 }
 
-// Why no instruction stands at the front of some bytes.
+/// Why no instruction stands at the front of some bytes.
 fn fault_of(bytes: &[u8]) -> OpFault
     ensures { (result ≡ OpFault.Opcode) ↔ (250 ≤ slice_index bytes.now 0) }
 {
@@ -379,7 +379,7 @@ fn fault_of(bytes: &[u8]) -> OpFault
     }
 }
 
-/// Reads the instruction at the front of some bytes, and says how many bytes spell it (DVItype, 15 to 18). Where no front of the bytes spells an instruction,
+/// Reads the instruction at the front of some bytes, and says how many bytes spell it (DVItype, 15 to 20). Where no front of the bytes spells an instruction,
 /// the fault is `Opcode` if the first byte is 250 to 255, else `Truncated`. It takes no memory.
 pub fn next(bytes: &[u8]) -> Result<(Op<'_>, usize), OpFault>
     ensures length { IfOk result (λ found. found.1 ≤ length bytes.now) }

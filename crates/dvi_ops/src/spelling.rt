@@ -11,7 +11,7 @@ use crate::op::{FontDefinition, Op, Postamble, Units};
 use byteorder::{BigEndian, ByteOrder};
 use std::alloc::AllocError;
 
-// Appends the parts, one after the other.
+/// Appends the parts, one after the other.
 fn append(out: &mut Vec<u8>, parts: &[&[u8]]) -> Result<(), AllocError>
     ensures ok { OnOk result (out.new.items ≡ out.old.items ++ flat_map (λ part. part.now) parts.now) }
     ensures err { OnErr result (out.new.items ≡ out.old.items) }
@@ -26,7 +26,7 @@ fn append(out: &mut Vec<u8>, parts: &[&[u8]]) -> Result<(), AllocError>
     Ok(())
 }
 
-// The four bytes of a number.
+/// The four bytes of a number.
 #[tactic(auto, unfolding(crate::specs::Spelling::operand))]
 fn word(value: i32) -> [u8; 4]
     ensures { result ≡ operand 4 value }
@@ -36,7 +36,7 @@ fn word(value: i32) -> [u8; 4]
     bytes
 }
 
-// How many bytes hold a signed number, at least.
+/// How many bytes hold a signed number, at least.
 #[tactic(auto, unfolding(crate::specs::Spelling::signed_size))]
 fn size_of_signed(value: i32) -> usize
     ensures size { result ≡ signed_size value }
@@ -51,7 +51,7 @@ fn size_of_signed(value: i32) -> usize
     }
 }
 
-// How many bytes hold the number of a character or of a font, at least.
+/// How many bytes hold the number of a character or of a font, at least.
 #[tactic(auto, unfolding(crate::specs::Spelling::code_size))]
 fn size_of_code(value: i32) -> usize
     ensures size { result ≡ code_size value }
@@ -66,7 +66,7 @@ fn size_of_code(value: i32) -> usize
     }
 }
 
-// Appends the code that stands `size` above `base`, and the `size` lowest bytes of a number.
+/// Appends the code that stands `size` above `base`, and the `size` lowest bytes of a number.
 #[tactic(auto, using(crate::proofs::Operands::operands))]
 fn append_coded(out: &mut Vec<u8>, base: u8, size: usize, value: i32) -> Result<(), AllocError>
     requires low { 1 ≤ size }
@@ -78,7 +78,7 @@ fn append_coded(out: &mut Vec<u8>, base: u8, size: usize, value: i32) -> Result<
     append(out, &[&[base + size as u8], &word(value)[4 - size..]])
 }
 
-// Appends a character: set_char or set1 to set4.
+/// Appends a character: set_char or set1 to set4.
 #[tactic(auto, unfolding(crate::specs::Spelling::char_spelling))]
 fn append_char(out: &mut Vec<u8>, character: i32) -> Result<(), AllocError>
     ensures ok { OnOk result (out.new.items ≡ out.old.items ++ char_spelling character) }
@@ -90,7 +90,7 @@ fn append_char(out: &mut Vec<u8>, character: i32) -> Result<(), AllocError>
     }
 }
 
-// Appends the selection of a font: fnt_num or fnt1 to fnt4.
+/// Appends the selection of a font: fnt_num or fnt1 to fnt4.
 #[tactic(auto, unfolding(crate::specs::Spelling::font_spelling))]
 fn append_font(out: &mut Vec<u8>, font: i32) -> Result<(), AllocError>
     ensures ok { OnOk result (out.new.items ≡ out.old.items ++ font_spelling font) }
@@ -102,7 +102,7 @@ fn append_font(out: &mut Vec<u8>, font: i32) -> Result<(), AllocError>
     }
 }
 
-// Appends a movement.
+/// Appends a movement.
 fn append_signed(out: &mut Vec<u8>, base: u8, amount: i32) -> Result<(), AllocError>
     requires { base + 4 < 256 }
     ensures ok { OnOk result (out.new.items ≡ out.old.items ++ coded_signed base amount) }
@@ -111,7 +111,7 @@ fn append_signed(out: &mut Vec<u8>, base: u8, amount: i32) -> Result<(), AllocEr
     append_coded(out, base, size_of_signed(amount), amount)
 }
 
-// Appends a rule, by its code.
+/// Appends a rule, by its code.
 fn append_rule(out: &mut Vec<u8>, code: u8, height: i32, width: i32) -> Result<(), AllocError>
     ensures ok { OnOk result (out.new.items ≡ out.old.items ++ code ∷ (operand 4 height ++ operand 4 width)) }
     ensures err { OnErr result (out.new.items ≡ out.old.items) }
@@ -119,7 +119,7 @@ fn append_rule(out: &mut Vec<u8>, code: u8, height: i32, width: i32) -> Result<(
     append(out, &[&[code], &word(height), &word(width)])
 }
 
-// The length of a text in four bytes.
+/// The length of a text in four bytes.
 #[tactic(auto, unfolding(crate::specs::Spelling::operand))]
 fn length_of(text: &[u8]) -> [u8; 4]
     requires { length text.now < 2 ^ 32 }
@@ -130,7 +130,7 @@ fn length_of(text: &[u8]) -> [u8; 4]
     bytes
 }
 
-// Appends a special.
+/// Appends a special.
 #[tactic(auto, unfolding(crate::specs::Spelling::text_spelling))]
 fn append_text(out: &mut Vec<u8>, text: &[u8]) -> Result<(), AllocError>
     requires { length text.now < 2 ^ 32 }
@@ -143,7 +143,7 @@ fn append_text(out: &mut Vec<u8>, text: &[u8]) -> Result<(), AllocError>
     append(out, &[&[242], &length_of(text), text])
 }
 
-// The twelve bytes of the units.
+/// The twelve bytes of the units.
 #[tactic(auto, unfolding(crate::specs::Spelling::operand))]
 fn units_of(units: &Units) -> [u8; 12]
     ensures bytes { result ≡ units_bytes (view_units units.now) }
@@ -154,7 +154,7 @@ fn units_of(units: &Units) -> [u8; 12]
     bytes
 }
 
-// Each count is in the range of its type. (The loop reads each; it does nothing else.)
+/// Each count is in the range of its type. (The loop reads each; it does nothing else.)
 fn counts_fit(counts: &[i32; 10])
     ensures ten { length counts.now ≡ 10 }
     ensures fits { AllByRecursion NumberFits counts.now }
@@ -164,7 +164,7 @@ fn counts_fit(counts: &[i32; 10])
     }
 }
 
-// Appends the beginning of a page.
+/// Appends the beginning of a page.
 #[tactic(auto, unfolding(crate::specs::Spelling::operand))]
 fn append_bop(out: &mut Vec<u8>, counts: &[i32; 10], pointer: i32) -> Result<(), AllocError>
     ensures ok { OnOk result (out.new.items ≡ out.old.items ++ 139 ∷ (flat_map (operand 4) counts.now ++ operand 4 pointer)) }
@@ -178,7 +178,7 @@ fn append_bop(out: &mut Vec<u8>, counts: &[i32; 10], pointer: i32) -> Result<(),
     append(out, &[&[139], &bytes, &word(pointer)])
 }
 
-// Appends a font definition.
+/// Appends a font definition.
 #[tactic(auto, using(crate::proofs::Operands::operands))]
 fn append_definition(out: &mut Vec<u8>, font: &FontDefinition<'_>) -> Result<(), AllocError>
     requires area { length font.now.area.now < 256 }
@@ -204,7 +204,7 @@ fn append_definition(out: &mut Vec<u8>, font: &FontDefinition<'_>) -> Result<(),
     )
 }
 
-// Appends the preamble.
+/// Appends the preamble.
 fn append_pre(out: &mut Vec<u8>, id: u8, units: &Units, comment: &[u8]) -> Result<(), AllocError>
     requires { length comment.now < 256 }
     ensures ok { OnOk result (out.new.items ≡ out.old.items ++ 247 ∷ id ∷ (units_bytes (view_units units.now) ++ (length comment.now ∷ comment.now))) }
@@ -222,7 +222,7 @@ fn append_pre(out: &mut Vec<u8>, id: u8, units: &Units, comment: &[u8]) -> Resul
     )
 }
 
-// Two numbers of two bytes.
+/// Two numbers of two bytes.
 #[tactic(auto, unfolding(crate::specs::Spelling::operand))]
 fn two_halves(first: u16, second: u16) -> [u8; 4]
     ensures bytes { result ≡ operand 2 (pos first) ++ operand 2 (pos second) }
@@ -234,7 +234,7 @@ fn two_halves(first: u16, second: u16) -> [u8; 4]
     bytes
 }
 
-// Appends the beginning of the postamble.
+/// Appends the beginning of the postamble.
 fn append_post(out: &mut Vec<u8>, post: &Postamble) -> Result<(), AllocError>
     ensures ok { OnOk result (out.new.items ≡ out.old.items ++ 248 ∷ post_bytes (postamble post.now)) }
     ensures fits { NumbersFit (Post (postamble post.now)) }
@@ -254,7 +254,7 @@ fn append_post(out: &mut Vec<u8>, post: &Postamble) -> Result<(), AllocError>
 }
 
 /// Appends the spelling of an instruction: the fewest bytes for every instruction whose operand may have several lengths; of xxx the first form for up to 255
-/// bytes, else the last (DVItype, 15 to 18). Each length has to fit its field: areas, names and comments have up to 255 bytes, specials fewer than 2^32.
+/// bytes, else the last (DVItype, 15 to 20). Each length has to fit its field: areas, names and comments have up to 255 bytes, specials fewer than 2^32.
 /// Where memory is refused, `out` is as it was.
 #[tactic(auto, unfolding(crate::specs::Spelling::spelling, crate::specs::Spelling::leaf_spelling))]
 pub fn spell(op: &Op<'_>, out: &mut Vec<u8>) -> Result<(), AllocError>
