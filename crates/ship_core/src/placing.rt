@@ -7,7 +7,6 @@ ghost use Rattle.pack_core.specs.Totals.{fits};
 ghost use Rattle.ship_core.specs.Marks.{size_in, right_at, down_at, rule_below, rule_tall, rule_wide, rule_mark, box_h, box_v, numbers_of};
 ghost use Rattle.ship_core.specs.Drawing.{Picture, in_front};
 ghost use Rattle.ship_core.specs.Placing.{point, Reaches, Ends, strokes_in, strokes_of, reference_h, reference_v};
-ghost use Rattle.node_core.specs.declared.tree.Kind.TheVariants as kinds;
 ghost use Rattle.node_core.specs.declared.tree.Node.TheVariants as nodes;
 
 use node_core::{BoxNode, Glyph, Kind, Node, Rule, RuleSize};
@@ -85,7 +84,14 @@ pub fn point_at(kind: Kind, h: Dimen, v: i64, distance: i128) -> Option<Place>
     }
 }
 
-/// The sum of two dimensions, where it fits.
+/// The sum of two dimensions, whether it fits or not.
+fn added(a: Dimen, b: Dimen) -> i128
+    ensures { result ≡ a +ℤ b }
+{
+    i128::from(a.get()) + i128::from(b.get())
+}
+
+/// The sum of two dimensions, in scaled points; None exactly where it does not fit. (That the two themselves fit is said too: dimensions always do.)
 #[tactic(auto, using(crate::proofs::Fitting::dimension_fits))]
 pub fn sum(a: Dimen, b: Dimen) -> Option<Dimen>
     ensures value { IfSome result (λ sum. sum ≡ a +ℤ b) }
@@ -93,7 +99,7 @@ pub fn sum(a: Dimen, b: Dimen) -> Option<Dimen>
     ensures first { fits a ≡ true }
     ensures second { fits b ≡ true }
 {
-    dimension(i128::from(a.get()) + i128::from(b.get()))
+    dimension(added(a, b))
 }
 
 /// A size of a rule where it stands in a box.
@@ -114,37 +120,6 @@ struct RuleSizes {
     wide: Dimen,
 }
 
-/// The sizes of a rule in a horizontal list; None exactly where its height plus depth does not fit.
-fn sizes_across(shown: &BoxNode, rule: Rule) -> Option<RuleSizes>
-    requires { shown.now.kind ≡ kinds.Horizontal }
-    ensures fits { is_some result ≡ fits (rule_tall shown.now.kind shown.now rule) }
-    ensures below { IfSome result (λ s. s.below ≡ rule_below shown.now.kind shown.now rule) }
-    ensures tall { IfSome result (λ s. s.tall ≡ rule_tall shown.now.kind shown.now rule) }
-    ensures wide { IfSome result (λ s. s.wide ≡ rule_wide shown.now.kind shown.now rule) }
-{
-    let below = size_where(shown.depth, rule.depth);
-    let tall = sum(size_where(shown.height, rule.height), below)?;
-    let wide = counted(rule.width);
-    Some(RuleSizes { below, tall, wide })
-}
-
-/// The sizes of a rule in a vertical list; None exactly where its height plus depth does not fit.
-fn sizes_downward(shown: &BoxNode, rule: Rule) -> Option<RuleSizes>
-    requires { shown.now.kind ≡ kinds.Vertical }
-    ensures fits { is_some result ≡ fits (rule_tall shown.now.kind shown.now rule) }
-    ensures below { IfSome result (λ s. s.below ≡ rule_below shown.now.kind shown.now rule) }
-    ensures tall { IfSome result (λ s. s.tall ≡ rule_tall shown.now.kind shown.now rule) }
-    ensures wide { IfSome result (λ s. s.wide ≡ rule_wide shown.now.kind shown.now rule) }
-{
-    let tall = sum(counted(rule.height), counted(rule.depth))?;
-    let wide = size_where(shown.width, rule.width);
-    Some(RuleSizes {
-        below: tall,
-        tall,
-        wide,
-    })
-}
-
 /// The sizes of a rule in the list of a box; None exactly where its height plus depth does not fit.
 fn sizes_of(shown: &BoxNode, rule: Rule) -> Option<RuleSizes>
     ensures fits { is_some result ≡ fits (rule_tall shown.now.kind shown.now rule) }
@@ -153,8 +128,21 @@ fn sizes_of(shown: &BoxNode, rule: Rule) -> Option<RuleSizes>
     ensures wide { IfSome result (λ s. s.wide ≡ rule_wide shown.now.kind shown.now rule) }
 {
     match shown.kind {
-        Kind::Horizontal => sizes_across(shown, rule),
-        Kind::Vertical => sizes_downward(shown, rule),
+        Kind::Horizontal => {
+            let below = size_where(shown.depth, rule.depth);
+            let tall = sum(size_where(shown.height, rule.height), below)?;
+            let wide = counted(rule.width);
+            Some(RuleSizes { below, tall, wide })
+        }
+        Kind::Vertical => {
+            let tall = sum(counted(rule.height), counted(rule.depth))?;
+            let wide = size_where(shown.width, rule.width);
+            Some(RuleSizes {
+                below: tall,
+                tall,
+                wide,
+            })
+        }
     }
 }
 
@@ -176,13 +164,6 @@ fn visible(height: Dimen, h: Dimen, v: Dimen, width: Dimen, end: Dimen) -> Optio
         end,
         ink: Ink::Rule(height),
     })
-}
-
-/// The sum of two dimensions, whether it fits or not.
-fn added(a: Dimen, b: Dimen) -> i128
-    ensures { result ≡ a +ℤ b }
-{
-    i128::from(a.get()) + i128::from(b.get())
 }
 
 /// The reference point of a box that stands at a place of a list of that kind, where it fits.
