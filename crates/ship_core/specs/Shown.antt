@@ -39,4 +39,5 @@ NamesNoRegister other = Unit {0}
 abbrev pub CanBeWritten : Type 0
 CanBeWritten =
     (widths : Widths) (page : Page) → is_huge page ≡ false → EachLeaf (HasWidth widths) page.shown.list
-    → AllByRecursion IsWritable (flat (body_of page)) × AllByRecursion NamesNoRegister (flat (body_of page)) × (nests (body_of page) ≤ items_depth page.shown.list)
+    → AllByRecursion IsWritable (flat (body_of page)) × AllByRecursion NamesNoRegister (flat (body_of page))
+    × (nests (body_of page) ≤ items_depth page.shown.list)

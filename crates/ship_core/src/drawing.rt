@@ -100,7 +100,8 @@ impl Drawing {
         ensures h { OnOk result (self.new.h ≡ h) }
         ensures v { OnOk result (self.new.v ≡ v) }
         ensures font { OnOk result (self.new.font ≡ self.old.font) }
-        ensures ops { OnOk result (map view self.new.ops.items ≡ (map view self.old.ops.items ++ movement Across (h -ℤ self.old.h)) ++ movement Downward (v -ℤ self.old.v)) }
+        ensures ops { OnOk result (map view self.new.ops.items
+            ≡ (map view self.old.ops.items ++ movement Across (h -ℤ self.old.h)) ++ movement Downward (v -ℤ self.old.v)) }
     {
         append_right(&mut self.ops, self.h, h)?;
         self.h = h;

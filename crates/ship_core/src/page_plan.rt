@@ -61,11 +61,15 @@ impl Walk {
         requires here { self.old.here ≡ point_in shown.now begin.now.h begin.now.v (place_at shown.now.setting self.old.cursor) }
         ensures cursor { OnSome result (self.new.cursor ≡ one_more shown.now.kind shown.now.setting self.old.cursor node.now) }
         ensures here { OnSome result (self.new.here ≡ point_in shown.now begin.now.h begin.now.v (place_at shown.now.setting self.new.cursor)) }
-        ensures fits { is_some result ≡ list_all fits (numbers_between shown.now begin.now.h begin.now.v (place_at shown.now.setting self.old.cursor) (place_at shown.now.setting (one_more shown.now.kind shown.now.setting self.old.cursor node.now)) node.now) }
-        ensures mark { IfSome result (λ s. (rest : Picture) → strokes_in s.mark rest ≡ strokes_at shown.now begin.now.h begin.now.v (place_at shown.now.setting self.old.cursor) node.now rest) }
+        ensures fits { is_some result ≡ list_all fits (numbers_between shown.now begin.now.h begin.now.v (place_at shown.now.setting self.old.cursor)
+            (place_at shown.now.setting (one_more shown.now.kind shown.now.setting self.old.cursor node.now)) node.now) }
+        ensures mark { IfSome result (λ s. (rest : Picture) → strokes_in s.mark rest
+            ≡ strokes_at shown.now begin.now.h begin.now.v (place_at shown.now.setting self.old.cursor) node.now rest) }
         ensures end { IfSome result (λ s. IfSome s.mark (Ends shown.now.kind)) }
-        ensures h { IfSome result (λ s. s.at.h ≡ reference_h shown.now.kind (right_at shown.now.kind begin.now.h (place_at shown.now.setting self.old.cursor)) node.now) }
-        ensures v { IfSome result (λ s. s.at.v ≡ reference_v shown.now.kind (down_at shown.now.kind begin.now.v (place_at shown.now.setting self.old.cursor)) node.now) }
+        ensures h { IfSome result (λ s. s.at.h
+            ≡ reference_h shown.now.kind (right_at shown.now.kind begin.now.h (place_at shown.now.setting self.old.cursor)) node.now) }
+        ensures v { IfSome result (λ s. s.at.v
+            ≡ reference_v shown.now.kind (down_at shown.now.kind begin.now.v (place_at shown.now.setting self.old.cursor)) node.now) }
     {
         let at = self.here?;
         self.cursor.pass(shown.kind, &shown.setting, node);
@@ -112,8 +116,8 @@ fn difference(a: Dimen, b: Dimen) -> i64
     i64::from(a.get()) - i64::from(b.get())
 }
 
-/// Whether the page of a box with its reference point at (h, v) is huge: a place or a size on it does not fit, in inner boxes too. It takes
-/// no memory.
+/// Whether the page of a box whose reference point is (h, v), in scaled points from the origin, is huge: a place or a size on it does not fit,
+/// in inner boxes too. It takes no memory.
 #[tactic(auto, unfolding(crate::specs::Marks::is_huge))]
 pub fn is_huge(shown: &BoxNode, h: Dimen, v: Dimen) -> bool
     ensures { (counts : List ℤ) → result ≡ is_huge (record { counts = counts; shown = shown.now; h = h; v = v }) }
@@ -130,7 +134,8 @@ pub fn is_huge(shown: &BoxNode, h: Dimen, v: Dimen) -> bool
 /// Draws the list of a box; each inner box with items is a group, from the place in front of it.
 fn draw_list(drawing: &mut Drawing, shown: &BoxNode, begin: &Begin) -> Result<(), AllocError>
     requires { list_all fits (numbers_behind shown.now begin.now.h begin.now.v [] shown.now.list) ≡ true }
-    ensures ops { OnOk result (map view drawing.new.ops.items ≡ makes shown.now.kind drawing.old (picture_behind shown.now begin.now.h begin.now.v [] shown.now.list)) }
+    ensures ops { OnOk result (map view drawing.new.ops.items
+        ≡ makes shown.now.kind drawing.old (picture_behind shown.now begin.now.h begin.now.v [] shown.now.list)) }
     ensures font { OnOk result (option_map pos drawing.new.font ≡ leaves drawing.old (picture_behind shown.now begin.now.h begin.now.v [] shown.now.list)) }
 {
     let mut walk = Walk::new(shown, begin);
@@ -153,8 +158,10 @@ fn draw_list(drawing: &mut Drawing, shown: &BoxNode, begin: &Begin) -> Result<()
 /// Why a page is not drawn.
 #[derive(Clone, Copy, Debug, PartialEq, Eq, Error)]
 pub enum ShipFault {
+    /// A place or a size on the page, in an inner box too, is more than 2^30 - 1 sp or less than -(2^30 - 1) sp.
     #[error("a place or size of the page does not fit")]
     HugePage,
+    /// Memory for the instructions was refused.
     #[error("a growth of memory was refused")]
     OutOfMemory,
 }
@@ -171,7 +178,8 @@ pub fn plan(
 ) -> Result<Vec<Op<'static>>, ShipFault>
     ensures ok { IfOk result (λ ops. (counts : List ℤ) → map view ops.items ≡ flat (body_of (record { counts = counts; shown = shown.now; h = h; v = v }))) }
     ensures fits { OnOk result ((counts : List ℤ) → is_huge (record { counts = counts; shown = shown.now; h = h; v = v }) ≡ false) }
-    ensures huge { IfErr result (λ fault. (counts : List ℤ) → (fault ≡ ShipFault.HugePage) ↔ (is_huge (record { counts = counts; shown = shown.now; h = h; v = v }) ≡ true)) }
+    ensures huge { IfErr result (λ fault. (counts : List ℤ)
+        → (fault ≡ ShipFault.HugePage) ↔ (is_huge (record { counts = counts; shown = shown.now; h = h; v = v }) ≡ true)) }
 {
     if is_huge(shown, h, v) {
         return Err(ShipFault::HugePage);
