@@ -105,7 +105,7 @@ HasSpelling (Do (Xxx text)) = length text < 2 ^ 32
 HasSpelling (Pre id units comment) = length comment < 256
 HasSpelling i = Unit {0}
 
--- Each number fits its field.
+-- Each number of two bytes or more fits its field. (An identifier is its byte as it stands.)
 abbrev pub NumberFits : ℤ → Type 0
 NumberFits z = FitsSigned w32 z
 

@@ -7,7 +7,7 @@ ghost use Rattle.dvi_ops.specs.Forest.{flat};
 ghost use Rattle.dvi_ops.specs.Instruction.{Across, Downward, Do, Push, Pop};
 ghost use Rattle.dvi_ops.specs.View.{view};
 ghost use Rattle.ship_core.specs.Drawing.{Picture, ruled, drawn};
-ghost use Rattle.ship_core.specs.Placing.{Ends, strokes_in, inked, makes, leaves, movement, selection, unless_zero};
+ghost use Rattle.ship_core.specs.Placing.{Ends, strokes_in, inked, makes, leaves, movement, selection};
 
 use crate::placing::{Ink, MarkAt, Place};
 use dvi_ops::Op;
@@ -24,18 +24,27 @@ pub struct Drawing {
     pub font: Option<u8>,
 }
 
-/// Appends an instruction, unless its amount is 0.
-fn append_movement(
-    ops: &mut Vec<Op<'static>>,
-    amount: i32,
-    movement: Op<'static>,
-) -> Result<(), AllocError>
-    ensures { OnOk result (map view ops.new.items ≡ map view ops.old.items ++ unless_zero amount (view movement)) }
+/// Appends a movement to the right, unless it is none.
+fn append_right(ops: &mut Vec<Op<'static>>, from: Dimen, to: Dimen) -> Result<(), AllocError>
+    ensures { OnOk result (map view ops.new.items ≡ map view ops.old.items ++ movement Across (to -ℤ from)) }
 {
+    let amount = to.get() - from.get();
     if amount == 0 {
         return Ok(());
     }
-    ops.push(movement)?;
+    ops.push(Op::Right(amount))?;
+    Ok(())
+}
+
+/// Appends a movement down, unless it is none.
+fn append_down(ops: &mut Vec<Op<'static>>, from: Dimen, to: Dimen) -> Result<(), AllocError>
+    ensures { OnOk result (map view ops.new.items ≡ map view ops.old.items ++ movement Downward (to -ℤ from)) }
+{
+    let amount = to.get() - from.get();
+    if amount == 0 {
+        return Ok(());
+    }
+    ops.push(Op::Down(amount))?;
     Ok(())
 }
 
@@ -94,11 +103,9 @@ impl Drawing {
         ensures ops { OnOk result (map view self.new.ops.items
             ≡ (map view self.old.ops.items ++ movement Across (h -ℤ self.old.h)) ++ movement Downward (v -ℤ self.old.v)) }
     {
-        let right = h.get() - self.h.get();
-        let down = v.get() - self.v.get();
-        append_movement(&mut self.ops, right, Op::Right(right))?;
-        append_movement(&mut self.ops, down, Op::Down(down))?;
+        append_right(&mut self.ops, self.h, h)?;
         self.h = h;
+        append_down(&mut self.ops, self.v, v)?;
         self.v = v;
         Ok(())
     }

@@ -7,7 +7,6 @@ ghost use Rattle.pack_core.specs.Totals.{fits};
 ghost use Rattle.ship_core.specs.Marks.{size_in, right_at, down_at, rule_below, rule_tall, rule_wide, rule_mark, box_h, box_v, numbers_of};
 ghost use Rattle.ship_core.specs.Drawing.{Picture, in_front};
 ghost use Rattle.ship_core.specs.Placing.{point, Reaches, Ends, strokes_in, strokes_of, reference_h, reference_v};
-ghost use Rattle.node_core.specs.declared.tree.Kind.TheVariants as kinds;
 ghost use Rattle.node_core.specs.declared.tree.Node.TheVariants as nodes;
 
 use node_core::{BoxNode, Glyph, Kind, Node, Rule, RuleSize};
@@ -92,7 +91,7 @@ fn added(a: Dimen, b: Dimen) -> i128
     i128::from(a.get()) + i128::from(b.get())
 }
 
-/// The sum of two dimensions, in scaled points; None exactly where it does not fit. That the two fit themselves is said for callers that count.
+/// The sum of two dimensions, in scaled points; None exactly where it does not fit. (That the two themselves fit is said too: dimensions always do.)
 #[tactic(auto, using(crate::proofs::Fitting::dimension_fits))]
 pub fn sum(a: Dimen, b: Dimen) -> Option<Dimen>
     ensures value { IfSome result (λ sum. sum ≡ a +ℤ b) }
@@ -121,37 +120,6 @@ struct RuleSizes {
     wide: Dimen,
 }
 
-/// The sizes of a rule in a horizontal list; None exactly where its height plus depth does not fit.
-fn sizes_across(shown: &BoxNode, rule: Rule) -> Option<RuleSizes>
-    requires { shown.now.kind ≡ kinds.Horizontal }
-    ensures fits { is_some result ≡ fits (rule_tall shown.now.kind shown.now rule) }
-    ensures below { IfSome result (λ s. s.below ≡ rule_below shown.now.kind shown.now rule) }
-    ensures tall { IfSome result (λ s. s.tall ≡ rule_tall shown.now.kind shown.now rule) }
-    ensures wide { IfSome result (λ s. s.wide ≡ rule_wide shown.now.kind shown.now rule) }
-{
-    let below = size_where(shown.depth, rule.depth);
-    let tall = sum(size_where(shown.height, rule.height), below)?;
-    let wide = counted(rule.width);
-    Some(RuleSizes { below, tall, wide })
-}
-
-/// The sizes of a rule in a vertical list; None exactly where its height plus depth does not fit.
-fn sizes_downward(shown: &BoxNode, rule: Rule) -> Option<RuleSizes>
-    requires { shown.now.kind ≡ kinds.Vertical }
-    ensures fits { is_some result ≡ fits (rule_tall shown.now.kind shown.now rule) }
-    ensures below { IfSome result (λ s. s.below ≡ rule_below shown.now.kind shown.now rule) }
-    ensures tall { IfSome result (λ s. s.tall ≡ rule_tall shown.now.kind shown.now rule) }
-    ensures wide { IfSome result (λ s. s.wide ≡ rule_wide shown.now.kind shown.now rule) }
-{
-    let tall = sum(counted(rule.height), counted(rule.depth))?;
-    let wide = size_where(shown.width, rule.width);
-    Some(RuleSizes {
-        below: tall,
-        tall,
-        wide,
-    })
-}
-
 /// The sizes of a rule in the list of a box; None exactly where its height plus depth does not fit.
 fn sizes_of(shown: &BoxNode, rule: Rule) -> Option<RuleSizes>
     ensures fits { is_some result ≡ fits (rule_tall shown.now.kind shown.now rule) }
@@ -160,8 +128,21 @@ fn sizes_of(shown: &BoxNode, rule: Rule) -> Option<RuleSizes>
     ensures wide { IfSome result (λ s. s.wide ≡ rule_wide shown.now.kind shown.now rule) }
 {
     match shown.kind {
-        Kind::Horizontal => sizes_across(shown, rule),
-        Kind::Vertical => sizes_downward(shown, rule),
+        Kind::Horizontal => {
+            let below = size_where(shown.depth, rule.depth);
+            let tall = sum(size_where(shown.height, rule.height), below)?;
+            let wide = counted(rule.width);
+            Some(RuleSizes { below, tall, wide })
+        }
+        Kind::Vertical => {
+            let tall = sum(counted(rule.height), counted(rule.depth))?;
+            let wide = size_where(shown.width, rule.width);
+            Some(RuleSizes {
+                below: tall,
+                tall,
+                wide,
+            })
+        }
     }
 }
 
