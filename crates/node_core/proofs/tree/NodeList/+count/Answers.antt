@@ -1,4 +1,4 @@
-use Rattle.std.proofs.Common.{ap, arith, ◌∙◌}
+use Rattle.std.proofs.Common.{ap, arith}
 use Rattle.node_core.proofs.NodeLemmas.{items_count_more, node_count, leaf_count}
 use Rattle.node_core.proofs.tree.NodeList.+count.Goals as goal
 use Rattle.node_core.proofs.tree.NodeList.+count.Goals.{in-Box, in_default}

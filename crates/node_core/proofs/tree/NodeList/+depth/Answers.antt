@@ -1,4 +1,4 @@
-use Rattle.std.proofs.Common.{ap, arith, ◌∙◌}
+use Rattle.std.proofs.Common.{ap, arith}
 use Rattle.node_core.proofs.NodeLemmas.{items_depth_more, node_depth, leaf_depth}
 use Rattle.node_core.proofs.tree.NodeList.+depth.Goals as goal
 use Rattle.node_core.proofs.tree.NodeList.+depth.Goals.{in-Box, in_default}
