@@ -47,8 +47,8 @@ leaf_of-cases_of (rule sizes) = refl
 -- How a leaf is stored (own).
 abbrev pub coded_leaf : Coded Leaf
 coded_leaf =
-    code_by Cases (coded⊎ (coded⊎ coded_ℤ (coded⊎ coded_ℤ coded_ℤ)) (coded⊎ a_glyph.the_row.coded (coded⊎ a_glue.the_row.coded a_rule.the_row.coded))) cases_of leaf_of
-    leaf_of-cases_of
+    code_by Cases (coded⊎ (coded⊎ coded_ℤ (coded⊎ coded_ℤ coded_ℤ)) (coded⊎ a_glyph.the_row.coded (coded⊎ a_glue.the_row.coded a_rule.the_row.coded)))
+    cases_of leaf_of leaf_of-cases_of
 
 -- How a frame is stored (own).
 abbrev pub coded_frame : Coded Frame
@@ -75,9 +75,11 @@ items_code (leaf x rest) = gcons (gnum 1) (gcons (coded_leaf.code x) (items_code
 items_code (box shift frame inner rest) =
     gcons (gnum 2) (gcons (coded_ℤ.code shift) (gcons (coded_frame.code frame) (gcons (items_code inner) (items_code rest))))
 
+-- Two stored items whose first numbers differ are not the same (own).
 pub apart : (m n : ℕ) {a b : Gv} → gcons (gnum m) a ≡ gcons (gnum n) b → m ≢ n → ⊥
 apart m n p other = other (cc)
 
+-- Items that are stored alike are the same (own).
 pub items_inj : (x y : Items) → items_code x ≡ items_code y → x ≡ y
 items_inj none none p = refl
 items_inj none (leaf y rest) p = absurd (apart 0 1 p (omega arith))
@@ -92,5 +94,6 @@ items_inj (box shift frame inner rest) (box by other items more) p =
     λ i. box (coded_ℤ.inj shift by (ap (λ g. head (tail g)) p) i) (coded_frame.inj frame other (ap (λ g. head (tail (tail g))) p) i)
     (items_inj inner items (ap (λ g. head (tail (tail (tail g)))) p) i) (items_inj rest more (ap (λ g. tail (tail (tail (tail g)))) p) i)
 
+-- Items, as they are stored (own).
 abbrev pub coded_items : Coded Items
 coded_items = record { code = items_code; inj = items_inj }

@@ -61,6 +61,7 @@ box_in (Penalty p) = None
 box_in (Rule sizes) = None
 box_in (Box shift b) = Some b
 
+-- The same of a node that may be missing (own).
 abbrev pub box_at : Option Node → Option BoxNode
 box_at None = None
 box_at (Some x) = box_in x

@@ -3,7 +3,7 @@
 //! A list is seen as its items, a tree without pointers and capacities; so two lists, nodes or boxes are equal in a clause exactly where they are
 //! the same tree. `nodes_of` gives the nodes of a list in order.
 
-ghost use Rattle.std.specs.Prelude.{◌≡◌, ◌==◌, ◌<◌, ◌≤◌, ℕ, ◌+◌, List, [], ◌∷◌, ◌++◌, length, OnOk, OnErr, IfOk, IfErr, min, max};
+ghost use Rattle.std.specs.Prelude.{◌≡◌, ◌==◌, ◌<◌, ◌≤◌, ◌+◌, [], ◌∷◌, ◌++◌, length, OnOk, OnErr, IfOk, IfErr, min, max};
 ghost use Rattle.node_core.specs.Items.{Items, none, items_depth, items_count};
 ghost use Rattle.node_core.specs.Nodes.{most_nodes, items_of, nodes_of, box_depth, box_count, last_box, without};
 

@@ -17,7 +17,7 @@ use Rattle.pack_core.specs.declared.setting.Flow.TheVariants as flows
 use Rattle.pack_core.specs.Items.{across, above, below, downward, breadth}
 use Rattle.pack_core.specs.Totals.{total, greatest, fits, first_height}
 use Rattle.pack_core.specs.Glue.{highest, stretched, shrunk, setting_of, setting_badness, stretch_totals, shrink_totals, stretch_badness, shrink_badness}
-use Rattle.pack_core.specs.Boxes.{wanted, glue_totals, hbox_width, hbox_excess, hbox_numbers, natural_height, vbox_depth, vbox_height, vbox_excess, vbox_numbers}
+use Rattle.pack_core.specs.Boxes.{wanted, glue_totals, hbox_width, hbox_excess, hbox_numbers, natural_height, vbox_depth, vbox_height, vbox_excess, vbox_numbers, vtop_depth, vtop_numbers}
 use Rattle.pack_core.specs.declared.setting.GlueSet.{GlueSet}
 use Rattle.pack_core.specs.declared.pack.Target.{Target}
 use Rattle.pack_core.specs.declared.pack.Shell.{Shell}
@@ -26,7 +26,7 @@ use Rattle.scaled_core.specs.Dimensions.{Within}
 use Rattle.pack_core.proofs.Sums.{dimension_fits}
 use Rattle.std.proofs.lemmas.List.Folds.{list_all-append}
 use Rattle.pack_core.specs.Measures.{amount_in}
-use Rattle.pack_core.specs.Steps.{given, flow_totals, flow_quantity, by_order, order_totals, each_order, shrink_ratio, shrink_setting, stretch_setting, set_to, stretch_bad, shrink_bad, bad_to, bad_of, is_empty, glue_set, hbox_shell, vbox_shell, vtop_shell, vtop_list}
+use Rattle.pack_core.specs.Steps.{given, flow_totals, flow_quantity, by_order, order_totals, each_order, shrink_ratio, shrink_setting, stretch_setting, set_to, stretch_bad, shrink_bad, bad_to, bad_of, glue_set, hbox_shell, vbox_shell, vtop_shell}
 
 -- What was given was given for a test that holds.
 pub given-true : {A : Type 0} (x : A) → given true x ≡ Some x
@@ -101,6 +101,11 @@ unfolding set_to setting_of stretch_setting shrink_setting
 set_to-is (pos zero) nodes = refl
 set_to-is (pos (suc n)) nodes = ap (λ (totals : Order → ℤ). stretched (pos (suc n)) totals (highest totals)) (by_order-totals (stretch_totals nodes))
 set_to-is (negsuc n) nodes = ap (λ (totals : Order → ℤ). shrunk (pos (suc n)) totals (highest totals)) (by_order-totals (shrink_totals nodes))
+
+-- Whether a list has no items.
+abbrev is_empty : List Node → Bool
+is_empty [] = true
+is_empty (x ∷ xs) = false
 
 bad_of-is :
     (excess : ℤ) (nodes : List Node)
@@ -213,17 +218,25 @@ vtop-given shell height depth d =
     let d' = given-some (fits ((vtop_shell shell height).depth)) ((vtop_shell shell height).depth) depth d in
     rw (← d'.1) (given-all _ _ d'.0)
 
+vtop-depth-is :
+    (target : Target) (limit : ℤ) (nodes : List Node)
+    → (vtop_shell (vbox_shell target limit nodes) (first_height nodes)).depth ≡ vtop_depth target limit nodes
+unfolding vtop_shell vbox_shell
+vtop-depth-is target limit nodes = refl
+
 pub vtop-found :
     (target : Target) (limit : ℤ) (nodes : List Node) (shell : Shell) (height : ℤ) (result : Option Shell)
     → given (list_all fits (vbox_numbers target limit nodes)) (vbox_shell target limit nodes) ≡ Some shell
     → height ≡ first_height nodes
     → Within 1073741823 height
     → result ≡ given (fits ((vtop_shell shell height).depth)) (vtop_shell shell height)
-    → result ≡ given (list_all fits (vtop_list target limit nodes)) (vtop_shell (vbox_shell target limit nodes) (first_height nodes))
+    → result ≡ given (list_all fits (vtop_numbers target limit nodes)) (vtop_shell (vbox_shell target limit nodes) (first_height nodes))
 vtop-found target limit nodes shell height result s h high r =
     let s' = given-some (list_all fits (vbox_numbers target limit nodes)) (vbox_shell target limit nodes) shell s in
     let high-fits : fits (first_height nodes) ≡ true = rw (← h) (dimension_fits height high) in
-    let deep : ℤ = (vtop_shell (vbox_shell target limit nodes) (first_height nodes)).depth in
-    let all : list_all fits (vtop_list target limit nodes) ≡ fits deep =
+    let deep : ℤ = vtop_depth target limit nodes in
+    let all : list_all fits (vtop_numbers target limit nodes) ≡ fits deep =
     list_all-append fits (vbox_numbers target limit nodes) (first_height nodes ∷ deep ∷ []) ∙ rw (s'.0, high-fits) (and-true (fits deep)) in
-    r ∙ rw (all, s'.1, h) refl
+    let all-fit : list_all fits (vtop_numbers target limit nodes) ≡ fits ((vtop_shell (vbox_shell target limit nodes) (first_height nodes)).depth) =
+    all ∙ ap fits (sym (vtop-depth-is target limit nodes)) in
+    r ∙ rw (all-fit, s'.1, h) refl

@@ -8,7 +8,7 @@ use Rattle.std.proofs.lemmas.List.Folds.{list_all-append}
 use Rattle.std.specs.List.{list_all}
 use Rattle.pack_core.specs.Items.{is_penalty, last_below}
 use Rattle.pack_core.specs.Measures.{pending_behind}
-use Rattle.std.proofs.lemmas.Bool.{lt-ltb, le-leb}
+use Rattle.std.proofs.lemmas.Bool.{lt-ltb, le-leb, leb-true, ltb-true}
 use Rattle.scaled_core.specs.Dimensions.{Within}
 use Rattle.node_core.specs.declared.tree.Node.{Node}
 use Rattle.node_core.specs.declared.tree.Node.TheVariants as nodes
@@ -19,6 +19,11 @@ use Rattle.pack_core.specs.Totals.{fits, total, greatest, pending_depth}
 pub dimension_fits : (z : ℤ) → Within 1073741823 z → fits z ≡ true
 dimension_fits (pos n) within = le-leb n 1073741823 (omega (arith, ints, within.high))
 dimension_fits (negsuc n) within = lt-ltb n 1073741823 (omega (arith, ints, within.low))
+
+-- What fits is within the bounds of a dimension.
+pub fits_within : (z : ℤ) → fits z ≡ true → Within 1073741823 z
+fits_within (pos n) fit = let high = leb-true n 1073741823 fit in record { low = omega (arith, ints); high = omega (arith, ints) }
+fits_within (negsuc n) fit = let low = ltb-true n 1073741823 fit in record { low = omega (arith, ints); high = omega (arith, ints) }
 
 pub total-append : (size : Node → ℤ) (xs ys : List Node) → total size (xs ++ ys) ≡ total size xs +ℤ total size ys
 total-append size [] ys = omega (arith, ints)

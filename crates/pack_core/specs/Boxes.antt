@@ -1,4 +1,4 @@
--- The packed boxes (TeX: The Program, part 33).
+-- The packed boxes (TeX: The Program, part 33; a vtop: part 47). Which numbers have to fit is own: TeX looks at none.
 use Rattle.std.specs.Prelude.{◌+ℤ◌, ◌-ℤ◌, ◌++◌, ℕ, ℤ, if◌then◌else◌, List, [], ◌∷◌, Result, Ok, Err}
 use Rattle.std.specs.List.{list_all}
 use Rattle.std.specs.Int.{int_min}
@@ -16,17 +16,17 @@ use Rattle.pack_core.specs.Items.{across, above, below, downward, breadth}
 use Rattle.pack_core.specs.Totals.{fits, total, greatest, pending_depth, first_height}
 use Rattle.pack_core.specs.Glue.{stretch_totals, shrink_totals, setting_of, setting_badness}
 
--- The size that is wanted of a list of that natural size.
+-- The size that is wanted of a list of that natural size: the natural one, a given one, or so much more.
 abbrev pub wanted : Target → (natural : ℤ) → ℤ
 wanted Natural natural = natural
 wanted (To size) natural = size
 wanted (Spread more) natural = natural +ℤ more
 
--- What is packed has this box and this badness; or, where one of the numbers does not fit, the list comes back.
+-- What is packed has this box and this badness; or, where one of the numbers does not fit, the list comes back (own).
 abbrev pub packed_if : List ℤ → Packed → Items → Result Packed TooLarge
 packed_if numbers packed items = if list_all fits numbers then Ok packed else Err (record { list = items })
 
--- The totals of glue in each order.
+-- The totals of stretch and of shrink in each order.
 abbrev pub glue_totals : List Node → List ℤ
 glue_totals nodes =
     stretch_totals nodes Normal ∷ stretch_totals nodes Fil ∷ stretch_totals nodes Fill ∷ stretch_totals nodes Filll
@@ -67,7 +67,7 @@ hpacked target items =
 abbrev pub vbox_depth : (limit : ℤ) → List Node → ℤ
 vbox_depth limit nodes = int_min (pending_depth nodes) limit
 
--- Its natural height: all that is not depth.
+-- Its natural height: all that is not depth (TeX: The Program, part 33: what is deeper than the limit counts as height).
 abbrev pub natural_height : (limit : ℤ) → List Node → ℤ
 natural_height limit nodes = total downward nodes -ℤ vbox_depth limit nodes
 
@@ -92,7 +92,7 @@ vbox target limit items =
 abbrev pub vbox_badness : Target → (limit : ℤ) → Items → ℕ
 vbox_badness target limit items = setting_badness (vbox_excess target limit (nodes_of items)) (nodes_of items)
 
--- The numbers of a vertical list that have to fit.
+-- The numbers of a vertical list that have to fit: its natural height, the totals of its glue, and the sizes of its box.
 abbrev pub vbox_numbers : Target → (limit : ℤ) → List Node → List ℤ
 vbox_numbers target limit nodes =
     natural_height limit nodes ∷ vbox_height target limit nodes ∷ vbox_depth limit nodes ∷ greatest breadth nodes ∷ glue_totals nodes
@@ -102,20 +102,21 @@ vpacked target limit items =
     packed_if (vbox_numbers target limit (nodes_of items))
     (record { shown = vbox target limit items; badness = vbox_badness target limit items }) items
 
--- A vertical list as a box whose baseline is that of its first item: the same box with another border between height and depth.
+-- The depth of a vtop: its height and its depth are together those of the vbox.
+abbrev pub vtop_depth : Target → (limit : ℤ) → List Node → ℤ
+vtop_depth target limit nodes = (vbox_depth limit nodes +ℤ vbox_height target limit nodes) -ℤ first_height nodes
+
+-- A vertical list as a box whose baseline is that of its first item: the same box with another border between height and depth (TeX: The Program,
+-- part 47).
 unfoldable pub vtop_box : Target → (limit : ℤ) → Items → BoxNode
 vtop_box target limit items =
-    record (vbox target limit items) {
-      height = first_height (nodes_of items);
-      depth = ((vbox target limit items).depth +ℤ (vbox target limit items).height) -ℤ first_height (nodes_of items);
-    }
+    record (vbox target limit items) { height = first_height (nodes_of items); depth = vtop_depth target limit (nodes_of items) }
 
 -- The numbers that have to fit: those of the vbox, and the two new sizes.
-abbrev pub vtop_numbers : Target → (limit : ℤ) → Items → List ℤ
-vtop_numbers target limit items =
-    vbox_numbers target limit (nodes_of items) ++ (vtop_box target limit items).height ∷ (vtop_box target limit items).depth ∷ []
+abbrev pub vtop_numbers : Target → (limit : ℤ) → List Node → List ℤ
+vtop_numbers target limit nodes = vbox_numbers target limit nodes ++ first_height nodes ∷ vtop_depth target limit nodes ∷ []
 
 unfoldable pub vtopped : Target → (limit : ℤ) → Items → Result Packed TooLarge
 vtopped target limit items =
-    packed_if (vtop_numbers target limit items)
+    packed_if (vtop_numbers target limit (nodes_of items))
     (record { shown = vtop_box target limit items; badness = vbox_badness target limit items }) items

@@ -22,7 +22,7 @@ highest totals =
     then (if is_zero (totals Fill) then (if is_zero (totals Fil) then (if is_zero (totals Normal) then None else Some Normal) else Some Fil) else Some Fill)
     else Some Filll
 
--- The exact fraction of an amount and a total that is not 0, with a denominator above 0.
+-- The exact fraction of an amount and a total that is not 0, with a denominator above 0 (own: TeX has a floating-point ratio).
 abbrev pub fraction : (amount total : ℤ) → Fraction
 fraction amount (pos n) = record { num = amount; den = pos n }
 fraction amount (negsuc n) = record { num = neg_ℤ amount; den = pos (suc n) }

@@ -107,7 +107,7 @@ is_penalty (nodes.Glue glue) = false
 is_penalty (nodes.Rule rule) = false
 is_penalty (nodes.Box shift b) = false
 
--- The height of an item that is a rule or a box, else 0: how far the first item of a vtop stands above its baseline.
+-- The height of an item that is a rule or a box, else 0: how far the first item of a vtop stands above its baseline (TeX: The Program, part 47).
 abbrev pub first_above : Node → ℤ
 first_above (nodes.Rule rule) = own_size rule.height
 first_above (nodes.Box shift b) = b.height

@@ -1,5 +1,6 @@
 -- The steps from the totals of a list to its box, one word for each call (own).
-use Rattle.std.specs.Prelude.{◌+ℤ◌, ◌-ℤ◌, ◌++◌, ℤ, pos, negsuc, zero, suc, Bool, true, false, if◌then◌else◌, List, [], ◌∷◌, Option, Some, None, Result, Ok, Err, ℕ}
+use Rattle.std.specs.Prelude.{◌+ℤ◌, ◌-ℤ◌, ℕ, ℤ, pos, negsuc, zero, suc, Bool, true, false, if◌then◌else◌, List, [], ◌∷◌}
+use Rattle.std.specs.Prelude.{Option, Some, None, Result, Ok, Err}
 use Rattle.node_core.specs.declared.tree.Kind.TheVariants.{Horizontal, Vertical}
 use Rattle.node_core.specs.declared.tree.Order.{Order}
 use Rattle.node_core.specs.declared.tree.Order.TheVariants.{Normal, Fil, Fill, Filll}
@@ -19,9 +20,10 @@ use Rattle.pack_core.specs.declared.setting.GlueSet.{GlueSet}
 use Rattle.pack_core.specs.declared.totals.Quantity.{Quantity}
 use Rattle.pack_core.specs.declared.totals.Quantity.TheVariants as quantities
 use Rattle.pack_core.specs.Items.{above, below, breadth}
-use Rattle.pack_core.specs.Totals.{greatest, first_height}
-use Rattle.pack_core.specs.Glue.{highest, stretched, shrunk, fraction, is_short, stretch_totals, shrink_totals, setting_of, setting_badness, stretch_badness, shrink_badness}
-use Rattle.pack_core.specs.Boxes.{hbox_width, hbox_excess, vbox_depth, vbox_height, vbox_excess, vbox_numbers}
+use Rattle.pack_core.specs.Totals.{greatest}
+use Rattle.pack_core.specs.Glue.{highest, stretched, shrunk, fraction, is_short, stretch_totals, shrink_totals}
+use Rattle.pack_core.specs.Glue.{setting_of, setting_badness, stretch_badness, shrink_badness}
+use Rattle.pack_core.specs.Boxes.{hbox_width, hbox_excess, vbox_depth, vbox_height, vbox_excess}
 
 -- A value where a test holds.
 unfoldable pub given : {A : Type 0} → Bool → A → Option A
@@ -79,10 +81,6 @@ bad_to (pos zero) stretch shrink = 0
 bad_to (pos (suc n)) stretch shrink = stretch_bad (pos (suc n)) stretch
 bad_to (negsuc n) stretch shrink = shrink_bad (pos (suc n)) shrink
 
-abbrev pub is_empty : List Node → Bool
-is_empty [] = true
-is_empty (x ∷ xs) = false
-
 unfoldable pub bad_of : (empty : Bool) → (excess : ℤ) → (stretch shrink : OrderTotals) → ℕ
 bad_of true excess stretch shrink = 0
 bad_of false excess stretch shrink = bad_to excess stretch shrink
@@ -115,14 +113,9 @@ vbox_shell target limit nodes =
 unfoldable pub vtop_shell : Shell → (height : ℤ) → Shell
 vtop_shell shell height = record shell { height = height; depth = (shell.depth +ℤ shell.height) -ℤ height }
 
--- The numbers of a vtop that have to fit.
-abbrev pub vtop_list : Target → (limit : ℤ) → List Node → List ℤ
-vtop_list target limit nodes =
-    vbox_numbers target limit nodes ++ first_height nodes ∷ (vtop_shell (vbox_shell target limit nodes) (first_height nodes)).depth ∷ []
-
--- The list in that box.
-unfoldable pub box_of : Items → Shell → Packed
-box_of items shell =
+-- The list in that box, and how bad the box is.
+unfoldable pub packed_of : Items → Shell → Packed
+packed_of items shell =
     record {
       shown = record {
         kind = shell.kind;
@@ -138,4 +131,4 @@ box_of items shell =
 -- The list in its box, or back where there is none.
 unfoldable pub boxed : Items → Option Shell → Result Packed TooLarge
 boxed items None = Err (record { list = items })
-boxed items (Some shell) = Ok (box_of items shell)
+boxed items (Some shell) = Ok (packed_of items shell)

@@ -25,7 +25,7 @@ abbrev pub pending_depth : List Node → ℤ
 pending_depth [] = pos 0
 pending_depth (x ∷ xs) = if list_all is_penalty xs then last_below x else pending_depth xs
 
--- The height of the first item if that is a rule or a box, else 0.
+-- The height of the first item if that is a rule or a box, else 0 (TeX: The Program, part 47).
 abbrev pub first_height : List Node → ℤ
 first_height [] = pos 0
 first_height (x ∷ xs) = first_above x

@@ -1,6 +1,6 @@
 //! Packed boxes (TeX: The Program, part 33).
 
-ghost use Rattle.std.specs.Prelude.{◌≡◌, ◌≢◌, ◌+ℤ◌, ◌-ℤ◌, ◌≤◌, ◌^◌, ◌++◌, ◌∷◌, [], pos, Option, Some, None, Result, Ok, Err, IfOk, IfErr, length};
+ghost use Rattle.std.specs.Prelude.{◌≡◌, ◌≢◌, ◌+ℤ◌, ◌-ℤ◌, ◌≤◌, ◌^◌, IfOk, IfErr, length};
 ghost use Rattle.std.specs.Result.{is_ok};
 ghost use Rattle.std.specs.List.{list_all};
 ghost use Rattle.scaled_core.specs.Dimensions.{Fits, Within};
@@ -8,9 +8,10 @@ ghost use Rattle.node_core.specs.Nodes.{most_nodes, nodes_of};
 ghost use Rattle.pack_core.specs.Items.{across, downward};
 ghost use Rattle.pack_core.specs.Totals.{fits, total, greatest, first_height};
 ghost use Rattle.pack_core.specs.Measures.{extent_in};
-ghost use Rattle.pack_core.specs.Boxes.{wanted, hbox, hbox_badness, hbox_numbers, hpacked, vbox, vbox_badness, vbox_numbers, vpacked, vtop_box, vtop_numbers, vtopped};
+ghost use Rattle.pack_core.specs.Boxes.{wanted, hbox, hbox_badness, hbox_numbers, hpacked};
+ghost use Rattle.pack_core.specs.Boxes.{vbox, vbox_badness, vbox_numbers, vpacked, vtop_box, vtop_numbers, vtopped};
 ghost use Rattle.pack_core.specs.Places.{place_in};
-ghost use Rattle.pack_core.specs.Steps.{given, hbox_shell, vbox_shell, vtop_shell, vtop_list, box_of, boxed};
+ghost use Rattle.pack_core.specs.Steps.{given, hbox_shell, vbox_shell, vtop_shell, packed_of, boxed};
 
 use crate::setting::{GlueSet, set_glue};
 use crate::sizes::sum;
@@ -21,7 +22,7 @@ use node_core::{BoxNode, Kind, Node, NodeList, Setting};
 use scaled_core::Dimen;
 use thiserror::Error;
 
-/// How large a list is to be.
+/// How large a list is to be, in scaled points.
 #[derive(Clone, Copy, Debug, PartialEq, Eq)]
 pub enum Target {
     /// As large as it is by itself.
@@ -36,7 +37,7 @@ pub enum Target {
 #[derive(Debug, Drop)]
 pub struct Packed {
     pub shown: BoxNode,
-    /// How badly its glue is stretched or shrunk; 1000000 where it is overfull.
+    /// How badly its glue is stretched or shrunk: 0 to 10000, or 1000000 where it is overfull.
     pub badness: u32,
 }
 
@@ -77,13 +78,13 @@ pub fn vpack(list: NodeList, target: Target, depth_limit: Dimen) -> Result<Packe
     boxed(list, shell)
 }
 
-/// The vtop of a vertical list: the vbox with its baseline at that of its first item, where that is a rule or a box, and else at its top. It is refused exactly where one of its numbers
-/// does not fit, and the list comes back. It takes no memory.
+/// The vtop of a vertical list: the vbox with its baseline at that of its first item, where that is a rule or a box, and else at its top
+/// (TeX: The Program, part 47). It is refused exactly where one of its numbers does not fit, and the list comes back. It takes no memory.
 #[tactic(auto, using(crate::proofs::Packing::packing))]
 pub fn vtop(list: NodeList, target: Target, depth_limit: Dimen) -> Result<Packed, TooLarge>
     ensures value { result ≡ vtopped target depth_limit list }
     ensures ok { IfOk result (λ p. (p.shown ≡ vtop_box target depth_limit list) × (p.badness ≡ vbox_badness target depth_limit list)) }
-    ensures fits { is_ok result ≡ list_all fits (vtop_numbers target depth_limit list) }
+    ensures fits { is_ok result ≡ list_all fits (vtop_numbers target depth_limit (nodes_of list)) }
     ensures back { IfErr result (λ e. e.list ≡ list) }
     ensures edge { IfOk result (λ p. p.shown.setting ≢ Setting.Natural → p.badness ≢ 1000000 →
         place_in p.shown (length (nodes_of p.shown.list)) ≡ p.shown.height +ℤ p.shown.depth) }
@@ -218,7 +219,7 @@ fn with_height(shell: &Shell, height: Dimen) -> Option<Shell>
 #[tactic(auto, using(crate::proofs::Steps::steps))]
 fn vtop_shell_of(target: Target, limit: Dimen, nodes: &[Node]) -> Option<Shell>
     requires { length nodes.now ≤ most_nodes }
-    ensures { result ≡ given (list_all fits (vtop_list target limit nodes.now)) (vtop_shell (vbox_shell target limit nodes.now) (first_height nodes.now)) }
+    ensures { result ≡ given (list_all fits (vtop_numbers target limit nodes.now)) (vtop_shell (vbox_shell target limit nodes.now) (first_height nodes.now)) }
 {
     let shell = vbox_shell(target, limit, nodes);
     match &shell {
@@ -234,14 +235,14 @@ fn boxed(list: NodeList, shell: Option<Shell>) -> Result<Packed, TooLarge>
 {
     match shell {
         None => Err(TooLarge { list }),
-        Some(shell) => Ok(box_of(list, &shell)),
+        Some(shell) => Ok(packed_of(list, &shell)),
     }
 }
 
-/// The list in that box.
-#[tactic(auto, unfolding(crate::specs::Steps::box_of))]
-fn box_of(list: NodeList, shell: &Shell) -> Packed
-    ensures { result ≡ box_of list shell.now }
+/// The list in that box, and how bad the box is.
+#[tactic(auto, unfolding(crate::specs::Steps::packed_of))]
+fn packed_of(list: NodeList, shell: &Shell) -> Packed
+    ensures { result ≡ packed_of list shell.now }
 {
     let shown = BoxNode {
         kind: shell.kind,

@@ -1,6 +1,6 @@
-//! Where the items of a set box stand.
+//! Where the items of a set box stand (after TeX: The Program, part 32; the ratio is exact).
 
-ghost use Rattle.std.specs.Prelude.{◌≡◌, ◌+ℤ◌, ◌≤◌, ◌<◌, ◌+◌, ◌^◌, ◌++◌, ◌∷◌, [], List, pos, length};
+ghost use Rattle.std.specs.Prelude.{◌≡◌, ◌≤◌, ◌<◌, ◌+◌, ◌^◌, ◌++◌, ◌∷◌, [], List, pos, length};
 ghost use Rattle.scaled_core.specs.Dimensions.{Within};
 ghost use Rattle.node_core.specs.Nodes.{most_nodes, nodes_of};
 ghost use Rattle.node_core.specs.declared.tree.Kind.{Kind};
@@ -60,7 +60,8 @@ impl Cursor {
         self.passed += 1;
     }
 
-    /// The place that is reached in a list of that setting. Each place is rounded once, so a box is filled exactly.
+    /// The place that is reached in a list of that setting, in scaled points from where the list begins. Each place is rounded once, so a box is
+    /// filled exactly.
     #[tactic(auto, unfolding(crate::specs::Cursors::reached, crate::specs::Places::place))]
     pub fn place(&self, setting: &Setting) -> i128
         ensures value { result ≡ place_at setting.now self.now }
@@ -83,8 +84,8 @@ fn set_by(setting: &Setting, shares: i64) -> i128
     }
 }
 
-/// Where item `i` of a box begins: to the right of the left edge of an hbox, below the top of a vbox, in scaled points; that of the
-/// number of items is the place behind the last one. It takes no memory.
+/// Where item `i` of a box begins: to the right of the left edge of an hbox, below the top of a vbox, in scaled points; `i` is at most the
+/// number of items, at which it is the place behind the last one. It takes no memory.
 #[tactic(auto, using(crate::proofs::Walks::walks))]
 pub fn offset(b: &BoxNode, i: usize) -> i128
     requires { i ≤ length (nodes_of b.now.list) }

@@ -1,6 +1,6 @@
 //! How the glue of a list is set (TeX: The Program, part 33).
 
-ghost use Rattle.std.specs.Prelude.{◌≡◌, ◌≢◌, ◌+ℤ◌, ◌-ℤ◌, ◌<ℤ◌, ◌≤ℤ◌, ◌≤◌, ◌^◌, pos, Option, Some, None, length};
+ghost use Rattle.std.specs.Prelude.{◌≡◌, ◌≢◌, ◌-ℤ◌, ◌≤ℤ◌, ◌≤◌, ◌^◌, pos, length};
 ghost use Rattle.std.specs.Option.{IfSome};
 ghost use Rattle.std.specs.List.{list_all};
 ghost use Rattle.scaled_core.specs.Dimensions.{Within};
@@ -8,8 +8,10 @@ ghost use Rattle.node_core.specs.Nodes.{most_nodes};
 ghost use Rattle.pack_core.specs.Totals.{fits};
 ghost use Rattle.pack_core.specs.Glue.{is_zero, highest, fraction, is_finite};
 ghost use Rattle.pack_core.specs.Boxes.{glue_totals};
-ghost use Rattle.pack_core.specs.Steps.{given, flow_totals, flow_quantity, by_order, order_totals, each_order, shrink_ratio, stretch_setting, shrink_setting, set_to, stretch_bad, shrink_bad, bad_to, bad_of, glue_set};
+ghost use Rattle.pack_core.specs.Steps.{given, flow_totals, flow_quantity, by_order, order_totals, each_order, glue_set};
+ghost use Rattle.pack_core.specs.Steps.{shrink_ratio, stretch_setting, shrink_setting, set_to, stretch_bad, shrink_bad, bad_to, bad_of};
 
+use crate::sizes::difference;
 use crate::totals::{Quantity, dimension, total_of};
 use node_core::{Node, Order, Setting};
 use scaled_core::{Dimen, Ratio, badness};
@@ -115,7 +117,7 @@ fn highest_order(totals: &OrderTotals) -> Option<Order>
 
 /// The exact fraction of an amount and a total that is not 0.
 fn fraction(amount: i64, total: Dimen) -> Ratio
-    requires amount { Within (2 ^ 32) amount }
+    requires amount { Within (2 ^ 31) amount }
     requires total { total ≢ pos 0 }
     ensures { result ≡ fraction amount total }
 {
@@ -128,8 +130,8 @@ fn fraction(amount: i64, total: Dimen) -> Ratio
 
 /// How glue is stretched by an amount.
 #[tactic(auto, unfolding(crate::specs::Steps::stretch_setting))]
-fn stretched(amount: i64, totals: &OrderTotals) -> Setting
-    requires { Within (2 ^ 32) amount }
+fn stretch_setting(amount: i64, totals: &OrderTotals) -> Setting
+    requires { Within (2 ^ 31) amount }
     ensures { result ≡ stretch_setting amount totals.now }
 {
     match highest_order(totals) {
@@ -144,7 +146,7 @@ fn stretched(amount: i64, totals: &OrderTotals) -> Setting
 /// By what glue of an order shrinks; that of normal order by no more than it can.
 #[tactic(auto, unfolding(crate::specs::Steps::shrink_ratio))]
 fn shrink_ratio(amount: i64, totals: &OrderTotals, order: Order) -> Ratio
-    requires amount { Within (2 ^ 32) amount }
+    requires amount { Within (2 ^ 31) amount }
     requires total { by_order totals.now order ≢ pos 0 }
     ensures { result ≡ shrink_ratio amount totals.now order }
 {
@@ -164,8 +166,8 @@ fn shrink_ratio(amount: i64, totals: &OrderTotals, order: Order) -> Ratio
 
 /// How glue is shrunk by an amount.
 #[tactic(auto, using(crate::proofs::Steps::steps))]
-fn shrunk(amount: i64, totals: &OrderTotals) -> Setting
-    requires { Within (2 ^ 32) amount }
+fn shrink_setting(amount: i64, totals: &OrderTotals) -> Setting
+    requires { Within (2 ^ 31) amount }
     ensures { result ≡ shrink_setting amount totals.now }
 {
     match highest_order(totals) {
@@ -180,14 +182,14 @@ fn shrunk(amount: i64, totals: &OrderTotals) -> Setting
 /// The setting for that much space too much (or, below 0, too little).
 #[tactic(auto, unfolding(crate::specs::Steps::set_to))]
 fn set_to(excess: i64, stretch: &OrderTotals, shrink: &OrderTotals) -> Setting
-    requires { Within (2 ^ 32) excess }
+    requires { Within (2 ^ 31) excess }
     ensures { result ≡ set_to excess stretch.now shrink.now }
 {
     if excess > 0 {
-        return stretched(excess, stretch);
+        return stretch_setting(excess, stretch);
     }
     if excess < 0 {
-        return shrunk(-excess, shrink);
+        return shrink_setting(-excess, shrink);
     }
     Setting::Natural
 }
@@ -235,7 +237,7 @@ fn shrink_bad(amount: i64, totals: &OrderTotals) -> u32
 /// How bad that much space too much (or, below 0, too little) is.
 #[tactic(auto, unfolding(crate::specs::Steps::bad_to))]
 fn bad_to(excess: i64, stretch: &OrderTotals, shrink: &OrderTotals) -> u32
-    requires { Within (2 ^ 32) excess }
+    requires { Within (2 ^ 31) excess }
     ensures { result ≡ bad_to excess stretch.now shrink.now }
 {
     if excess > 0 {
@@ -250,21 +252,13 @@ fn bad_to(excess: i64, stretch: &OrderTotals, shrink: &OrderTotals) -> u32
 /// The same; of an empty list it is 0.
 #[tactic(auto, unfolding(crate::specs::Steps::bad_of))]
 fn bad_of(empty: bool, excess: i64, stretch: &OrderTotals, shrink: &OrderTotals) -> u32
-    requires { Within (2 ^ 32) excess }
+    requires { Within (2 ^ 31) excess }
     ensures { result ≡ bad_of empty excess stretch.now shrink.now }
 {
     if empty {
         return 0;
     }
     bad_to(excess, stretch, shrink)
-}
-
-/// How much more one size is than another.
-fn excess_of(size: Dimen, natural: Dimen) -> i64
-    ensures value { result ≡ size -ℤ natural }
-    ensures small { Within (2 ^ 32) result }
-{
-    i64::from(size.get()) - i64::from(natural.get())
 }
 
 /// The setting of a list of that natural size for that size, where the totals of its glue fit.
@@ -275,7 +269,7 @@ pub fn set_glue(size: Dimen, natural: Dimen, nodes: &[Node]) -> Option<GlueSet>
 {
     let stretch = totals_of(Flow::Stretching, nodes)?;
     let shrink = totals_of(Flow::Shrinking, nodes)?;
-    let excess = excess_of(size, natural);
+    let excess = difference(size, natural);
     Some(GlueSet {
         setting: set_to(excess, &stretch, &shrink),
         badness: bad_of(nodes.is_empty(), excess, &stretch, &shrink),

@@ -2,13 +2,14 @@
 
 ghost use Rattle.std.specs.Prelude.{◌≡◌, ◌+ℤ◌, ◌-ℤ◌, ◌^◌};
 ghost use Rattle.scaled_core.specs.Dimensions.{Within};
-ghost use Rattle.pack_core.specs.Items.{own_size, across, above, below, downward, breadth, advance, is_order, stretch_in, shrink_in, is_penalty, first_above, last_below};
+ghost use Rattle.pack_core.specs.Items.{own_size, across, above, below, downward, breadth, advance, is_order, stretch_in, shrink_in};
+ghost use Rattle.pack_core.specs.Items.{is_penalty, first_above, last_below};
 ghost use Rattle.pack_core.specs.Places.{share};
 
 use node_core::{Kind, Node, Order, RuleSize, Setting};
 use scaled_core::Dimen;
 
-/// A size of a rule as it counts when its list is packed: a running one does not.
+/// A size of a rule as it counts when its list is packed, in scaled points: a running one does not.
 pub fn counted(size: RuleSize) -> Dimen
     ensures { result ≡ own_size size }
 {
@@ -18,7 +19,7 @@ pub fn counted(size: RuleSize) -> Dimen
     }
 }
 
-/// The sum of two dimensions.
+/// The sum of two dimensions, in scaled points; it may be no dimension.
 pub fn sum(a: Dimen, b: Dimen) -> i64
     ensures value { result ≡ a +ℤ b }
     ensures small { Within (2 ^ 31) result }
@@ -26,7 +27,7 @@ pub fn sum(a: Dimen, b: Dimen) -> i64
     i64::from(a.get()) + i64::from(b.get())
 }
 
-/// How much more a dimension is than another.
+/// How much more a dimension is than another, in scaled points; it may be no dimension.
 pub fn difference(a: Dimen, b: Dimen) -> i64
     ensures value { result ≡ a -ℤ b }
     ensures small { Within (2 ^ 31) result }
@@ -143,7 +144,7 @@ fn downward_of(node: &Node) -> i64
     }
 }
 
-/// How far an item of a list of that kind moves what follows it.
+/// How far an item of a list of that kind moves what follows it, in scaled points.
 pub fn advance_of(kind: Kind, node: &Node) -> i64
     ensures value { result ≡ advance kind node.now }
     ensures small { Within (2 ^ 31) result }
@@ -199,8 +200,8 @@ pub fn shrink_of(order: Order, node: &Node) -> Dimen
     }
 }
 
-/// How much an item takes part in a setting: by what it can stretch in the order of the setting, or by what it can shrink, as a
-/// negative number.
+/// How much an item takes part in a setting, in scaled points: by what it can stretch in the order of the setting, or by what it can shrink,
+/// as a negative number.
 pub fn share_of(setting: &Setting, node: &Node) -> i64
     ensures value { result ≡ share setting.now node.now }
     ensures small { Within (2 ^ 31) result }

@@ -1,6 +1,6 @@
 //! Sums and greatest sizes of whole lists.
 
-ghost use Rattle.std.specs.Prelude.{◌≡◌, ◌≤◌, ◌^◌, Option, Some, None, if◌then◌else◌, length};
+ghost use Rattle.std.specs.Prelude.{◌≡◌, ◌≤◌, ◌^◌, Some, None, if◌then◌else◌, length};
 ghost use Rattle.std.specs.Int.{int_max, int_min};
 ghost use Rattle.scaled_core.specs.Dimensions.{Fits, Within};
 ghost use Rattle.node_core.specs.Nodes.{most_nodes};
@@ -14,7 +14,7 @@ use crate::sizes::{
 use node_core::{Kind, Node, Order};
 use scaled_core::Dimen;
 
-/// The dimension of a number of scaled points, where it is one.
+/// The dimension of a number of scaled points, or None exactly where it does not fit: where its absolute value is above 1073741823.
 pub fn dimension(value: i128) -> Option<Dimen>
     ensures { result ≡ (if fits value then Some value else None) }
 {

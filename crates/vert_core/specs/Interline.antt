@@ -1,4 +1,4 @@
--- Interline glue: what sets the boxes of a vertical list apart (TeX: The Program, part 47, append_to_vlist).
+-- Interline glue: what sets the boxes of a vertical list apart (TeX: The Program, part 33, append_to_vlist).
 use Rattle.std.specs.Prelude.{◌-ℤ◌, ℤ, negsuc, int_lt, int_le, if◌then◌else◌, List, [], ◌∷◌, Option, Some, None, Result, Ok, Err}
 use Rattle.node_core.specs.declared.params.Params.{Params}
 use Rattle.node_core.specs.declared.tree.BoxNode.{BoxNode}
@@ -8,7 +8,7 @@ use Rattle.node_core.specs.declared.tree.Node.TheVariants as nodes
 use Rattle.pack_core.specs.Totals.{fits}
 use Rattle.vert_core.specs.declared.interline.DimensionTooLarge.{DimensionTooLarge}
 
--- -1000pt: a depth that is not more counts as none (TeX: The Program, part 16, ignore_depth).
+-- -1000pt: a depth that is not more counts as none (TeX: The Program, part 16, ignore_depth). The constant `Dimen::IGNORE_DEPTH` has this value.
 abbrev pub ignored_depth : ℤ
 ignored_depth = negsuc 65535999
 
@@ -16,7 +16,8 @@ ignored_depth = negsuc 65535999
 abbrev pub distance : Params → (previous height : ℤ) → ℤ
 distance params previous height = (params.baseline_skip.width -ℤ previous) -ℤ height
 
--- Glue that sets the baselines apart by baselineskip: it stretches and shrinks as baselineskip does. It is refused where its width does not fit.
+-- Glue that sets the baselines apart by baselineskip: it stretches and shrinks as baselineskip does. It is refused where its width does not fit (own:
+-- TeX does not look).
 abbrev pub baseline_glue : Params → (width : ℤ) → Result (Option Glue) DimensionTooLarge
 baseline_glue params width =
     if fits width then Ok (Some (record params.baseline_skip { width = width })) else Err (record {})
@@ -34,7 +35,7 @@ abbrev pub glue_of : Result (Option Glue) DimensionTooLarge → Option Glue
 glue_of (Ok glue) = glue
 glue_of (Err e) = None
 
--- What is put behind a vertical list for a box: the glue in front of it, and the box with its shift.
+-- What is put behind a vertical list for a box: the glue in front of it, if there is some, and the box with its shift.
 abbrev pub appended : Option Glue → (shift : ℤ) → BoxNode → List Node
 appended None shift b = nodes.Box shift b ∷ []
 appended (Some glue) shift b = nodes.Glue glue ∷ nodes.Box shift b ∷ []

@@ -1,20 +1,20 @@
-//! The glue between two boxes of a vertical list (TeX: The Program, part 47, append_to_vlist).
+//! The glue between two boxes of a vertical list (TeX: The Program, part 33, append_to_vlist).
 
-ghost use Rattle.std.specs.Prelude.{◌≡◌, ◌-ℤ◌, ◌^◌};
-ghost use Rattle.scaled_core.specs.Dimensions.{Within};
+ghost use Rattle.std.specs.Prelude.{◌≡◌};
 ghost use Rattle.vert_core.specs.Interline.{distance, baseline_glue, interline};
 
 use node_core::{Glue, Params};
-use pack_core::dimension;
+use pack_core::{difference, dimension};
 use scaled_core::Dimen;
 use thiserror::Error;
 
-/// A size or a total does not fit.
+/// The distance between two boxes does not fit.
 #[derive(Clone, Copy, Debug, PartialEq, Eq, Error)]
 #[error("a size is too large")]
 pub struct DimensionTooLarge;
 
-/// The glue in front of a box of that height, in a vertical list whose last box is so deep. It takes no memory.
+/// The glue in front of a box of that height, in a vertical list whose last box is so deep; none where that depth is -1000pt or less. It is
+/// refused exactly where baselineskip is to set the boxes apart and the distance between them is no dimension. It takes no memory.
 #[tactic(auto, unfolding(crate::specs::Interline::interline))]
 pub fn interline_glue(
     previous_depth: Dimen,
@@ -51,12 +51,4 @@ fn distance(previous_depth: Dimen, height: Dimen, params: &Params) -> i64
     ensures { result ≡ distance params.now previous_depth height }
 {
     difference(params.baseline_skip.width, previous_depth) - i64::from(height.get())
-}
-
-/// How much a dimension is more than another.
-fn difference(a: Dimen, b: Dimen) -> i64
-    ensures value { result ≡ a -ℤ b }
-    ensures small { Within (2 ^ 32) result }
-{
-    i64::from(a.get()) - i64::from(b.get())
 }

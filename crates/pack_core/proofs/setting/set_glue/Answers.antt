@@ -7,7 +7,7 @@ use Rattle.pack_core.proofs.setting.set_glue.Goals as goal
 
 pub returns : goal.returns
 returns c =
-    let same : to_z w64 (of_z w64 c.excess_of-excess.result) ≡ c.args.size -ℤ c.args.natural = omega (arith, ints) in
+    let same : to_z w64 (of_z w64 c.difference-excess.result) ≡ c.args.size -ℤ c.args.natural = omega (arith, ints) in
     let bad : c.bad_of.result ≡ bad_of (length c.args.nodes.now == 0) (c.args.size -ℤ c.args.natural) c.in_ok-stretch.stretch c.in_ok-shrink.shrink =
     c.bad_of.ensures ∙ rw (same, c.is_empty.ensures) in
     glue-given (c.args.size -ℤ c.args.natural) c.args.nodes.now c.in_ok-stretch.stretch c.in_ok-shrink.shrink c.set_to.result c.bad_of.result
