@@ -1,6 +1,5 @@
 //! Whole scripts with their answers and bytes.
 
-
 use crate::memory_run::run_memory;
 use crate::program::answer_input;
 use crate::run::{RunFault, run_script};
