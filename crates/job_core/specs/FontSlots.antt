@@ -1,5 +1,5 @@
 -- The fonts of a job by their slots, and what characters come to in one of them (own; after TeX: The Program, parts 30 and 46).
-use Rattle.std.specs.Prelude.{[], ◌∷◌, ℕ, ℤ, List, Option, Some, None, Result, Ok, Err, if◌then◌else◌, slice_get, slice_set, unwrap_or}
+use Rattle.std.specs.Prelude.{[], ◌∷◌, ℕ, ℤ, List, Option, Some, None, Result, Ok, Err, if◌then◌else◌, slice_set}
 use Rattle.tfm_core.specs.declared.font.GlyphSize.{GlyphSize}
 use Rattle.tfm_core.specs.declared.fault.TfmCause.{TfmCause}
 use Rattle.tfm_core.specs.NamedBytes.{NamedBytes}
