@@ -8,6 +8,8 @@ mod memory_run;
 mod program;
 #[cfg(test)]
 mod row_tests;
+#[cfg(test)]
+mod rows;
 mod run;
 #[cfg(test)]
 mod samples;
