@@ -19,7 +19,7 @@ use Rattle.dvi_ops.proofs.Appends.{all_append}
 use Rattle.pack_core.specs.Totals.{fits}
 use Rattle.ship_core.specs.Drawing.{Picture, blank, stroke, group, moved_by, selected, ruled, behind_rule, font_behind, drawn}
 use Rattle.ship_core.specs.Shown.{at}
-use Rattle.ship_core.proofs.Fitting.{fits_within}
+use Rattle.pack_core.proofs.Sums.{fits_within}
 
 -- The marks of a picture.
 abbrev pub marks_in : Picture → List Mark

@@ -1,5 +1,4 @@
 -- Lemmas on what fits, on the items of a list gone over one by one, and on what is drawn for them.
-pub mod Fitting
 pub mod Drawings
 pub mod Walked
 pub mod Places

@@ -16,7 +16,7 @@ use crate::drawing::Drawing;
 use crate::placing::{Place, Seen, place_item, point_at, sum};
 use dvi_ops::Op;
 use node_core::{BoxNode, Kind, Node};
-use pack_core::Cursor;
+use pack_core::{Cursor, difference};
 use scaled_core::Dimen;
 use std::alloc::{AllocError, Global};
 use thiserror::Error;
@@ -107,13 +107,6 @@ fn begin_of(shown: &BoxNode, h: Dimen, v: Dimen) -> Begin
         Kind::Vertical => difference(v, shown.height),
     };
     Begin { h, v }
-}
-
-/// The difference of two dimensions.
-fn difference(a: Dimen, b: Dimen) -> i64
-    ensures { result ≡ a -ℤ b }
-{
-    i64::from(a.get()) - i64::from(b.get())
 }
 
 /// Whether the page of a box whose reference point is (h, v), in scaled points from the origin, is huge: a place or a size on it does not fit,

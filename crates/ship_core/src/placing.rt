@@ -22,7 +22,7 @@ pub struct Place {
 
 impl Place {
     /// Both numbers fit. It does nothing.
-    #[tactic(auto, using(crate::proofs::Fitting::dimension_fits))]
+    #[tactic(auto, using(pack_core::proofs::Sums::dimension_fits))]
     fn known(&self)
         ensures h { fits self.now.h ≡ true }
         ensures v { fits self.now.v ≡ true }
@@ -92,7 +92,7 @@ fn added(a: Dimen, b: Dimen) -> i128
 }
 
 /// The sum of two dimensions, in scaled points; None exactly where it does not fit. (That the two themselves fit is said too: dimensions always do.)
-#[tactic(auto, using(crate::proofs::Fitting::dimension_fits))]
+#[tactic(auto, using(pack_core::proofs::Sums::dimension_fits))]
 pub fn sum(a: Dimen, b: Dimen) -> Option<Dimen>
     ensures value { IfSome result (λ sum. sum ≡ a +ℤ b) }
     ensures fits { is_some result ≡ fits (a +ℤ b) }
