@@ -26,11 +26,6 @@ module _ {A : Type 0} (P : A → Type 0) where
   each_copy zero x here = tt
   each_copy (suc n) x here = (here, each_copy n x here)
 
--- Such a list is also one of what each such element is.
-pub each_as : {A : Type 0} (P Q : A → Type 0) → ((x : A) → P x → Q x) → (xs : List A) → AllByRecursion P xs → AllByRecursion Q xs
-each_as P Q turns [] all = tt
-each_as P Q turns (x ∷ xs) all = (turns x all.0, each_as P Q turns xs all.1)
-
 -- What a slot or a register holds is such a one, and its number is within.
 pub each_held : {A : Type 0} (P : Option A → Type 0) (xs : List (Option A)) (i : ℕ) (x : A) → AllByRecursion P xs → unwrap_or (slice_get xs i) None ≡ Some x → P (Some x)
 each_held P [] i x all is = cc

@@ -20,7 +20,7 @@ use Rattle.tfm_core.specs.Fonts.{SizedFont, glyph_of, step_of}
 use Rattle.shape_core.specs.Shaping.{IsGlyphOf}
 use Rattle.shape_core.specs.Spaces.{space_glue}
 use Rattle.shape_core.proofs.GlyphLemmas.{shaped_items-glyphs, text_items-glyphs}
-use Rattle.dvi_ops.proofs.Appends.{all_append}
+use Rattle.dvi_ops.proofs.Appends.{all_append, all_weaker}
 use Rattle.pack_core.specs.declared.pack.Packed as packs
 use Rattle.pack_core.specs.declared.pack.TooLarge.{TooLarge}
 use Rattle.job_core.specs.declared.nest.OpenList.{OpenList}
@@ -32,7 +32,7 @@ use Rattle.command_core.specs.declared.command.Refusal.{Refusal}
 use Rattle.command_core.specs.declared.command.Refusal.TheVariants.{SlotTaken, TooDeep, JobOver}
 use Rattle.dvi_write.specs.Fonts.{Slots, font_in}
 use Rattle.job_core.specs.FontSlots.{with_font, glyph_by, text_in, character_in, text_shaped, character_shaped}
-use Rattle.job_core.proofs.EachOf.{each_taken, each_set, each_at, each_copy, each_as, each_held}
+use Rattle.job_core.proofs.EachOf.{each_taken, each_set, each_at, each_copy, each_held}
 use Rattle.job_core.proofs.Leaves.{each_leaf}
 use Rattle.job_core.proofs.KeptRest.{KeepsRest, end_keeps, append_keeps, unbox_keeps}
 use Rattle.job_core.proofs.PackedItems.{packed_items}
@@ -174,13 +174,13 @@ glyph_sized fonts slot loaded at (nodes.Box shift b) is = absurd is
 text_sized : (fonts : Slots) (slot : ℕ) (held : Option LoadedFont) (text : List ℕ) → font_in fonts slot ≡ held → AreSized fonts (text_in held slot text).items
 text_sized fonts slot None text at = tt
 text_sized fonts slot (Some loaded) text at =
-    each_as (IsGlyphOf slot (glyph_of loaded.font)) (IsSized fonts) (glyph_sized fonts slot loaded at) (text_in (Some loaded) slot text).items
+    all_weaker (IsGlyphOf slot (glyph_of loaded.font)) (IsSized fonts) (text_in (Some loaded) slot text).items (glyph_sized fonts slot loaded at)
     (text_items-glyphs slot (glyph_of loaded.font) (step_of loaded.font) (space_glue loaded.font.space) text)
 
 character_sized : (fonts : Slots) (slot : ℕ) (held : Option LoadedFont) (code : ℕ) → font_in fonts slot ≡ held → AreSized fonts (character_in held slot code).items
 character_sized fonts slot None code at = tt
 character_sized fonts slot (Some loaded) code at =
-    each_as (IsGlyphOf slot (glyph_of loaded.font)) (IsSized fonts) (glyph_sized fonts slot loaded at) (character_in (Some loaded) slot code).items
+    all_weaker (IsGlyphOf slot (glyph_of loaded.font)) (IsSized fonts) (character_in (Some loaded) slot code).items (glyph_sized fonts slot loaded at)
     (shaped_items-glyphs slot (glyph_of loaded.font) (step_of loaded.font) (code ∷ []))
 
 text_shaped_sized : (fonts : Slots) (current : Option ℕ) (text : List ℕ) → AreSized fonts (text_shaped fonts current text).items
@@ -211,7 +211,7 @@ held_kept old new keeps (Some b) is = box_kept old new keeps b is
 
 list_kept : (old new : Slots) → ((slot : ℕ) (loaded : LoadedFont) → font_in old slot ≡ Some loaded → font_in new slot ≡ Some loaded)
     → (l : OpenList) → IsSizedList old l → IsSizedList new l
-list_kept old new keeps l is = each_as (IsSized old) (IsSized new) (node_kept old new keeps) (nodes_of l.list) is
+list_kept old new keeps l is = all_weaker (IsSized old) (IsSized new) (nodes_of l.list) (node_kept old new keeps) is
 
 -- What a register holds is sized.
 pub sized_held : (s : State) (r : ℕ) (b : BoxNode) → HasSizedGlyphs s → held_in s.registers r ≡ Some b → IsSoundBox s.fonts b
@@ -335,8 +335,8 @@ sized_after s (LoadFont load) may sized =
     let new : Slots = (after s (LoadFont load)).fonts in
     let keeps = stays_loaded s (LoadFont load) may in
     record {
-      nest = each_as (IsSizedList s.fonts) (IsSizedList new) (list_kept s.fonts new keeps) s.nest sized.nest;
-      registers = each_as (IsSizedHeld s.fonts) (IsSizedHeld new) (held_kept s.fonts new keeps) s.registers sized.registers;
+      nest = all_weaker (IsSizedList s.fonts) (IsSizedList new) s.nest (list_kept s.fonts new keeps) sized.nest;
+      registers = all_weaker (IsSizedHeld s.fonts) (IsSizedHeld new) s.registers (held_kept s.fonts new keeps) sized.registers;
     }
 sized_after s (UseFont slot) may sized = record { nest = sized.nest; registers = sized.registers }
 sized_after s (Open opening) may sized = record { nest = all_append (IsSizedList s.fonts) s.nest _ sized.nest (tt, tt); registers = sized.registers }
