@@ -9,7 +9,7 @@ use Rattle.dvi_ops.specs.Body.{Meaning, Acts, start}
 use Rattle.dvi_ops.specs.Tokens.{Token, says, written, place_of, places, pointer_of, pointers}
 use Rattle.dvi_ops.specs.Fonts.{definition_of, definitions, selection_of, selections, defined, FontsAreRight, known_after}
 use Rattle.dvi_ops.specs.Forest.{Forest, Empty, Then, Group, flat, meaning}
-use Rattle.dvi_ops.specs.File.{Part, Idle, Defines, Shows, Page, page_then, pages_of, instructions}
+use Rattle.dvi_ops.specs.File.{Part, Idle, Defines, Shows, MarkedPage, page_then, pages_of, instructions}
 
 -- All of two lists.
 pub all_append : {X : Type 0} (P : X → Type 0) (xs ys : List X) → AllByRecursion P xs → AllByRecursion P ys → AllByRecursion P (xs ++ ys)
@@ -115,18 +115,18 @@ defined-append f (d ∷ a) b = by_test (int_eq f d.number) (defined-append f a b
     by_test false e = e
 
 -- The pages of two lists of parts.
-abbrev pub both_pages : Option (List Page) → Option (List Page) → Option (List Page)
+abbrev pub both_pages : Option (List MarkedPage) → Option (List MarkedPage) → Option (List MarkedPage)
 both_pages None others = None
 both_pages (Some pages) None = None
 both_pages (Some pages) (Some others) = Some (pages ++ others)
 
-page_then-both : (counts : List ℤ) (m : Meaning) (pages others : Option (List Page)) → page_then counts m (both_pages pages others) ≡ both_pages (page_then counts m pages) others
+page_then-both : (counts : List ℤ) (m : Meaning) (pages others : Option (List MarkedPage)) → page_then counts m (both_pages pages others) ≡ both_pages (page_then counts m pages) others
 page_then-both counts None pages others = refl
 page_then-both counts (Some (marks, s)) None others = refl
 page_then-both counts (Some (marks, s)) (Some pages) None = refl
 page_then-both counts (Some (marks, s)) (Some pages) (Some others) = refl
 
-both_pages-none : (others : Option (List Page)) → others ≡ both_pages (Some []) others
+both_pages-none : (others : Option (List MarkedPage)) → others ≡ both_pages (Some []) others
 both_pages-none None = refl
 both_pages-none (Some others) = refl
 
@@ -138,15 +138,15 @@ pages_of-append does (Shows counts pointer body ∷ a) b =
     ap (page_then counts (meaning does body start)) (pages_of-append does a b) ∙ page_then-both counts (meaning does body start) (pages_of does a) (pages_of does b)
 
 -- Where both lists have pages, the whole has them.
-pub pages_joined : (does : Acts) (a b : List Part) (pages others : List Page) → pages_of does a ≡ Some pages → pages_of does b ≡ Some others → pages_of does (a ++ b) ≡ Some (pages ++ others)
-pages_joined does a b pages others e e' = pages_of-append does a b ∙ (ap (λ (o : Option (List Page)). both_pages o (pages_of does b)) e ∙ ap (both_pages (Some pages)) e')
+pub pages_joined : (does : Acts) (a b : List Part) (pages others : List MarkedPage) → pages_of does a ≡ Some pages → pages_of does b ≡ Some others → pages_of does (a ++ b) ≡ Some (pages ++ others)
+pages_joined does a b pages others e e' = pages_of-append does a b ∙ (ap (λ (o : Option (List MarkedPage)). both_pages o (pages_of does b)) e ∙ ap (both_pages (Some pages)) e')
 
 -- Where the whole has pages, both lists have them.
-pub pages_parted : (does : Acts) (a b : List Part) (all : List Page) → pages_of does (a ++ b) ≡ Some all →
-    (pages : List Page) × (others : List Page) × (pages_of does a ≡ Some pages) × (pages_of does b ≡ Some others) × (all ≡ pages ++ others)
+pub pages_parted : (does : Acts) (a b : List Part) (all : List MarkedPage) → pages_of does (a ++ b) ≡ Some all →
+    (pages : List MarkedPage) × (others : List MarkedPage) × (pages_of does a ≡ Some pages) × (pages_of does b ≡ Some others) × (all ≡ pages ++ others)
 pages_parted does a b all e = parted (pages_of does a) (pages_of does b) (sym (pages_of-append does a b) ∙ e)
   where
-    parted : (x y : Option (List Page)) → both_pages x y ≡ Some all → (pages : List Page) × (others : List Page) × (x ≡ Some pages) × (y ≡ Some others) × (all ≡ pages ++ others)
+    parted : (x y : Option (List MarkedPage)) → both_pages x y ≡ Some all → (pages : List MarkedPage) × (others : List MarkedPage) × (x ≡ Some pages) × (y ≡ Some others) × (all ≡ pages ++ others)
     parted None y e = absurd cc
     parted (Some pages) None e = absurd cc
     parted (Some pages) (Some others) e = let same : pages ++ others ≡ all = cc in (pages, others, refl, refl, sym same)
@@ -169,7 +169,7 @@ pointers-page counts pointer f =
     ap (λ ps. pointer ∷ ps) (pointers-append (flat f) (Eop ∷ []) ∙ ap (λ ps. ps ++ pointers (Eop ∷ [])) (pointers-flat f))
 
 -- There are as many pages as bops.
-pub length-pages : (does : Acts) (parts : List Part) (pages : List Page) → pages_of does parts ≡ Some pages → length (pointers (flat_map instructions parts)) ≡ length pages
+pub length-pages : (does : Acts) (parts : List Part) (pages : List MarkedPage) → pages_of does parts ≡ Some pages → length (pointers (flat_map instructions parts)) ≡ length pages
 length-pages does [] pages e = let same : [] ≡ pages = cc in ap length same
 length-pages does (Idle ∷ parts) pages e = length-pages does parts pages e
 length-pages does (Defines d ∷ parts) pages e = length-pages does parts pages e
@@ -178,8 +178,8 @@ length-pages does (Shows counts pointer body ∷ parts) pages e =
     ap length (pointers-append (instructions (Shows counts pointer body)) (flat_map instructions parts) ∙ ap (λ ps. ps ++ pointers (flat_map instructions parts)) (pointers-page counts pointer body))
     ∙ (ap suc (length-pages does parts behind.0 behind.1) ∙ sym behind.2)
   where
-    rest_of : (m : Meaning) (o : Option (List Page)) → page_then counts m o ≡ Some pages → (more : List Page) × (o ≡ Some more) × (length pages ≡ suc (length more))
+    rest_of : (m : Meaning) (o : Option (List MarkedPage)) → page_then counts m o ≡ Some pages → (more : List MarkedPage) × (o ≡ Some more) × (length pages ≡ suc (length more))
     rest_of None o e = absurd cc
     rest_of (Some (marks, s)) None e = absurd cc
     rest_of (Some (marks, s)) (Some more) e =
-        let page : Page = record { counts = counts; marks = marks } in let same : page ∷ more ≡ pages = cc in (more, refl, ap length (sym same))
+        let page : MarkedPage = record { counts = counts; marks = marks } in let same : page ∷ more ≡ pages = cc in (more, refl, ap length (sym same))

@@ -6,7 +6,7 @@ use Rattle.dvi_ops.specs.Instruction.{Postamble, Instruction, Push, Eop, Pre, Po
 use Rattle.dvi_ops.specs.Table.{Spells, signed}
 use Rattle.dvi_ops.specs.Forest.{flat}
 use Rattle.dvi_ops.specs.Tokens.{Token, IsSpelled, says, written, places, pointers}
-use Rattle.dvi_ops.specs.File.{Part, Idle, Defines, Shows, instructions, Page, pages_of, depth_of, IsIdle, AreUnits, Frame, IsFile}
+use Rattle.dvi_ops.specs.File.{Part, Idle, Defines, Shows, instructions, MarkedPage, pages_of, depth_of, IsIdle, AreUnits, Frame, IsFile}
 use Rattle.dvi_ops.specs.Fonts.{Metrics, FontsAreRight, definitions, selections, font, widths_of}
 use Rattle.dvi_ops.specs.Body.{acts, kept}
 use Rattle.dvi_ops.proofs.FrontLaws.{one_reading}
@@ -183,7 +183,7 @@ one_parts (Shows counts pointer body ∷ ps) (Shows counts' pointer' body' ∷ q
     cc
 
 -- Bytes have one list of pages.
-pub one_list_of_pages : (metrics : Metrics) (bytes : List ℕ) (pages others : List Page) → IsFile metrics bytes pages → IsFile metrics bytes others → pages ≡ others
+pub one_list_of_pages : (metrics : Metrics) (bytes : List ℕ) (pages others : List MarkedPage) → IsFile metrics bytes pages → IsFile metrics bytes others → pages ≡ others
 one_list_of_pages metrics bytes pages others f g =
     let same = one_frame bytes f.frame g.frame in
     let fronts : Pre 2 f.frame.stop.units f.comment ∷ flat_map instructions f.parts ≡ Pre 2 g.frame.stop.units g.comment ∷ flat_map instructions g.parts =
@@ -196,7 +196,7 @@ one_list_of_pages metrics bytes pages others f g =
     cc
 
 -- What is wanted of the instructions of a frame, for a file of these pages.
-pub record Facts (metrics : Metrics) (front : List Token) (stop : Postamble) (tail : List Token) (pages : List Page) : Type 0 where
+pub record Facts (metrics : Metrics) (front : List Token) (stop : Postamble) (tail : List Token) (pages : List MarkedPage) : Type 0 where
   pub comment : List ℕ
   pub parts : List Part
   pub front_is : says front ≡ Pre 2 stop.units comment ∷ flat_map instructions parts
@@ -209,7 +209,7 @@ pub record Facts (metrics : Metrics) (front : List Token) (stop : Postamble) (ta
   pub depth : AllByRecursion (λ part. depth_of part ≤ min 1024 stop.stack_depth) parts
   pub shows : pages_of (kept (acts (widths_of metrics (definitions (says tail))))) parts ≡ Some pages
 
-pub facts_of : (metrics : Metrics) (bytes : List ℕ) (pages : List Page) (f : IsFile metrics bytes pages) → Facts metrics f.frame.front f.frame.stop f.frame.tail pages
+pub facts_of : (metrics : Metrics) (bytes : List ℕ) (pages : List MarkedPage) (f : IsFile metrics bytes pages) → Facts metrics f.frame.front f.frame.stop f.frame.tail pages
 facts_of metrics bytes pages f =
     record {
       comment = f.comment;
@@ -226,7 +226,7 @@ facts_of metrics bytes pages f =
     }
 
 -- Where bytes are a file, this holds of every frame that they have.
-pub facts_at : (metrics : Metrics) (bytes : List ℕ) (pages : List Page) → IsFile metrics bytes pages → (g : Frame bytes) → Facts metrics g.front g.stop g.tail pages
+pub facts_at : (metrics : Metrics) (bytes : List ℕ) (pages : List MarkedPage) → IsFile metrics bytes pages → (g : Frame bytes) → Facts metrics g.front g.stop g.tail pages
 facts_at metrics bytes pages f g =
     let same = one_frame bytes f.frame g in
     subst (λ (front : List Token). Facts metrics front g.stop g.tail pages) same.front
@@ -234,7 +234,7 @@ facts_at metrics bytes pages f g =
     (subst (λ (tail : List Token). Facts metrics f.frame.front f.frame.stop tail pages) same.tail (facts_of metrics bytes pages f)))
 
 -- Where it holds of one frame, the bytes are a file.
-pub file_at : (metrics : Metrics) (bytes : List ℕ) (pages : List Page) (g : Frame bytes) → Facts metrics g.front g.stop g.tail pages → IsFile metrics bytes pages
+pub file_at : (metrics : Metrics) (bytes : List ℕ) (pages : List MarkedPage) (g : Frame bytes) → Facts metrics g.front g.stop g.tail pages → IsFile metrics bytes pages
 file_at metrics bytes pages g f =
     record {
       frame = g;

@@ -10,7 +10,7 @@ use Rattle.dvi_ops.specs.Body.{Mark, Meaning, Acts, acts, kept}
 use Rattle.dvi_ops.specs.Forest.{flat}
 use Rattle.dvi_ops.specs.Tokens.{Token, says, written, places, pointers}
 use Rattle.dvi_ops.specs.Fonts.{Metrics, AgreesWith, definitions, selections, defined, FontsAreRight, known_after, font_in}
-use Rattle.dvi_ops.specs.File.{Part, Defines, Shows, instructions, Page, page_then, pages_of, depth_of}
+use Rattle.dvi_ops.specs.File.{Part, Defines, Shows, instructions, MarkedPage, page_then, pages_of, depth_of}
 use Rattle.dvi_ops.specs.Layout.{bytes_of, preamble, define, Sheet, Written, at_first, sheet_from, after, Table, table_widths, IsWritable, IsTabled, IsGood}
 use Rattle.dvi_ops.proofs.Appends.{all_append, all_weaker, all_map, pointers-page, pointers-append, definitions-append, selections-append, instructions-append, places-append, length-places, known_after-append, fonts_append, pages_joined, pointers-flat}
 
@@ -100,7 +100,7 @@ place_fits n (pos a) p below = record { sfits = omega arith }
 place_fits n (negsuc a) p below = record { sfits = omega arith }
 
 -- How the writer's knowledge stands to what it has written.
-pub record Knows (metrics : Metrics) (table : Table) (s : Written) (is : List Instruction) (parts : List Part) (pages : List Page) : Type 0 where
+pub record Knows (metrics : Metrics) (table : Table) (s : Written) (is : List Instruction) (parts : List Part) (pages : List MarkedPage) : Type 0 where
   pub writable : AllByRecursion IsWritable is
   pub is_front : is ≡ preamble ∷ flat_map instructions parts
   pub size : s.size ≡ length (bytes_of is)
@@ -144,14 +144,14 @@ abbrev pub page_from : ℤ → Sheet → List Instruction
 page_from last p = Bop p.counts last ∷ (flat p.body ++ Eop ∷ [])
 
 -- The page as it is read.
-abbrev pub page_with : Sheet → List Mark → Page
+abbrev pub page_with : Sheet → List Mark → MarkedPage
 page_with p marks = record { counts = p.counts; marks = marks }
 
 pages-define : (does : Acts) (fonts : List Definition) (rest : List Part) → pages_of does (map (λ d. Defines d) fonts ++ rest) ≡ pages_of does rest
 pages-define does [] rest = refl
 pages-define does (d ∷ fonts) rest = pages-define does fonts rest
 
-module _ (metrics : Metrics) (table : Table) (s : Written) (is : List Instruction) (parts : List Part) (pages : List Page) (p : Sheet) (marks : List Mark)
+module _ (metrics : Metrics) (table : Table) (s : Written) (is : List Instruction) (parts : List Part) (pages : List MarkedPage) (p : Sheet) (marks : List Mark)
     (t : Knows metrics table s is parts pages) (g : IsGood metrics table s.known p marks) (small : s.size < 2 ^ 31) where
   writable_next : AllByRecursion IsWritable (is ++ sheet_from s.last p)
   writable_next =

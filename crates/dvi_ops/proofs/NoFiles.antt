@@ -7,7 +7,7 @@ use Rattle.dvi_ops.specs.Spelling.{operand, signed_size, code_size, char_spellin
 use Rattle.dvi_ops.specs.Forest.{Empty, Then, Group}
 use Rattle.dvi_ops.specs.Tokens.{Token, written, pointers}
 use Rattle.dvi_ops.specs.Fonts.{Metrics}
-use Rattle.dvi_ops.specs.File.{Part, Idle, Defines, Shows, instructions, Page, depth_of, IsFile}
+use Rattle.dvi_ops.specs.File.{Part, Idle, Defines, Shows, instructions, MarkedPage, depth_of, IsFile}
 use Rattle.dvi_ops.specs.Layout.{scaled_points, preamble, IsWritable}
 use Rattle.dvi_ops.specs.Examples.{self_naming_file, stray_pop_file, short_file, miscounted_file, undefined_font_file, shallow_file, one_rule_file}
 use Rattle.dvi_ops.proofs.KnownFiles.{nested_body, zeros, all_fit, small, large, small_tabled, large_tabled}
@@ -16,7 +16,7 @@ use Rattle.dvi_ops.proofs.Frames.{one_trailer, cut_of, one_parts}
 use Rattle.dvi_ops.proofs.WholeFile.{facts_of_written}
 
 -- More bytes 223 at the end.
-pub padding_grows : (metrics : Metrics) (bytes : List ℕ) (pages : List Page) → IsFile metrics bytes pages → IsFile metrics (bytes ++ 223 ∷ []) pages
+pub padding_grows : (metrics : Metrics) (bytes : List ℕ) (pages : List MarkedPage) → IsFile metrics bytes pages → IsFile metrics (bytes ++ 223 ∷ []) pages
 padding_grows metrics bytes pages f =
     let g = f.frame in
     record {
@@ -70,7 +70,7 @@ self_naming_fits : AllByRecursion IsWritable self_naming
 self_naming_fits =
     (preamble_fits, ((tt, (refl, all_fit 10, record { sfits = lit< tt })), ((tt, record { sfits = lit< tt }), ((tt, (record { sfits = lit< tt }, record { sfits = lit< tt })), ((tt, tt), tt)))))
 
-pub self_naming_is_none : (metrics : Metrics) (pages : List Page) → IsFile metrics self_naming_file pages → ⊥
+pub self_naming_is_none : (metrics : Metrics) (pages : List MarkedPage) → IsFile metrics self_naming_file pages → ⊥
 unfolding spelling leaf_spelling operand signed_size
 self_naming_is_none metrics pages f =
     let found = facts_of_written self_naming (one_rule_stop 1) [] 74 7 metrics pages self_naming_fits (stop_fits 1 (lit< tt)) tt refl (lit< tt) (lit≤ tt) f in
@@ -98,7 +98,7 @@ no_pop_first counts pointer rest (Shows counts' pointer' Empty ∷ parts) e = cc
 no_pop_first counts pointer rest (Shows counts' pointer' (Then i body) ∷ parts) e = cc
 no_pop_first counts pointer rest (Shows counts' pointer' (Group inner body) ∷ parts) e = cc
 
-pub stray_pop_is_none : (metrics : Metrics) (pages : List Page) → IsFile metrics stray_pop_file pages → ⊥
+pub stray_pop_is_none : (metrics : Metrics) (pages : List MarkedPage) → IsFile metrics stray_pop_file pages → ⊥
 unfolding spelling leaf_spelling operand signed_size
 stray_pop_is_none metrics pages f =
     let found = facts_of_written stray_pop (one_rule_stop 1) [] 74 7 metrics pages stray_pop_fits (stop_fits 1 (lit< tt)) tt refl (lit< tt) (lit≤ tt) f in
@@ -106,7 +106,7 @@ stray_pop_is_none metrics pages f =
     no_pop_first zeros (negsuc 0) _ found.parts body
 
 -- Three bytes 223 alone.
-pub short_is_none : (metrics : Metrics) (pages : List Page) → IsFile metrics short_file pages → ⊥
+pub short_is_none : (metrics : Metrics) (pages : List MarkedPage) → IsFile metrics short_file pages → ⊥
 short_is_none metrics pages f =
     let cut = cut_of short_file f.frame in
     let three : f.frame.padding ≡ 3 = (one_trailer _ (take 108 one_rule_file) f.frame.padding 3 (sym cut.whole ∙ refl)).1 in
@@ -121,7 +121,7 @@ one_rule_fits : AllByRecursion IsWritable one_rule
 one_rule_fits =
     (preamble_fits, ((tt, (refl, all_fit 10, record { sfits = lit< tt })), ((tt, record { sfits = lit< tt }), ((tt, (record { sfits = lit< tt }, record { sfits = lit< tt })), ((tt, tt), tt)))))
 
-pub miscounted_is_none : (metrics : Metrics) (pages : List Page) → IsFile metrics miscounted_file pages → ⊥
+pub miscounted_is_none : (metrics : Metrics) (pages : List MarkedPage) → IsFile metrics miscounted_file pages → ⊥
 unfolding spelling leaf_spelling operand signed_size
 miscounted_is_none metrics pages f =
     let found = facts_of_written one_rule (one_rule_stop 2) [] 74 7 metrics pages one_rule_fits (stop_fits 2 (lit< tt)) tt refl (lit< tt) (lit≤ tt) f in
@@ -153,7 +153,7 @@ nested_tail_fits : AllByRecursion IsWritable nested_tail
 nested_tail_fits = (small_tabled.writable, (large_tabled.writable, tt))
 
 -- A font that is selected and has no definition.
-pub undefined_font_is_none : (metrics : Metrics) (pages : List Page) → IsFile metrics undefined_font_file pages → ⊥
+pub undefined_font_is_none : (metrics : Metrics) (pages : List MarkedPage) → IsFile metrics undefined_font_file pages → ⊥
 unfolding spelling leaf_spelling operand signed_size code_size char_spelling font_spelling
 undefined_font_is_none metrics pages f =
     let found = facts_of_written (nested (pos 2)) (nested_stop 1) nested_tail 116 5 metrics pages (nested_fits 2 (lit< tt)) (nested_stop_fits 1 (lit< tt)) nested_tail_fits refl (lit< tt) (lit≤ tt) f in
@@ -163,7 +163,7 @@ undefined_font_is_none metrics pages f =
     differ e = cc
 
 -- A push that post does not count.
-pub shallow_is_none : (metrics : Metrics) (pages : List Page) → IsFile metrics shallow_file pages → ⊥
+pub shallow_is_none : (metrics : Metrics) (pages : List MarkedPage) → IsFile metrics shallow_file pages → ⊥
 unfolding spelling leaf_spelling operand signed_size code_size char_spelling font_spelling
 shallow_is_none metrics pages f =
     let found = facts_of_written (nested (pos 1)) (nested_stop 0) nested_tail 116 5 metrics pages (nested_fits 1 (lit< tt)) (nested_stop_fits 0 (lit< tt)) nested_tail_fits refl (lit< tt) (lit≤ tt) f in

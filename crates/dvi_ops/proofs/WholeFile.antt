@@ -9,7 +9,7 @@ use Rattle.dvi_ops.specs.Table.{Spells}
 use Rattle.dvi_ops.specs.Spelling.{operand, spelling, NumberFits, NumbersFit}
 use Rattle.dvi_ops.specs.Tokens.{IsSpelled, says, pointers}
 use Rattle.dvi_ops.specs.Fonts.{Metrics, definitions, selections, defined, FontsAreRight, font, font_in, width_in, widths_of}
-use Rattle.dvi_ops.specs.File.{Part, instructions, Page, depth_of, IsIdle, Frame, IsFile}
+use Rattle.dvi_ops.specs.File.{Part, instructions, MarkedPage, depth_of, IsIdle, Frame, IsFile}
 use Rattle.dvi_ops.specs.Layout.{bytes_of, preamble, define, Sheet, Written, at_first, sheet_from, after, sheets_from, after_all, front_of, whole_of, stop_of, ending_of, padding_after, Table, table_widths, IsWritable, IsTabled, IsGood, AreGood, IsClosing}
 use Rattle.dvi_ops.proofs.Appends.{all_weaker, all_both, all_map, fonts_append}
 use Rattle.dvi_ops.proofs.Layouts.{wrote, says-wrote, written-wrote, bytes_of-append, length-bytes_of-append, definitions-define, defined_right, place_fits, Knows, knows_first, knows_next, page_with}
@@ -27,7 +27,7 @@ grows s [] = omega arith
 grows s (p ∷ ps) = let more = grows (after s p) ps in omega arith
 
 -- All pages, one after the other.
-knows_all : (metrics : Metrics) (table : Table) (s : Written) (is : List Instruction) (parts : List Part) (pages : List Page) (ps : List Sheet) (more : List Page) →
+knows_all : (metrics : Metrics) (table : Table) (s : Written) (is : List Instruction) (parts : List Part) (pages : List MarkedPage) (ps : List Sheet) (more : List MarkedPage) →
     Knows metrics table s is parts pages → AreGood metrics table s ps more → (after_all s ps).size < 2 ^ 31 →
     (all : List Part) × Knows metrics table (after_all s ps) (is ++ sheets_from s ps) all (pages ++ more)
 knows_all metrics table s is parts pages [] [] t good small =
@@ -39,7 +39,7 @@ knows_all metrics table s is parts pages (p ∷ ps) (page ∷ more) t (counts, g
     let next = knows_next metrics table s is parts pages p page.marks t good (omega arith) in
     let found = knows_all metrics table (after s p) (is ++ sheet_from s.last p) _ (pages ++ (page_with p page.marks) ∷ []) ps more next rest small in
     let same : page_with p page.marks ≡ page = ap (λ (counts : List ℤ). record { counts = counts; marks = page.marks }) (sym counts) in
-    (found.0, subst₂ (λ is pages. Knows metrics table (after_all (after s p) ps) is found.0 pages) (append_assoc is (sheet_from s.last p) (sheets_from (after s p) ps)) (append_assoc pages (page_with p page.marks ∷ []) more ∙ ap (λ (page : Page). pages ++ (page ∷ more)) same) found.1)
+    (found.0, subst₂ (λ is pages. Knows metrics table (after_all (after s p) ps) is found.0 pages) (append_assoc is (sheet_from s.last p) (sheets_from (after s p) ps)) (append_assoc pages (page_with p page.marks ∷ []) more ∙ ap (λ (page : MarkedPage). pages ++ (page ∷ more)) same) found.1)
 
 -- A definition of the postamble is the job's.
 closing_is_table : (table : Table) (closing : List Definition) (f : ℤ) → AllByRecursion (IsTabled table) closing → IsSome (defined f closing) → defined f closing ≡ table f
@@ -83,14 +83,14 @@ frame_of is stop tail place padding front_fits stop_fits tail_fits at small padd
     }
 
 -- What is known where such bytes are a file.
-pub facts_of_written : (is : List Instruction) (stop : Postamble) (tail : List Instruction) (place padding : ℕ) (metrics : Metrics) (pages : List Page) →
+pub facts_of_written : (is : List Instruction) (stop : Postamble) (tail : List Instruction) (place padding : ℕ) (metrics : Metrics) (pages : List MarkedPage) →
     AllByRecursion IsWritable is → NumbersFit (Post stop) → AllByRecursion IsWritable tail → place ≡ length (bytes_of is) → place < 2 ^ 31 → 4 ≤ padding →
     IsFile metrics (bytes_of is ++ (bytes_of (Post stop ∷ (tail ++ PostPost (pos place) 2 ∷ [])) ++ replicate padding 223)) pages → Facts metrics (map wrote is) stop (map wrote tail) pages
 unfolding frame_of
 facts_of_written is stop tail place padding metrics pages front_fits stop_fits tail_fits at small padded f =
     facts_at metrics _ pages f (frame_of is stop tail place padding front_fits stop_fits tail_fits at small padded)
 
-module _ (metrics : Metrics) (table : Table) (s : Written) (is : List Instruction) (parts : List Part) (pages : List Page)
+module _ (metrics : Metrics) (table : Table) (s : Written) (is : List Instruction) (parts : List Part) (pages : List MarkedPage)
     (tall wide : ℤ) (closing : List Definition) (padding : ℕ)
     (t : Knows metrics table s is parts pages) (c : IsClosing table s.known closing) (tall_fits : NumberFits tall) (wide_fits : NumberFits wide) (small : s.size < 2 ^ 31) (padded : 4 ≤ padding) where
   stop : Postamble
@@ -156,14 +156,14 @@ module _ (metrics : Metrics) (table : Table) (s : Written) (is : List Instructio
       }
 
 -- There are as many pages as sheets.
-same_length : (metrics : Metrics) (table : Table) (s : Written) (ps : List Sheet) (pages : List Page) → AreGood metrics table s ps pages → length pages ≡ length ps
+same_length : (metrics : Metrics) (table : Table) (s : Written) (ps : List Sheet) (pages : List MarkedPage) → AreGood metrics table s ps pages → length pages ≡ length ps
 same_length metrics table s [] [] good = refl
 same_length metrics table s [] (page ∷ pages) good = absurd good
 same_length metrics table s (p ∷ ps) [] good = absurd good
 same_length metrics table s (p ∷ ps) (page ∷ pages) (counts, here, good) = ap suc (same_length metrics table (after s p) ps pages good)
 
 -- What is written for good pages, and then the postamble, is a file of these pages.
-pub whole_file : (metrics : Metrics) (table : Table) (ps : List Sheet) (pages : List Page) (tall wide : ℤ) (closing : List Definition) (padding : ℕ) →
+pub whole_file : (metrics : Metrics) (table : Table) (ps : List Sheet) (pages : List MarkedPage) (tall wide : ℤ) (closing : List Definition) (padding : ℕ) →
     AreGood metrics table at_first ps pages → IsClosing table (after_all at_first ps).known closing → NumberFits tall → NumberFits wide → (after_all at_first ps).size < 2 ^ 31 → 4 ≤ padding →
     IsFile metrics (whole_of ps tall wide closing padding) pages
 unfolding whole_bytes stop
@@ -187,7 +187,7 @@ front_more ps p =
     ap (λ (is : List Instruction). bytes_of (preamble ∷ is)) (sheets_from-append at_first ps (p ∷ []) ∙ ap (λ (is : List Instruction). sheets_from at_first ps ++ is) (append-nil (sheet_from (after_all at_first ps).last p)))
     ∙ bytes_of-append (preamble ∷ sheets_from at_first ps) (sheet_from (after_all at_first ps).last p)
 
-pub good_more : (metrics : Metrics) (table : Table) (s : Written) (ps : List Sheet) (pages : List Page) (p : Sheet) (page : Page) →
+pub good_more : (metrics : Metrics) (table : Table) (s : Written) (ps : List Sheet) (pages : List MarkedPage) (p : Sheet) (page : MarkedPage) →
     AreGood metrics table s ps pages → page.counts ≡ p.counts → IsGood metrics table (after_all s ps).known p page.marks → AreGood metrics table s (ps ++ p ∷ []) (pages ++ page ∷ [])
 good_more metrics table s [] [] p page are counts good = (counts, good, tt)
 good_more metrics table s [] (q ∷ pages) p page are counts good = absurd are

@@ -4,7 +4,7 @@ use Rattle.dvi_ops.specs.Instruction.{Across, Downward, First, By, Set, Again, S
 use Rattle.dvi_ops.specs.Body.{Mark, Glyph, Rule}
 use Rattle.dvi_ops.specs.Forest.{Forest, Empty, Then, Group}
 use Rattle.dvi_ops.specs.Fonts.{Metrics}
-use Rattle.dvi_ops.specs.File.{Page}
+use Rattle.dvi_ops.specs.File.{MarkedPage}
 
 -- The body of a page with one rule, 1pt high and wide: down 65536, set_rule 65536 65536.
 abbrev pub one_rule_body : Forest
@@ -47,7 +47,7 @@ one_rule_file =
     0x01 ∷ 0x00 ∷ 0x00 ∷ 0x00 ∷ 0x00 ∷ 0x00 ∷ 0x01 ∷ 0xf9 ∷ 0x00 ∷ 0x00 ∷ 0x00 ∷ 0x4a ∷ 0x02 ∷ 0xdf ∷ 0xdf ∷ 0xdf ∷
     0xdf ∷ 0xdf ∷ 0xdf ∷ 0xdf ∷ []
 
-abbrev pub one_rule_pages : List Page
+abbrev pub one_rule_pages : List MarkedPage
 one_rule_pages = record { counts = replicate 10 (pos 0); marks = one_rule_marks } ∷ []
 
 -- The same bytes, but the bop names its own place 15 in the place of -1.
@@ -81,7 +81,7 @@ two_page_file =
     0x00 ∷ 0x00 ∷ 0x00 ∷ 0x00 ∷ 0x03 ∷ 0xe8 ∷ 0x00 ∷ 0x01 ∷ 0x00 ∷ 0x00 ∷ 0x00 ∷ 0x01 ∷ 0x00 ∷ 0x00 ∷ 0x00 ∷ 0x00 ∷
     0x00 ∷ 0x02 ∷ 0xf9 ∷ 0x00 ∷ 0x00 ∷ 0x00 ∷ 0x85 ∷ 0x02 ∷ 0xdf ∷ 0xdf ∷ 0xdf ∷ 0xdf ∷ []
 
-abbrev pub two_pages : List Page
+abbrev pub two_pages : List MarkedPage
 two_pages =
     record { counts = replicate 10 (pos 0); marks = one_rule_marks } ∷ record { counts = pos 7 ∷ replicate 9 (pos 0); marks = one_rule_marks } ∷ []
 
@@ -103,7 +103,7 @@ fonts_in_nested_boxes_file =
     0x0a ∷ 0x00 ∷ 0x00 ∷ 0x00 ∷ 0x04 ∷ 0x74 ∷ 0x69 ∷ 0x6e ∷ 0x79 ∷ 0xf9 ∷ 0x00 ∷ 0x00 ∷ 0x00 ∷ 0x74 ∷ 0x02 ∷ 0xdf ∷
     0xdf ∷ 0xdf ∷ 0xdf ∷ 0xdf ∷ []
 
-abbrev pub fonts_in_nested_boxes_pages : List Page
+abbrev pub fonts_in_nested_boxes_pages : List MarkedPage
 fonts_in_nested_boxes_pages =
     record {
       counts = replicate 10 (pos 0);

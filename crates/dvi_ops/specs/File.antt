@@ -21,18 +21,18 @@ instructions (Defines d) = Do (FontDef d) ∷ []
 instructions (Shows counts pointer body) = Bop counts pointer ∷ (flat body ++ Eop ∷ [])
 
 -- A page as it is read: its ten counts and its marks.
-pub record Page : Type 0 where
+pub record MarkedPage : Type 0 where
   pub counts : List ℤ
   pub marks : List Mark
 
 -- A page with the marks of its body, and the pages behind it.
-abbrev pub page_then : List ℤ → Meaning → Option (List Page) → Option (List Page)
+abbrev pub page_then : List ℤ → Meaning → Option (List MarkedPage) → Option (List MarkedPage)
 page_then counts None pages = None
 page_then counts (Some (marks, last)) None = None
 page_then counts (Some (marks, last)) (Some pages) = Some (record { counts = counts; marks = marks } ∷ pages)
 
 -- The pages of the parts, each with the marks of its body from six zeros and no font. There are none where a body has no meaning.
-abbrev pub pages_of : Acts → List Part → Option (List Page)
+abbrev pub pages_of : Acts → List Part → Option (List MarkedPage)
 pages_of does [] = Some []
 pages_of does (Idle ∷ rest) = pages_of does rest
 pages_of does (Defines d ∷ rest) = pages_of does rest
@@ -71,7 +71,7 @@ pub record Frame (bytes : List ℕ) : Type 0 where
   pub ending_spelled : Spells (PostPost (pos (length (written front))) 2) ending
 
 -- The bytes are a DVI file of these pages, with these metric files.
-pub record IsFile (metrics : Metrics) (bytes : List ℕ) (pages : List Page) : Type 0 where
+pub record IsFile (metrics : Metrics) (bytes : List ℕ) (pages : List MarkedPage) : Type 0 where
   pub frame : Frame bytes
   -- A preamble of version 2; then nops, font definitions and pages; after the postamble's post nops and font definitions (DVItype, 14, 17 and 19).
   pub comment : List ℕ

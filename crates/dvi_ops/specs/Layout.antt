@@ -6,7 +6,7 @@ use Rattle.dvi_ops.specs.Spelling.{spelling, HasSpelling, NumberFits, NumbersFit
 use Rattle.dvi_ops.specs.Body.{Mark, State, Widths, acts, kept, start}
 use Rattle.dvi_ops.specs.Forest.{Forest, flat, meaning, nests}
 use Rattle.dvi_ops.specs.Fonts.{Metrics, IsSize, definitions, selections, defined, known_after, font_in, width_in}
-use Rattle.dvi_ops.specs.File.{Page}
+use Rattle.dvi_ops.specs.File.{MarkedPage}
 
 -- The bytes of instructions, each by its written spelling.
 abbrev pub bytes_of : List Instruction → List ℕ
@@ -121,7 +121,7 @@ pub record IsGood (metrics : Metrics) (table : Table) (known : List Definition) 
   pub shows : meaning (kept (acts (table_widths metrics table))) p.body start ≡ Some (marks, last)
 
 -- Each page is good behind those before it. The pages as they are read have their counts and marks.
-abbrev pub AreGood : Metrics → Table → Written → List Sheet → List Page → Type 0
+abbrev pub AreGood : Metrics → Table → Written → List Sheet → List MarkedPage → Type 0
 AreGood metrics table s [] [] = Unit {0}
 AreGood metrics table s [] (page ∷ pages) = ⊥
 AreGood metrics table s (p ∷ rest) [] = ⊥

@@ -2,7 +2,7 @@
 
 ghost use Rattle.std.specs.Prelude.{◌≡◌, ◌++◌, ◌<◌, ◌≤◌, ◌+◌, ◌%◌, ◌^◌, [], ◌∷◌, List, length, ℕ, ℤ};
 ghost use Rattle.dvi_ops.specs.Examples.{one_rule_file, one_rule_pages, two_page_file, two_pages, fonts_in_nested_boxes_file, fonts_in_nested_boxes_pages, self_naming_file, stray_pop_file, short_file, miscounted_file, undefined_font_file, shallow_file, GivesTiny};
-ghost use Rattle.dvi_ops.specs.File.{IsFile, Page};
+ghost use Rattle.dvi_ops.specs.File.{IsFile, MarkedPage};
 ghost use Rattle.dvi_ops.specs.Fonts.{Metrics};
 ghost use Rattle.dvi_ops.specs.Instruction.{Definition};
 ghost use Rattle.dvi_ops.specs.Layout.{AreGood, IsClosing, IsGood, Sheet, Table, Written, after, after_all, at_first, bytes_of, front_of, padding_after, sheet_from, whole_of};
@@ -10,13 +10,13 @@ ghost use Rattle.dvi_ops.specs.Spelling.{NumberFits};
 
 /// Bytes are a file of one list of pages at most.
 pub fn one_file()
-    ensures { (metrics : Metrics) (bytes : List ℕ) (pages others : List Page)
+    ensures { (metrics : Metrics) (bytes : List ℕ) (pages others : List MarkedPage)
         → IsFile metrics bytes pages → IsFile metrics bytes others → pages ≡ others }
 {}
 
 /// What this writer writes for good pages, with the postamble behind them, is a file of these pages: any number of pages and fonts, any greatest sizes.
 pub fn whole_is_file()
-    ensures { (metrics : Metrics) (table : Table) (sheets : List Sheet) (pages : List Page)
+    ensures { (metrics : Metrics) (table : Table) (sheets : List Sheet) (pages : List MarkedPage)
         (tall wide : ℤ) (closing : List Definition) (padding : ℕ)
         → AreGood metrics table at_first sheets pages
         → IsClosing table (after_all at_first sheets).known closing
@@ -30,7 +30,7 @@ pub fn pages_are_added()
         → front_of (sheets ++ p ∷ []) ≡ front_of sheets ++ bytes_of (sheet_from (after_all at_first sheets).last p) }
     ensures state { (s : Written) (sheets : List Sheet) (p : Sheet) → after_all s (sheets ++ p ∷ []) ≡ after (after_all s sheets) p }
     ensures size { (sheets : List Sheet) → (after_all at_first sheets).size ≡ length (front_of sheets) }
-    ensures good { (metrics : Metrics) (table : Table) (s : Written) (sheets : List Sheet) (pages : List Page) (p : Sheet) (page : Page)
+    ensures good { (metrics : Metrics) (table : Table) (s : Written) (sheets : List Sheet) (pages : List MarkedPage) (p : Sheet) (page : MarkedPage)
         → AreGood metrics table s sheets pages → page.counts ≡ p.counts
         → IsGood metrics table (after_all s sheets).known p page.marks
         → AreGood metrics table s (sheets ++ p ∷ []) (pages ++ page ∷ []) }
@@ -45,7 +45,7 @@ pub fn padding_is_right()
 
 /// A file with more bytes 223 at its end is a file of the same pages.
 pub fn padding_may_grow()
-    ensures { (metrics : Metrics) (bytes : List ℕ) (pages : List Page)
+    ensures { (metrics : Metrics) (bytes : List ℕ) (pages : List MarkedPage)
         → IsFile metrics bytes pages → IsFile metrics (bytes ++ 223 ∷ []) pages }
 {}
 
@@ -67,10 +67,10 @@ pub fn fonts_in_nested_boxes_is_a_file()
 /// Bytes that are no file, whatever the pages: a first page that names itself as the page before it, a pop without a push, three bytes 223 alone,
 /// a wrong number of pages, a selected font without a definition, more open pushes than post says.
 pub fn what_is_no_file()
-    ensures pointer { (metrics : Metrics) (pages : List Page) → ¬ IsFile metrics self_naming_file pages }
-    ensures pop { (metrics : Metrics) (pages : List Page) → ¬ IsFile metrics stray_pop_file pages }
-    ensures padding { (metrics : Metrics) (pages : List Page) → ¬ IsFile metrics short_file pages }
-    ensures count { (metrics : Metrics) (pages : List Page) → ¬ IsFile metrics miscounted_file pages }
-    ensures font { (metrics : Metrics) (pages : List Page) → ¬ IsFile metrics undefined_font_file pages }
-    ensures depth { (metrics : Metrics) (pages : List Page) → ¬ IsFile metrics shallow_file pages }
+    ensures pointer { (metrics : Metrics) (pages : List MarkedPage) → ¬ IsFile metrics self_naming_file pages }
+    ensures pop { (metrics : Metrics) (pages : List MarkedPage) → ¬ IsFile metrics stray_pop_file pages }
+    ensures padding { (metrics : Metrics) (pages : List MarkedPage) → ¬ IsFile metrics short_file pages }
+    ensures count { (metrics : Metrics) (pages : List MarkedPage) → ¬ IsFile metrics miscounted_file pages }
+    ensures font { (metrics : Metrics) (pages : List MarkedPage) → ¬ IsFile metrics undefined_font_file pages }
+    ensures depth { (metrics : Metrics) (pages : List MarkedPage) → ¬ IsFile metrics shallow_file pages }
 {}

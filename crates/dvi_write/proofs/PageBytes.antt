@@ -13,22 +13,23 @@ use Rattle.dvi_ops.specs.Forest.{flat}
 use Rattle.dvi_ops.specs.Spelling.{operand, code_size, spelling, leaf_spelling}
 use Rattle.dvi_ops.specs.Layout.{bytes_of, define, sheet_from}
 use Rattle.dvi_ops.proofs.Layouts.{length-bytes_of-append}
+use Rattle.dvi_ops.proofs.Spelled.{operand_length}
 use Rattle.dvi_write.specs.declared.fonts.LoadedFont.{LoadedFont}
 use Rattle.dvi_write.specs.Fonts.{Slots, font_in}
 use Rattle.dvi_write.specs.Draft.{page_of, definition_of, definition_by, definitions_of, fresh_slots, sheet_of}
 use Rattle.ship_core.specs.Drawing.{body_of}
 use Rattle.ship_core.specs.Shown.{HasWidth}
-use Rattle.ship_core.proofs.DrawnBytes.{length-operand, body_bytes}
+use Rattle.ship_core.proofs.DrawnBytes.{body_bytes}
 
 length-counts : (n : ℕ) → length (flat_map (operand 4) (replicate n (pos 0))) ≡ 4 * n
 length-counts zero = refl
 length-counts (suc n) =
-    omega (arith, length-append (operand 4 (pos 0)) (flat_map (operand 4) (replicate n (pos 0))), length-operand 4 (pos 0), length-counts n)
+    omega (arith, length-append (operand 4 (pos 0)) (flat_map (operand 4) (replicate n (pos 0))), operand_length 4 (pos 0), length-counts n)
 
 length-bop : (last : ℤ) → length (spelling (Bop (replicate 10 (pos 0)) last)) ≡ 45
 unfolding spelling
 length-bop last =
-    omega (arith, length-append (flat_map (operand 4) (replicate 10 (pos 0))) (operand 4 last), length-counts 10, length-operand 4 last)
+    omega (arith, length-append (flat_map (operand 4) (replicate 10 (pos 0))) (operand 4 last), length-counts 10, operand_length 4 last)
 
 length-eop : length (spelling Eop) ≡ 1
 unfolding spelling
@@ -51,14 +52,14 @@ length-definition s l small short =
     omega (
       arith,
       length-append (operand (code_size (pos s)) (pos s)) (operand 4 d.check_sum ++ (operand 4 d.size ++ (operand 4 d.design_size ++ (0 ∷ length l.name ∷ l.name)))),
-      length-operand (code_size (pos s)) (pos s),
+      operand_length (code_size (pos s)) (pos s),
       one_byte s small,
       length-append (operand 4 d.check_sum) (operand 4 d.size ++ (operand 4 d.design_size ++ (0 ∷ length l.name ∷ l.name))),
-      length-operand 4 d.check_sum,
+      operand_length 4 d.check_sum,
       length-append (operand 4 d.size) (operand 4 d.design_size ++ (0 ∷ length l.name ∷ l.name)),
-      length-operand 4 d.size,
+      operand_length 4 d.size,
       length-append (operand 4 d.design_size) (0 ∷ length l.name ∷ l.name),
-      length-operand 4 d.design_size,
+      operand_length 4 d.design_size,
       short,
     )
 

@@ -9,7 +9,7 @@ ghost use Rattle.dvi_ops.specs.Layout.{bytes_of, define, padding_after};
 ghost use Rattle.dvi_ops.specs.Spelling.{HasSpelling};
 ghost use Rattle.dvi_ops.specs.View.{view};
 ghost use Rattle.std.specs.List.{AllByRecursion, list_any};
-ghost use Rattle.pack_core.specs.Totals.{fits};
+ghost use Rattle.scaled_core.specs.Dimensions.{fits};
 ghost use Rattle.ship_core.specs.Marks.{is_huge};
 ghost use Rattle.dvi_write.specs.Draft.{page_of, Draft, closing, closing_ops, definition_of, definitions_of, first_draft, fresh_slots, is_among, is_fresh, reach_down, reach_right, in_rising_order, selects, whole, with_page};
 ghost use Rattle.ship_core.specs.Drawing.{body_of};

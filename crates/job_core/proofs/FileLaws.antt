@@ -24,7 +24,7 @@ use Rattle.job_core.specs.Machine.{most_deep}
 use Rattle.dvi_write.specs.Draft.{Draft, first_draft, with_page, with_pages, draft_of, definitions_of, fresh_slots, in_rising_order, selects, sheet_of, reach_down, reach_right, closing, closed, whole, file_of}
 use Rattle.job_core.specs.Runs.{IsShipped}
 use Rattle.job_core.specs.Shown.{GivesFiles, shown_page, IsFileOf}
-use Rattle.pack_core.proofs.Sums.{fits_within}
+use Rattle.scaled_core.proofs.Fitting.{fits_within}
 use Rattle.ship_core.proofs.DrawnMarks.{number_within}
 use Rattle.ship_core.proofs.DrawnPages.{drawn_page, writable_page, definitions-page, nests_page, fits_down, fits_right}
 use Rattle.dvi_write.proofs.DefinedFonts.{AreKnown, none_known, known_next, selected_known, each_selected, each_of, rising_among, listed_at, defined_among}

@@ -129,7 +129,8 @@ drafted s command pages None is loaded all =
     ∙ pages-same s.files s.fonts (after s command).fonts first_draft (pages ++ new_pages s command) loaded (stays_loaded s command is) all
 drafted s command pages (Some refusal) is loaded all = refl
 
-counted :
+-- And so many as the state counts.
+pub counted :
     (s : State) (command : Command) (pages : List Page) (refused : Option Refusal) → first_of (checks s command) ≡ refused → s.pages ≡ length pages
     → (state_by refused s (after s command)).pages ≡ length (state_by refused pages (pages ++ new_pages s command))
 counted s command pages None is count = omega (arith, after-pages s command is, length-append pages (new_pages s command))

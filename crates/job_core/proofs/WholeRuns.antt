@@ -7,7 +7,8 @@ use Rattle.command_core.specs.declared.command.Summary.{Summary}
 use Rattle.command_core.specs.Reply.{Reply}
 use Rattle.tfm_core.specs.NamedBytes.{NamedBytes}
 use Rattle.job_core.proofs.KeptRest.{job_kept}
-use Rattle.job_core.specs.Machine.{Machine, first_machine}
+use Rattle.job_core.proofs.Moves.{counted}
+use Rattle.job_core.specs.Machine.{Machine, first_machine, first_of, checks}
 use Rattle.job_core.specs.Runs.{Seen, Steps, Replies, LacksMemory, LosesDevice, Run, Holds, KeepsTo, RunsTo, FinishesTo}
 use Rattle.job_core.specs.Closing.{ClosesFile}
 use Rattle.job_core.specs.Shown.{FilesPages, GivesFiles}
@@ -39,6 +40,10 @@ one_run old new command reply keeps m holds =
     let next = keeps m holds in
     (next.0, (next.0, new.failed, next.1, (refl, refl)), next.2)
 
+-- The state of a machine counts its pages.
+abbrev pub AreCounted : Machine → Type 0
+AreCounted m = m.state.pages ≡ length m.pages
+
 -- A command leaves the font files as they are.
 files_of : Machine → List NamedBytes
 files_of m = m.state.files
@@ -57,6 +62,23 @@ files_kept m n [] (reply ∷ replies) next k run = absurd run
 files_kept m n (command ∷ commands) [] next k run = absurd run
 files_kept m n (command ∷ commands) (reply ∷ replies) next k run =
     files_kept run.0 run.1 commands replies next k run.3 ∙ one_keeps m n command reply run.0 run.1 run.2
+
+-- A step leaves as many pages as its state counts.
+one_counts :
+    (m : Machine) (n : ℕ) (command : Command) (reply : Reply) (next : Machine) (k : ℕ) → Steps m n command reply next k → AreCounted m → AreCounted next
+one_counts m n command reply next k (Replies says goes counts) count =
+    subst AreCounted (sym goes) (counted m.state command m.pages (first_of (checks m.state command)) refl count)
+one_counts m n command reply next k (LacksMemory says takes may goes counts) count = subst AreCounted (sym goes) count
+one_counts m n command reply next k (LosesDevice says ships may goes counts) count = subst AreCounted (sym goes) count
+
+-- So does a run.
+pub pages_counted :
+    (m : Machine) (n : ℕ) (commands : List Command) (replies : List Reply) (next : Machine) (k : ℕ) → Run m n commands replies next k → AreCounted m → AreCounted next
+pages_counted m n [] [] next k run count = subst AreCounted (sym run.0) count
+pages_counted m n [] (reply ∷ replies) next k run count = absurd run
+pages_counted m n (command ∷ commands) [] next k run count = absurd run
+pages_counted m n (command ∷ commands) (reply ∷ replies) next k run count =
+    pages_counted run.0 run.1 commands replies next k run.3 (one_counts m n command reply run.0 run.1 run.2 count)
 
 sized : (result : Result Summary Refusal) (run ended : Seen) (m : Machine) → Holds run m
     → IfOk result (λ summary. (m : Machine) → Holds run m → IfSome ended.told (λ bytes. summary.bytes ≡ length bytes))

@@ -3,8 +3,7 @@ use Rattle.std.specs.Prelude.{◌≡◌, [], ◌∷◌, ℕ, ℤ, List, map, Opt
 use Rattle.tfm_core.specs.NamedBytes.{NamedBytes}
 use Rattle.tfm_core.specs.FileWidths.{file_widths}
 use Rattle.dvi_ops.specs.Fonts.{Metrics}
-use Rattle.dvi_ops.specs.File as file
-use Rattle.dvi_ops.specs.File.{IsFile}
+use Rattle.dvi_ops.specs.File.{MarkedPage, IsFile}
 use Rattle.command_core.specs.declared.command.Refusal.{Refusal}
 use Rattle.command_core.specs.declared.command.Summary.{Summary}
 use Rattle.ship_core.specs.Marks.{Page, marks_of_page}
@@ -12,7 +11,7 @@ use Rattle.job_core.specs.Machine.{Machine}
 use Rattle.job_core.specs.Runs.{Seen, Holds}
 
 -- A page as it is read from a file: its ten counts, and the marks of its box at its reference point, in order.
-abbrev pub shown_page : Page → file.Page
+abbrev pub shown_page : Page → MarkedPage
 shown_page page = record { counts = page.counts; marks = marks_of_page page }
 
 -- Metrics that give at least what the font files give, each font by the first file of its name.

@@ -41,6 +41,11 @@ pub fn runs_keep_files()
     ensures { (m next : Machine) (n k : ℕ) (commands : List Command) (replies : List Reply) → Run m n commands replies next k → next.state.files ≡ m.state.files }
 {}
 
+/// After any run the state counts the pages that were shipped, which the answer of the next `ship` and the limit of pages go by.
+pub fn pages_are_counted()
+    ensures { (files : List NamedBytes) (n k : ℕ) (commands : List Command) (replies : List Reply) (m : Machine) → Run (first_machine files) n commands replies m k → m.state.pages ≡ length m.pages }
+{}
+
 /// The metrics law: after any run, the slot of each glyph of each page has a font; by its name and its size the job's own font files give
 /// widths; and the glyph has that of its character. So one slot has one size, and in one size a character has one width.
 pub fn glyphs_have_the_widths_of_their_files()

@@ -52,22 +52,6 @@ fn pack_as(opening: Opening, params: &Params, list: NodeList) -> Result<Packed, 
     }
 }
 
-/// Puts a box at the end of a list, or gives it back where the growth is refused.
-fn push_box(list: &mut NodeList, shown: BoxNode, shift: Dimen) -> Result<(), BoxNode>
-    requires { length (nodes_of list.old) < most_nodes }
-    ensures ok { OnOk result (list.new ≡ items_of (nodes_of list.old ++ Node.Box shift shown ∷ [])) }
-    ensures err { OnErr result (list.new ≡ list.old) }
-    ensures back { IfErr result (λ back. back ≡ shown) }
-{
-    match list.push(Node::Box(shift, shown)) {
-        Ok(()) => Ok(()),
-        Err(failed) => match failed.value {
-            Node::Box(_, shown) => Err(shown),
-            _ => unreachable!(),
-        },
-    }
-}
-
 impl OpenList {
     /// The box of the list, which is then empty; or None where a size does not fit, and the list stays as it was.
     fn pack(&mut self, alloc: Global, params: &Params) -> Option<Packed>
@@ -121,7 +105,7 @@ impl OpenList {
         ensures back { IfErr result (λ back. back ≡ shown) }
     {
         let depth = shown.depth;
-        push_box(&mut self.list, shown, shift)?;
+        self.list.push_box(shift, shown)?;
         self.previous_depth = depth;
         Ok(())
     }

@@ -1,11 +1,12 @@
 -- Lists of nodes and items are the same thing, seen in two ways.
-use Rattle.std.proofs.Common.{◌≡◌, ◌≢◌, ◌∙◌, ℕ, ℤ, ◌+◌, ◌<◌, max, List, [], ◌∷◌, ◌++◌, length, take, get_or, refl, ap, sym, arith}
+use Rattle.std.proofs.Common.{◌≡◌, ◌≢◌, ◌∙◌, ℕ, ℤ, ◌+◌, ◌<◌, ◌≤◌, max, List, [], ◌∷◌, ◌++◌, length, take, get_or, refl, ap, sym, arith, Result, Ok, Err, length-append}
+use Rattle.std.specs.Prelude.{OnOk, OnErr}
 use Rattle.std.proofs.lemmas.List.{take_more}
 use Rattle.node_core.specs.declared.tree.Node.{Node}
 use Rattle.node_core.specs.declared.tree.Node.TheVariants.{Glyph, FontKern, Kern, Glue, Penalty, Rule, Box}
 use Rattle.node_core.specs.declared.tree.BoxNode.{BoxNode}
 use Rattle.node_core.specs.Items.{Leaf, glyph, font_kern, kern, glue, penalty, rule, Items, none, leaf, box, items_count, items_depth}
-use Rattle.node_core.specs.Nodes.{items_of, node_of, nodes_of}
+use Rattle.node_core.specs.Nodes.{most_nodes, items_of, node_of, nodes_of}
 
 -- A list of nodes is the nodes of its items.
 pub nodes_of-items_of : (nodes : List Node) → nodes_of (items_of nodes) ≡ nodes
@@ -35,6 +36,14 @@ items_of-nodes_of (box shift frame inner rest) = ap (box shift frame inner) (ite
 
 -- What the methods of a list and of a box use.
 pub ruleset nodes = (nodes_of-items_of, items_of-nodes_of)
+
+-- Fewer nodes than may be, behind which one was put or none, are not too many.
+pub one_more_fits :
+    {E : Type 0} (result : Result (Unit {0}) E) (old new : List Node) (items : Items) (x : Node) → items_of old ≡ items → length (nodes_of items) < most_nodes
+    → OnOk result (new ≡ old ++ x ∷ []) → OnErr result (new ≡ old) → length new ≤ most_nodes
+one_more_fits (Ok u) old new items x is few ok err =
+    omega (arith, few, ap (λ l. length (nodes_of l)) is, ap length (nodes_of-items_of old), ap length ok, length-append old (x ∷ []))
+one_more_fits (Err e) old new items x is few ok err = omega (arith, few, ap (λ l. length (nodes_of l)) is, ap length (nodes_of-items_of old), ap length err)
 
 -- With one more node, what a list counts is more by what the node counts.
 abbrev pub node_count : Node → ℕ

@@ -7,4 +7,6 @@ pub mod params;
 pub mod tree;
 
 pub use params::{Number, Params};
-pub use tree::{BoxNode, Glue, Glyph, Kind, Node, NodeList, Order, Rule, RuleSize, Setting};
+pub use tree::{
+    BoxNode, Glue, Glyph, Kind, Node, NodeList, Order, Rule, RuleSize, Setting, push_box,
+};

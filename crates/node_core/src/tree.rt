@@ -215,6 +215,17 @@ impl NodeList {
         }
     }
 
+    /// Puts a box behind the others, which are fewer than 131,072. A refused growth hands it back and leaves the list as it was.
+    #[tactic(auto, using(crate::proofs::NodeLemmas::nodes))]
+    pub fn push_box(&mut self, shift: Dimen, shown: BoxNode) -> Result<(), BoxNode>
+        requires short { length (nodes_of self.old) < most_nodes }
+        ensures ok { OnOk result (self.new ≡ items_of (nodes_of self.old ++ Node.Box shift shown ∷ [])) }
+        ensures err { OnErr result (self.new ≡ self.old) }
+        ensures back { IfErr result (λ back. back ≡ shown) }
+    {
+        push_box(&mut self.nodes, shift, shown)
+    }
+
     /// Puts nodes behind the others, in order; together they are at most 131,072. A refused growth leaves the list as it was.
     #[tactic(auto, using(crate::proofs::NodeLemmas::nodes))]
     pub fn extend(&mut self, mut nodes: Vec<Node>) -> Result<(), AllocError>
@@ -295,6 +306,21 @@ impl NodeList {
             }
         }
         count
+    }
+}
+
+/// Puts a box behind nodes. A refused growth hands it back and leaves the nodes as they were.
+pub fn push_box(nodes: &mut Vec<Node>, shift: Dimen, shown: BoxNode) -> Result<(), BoxNode>
+    ensures ok { OnOk result (nodes.new.items ≡ nodes.old.items ++ Node.Box shift shown ∷ []) }
+    ensures err { OnErr result (nodes.new.items ≡ nodes.old.items) }
+    ensures back { IfErr result (λ back. back ≡ shown) }
+{
+    match nodes.push(Node::Box(shift, shown)) {
+        Ok(()) => Ok(()),
+        Err(failed) => match failed.value {
+            Node::Box(_, shown) => Err(shown),
+            _ => unreachable!(),
+        },
     }
 }
 

@@ -15,7 +15,8 @@ use Rattle.pack_core.specs.declared.pack.Packed.{Packed}
 use Rattle.pack_core.specs.declared.pack.TooLarge.{TooLarge}
 use Rattle.pack_core.specs.declared.pack.Shell.{Shell}
 use Rattle.pack_core.specs.Items.{advance}
-use Rattle.pack_core.specs.Totals.{fits, total, first_height}
+use Rattle.scaled_core.specs.Dimensions.{fits}
+use Rattle.pack_core.specs.Totals.{total, first_height}
 use Rattle.pack_core.specs.Glue.{setting_of, setting_badness}
 use Rattle.pack_core.specs.Boxes.{hbox, hbox_excess, hbox_badness, hbox_numbers, hpacked, vbox, vbox_excess, vbox_badness, vbox_numbers, vpacked, vtop_box, vtop_numbers, vtopped}
 use Rattle.pack_core.specs.Places.{place, place_in}

@@ -15,15 +15,15 @@ use Rattle.pack_core.specs.declared.setting.OrderTotals.{OrderTotals}
 use Rattle.pack_core.specs.declared.setting.Flow.{Flow}
 use Rattle.pack_core.specs.declared.setting.Flow.TheVariants as flows
 use Rattle.pack_core.specs.Items.{across, above, below, downward, breadth}
-use Rattle.pack_core.specs.Totals.{total, greatest, fits, first_height}
+use Rattle.scaled_core.specs.Dimensions.{fits, Within}
+use Rattle.pack_core.specs.Totals.{total, greatest, first_height}
 use Rattle.pack_core.specs.Glue.{highest, stretched, shrunk, setting_of, setting_badness, stretch_totals, shrink_totals, stretch_badness, shrink_badness}
 use Rattle.pack_core.specs.Boxes.{wanted, glue_totals, hbox_width, hbox_excess, hbox_numbers, natural_height, vbox_depth, vbox_height, vbox_excess, vbox_numbers, vtop_depth, vtop_numbers}
 use Rattle.pack_core.specs.declared.setting.GlueSet.{GlueSet}
 use Rattle.pack_core.specs.declared.pack.Target.{Target}
 use Rattle.pack_core.specs.declared.pack.Shell.{Shell}
 use Rattle.std.proofs.Math.Bool.{and-true}
-use Rattle.scaled_core.specs.Dimensions.{Within}
-use Rattle.pack_core.proofs.Sums.{dimension_fits}
+use Rattle.scaled_core.proofs.Fitting.{dimension_fits}
 use Rattle.std.proofs.lemmas.List.Folds.{list_all-append}
 use Rattle.pack_core.specs.Measures.{amount_in}
 use Rattle.pack_core.specs.Steps.{given, flow_totals, flow_quantity, by_order, order_totals, each_order, shrink_ratio, shrink_setting, stretch_setting, set_to, stretch_bad, shrink_bad, bad_to, bad_of, glue_set, hbox_shell, vbox_shell, vtop_shell}

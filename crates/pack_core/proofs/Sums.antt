@@ -1,6 +1,6 @@
 -- Sums and greatest sizes over a list that has one more node.
 use Rattle.std.proofs.Common.{◌≡◌, ◌∙◌, ℕ, ◌+◌, ◌<◌, ◌&&◌, List, [], ◌∷◌, ◌++◌, length, take, get_or, ap, arith, sym, refl}
-use Rattle.std.specs.Prelude.{ℤ, pos, negsuc, ◌+ℤ◌, ◌≤ℤ◌, Bool, true, false, if◌then◌else◌}
+use Rattle.std.specs.Prelude.{ℤ, pos, ◌+ℤ◌, ◌≤ℤ◌, Bool, true, false, if◌then◌else◌}
 use Rattle.std.specs.Int.{int_max}
 use Rattle.std.proofs.lemmas.Int.{ints, clamps}
 use Rattle.std.proofs.lemmas.List.{take_more}
@@ -8,22 +8,10 @@ use Rattle.std.proofs.lemmas.List.Folds.{list_all-append}
 use Rattle.std.specs.List.{list_all}
 use Rattle.pack_core.specs.Items.{is_penalty, last_below}
 use Rattle.pack_core.specs.Measures.{pending_behind}
-use Rattle.std.proofs.lemmas.Bool.{lt-ltb, le-leb, leb-true, ltb-true}
-use Rattle.scaled_core.specs.Dimensions.{Within}
 use Rattle.node_core.specs.declared.tree.Node.{Node}
 use Rattle.node_core.specs.declared.tree.Node.TheVariants as nodes
 use Rattle.std.proofs.Math.Bool.{and-true, and-false}
-use Rattle.pack_core.specs.Totals.{fits, total, greatest, pending_depth}
-
--- What is within the bounds of a dimension fits.
-pub dimension_fits : (z : ℤ) → Within 1073741823 z → fits z ≡ true
-dimension_fits (pos n) within = le-leb n 1073741823 (omega (arith, ints, within.high))
-dimension_fits (negsuc n) within = lt-ltb n 1073741823 (omega (arith, ints, within.low))
-
--- What fits is within the bounds of a dimension.
-pub fits_within : (z : ℤ) → fits z ≡ true → Within 1073741823 z
-fits_within (pos n) fit = let high = leb-true n 1073741823 fit in record { low = omega (arith, ints); high = omega (arith, ints) }
-fits_within (negsuc n) fit = let low = ltb-true n 1073741823 fit in record { low = omega (arith, ints); high = omega (arith, ints) }
+use Rattle.pack_core.specs.Totals.{total, greatest, pending_depth}
 
 pub total-append : (size : Node → ℤ) (xs ys : List Node) → total size (xs ++ ys) ≡ total size xs +ℤ total size ys
 total-append size [] ys = omega (arith, ints)

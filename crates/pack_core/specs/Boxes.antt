@@ -13,7 +13,8 @@ use Rattle.pack_core.specs.declared.pack.Target.TheVariants.{Natural, To, Spread
 use Rattle.pack_core.specs.declared.pack.Packed.{Packed}
 use Rattle.pack_core.specs.declared.pack.TooLarge.{TooLarge}
 use Rattle.pack_core.specs.Items.{across, above, below, downward, breadth}
-use Rattle.pack_core.specs.Totals.{fits, total, greatest, pending_depth, first_height}
+use Rattle.scaled_core.specs.Dimensions.{fits}
+use Rattle.pack_core.specs.Totals.{total, greatest, pending_depth, first_height}
 use Rattle.pack_core.specs.Glue.{stretch_totals, shrink_totals, setting_of, setting_badness}
 
 -- The size that is wanted of a list of that natural size: the natural one, a given one, or so much more.

@@ -1,14 +1,9 @@
 -- Sums and greatest elements over whole lists (own).
-use Rattle.std.specs.Prelude.{◌+ℤ◌, ℤ, pos, negsuc, Bool, nat_le, nat_lt, if◌then◌else◌, List, [], ◌∷◌}
+use Rattle.std.specs.Prelude.{◌+ℤ◌, ℤ, pos, if◌then◌else◌, List, [], ◌∷◌}
 use Rattle.std.specs.List.{list_all}
 use Rattle.std.specs.Int.{int_max}
 use Rattle.node_core.specs.declared.tree.Node.{Node}
 use Rattle.pack_core.specs.Items.{is_penalty, first_above, last_below}
-
--- Whether a number of scaled points is a dimension: its absolute value is below 2^30 (TeX: The Program, part 7).
-abbrev pub fits : ℤ → Bool
-fits (pos n) = nat_le n 1073741823
-fits (negsuc n) = nat_lt n 1073741823
 
 -- The sum of a size over a list.
 abbrev pub total : (Node → ℤ) → List Node → ℤ

@@ -3,7 +3,7 @@
 ghost use Rattle.std.specs.Prelude.{◌≡◌, ◌≢◌, ◌↔◌, ◌+ℤ◌, ◌-ℤ◌, ◌++◌, ◌∷◌, ℤ, pos, negsuc, List, Some, None, IsTrue, true, false};
 ghost use Rattle.std.specs.Int.{int_max};
 ghost use Rattle.std.specs.List.{list_all};
-ghost use Rattle.scaled_core.specs.Dimensions.{Fits};
+ghost use Rattle.scaled_core.specs.Dimensions.{Fits, fits};
 ghost use Rattle.node_core.specs.Items.{Frame, Items, box};
 ghost use Rattle.node_core.specs.declared.tree.Kind.{Kind};
 ghost use Rattle.node_core.specs.declared.tree.Node.{Node};
@@ -12,16 +12,11 @@ ghost use Rattle.node_core.specs.declared.tree.Setting.TheVariants.{Natural};
 ghost use Rattle.pack_core.specs.declared.pack.Target.{Target};
 ghost use Rattle.pack_core.specs.declared.pack.Target.TheVariants as targets;
 ghost use Rattle.pack_core.specs.Items.{advance, is_penalty, last_below};
-ghost use Rattle.pack_core.specs.Totals.{fits, total, pending_depth};
+ghost use Rattle.pack_core.specs.Totals.{total, pending_depth};
 ghost use Rattle.pack_core.specs.Glue.{highest, setting_of, setting_badness};
 ghost use Rattle.pack_core.specs.Boxes.{hbox, hbox_badness, vbox, vtop_box};
 ghost use Rattle.pack_core.specs.Places.{place, place_in};
 ghost use Rattle.pack_core.specs.Laws.{IsHighest, three_stretching, two_shrinking, kern_and_fil};
-
-/// A number of scaled points fits exactly where it is a dimension.
-pub fn dimensions_fit()
-    ensures { (z : ℤ) → ((fits z ≡ true) ↔ Fits z) }
-{}
 
 /// A list whose glue is set, and which is not overfull, ends exactly where its box does.
 pub fn list_fills_its_box()

@@ -3,10 +3,10 @@
 ghost use Rattle.std.specs.Prelude.{◌≡◌, ◌≢◌, ◌+ℤ◌, ◌-ℤ◌, ◌≤◌, ◌^◌, IfOk, IfErr, length};
 ghost use Rattle.std.specs.Result.{is_ok};
 ghost use Rattle.std.specs.List.{list_all};
-ghost use Rattle.scaled_core.specs.Dimensions.{Fits, Within};
+ghost use Rattle.scaled_core.specs.Dimensions.{Fits, Within, fits};
 ghost use Rattle.node_core.specs.Nodes.{most_nodes, nodes_of};
 ghost use Rattle.pack_core.specs.Items.{across, downward};
-ghost use Rattle.pack_core.specs.Totals.{fits, total, greatest, first_height};
+ghost use Rattle.pack_core.specs.Totals.{total, greatest, first_height};
 ghost use Rattle.pack_core.specs.Measures.{extent_in};
 ghost use Rattle.pack_core.specs.Boxes.{wanted, hbox, hbox_badness, hbox_numbers, hpacked};
 ghost use Rattle.pack_core.specs.Boxes.{vbox, vbox_badness, vbox_numbers, vpacked, vtop_box, vtop_numbers, vtopped};

@@ -3,9 +3,8 @@
 ghost use Rattle.std.specs.Prelude.{◌≡◌, ◌≢◌, ◌-ℤ◌, ◌≤ℤ◌, ◌≤◌, ◌^◌, pos, length};
 ghost use Rattle.std.specs.Option.{IfSome};
 ghost use Rattle.std.specs.List.{list_all};
-ghost use Rattle.scaled_core.specs.Dimensions.{Within};
+ghost use Rattle.scaled_core.specs.Dimensions.{Within, fits};
 ghost use Rattle.node_core.specs.Nodes.{most_nodes};
-ghost use Rattle.pack_core.specs.Totals.{fits};
 ghost use Rattle.pack_core.specs.Glue.{is_zero, highest, fraction, is_finite};
 ghost use Rattle.pack_core.specs.Boxes.{glue_totals};
 ghost use Rattle.pack_core.specs.Steps.{given, flow_totals, flow_quantity, by_order, order_totals, each_order, glue_set};

@@ -2,9 +2,9 @@
 
 ghost use Rattle.std.specs.Prelude.{◌≡◌, ◌≤◌, ◌^◌, Some, None, if◌then◌else◌, length};
 ghost use Rattle.std.specs.Int.{int_max, int_min};
-ghost use Rattle.scaled_core.specs.Dimensions.{Fits, Within};
+ghost use Rattle.scaled_core.specs.Dimensions.{Fits, Within, fits};
 ghost use Rattle.node_core.specs.Nodes.{most_nodes};
-ghost use Rattle.pack_core.specs.Totals.{fits, total, greatest, pending_depth, first_height};
+ghost use Rattle.pack_core.specs.Totals.{total, greatest, pending_depth, first_height};
 ghost use Rattle.pack_core.specs.Measures.{amount_in, extent_in, pending_behind};
 
 use crate::sizes::{

@@ -1,4 +1,5 @@
 pub mod DigitLemmas
+pub mod Fitting
 pub mod ReadingLemmas
 pub mod TextLaws
 pub mod ReadingCases

@@ -8,20 +8,8 @@ use Rattle.scaled_core.specs.declared.fault.DimenFault.TheVariants.{TooLarge, No
 use Rattle.scaled_core.specs.Dimensions.{Fits, fits}
 use Rattle.scaled_core.specs.DimensionTexts.{IsDimensionText, IsTooLargeText, IsNoDimension}
 use Rattle.scaled_core.specs.ParsedTexts.{dimension_value, fitted, read_dimension}
+use Rattle.scaled_core.proofs.Fitting.{dimension_fits, fits_within}
 use Rattle.scaled_core.proofs.TextLaws.{dimension_value-from_text, IsDimensionText-from_value}
-
--- a number fits where its absolute value does
-pub Fits-from_abs : (z : ℤ) → unsigned_abs z ≤ 1073741823 → Fits z
-Fits-from_abs (pos n) h = record { low = omega (arith, ints); high = omega (arith, ints) }
-Fits-from_abs (negsuc n) h = record { low = omega (arith, ints); high = omega (arith, ints) }
-
-pub abs-le_from_fits : (z : ℤ) → Fits z → unsigned_abs z ≤ 1073741823
-abs-le_from_fits (pos n) h = omega (arith, ints, h.low, h.high)
-abs-le_from_fits (negsuc n) h = omega (arith, ints, h.low, h.high)
-
--- the test says so
-pub fits-is : (z : ℤ) → (fits z ≡ true ↔ Fits z)
-fits-is z = (λ test. Fits-from_abs z (leb-true _ _ test), λ fit. le-leb _ _ (abs-le_from_fits z fit))
 
 -- the text's dimension, which fits, is what was read
 pub record ReadsDimension (text : List ℕ) (r : Result ℤ DimenFault) : Type 0 where
@@ -51,7 +39,7 @@ fitted-no z e = rw e refl
 
 -- a value that fits is read
 pub fitted-fits : (z : ℤ) → Fits z → fitted (Some z) ≡ Ok z
-fitted-fits z fit = fitted-yes z ((fits-is z).1 fit)
+fitted-fits z fit = fitted-yes z (dimension_fits z fit)
 
 fitted-nothing : fitted None ≡ Err NotADimension
 unfolding fitted
@@ -63,9 +51,9 @@ no_value text e value written = let f = dimension_value-from_text text value wri
 reads_by : (text : List ℕ) (r : Result ℤ DimenFault) (v : Option ℤ) → dimension_value text ≡ v → r ≡ fitted v → Reads text r
 reads_by text r None e h = inr (inr (record { none = no_value text e; read = h ∙ fitted-nothing }))
 reads_by text r (Some z) e h = ⊎_elim
-    (λ (yes : fits z ≡ true). inl (record { value = z; written = IsDimensionText-from_value text z e; fits = (fits-is z).0 yes; read = h ∙ fitted-yes z yes }))
+    (λ (yes : fits z ≡ true). inl (record { value = z; written = IsDimensionText-from_value text z e; fits = fits_within z yes; read = h ∙ fitted-yes z yes }))
     (λ (no : fits z ≡ false). inr (inl (record {
-      large = record { value = z; written = IsDimensionText-from_value text z e; misfit = λ fit. let yes = (fits-is z).1 fit in absurd (cc) };
+      large = record { value = z; written = IsDimensionText-from_value text z e; misfit = λ fit. let yes = dimension_fits z fit in absurd (cc) };
       read = h ∙ fitted-no z no;
     })))
     (cases_Bool (fits z))

@@ -10,7 +10,8 @@ use Rattle.tfm_core.specs.Scaling.{IsFontSize}
 use Rattle.scaled_core.specs.Dimensions.{Within}
 use Rattle.scaled_core.specs.declared.fault.DimenFault.{DimenFault}
 use Rattle.scaled_core.specs.ParsedTexts.{read_dimension, dimension_value, fitted, measured, unit_named, is_negative, behind_sign, front_digits, behind_digits, point_digits, behind_fraction}
-use Rattle.scaled_core.proofs.ReadingCases.{reads-ok, reads-fits, abs-le_from_fits}
+use Rattle.scaled_core.proofs.Fitting.{dimension_fits}
+use Rattle.scaled_core.proofs.ReadingCases.{reads-ok, reads-fits}
 use Rattle.scaled_core.proofs.TextLaws.{dimension_value-from_text}
 use Rattle.node_core.specs.declared.tree.RuleSize.{RuleSize}
 use Rattle.node_core.specs.declared.tree.RuleSize.TheVariants.{Running, Fixed}
@@ -74,7 +75,7 @@ reads_dimension field z h = record { text = reads-ok field (Ok z) (sym h); fits 
 
 pub dimension_read : (field : List ℕ) (z : ℤ) → IsDimension field z → read_dimension field ≡ Ok z
 unfolding read_dimension fitted
-dimension_read field z h = rw (dimension_value-from_text field z h.text, le-leb (unsigned_abs z) 1073741823 (abs-le_from_fits z h.fits)) refl
+dimension_read field z h = rw (dimension_value-from_text field z h.text, dimension_fits z h.fits) refl
 
 -- `*` is no dimension
 star_is_none : (z : ℤ) → read_dimension (codes "*") ≡ Ok z → ⊥

@@ -23,10 +23,6 @@ use Rattle.ship_core.specs.Shown.{HasWidth}
 use Rattle.ship_core.proofs.DrawnMarks.{EachStroke, IsByte}
 use Rattle.ship_core.proofs.Pictures.{parts, each_rule, each_glyph, each_behind, few_parts}
 
--- How long an operand is, under the name that the crates above cite.
-pub length-operand : (n : ℕ) (z : ℤ) → length (operand n z) ≡ n
-length-operand = operand_length
-
 moved_bytes : (axis : Axis) (z : ℤ) (rest : Forest) → length (bytes_of (flat (moved_by axis z rest))) ≤ 5 + length (bytes_of (flat rest))
 moved_bytes axis (pos zero) rest = omega arith
 moved_bytes axis (pos (suc n)) rest =

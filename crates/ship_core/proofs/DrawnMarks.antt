@@ -6,7 +6,7 @@ use Rattle.std.specs.Ordering.{int_eq}
 use Rattle.std.proofs.lemmas.Int.{ints}
 use Rattle.std.proofs.lemmas.Bool.{lt-ltb}
 use Rattle.std.proofs.lemmas.Bool.Decides.{Decides-int_eq}
-use Rattle.scaled_core.specs.Dimensions.{Within}
+use Rattle.scaled_core.specs.Dimensions.{Within, fits}
 use Rattle.node_core.specs.declared.tree.Kind.{Kind}
 use Rattle.node_core.specs.declared.tree.Kind.TheVariants.{Horizontal, Vertical}
 use Rattle.dvi_ops.specs.Instruction.{Axis, Across, Downward, By, Move, SetChar, SetRule, PutRule, FontNum, Instruction, Do, Push, Pop}
@@ -16,10 +16,9 @@ use Rattle.dvi_ops.specs.Forest.{Forest, Then, flat, meaning, nests, ahead, and_
 use Rattle.dvi_ops.specs.Spelling.{NumberFits}
 use Rattle.dvi_ops.specs.Layout.{IsWritable}
 use Rattle.dvi_ops.proofs.Appends.{all_append}
-use Rattle.pack_core.specs.Totals.{fits}
 use Rattle.ship_core.specs.Drawing.{Picture, blank, stroke, group, moved_by, selected, ruled, behind_rule, font_behind, drawn}
 use Rattle.ship_core.specs.Shown.{at}
-use Rattle.pack_core.proofs.Sums.{fits_within}
+use Rattle.scaled_core.proofs.Fitting.{fits_within}
 
 -- The marks of a picture.
 abbrev pub marks_in : Picture → List Mark

@@ -3,7 +3,7 @@ use Rattle.std.proofs.Common.{◌≡◌, ◌≤◌, List, [], ◌∷◌, refl, a
 use Rattle.std.specs.Prelude.{ℤ, pos, ◌+ℤ◌, true, false, Some, None}
 use Rattle.std.specs.List.{list_all, AllByRecursion}
 use Rattle.std.proofs.lemmas.Int.{ints}
-use Rattle.scaled_core.specs.Dimensions.{Within}
+use Rattle.scaled_core.specs.Dimensions.{Within, fits}
 use Rattle.node_core.specs.declared.tree.Kind.{Kind}
 use Rattle.node_core.specs.declared.tree.Kind.TheVariants.{Horizontal, Vertical}
 use Rattle.node_core.specs.declared.tree.BoxNode.{BoxNode}
@@ -16,7 +16,6 @@ use Rattle.dvi_ops.specs.Fonts.{definition_of, definitions, selection_of, select
 use Rattle.dvi_ops.specs.Spelling.{HasSpelling}
 use Rattle.dvi_ops.specs.Layout.{IsWritable}
 use Rattle.dvi_ops.proofs.Appends.{all_append}
-use Rattle.pack_core.specs.Totals.{fits}
 use Rattle.ship_core.specs.Marks.{Page, rule_below, rule_tall, rule_wide, mark_of, marks_of_box, marks_of_page, page_v, numbers_behind, is_huge}
 use Rattle.ship_core.specs.Drawing.{width_in, picture_of_page, body_of}
 use Rattle.ship_core.specs.Shown.{HasWidth, at, NamesNoRegister}

@@ -12,7 +12,7 @@ use Rattle.node_core.proofs.NodeLemmas.{items_of-nodes_of}
 use Rattle.node_core.specs.declared.tree.Node.{Node}
 use Rattle.node_core.specs.declared.tree.Node.TheVariants as nodes
 use Rattle.node_core.specs.declared.tree.BoxNode.{BoxNode}
-use Rattle.pack_core.specs.Totals.{fits}
+use Rattle.scaled_core.specs.Dimensions.{fits}
 use Rattle.pack_core.specs.Places.{place}
 use Rattle.pack_core.specs.Cursors.{Reached, reached, one_more, place_at}
 use Rattle.pack_core.proofs.Walks.{one_more-reached, place-reached, reached-passed}

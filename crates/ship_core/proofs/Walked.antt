@@ -13,18 +13,18 @@ use Rattle.node_core.specs.declared.tree.BoxNode.{BoxNode}
 use Rattle.node_core.specs.declared.tree.Setting.{Setting}
 use Rattle.node_core.specs.declared.tree.Setting.TheVariants as settings
 use Rattle.pack_core.specs.Items.{own_size}
-use Rattle.pack_core.specs.Totals.{fits}
+use Rattle.scaled_core.specs.Dimensions.{fits}
 use Rattle.pack_core.specs.Places.{share, set_by}
 use Rattle.pack_core.specs.Cursors.{Reached, one_more, place_at}
-use Rattle.ship_core.specs.declared.placing.Place.{Place}
+use Rattle.ship_core.specs.declared.placing.Position.{Position}
 use Rattle.ship_core.specs.Marks.{right_at, down_at, rule_below, rule_tall, rule_wide, box_h, box_v, numbers_of}
 use Rattle.ship_core.specs.Drawing.{Picture}
-use Rattle.ship_core.specs.declared.placing.Seen.{Seen}
+use Rattle.ship_core.specs.declared.placing.PlacedItem.{PlacedItem}
 use Rattle.std.specs.Option.{IfSome}
 use Rattle.ship_core.specs.Placing.{strokes_of, point, point_in, numbers_between, strokes_at, Reaches}
 
 -- A point is at its numbers.
-pub point-is : (h v : ℤ) (p : Place) → point h v ≡ Some p → (p.h ≡ h) × (p.v ≡ v)
+pub point-is : (h v : ℤ) (p : Position) → point h v ≡ Some p → (p.h ≡ h) × (p.v ≡ v)
 point-is h v p is = by_test (fits h && fits v) is
   where
     by_test : (b : Bool) → (if b then Some (record { h = h; v = v }) else None) ≡ Some p → (p.h ≡ h) × (p.v ≡ v)
@@ -35,7 +35,7 @@ point-is h v p is = by_test (fits h && fits v) is
 no_point : (h v : ℤ) → point h v ≡ None → (fits h && fits v) ≡ false
 no_point h v is = by_test (record { h = h; v = v }) (fits h && fits v) is
   where
-    by_test : (p : Place) (b : Bool) → (if b then Some p else None) ≡ None → b ≡ false
+    by_test : (p : Position) (b : Bool) → (if b then Some p else None) ≡ None → b ≡ false
     by_test p true is = absurd (cc)
     by_test p false is = refl
 
@@ -76,7 +76,7 @@ between-none b h v place next x is = by_node x
 
 -- And one whose two places fit.
 pub between-points :
-    (b : BoxNode) (h v place next : ℤ) (at behind : Place) (x : Node) → point_in b h v place ≡ Some at → point_in b h v next ≡ Some behind
+    (b : BoxNode) (h v place next : ℤ) (at behind : Position) (x : Node) → point_in b h v place ≡ Some at → point_in b h v next ≡ Some behind
     → numbers_between b h v place next x ≡ numbers_of b at.h at.v behind.h behind.v x
 between-points b h v place next at behind x here there =
     let p = point-is (right_at b.kind h place) (down_at b.kind v place) at here in
@@ -84,7 +84,7 @@ between-points b h v place next at behind x here there =
     cc (p.0, p.1, q.0, q.1)
 
 pub strokes-point :
-    (b : BoxNode) (h v place : ℤ) (at : Place) (x : Node) (rest : Picture) → point_in b h v place ≡ Some at
+    (b : BoxNode) (h v place : ℤ) (at : Position) (x : Node) (rest : Picture) → point_in b h v place ≡ Some at
     → strokes_at b h v place x rest ≡ strokes_of b at.h at.v x rest
 strokes-point b h v place at x rest here = let p = point-is (right_at b.kind h place) (down_at b.kind v place) at here in cc (p.0, p.1)
 
@@ -127,7 +127,7 @@ reach_by Vertical setting from h at behind (nodes.Rule r) first next = next ∙ 
 reach_by kind setting from h at behind (nodes.Box shift inner) first next = tt
 
 pub reaches :
-    (b : BoxNode) (h v : ℤ) (from : Reached) (at behind : Place) (x : Node) → point_in b h v (place_at b.setting from) ≡ Some at
+    (b : BoxNode) (h v : ℤ) (from : Reached) (at behind : Position) (x : Node) → point_in b h v (place_at b.setting from) ≡ Some at
     → point_in b h v (place_at b.setting (one_more b.kind b.setting from x)) ≡ Some behind → Reaches b.kind at.h behind.h x
 reaches b h v from at behind x here there =
     let p = point-is (right_at b.kind h (place_at b.setting from)) (down_at b.kind v (place_at b.setting from)) at here in
@@ -136,6 +136,6 @@ reaches b h v from at behind x here there =
     reach_by b.kind b.setting from h at.h behind.h x p.0 q.0
 
 -- What is known of an item that is found, said in another way.
-pub found_so : (P Q : Seen → Type 0) → ((s : Seen) → P s → Q s) → (result : Option Seen) → IfSome result P → IfSome result Q
+pub found_so : (P Q : PlacedItem → Type 0) → ((s : PlacedItem) → P s → Q s) → (result : Option PlacedItem) → IfSome result P → IfSome result Q
 found_so P Q so None is = tt
 found_so P Q so (Some s) is = so s is

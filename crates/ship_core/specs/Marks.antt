@@ -15,7 +15,7 @@ use Rattle.node_core.specs.Nodes.{node_of, box_of}
 use Rattle.dvi_ops.specs.Body as marks
 use Rattle.dvi_ops.specs.Body.{Mark}
 use Rattle.pack_core.specs.Items.{own_size}
-use Rattle.pack_core.specs.Totals.{fits}
+use Rattle.scaled_core.specs.Dimensions.{fits}
 use Rattle.pack_core.specs.Places.{place}
 
 -- A size of a rule where it stands: a running one is that of the box.

@@ -13,9 +13,9 @@ use Rattle.dvi_ops.specs.Body.{Mark}
 use Rattle.dvi_ops.specs.Forest.{flat}
 use Rattle.dvi_ops.specs.View.{view}
 use Rattle.pack_core.specs.Items.{own_size}
-use Rattle.pack_core.specs.Totals.{fits}
+use Rattle.scaled_core.specs.Dimensions.{fits}
 use Rattle.ship_core.specs.Marks.{right_at, down_at, box_h, box_v, mark_of, numbers_of}
-use Rattle.ship_core.specs.declared.placing.Place.{Place}
+use Rattle.ship_core.specs.declared.placing.Position.{Position}
 use Rattle.ship_core.specs.declared.placing.Ink.{Ink}
 use Rattle.ship_core.specs.declared.placing.Ink.TheVariants as ink
 use Rattle.ship_core.specs.declared.placing.MarkAt.{MarkAt}
@@ -23,7 +23,7 @@ use Rattle.ship_core.specs.declared.drawing.Drawing.{Drawing}
 use Rattle.ship_core.specs.Drawing.{Picture, stroke, width_in, in_front, ruled, behind_rule, font_behind, drawn}
 
 -- A point of a page, where both numbers fit.
-abbrev pub point : (h v : ℤ) → Option Place
+abbrev pub point : (h v : ℤ) → Option Position
 point h v = if fits h && fits v then Some (record { h = h; v = v }) else None
 
 -- The mark of ink at a place, of that width.
@@ -99,7 +99,7 @@ reference_v kind v (nodes.Box shift inner) = box_v kind v shift inner.height
 reference_v kind v other = v
 
 -- Where an item of a box stands at a place of its list, which begins at (h, v).
-abbrev pub point_in : BoxNode → (h v place : ℤ) → Option Place
+abbrev pub point_in : BoxNode → (h v place : ℤ) → Option Position
 point_in b h v place = point (right_at b.kind h place) (down_at b.kind v place)
 
 -- The numbers of an item between two places of the list.

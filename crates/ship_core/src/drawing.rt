@@ -9,7 +9,7 @@ ghost use Rattle.dvi_ops.specs.View.{view};
 ghost use Rattle.ship_core.specs.Drawing.{Picture, ruled, drawn};
 ghost use Rattle.ship_core.specs.Placing.{Ends, strokes_in, inked, makes, leaves, movement, selection};
 
-use crate::placing::{Ink, MarkAt, Place};
+use crate::placing::{Ink, MarkAt, Position};
 use dvi_ops::Op;
 use node_core::Kind;
 use scaled_core::Dimen;
@@ -154,7 +154,7 @@ impl Drawing {
     }
 
     /// Begins a group, and gives the place in front of it.
-    pub fn open(&mut self) -> Result<Place, AllocError>
+    pub fn open(&mut self) -> Result<Position, AllocError>
         ensures h { OnOk result (self.new.h ≡ self.old.h) }
         ensures v { OnOk result (self.new.v ≡ self.old.v) }
         ensures font { OnOk result (self.new.font ≡ self.old.font) }
@@ -162,14 +162,14 @@ impl Drawing {
         ensures place { IfOk result (λ before. before ≡ record { h = self.old.h; v = self.old.v }) }
     {
         self.ops.push(Op::Push)?;
-        Ok(Place {
+        Ok(Position {
             h: self.h,
             v: self.v,
         })
     }
 
     /// Ends a group that began at that place, where the place is again behind it; the font stays.
-    pub fn close(&mut self, before: Place) -> Result<(), AllocError>
+    pub fn close(&mut self, before: Position) -> Result<(), AllocError>
         ensures h { OnOk result (self.new.h ≡ before.h) }
         ensures v { OnOk result (self.new.v ≡ before.v) }
         ensures font { OnOk result (self.new.font ≡ self.old.font) }

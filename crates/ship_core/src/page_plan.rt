@@ -6,14 +6,14 @@ ghost use Rattle.std.specs.Option.{option_map};
 ghost use Rattle.node_core.specs.Nodes.{most_nodes};
 ghost use Rattle.dvi_ops.specs.Forest.{flat};
 ghost use Rattle.dvi_ops.specs.View.{view};
-ghost use Rattle.pack_core.specs.Totals.{fits};
+ghost use Rattle.scaled_core.specs.Dimensions.{fits};
 ghost use Rattle.pack_core.specs.Cursors.{one_more, place_at};
 ghost use Rattle.ship_core.specs.Marks.{right_at, down_at, list_v, numbers_behind, is_huge};
 ghost use Rattle.ship_core.specs.Drawing.{Picture, picture_behind, body_of};
 ghost use Rattle.ship_core.specs.Placing.{Ends, point_in, numbers_between, strokes_at, strokes_in, reference_h, reference_v, makes, leaves};
 
 use crate::drawing::Drawing;
-use crate::placing::{Place, Seen, place_item, point_at, sum};
+use crate::placing::{PlacedItem, Position, place_item, point_at, sum};
 use dvi_ops::Op;
 use node_core::{BoxNode, Kind, Node};
 use pack_core::{Cursor, difference};
@@ -32,11 +32,11 @@ struct Begin {
 #[derive(Clone, Copy, Debug)]
 struct Walk {
     cursor: Cursor,
-    here: Option<Place>,
+    here: Option<Position>,
 }
 
 /// The place that a cursor has reached in a list.
-fn place_of(shown: &BoxNode, begin: &Begin, cursor: &Cursor) -> Option<Place>
+fn place_of(shown: &BoxNode, begin: &Begin, cursor: &Cursor) -> Option<Position>
     ensures { result ≡ point_in shown.now begin.now.h begin.now.v (place_at shown.now.setting cursor.now) }
 {
     point_at(shown.kind, begin.h, begin.v, cursor.place(&shown.setting))
@@ -56,7 +56,7 @@ impl Walk {
     }
 
     /// Goes behind the next item, and tells how it is seen; None exactly where one of its numbers does not fit.
-    fn step(&mut self, shown: &BoxNode, begin: &Begin, node: &Node) -> Option<Seen>
+    fn step(&mut self, shown: &BoxNode, begin: &Begin, node: &Node) -> Option<PlacedItem>
         requires few { self.old.cursor.passed < most_nodes }
         requires here { self.old.here ≡ point_in shown.now begin.now.h begin.now.v (place_at shown.now.setting self.old.cursor) }
         ensures cursor { OnSome result (self.new.cursor ≡ one_more shown.now.kind shown.now.setting self.old.cursor node.now) }

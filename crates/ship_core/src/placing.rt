@@ -2,8 +2,7 @@
 
 ghost use Rattle.std.specs.Prelude.{◌≡◌, ◌+ℤ◌, ◌+◌, ◌^◌, [], ◌∷◌, true, None, is_some, IfSome};
 ghost use Rattle.std.specs.List.{list_all};
-ghost use Rattle.scaled_core.specs.Dimensions.{Within};
-ghost use Rattle.pack_core.specs.Totals.{fits};
+ghost use Rattle.scaled_core.specs.Dimensions.{Within, fits};
 ghost use Rattle.ship_core.specs.Marks.{size_in, right_at, down_at, rule_below, rule_tall, rule_wide, rule_mark, box_h, box_v, numbers_of};
 ghost use Rattle.ship_core.specs.Drawing.{Picture, in_front};
 ghost use Rattle.ship_core.specs.Placing.{point, Reaches, Ends, strokes_in, strokes_of, reference_h, reference_v};
@@ -13,16 +12,16 @@ use node_core::{BoxNode, Glyph, Kind, Node, Rule, RuleSize};
 use pack_core::{counted, dimension};
 use scaled_core::Dimen;
 
-/// A point of a page, in scaled points to the right of its origin and below it.
+/// A position on a page, in scaled points to the right of its origin and below it.
 #[derive(Clone, Copy, Debug, PartialEq, Eq)]
-pub struct Place {
+pub struct Position {
     pub h: Dimen,
     pub v: Dimen,
 }
 
-impl Place {
+impl Position {
     /// Both numbers fit. It does nothing.
-    #[tactic(auto, using(pack_core::proofs::Sums::dimension_fits))]
+    #[tactic(auto, using(scaled_core::proofs::Fitting::dimension_fits))]
     fn known(&self)
         ensures h { fits self.now.h ≡ true }
         ensures v { fits self.now.v ≡ true }
@@ -51,18 +50,18 @@ pub struct MarkAt {
 
 /// An item on a page: its mark, if it has one, and its place; of a box that of its reference point.
 #[derive(Clone, Copy, Debug)]
-pub struct Seen {
+pub struct PlacedItem {
     pub mark: Option<MarkAt>,
-    pub at: Place,
+    pub at: Position,
 }
 
-/// The point with these numbers, where both fit.
-fn point(h: i128, v: i128) -> Option<Place>
+/// The position with these numbers, where both fit.
+fn point(h: i128, v: i128) -> Option<Position>
     ensures { result ≡ point h v }
 {
     let h = dimension(h)?;
     let v = dimension(v)?;
-    Some(Place { h, v })
+    Some(Position { h, v })
 }
 
 /// A number that is so much more.
@@ -73,8 +72,8 @@ fn moved(from: i64, distance: i128) -> i128
     i128::from(from) + distance
 }
 
-/// The point at a distance from where a list begins that goes that way.
-pub fn point_at(kind: Kind, h: Dimen, v: i64, distance: i128) -> Option<Place>
+/// The position at a distance from where a list begins that goes that way.
+pub fn point_at(kind: Kind, h: Dimen, v: i64, distance: i128) -> Option<Position>
     requires { Within (2 ^ 126 + 2 ^ 63) distance }
     ensures { result ≡ point (right_at kind h distance) (down_at kind v distance) }
 {
@@ -92,7 +91,7 @@ fn added(a: Dimen, b: Dimen) -> i128
 }
 
 /// The sum of two dimensions, in scaled points; None exactly where it does not fit. (That the two themselves fit is said too: dimensions always do.)
-#[tactic(auto, using(pack_core::proofs::Sums::dimension_fits))]
+#[tactic(auto, using(scaled_core::proofs::Fitting::dimension_fits))]
 pub fn sum(a: Dimen, b: Dimen) -> Option<Dimen>
     ensures value { IfSome result (λ sum. sum ≡ a +ℤ b) }
     ensures fits { is_some result ≡ fits (a +ℤ b) }
@@ -167,7 +166,7 @@ fn visible(height: Dimen, h: Dimen, v: Dimen, width: Dimen, end: Dimen) -> Optio
 }
 
 /// The reference point of a box that stands at a place of a list of that kind, where it fits.
-fn reference_of(kind: Kind, at: Place, shift: Dimen, height: Dimen) -> Option<Place>
+fn reference_of(kind: Kind, at: Position, shift: Dimen, height: Dimen) -> Option<Position>
     ensures { result ≡ point (box_h kind at.h shift) (box_v kind at.v shift height) }
 {
     match kind {
@@ -177,7 +176,13 @@ fn reference_of(kind: Kind, at: Place, shift: Dimen, height: Dimen) -> Option<Pl
 }
 
 /// A box at a place of the list of another; None exactly where its reference point does not fit.
-fn place_box(kind: Kind, at: Place, next: Place, shift: Dimen, inner: &BoxNode) -> Option<Seen>
+fn place_box(
+    kind: Kind,
+    at: Position,
+    next: Position,
+    shift: Dimen,
+    inner: &BoxNode,
+) -> Option<PlacedItem>
     ensures fits { is_some result ≡ list_all fits (at.h ∷ at.v ∷ next.h ∷ next.v ∷ box_h kind at.h shift ∷ box_v kind at.v shift inner.now.height ∷ []) }
     ensures mark { IfSome result (λ s. s.mark ≡ None) }
     ensures h { IfSome result (λ s. s.at.h ≡ box_h kind at.h shift) }
@@ -186,14 +191,14 @@ fn place_box(kind: Kind, at: Place, next: Place, shift: Dimen, inner: &BoxNode) 
     at.known();
     next.known();
     let reference = reference_of(kind, at, shift, inner.height)?;
-    Some(Seen {
+    Some(PlacedItem {
         mark: None,
         at: reference,
     })
 }
 
 /// A rule at a place of the list of a box; None exactly where one of its numbers does not fit.
-fn place_rule(shown: &BoxNode, at: Place, next: Place, rule: Rule) -> Option<Seen>
+fn place_rule(shown: &BoxNode, at: Position, next: Position, rule: Rule) -> Option<PlacedItem>
     requires { Reaches shown.now.kind at.h next.h (nodes.Rule rule) }
     ensures fits { is_some result ≡ list_all fits (numbers_of shown.now at.h at.v next.h next.v (nodes.Rule rule)) }
     ensures mark { IfSome result (λ s. (rest : Picture) → strokes_in s.mark rest ≡ strokes_of shown.now at.h at.v (nodes.Rule rule) rest) }
@@ -204,14 +209,14 @@ fn place_rule(shown: &BoxNode, at: Place, next: Place, rule: Rule) -> Option<See
     next.known();
     let sizes = sizes_of(shown, rule)?;
     let v = sum(at.v, sizes.below)?;
-    Some(Seen {
+    Some(PlacedItem {
         mark: visible(sizes.tall, at.h, v, sizes.wide, next.h),
         at,
     })
 }
 
 /// The mark of a glyph at a place of the list of a box.
-fn place_glyph(shown: &BoxNode, at: Place, next: Place, glyph: Glyph) -> Option<MarkAt>
+fn place_glyph(shown: &BoxNode, at: Position, next: Position, glyph: Glyph) -> Option<MarkAt>
     requires { Reaches shown.now.kind at.h next.h (nodes.Glyph glyph) }
     ensures mark { (rest : Picture) → strokes_in result rest ≡ strokes_of shown.now at.h at.v (nodes.Glyph glyph) rest }
     ensures end { IfSome result (Ends shown.now.kind) }
@@ -232,7 +237,7 @@ fn place_glyph(shown: &BoxNode, at: Place, next: Place, glyph: Glyph) -> Option<
 }
 
 /// An item at a place of the list of a box; None exactly where one of its numbers does not fit. Those of its own items are not looked at.
-pub fn place_item(shown: &BoxNode, at: Place, next: Place, node: &Node) -> Option<Seen>
+pub fn place_item(shown: &BoxNode, at: Position, next: Position, node: &Node) -> Option<PlacedItem>
     requires { Reaches shown.now.kind at.h next.h node.now }
     ensures fits { is_some result ≡ list_all fits (numbers_of shown.now at.h at.v next.h next.v node.now) }
     ensures mark { IfSome result (λ s. (rest : Picture) → strokes_in s.mark rest ≡ strokes_of shown.now at.h at.v node.now rest) }
@@ -245,10 +250,10 @@ pub fn place_item(shown: &BoxNode, at: Place, next: Place, node: &Node) -> Optio
     match node {
         Node::Box(shift, inner) => place_box(shown.kind, at, next, *shift, inner),
         Node::Rule(rule) => place_rule(shown, at, next, *rule),
-        Node::Glyph(glyph) => Some(Seen {
+        Node::Glyph(glyph) => Some(PlacedItem {
             mark: place_glyph(shown, at, next, *glyph),
             at,
         }),
-        _ => Some(Seen { mark: None, at }),
+        _ => Some(PlacedItem { mark: None, at }),
     }
 }

@@ -3,7 +3,7 @@ use Rattle.std.proofs.Common.{◌≡◌, ◌↔◌, ℕ, ℤ, ◌<◌, true, Lis
 use Rattle.std.proofs.lemmas.Int.{to_z-of_z}
 use Rattle.std.proofs.lemmas.Option.{slice_get-get_or}
 use Rattle.scaled_core.specs.Dimensions.{Fits}
-use Rattle.scaled_core.proofs.ReadingCases.{fits-is}
+use Rattle.scaled_core.proofs.Fitting.{dimension_fits, fits_within}
 use Rattle.tfm_core.specs.Fonts.{are_dimens_at, is_dimen_at, is_space_at, parameter}
 use Rattle.tfm_core.specs.Scaling.{scaled}
 use Rattle.tfm_core.proofs.FontLemmas.{and_true, list_all-at}
@@ -11,7 +11,7 @@ use Rattle.tfm_core.proofs.FontLemmas.{and_true, list_all-at}
 -- the test of a dimension says that it fits
 pub is_dimen_at-fits : (size word : ℤ) → (is_dimen_at size word ≡ true ↔ Fits (scaled size word))
 unfolding is_dimen_at
-is_dimen_at-fits size word = fits-is (scaled size word)
+is_dimen_at-fits size word = (fits_within (scaled size word), dimension_fits (scaled size word))
 
 pub Fits-from_test : (size word : ℤ) → is_dimen_at size word ≡ true → Fits (scaled size word)
 Fits-from_test size word h = (is_dimen_at-fits size word).0 h

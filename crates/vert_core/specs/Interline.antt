@@ -5,7 +5,7 @@ use Rattle.node_core.specs.declared.tree.BoxNode.{BoxNode}
 use Rattle.node_core.specs.declared.tree.Glue.{Glue}
 use Rattle.node_core.specs.declared.tree.Node.{Node}
 use Rattle.node_core.specs.declared.tree.Node.TheVariants as nodes
-use Rattle.pack_core.specs.Totals.{fits}
+use Rattle.scaled_core.specs.Dimensions.{fits}
 use Rattle.vert_core.specs.declared.interline.DimensionTooLarge.{DimensionTooLarge}
 
 -- -1000pt: a depth that is not more counts as none (TeX: The Program, part 16, ignore_depth). The constant `Dimen::IGNORE_DEPTH` has this value.

@@ -4,7 +4,7 @@ ghost use Rattle.std.specs.Prelude.{◌≡◌, ◌++◌, [], ◌∷◌, is_ok, i
 ghost use Rattle.vert_core.specs.Interline.{interline, glue_of, appended};
 
 use crate::interline::{DimensionTooLarge, interline_glue};
-use node_core::{BoxNode, Glue, Node, Params};
+use node_core::{BoxNode, Glue, Node, Params, push_box};
 use scaled_core::Dimen;
 use thiserror::Error;
 
@@ -85,20 +85,5 @@ fn push_with_glue(
             nodes.pop();
             Err(shown)
         }
-    }
-}
-
-/// Puts a box behind a list, or gives it back where the growth is refused.
-fn push_box(nodes: &mut Vec<Node>, shift: Dimen, shown: BoxNode) -> Result<(), BoxNode>
-    ensures ok { OnOk result (nodes.new.items ≡ nodes.old.items ++ Node.Box shift shown ∷ []) }
-    ensures err { OnErr result (nodes.new.items ≡ nodes.old.items) }
-    ensures back { IfErr result (λ back. back ≡ shown) }
-{
-    match nodes.push(Node::Box(shift, shown)) {
-        Ok(()) => Ok(()),
-        Err(failed) => match failed.value {
-            Node::Box(_, shown) => Err(shown),
-            _ => unreachable!(),
-        },
     }
 }

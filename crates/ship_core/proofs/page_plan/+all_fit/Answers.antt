@@ -4,7 +4,7 @@ use Rattle.std.specs.List.{list_all}
 use Rattle.std.proofs.lemmas.List.{drop_all}
 use Rattle.node_core.specs.Nodes.{items_of}
 use Rattle.node_core.proofs.NodeLemmas.{items_of-nodes_of}
-use Rattle.pack_core.specs.Totals.{fits}
+use Rattle.scaled_core.specs.Dimensions.{fits}
 use Rattle.pack_core.specs.Cursors.{one_more}
 use Rattle.pack_core.proofs.Walks.{reached-more}
 use Rattle.ship_core.specs.Marks.{item_h, item_v, numbers_behind}

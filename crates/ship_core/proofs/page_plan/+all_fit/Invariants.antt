@@ -1,7 +1,7 @@
 use Rattle.std.proofs.Common.{◌≡◌, [], take, drop}
 use Rattle.std.specs.List.{list_all}
 use Rattle.node_core.specs.Nodes.{items_of}
-use Rattle.pack_core.specs.Totals.{fits}
+use Rattle.scaled_core.specs.Dimensions.{fits}
 use Rattle.pack_core.specs.Cursors.{reached, place_at}
 use Rattle.ship_core.specs.Marks.{numbers_behind}
 use Rattle.ship_core.specs.Placing.{point_in}

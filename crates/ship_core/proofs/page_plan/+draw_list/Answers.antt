@@ -4,13 +4,13 @@ use Rattle.std.proofs.lemmas.List.{drop_all, append-nil}
 use Rattle.dvi_ops.specs.View.{view}
 use Rattle.node_core.specs.Nodes.{items_of}
 use Rattle.node_core.proofs.NodeLemmas.{items_of-nodes_of}
-use Rattle.pack_core.specs.Totals.{fits}
+use Rattle.scaled_core.specs.Dimensions.{fits}
 use Rattle.pack_core.specs.Cursors.{one_more}
 use Rattle.pack_core.proofs.Walks.{reached-more}
 use Rattle.ship_core.specs.Marks.{item_h, item_v, box_h, box_v, list_v, numbers_behind}
 use Rattle.ship_core.specs.Drawing.{group, picture_behind}
 use Rattle.ship_core.specs.Placing.{strokes_in, makes, leaves}
-use Rattle.ship_core.specs.declared.placing.Place.{Place}
+use Rattle.ship_core.specs.declared.placing.Position.{Position}
 use Rattle.ship_core.proofs.Drawings.{Draws, then_draws, same_picture, same_drawing, grouped-none, grouped-some, drawn_group}
 use Rattle.ship_core.proofs.Places.{inside, picture_left, fits_more, picture_more, item_fits, item_strokes, inner_begin, inner_numbers, inner_picture, inner_depth, leaf_picture, first_of_and, last_of_and, rest_of_and, no_rest, few_passed, reached-none}
 use Rattle.ship_core.proofs.page_plan.+draw_list.Goals as goal
@@ -100,7 +100,7 @@ loop-node-preserved t c =
           (drawn_group b.kind box.kind marked w.open.new.self w.draw_list.new.drawing w.close.new.self picture later
           w.in_ok-before.ensures.ops w.in_ok-before.ensures.h w.in_ok-before.ensures.v w.in_ok-before.ensures.font
           w.in_ok-draw_list.ensures.ops w.in_ok-draw_list.ensures.font w.in_ok-close.ensures.ops
-          (w.in_ok-close.ensures.h ∙ ap (λ (p : Place). p.h) before) (w.in_ok-close.ensures.v ∙ ap (λ (p : Place). p.v) before) w.in_ok-close.ensures.font)
+          (w.in_ok-close.ensures.h ∙ ap (λ (p : Position). p.h) before) (w.in_ok-close.ensures.v ∙ ap (λ (p : Position). p.v) before) w.in_ok-close.ensures.font)
           (same_drawing b.kind w.close.new.self c.match-node.drawing later w.drawing-is))
       | in-Box+else-not-is_empty w ↦
           let box = w.in-Box.inner in

@@ -1,0 +1,15 @@
+-- What fits as a dimension, as a test and as a range.
+use Rattle.std.proofs.Common.{◌≡◌, ℤ, pos, negsuc, suc, true, arith}
+use Rattle.std.proofs.lemmas.Bool.{leb-true, le-leb}
+use Rattle.std.proofs.lemmas.Int.{ints}
+use Rattle.scaled_core.specs.Dimensions.{Fits, fits}
+
+-- what is in the range passes the test
+pub dimension_fits : (z : ℤ) → Fits z → fits z ≡ true
+dimension_fits (pos n) within = le-leb n 1073741823 (omega (arith, ints, within.high))
+dimension_fits (negsuc n) within = le-leb (suc n) 1073741823 (omega (arith, ints, within.low))
+
+-- what passes the test is in the range
+pub fits_within : (z : ℤ) → fits z ≡ true → Fits z
+fits_within (pos n) fit = let high = leb-true n 1073741823 fit in record { low = omega (arith, ints); high = omega (arith, ints) }
+fits_within (negsuc n) fit = let low = leb-true (suc n) 1073741823 fit in record { low = omega (arith, ints); high = omega (arith, ints) }
