@@ -1,5 +1,5 @@
 -- The forms of causes, and right fields of each kind.
-use Rattle.std.proofs.Common.{◌≡◌, inl, inr, ℕ, ℤ, pos, List, [], ◌∷◌, ◌++◌, Option, Some, None, Result, Ok, Err, codes, refl, ap, sym, ◌∙◌, subst, arith, append_assoc}
+use Rattle.std.proofs.Common.{◌≡◌, inl, inr, ℕ, ℤ, pos, true, List, [], ◌∷◌, ◌++◌, Option, Some, None, Result, Ok, Err, codes, refl, ap, sym, ◌∙◌, subst, arith, append_assoc}
 use Rattle.std.proofs.lemmas.List.{append-nil}
 use Rattle.node_core.specs.declared.tree.Order.TheVariants.{Normal}
 use Rattle.node_core.specs.declared.tree.RuleSize.TheVariants.{Running, Fixed}
@@ -7,13 +7,15 @@ use Rattle.command_core.specs.declared.command.Command.{Command}
 use Rattle.script_core.specs.declared.amounts.Amount.{Amount}
 use Rattle.script_core.specs.declared.cause.Cause.{Cause}
 use Rattle.script_core.specs.declared.cause.Cause.TheVariants.{Missing, Extra, Number, Dimension}
-use Rattle.script_core.specs.Causes.{SaysSome, Begins, IsWord, GivesNumber, GivesDimension, GivesSize, HasBad, LacksField, HasExtra, IsFieldCause}
-use Rattle.script_core.specs.Reading.{some_or, number_of, number_first, last_number, penalty_of, penalty_first, last_penalty, dimension_or, dimension_first, last_dimension, no_amount, amount_of, amount_first, last_amount, map_ok, ended, and_right, size_of, command_of}
+use Rattle.script_core.specs.Grammar.{IsName}
+use Rattle.script_core.specs.Causes.{SaysSome, Begins, IsWord, GivesNumber, GivesDimension, GivesSize, HasBad, LacksField, HasExtra, TakesNames, HasBadElsewhere, IsFieldCause}
+use Rattle.script_core.specs.Reading.{some_or, number_of, number_first, last_number, penalty_of, penalty_first, last_penalty, dimension_or, dimension_first, last_dimension, no_amount, before_unit, amount_in, amount_of, amount_first, last_amount, map_ok, ended, and_right, is_name, size_of, command_of}
 use Rattle.scaled_core.specs.declared.fault.DimenFault.{DimenFault}
+use Rattle.scaled_core.specs.declared.fault.DimenFault.TheVariants.{NotADimension}
 use Rattle.scaled_core.specs.Rounding.{nearest}
 use Rattle.scaled_core.specs.DimensionTexts.{decimal_fraction}
 use Rattle.scaled_core.specs.ParsedTexts.{read_dimension, dimension_value, fitted, measured, unit_named, is_negative, behind_sign, front_digits, behind_digits, point_digits, behind_fraction}
-use Rattle.script_core.proofs.FieldLaws.{writes_number, reads_dimension, dimension_read, size_given}
+use Rattle.script_core.proofs.FieldLaws.{writes_number, reads_dimension, dimension_read, size_given, names_font}
 use Rattle.script_core.proofs.AmountLaws.{amount_given, amount_fault}
 use Rattle.script_core.proofs.GivenCommands.{complete}
 use Rattle.script_core.proofs.CommandLaws.{sound}
@@ -21,6 +23,10 @@ use Rattle.script_core.proofs.CommandLaws.{sound}
 -- reading fails
 abbrev pub Fails : List (List ℕ) → Type 0
 Fails fields = (cause : Cause) × (command_of fields ≡ Err cause)
+
+-- with a field behind some others no command is said
+abbrev pub AllFail : List (List ℕ) → List ℕ → Type 0
+AllFail front field = (later : List (List ℕ)) → Fails ((front ++ field ∷ []) ++ later)
 
 silent : (fields : List (List ℕ)) → Fails fields → SaysSome fields → ⊥
 silent fields (cause, e) (command, says) = let o = complete fields command says in cc
@@ -31,7 +37,7 @@ not_begun fields all (more, some) = silent (fields ++ more) (all more) some
 pub missing : (front more : List (List ℕ)) (command : Command) → Fails front → command_of (front ++ more) ≡ Ok command → LacksField front
 missing front more command fails whole = record { begins = (more, (command, sound (front ++ more) command whole)); incomplete = silent front fails }
 
-abbrev pub bad_field : (IsRight : List ℕ → Type 0) (front : List (List ℕ)) (field : List ℕ) (rest : List (List ℕ)) (right : List ℕ) (more : List (List ℕ)) (command : Command) → IsRight right → command_of ((front ++ right ∷ []) ++ more) ≡ Ok command → ((later : List (List ℕ)) → Fails ((front ++ field ∷ []) ++ later)) → HasBad IsRight (front ++ field ∷ rest)
+abbrev pub bad_field : (IsRight : List ℕ → Type 0) (front : List (List ℕ)) (field : List ℕ) (rest : List (List ℕ)) (right : List ℕ) (more : List (List ℕ)) (command : Command) → IsRight right → command_of ((front ++ right ∷ []) ++ more) ≡ Ok command → AllFail front field → HasBad IsRight (front ++ field ∷ rest)
 bad_field IsRight front field rest right more command is whole fails = record {
   front = front;
   field = field;
@@ -43,7 +49,47 @@ bad_field IsRight front field rest right more command is whole fails = record {
   bad = not_begun (front ++ field ∷ []) fails;
 }
 
-pub extra : (front : List (List ℕ)) (field : List ℕ) (rest : List (List ℕ)) (command : Command) → command_of front ≡ Ok command → ((other : List ℕ) (later : List (List ℕ)) → Fails ((front ++ other ∷ []) ++ later)) → HasExtra (front ++ field ∷ rest)
+-- a name of a font that is no word, no number, no dimension, no amount and no `*`
+abbrev pub letter : List ℕ
+letter = codes "a"
+
+pub letter_passes : is_name letter ≡ true
+letter_passes = refl
+
+pub letter_names : IsName letter
+letter_names = names_font letter letter_passes
+
+pub letter_no_number : number_of letter ≡ None
+unfolding number_of
+letter_no_number = refl
+
+letter_no_penalty : penalty_of letter ≡ None
+unfolding penalty_of
+letter_no_penalty = refl
+
+pub letter_no_dimension : read_dimension letter ≡ Err NotADimension
+unfolding read_dimension dimension_value fitted measured unit_named is_negative behind_sign front_digits behind_digits point_digits behind_fraction
+letter_no_dimension = refl
+
+pub letter_no_size : size_of letter ≡ Err Dimension
+unfolding size_of
+letter_no_size = rw letter_no_dimension refl
+
+pub letter_no_amount : amount_of letter ≡ Err Dimension
+unfolding amount_of amount_in before_unit
+letter_no_amount = rw letter_no_dimension refl
+
+-- where no command is said with it, not each name of a font may stand
+pub takes_no_names : (front : List (List ℕ)) → AllFail front letter → TakesNames front → ⊥
+takes_no_names front fails takes = not_begun (front ++ letter ∷ []) fails (takes letter letter_names)
+
+abbrev pub bad_elsewhere : (IsRight : List ℕ → Type 0) (front : List (List ℕ)) (field : List ℕ) (rest : List (List ℕ)) (right : List ℕ) (more : List (List ℕ)) (command : Command) → IsRight right → command_of ((front ++ right ∷ []) ++ more) ≡ Ok command → AllFail front field → AllFail front letter → HasBadElsewhere IsRight (front ++ field ∷ rest)
+bad_elsewhere IsRight front field rest right more command is whole fails unnamed = record {
+  found = bad_field IsRight front field rest right more command is whole fails;
+  elsewhere = takes_no_names front unnamed;
+}
+
+pub extra : (front : List (List ℕ)) (field : List ℕ) (rest : List (List ℕ)) (command : Command) → command_of front ≡ Ok command → ((other : List ℕ) → AllFail front other) → HasExtra (front ++ field ∷ rest)
 extra front field rest command whole fails = record {
   front = front;
   field = field;
@@ -130,46 +176,42 @@ depth_is_word = inr (7, omega arith, refl)
 abbrev pub Wanted : List (List ℕ) → List ℕ → List (List ℕ) → Command → Type 0
 Wanted front right more command = command_of ((front ++ right ∷ []) ++ more) ≡ Ok command
 
--- and with another one there none is
-abbrev pub AllFail : List (List ℕ) → List ℕ → Type 0
-AllFail front field = (later : List (List ℕ)) → Fails ((front ++ field ∷ []) ++ later)
-
-no_number_by : (front : List (List ℕ)) (field : List ℕ) (rest more : List (List ℕ)) (command : Command) (o : Option ℕ) (cause : Cause) → some_or Number o ≡ Err cause → Wanted front zero_text more command → AllFail front field → IsFieldCause cause (front ++ field ∷ rest)
-no_number_by front field rest more command None cause e wanted fails = as_cause _ Number cause (cc) (inl (bad_field GivesNumber front field rest zero_text more command zero_number wanted fails))
-no_number_by front field rest more command (Some n) cause e wanted fails = absurd (cc)
+no_number_by : (front : List (List ℕ)) (field : List ℕ) (rest more : List (List ℕ)) (command : Command) (o : Option ℕ) (cause : Cause) → some_or Number o ≡ Err cause → Wanted front zero_text more command → AllFail front field → AllFail front letter → IsFieldCause cause (front ++ field ∷ rest)
+no_number_by front field rest more command None cause e wanted fails unnamed = as_cause _ Number cause (cc) (inl (bad_elsewhere GivesNumber front field rest zero_text more command zero_number wanted fails unnamed))
+no_number_by front field rest more command (Some n) cause e wanted fails unnamed = absurd (cc)
 
 -- no number where one belongs
-pub bad_number : (front : List (List ℕ)) (field : List ℕ) (rest more : List (List ℕ)) (command : Command) (cause : Cause) → some_or Number (number_of field) ≡ Err cause → Wanted front zero_text more command → AllFail front field → IsFieldCause cause (front ++ field ∷ rest)
-bad_number front field rest more command cause e wanted fails = no_number_by front field rest more command (number_of field) cause e wanted fails
+pub bad_number : (front : List (List ℕ)) (field : List ℕ) (rest more : List (List ℕ)) (command : Command) (cause : Cause) → some_or Number (number_of field) ≡ Err cause → Wanted front zero_text more command → AllFail front field → AllFail front letter → IsFieldCause cause (front ++ field ∷ rest)
+bad_number front field rest more command cause e wanted fails unnamed = no_number_by front field rest more command (number_of field) cause e wanted fails unnamed
 
-no_penalty_by : (front : List (List ℕ)) (field : List ℕ) (rest more : List (List ℕ)) (command : Command) (o : Option ℤ) (cause : Cause) → some_or Number o ≡ Err cause → Wanted front zero_text more command → AllFail front field → IsFieldCause cause (front ++ field ∷ rest)
-no_penalty_by front field rest more command None cause e wanted fails = as_cause _ Number cause (cc) (inl (bad_field GivesNumber front field rest zero_text more command zero_number wanted fails))
-no_penalty_by front field rest more command (Some n) cause e wanted fails = absurd (cc)
+no_penalty_by : (front : List (List ℕ)) (field : List ℕ) (rest more : List (List ℕ)) (command : Command) (o : Option ℤ) (cause : Cause) → some_or Number o ≡ Err cause → Wanted front zero_text more command → AllFail front field → AllFail front letter → IsFieldCause cause (front ++ field ∷ rest)
+no_penalty_by front field rest more command None cause e wanted fails unnamed = as_cause _ Number cause (cc) (inl (bad_elsewhere GivesNumber front field rest zero_text more command zero_number wanted fails unnamed))
+no_penalty_by front field rest more command (Some n) cause e wanted fails unnamed = absurd (cc)
 
 -- no number of a penalty where one belongs
-pub bad_penalty : (front : List (List ℕ)) (field : List ℕ) (rest more : List (List ℕ)) (command : Command) (cause : Cause) → some_or Number (penalty_of field) ≡ Err cause → Wanted front zero_text more command → AllFail front field → IsFieldCause cause (front ++ field ∷ rest)
-bad_penalty front field rest more command cause e wanted fails = no_penalty_by front field rest more command (penalty_of field) cause e wanted fails
+pub bad_penalty : (front : List (List ℕ)) (field : List ℕ) (rest more : List (List ℕ)) (command : Command) (cause : Cause) → some_or Number (penalty_of field) ≡ Err cause → Wanted front zero_text more command → AllFail front field → AllFail front letter → IsFieldCause cause (front ++ field ∷ rest)
+bad_penalty front field rest more command cause e wanted fails unnamed = no_penalty_by front field rest more command (penalty_of field) cause e wanted fails unnamed
 
-no_dimension_by : (front : List (List ℕ)) (field : List ℕ) (rest more : List (List ℕ)) (command : Command) (r : Result ℤ DimenFault) (cause : Cause) → read_dimension field ≡ r → dimension_or r ≡ Err cause → Wanted front (codes "0sp") more command → AllFail front field → IsFieldCause cause (front ++ field ∷ rest)
-no_dimension_by front field rest more command (Err fault) cause e h wanted fails =
-    as_cause _ Dimension cause (cc) (bad_field GivesSize front field rest (codes "0sp") more command zero_size wanted fails, no_dimension_given field fault e)
-no_dimension_by front field rest more command (Ok z) cause e h wanted fails = absurd (cc)
+no_dimension_by : (front : List (List ℕ)) (field : List ℕ) (rest more : List (List ℕ)) (command : Command) (r : Result ℤ DimenFault) (cause : Cause) → read_dimension field ≡ r → dimension_or r ≡ Err cause → Wanted front (codes "0sp") more command → AllFail front field → AllFail front letter → IsFieldCause cause (front ++ field ∷ rest)
+no_dimension_by front field rest more command (Err fault) cause e h wanted fails unnamed =
+    as_cause _ Dimension cause (cc) (bad_elsewhere GivesSize front field rest (codes "0sp") more command zero_size wanted fails unnamed, no_dimension_given field fault e)
+no_dimension_by front field rest more command (Ok z) cause e h wanted fails unnamed = absurd (cc)
 
 -- no dimension where one belongs
-pub bad_dimension : (front : List (List ℕ)) (field : List ℕ) (rest more : List (List ℕ)) (command : Command) (cause : Cause) → dimension_or (read_dimension field) ≡ Err cause → Wanted front (codes "0sp") more command → AllFail front field → IsFieldCause cause (front ++ field ∷ rest)
-bad_dimension front field rest more command cause e wanted fails = no_dimension_by front field rest more command (read_dimension field) cause refl e wanted fails
+pub bad_dimension : (front : List (List ℕ)) (field : List ℕ) (rest more : List (List ℕ)) (command : Command) (cause : Cause) → dimension_or (read_dimension field) ≡ Err cause → Wanted front (codes "0sp") more command → AllFail front field → AllFail front letter → IsFieldCause cause (front ++ field ∷ rest)
+bad_dimension front field rest more command cause e wanted fails unnamed = no_dimension_by front field rest more command (read_dimension field) cause refl e wanted fails unnamed
 
 -- no amount of stretch or shrink where one belongs
-pub bad_amount : (front : List (List ℕ)) (field : List ℕ) (rest more : List (List ℕ)) (command : Command) (cause : Cause) → amount_of field ≡ Err cause → Wanted front (codes "0sp") more command → AllFail front field → IsFieldCause cause (front ++ field ∷ rest)
-bad_amount front field rest more command cause e wanted fails =
-    as_cause _ Dimension cause (sym (amount_fault field cause e)) (bad_field GivesSize front field rest (codes "0sp") more command zero_size wanted fails, no_amount_given field cause e)
+pub bad_amount : (front : List (List ℕ)) (field : List ℕ) (rest more : List (List ℕ)) (command : Command) (cause : Cause) → amount_of field ≡ Err cause → Wanted front (codes "0sp") more command → AllFail front field → AllFail front letter → IsFieldCause cause (front ++ field ∷ rest)
+bad_amount front field rest more command cause e wanted fails unnamed =
+    as_cause _ Dimension cause (sym (amount_fault field cause e)) (bad_elsewhere GivesSize front field rest (codes "0sp") more command zero_size wanted fails unnamed, no_amount_given field cause e)
 
 -- where one field of a kind and nothing else belongs behind these fields
 module _ (A : Type 0) (front : List (List ℕ)) (make : A → Command) (last : List (List ℕ) → Result A Cause) (read : List ℕ → Result A Cause)
     (none : last [] ≡ Err Missing) (some : (field : List ℕ) (rest : List (List ℕ)) → last (field ∷ rest) ≡ and_right (read field) (ended rest))
     (reads : (rest : List (List ℕ)) → command_of (front ++ rest) ≡ map_ok make (last rest))
-    (right : List ℕ) (x : A) (right_is : read right ≡ Ok x)
-    (bad : (field : List ℕ) (rest : List (List ℕ)) (cause : Cause) → read field ≡ Err cause → Wanted front right [] (make x) → AllFail front field → IsFieldCause cause (front ++ field ∷ rest)) where
+    (right : List ℕ) (x : A) (right_is : read right ≡ Ok x) (fault : Cause) (unread : read letter ≡ Err fault)
+    (bad : (field : List ℕ) (rest : List (List ℕ)) (cause : Cause) → read field ≡ Err cause → Wanted front right [] (make x) → AllFail front field → AllFail front letter → IsFieldCause cause (front ++ field ∷ rest)) where
   behind : (fields rest : List (List ℕ)) → fields ≡ front ++ rest → command_of fields ≡ map_ok make (last rest)
   behind fields rest e = ap command_of e ∙ reads rest
 
@@ -179,10 +221,12 @@ module _ (A : Type 0) (front : List (List ℕ)) (make : A → Command) (last : L
   lacks_last : LacksField (front ++ [])
   lacks_last = missing (front ++ []) (right ∷ []) (make x) (Missing, reads [] ∙ (rw none refl)) (behind _ (right ∷ []) (append_assoc front [] (right ∷ [])) ∙ alone right x right_is)
 
+  fails_behind : (field : List ℕ) (cause : Cause) → read field ≡ Err cause → AllFail front field
+  fails_behind field cause e later = (cause, behind _ (field ∷ later) (append_assoc front (field ∷ []) later) ∙ (rw (some field later, e) refl))
+
   bad_last : (field : List ℕ) (rest : List (List ℕ)) (cause : Cause) → read field ≡ Err cause → IsFieldCause cause (front ++ field ∷ rest)
   bad_last field rest cause e =
-      bad field rest cause e (behind _ (right ∷ []) (append-nil (front ++ right ∷ [])) ∙ alone right x right_is)
-      (λ later. (cause, behind _ (field ∷ later) (append_assoc front (field ∷ []) later) ∙ (rw (some field later, e) refl)))
+      bad field rest cause e (behind _ (right ∷ []) (append-nil (front ++ right ∷ [])) ∙ alone right x right_is) (fails_behind field cause e) (fails_behind letter fault unread)
 
   extra_behind : (field : List ℕ) (y : A) (f : List ℕ) (rest : List (List ℕ)) → read field ≡ Ok y → HasExtra ((front ++ field ∷ []) ++ f ∷ rest)
   extra_behind field y f rest e =
@@ -204,26 +248,26 @@ module _ (A : Type 0) (front : List (List ℕ)) (make : A → Command) (last : L
 pub number_cause : (front : List (List ℕ)) (make : ℕ → Command) → ((rest : List (List ℕ)) → command_of (front ++ rest) ≡ map_ok make (last_number rest)) → (rest : List (List ℕ)) (cause : Cause) → last_number rest ≡ Err cause → IsFieldCause cause (front ++ rest)
 unfolding last_number number_first
 number_cause front make reads rest cause h =
-    last_cause ℕ front make last_number (λ field. some_or Number (number_of field)) refl (λ field rest. refl) reads zero_text 0 (rw zero_names refl)
-    (λ field rest cause e wanted fails. bad_number front field rest [] (make 0) cause e wanted fails) rest cause h
+    last_cause ℕ front make last_number (λ field. some_or Number (number_of field)) refl (λ field rest. refl) reads zero_text 0 (rw zero_names refl) Number (rw letter_no_number refl)
+    (λ field rest cause e wanted fails unnamed. bad_number front field rest [] (make 0) cause e wanted fails unnamed) rest cause h
 
 -- one number of a penalty
 pub penalty_cause : (front : List (List ℕ)) (make : ℤ → Command) → ((rest : List (List ℕ)) → command_of (front ++ rest) ≡ map_ok make (last_penalty rest)) → (rest : List (List ℕ)) (cause : Cause) → last_penalty rest ≡ Err cause → IsFieldCause cause (front ++ rest)
 unfolding last_penalty penalty_first
 penalty_cause front make reads rest cause h =
-    last_cause ℤ front make last_penalty (λ field. some_or Number (penalty_of field)) refl (λ field rest. refl) reads zero_text (pos 0) (rw zero_penalty refl)
-    (λ field rest cause e wanted fails. bad_penalty front field rest [] (make (pos 0)) cause e wanted fails) rest cause h
+    last_cause ℤ front make last_penalty (λ field. some_or Number (penalty_of field)) refl (λ field rest. refl) reads zero_text (pos 0) (rw zero_penalty refl) Number (rw letter_no_penalty refl)
+    (λ field rest cause e wanted fails unnamed. bad_penalty front field rest [] (make (pos 0)) cause e wanted fails unnamed) rest cause h
 
 -- one dimension
 pub dimension_cause : (front : List (List ℕ)) (make : ℤ → Command) → ((rest : List (List ℕ)) → command_of (front ++ rest) ≡ map_ok make (last_dimension rest)) → (rest : List (List ℕ)) (cause : Cause) → last_dimension rest ≡ Err cause → IsFieldCause cause (front ++ rest)
 unfolding last_dimension dimension_first
 dimension_cause front make reads rest cause h =
-    last_cause ℤ front make last_dimension (λ field. dimension_or (read_dimension field)) refl (λ field rest. refl) reads (codes "0sp") (pos 0) (rw zero_dimension refl)
-    (λ field rest cause e wanted fails. bad_dimension front field rest [] (make (pos 0)) cause e wanted fails) rest cause h
+    last_cause ℤ front make last_dimension (λ field. dimension_or (read_dimension field)) refl (λ field rest. refl) reads (codes "0sp") (pos 0) (rw zero_dimension refl) Dimension (rw letter_no_dimension refl)
+    (λ field rest cause e wanted fails unnamed. bad_dimension front field rest [] (make (pos 0)) cause e wanted fails unnamed) rest cause h
 
 -- one amount of stretch or shrink
 pub amount_cause : (front : List (List ℕ)) (make : Amount → Command) → ((rest : List (List ℕ)) → command_of (front ++ rest) ≡ map_ok make (last_amount rest)) → (rest : List (List ℕ)) (cause : Cause) → last_amount rest ≡ Err cause → IsFieldCause cause (front ++ rest)
 unfolding last_amount amount_first
 amount_cause front make reads rest cause h =
-    last_cause Amount front make last_amount amount_of refl (λ field rest. refl) reads (codes "0sp") no_amount zero_amount
-    (λ field rest cause e wanted fails. bad_amount front field rest [] (make no_amount) cause e wanted fails) rest cause h
+    last_cause Amount front make last_amount amount_of refl (λ field rest. refl) reads (codes "0sp") no_amount zero_amount Dimension letter_no_amount
+    (λ field rest cause e wanted fails unnamed. bad_amount front field rest [] (make no_amount) cause e wanted fails unnamed) rest cause h

@@ -9,13 +9,13 @@ use Rattle.script_core.specs.declared.cause.Cause.{Cause}
 use Rattle.script_core.specs.declared.cause.Cause.TheVariants.{Word, Missing, Extra, Dimension}
 use Rattle.script_core.specs.declared.name.Name.{Name}
 use Rattle.script_core.specs.declared.name.Name.TheVariants as names
-use Rattle.script_core.specs.Names.{name_of}
+use Rattle.script_core.specs.Names.{box_name, register_name, item_name, name_of}
 use Rattle.script_core.specs.Causes.{IsWord, GivesSize, IsFieldCause}
 use Rattle.script_core.specs.Reading.{dimension_or, map_ok, size_of, size_first, ended, last_number, last_dimension, last_penalty, right_and, unboxing, rule_of, command_named, named_by, command_of}
 use Rattle.scaled_core.specs.declared.fault.DimenFault.{DimenFault}
 use Rattle.scaled_core.specs.ParsedTexts.{read_dimension}
 use Rattle.script_core.proofs.NameLaws.{name_text, name_written, named}
-use Rattle.script_core.proofs.CauseForms.{missing, bad_field, extra, as_cause, not_made, star_given, star_size, no_size_given, number_cause, penalty_cause, dimension_cause}
+use Rattle.script_core.proofs.CauseForms.{missing, bad_elsewhere, extra, as_cause, not_made, star_given, star_size, no_size_given, letter, letter_no_size, number_cause, penalty_cause, dimension_cause}
 use Rattle.script_core.proofs.FontCauses.{font_cause, font_reads}
 use Rattle.script_core.proofs.OpeningCauses.{opening_cause}
 use Rattle.script_core.proofs.BoxCauses.{append_cause}
@@ -92,8 +92,11 @@ rule_by_depth : (w h d : List ℕ) (rest : List (List ℕ)) (width height : Rule
 rule_by_depth w h d rest width height (Err other) cause a b c e =
     let is : other ≡ Dimension = size_fault d other c in
     let bad = rule_bad_3 w h d rest width height other a b c in
-    as_cause _ Dimension cause (cc)
-    (bad_field GivesSize (codes "rule" ∷ w ∷ h ∷ []) d rest star [] _ star_size (rule_right w h star width height Running a b star_given) (λ later. (other, rule_bad_3 w h d later width height other a b c)), no_size_given d other c)
+    as_cause _ Dimension cause (cc) (
+      bad_elsewhere GivesSize (codes "rule" ∷ w ∷ h ∷ []) d rest star [] _ star_size (rule_right w h star width height Running a b star_given)
+          (λ later. (other, rule_bad_3 w h d later width height other a b c)) (λ later. (Dimension, rule_bad_3 w h letter later width height Dimension a b letter_no_size)),
+      no_size_given d other c,
+    )
 rule_by_depth w h d [] width height (Ok depth) cause a b c e = absurd (let right = rule_right w h d width height depth a b c in cc)
 rule_by_depth w h d (f ∷ rest) width height (Ok depth) cause a b c e =
     as_cause _ Extra cause (let more = rule_extra w h d f rest width height depth a b c in cc)
@@ -103,8 +106,11 @@ rule_by_height : (w h : List ℕ) (rest : List (List ℕ)) (width : RuleSize) (o
 rule_by_height w h rest width (Err other) cause a b e =
     let is : other ≡ Dimension = size_fault h other b in
     let bad = rule_bad_2 w h rest width other a b in
-    as_cause _ Dimension cause (cc)
-    (bad_field GivesSize (codes "rule" ∷ w ∷ []) h rest star (star ∷ []) _ star_size (rule_right w star star width Running Running a star_given star_given) (λ later. (other, rule_bad_2 w h later width other a b)), no_size_given h other b)
+    as_cause _ Dimension cause (cc) (
+      bad_elsewhere GivesSize (codes "rule" ∷ w ∷ []) h rest star (star ∷ []) _ star_size (rule_right w star star width Running Running a star_given star_given)
+          (λ later. (other, rule_bad_2 w h later width other a b)) (λ later. (Dimension, rule_bad_2 w letter later width Dimension a letter_no_size)),
+      no_size_given h other b,
+    )
 rule_by_height w h [] width (Ok height) cause a b e =
     as_cause _ Missing cause (let lacks = rule_lacks_3 w h width height a b in cc)
     (missing (codes "rule" ∷ w ∷ h ∷ []) (star ∷ []) _ (Missing, rule_lacks_3 w h width height a b) (rule_right w h star width height Running a b star_given))
@@ -114,8 +120,11 @@ rule_by_width : (w : List ℕ) (rest : List (List ℕ)) (o : Result RuleSize Cau
 rule_by_width w rest (Err other) cause a e =
     let is : other ≡ Dimension = size_fault w other a in
     let bad = rule_bad_1 w rest other a in
-    as_cause _ Dimension cause (cc)
-    (bad_field GivesSize (codes "rule" ∷ []) w rest star (star ∷ star ∷ []) running star_size (rule_right star star star Running Running Running star_given star_given star_given) (λ later. (other, rule_bad_1 w later other a)), no_size_given w other a)
+    as_cause _ Dimension cause (cc) (
+      bad_elsewhere GivesSize (codes "rule" ∷ []) w rest star (star ∷ star ∷ []) running star_size (rule_right star star star Running Running Running star_given star_given star_given)
+          (λ later. (other, rule_bad_1 w later other a)) (λ later. (Dimension, rule_bad_1 letter later Dimension letter_no_size)),
+      no_size_given w other a,
+    )
 rule_by_width w [] (Ok width) cause a e =
     as_cause _ Missing cause (let lacks = rule_lacks_2 w width a in cc)
     (missing (codes "rule" ∷ w ∷ []) (star ∷ star ∷ []) _ (Missing, rule_lacks_2 w width a) (rule_right w star star width Running Running a star_given star_given))
@@ -163,10 +172,14 @@ no_name : (word : List ℕ) (rest : List (List ℕ)) → name_of word ≡ None �
 unfolding command_of
 no_name word rest e = rw e refl
 
+letter_is_no_name : name_of letter ≡ None
+unfolding name_of box_name register_name item_name
+letter_is_no_name = refl
+
 by_name : (word : List ℕ) (rest : List (List ℕ)) (cause : Cause) (o : Option Name) → name_of word ≡ o → named_by o rest ≡ Err cause → IsFieldCause cause (word ∷ rest)
 by_name word rest cause None e h =
     as_cause _ Word cause (cc)
-    (bad_field IsWord [] word rest (codes "end") [] End (inl ([], (End, refl))) (end_reads []) (λ later. (Word, no_name word later e)))
+    (bad_elsewhere IsWord [] word rest (codes "end") [] End (inl ([], (End, refl))) (end_reads []) (λ later. (Word, no_name word later e)) (λ later. (Word, no_name letter later letter_is_no_name)))
 by_name word rest cause (Some name) e h =
     let P : List ℕ → Type 0 = λ w. IsFieldCause cause (w ∷ rest) in
     subst P (sym (name_written word name e)) (named_cause name rest cause h)

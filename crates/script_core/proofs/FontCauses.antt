@@ -5,6 +5,7 @@ use Rattle.node_core.specs.declared.tree.RuleSize.TheVariants.{Fixed}
 use Rattle.command_core.specs.declared.command.Command.{Command}
 use Rattle.command_core.specs.declared.command.Command.TheVariants.{LoadFont}
 use Rattle.scaled_core.specs.declared.fault.DimenFault.{DimenFault}
+use Rattle.scaled_core.specs.declared.fault.DimenFault.TheVariants.{NotADimension}
 use Rattle.scaled_core.specs.Rounding.{nearest}
 use Rattle.scaled_core.specs.DimensionTexts.{decimal_fraction}
 use Rattle.scaled_core.specs.ParsedTexts.{read_dimension, dimension_value, fitted, measured, unit_named, is_negative, behind_sign, front_digits, behind_digits, point_digits, behind_fraction}
@@ -15,10 +16,10 @@ use Rattle.script_core.specs.declared.name.Name.TheVariants as names
 use Rattle.script_core.specs.Grammar.{IsName}
 use Rattle.script_core.specs.Causes.{IsWord, GivesNumber, GivesSizeOfFont, GivesSize, IsFieldCause}
 use Rattle.script_core.specs.Reading.{number_of, number_first, size_of_font, size_of_font_first, dimension_first, is_name, name_first, chosen_size_of, font_by, font_of, map_ok, command_named, command_of}
-use Rattle.script_core.proofs.FieldLaws.{same_bytes, reads_dimension, names_font, font_named, is_size_of_font}
+use Rattle.script_core.proofs.FieldLaws.{same_bytes, reads_dimension, font_named, is_size_of_font}
 use Rattle.script_core.proofs.NameLaws.{named}
 use Rattle.script_core.proofs.CommandLaws.{sound}
-use Rattle.script_core.proofs.CauseForms.{Fails, missing, bad_field, extra, as_cause, not_made, zero_text, zero_names, zero_number, no_dimension_given, at_is_word}
+use Rattle.script_core.proofs.CauseForms.{Fails, AllFail, missing, bad_field, bad_elsewhere, extra, as_cause, not_made, zero_text, zero_names, zero_number, no_dimension_given, at_is_word, letter, letter_passes, letter_names, letter_no_number, letter_no_dimension}
 
 abbrev load : ℕ → List ℕ → Option ℤ → Command
 load slot name size = LoadFont (record { slot = slot; name = name; size = size })
@@ -27,16 +28,7 @@ pub font_reads : (rest : List (List ℕ)) → command_of (codes "font" ∷ rest)
 unfolding command_named
 font_reads rest = named names.Font rest
 
--- a right name and a right size
-abbrev letter : List ℕ
-letter = codes "a"
-
-letter_passes : is_name letter ≡ true
-letter_passes = refl
-
-letter_names : IsName letter
-letter_names = names_font letter letter_passes
-
+-- a right size
 abbrev one : List ℕ
 one = codes "1sp"
 
@@ -115,6 +107,9 @@ module _ (s : List ℕ) (n : ℕ) (name : List ℕ) (is_slot : number_of s ≡ S
   fails : (rest : List (List ℕ)) (cause : Cause) → chosen_size_of rest ≡ Err cause → Fails (codes "font" ∷ s ∷ name ∷ rest)
   fails rest cause h = (cause, behind_name s n name rest is_slot named ∙ (rw h refl))
 
+  fails_at : AllFail (codes "font" ∷ s ∷ name ∷ codes "at" ∷ []) letter
+  fails_at later = fails (codes "at" ∷ letter ∷ later) Dimension (no_dimension letter later NotADimension letter_no_dimension)
+
   loads : (rest : List (List ℕ)) (size : Option ℤ) → chosen_size_of rest ≡ Ok size → command_of (codes "font" ∷ s ∷ name ∷ rest) ≡ Ok (load n name size)
   loads rest size h = behind_name s n name rest is_slot named ∙ (rw h refl)
 
@@ -122,8 +117,8 @@ module _ (s : List ℕ) (n : ℕ) (name : List ℕ) (is_slot : number_of s ≡ S
   by_size d rest z None cause e f h =
       as_cause _ Number cause (let no = no_size d rest z e f in cc)
       (inr (
-        bad_field GivesSizeOfFont (codes "font" ∷ s ∷ name ∷ codes "at" ∷ []) d rest one [] (load n name (Some (pos 1))) one_size_of_font (loads (codes "at" ∷ one ∷ []) (Some (pos 1)) at_given)
-            (λ later. fails (codes "at" ∷ d ∷ later) Number (no_size d later z e f)),
+        bad_elsewhere GivesSizeOfFont (codes "font" ∷ s ∷ name ∷ codes "at" ∷ []) d rest one [] (load n name (Some (pos 1))) one_size_of_font (loads (codes "at" ∷ one ∷ []) (Some (pos 1)) at_given)
+            (λ later. fails (codes "at" ∷ d ∷ later) Number (no_size d later z e f)) fails_at,
         (z, reads_dimension d z e),
       ))
   by_size d [] z (Some y) cause e f h = absurd (let right = at_size d z y e f in cc)
@@ -135,8 +130,8 @@ module _ (s : List ℕ) (n : ℕ) (name : List ℕ) (is_slot : number_of s ≡ S
   by_dimension : (d : List ℕ) (rest : List (List ℕ)) (o : Result ℤ DimenFault) (cause : Cause) → read_dimension d ≡ o → chosen_size_of (codes "at" ∷ d ∷ rest) ≡ Err cause → IsFieldCause cause (codes "font" ∷ s ∷ name ∷ codes "at" ∷ d ∷ rest)
   by_dimension d rest (Err fault) cause e h =
       as_cause _ Dimension cause (let no = no_dimension d rest fault e in cc) (
-        bad_field GivesSize (codes "font" ∷ s ∷ name ∷ codes "at" ∷ []) d rest one [] (load n name (Some (pos 1))) one_size (loads (codes "at" ∷ one ∷ []) (Some (pos 1)) at_given)
-            (λ later. fails (codes "at" ∷ d ∷ later) Dimension (no_dimension d later fault e)),
+        bad_elsewhere GivesSize (codes "font" ∷ s ∷ name ∷ codes "at" ∷ []) d rest one [] (load n name (Some (pos 1))) one_size (loads (codes "at" ∷ one ∷ []) (Some (pos 1)) at_given)
+            (λ later. fails (codes "at" ∷ d ∷ later) Dimension (no_dimension d later fault e)) fails_at,
         no_dimension_given d fault e,
       )
   by_dimension d rest (Ok z) cause e h = by_size d rest z (size_of_font z) cause e refl h
@@ -155,8 +150,8 @@ module _ (s : List ℕ) (n : ℕ) (name : List ℕ) (is_slot : number_of s ≡ S
       subst P (sym at) (behind_at rest cause (subst Q at h))
   by_word w rest false cause e h =
       as_cause _ Word cause (let no = no_at w rest e in cc)
-      (bad_field IsWord (codes "font" ∷ s ∷ name ∷ []) w rest (codes "at") (one ∷ []) (load n name (Some (pos 1))) at_is_word (loads (codes "at" ∷ one ∷ []) (Some (pos 1)) at_given)
-      (λ later. fails (w ∷ later) Word (no_at w later e)))
+      (bad_elsewhere IsWord (codes "font" ∷ s ∷ name ∷ []) w rest (codes "at") (one ∷ []) (load n name (Some (pos 1))) at_is_word (loads (codes "at" ∷ one ∷ []) (Some (pos 1)) at_given)
+      (λ later. fails (w ∷ later) Word (no_at w later e)) (λ later. fails (letter ∷ later) Word (no_at letter later refl)))
 
   pub size_cause : (rest : List (List ℕ)) (cause : Cause) → chosen_size_of rest ≡ Err cause → IsFieldCause cause (codes "font" ∷ s ∷ name ∷ rest)
   size_cause [] cause h = absurd (let right = nothing_given in cc)
@@ -177,7 +172,8 @@ name_by s n name rest true cause e f h =
 slot_by : (s : List ℕ) (rest : List (List ℕ)) (o : Option ℕ) (cause : Cause) → number_of s ≡ o → command_of (codes "font" ∷ s ∷ rest) ≡ Err cause → IsFieldCause cause (codes "font" ∷ s ∷ rest)
 slot_by s rest None cause e h =
     as_cause _ Number cause (let no = no_slot s rest e in cc)
-    (inl (bad_field GivesNumber (codes "font" ∷ []) s rest zero_text (letter ∷ []) (load 0 letter None) zero_number (with_letter zero_text 0 zero_names) (λ later. (Number, no_slot s later e))))
+    (inl (bad_elsewhere GivesNumber (codes "font" ∷ []) s rest zero_text (letter ∷ []) (load 0 letter None) zero_number (with_letter zero_text 0 zero_names)
+    (λ later. (Number, no_slot s later e)) (λ later. (Number, no_slot letter later letter_no_number))))
 slot_by s [] (Some n) cause e h =
     as_cause _ Missing cause (let lacks = name_lacks s n e in cc)
     (missing (codes "font" ∷ s ∷ []) (letter ∷ []) (load n letter None) (Missing, name_lacks s n e) (with_letter s n e))

@@ -19,3 +19,4 @@ pub mod CauseLaws
 pub mod TextLines
 pub mod ScriptLaws
 pub mod RowLaws
+pub mod NameAlone

@@ -6,6 +6,7 @@ use Rattle.pack_core.specs.declared.pack.Target.TheVariants.{Natural, To, Spread
 use Rattle.command_core.specs.declared.command.BoxForm.{BoxForm}
 use Rattle.command_core.specs.declared.command.Command.{Command}
 use Rattle.scaled_core.specs.declared.fault.DimenFault.{DimenFault}
+use Rattle.scaled_core.specs.declared.fault.DimenFault.TheVariants.{NotADimension}
 use Rattle.scaled_core.specs.ParsedTexts.{read_dimension}
 use Rattle.script_core.specs.declared.cause.Cause.{Cause}
 use Rattle.script_core.specs.declared.cause.Cause.TheVariants.{Word, Missing, Dimension}
@@ -15,7 +16,7 @@ use Rattle.script_core.specs.Causes.{IsWord, IsFieldCause}
 use Rattle.script_core.specs.Reading.{number_first, last_number, dimension_first, map_ok, opening, opened, opened_into, opened_sized, opening_of, command_named, command_of}
 use Rattle.script_core.proofs.FieldLaws.{same_bytes}
 use Rattle.script_core.proofs.NameLaws.{named}
-use Rattle.script_core.proofs.CauseForms.{missing, bad_field, as_cause, not_made, zero_text, zero_names, zero_dimension, into_is_word, bad_dimension, number_cause}
+use Rattle.script_core.proofs.CauseForms.{missing, bad_elsewhere, as_cause, not_made, zero_text, zero_names, zero_dimension, into_is_word, letter, letter_no_dimension, bad_dimension, number_cause}
 
 opening_named : (form : BoxForm) (rest : List (List ℕ)) → command_of (form_text form ∷ rest) ≡ opening_of form rest
 unfolding command_named
@@ -80,8 +81,9 @@ module _ (form : BoxForm) (word : List ℕ) (sized : ℤ → Target) (reads : (r
       (not_made (for_register form (sized z)) (last_number rest) cause fault))
   by_into d z w rest false cause e f h =
       as_cause _ Word cause (let no = no_into form (sized z) w rest f in cc)
-      (bad_field IsWord (form_text form ∷ word ∷ d ∷ []) w rest (codes "into") (zero_text ∷ []) (for_register form (sized z) 0) into_is_word (whole d z e)
-      (λ later. (Word, behind_size d z (w ∷ later) e ∙ no_into form (sized z) w later f)))
+      (bad_elsewhere IsWord (form_text form ∷ word ∷ d ∷ []) w rest (codes "into") (zero_text ∷ []) (for_register form (sized z) 0) into_is_word (whole d z e)
+      (λ later. (Word, behind_size d z (w ∷ later) e ∙ no_into form (sized z) w later f))
+      (λ later. (Word, behind_size d z (letter ∷ later) e ∙ no_into form (sized z) letter later refl)))
 
   into_cause : (d : List ℕ) (z : ℤ) (rest : List (List ℕ)) (cause : Cause) → read_dimension d ≡ Ok z → opened_into form (sized z) rest ≡ Err cause → IsFieldCause cause (form_text form ∷ word ∷ d ∷ rest)
   into_cause d z [] cause e h = absurd (let right = nothing_reads form (sized z) in cc)
@@ -91,7 +93,7 @@ module _ (form : BoxForm) (word : List ℕ) (sized : ℤ → Target) (reads : (r
   by_size d rest (Err fault) cause e h =
       let is : Dimension ≡ cause = let no = no_size d rest fault e in cc in
       bad_dimension (form_text form ∷ word ∷ []) d rest [] (for_list form (sized (pos 0))) cause (rw e (ap (λ (c : Cause). Err c) is)) (size_alone (codes "0sp") (pos 0) zero_dimension)
-      (λ later. (Dimension, no_size d later fault e))
+      (λ later. (Dimension, no_size d later fault e)) (λ later. (Dimension, no_size letter later NotADimension letter_no_dimension))
   by_size d rest (Ok z) cause e h = into_cause d z rest cause e (sym (behind_size d z rest e) ∙ h)
 
   sized_cause : (rest : List (List ℕ)) (cause : Cause) → command_of (form_text form ∷ word ∷ rest) ≡ Err cause → IsFieldCause cause (form_text form ∷ word ∷ rest)
@@ -143,7 +145,8 @@ by_word form w rest false true spread cause e f g h = along_word form w (codes "
 by_word form w rest false false true cause e f g h = along_word form w (codes "spread") rest cause g (sized_cause form (codes "spread") Spread (behind_spread form) rest cause) h
 by_word form w rest false false false cause e f g h =
     as_cause _ Word cause (let no = no_word form w rest e f g in cc)
-    (bad_field IsWord (form_text form ∷ []) w rest (codes "into") (zero_text ∷ []) (for_register form Natural 0) into_is_word (natural form) (λ later. (Word, no_word form w later e f g)))
+    (bad_elsewhere IsWord (form_text form ∷ []) w rest (codes "into") (zero_text ∷ []) (for_register form Natural 0) into_is_word (natural form)
+    (λ later. (Word, no_word form w later e f g)) (λ later. (Word, no_word form letter later refl refl refl)))
 
 pub opening_cause : (form : BoxForm) (rest : List (List ℕ)) (cause : Cause) → command_of (form_text form ∷ rest) ≡ Err cause → IsFieldCause cause (form_text form ∷ rest)
 opening_cause form [] cause h = absurd (let right = form_alone form in cc)

@@ -4,7 +4,7 @@ use Rattle.command_core.specs.declared.command.Command.{Command}
 use Rattle.script_core.specs.declared.cause.Cause.{Cause}
 use Rattle.script_core.specs.declared.cause.Cause.TheVariants as causes
 use Rattle.script_core.specs.Grammar.{IsName}
-use Rattle.script_core.specs.Causes.{SaysSome, Begins, IsWord, GivesNumber, GivesDimension, GivesSizeOfFont, GivesSize, HasBad, HasExtra, IsFieldCause}
+use Rattle.script_core.specs.Causes.{SaysSome, Begins, IsWord, GivesNumber, GivesDimension, GivesSizeOfFont, GivesSize, HasBad, HasExtra, HasBadElsewhere, IsFieldCause}
 use Rattle.script_core.specs.Reading.{map_ok, command_of}
 use Rattle.script_core.proofs.ReadFields.{made}
 use Rattle.script_core.proofs.GivenCommands.{complete}
@@ -45,7 +45,8 @@ module _ (A : Type 0) (read : List (List ℕ) → Result A Cause) (word first se
   behind_word w rest front field behind split = (cc, cc)
 
   bad_by : (IsRight : List ℕ → Type 0) (rest front : List (List ℕ)) (field : List ℕ) (behind : List (List ℕ)) (r : List ℕ) → word ∷ rest ≡ front ++ field ∷ behind → IsRight r → Begins (front ++ r ∷ []) → (Begins (front ++ field ∷ []) → ⊥)
-      → (bad : HasBad IsRight (first ∷ second ∷ rest)) × (bad.field ≡ field) × ((name : List ℕ) → Begins (front ++ name ∷ []) → Begins (bad.front ++ name ∷ []))
+      → (bad : HasBad IsRight (first ∷ second ∷ rest)) × (bad.field ≡ field)
+      × ((name : List ℕ) → Begins (front ++ name ∷ []) → Begins (bad.front ++ name ∷ [])) × ((name : List ℕ) → Begins (bad.front ++ name ∷ []) → Begins (front ++ name ∷ []))
   bad_by IsRight rest [] field behind r split is wanted bad = absurd (not_first field rest behind split bad)
   bad_by IsRight rest (w ∷ front) field behind r split is wanted bad =
       let parts = behind_word w rest front field behind split in
@@ -63,11 +64,19 @@ module _ (A : Type 0) (read : List (List ℕ) → Result A Cause) (word first se
         },
         refl,
         λ name begins. let N : List ℕ → Type 0 = λ y. Begins (y ∷ (front ++ name ∷ [])) in begun (front ++ name ∷ []) (subst N parts.0 begins),
+        λ name begins. let N : List ℕ → Type 0 = λ y. Begins (y ∷ (front ++ name ∷ [])) in subst N (sym parts.0) (begun_back (front ++ name ∷ []) begins),
       )
 
   bad_shared : (IsRight : List ℕ → Type 0) (rest : List (List ℕ)) (bad : HasBad IsRight (word ∷ rest))
-      → (new : HasBad IsRight (first ∷ second ∷ rest)) × (new.field ≡ bad.field) × ((name : List ℕ) → Begins (bad.front ++ name ∷ []) → Begins (new.front ++ name ∷ []))
+      → (new : HasBad IsRight (first ∷ second ∷ rest)) × (new.field ≡ bad.field)
+      × ((name : List ℕ) → Begins (bad.front ++ name ∷ []) → Begins (new.front ++ name ∷ [])) × ((name : List ℕ) → Begins (new.front ++ name ∷ []) → Begins (bad.front ++ name ∷ []))
   bad_shared IsRight rest bad = bad_by IsRight rest bad.front bad.field bad.rest bad.right bad.split bad.is_right bad.wanted bad.bad
+
+  -- elsewhere too
+  elsewhere_shared : (IsRight : List ℕ → Type 0) (rest : List (List ℕ)) (bad : HasBadElsewhere IsRight (word ∷ rest)) → (new : HasBadElsewhere IsRight (first ∷ second ∷ rest)) × (new.found.field ≡ bad.found.field)
+  elsewhere_shared IsRight rest bad =
+      let new = bad_shared IsRight rest bad.found in
+      (record { found = new.0; elsewhere = λ takes. bad.elsewhere (λ name is. new.3 name (takes name is)) }, new.1)
 
   extra_by : (rest front : List (List ℕ)) (field : List ℕ) (behind : List (List ℕ)) → word ∷ rest ≡ front ++ field ∷ behind → SaysSome front → ((other : List ℕ) → Begins (front ++ other ∷ []) → ⊥) → HasExtra (first ∷ second ∷ rest)
   extra_by rest [] field behind split whole last = absurd (last word starts)
@@ -87,15 +96,15 @@ module _ (A : Type 0) (read : List (List ℕ) → Result A Cause) (word first se
 
   pub shared_cause : (cause : Cause) (rest : List (List ℕ)) → IsFieldCause cause (word ∷ rest) → IsFieldCause cause (first ∷ second ∷ rest)
   shared_cause causes.Byte rest h = h
-  shared_cause causes.Word rest h = (bad_shared IsWord rest h).0
+  shared_cause causes.Word rest h = (elsewhere_shared IsWord rest h).0
   shared_cause causes.Missing rest h = record { begins = begun rest h.begins; incomplete = λ some. h.incomplete (said_back rest some) }
   shared_cause causes.Extra rest h = extra_by rest h.front h.field h.rest h.split h.whole h.last
-  shared_cause causes.Number rest (inl h) = inl (bad_shared GivesNumber rest h).0
+  shared_cause causes.Number rest (inl h) = inl (elsewhere_shared GivesNumber rest h).0
   shared_cause causes.Number rest (inr (h, is)) =
-      let new = bad_shared GivesSizeOfFont rest h in
+      let new = elsewhere_shared GivesSizeOfFont rest h in
       inr (new.0, subst GivesDimension (sym new.1) is)
   shared_cause causes.Dimension rest (h, none) =
-      let new = bad_shared GivesSize rest h in
+      let new = elsewhere_shared GivesSize rest h in
       (new.0, λ given. none (subst GivesDimension new.1 given))
   shared_cause causes.Name rest (h, takes) =
       let new = bad_shared IsName rest h in

@@ -72,15 +72,21 @@ pub record HasExtra (fields : List (List ℕ)) : Type 0 where
 abbrev pub TakesNames : List (List ℕ) → Type 0
 TakesNames front = (name : List ℕ) → IsName name → Begins (front ++ name ∷ [])
 
--- the cause holds of the fields. Dimension: the bad field is no dimension that fits. Number: it stands where a number belongs, 0 to 255 or
--- that of a penalty, and is none; or, where the size of a font belongs, it is a dimension that is no such size. Name: it stands where every name of a font may
+-- a field is bad where one of that kind belongs, but not where each name of a font may stand: many a word, number or dimension is such a name
+pub record HasBadElsewhere (IsRight : List ℕ → Type 0) (fields : List (List ℕ)) : Type 0 where
+  pub found : HasBad IsRight fields
+  pub elsewhere : TakesNames found.front → ⊥
+
+-- the cause holds of the fields. Name: the bad field stands where each name of a font may, and has no other cause. Dimension: it is no dimension
+-- that fits. Number: it stands where a number belongs, 0 to 255 or that of a penalty, and is none; or, where the size of a font belongs, it is a
+-- dimension that is no such size
 abbrev pub IsFieldCause : Cause → List (List ℕ) → Type 0
 IsFieldCause Byte fields = ⊥
-IsFieldCause Word fields = HasBad IsWord fields
+IsFieldCause Word fields = HasBadElsewhere IsWord fields
 IsFieldCause Missing fields = LacksField fields
 IsFieldCause Extra fields = HasExtra fields
-IsFieldCause Number fields = HasBad GivesNumber fields ⊎ ((bad : HasBad GivesSizeOfFont fields) × GivesDimension bad.field)
-IsFieldCause Dimension fields = (bad : HasBad GivesSize fields) × (GivesDimension bad.field → ⊥)
+IsFieldCause Number fields = HasBadElsewhere GivesNumber fields ⊎ ((bad : HasBadElsewhere GivesSizeOfFont fields) × GivesDimension bad.found.field)
+IsFieldCause Dimension fields = (bad : HasBadElsewhere GivesSize fields) × (GivesDimension bad.found.field → ⊥)
 IsFieldCause causes.Name fields = (bad : HasBad IsName fields) × TakesNames bad.front
 
 -- each byte of the line is printable, 32 to 126

@@ -1,5 +1,9 @@
-//! Definitions held against known scripts, each on a function that does nothing.
+//! Laws of the definitions, and known scripts that they are held against, each on a function that does nothing.
 
+ghost use Rattle.std.specs.Prelude.{◌≡◌, ℕ, List};
+ghost use Rattle.script_core.specs.declared.cause.Cause.{Cause};
+ghost use Rattle.script_core.specs.declared.cause.Cause.TheVariants as causes;
+ghost use Rattle.script_core.specs.Causes.{IsFieldCause};
 ghost use Rattle.script_core.specs.Rows.{OneRuleScript, BadRow, TextScript, BadSizeRow, BadNameRow, TallBoxScript, NoRegisterRow, LateStretchRow};
 
 /// The script of the one-rule page says its four commands.
@@ -32,4 +36,9 @@ pub fn tall_box_script()
 pub fn bad_boxes_and_glue()
     ensures register { NoRegisterRow }
     ensures stretch { LateStretchRow }
+{}
+
+/// A bad name of a font has no other cause.
+pub fn bad_name_has_one_cause()
+    ensures { (fields : List (List ℕ)) → (cause : Cause) → IsFieldCause causes.Name fields → IsFieldCause cause fields → cause ≡ causes.Name }
 {}
