@@ -9,8 +9,8 @@ use Rattle.tfm_core.specs.NamedBytes.{NamedBytes}
 use Rattle.job_core.specs.Told.{IsFrontOf}
 use Rattle.dvi_write.specs.Draft.{file_of}
 use Rattle.job_core.specs.Shown.{GivesFiles, FilesPages}
-use Rattle.job_core.specs.Machine.{Machine, first_machine}
-use Rattle.job_core.specs.Runs.{Seen, Holds, RunsTo, FinishesTo}
+use Rattle.nest_core.specs.Machine.{Machine, first_machine}
+use Rattle.job_core.specs.Jobs.{Seen, Holds, RunsTo, FinishesTo}
 use Rattle.job_core.specs.Held.{Held}
 use Rattle.job_core.proofs.WholeRuns.{files_kept}
 use Rattle.std.specs.Io.KnownBytes.{Appends}

@@ -12,8 +12,8 @@ use Rattle.job_core.specs.Told.{IsFrontOf}
 use Rattle.dvi_ops.specs.Fonts.{Metrics}
 use Rattle.dvi_write.specs.Draft.{file_of}
 use Rattle.job_core.specs.Shown.{GivesFiles, IsFileOf}
-use Rattle.job_core.specs.Machine.{Machine, first_machine}
-use Rattle.job_core.specs.Runs.{Run, Finishes}
+use Rattle.nest_core.specs.Machine.{Machine, first_machine}
+use Rattle.nest_core.specs.Runs.{Run, Finishes}
 use Rattle.script_core.specs.declared.cause.Cause.{Cause}
 use Rattle.script_core.specs.declared.script.Line.{Line}
 use Rattle.boxglue.specs.declared.run.RunFault.{RunFault}

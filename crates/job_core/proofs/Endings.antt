@@ -7,9 +7,10 @@ use Rattle.command_core.specs.declared.command.Summary.{Summary}
 use Rattle.job_core.specs.Told.{grown, GrowsByFront, IsFrontOf}
 use Rattle.dvi_write.specs.Fonts.{Slots}
 use Rattle.ship_core.specs.Marks.{Page}
-use Rattle.job_core.specs.Machine.{State, Machine, first_of, stopped}
+use Rattle.nest_core.specs.Machine.{State, Machine, first_of, stopped}
 use Rattle.dvi_write.specs.Draft.{draft_of, whole, file_of}
-use Rattle.job_core.specs.Runs.{Seen, finish_checks, Finished, Refuses, WantsMemory, LostDevice, Holds, FinishesTo}
+use Rattle.nest_core.specs.Runs.{finish_checks, Finished, Refuses, WantsMemory, LostDevice}
+use Rattle.job_core.specs.Jobs.{Seen, Holds, FinishesTo}
 
 true_or_false : {b : Bool} → b ≡ true → b ≡ false → ⊥
 true_or_false t f = cc

@@ -4,11 +4,11 @@ use Rattle.std.specs.Prelude.{false, IfSome}
 use Rattle.std.proofs.lemmas.List.{nil_from_length}
 use Rattle.dvi_ops.specs.Fonts.{Metrics}
 use Rattle.job_core.specs.Told.{grown}
-use Rattle.job_core.specs.Machine.{State, Machine}
+use Rattle.nest_core.specs.Machine.{State, Machine}
 use Rattle.dvi_write.specs.Draft.{Draft, draft_of, file_of, whole}
-use Rattle.job_core.specs.Runs.{Seen, Holds}
+use Rattle.job_core.specs.Jobs.{Seen, Holds}
 use Rattle.job_core.specs.Room.{HasRoom}
-use Rattle.job_core.specs.Loaded.{AreLoaded}
+use Rattle.state_core.specs.Loaded.{AreLoaded}
 use Rattle.job_core.specs.Shown.{GivesFiles, IsFileOf}
 use Rattle.job_core.specs.Closing.{IsClosedFor}
 use Rattle.job_core.proofs.Moves.{small_enough}

@@ -1,17 +1,9 @@
-pub mod EachOf
-pub mod Leaves
-pub mod KeptRest
-pub mod Nests
-pub mod PackedItems
 pub mod Tellings
 pub mod Moves
 pub mod Endings
-pub mod Refusals
 pub mod FileLaws
 pub mod FinishedFiles
 pub mod ClosedFiles
 pub mod WholeRuns
 pub mod PageFonts
-pub mod SizedGlyphs
-pub mod LoadedFonts
 pub mod MeasuredPages

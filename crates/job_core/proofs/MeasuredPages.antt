@@ -17,17 +17,17 @@ use Rattle.command_core.specs.declared.command.Command.TheVariants.{LoadFont, Us
 use Rattle.command_core.specs.declared.command.Refusal.{Refusal}
 use Rattle.command_core.specs.Reply.{Reply}
 use Rattle.dvi_write.specs.Fonts.{Slots, font_in}
-use Rattle.job_core.specs.FontSlots.{font_of, with_font, glyph_by}
-use Rattle.job_core.specs.Sized.{IsSizedLeaf, IsSoundBox, HasSizedGlyphs}
-use Rattle.job_core.proofs.Leaves.{each_leaf}
-use Rattle.job_core.proofs.KeptRest.{KeepsRest, end_keeps, append_keeps, unbox_keeps}
+use Rattle.nest_core.specs.FontSlots.{font_of, with_font, glyph_by}
+use Rattle.state_core.specs.Sized.{IsSizedLeaf, IsSoundBox, HasSizedGlyphs}
+use Rattle.state_core.proofs.Leaves.{each_leaf}
+use Rattle.state_core.proofs.KeptRest.{KeepsRest, end_keeps, append_keeps, unbox_keeps}
 use Rattle.ship_core.specs.Marks.{Page}
-use Rattle.job_core.specs.Machine.{State, Machine, first_machine, checks, first_of, after, font_for, held_in, pages_of, new_pages, state_by}
-use Rattle.job_core.specs.Runs.{Steps, Replies, LacksMemory, LosesDevice, Run}
+use Rattle.nest_core.specs.Machine.{State, Machine, first_machine, checks, first_of, after, font_for, held_in, pages_of, new_pages, state_by}
+use Rattle.nest_core.specs.Runs.{Steps, Replies, LacksMemory, LosesDevice, Run}
 use Rattle.job_core.specs.GlyphWidths.{HasFileWidth, IsMeasured, IsMeasuredPage}
-use Rattle.job_core.proofs.EachOf.{each_set, each_copy, each_held}
-use Rattle.job_core.proofs.SizedGlyphs.{sized_first, sized_after, sized_held, stays_sized}
-use Rattle.job_core.proofs.LoadedFonts.{read_again, widths_in}
+use Rattle.state_core.proofs.EachOf.{each_set, each_copy, each_held}
+use Rattle.state_core.proofs.SizedGlyphs.{sized_first, sized_after, sized_held, stays_sized}
+use Rattle.state_core.proofs.LoadedFonts.{read_again, widths_in}
 
 -- A font is what the first file of its name gives at its size.
 abbrev IsRead : List NamedBytes → LoadedFont → Type 0

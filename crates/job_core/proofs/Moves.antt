@@ -20,16 +20,17 @@ use Rattle.tfm_core.specs.NamedBytes.{NamedBytes}
 use Rattle.dvi_ops.specs.Spelling.{spelling, operand}
 use Rattle.ship_core.specs.Marks.{Page}
 use Rattle.dvi_write.specs.Draft.{page_of, Draft, definitions_of, fresh_slots, sheet_of, reach_down, reach_right, with_page, with_pages, first_draft, draft_of}
-use Rattle.job_core.specs.Machine.{State, Machine, checks, own_checks, first_of, reply_by, reply_to, answer_of, after, state_by, state_after, new_pages, pages_of, held_in, count_in, is_huge_in, step, most_shipped, most_pages, first_state}
+use Rattle.nest_core.specs.Machine.{State, Machine, checks, own_checks, first_of, reply_by, reply_to, answer_of, after, state_by, state_after, new_pages, pages_of, held_in, count_in, is_huge_in, step, most_shipped, most_pages, first_state}
 use Rattle.ship_core.specs.Drawing.{body_of}
-use Rattle.job_core.specs.Runs.{TakesMemory, early_checks, draft_after, IsShipped, Seen, Holds, Steps, Replies, LacksMemory, Run, KeepsTo, RunsTo}
+use Rattle.nest_core.specs.Runs.{TakesMemory, early_checks, Steps, Replies, LacksMemory, Run}
+use Rattle.job_core.specs.Jobs.{draft_after, IsShipped, Seen, Holds, KeepsTo, RunsTo}
 use Rattle.job_core.specs.Room.{HasRoom}
 use Rattle.dvi_write.specs.Fonts.{Slots}
-use Rattle.job_core.specs.Loaded.{AreLoaded, GivesNumbersFor}
-use Rattle.job_core.specs.Sized.{IsSizedHeld, HasSizedGlyphs}
-use Rattle.job_core.proofs.KeptRest.{end_keeps, append_keeps, unbox_keeps, job_kept}
-use Rattle.job_core.proofs.SizedGlyphs.{sized_first, sized_after, sized_held, stays_sized, stays_loaded}
-use Rattle.job_core.proofs.LoadedFonts.{loaded_first, loaded_after}
+use Rattle.state_core.specs.Loaded.{AreLoaded, GivesNumbersFor}
+use Rattle.state_core.specs.Sized.{IsSizedHeld, HasSizedGlyphs}
+use Rattle.state_core.proofs.KeptRest.{end_keeps, append_keeps, unbox_keeps, job_kept}
+use Rattle.state_core.proofs.SizedGlyphs.{sized_first, sized_after, sized_held, stays_sized, stays_loaded}
+use Rattle.state_core.proofs.LoadedFonts.{loaded_first, loaded_after}
 use Rattle.dvi_write.proofs.DefinedFonts.{Extends, HasSelected, fresh_same, definitions_same, fresh_parts, among_fresh, defined_once, few_defined, none_rising}
 use Rattle.job_core.proofs.PageFonts.{table_of, short_names, has_selected, have_widths}
 use Rattle.dvi_write.proofs.PageBytes.{page_bytes}

@@ -6,10 +6,11 @@ use Rattle.command_core.specs.declared.command.Refusal.{Refusal}
 use Rattle.command_core.specs.declared.command.Summary.{Summary}
 use Rattle.command_core.specs.Reply.{Reply}
 use Rattle.tfm_core.specs.NamedBytes.{NamedBytes}
-use Rattle.job_core.proofs.KeptRest.{job_kept}
+use Rattle.state_core.proofs.KeptRest.{job_kept}
 use Rattle.job_core.proofs.Moves.{counted}
-use Rattle.job_core.specs.Machine.{Machine, first_machine, first_of, checks}
-use Rattle.job_core.specs.Runs.{Seen, Steps, Replies, LacksMemory, LosesDevice, Run, Holds, KeepsTo, RunsTo, FinishesTo}
+use Rattle.nest_core.specs.Machine.{Machine, first_machine, first_of, checks}
+use Rattle.nest_core.specs.Runs.{Steps, Replies, LacksMemory, LosesDevice, Run}
+use Rattle.job_core.specs.Jobs.{Seen, Holds, KeepsTo, RunsTo, FinishesTo}
 use Rattle.job_core.specs.Closing.{ClosesFile}
 use Rattle.job_core.specs.Shown.{FilesPages, GivesFiles}
 use Rattle.job_core.specs.Headline.{IsDone}

@@ -11,8 +11,8 @@ use Rattle.dvi_write.specs.declared.fonts.LoadedFont.{LoadedFont}
 use Rattle.dvi_write.specs.Fonts.{Slots, font_in}
 use Rattle.ship_core.specs.Marks.{Page}
 use Rattle.dvi_write.specs.Draft.{definition_of, reach_down, reach_right}
-use Rattle.job_core.specs.Machine.{Machine}
-use Rattle.job_core.specs.Runs.{Seen, Holds}
+use Rattle.nest_core.specs.Machine.{Machine}
+use Rattle.job_core.specs.Jobs.{Seen, Holds}
 
 -- The greatest number of a list: none is above it, and it is one of them.
 pub record IsGreatestOf (numbers : List ℤ) (greatest : ℤ) : Type 0 where

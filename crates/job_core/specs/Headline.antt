@@ -6,8 +6,9 @@ use Rattle.command_core.specs.declared.command.Refusal.{Refusal}
 use Rattle.command_core.specs.declared.command.Summary.{Summary}
 use Rattle.command_core.specs.Reply.{Reply}
 use Rattle.tfm_core.specs.NamedBytes.{NamedBytes}
-use Rattle.job_core.specs.Machine.{Machine, first_machine}
-use Rattle.job_core.specs.Runs.{Seen, Run, Finishes}
+use Rattle.nest_core.specs.Machine.{Machine, first_machine}
+use Rattle.nest_core.specs.Runs.{Run, Finishes}
+use Rattle.job_core.specs.Jobs.{Seen}
 use Rattle.job_core.specs.Closing.{IsClosedFor}
 use Rattle.job_core.specs.Shown.{GivesFiles, IsFileOf}
 

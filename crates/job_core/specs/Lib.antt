@@ -1,14 +1,9 @@
 pub mod Told
 pub mod Held
-pub mod Machine
-pub mod EmptiedNest
-pub mod StateCode
-pub mod Runs
+pub mod Jobs
+pub mod SeenCode
 pub mod Room
 pub mod Shown
 pub mod Closing
 pub mod Headline
-pub mod Sized
-pub mod FontSlots
-pub mod Loaded
 pub mod GlyphWidths

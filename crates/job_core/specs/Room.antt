@@ -1,9 +1,9 @@
 -- How much a job may hold (own): the limits that keep every place in the file below 2^31; and what its fonts and glyphs are.
 use Rattle.std.specs.Prelude.{◌≡◌, ◌+◌, ◌*◌, ◌≤◌, length}
-use Rattle.job_core.specs.Machine.{State, most_shipped, most_pages, most_deep}
+use Rattle.nest_core.specs.Machine.{State, most_shipped, most_pages, most_deep}
 use Rattle.dvi_write.specs.Draft.{Draft, in_rising_order}
-use Rattle.job_core.specs.Sized.{HasSizedGlyphs}
-use Rattle.job_core.specs.Loaded.{AreLoaded}
+use Rattle.state_core.specs.Sized.{HasSizedGlyphs}
+use Rattle.state_core.specs.Loaded.{AreLoaded}
 
 -- A running job's state and draft are within these limits.
 pub record HasRoom (s : State) (draft : Draft) : Type 0 where

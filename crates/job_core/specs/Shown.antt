@@ -7,8 +7,8 @@ use Rattle.dvi_ops.specs.File.{MarkedPage, IsFile}
 use Rattle.command_core.specs.declared.command.Refusal.{Refusal}
 use Rattle.command_core.specs.declared.command.Summary.{Summary}
 use Rattle.ship_core.specs.Marks.{Page, marks_of_page}
-use Rattle.job_core.specs.Machine.{Machine}
-use Rattle.job_core.specs.Runs.{Seen, Holds}
+use Rattle.nest_core.specs.Machine.{Machine}
+use Rattle.job_core.specs.Jobs.{Seen, Holds}
 
 -- A page as it is read from a file: its ten counts, and the marks of its box at its reference point, in order.
 abbrev pub shown_page : Page → MarkedPage

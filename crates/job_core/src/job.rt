@@ -3,14 +3,15 @@
 ghost use Rattle.std.specs.Prelude.{◌≡◌, ◌<◌, ◌+◌, ◌*◌, ◌^◌, ◌++◌, [], false, None, Err, List, length, IfOk, IfErr, OnOk, OnErr, IfSome};
 ghost use Rattle.command_core.specs.declared.command.Command.TheVariants as commands;
 ghost use Rattle.command_core.specs.Reply.{Reply as AReply};
-ghost use Rattle.job_core.specs.Loaded.{GivesNumbersFor};
-ghost use Rattle.job_core.specs.Machine.{Machine, first_machine, checks, first_of, reply_to, state_after};
-ghost use Rattle.job_core.specs.Runs.{TakesMemory, early_checks, draft_after, Holds, KeepsTo, RunsTo, FinishesTo};
+ghost use Rattle.state_core.specs.Loaded.{GivesNumbersFor};
+ghost use Rattle.nest_core.specs.Machine.{Machine, first_machine, checks, first_of, reply_to, state_after};
+ghost use Rattle.nest_core.specs.Runs.{TakesMemory, early_checks};
+ghost use Rattle.job_core.specs.Jobs.{draft_after, Holds, KeepsTo, RunsTo, FinishesTo};
 ghost use Rattle.job_core.specs.Shown.{FilesPages};
 ghost use Rattle.job_core.specs.Closing.{ClosesFile};
 
 use crate::device::{Device, write_all};
-use crate::kept::Kept;
+use state_core::kept::Kept;
 use command_core::{Answer, Command, Refusal, Register, Reply, Summary};
 use dvi_write::Writer;
 use node_core::Node;
@@ -83,9 +84,9 @@ pub struct Job<D: Device> {
 
 impl<D: Device> Model for Job<D> {
     ghost use Rattle.std.specs.Prelude.{◌≡◌, ◌<◌, ◌+◌, ◌^◌, false};
-    ghost use Rattle.job_core.specs.Runs.{Seen};
+    ghost use Rattle.job_core.specs.Jobs.{Seen};
     ghost use Rattle.job_core.specs.Room.{HasRoom};
-    ghost use Rattle.job_core.specs.StateCode.{coded_seen};
+    ghost use Rattle.job_core.specs.SeenCode.{coded_seen};
 
     ghost Value = { Seen };
 
@@ -98,12 +99,12 @@ impl<D: Device> Model for Job<D> {
 
 impl<D: Device> Job<D> {
     ghost use Rattle.std.specs.Prelude.{◌≡◌, ◌<◌, ◌+◌, ◌^◌, ◌++◌, [], true, List, IfOk, IfErr, OnOk, OnErr, IfSome, Err, length};
-    ghost use Rattle.job_core.specs.Machine.{Machine, first_machine};
+    ghost use Rattle.nest_core.specs.Machine.{Machine, first_machine};
     ghost use Rattle.dvi_write.specs.Draft.{file_of};
     ghost use Rattle.job_core.specs.Told.{IsFrontOf};
     ghost use Rattle.command_core.specs.declared.command.Refusal.{Refusal};
     ghost use Rattle.command_core.specs.Reply.{Reply as AReply};
-    ghost use Rattle.job_core.specs.Runs.{Holds, KeepsTo, RunsTo, FinishesTo};
+    ghost use Rattle.job_core.specs.Jobs.{Holds, KeepsTo, RunsTo, FinishesTo};
     ghost use Rattle.job_core.specs.Shown.{FilesPages};
     ghost use Rattle.job_core.specs.Closing.{ClosesFile};
 

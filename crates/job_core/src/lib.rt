@@ -1,14 +1,10 @@
-//! The job: a list of commands is run, and what is shipped goes to a device.
+//! The job: a list of commands is run, and what is shipped goes to a device. It hands on the types of commands and answers, so that a caller needs
+//! no other crate for them. The programs stand above it.
 #![tactic(auto)]
 
 pub mod device;
-mod fonts;
 pub mod job;
-mod kept;
 pub mod laws;
-mod nest;
-mod registers;
-pub mod totality;
 
 pub use command_core::{
     Answer, BoxForm, BoxUse, Characters, Command, FontLoad, Opening, Parameter, Refusal, Register,
@@ -16,4 +12,5 @@ pub use command_core::{
 };
 pub use device::{Device, DeviceFault, Memory};
 pub use pack_core::Target;
+pub use state_core::totality;
 pub use tfm_core::{FontFile, FontName, FontSize, TfmCause};

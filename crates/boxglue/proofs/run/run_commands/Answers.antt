@@ -1,6 +1,6 @@
 -- The job as it was, and the run and its end.
 use Rattle.std.proofs.Common.{refl, sym, ◌∙◌, ap}
-use Rattle.job_core.specs.Runs.{Seen}
+use Rattle.job_core.specs.Jobs.{Seen}
 use Rattle.boxglue.proofs.RunLaws.{on_err, on_ok, new_untouched, was_run, same_run, added_to_none}
 use Rattle.boxglue.proofs.run.run_commands.Goals as goal
 

@@ -1,5 +1,5 @@
 use Rattle.std.proofs.Common.{refl}
-use Rattle.job_core.specs.Machine.{first_machine}
+use Rattle.nest_core.specs.Machine.{first_machine}
 use Rattle.job_core.proofs.WholeRuns.{pages_counted}
 use Rattle.job_core.proofs.laws.pages_are_counted.Goals as goal
 

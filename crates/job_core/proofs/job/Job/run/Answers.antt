@@ -2,7 +2,7 @@ use Rattle.std.proofs.Common.{◌≡◌, ◌+◌, ◌++◌, ◌∷◌, [], take,
 use Rattle.std.proofs.lemmas.List.{take_more}
 use Rattle.command_core.specs.declared.command.Command.{Command}
 use Rattle.command_core.specs.Reply.{Reply}
-use Rattle.job_core.specs.Runs.{Seen, RunsTo}
+use Rattle.job_core.specs.Jobs.{Seen, RunsTo}
 use Rattle.job_core.proofs.Moves.{runs_more}
 use Rattle.job_core.proofs.job.Job.run.Goals as goal
 

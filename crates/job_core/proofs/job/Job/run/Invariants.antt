@@ -1,7 +1,7 @@
 use Rattle.std.proofs.Common.{◌≡◌, true, ◌≤◌, ◌+◌, ◌-◌, ◌++◌, List, length, take, vec_len}
 use Rattle.std.specs.Prelude.{vec_capacity}
 use Rattle.command_core.specs.Reply.{Reply}
-use Rattle.job_core.specs.Runs.{RunsTo}
+use Rattle.job_core.specs.Jobs.{RunsTo}
 use Rattle.job_core.proofs.job.Job.run.Given as goal
 
 abbrev pub invariant-loop-command : goal.invariant-loop-command

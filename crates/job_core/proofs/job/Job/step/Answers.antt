@@ -1,6 +1,6 @@
 use Rattle.std.proofs.Common.{◌≡◌, refl, ap, sym, ◌∙◌}
-use Rattle.job_core.specs.Machine.{State}
-use Rattle.job_core.proofs.KeptRest.{job_kept}
+use Rattle.nest_core.specs.Machine.{State}
+use Rattle.state_core.proofs.KeptRest.{job_kept}
 use Rattle.job_core.proofs.Moves.{roomy, replied, small_after, numbered}
 use Rattle.job_core.proofs.job.Job.step.Goals as goal
 

@@ -1,0 +1,136 @@
+-- Lists and registers that change in one place, and change back.
+use Rattle.std.proofs.Common.{◌≡◌, ◌∙◌, ℕ, zero, suc, ◌-◌, ◌==◌, ◌≤◌, ◌<◌, List, [], ◌∷◌, ◌++◌, length, take, set, get_or, Bool, true, false, Option, Some, None, Result, Ok, Err, OnErr, refl, ap, sym, arith}
+use Rattle.std.specs.Prelude.{pos, slice_get}
+use Rattle.std.proofs.Math.Seq.{take-set-lt}
+use Rattle.std.proofs.lemmas.List.{take-set-le, length-take-le, length-set}
+use Rattle.node_core.specs.declared.tree.BoxNode.{BoxNode}
+use Rattle.node_core.specs.Items.{Items, none}
+use Rattle.nest_core.specs.declared.nest.OpenList.{OpenList}
+use Rattle.node_core.specs.declared.params.Params.{Params}
+use Rattle.command_core.specs.declared.command.Refusal.{Refusal}
+use Rattle.pack_core.specs.declared.pack.Packed as packs
+use Rattle.command_core.specs.declared.command.Command.TheVariants.{End}
+use Rattle.nest_core.specs.Machine.{State, checks, place_checks, packed_list, items_in, first_of, innermost, outer, held_in, list_with_box, with_box}
+use Rattle.nest_core.specs.EmptiedNest.{refilled, emptied}
+
+module _ {A : Type 0} where
+  some_same : (x y : A) → Some x ≡ Some y → x ≡ y
+  some_same x y e = cc
+
+  -- An element is put back.
+  pub set_back : (xs : List A) (i : ℕ) (x y : A) → slice_get xs i ≡ Some x → set (set xs i y) i x ≡ xs
+  set_back [] i x y is = refl
+  set_back (z ∷ xs) zero x y is = ap (λ first. first ∷ xs) (sym (some_same z x is))
+  set_back (z ∷ xs) (suc i) x y is = ap (λ rest. z ∷ rest) (set_back xs i x y is)
+
+  pub get_set : (xs : List A) (i : ℕ) (x y : A) → slice_get xs i ≡ Some x → slice_get (set xs i y) i ≡ Some y
+  get_set [] i x y is = cc
+  get_set (z ∷ xs) zero x y is = refl
+  get_set (z ∷ xs) (suc i) x y is = get_set xs i x y is
+
+  -- The first elements of a list.
+  pub get_take : (xs : List A) (n i : ℕ) → i < n → slice_get (take n xs) i ≡ slice_get xs i
+  get_take xs zero i below = absurd (omega (arith, below))
+  get_take [] (suc n) i below = refl
+  get_take (x ∷ xs) (suc n) zero below = refl
+  get_take (x ∷ xs) (suc n) (suc i) below = get_take xs n i (omega (arith, below))
+
+  -- An element that a list has.
+  pub get_some : (xs : List A) (i : ℕ) (d : A) → i < length xs → slice_get xs i ≡ Some (get_or xs i d)
+  get_some [] i d below = absurd (omega (arith, below))
+  get_some (x ∷ xs) zero d below = refl
+  get_some (x ∷ xs) (suc i) d below = get_some xs i d (omega (arith, below))
+
+  -- There is no last element: there is none.
+  pub none_last : (xs : List A) → slice_get xs (length xs - 1) ≡ None → (length xs == 0) ≡ true
+  none_last [] is = refl
+  none_last (x ∷ xs) is = absurd (no_end x xs (ap (slice_get (x ∷ xs)) (omega arith) ∙ is))
+    where
+      no_end : (x : A) (xs : List A) → slice_get (x ∷ xs) (length xs) ≡ None → ⊥
+      no_end x [] is = cc
+      no_end x (y ∷ xs) is = no_end y xs is
+
+-- A box goes back into the register that it was taken from.
+pub held_back : (registers : List (Option BoxNode)) (r : ℕ) (b : BoxNode) → held_in registers r ≡ Some b → set (set registers r None) r (Some b) ≡ registers
+held_back [] r b is = refl
+held_back (held ∷ registers) zero b is = ap (λ first. first ∷ registers) (sym is)
+held_back (held ∷ registers) (suc r) b is = ap (λ rest. held ∷ rest) (held_back registers r b is)
+
+-- A void register is void.
+pub void_again : (registers : List (Option BoxNode)) (r : ℕ) → held_in registers r ≡ None → set registers r None ≡ registers
+void_again [] r is = refl
+void_again (held ∷ registers) zero is = ap (λ first. first ∷ registers) (sym is)
+void_again (held ∷ registers) (suc r) is = ap (λ rest. held ∷ rest) (void_again registers r is)
+
+-- The items of the innermost list are put back.
+pub refilled-emptied : (nest : List OpenList) (l : OpenList) → innermost nest ≡ Some l
+    → refilled (emptied nest (Some l)) l.list (innermost (emptied nest (Some l))) ≡ nest
+refilled-emptied nest l is =
+    let bare : OpenList = record l { list = none } in
+    let last = length nest - 1 in
+    let count : length (set nest last bare) ≡ length nest = length-set nest last bare in
+    let found : innermost (emptied nest (Some l)) ≡ Some bare = ap (λ n. slice_get (set nest last bare) (n - 1)) count ∙ get_set nest last l bare is in
+    ap (refilled (emptied nest (Some l)) l.list) found
+    ∙ (ap (λ n. set (set nest last bare) (n - 1) l) count ∙ set_back nest last l bare is)
+
+-- The lists around it stay as they are.
+pub outer-emptied : (nest : List OpenList) (l : OpenList) → outer (emptied nest (Some l)) ≡ outer nest
+outer-emptied nest l =
+    let bare : OpenList = record l { list = none } in
+    let last = length nest - 1 in
+    ap (λ n. take (n - 1) (set nest last bare)) (length-set nest last bare) ∙ take-set-le last nest last bare (omega arith)
+
+-- A box is put behind the list around the innermost one, which is then taken away.
+pub closed_into : (params : Params) (nest : List OpenList) (b : BoxNode) (l : OpenList) → 2 ≤ length nest → slice_get nest (length nest - 2) ≡ Some l
+    → take (length nest - 1) (set nest (length nest - 2) (list_with_box params (pos 0) b l)) ≡ with_box params (outer nest) (pos 0) b (innermost (outer nest))
+closed_into params nest b l enough is =
+    let n = length nest - 1 in
+    let count : length (outer nest) ≡ n = length-take-le n nest (omega (arith, enough)) in
+    let place : length (outer nest) - 1 ≡ length nest - 2 = omega (arith, count, enough) in
+    let found : innermost (outer nest) ≡ Some l =
+    ap (λ i. slice_get (outer nest) i) place ∙ (get_take nest n (length nest - 2) (omega (arith, enough)) ∙ is) in
+    let changed = list_with_box params (pos 0) b l in
+    take-set-lt n nest (length nest - 2) changed (omega (arith, enough))
+    ∙ (sym (ap (λ i. set (outer nest) i changed) place) ∙ sym (ap (with_box params (outer nest) (pos 0) b) found))
+
+-- The same, as the steps of the code have it.
+pub closing_into : (params : Params) (nest : List OpenList) (b : BoxNode) (l changed : OpenList) (count : ℕ) (after : List OpenList)
+    → count ≡ length nest → 2 ≤ length nest → l ≡ get_or nest (count - 2) l → changed ≡ list_with_box params (pos 0) b l
+    → after ≡ take (length (set nest (count - 2) changed) - 1) (set nest (count - 2) changed)
+    → after ≡ with_box params (outer nest) (pos 0) b (innermost (outer nest))
+closing_into params nest b l changed count after many enough is turned left =
+    let at = ap (λ n. slice_get nest (n - 2)) (sym many) ∙ (get_some nest (count - 2) l (omega (arith, many, enough)) ∙ ap Some (sym is)) in
+    let closed = closed_into params nest b l enough at in
+    let same = length-set nest (length nest - 2) (list_with_box params (pos 0) b l) in
+    cc (many, turned, left, closed, same)
+
+-- A refusal that is found first is given, whatever checks follow.
+pub first_refused : (over : Bool) (own more : List (Bool × Refusal)) (job refusal : Refusal) → over ≡ false → first_of own ≡ Some refusal
+    → first_of ((over, job) ∷ (own ++ more)) ≡ Some refusal
+first_refused over own more job refusal running is = rw running (others own is)
+  where
+    others : (own : List (Bool × Refusal)) → first_of own ≡ Some refusal → first_of (own ++ more) ≡ Some refusal
+    others [] is = cc
+    others ((true, r) ∷ own) is = is
+    others ((false, r) ∷ own) is = others own is
+
+-- The innermost list gets its own items back.
+pub put_back : (nest now : List OpenList) (items : Items) (l : OpenList) → innermost nest ≡ Some l → now ≡ emptied nest (innermost nest) → items ≡ items_in (innermost nest)
+    → refilled now items (innermost now) ≡ nest
+put_back nest now items l is taken same =
+    let bare = taken ∙ ap (emptied nest) is in
+    let own = same ∙ ap items_in is in
+    ap (λ n. refilled n items (innermost n)) bare ∙ (ap (λ more. refilled (emptied nest (Some l)) more (innermost (emptied nest (Some l)))) own ∙ refilled-emptied nest l is)
+
+-- The end of a list is refused as its box is.
+pub end_refused : (s : State) (l : OpenList) (p : packs.Packed) (now : List OpenList) (found : Option Refusal) → s.over ≡ false → innermost s.nest ≡ Some l
+    → packed_list s.params (innermost s.nest) ≡ Some p → now ≡ emptied s.nest (innermost s.nest)
+    → found ≡ first_of (place_checks s.params (outer now) l.opening.into p.shown) → first_of (checks s End) ≡ found
+end_refused s l p now found running is packed taken asked =
+    let around = ap outer (taken ∙ ap (emptied s.nest) is) ∙ outer-emptied s.nest l in
+    let own = sym (ap (packed_list s.params) is) ∙ packed in
+    rw (running, is, own) (sym (asked ∙ ap (λ nest. first_of (place_checks s.params nest l.opening.into p.shown)) around))
+
+pub on_err : {A E : Type 0} {P : Type 0} (r : Result A E) → P → OnErr r P
+on_err (Ok x) p = tt
+on_err (Err e) p = p

@@ -1,0 +1,33 @@
+-- A packed box has the items of its list.
+use Rattle.std.proofs.Common.{◌≡◌, Bool, true, false, Result, Ok, Err, ap}
+use Rattle.std.specs.Prelude.{ℤ, if◌then◌else◌}
+use Rattle.node_core.specs.declared.params.Params.{Params}
+use Rattle.node_core.specs.Items.{Items}
+use Rattle.pack_core.specs.declared.pack.Target.{Target}
+use Rattle.pack_core.specs.declared.pack.Packed as packs
+use Rattle.pack_core.specs.declared.pack.TooLarge.{TooLarge}
+use Rattle.pack_core.specs.Boxes.{hbox, hpacked, vbox, vpacked, vtop_box, vtopped}
+use Rattle.command_core.specs.declared.command.BoxForm.{BoxForm}
+use Rattle.command_core.specs.declared.command.BoxForm.TheVariants.{Hbox, Vbox, Vtop}
+use Rattle.nest_core.specs.Machine.{packed_as}
+
+items_packed : (b : Bool) (p q : packs.Packed) (items : Items) → if◌then◌else◌ {A = Result packs.Packed TooLarge} b (Ok p) (Err (record { list = items })) ≡ Ok q → p ≡ q
+items_packed true p q items is = cc
+items_packed false p q items is = cc
+
+hpacked_items : (target : Target) (items : Items) (q : packs.Packed) → hpacked target items ≡ Ok q → items ≡ q.shown.list
+unfolding hpacked hbox
+hpacked_items target items q is = ap (λ (p : packs.Packed). p.shown.list) (items_packed _ _ q items is)
+
+vpacked_items : (target : Target) (limit : ℤ) (items : Items) (q : packs.Packed) → vpacked target limit items ≡ Ok q → items ≡ q.shown.list
+unfolding vpacked vbox
+vpacked_items target limit items q is = ap (λ (p : packs.Packed). p.shown.list) (items_packed _ _ q items is)
+
+vtopped_items : (target : Target) (limit : ℤ) (items : Items) (q : packs.Packed) → vtopped target limit items ≡ Ok q → items ≡ q.shown.list
+unfolding vtopped vtop_box vbox
+vtopped_items target limit items q is = ap (λ (p : packs.Packed). p.shown.list) (items_packed _ _ q items is)
+
+pub packed_items : (form : BoxForm) (params : Params) (target : Target) (items : Items) (q : packs.Packed) → packed_as form params target items ≡ Ok q → items ≡ q.shown.list
+packed_items Hbox params target items q is = hpacked_items target items q is
+packed_items Vbox params target items q is = vpacked_items target params.box_max_depth items q is
+packed_items Vtop params target items q is = vtopped_items target params.box_max_depth items q is

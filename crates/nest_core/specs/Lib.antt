@@ -1,0 +1,4 @@
+pub mod Machine
+pub mod FontSlots
+pub mod Runs
+pub mod EmptiedNest

@@ -1,0 +1,72 @@
+-- Runs of the machine, with what it does not choose: want of memory and a device that fails (own).
+use Rattle.std.specs.Prelude.{◌≡◌, ◌≢◌, ◌<◌, ◌==◌, [], ◌∷◌, ℕ, Bool, not, List, length, Some, None, is_none, is_some, IsSome, Result, Ok, Err}
+use Rattle.command_core.specs.declared.command.Command.{Command}
+use Rattle.command_core.specs.declared.command.Command.TheVariants.{LoadFont, UseFont, Open, End, Text, Character, Rule, Kern, Glue, Penalty, Append, Unbox, LastBox, Measure, Void, Set, Ship}
+use Rattle.command_core.specs.declared.command.Refusal.{Refusal}
+use Rattle.command_core.specs.declared.command.Refusal.TheVariants.{OutOfMemory, NoFont, SlotTaken, Device, ListsOpen, JobOver}
+use Rattle.command_core.specs.declared.command.Summary.{Summary}
+use Rattle.command_core.specs.Reply.{Reply}
+use Rattle.tfm_core.specs.NamedBytes.{file_named}
+use Rattle.dvi_write.specs.Fonts.{font_in}
+use Rattle.nest_core.specs.Machine.{State, Machine, innermost, held_in, GoesIntoList, checks, character_checks, first_of, reply_to, step, stopped}
+
+-- The commands for which memory may be wanted. The end of a list takes none where the box goes into a register, and what takes the box of a
+-- register none where that is void.
+abbrev pub TakesMemory : State → Command → Type 0
+TakesMemory m (LoadFont load) = Unit {0}
+TakesMemory m (UseFont slot) = ⊥
+TakesMemory m (Open opening) = Unit {0}
+TakesMemory m End = GoesIntoList (innermost m.nest)
+TakesMemory m (Text text) = Unit {0}
+TakesMemory m (Character code) = Unit {0}
+TakesMemory m (Rule rule) = Unit {0}
+TakesMemory m (Kern width) = Unit {0}
+TakesMemory m (Glue glue) = Unit {0}
+TakesMemory m (Penalty n) = Unit {0}
+TakesMemory m (Append taken) = IsSome (held_in m.registers taken.register)
+TakesMemory m (Unbox taken) = IsSome (held_in m.registers taken.register)
+TakesMemory m (LastBox r) = ⊥
+TakesMemory m (Measure r) = ⊥
+TakesMemory m (Void r) = ⊥
+TakesMemory m (Set parameter) = ⊥
+TakesMemory m (Ship r) = Unit {0}
+
+-- The refusals that are found before any memory is taken, in their order: all but those that a font file's bytes, its size or the number of
+-- items of a text decide.
+abbrev pub early_checks : State → Command → List (Bool × Refusal)
+early_checks m (LoadFont load) =
+    (m.over, JobOver) ∷ (is_some (font_in m.fonts load.slot), SlotTaken) ∷ (is_none (file_named load.name m.files), NoFont) ∷ []
+early_checks m (Text text) = (m.over, JobOver) ∷ character_checks m
+early_checks m (Character code) = (m.over, JobOver) ∷ character_checks m
+early_checks m command = checks m command
+
+-- A command that makes a page.
+abbrev pub IsShip : Command → Type 0
+IsShip (Ship r) = Unit {0}
+IsShip command = ⊥
+
+-- A machine takes a command, replies and goes on, while the device's count of failures goes from n to k. It replies as the table
+-- says; or memory was wanted for a command that no early check refuses, and it stays; or the device failed in an accepted ship, and it stops.
+pub data Steps (m : Machine) (n : ℕ) (command : Command) (reply : Reply) (next : Machine) (k : ℕ) : Type 0 where
+  Replies : reply ≡ reply_to m.state command → next ≡ step m command → k ≡ n → Steps m n command reply next k
+  LacksMemory : reply ≡ Err OutOfMemory → TakesMemory m.state command → first_of (early_checks m.state command) ≡ None → next ≡ m → k ≡ n → Steps m n command reply next k
+  LosesDevice : reply ≡ Err Device → IsShip command → first_of (checks m.state command) ≡ None → next ≡ stopped m → n < k → Steps m n command reply next k
+
+-- A machine takes the commands one after the other, one reply a command.
+abbrev pub Run : Machine → ℕ → List Command → List Reply → Machine → ℕ → Type 0
+Run m n [] [] next k = (next ≡ m) × (k ≡ n)
+Run m n [] (reply ∷ replies) next k = ⊥
+Run m n (command ∷ commands) [] next k = ⊥
+Run m n (command ∷ commands) (reply ∷ replies) next k =
+    (middle : Machine) × (i : ℕ) × Steps m n command reply middle i × Run middle i commands replies next k
+
+-- The refusals of the end of a job, in their order.
+abbrev pub finish_checks : State → List (Bool × Refusal)
+finish_checks m = (m.over, JobOver) ∷ (not (length m.nest == 0), ListsOpen) ∷ []
+
+-- The job is finished: with the number of pages; or refused; or memory was wanted, and it stays; or there are pages and the device failed.
+pub data Finishes (m : Machine) (n : ℕ) (result : Result Summary Refusal) (next : Machine) (k : ℕ) : Type 0 where
+  Finished : (summary : Summary) → result ≡ Ok summary → first_of (finish_checks m.state) ≡ None → summary.pages ≡ length m.pages → next ≡ stopped m → k ≡ n → Finishes m n result next k
+  Refuses : (refusal : Refusal) → result ≡ Err refusal → first_of (finish_checks m.state) ≡ Some refusal → next ≡ m → k ≡ n → Finishes m n result next k
+  WantsMemory : result ≡ Err OutOfMemory → first_of (finish_checks m.state) ≡ None → m.pages ≢ [] → next ≡ m → k ≡ n → Finishes m n result next k
+  LostDevice : result ≡ Err Device → first_of (finish_checks m.state) ≡ None → m.pages ≢ [] → next ≡ stopped m → n < k → Finishes m n result next k

@@ -1,0 +1,83 @@
+-- What commands leave alone: those on boxes all but the open lists and the registers, and all of them the font files and whether the job is over.
+use Rattle.std.proofs.Common.{◌≡◌, ℕ, List, Option, Some, None, refl}
+use Rattle.std.specs.Prelude.{ℤ}
+use Rattle.node_core.specs.declared.tree.BoxNode.{BoxNode}
+use Rattle.pack_core.specs.declared.pack.Packed as packs
+use Rattle.nest_core.specs.declared.nest.OpenList.{OpenList}
+use Rattle.command_core.specs.declared.command.Taking.{Taking}
+use Rattle.nest_core.specs.Machine.{State, innermost, outer, packed_list, held_in, with_home, with_closed, with_used, with_unboxed, checks, first_of, state_by, after, state_after}
+use Rattle.command_core.specs.declared.command.BoxUse.{BoxUse}
+use Rattle.command_core.specs.declared.command.Unboxing.{Unboxing}
+use Rattle.command_core.specs.declared.command.Refusal.{Refusal}
+use Rattle.command_core.specs.declared.command.Command.{Command}
+use Rattle.command_core.specs.declared.command.Command.TheVariants.{LoadFont, UseFont, Open, End, Text, Character, Rule, Kern, Glue, Penalty, Append, Unbox, LastBox, Measure, Void, Set, Ship}
+
+pub record KeepsRest (s t : State) : Type 0 where
+  pub files : t.files ≡ s.files
+  pub fonts : t.fonts ≡ s.fonts
+  pub over : t.over ≡ s.over
+  pub pages : t.pages ≡ s.pages
+  pub shipped : t.shipped ≡ s.shipped
+
+same_rest : (s : State) → KeepsRest s s
+same_rest s = record { files = refl; fonts = refl; over = refl; pages = refl; shipped = refl }
+
+home_rest : (s : State) (around : List OpenList) (into : Option ℕ) (b : BoxNode) → KeepsRest s (with_home s around into b)
+home_rest s around None b = record { files = refl; fonts = refl; over = refl; pages = refl; shipped = refl }
+home_rest s around (Some r) b = record { files = refl; fonts = refl; over = refl; pages = refl; shipped = refl }
+
+closed_rest : (s : State) (l : Option OpenList) (packed : Option packs.Packed) → KeepsRest s (with_closed s l packed)
+closed_rest s None packed = same_rest s
+closed_rest s (Some l) None = same_rest s
+closed_rest s (Some l) (Some packed) = home_rest s (outer s.nest) l.opening.into packed.shown
+
+used_rest : (s : State) (taking : Taking) (r : ℕ) (shift : ℤ) (held : Option BoxNode) → KeepsRest s (with_used s taking r shift held)
+used_rest s taking r shift None = same_rest s
+used_rest s taking r shift (Some b) = record { files = refl; fonts = refl; over = refl; pages = refl; shipped = refl }
+
+unboxed_rest : (s : State) (taking : Taking) (r : ℕ) (held : Option BoxNode) → KeepsRest s (with_unboxed s taking r held)
+unboxed_rest s taking r None = same_rest s
+unboxed_rest s taking r (Some b) = record { files = refl; fonts = refl; over = refl; pages = refl; shipped = refl }
+
+pub end_keeps : (s : State) → KeepsRest s (after s End)
+end_keeps s = closed_rest s (innermost s.nest) (packed_list s.params (innermost s.nest))
+
+pub append_keeps : (s : State) (taken : BoxUse) → KeepsRest s (after s (Append taken))
+append_keeps s taken = used_rest s taken.taking taken.register taken.shift (held_in s.registers taken.register)
+
+pub unbox_keeps : (s : State) (taken : Unboxing) → KeepsRest s (after s (Unbox taken))
+unbox_keeps s taken = unboxed_rest s taken.taking taken.register (held_in s.registers taken.register)
+
+-- What no command changes.
+pub record KeepsJob (s t : State) : Type 0 where
+  pub files : t.files ≡ s.files
+  pub over : t.over ≡ s.over
+
+by_rest : (s t : State) → KeepsRest s t → KeepsJob s t
+by_rest s t keeps = record { files = keeps.files; over = keeps.over }
+
+after_kept : (s : State) (command : Command) → KeepsJob s (after s command)
+after_kept s (LoadFont load) = record { files = refl; over = refl }
+after_kept s (UseFont slot) = record { files = refl; over = refl }
+after_kept s (Open opening) = record { files = refl; over = refl }
+after_kept s End = by_rest s (after s End) (end_keeps s)
+after_kept s (Text text) = record { files = refl; over = refl }
+after_kept s (Character code) = record { files = refl; over = refl }
+after_kept s (Rule rule) = record { files = refl; over = refl }
+after_kept s (Kern width) = record { files = refl; over = refl }
+after_kept s (Glue glue) = record { files = refl; over = refl }
+after_kept s (Penalty n) = record { files = refl; over = refl }
+after_kept s (Append taken) = by_rest s (after s (Append taken)) (append_keeps s taken)
+after_kept s (Unbox taken) = by_rest s (after s (Unbox taken)) (unbox_keeps s taken)
+after_kept s (LastBox r) = record { files = refl; over = refl }
+after_kept s (Measure r) = record { files = refl; over = refl }
+after_kept s (Void r) = record { files = refl; over = refl }
+after_kept s (Set parameter) = record { files = refl; over = refl }
+after_kept s (Ship r) = record { files = refl; over = refl }
+
+pub job_kept : (s : State) (command : Command) → KeepsJob s (state_after s command)
+job_kept s command = cases (first_of (checks s command))
+  where
+    cases : (refused : Option Refusal) → KeepsJob s (state_by refused s (after s command))
+    cases None = after_kept s command
+    cases (Some refusal) = record { files = refl; over = refl }

@@ -1,0 +1,6 @@
+pub mod EachOf
+pub mod Leaves
+pub mod KeptRest
+pub mod Refusals
+pub mod SizedGlyphs
+pub mod LoadedFonts

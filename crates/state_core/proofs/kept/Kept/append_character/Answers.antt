@@ -1,0 +1,19 @@
+use Rattle.std.proofs.Common.{ap, sym}
+use Rattle.command_core.specs.declared.command.Command.TheVariants.{Character}
+use Rattle.command_core.specs.declared.command.Refusal.TheVariants.{JobOver}
+use Rattle.nest_core.specs.FontSlots.{character_shaped}
+use Rattle.nest_core.specs.Machine.{character_checks, length_checks, reply_by, state_by, answer_of, after}
+use Rattle.nest_core.proofs.Nests.{first_refused}
+use Rattle.state_core.proofs.kept.Kept.append_character.Goals as goal
+
+pub returns-in-Err-clause-reply : goal.returns-in-Err-clause-reply
+returns-in-Err-clause-reply c =
+    let s = c.args.self.now in
+    sym (ap (λ found. reply_by found (answer_of s (Character c.args.code)))
+    (first_refused s.over (character_checks s) (length_checks s (character_shaped s.fonts s.current c.args.code).items) JobOver c.in-Err.refusal c.requires c.in-Err.ensures.err))
+
+pub returns-in-Err-clause-state : goal.returns-in-Err-clause-state
+returns-in-Err-clause-state c =
+    let s = c.args.self.now in
+    sym (ap (λ found. state_by found s (after s (Character c.args.code)))
+    (first_refused s.over (character_checks s) (length_checks s (character_shaped s.fonts s.current c.args.code).items) JobOver c.in-Err.refusal c.requires c.in-Err.ensures.err))

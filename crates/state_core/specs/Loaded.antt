@@ -1,0 +1,32 @@
+-- Fonts that were read from the font files of a job (own).
+use Rattle.std.specs.Prelude.{◌≡◌, List, length, Some, Ok, IfOk, IfSome}
+use Rattle.std.specs.List.{AllByRecursion}
+use Rattle.tfm_core.specs.NamedBytes.{NamedBytes, IsFontName, file_named}
+use Rattle.tfm_core.specs.Fonts.{HasNumbers}
+use Rattle.dvi_write.specs.declared.fonts.LoadedFont.{LoadedFont}
+use Rattle.command_core.specs.declared.command.FontLoad.{FontLoad}
+use Rattle.command_core.specs.declared.command.Command.{Command}
+use Rattle.command_core.specs.declared.command.Command.TheVariants.{LoadFont}
+use Rattle.dvi_write.specs.Fonts.{Slots}
+use Rattle.nest_core.specs.FontSlots.{font_of}
+use Rattle.nest_core.specs.Machine.{State, font_for}
+
+-- A font is what the first file of its name gives at its size.
+pub record IsLoaded (files : List NamedBytes) (loaded : LoadedFont) : Type 0 where
+  pub read : font_of (file_named loaded.name files) (Some loaded.font.size) ≡ Ok loaded.font
+  pub name : IsFontName loaded.name
+  pub numbers : HasNumbers loaded.font
+
+-- There are 256 slots, and each font in them is such a font.
+pub record AreLoaded (files : List NamedBytes) (fonts : Slots) : Type 0 where
+  pub slots : length fonts ≡ 256
+  pub each : AllByRecursion (λ slot. IfSome slot (IsLoaded files)) fonts
+
+-- A font that a command asks for, and that the files give, can be defined in a file of pages.
+abbrev pub GivesNumbers : State → FontLoad → Type 0
+GivesNumbers s load = IsFontName load.name × IfOk (font_for s load) HasNumbers
+
+-- The same of a command that loads a font.
+abbrev pub GivesNumbersFor : State → Command → Type 0
+GivesNumbersFor s (LoadFont load) = GivesNumbers s load
+GivesNumbersFor s command = Unit {0}

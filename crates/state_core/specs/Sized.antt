@@ -1,0 +1,57 @@
+-- Lists whose glyphs have the sizes that their fonts give, and whose boxes are not too deep (own).
+use Rattle.std.specs.Prelude.{◌≡◌, ◌≤◌, List, Option, Some, None}
+use Rattle.std.specs.List.{AllByRecursion}
+use Rattle.node_core.specs.declared.tree.Glyph as glyphs
+use Rattle.node_core.specs.declared.tree.Node.{Node}
+use Rattle.node_core.specs.declared.tree.Node.TheVariants.{Glyph, FontKern, Kern, Glue, Penalty, Rule, Box}
+use Rattle.node_core.specs.declared.tree.BoxNode.{BoxNode}
+use Rattle.node_core.specs.Items.{Leaf, glyph, font_kern, kern, glue, penalty, rule, EachLeaf}
+use Rattle.node_core.specs.Nodes.{nodes_of, box_depth}
+use Rattle.nest_core.specs.declared.nest.OpenList.{OpenList}
+use Rattle.dvi_write.specs.Fonts.{Slots, font_in}
+use Rattle.nest_core.specs.FontSlots.{glyph_by}
+use Rattle.nest_core.specs.Machine.{State, most_deep}
+
+-- A glyph has the sizes of its character in the font of its slot.
+abbrev pub HasSizes : Slots → glyphs.Glyph → Type 0
+HasSizes fonts g = glyph_by (font_in fonts g.slot) g.code ≡ Some (record { width = g.width; height = g.height; depth = g.depth })
+
+-- The same of a leaf that is a glyph.
+abbrev pub IsSizedLeaf : Slots → Leaf → Type 0
+IsSizedLeaf fonts (glyph g) = HasSizes fonts g
+IsSizedLeaf fonts (font_kern width) = Unit {0}
+IsSizedLeaf fonts (kern width) = Unit {0}
+IsSizedLeaf fonts (glue g) = Unit {0}
+IsSizedLeaf fonts (penalty p) = Unit {0}
+IsSizedLeaf fonts (rule sizes) = Unit {0}
+
+-- The glyphs of a box have such sizes, in its inner boxes too, and it is at most 200 deep.
+pub record IsSoundBox (fonts : Slots) (b : BoxNode) : Type 0 where
+  pub glyphs : EachLeaf (IsSizedLeaf fonts) b.list
+  pub depth : box_depth b ≤ most_deep
+
+-- A glyph among the items of a list has such sizes, and a box among them is such a box.
+abbrev pub IsSized : Slots → Node → Type 0
+IsSized fonts (Glyph g) = HasSizes fonts g
+IsSized fonts (FontKern width) = Unit {0}
+IsSized fonts (Kern width) = Unit {0}
+IsSized fonts (Glue g) = Unit {0}
+IsSized fonts (Penalty p) = Unit {0}
+IsSized fonts (Rule sizes) = Unit {0}
+IsSized fonts (Box shift b) = IsSoundBox fonts b
+
+abbrev pub AreSized : Slots → List Node → Type 0
+AreSized fonts nodes = AllByRecursion (IsSized fonts) nodes
+
+-- So is it in an open list, and in a register that is not void.
+abbrev pub IsSizedList : Slots → OpenList → Type 0
+IsSizedList fonts open_list = AreSized fonts (nodes_of open_list.list)
+
+abbrev pub IsSizedHeld : Slots → Option BoxNode → Type 0
+IsSizedHeld fonts None = Unit {0}
+IsSizedHeld fonts (Some b) = IsSoundBox fonts b
+
+-- So is it in all open lists and in all registers.
+pub record HasSizedGlyphs (s : State) : Type 0 where
+  pub nest : AllByRecursion (IsSizedList s.fonts) s.nest
+  pub registers : AllByRecursion (IsSizedHeld s.fonts) s.registers

@@ -1,0 +1,34 @@
+-- How the logic stores the state of a machine (own).
+use Rattle.std.specs.Prelude.{ℕ, Bool, List, Option, refl}
+use Rattle.std.specs.Coded.{Coded, code_by, coded×, coded_ℕ, coded_bool, coded_list, coded_option}
+use Rattle.node_core.specs.declared.tree.BoxNode.{BoxNode}
+use Rattle.node_core.specs.contracts.tree.BoxNode as box_node
+use Rattle.node_core.specs.declared.params.Params.{Params}
+use Rattle.node_core.specs.contracts.params.Params as params_code
+use Rattle.nest_core.specs.declared.nest.OpenList.{OpenList}
+use Rattle.nest_core.specs.contracts.nest.OpenList as open_list
+use Rattle.tfm_core.specs.NamedBytes.{NamedBytes}
+use Rattle.dvi_write.specs.declared.fonts.LoadedFont.{LoadedFont}
+use Rattle.dvi_write.specs.contracts.fonts.LoadedFont as loaded_font
+use Rattle.nest_core.specs.Machine.{State}
+
+abbrev pub coded_named : Coded NamedBytes
+coded_named =
+    code_by (List ℕ × List ℕ) (coded× (coded_list coded_ℕ) (coded_list coded_ℕ)) (λ f. (f.name, f.bytes)) (λ p. record { name = p.0; bytes = p.1 }) (λ _. refl)
+
+-- The state as a pair of pairs.
+abbrev pub Parts : Type 0
+Parts = ((List NamedBytes × (List (Option LoadedFont) × Option ℕ)) × (Params × List OpenList)) × (List (Option BoxNode) × ((ℕ × ℕ) × Bool))
+
+abbrev pub coded_fonts : Coded (List (Option LoadedFont) × Option ℕ)
+coded_fonts = coded× (coded_list (coded_option loaded_font.the_row.coded)) (coded_option coded_ℕ)
+
+abbrev pub coded_parts : Coded Parts
+coded_parts =
+    coded× (coded× (coded× (coded_list coded_named) coded_fonts) (coded× params_code.the_row.coded (coded_list open_list.the_row.coded)))
+    (coded× (coded_list (coded_option box_node.the_row.coded)) (coded× (coded× coded_ℕ coded_ℕ) coded_bool))
+
+abbrev pub coded_state : Coded State
+coded_state =
+    code_by Parts coded_parts (λ s. (((s.files, (s.fonts, s.current)), (s.params, s.nest)), (s.registers, ((s.shipped, s.pages), s.over))))
+    (λ p. record { files = p.0.0.0; fonts = p.0.0.1.0; current = p.0.0.1.1; params = p.0.1.0; nest = p.0.1.1; registers = p.1.0; shipped = p.1.1.0.0; pages = p.1.1.0.1; over = p.1.1.1 }) (λ _. refl)

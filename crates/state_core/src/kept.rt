@@ -1,0 +1,599 @@
+//! What a job keeps, but for its device and its bytes.
+
+ghost use Rattle.std.specs.Prelude.{◌≡◌, ◌==◌, ◌<◌, ◌≤◌, ◌+◌, ◌∷◌, [], not, true, false, None, Some, IfOk, IfErr, OnOk, OnErr, IsSome, length};
+ghost use Rattle.command_core.specs.declared.command.Command.TheVariants as commands;
+ghost use Rattle.dvi_write.specs.Fonts.{font_in};
+ghost use Rattle.state_core.specs.Loaded.{GivesNumbers};
+ghost use Rattle.node_core.specs.Nodes.{most_nodes, nodes_of};
+ghost use Rattle.nest_core.specs.EmptiedNest.{refilled};
+ghost use Rattle.nest_core.specs.Machine.{first_state, innermost, outer, items_in, held_in, nodes_in, checks, first_of, reply_by, reply_to, state_by, state_after, after, sizes_of, character_checks, item_checks, length_checks, held_checks, home_checks, place_checks, shaped_answer, with_items, with_used, with_unboxed, with_home, GoesIntoList, is_other, is_running, is_misplaced};
+ghost use Rattle.nest_core.specs.Runs.{early_checks};
+
+use nest_core::fonts::read_font;
+use nest_core::nest::Nest;
+use nest_core::registers::Registers;
+use command_core::{
+    Answer, BoxUse, Characters, FontLoad, Opening, Parameter, Refusal, Register, Reply, Sizes,
+    Taking, Unboxing,
+};
+use dvi_write::{Fonts, LoadedFont};
+use node_core::{BoxNode, Kind, Node, Params, Rule, RuleSize};
+use pack_core::Packed;
+use scaled_core::Dimen;
+use shape_core::{Missing, shape_character, shape_text};
+use ship_core::is_huge;
+use std::alloc::{AllocError, Global};
+use std::marker::Model;
+use tfm_core::{FontFile, file_named};
+
+/// The kept state: font files, fonts, open lists, registers and numbers.
+#[derive(Debug, Drop)]
+pub struct Kept {
+    files: Vec<FontFile>,
+    fonts: Fonts,
+    current: Option<u8>,
+    params: Params,
+    nest: Nest,
+    registers: Registers,
+    shipped: u64,
+    pages: u32,
+    over: bool,
+}
+
+impl Model for Kept {
+    ghost use Rattle.std.specs.Prelude.{◌≤◌};
+    ghost use Rattle.nest_core.specs.Machine.{State, most_shipped, most_pages};
+    ghost use Rattle.state_core.specs.StateCode.{coded_state};
+
+    ghost Value = { State };
+
+    ghost coded = { coded_state };
+
+    ghost view = { λ kept. record { files = kept.files.items; fonts = kept.fonts; current = kept.current; params = kept.params; nest = kept.nest; registers = kept.registers; shipped = kept.shipped; pages = kept.pages; over = kept.over } };
+
+    ghost invariant = { λ kept. (kept.shipped ≤ most_shipped) × (kept.pages ≤ most_pages) };
+}
+
+/// Copies of the files.
+fn copies(alloc: Global, files: &[FontFile]) -> Result<Vec<FontFile>, AllocError>
+    ensures { IfOk result (λ copies. copies.items ≡ files.now) }
+{
+    let mut copies = Vec::with_capacity(alloc, files.len())?;
+    for file in files {
+        copies.push(file.copy(alloc)?)?;
+    }
+    Ok(copies)
+}
+
+impl Kept {
+    /// What a new job with these files keeps.
+    pub fn new(alloc: Global, files: &[FontFile]) -> Result<Kept, AllocError>
+        ensures { IfOk result (λ kept. kept ≡ first_state files.now) }
+    {
+        let files = copies(alloc, files)?;
+        let fonts = Fonts::new(alloc)?;
+        let registers = Registers::new(alloc)?;
+        Ok(Kept {
+            files,
+            fonts,
+            current: None,
+            params: Params::first(),
+            nest: Nest::new(alloc),
+            registers,
+            shipped: 0,
+            pages: 0,
+            over: false,
+        })
+    }
+
+    /// Whether the job is over.
+    pub fn is_over(&self) -> bool
+        ensures { result ≡ self.now.over }
+    {
+        self.over
+    }
+
+    /// Ends the job.
+    pub fn stop(&mut self)
+        ensures { self.new ≡ record self.old { over = true } }
+    {
+        self.over = true;
+    }
+
+    /// Whether a list is open.
+    pub fn is_open(&self) -> bool
+        ensures { result ≡ not (length self.now.nest == 0) }
+    {
+        self.nest.len() != 0
+    }
+
+    /// How many pages were shipped.
+    pub fn pages(&self) -> u32
+        ensures { result ≡ self.now.pages }
+    {
+        self.pages
+    }
+
+    /// The fonts.
+    pub fn fonts(&self) -> &Fonts
+        ensures { result.now ≡ self.now.fonts }
+    {
+        &self.fonts
+    }
+
+    /// Reads a font file into a slot.
+    pub fn load_font(&mut self, load: &FontLoad) -> Result<Reply, AllocError>
+        requires { self.old.over ≡ false }
+        ensures reply { IfOk result (λ reply. reply ≡ reply_to self.old (commands.LoadFont load.now)) }
+        ensures state { OnOk result (self.new ≡ state_after self.old (commands.LoadFont load.now)) }
+        ensures numbers { IfOk result (λ reply. IfOk reply (λ answer. GivesNumbers self.old load.now)) }
+        ensures err { OnErr result (self.new ≡ self.old) }
+        ensures early { OnErr result (first_of (early_checks self.old (commands.LoadFont load.now)) ≡ None) }
+    {
+        if self.fonts.get(load.slot).is_some() {
+            return Ok(Err(Refusal::SlotTaken));
+        }
+        let Some(file) = file_named(&self.files, &load.name) else {
+            return Ok(Err(Refusal::NoFont));
+        };
+        let alloc = *self.files.allocator();
+        let font = match read_font(alloc, file, load.size)? {
+            Ok(font) => font,
+            Err(refusal) => return Ok(Err(refusal)),
+        };
+        let name = load.name.copy(alloc)?;
+        self.fonts.put(load.slot, LoadedFont { name, font });
+        Ok(Ok(Answer::Done))
+    }
+
+    /// Chooses the font of a slot.
+    pub fn use_font(&mut self, slot: u8) -> Reply
+        requires { self.old.over ≡ false }
+        ensures reply { result ≡ reply_to self.old (commands.UseFont slot) }
+        ensures state { self.new ≡ state_after self.old (commands.UseFont slot) }
+    {
+        if self.fonts.get(slot).is_none() {
+            return Err(Refusal::NoFont);
+        }
+        self.current = Some(slot);
+        Ok(Answer::Done)
+    }
+
+    /// Appends the items that characters come to, where the innermost list has room for them.
+    fn append_shaped(&mut self, items: Vec<Node>, missing: Missing) -> Result<Reply, AllocError>
+        ensures reply { IfOk result (λ reply. reply ≡ reply_by (first_of (length_checks self.old items.items)) (shaped_answer (record { items = items.items; missing = missing.characters }))) }
+        ensures state { OnOk result (self.new ≡ state_by (first_of (length_checks self.old items.items)) self.old (with_items self.old items.items)) }
+        ensures err { OnErr result (self.new ≡ self.old) }
+    {
+        if self.nest.item_count().saturating_add(items.len()) > 65536 {
+            return Ok(Err(Refusal::ListTooLong));
+        }
+        let count = items.len();
+        self.nest.extend(items)?;
+        Ok(Ok(Answer::Shaped {
+            items: count,
+            missing: missing.characters,
+        }))
+    }
+
+    /// The current font and its slot, where characters may be appended; or why they may not.
+    fn font_for_characters(&self) -> Result<(u8, &LoadedFont), Refusal>
+        ensures slot { IfOk result (λ font. self.now.current ≡ Some font.0) }
+        ensures font { IfOk result (λ font. font_in self.now.fonts font.0 ≡ Some font.1.now) }
+        ensures ok { OnOk result (first_of (character_checks self.now) ≡ None) }
+        ensures err { IfErr result (λ refusal. first_of (character_checks self.now) ≡ Some refusal) }
+    {
+        let Some(innermost) = self.nest.innermost() else {
+            return Err(Refusal::NoOpenList);
+        };
+        if innermost.opening.form.kind() == Kind::Vertical {
+            return Err(Refusal::WrongMode);
+        }
+        let Some(slot) = self.current else {
+            return Err(Refusal::NoFont);
+        };
+        let Some(loaded) = self.fonts.get(slot) else {
+            return Err(Refusal::NoFont);
+        };
+        Ok((slot, loaded))
+    }
+
+    /// Appends a text in the current font.
+    pub fn append_text(&mut self, text: &Characters) -> Result<Reply, AllocError>
+        requires { self.old.over ≡ false }
+        ensures reply { IfOk result (λ reply. reply ≡ reply_to self.old (commands.Text text.now)) }
+        ensures state { OnOk result (self.new ≡ state_after self.old (commands.Text text.now)) }
+        ensures err { OnErr result (self.new ≡ self.old) }
+        ensures early { OnErr result (first_of (early_checks self.old (commands.Text text.now)) ≡ None) }
+    {
+        let (slot, loaded) = match self.font_for_characters() {
+            Ok(font) => font,
+            Err(refusal) => return Ok(Err(refusal)),
+        };
+        let mut items = Vec::new(*self.files.allocator());
+        let missing = shape_text(&loaded.font, slot, text.codes(), &mut items)?;
+        self.append_shaped(items, missing)
+    }
+
+    /// Appends a character of the current font.
+    pub fn append_character(&mut self, code: u8) -> Result<Reply, AllocError>
+        requires { self.old.over ≡ false }
+        ensures reply { IfOk result (λ reply. reply ≡ reply_to self.old (commands.Character code)) }
+        ensures state { OnOk result (self.new ≡ state_after self.old (commands.Character code)) }
+        ensures err { OnErr result (self.new ≡ self.old) }
+        ensures early { OnErr result (first_of (early_checks self.old (commands.Character code)) ≡ None) }
+    {
+        let (slot, loaded) = match self.font_for_characters() {
+            Ok(font) => font,
+            Err(refusal) => return Ok(Err(refusal)),
+        };
+        let mut items = Vec::new(*self.files.allocator());
+        let missing = shape_character(&loaded.font, slot, code, &mut items)?;
+        self.append_shaped(items, missing)
+    }
+
+    /// Opens a list.
+    pub fn open_list(&mut self, opening: Opening) -> Result<Reply, AllocError>
+        requires { self.old.over ≡ false }
+        ensures reply { IfOk result (λ reply. reply ≡ reply_to self.old (commands.Open opening)) }
+        ensures state { OnOk result (self.new ≡ state_after self.old (commands.Open opening)) }
+        ensures err { OnErr result (self.new ≡ self.old) }
+        ensures admitted { OnErr result (first_of (checks self.old (commands.Open opening)) ≡ None) }
+    {
+        let count = self.nest.len();
+        if opening.into.is_none() && count == 0 {
+            return Ok(Err(Refusal::NoOpenList));
+        }
+        if count >= 64 {
+            return Ok(Err(Refusal::TooDeep));
+        }
+        self.nest.begin(opening)?;
+        Ok(Ok(Answer::Done))
+    }
+
+    /// Appends an item.
+    pub fn append_item(&mut self, item: Node) -> Result<Reply, AllocError>
+        ensures reply { IfOk result (λ reply. reply ≡ reply_by (first_of (item_checks self.old)) Answer.Done) }
+        ensures state { OnOk result (self.new ≡ state_by (first_of (item_checks self.old)) self.old (with_items self.old (item ∷ []))) }
+        ensures err { OnErr result (self.new ≡ self.old) }
+        ensures admitted { OnErr result (first_of (item_checks self.old) ≡ None) }
+    {
+        let Some(innermost) = self.nest.innermost() else {
+            return Ok(Err(Refusal::NoOpenList));
+        };
+        if innermost.list.len() >= 65536 {
+            return Ok(Err(Refusal::ListTooLong));
+        }
+        self.nest.append(item)?;
+        Ok(Ok(Answer::Done))
+    }
+
+    /// Appends a rule.
+    pub fn append_rule(&mut self, rule: Rule) -> Result<Reply, AllocError>
+        requires { self.old.over ≡ false }
+        ensures reply { IfOk result (λ reply. reply ≡ reply_to self.old (commands.Rule rule)) }
+        ensures state { OnOk result (self.new ≡ state_after self.old (commands.Rule rule)) }
+        ensures err { OnErr result (self.new ≡ self.old) }
+        ensures admitted { OnErr result (first_of (checks self.old (commands.Rule rule)) ≡ None) }
+    {
+        let Some(innermost) = self.nest.innermost() else {
+            return Ok(Err(Refusal::NoOpenList));
+        };
+        if is_misplaced(innermost.opening.form.kind(), &rule) {
+            return Ok(Err(Refusal::WrongMode));
+        }
+        if innermost.list.len() >= 65536 {
+            return Ok(Err(Refusal::ListTooLong));
+        }
+        self.nest.append_rule(rule)?;
+        Ok(Ok(Answer::Done))
+    }
+
+    /// Appends the box of a register.
+    pub fn append_box(&mut self, taken: &BoxUse) -> Result<Reply, AllocError>
+        requires { self.old.over ≡ false }
+        ensures reply { IfOk result (λ reply. reply ≡ reply_to self.old (commands.Append taken.now)) }
+        ensures state { OnOk result (self.new ≡ state_after self.old (commands.Append taken.now)) }
+        ensures err { OnErr result (self.new ≡ self.old) }
+        ensures admitted { OnErr result (first_of (checks self.old (commands.Append taken.now)) ≡ None) }
+        ensures takes { OnErr result (IsSome (held_in self.old.registers taken.now.register)) }
+    {
+        let Some(innermost) = self.nest.innermost() else {
+            return Ok(Err(Refusal::NoOpenList));
+        };
+        let Some(shown) = self.registers.get(taken.register) else {
+            return Ok(Ok(Answer::Added(0)));
+        };
+        let count = match innermost.room_for_box(shown, &self.params) {
+            Ok(count) => count,
+            Err(refusal) => return Ok(Err(refusal)),
+        };
+        match taken.taking {
+            Taking::Moved => self.move_box(taken.register, taken.shift)?,
+            Taking::Copied => self.copy_box(taken.register, taken.shift)?,
+        }
+        Ok(Ok(Answer::Added(count)))
+    }
+
+    /// Moves the box of a register to the end of the innermost list, where it may stand.
+    fn move_box(&mut self, register: Register, shift: Dimen) -> Result<(), AllocError>
+        requires { first_of (held_checks self.old.params (innermost self.old.nest) (held_in self.old.registers register)) ≡ None }
+        ensures ok { OnOk result (self.new ≡ with_used self.old Taking.Moved register shift (held_in self.old.registers register)) }
+        ensures err { OnErr result (self.new ≡ self.old) }
+    {
+        let Some(shown) = self.registers.take(register) else {
+            return Ok(());
+        };
+        match self.nest.append_box(shown, shift, &self.params) {
+            Ok(()) => Ok(()),
+            Err(shown) => {
+                self.registers.put(register, Some(shown));
+                Err(AllocError)
+            }
+        }
+    }
+
+    /// Puts a copy of the box of a register at the end of the innermost list, where it may stand.
+    fn copy_box(&mut self, register: Register, shift: Dimen) -> Result<(), AllocError>
+        requires { first_of (held_checks self.old.params (innermost self.old.nest) (held_in self.old.registers register)) ≡ None }
+        ensures ok { OnOk result (self.new ≡ with_used self.old Taking.Copied register shift (held_in self.old.registers register)) }
+        ensures err { OnErr result (self.new ≡ self.old) }
+    {
+        let Some(shown) = self.registers.get(register) else {
+            return Ok(());
+        };
+        let copy = shown.copy(*self.files.allocator())?;
+        match self.nest.append_box(copy, shift, &self.params) {
+            Ok(()) => Ok(()),
+            Err(_) => Err(AllocError),
+        }
+    }
+
+    /// Appends the items of the box of a register.
+    pub fn unbox(&mut self, taken: &Unboxing) -> Result<Reply, AllocError>
+        requires { self.old.over ≡ false }
+        ensures reply { IfOk result (λ reply. reply ≡ reply_to self.old (commands.Unbox taken.now)) }
+        ensures state { OnOk result (self.new ≡ state_after self.old (commands.Unbox taken.now)) }
+        ensures err { OnErr result (self.new ≡ self.old) }
+        ensures admitted { OnErr result (first_of (checks self.old (commands.Unbox taken.now)) ≡ None) }
+        ensures takes { OnErr result (IsSome (held_in self.old.registers taken.now.register)) }
+    {
+        let Some(innermost) = self.nest.innermost() else {
+            return Ok(Err(Refusal::NoOpenList));
+        };
+        if is_other(taken.kind, innermost.opening.form.kind()) {
+            return Ok(Err(Refusal::WrongMode));
+        }
+        let Some(shown) = self.registers.get(taken.register) else {
+            return Ok(Ok(Answer::Added(0)));
+        };
+        if is_other(taken.kind, shown.kind) {
+            return Ok(Err(Refusal::WrongKind));
+        }
+        let count = shown.list.len();
+        if innermost.list.len() + count > 65536 {
+            return Ok(Err(Refusal::ListTooLong));
+        }
+        match taken.taking {
+            Taking::Moved => self.move_items(taken.register)?,
+            Taking::Copied => self.copy_items(taken.register)?,
+        }
+        Ok(Ok(Answer::Added(count)))
+    }
+
+    /// Moves the items of the box of a register to the end of the innermost list, where they have room.
+    fn move_items(&mut self, register: Register) -> Result<(), AllocError>
+        requires { length (nodes_of (items_in (innermost self.old.nest))) + length (nodes_in (held_in self.old.registers register)) ≤ most_nodes }
+        ensures ok { OnOk result (self.new ≡ with_unboxed self.old Taking.Moved register (held_in self.old.registers register)) }
+        ensures err { OnErr result (self.new ≡ self.old) }
+    {
+        let Some(mut shown) = self.registers.take(register) else {
+            return Ok(());
+        };
+        match self.nest.append_list(&mut shown.list) {
+            Ok(()) => Ok(()),
+            Err(AllocError) => {
+                self.registers.put(register, Some(shown));
+                Err(AllocError)
+            }
+        }
+    }
+
+    /// Puts copies of the items of the box of a register at the end of the innermost list, where they have room.
+    fn copy_items(&mut self, register: Register) -> Result<(), AllocError>
+        requires { length (nodes_of (items_in (innermost self.old.nest))) + length (nodes_in (held_in self.old.registers register)) ≤ most_nodes }
+        ensures ok { OnOk result (self.new ≡ with_unboxed self.old Taking.Copied register (held_in self.old.registers register)) }
+        ensures err { OnErr result (self.new ≡ self.old) }
+    {
+        let Some(shown) = self.registers.get(register) else {
+            return Ok(());
+        };
+        let mut copy = shown.list.copy(*self.files.allocator())?;
+        self.nest.append_list(&mut copy)
+    }
+
+    /// Takes the last item of the innermost list, if it is a box, into a register, which else becomes void.
+    pub fn last_box(&mut self, register: Register) -> Reply
+        requires { self.old.over ≡ false }
+        ensures reply { result ≡ reply_to self.old (commands.LastBox register) }
+        ensures state { self.new ≡ state_after self.old (commands.LastBox register) }
+    {
+        if self.nest.len() == 0 {
+            return Err(Refusal::NoOpenList);
+        }
+        let last = self.nest.pop_box();
+        self.registers.put(register, last);
+        Ok(Answer::Done)
+    }
+
+    /// Packs the innermost list, and puts the box into its register or behind the list around it.
+    pub fn end(&mut self) -> Result<Reply, AllocError>
+        requires { self.old.over ≡ false }
+        ensures reply { IfOk result (λ reply. reply ≡ reply_to self.old commands.End) }
+        ensures state { OnOk result (self.new ≡ state_after self.old commands.End) }
+        ensures err { OnErr result (self.new ≡ self.old) }
+        ensures admitted { OnErr result (first_of (checks self.old commands.End) ≡ None) }
+        ensures takes { OnErr result (GoesIntoList (innermost self.old.nest)) }
+    {
+        let Some(innermost) = self.nest.innermost() else {
+            return Ok(Err(Refusal::NoOpenList));
+        };
+        let into = innermost.opening.into;
+        let Some(Packed { shown, badness }) = self.nest.pack(&self.params) else {
+            return Ok(Err(Refusal::DimensionTooLarge));
+        };
+        if let Some(refusal) = self.refusal_of(&into, &shown) {
+            self.nest.refill(shown.list);
+            return Ok(Err(refusal));
+        }
+        let sizes = sizes_of(&shown);
+        self.settle(into, shown)?;
+        Ok(Ok(Answer::Packed(sizes, badness)))
+    }
+
+    /// Why the box of the innermost list may not go into its register or behind the list around it, if it may not.
+    fn refusal_of(&self, into: &Option<Register>, shown: &BoxNode) -> Option<Refusal>
+        ensures { result ≡ first_of (place_checks self.now.params (outer self.now.nest) into.now shown.now) }
+    {
+        if shown.depth() > 200 {
+            return Some(Refusal::TooDeep);
+        }
+        if into.is_some() {
+            return None;
+        }
+        let Some(around) = self.nest.around() else {
+            return Some(Refusal::NoOpenList);
+        };
+        around.room_for_box(shown, &self.params).err()
+    }
+
+    /// Takes the innermost list away, and puts its box into a register or behind the list around it. Where memory is refused, the list gets the
+    /// items of the box.
+    fn settle(&mut self, into: Option<Register>, shown: BoxNode) -> Result<(), AllocError>
+        requires { first_of (home_checks self.old.params (outer self.old.nest) into shown) ≡ None }
+        ensures ok { OnOk result (self.new ≡ with_home self.old (outer self.old.nest) into shown) }
+        ensures err { OnErr result (self.new ≡ record self.old { nest = refilled self.old.nest shown.list (innermost self.old.nest) }) }
+        ensures takes { OnErr result (into ≡ None) }
+    {
+        let Some(register) = into else {
+            return match self.nest.close_into(shown, &self.params) {
+                Ok(()) => Ok(()),
+                Err(shown) => {
+                    self.nest.refill(shown.list);
+                    Err(AllocError)
+                }
+            };
+        };
+        self.nest.leave();
+        self.registers.put(register, Some(shown));
+        Ok(())
+    }
+
+    /// Tells what a register holds.
+    pub fn measure(&self, register: Register) -> Reply
+        requires { self.now.over ≡ false }
+        ensures reply { result ≡ reply_to self.now (commands.Measure register) }
+        ensures state { self.now ≡ state_after self.now (commands.Measure register) }
+    {
+        match self.registers.get(register) {
+            None => Ok(Answer::MeasuredVoid),
+            Some(held) => Ok(Answer::Measured(held.kind, sizes_of(held))),
+        }
+    }
+
+    /// Makes a register void.
+    pub fn void(&mut self, register: Register) -> Reply
+        requires { self.old.over ≡ false }
+        ensures reply { result ≡ reply_to self.old (commands.Void register) }
+        ensures state { self.new ≡ state_after self.old (commands.Void register) }
+    {
+        self.registers.put(register, None);
+        Ok(Answer::Done)
+    }
+
+    /// Gives a parameter a value.
+    pub fn set(&mut self, parameter: Parameter) -> Reply
+        requires { self.old.over ≡ false }
+        ensures reply { result ≡ reply_to self.old (commands.Set parameter) }
+        ensures state { self.new ≡ state_after self.old (commands.Set parameter) }
+    {
+        match parameter {
+            Parameter::BoxMaxDepth(depth) => self.params.box_max_depth = depth,
+            Parameter::BaselineSkip(glue) => self.params.baseline_skip = glue,
+            Parameter::LineSkip(glue) => self.params.line_skip = glue,
+            Parameter::LineSkipLimit(limit) => self.params.line_skip_limit = limit,
+        }
+        Ok(Answer::Done)
+    }
+
+    /// The box in a register that may be shipped now, or why it may not.
+    pub fn admitted(&self, register: Register) -> Result<&BoxNode, Refusal>
+        requires { self.now.over ≡ false }
+        ensures shown { IfOk result (λ shown. held_in self.now.registers register ≡ Some shown.now) }
+        ensures ok { OnOk result (first_of (checks self.now (commands.Ship register)) ≡ None) }
+        ensures err { IfErr result (λ refusal. first_of (checks self.now (commands.Ship register)) ≡ Some refusal) }
+    {
+        let Some(shown) = self.registers.get(register) else {
+            return Err(Refusal::VoidBox);
+        };
+        if self.pages >= 1 {
+            return Err(Refusal::TooManyPages);
+        }
+        if self.shipped.saturating_add(shown.count()) > 16_777_216 {
+            return Err(Refusal::TooMuchShipped);
+        }
+        if is_huge(shown, Dimen::ZERO, shown.height) {
+            return Err(Refusal::HugePage);
+        }
+        Ok(shown)
+    }
+
+    /// Counts the page of the box in a register, and makes it void. It answers the number of pages.
+    pub fn count_page(&mut self, register: Register) -> u32
+        requires { first_of (checks self.old (commands.Ship register)) ≡ None }
+        ensures number { result ≡ self.old.pages + 1 }
+        ensures state { self.new ≡ after self.old (commands.Ship register) }
+    {
+        if let Some(shown) = self.registers.get(register) {
+            self.shipped += shown.count();
+        }
+        self.pages += 1;
+        self.registers.put(register, None);
+        self.pages
+    }
+}
+
+/// The sizes of a box.
+fn sizes_of(shown: &BoxNode) -> Sizes
+    ensures { result ≡ sizes_of shown.now }
+{
+    Sizes {
+        width: shown.width,
+        height: shown.height,
+        depth: shown.depth,
+    }
+}
+
+/// Whether two kinds are not the same.
+fn is_other(a: Kind, b: Kind) -> bool
+    ensures { result ≡ is_other a b }
+{
+    a != b
+}
+
+/// Whether a size of a rule is running.
+fn is_running(size: RuleSize) -> bool
+    ensures { result ≡ is_running size }
+{
+    size == RuleSize::Running
+}
+
+/// Whether a rule does not belong in a list of that kind.
+fn is_misplaced(kind: Kind, rule: &Rule) -> bool
+    ensures { result ≡ is_misplaced kind rule.now }
+{
+    match kind {
+        Kind::Horizontal => is_running(rule.width),
+        Kind::Vertical => is_running(rule.height) || is_running(rule.depth),
+    }
+}

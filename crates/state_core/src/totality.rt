@@ -1,0 +1,41 @@
+//! What holds of every step and every run, whatever memory and the device do: laws as the contracts of functions that do nothing.
+
+ghost use Rattle.std.specs.Prelude.{◌≡◌, ◌≢◌, ◌<◌, [], ℕ, true, List, Result, Err};
+ghost use Rattle.std.specs.List.{AllByRecursion};
+ghost use Rattle.command_core.specs.declared.command.Command.{Command};
+ghost use Rattle.command_core.specs.declared.command.Refusal.{Refusal as ARefusal};
+ghost use Rattle.command_core.specs.declared.command.Refusal.TheVariants as refusals;
+ghost use Rattle.command_core.specs.declared.command.Summary.{Summary};
+ghost use Rattle.command_core.specs.Reply.{Reply as AReply};
+ghost use Rattle.nest_core.specs.Machine.{Machine};
+ghost use Rattle.nest_core.specs.Runs.{Steps, Run, Finishes, TakesMemory};
+
+/// A refusal leaves the machine as it was, but for a fault of the device, which stops it.
+pub fn refusals_change_nothing()
+    ensures { (m next : Machine) (n k : ℕ) (command : Command) (refusal : ARefusal) → refusal ≢ refusals.Device → Steps m n command (Err refusal) next k → next ≡ m }
+{}
+
+/// Want of memory is answered only to commands that take memory: never to use, lastbox, measure, void and set, to end only where the box
+/// goes into the enclosing list, and to the commands that take the box of a register only where it holds one.
+pub fn memory_is_wanted_by_few()
+    ensures { (m next : Machine) (n k : ℕ) (command : Command) → Steps m n command (Err refusals.OutOfMemory) next k → TakesMemory m.state command }
+{}
+
+/// A fault of the device is answered only where its count of failures rose.
+pub fn faults_are_counted()
+    ensures { (m next : Machine) (n k : ℕ) (command : Command) → Steps m n command (Err refusals.Device) next k → n < k }
+{}
+
+/// A job that is over answers that to every command and to its end, for good, and stays as it is.
+pub fn over_for_good()
+    ensures runs { (m next : Machine) (n k : ℕ) (commands : List Command) (replies : List AReply) → m.state.over ≡ true → Run m n commands replies next k → AllByRecursion (λ reply. reply ≡ Err refusals.JobOver) replies × (next ≡ m) × (k ≡ n) }
+    ensures finish { (m next : Machine) (n k : ℕ) (result : Result Summary ARefusal) → m.state.over ≡ true → Finishes m n result next k → (result ≡ Err refusals.JobOver) × (next ≡ m) × (k ≡ n) }
+{}
+
+/// The end of a job is refused for want of memory only where there are pages, and a fault of the device is answered only where its count of failures rose.
+/// But for that fault and for success, the machine stays as it was.
+pub fn ends()
+    ensures memory { (m next : Machine) (n k : ℕ) → Finishes m n (Err refusals.OutOfMemory) next k → m.pages ≢ [] }
+    ensures device { (m next : Machine) (n k : ℕ) → Finishes m n (Err refusals.Device) next k → n < k }
+    ensures refused { (m next : Machine) (n k : ℕ) (refusal : ARefusal) → refusal ≢ refusals.Device → Finishes m n (Err refusal) next k → next ≡ m }
+{}
