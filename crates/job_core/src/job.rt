@@ -11,10 +11,10 @@ ghost use Rattle.job_core.specs.Shown.{FilesPages};
 ghost use Rattle.job_core.specs.Closing.{ClosesFile};
 
 use crate::device::{Device, write_all};
-use state_core::kept::Kept;
 use command_core::{Answer, Command, Refusal, Register, Reply, Summary};
 use dvi_write::Writer;
 use node_core::Node;
+use state_core::kept::Kept;
 use std::alloc::{AllocError, Global};
 use std::marker::Model;
 use tfm_core::FontFile;

@@ -9,14 +9,14 @@ ghost use Rattle.nest_core.specs.EmptiedNest.{refilled};
 ghost use Rattle.nest_core.specs.Machine.{first_state, innermost, outer, items_in, held_in, nodes_in, checks, first_of, reply_by, reply_to, state_by, state_after, after, sizes_of, character_checks, item_checks, length_checks, held_checks, home_checks, place_checks, shaped_answer, with_items, with_used, with_unboxed, with_home, GoesIntoList, is_other, is_running, is_misplaced};
 ghost use Rattle.nest_core.specs.Runs.{early_checks};
 
-use nest_core::fonts::read_font;
-use nest_core::nest::Nest;
-use nest_core::registers::Registers;
 use command_core::{
     Answer, BoxUse, Characters, FontLoad, Opening, Parameter, Refusal, Register, Reply, Sizes,
     Taking, Unboxing,
 };
 use dvi_write::{Fonts, LoadedFont};
+use nest_core::fonts::read_font;
+use nest_core::nest::Nest;
+use nest_core::registers::Registers;
 use node_core::{BoxNode, Kind, Node, Params, Rule, RuleSize};
 use pack_core::Packed;
 use scaled_core::Dimen;
