@@ -1,38 +1,27 @@
 //! Boxglue: a typesetter of command scripts with TeX's model of boxes and glue.
 #![tactic(auto)]
 
-mod hexadecimal;
-mod input;
-mod laws;
-mod memory_run;
-mod program;
-#[cfg(test)]
-mod row_tests;
-#[cfg(test)]
-mod rows;
-mod run;
-#[cfg(test)]
-mod samples;
-#[cfg(test)]
-mod tests;
-mod texts;
-
-use std::io;
+use program_core::{answer_input, refuse_memory};
+use std::io::ErrorKind;
 use std::process::ExitCode;
 
 /// The program takes no words: a script from standard input, answers to standard output.
-fn main(rt: HostRuntime) -> io::Result<ExitCode> {
-    let Ok(words) = std::env::args(&rt) else {
-        return Ok(ExitCode::from(program::refuse_memory(&mut rt.stdout())));
+fn main(rt: HostRuntime) -> ExitCode {
+    let words = match std::env::args(&rt) {
+        Ok(words) => words.count(),
+        Err(fault) if fault.kind() == ErrorKind::OutOfMemory => {
+            return ExitCode::from(refuse_memory(&mut rt.stdout()));
+        }
+        Err(_) => return ExitCode::from(2), // a word that is no UTF-8
     };
-    if words.count() > 1 {
-        return Ok(ExitCode::from(2));
+    if words > 1 {
+        return ExitCode::from(2);
     }
-    let status = program::answer_input(
+    let status = answer_input(
         rt.alloc(),
         &mut rt.reader(),
         &mut rt.stdout(),
         &mut rt.stderr(),
     );
-    Ok(ExitCode::from(status))
+    ExitCode::from(status)
 }

@@ -19,4 +19,6 @@ mod samples;
 #[cfg(test)]
 mod scaled_values;
 #[cfg(test)]
+mod scripts;
+#[cfg(test)]
 mod shaped_texts;

@@ -1,0 +1,119 @@
+-- A job that runs the commands of a script and is finished.
+use Rattle.std.proofs.Common.{◌≡◌, ◌⊎◌, inl, inr, ℕ, Bool, true, false, List, [], ◌++◌, length, Option, Some, None, IfSome, Result, Ok, Err, IfOk, OnOk, OnErr, is_err, refl, sym, ◌∙◌, ap, subst, ⊎_elim, append_assoc}
+use Rattle.command_core.specs.declared.command.Command.{Command}
+use Rattle.command_core.specs.declared.command.Refusal.{Refusal}
+use Rattle.command_core.specs.declared.command.Refusal.TheVariants as refusals
+use Rattle.command_core.specs.declared.command.Summary.{Summary}
+use Rattle.command_core.specs.Reply.{Reply}
+use Rattle.tfm_core.specs.NamedBytes.{NamedBytes}
+use Rattle.job_core.specs.Told.{IsFrontOf}
+use Rattle.dvi_write.specs.Draft.{file_of}
+use Rattle.job_core.specs.Shown.{GivesFiles, FilesPages}
+use Rattle.nest_core.specs.Machine.{Machine, first_machine}
+use Rattle.job_core.specs.Jobs.{Seen, Holds, RunsTo, FinishesTo}
+use Rattle.job_core.specs.Held.{Held}
+use Rattle.job_core.proofs.WholeRuns.{files_kept}
+use Rattle.std.specs.Io.KnownBytes.{Appends}
+use Rattle.std.proofs.lemmas.List.{append-nil}
+use Rattle.program_core.specs.Texts.{bad_script_text, hexadecimal_text}
+use Rattle.program_core.specs.Runs.{WasRun, IsUntouched, RanScript, RefusedScript, RanInMemory}
+
+pub on_err : {A E : Type 0} {P : Type 0} (r : Result A E) → is_err r ≡ true → OnErr r P → P
+on_err (Ok x) e h = absurd (cc)
+on_err (Err x) e h = h
+
+pub on_ok : {A E : Type 0} {P : Type 0} (r : Result A E) → is_err r ≡ false → OnOk r P → P
+on_ok (Ok x) e h = h
+on_ok (Err x) e h = absurd (cc)
+
+-- a new job has told nothing
+pub new_untouched : (files : List NamedBytes) (job : Seen) (n k : ℕ) (told : Option (List ℕ)) → Holds job (first_machine files) → job.failed ≡ n → k ≡ job.failed → told ≡ job.told → IsUntouched n k told
+new_untouched files job n k told holds f g t = record {
+  silent = let P : Option (List ℕ) → Type 0 = λ o. IfSome o (λ bytes. bytes ≡ []) in subst P (sym t) (holds.told refl);
+  failed_is = g ∙ f;
+}
+
+size_at : (end : Result Summary Refusal) (told : Option (List ℕ)) (run : Seen) (m : Machine) → Holds run m → IfOk end (λ summary. (m : Machine) → Holds run m → IfSome told (λ bytes. summary.bytes ≡ length bytes)) → IfOk end (λ summary. IfSome told (λ bytes. summary.bytes ≡ length bytes))
+size_at (Ok summary) told run m holds h = h m holds
+size_at (Err refusal) told run m holds h = h
+
+pub was_run : (files : List NamedBytes) (commands : List Command) (replies : List Reply) (end : Result Summary Refusal) (job run done : Seen)
+    → Holds job (first_machine files) → RunsTo job commands replies run → FinishesTo run end done
+    → FilesPages run end done
+    → ((m : Machine) → Holds run m → OnOk end (IfSome done.told (λ bytes. bytes ≡ file_of m.state.fonts m.pages)))
+    → IfOk end (λ summary. (m : Machine) → Holds run m → IfSome done.told (λ bytes. summary.bytes ≡ length bytes))
+    → (end ≡ Err refusals.Device → (m : Machine) → Holds run m → IfSome done.told (λ bytes. IsFrontOf bytes (file_of m.state.fonts m.pages)))
+    → WasRun files job.failed commands replies end done.failed done.told
+was_run files commands replies end job run done holds runs finishes dvi file size front =
+    let middle = runs (first_machine files) holds in
+    let last = finishes middle.0 middle.2 in
+    let same : middle.0.state.files ≡ files = files_kept (first_machine files) job.failed commands replies middle.0 run.failed middle.1 in
+    record {
+      middle = middle.0;
+      failed = run.failed;
+      ran = middle.1;
+      last = last.0;
+      finished = last.1;
+      dvi = λ metrics gives. dvi middle.0 metrics middle.2 (let P : List NamedBytes → Type 0 = λ all. GivesFiles metrics all in subst P (sym same) gives);
+      file = file middle.0 middle.2;
+      size = size_at end done.told run middle.0 middle.2 size;
+      front = λ e. front e middle.0 middle.2;
+      silent = last.2.told;
+    }
+
+-- the same run by other names
+pub same_run : (files : List NamedBytes) (n n' : ℕ) (commands commands' : List Command) (replies replies' : List Reply) (end : Result Summary Refusal) (k k' : ℕ) (told told' : Option (List ℕ))
+    → n' ≡ n → commands' ≡ commands → replies' ≡ replies → k' ≡ k → told' ≡ told → WasRun files n commands replies end k told → WasRun files n' commands' replies' end k' told'
+same_run files n n' commands commands' replies replies' end k k' told told' a b c d e h = rw (a, b, c, d, e) h
+
+-- all replies are those that a run added to none
+pub added_to_none : (old new added : List Reply) → old ≡ [] → new ≡ old ++ added → new ≡ added
+added_to_none old new added e h = h ∙ (rw e refl)
+
+-- one text behind another
+appends_both : (old mid new : Option (List ℕ)) (a b : List ℕ) → Appends old mid a → Appends mid new b → Appends old new (a ++ b)
+appends_both None mid new a b h i = tt
+appends_both (Some xs) None new a b h i = absurd h
+appends_both (Some xs) (Some ys) None a b h i = absurd i
+appends_both (Some xs) (Some ys) (Some zs) a b h i = i ∙ ap (λ (l : List ℕ). l ++ b) h ∙ append_assoc xs a b
+
+no_lines : hexadecimal_text [] ≡ []
+unfolding hexadecimal_text
+no_lines = refl
+
+ran_in_memory : (text : List ℕ) (files : List NamedBytes) (old mid new : Option (List ℕ)) (fine : Bool) (memory : Held) → RanScript text files 0 memory.failures (Some memory.bytes) old mid fine → Appends mid new (hexadecimal_text memory.bytes) → RanInMemory text files old new fine
+ran_in_memory text files old mid new fine memory ran h = record {
+  lines = ran.lines;
+  replies = ran.replies;
+  end = ran.end;
+  failed = memory.failures;
+  bytes = memory.bytes;
+  script = ran.script;
+  run = ran.run;
+  wrote = appends_both old mid new _ _ ran.wrote h;
+  fine_is = ran.fine_is;
+}
+
+refused_in_memory : (text : List ℕ) (old mid new : Option (List ℕ)) (fine : Bool) → RefusedScript text old mid fine → Appends mid new [] → RefusedScript text old new fine
+refused_in_memory text old mid new fine refused h =
+    let P : List ℕ → Type 0 = λ bytes. Appends old new bytes in
+    record {
+      number = refused.number;
+      cause = refused.cause;
+      bad = refused.bad;
+      fine_is = refused.fine_is;
+      wrote = subst P (append-nil (bad_script_text refused.number refused.cause)) (appends_both old mid new _ [] refused.wrote h);
+    }
+
+-- the answers, and then the bytes of the memory
+pub answered_in_memory : (text : List ℕ) (files : List NamedBytes) (old mid new : Option (List ℕ)) (fine : Bool) (start memory : Held) (bytes : List ℕ) → start ≡ record { bytes = []; failures = 0 }
+    → RanScript text files start.failures memory.failures (Some memory.bytes) old mid fine ⊎ (RefusedScript text old mid fine × (memory ≡ start))
+    → bytes ≡ hexadecimal_text memory.bytes → Appends mid new bytes → RanInMemory text files old new fine ⊎ RefusedScript text old new fine
+answered_in_memory text files old mid new fine start memory bytes fresh answers is h = ⊎_elim
+    (λ (ran : RanScript text files start.failures memory.failures (Some memory.bytes) old mid fine).
+    let P : ℕ → Type 0 = λ n. RanScript text files n memory.failures (Some memory.bytes) old mid fine in
+    inl (ran_in_memory text files old mid new fine memory (subst P (ap (λ (m : Held). m.failures) fresh) ran) (rw (← is) h)))
+    (λ (refused : RefusedScript text old mid fine × (memory ≡ start)).
+    let nothing : bytes ≡ [] = is ∙ ap (λ (m : Held). hexadecimal_text m.bytes) refused.1 ∙ ap (λ (m : Held). hexadecimal_text m.bytes) fresh ∙ no_lines in
+    inr (refused_in_memory text old mid new fine refused.0 (rw (← nothing) h)))
+    answers

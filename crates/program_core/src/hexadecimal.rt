@@ -1,0 +1,52 @@
+//! Bytes in hexadecimal digits.
+
+ghost use Rattle.std.specs.Prelude.{◌≡◌, ◌++◌, ◌<◌, OnOk, IfOk};
+ghost use Rattle.program_core.specs.Texts.{hexadecimal_digit, ends_line, byte_text, hexadecimal_text};
+
+use std::alloc::{AllocError, Global};
+
+/// Bytes as two lower case hexadecimal digits each, sixteen on a line.
+#[tactic(auto, unfolding(crate::specs::Texts::hexadecimal_text))]
+pub fn hexadecimal_text(alloc: Global, bytes: &[u8]) -> Result<Vec<u8>, AllocError>
+    ensures { IfOk result (λ text. text.items ≡ hexadecimal_text bytes.now) }
+{
+    let mut text = Vec::new(alloc);
+    for (index, byte) in bytes.iter().enumerate() {
+        push_byte(bytes.len(), index, *byte, &mut text)?;
+    }
+    Ok(text)
+}
+
+/// Appends the digits of a byte, and a line feed where it ends a line.
+#[tactic(auto, unfolding(crate::specs::Texts::byte_text))]
+fn push_byte(count: usize, index: usize, byte: u8, text: &mut Vec<u8>) -> Result<(), AllocError>
+    requires { index < count }
+    ensures { OnOk result (text.new.items ≡ text.old.items ++ byte_text count index byte) }
+{
+    text.push(hexadecimal_digit(byte / 16))?;
+    text.push(hexadecimal_digit(byte % 16))?;
+    if ends_line(count, index) {
+        text.push(b'\n')?;
+    }
+    Ok(())
+}
+
+/// The digit of a number below 16.
+fn hexadecimal_digit(number: u8) -> u8
+    requires { number < 16 }
+    ensures { result ≡ hexadecimal_digit number }
+{
+    if number < 10 {
+        b'0' + number
+    } else {
+        b'a' + (number - 10)
+    }
+}
+
+/// Whether the byte at an index is the sixteenth of its line or the last of so many.
+fn ends_line(count: usize, index: usize) -> bool
+    requires { index < count }
+    ensures { result ≡ ends_line count index }
+{
+    index % 16 == 15 || index + 1 == count
+}

@@ -1,0 +1,116 @@
+//! Running a script.
+
+ghost use Rattle.std.specs.Prelude.{◌≡◌, ◌<◌, ◌+◌, ◌^◌, ◌⊎◌, ◌&&◌, [], map, is_ok, IfOk, IfErr, IfSome};
+ghost use Rattle.std.specs.List.{list_all};
+ghost use Rattle.program_core.specs.Runs.{commands_of, numbers_of, is_accepted, WasRun, RanScript, RefusedScript, IsUntouched, IsLeft, device_of, WritesNothing};
+
+use crate::texts::{answers_text, bad_script_text};
+use job_core::job::Job;
+use job_core::{Command, Device, FontFile, Refusal, Reply, Summary};
+use script_core::{Cause, Line, ScriptFault, read_script};
+use std::alloc::{AllocError, Global};
+use std::io::Write;
+use thiserror::Error;
+
+/// Why the answers of a script are not there. Each hands the device back.
+#[derive(Debug, Drop, Error)]
+pub enum RunFault<D> {
+    /// A growth of memory was refused: nothing was run, or all was run and the job was finished.
+    #[error("a growth of memory was refused")]
+    Memory(D),
+    /// The writer of answers failed.
+    #[error("the answers could not be written")]
+    Answers(D),
+}
+
+/// Runs a script text with these font files on a device, and then writes the texts of its answers. A bad script is refused
+/// whole: it writes its one line and runs nothing. The truth value says that nothing was refused.
+pub fn run_script<D: Device, W: Write>(
+    alloc: Global,
+    text: &[u8],
+    files: &[FontFile],
+    device: D,
+    writer: &mut W,
+) -> Result<(bool, D), RunFault<D>>
+    requires countable { D.failed device + 1 < 2 ^ 64 }
+    requires fresh { IfSome (D.told device) (λ bytes. bytes ≡ []) }
+    ensures answers { IfOk result (λ done.
+        RanScript text.now files.now (D.failed device) (D.failed done.1) (D.told done.1) (W.contents writer.old) (W.contents writer.new) done.0
+        ⊎ (RefusedScript text.now (W.contents writer.old) (W.contents writer.new) done.0 × (done.1 ≡ device))) }
+    ensures left { IfErr result (λ fault.
+        IsLeft fault text.now files.now (D.failed device) (D.failed (device_of fault)) (D.told (device_of fault))) }
+    ensures unwritten { IfErr result (λ fault. WritesNothing fault (W.contents writer.old) (W.contents writer.new)) }
+{
+    let lines = match read_script(alloc, text) {
+        Ok(lines) => lines,
+        Err(ScriptFault::OutOfMemory) => return Err(RunFault::Memory(device)),
+        Err(ScriptFault::BadScript { line, cause }) => {
+            let Ok(answer) = bad_script_text(alloc, line, cause) else {
+                return Err(RunFault::Memory(device));
+            };
+            return match writer.write_all(&answer) {
+                Ok(()) => Ok((false, device)),
+                Err(_) => Err(RunFault::Answers(device)),
+            };
+        }
+    };
+    let Ok((numbers, commands)) = parted(alloc, lines) else {
+        return Err(RunFault::Memory(device));
+    };
+    let (replies, end, device) = match run_commands(alloc, &commands, files, device) {
+        Ok(ran) => ran,
+        Err(device) => return Err(RunFault::Memory(device)),
+    };
+    let Ok(answers) = answers_text(alloc, &numbers, &replies, &end) else {
+        return Err(RunFault::Memory(device));
+    };
+    match writer.write_all(&answers) {
+        Ok(()) => Ok((is_accepted(&replies, &end), device)),
+        Err(_) => Err(RunFault::Answers(device)),
+    }
+}
+
+/// Runs commands on a new job, and finishes it. Where memory is refused nothing was run, and the device comes back.
+fn run_commands<D: Device>(
+    alloc: Global,
+    commands: &[Command],
+    files: &[FontFile],
+    device: D,
+) -> Result<(Vec<Reply>, Result<Summary, Refusal>, D), D>
+    requires countable { D.failed device + 1 < 2 ^ 64 }
+    requires fresh { IfSome (D.told device) (λ bytes. bytes ≡ []) }
+    ensures ran { IfOk result (λ ran. WasRun files.now (D.failed device) commands.now ran.0.items ran.1 (D.failed ran.2) (D.told ran.2)) }
+    ensures none { IfErr result (λ back. IsUntouched (D.failed device) (D.failed back) (D.told back)) }
+{
+    let mut job = Job::new(alloc, device, files)?;
+    let mut replies = Vec::new(alloc);
+    if job.run(commands, &mut replies).is_err() {
+        return Err(job.into_device());
+    }
+    let end = job.finish();
+    Ok((replies, end, job.into_device()))
+}
+
+/// The numbers and the commands of some lines.
+fn parted(alloc: Global, lines: Vec<Line>) -> Result<(Vec<usize>, Vec<Command>), AllocError>
+    ensures numbers { IfOk result (λ parts. parts.0.items ≡ numbers_of lines.items) }
+    ensures commands { IfOk result (λ parts. parts.1.items ≡ commands_of lines.items) }
+{
+    let numbers = lines.iter().map(|line| line.number).collect(alloc)?;
+    let commands = lines.into_iter().map(|line| line.command).collect(alloc)?;
+    Ok((numbers, commands))
+}
+
+/// Whether no command was refused.
+fn all_accepted(replies: &[Reply]) -> bool
+    ensures { result ≡ list_all is_ok replies.now }
+{
+    replies.iter().all(|reply| reply.is_ok())
+}
+
+/// Whether nothing was refused: no command, and not the end.
+fn is_accepted(replies: &[Reply], end: &Result<Summary, Refusal>) -> bool
+    ensures { result ≡ is_accepted replies.now end.now }
+{
+    all_accepted(replies) && end.is_ok()
+}

@@ -1,0 +1,306 @@
+//! The texts of answers.
+
+ghost use Rattle.std.specs.Prelude.{◌≡◌, ◌++◌, ◌+◌, ◌*◌, ◌<◌, decimal, OnOk, OnErr, IfOk};
+ghost use Rattle.program_core.specs.Texts.{refusal_number, refusal_name, bad_file_name, cause_name, kind_name, points_text, sizes_text, refusal_text, answer_text, reply_text, answer_line, summary_text, end_line, answer_lines, answers_text, bad_script_text};
+
+use itoa::Buffer;
+use job_core::{Answer, Refusal, Reply, Sizes, Summary, TfmCause};
+use node_core::Kind;
+use scaled_core::{Dimen, print_dimen};
+use script_core::Cause;
+use std::alloc::{AllocError, Global};
+
+/// The number of a refusal.
+fn refusal_number(refusal: Refusal) -> u32
+    ensures { result ≡ refusal_number refusal }
+{
+    match refusal {
+        Refusal::OutOfMemory => 1,
+        Refusal::DimensionTooLarge => 3,
+        Refusal::NoFont => 4,
+        Refusal::BadTfm(_) => 5,
+        Refusal::SlotTaken => 6,
+        Refusal::NoOpenList => 7,
+        Refusal::WrongMode => 8,
+        Refusal::WrongKind => 9,
+        Refusal::ListTooLong => 10,
+        Refusal::TooDeep => 11,
+        Refusal::HugePage => 14,
+        Refusal::TooManyPages => 15,
+        Refusal::TooMuchShipped => 16,
+        Refusal::ListsOpen => 17,
+        Refusal::Device => 18,
+        Refusal::JobOver => 19,
+        Refusal::VoidBox => 21,
+    }
+}
+
+/// The name of the refusal of a metric file, with its cause.
+fn bad_file_name(cause: TfmCause) -> &'static str
+    ensures { result.now ≡ bad_file_name cause }
+{
+    match cause {
+        TfmCause::TooShort => "BadTfm TooShort",
+        TfmCause::Counts => "BadTfm Counts",
+        TfmCause::DesignSize => "BadTfm DesignSize",
+        TfmCause::CharInfo => "BadTfm CharInfo",
+        TfmCause::FixWord => "BadTfm FixWord",
+        TfmCause::LigKern => "BadTfm LigKern",
+    }
+}
+
+/// The name of a refusal.
+fn refusal_name(refusal: Refusal) -> &'static str
+    ensures { result.now ≡ refusal_name refusal }
+{
+    match refusal {
+        Refusal::OutOfMemory => "OutOfMemory",
+        Refusal::DimensionTooLarge => "DimensionTooLarge",
+        Refusal::NoFont => "NoFont",
+        Refusal::BadTfm(cause) => bad_file_name(cause),
+        Refusal::SlotTaken => "SlotTaken",
+        Refusal::NoOpenList => "NoOpenList",
+        Refusal::WrongMode => "WrongMode",
+        Refusal::WrongKind => "WrongKind",
+        Refusal::ListTooLong => "ListTooLong",
+        Refusal::TooDeep => "TooDeep",
+        Refusal::HugePage => "HugePage",
+        Refusal::TooManyPages => "TooManyPages",
+        Refusal::TooMuchShipped => "TooMuchShipped",
+        Refusal::ListsOpen => "ListsOpen",
+        Refusal::Device => "Device",
+        Refusal::JobOver => "JobOver",
+        Refusal::VoidBox => "VoidBox",
+    }
+}
+
+/// The name of a cause.
+fn cause_name(cause: Cause) -> &'static str
+    ensures { result.now ≡ cause_name cause }
+{
+    match cause {
+        Cause::Byte => "Byte",
+        Cause::Word => "Word",
+        Cause::Missing => "Missing",
+        Cause::Extra => "Extra",
+        Cause::Number => "Number",
+        Cause::Dimension => "Dimension",
+        Cause::Name => "Name",
+    }
+}
+
+/// The word for a kind of box.
+fn kind_name(kind: Kind) -> &'static str
+    ensures { result.now ≡ kind_name kind }
+{
+    match kind {
+        Kind::Horizontal => "hbox",
+        Kind::Vertical => "vbox",
+    }
+}
+
+/// Appends a text, or leaves all as it was.
+fn push_text(text: &str, out: &mut Vec<u8>) -> Result<(), AllocError>
+    ensures ok { OnOk result (out.new.items ≡ out.old.items ++ text.now) }
+    ensures err { OnErr result (out.new.items ≡ out.old.items) }
+{
+    out.extend_from_slice(text.as_bytes())
+}
+
+/// Appends a number in decimal, or leaves all as it was.
+fn push_number(number: u64, out: &mut Vec<u8>) -> Result<(), AllocError>
+    ensures ok { OnOk result (out.new.items ≡ out.old.items ++ decimal number) }
+    ensures err { OnErr result (out.new.items ≡ out.old.items) }
+{
+    let mut buffer = Buffer::new();
+    out.extend_from_slice(buffer.format(number).as_bytes())
+}
+
+/// Appends a dimension in points. Where memory is refused, a front of its text may have been appended, here and below.
+#[tactic(auto, unfolding(crate::specs::Texts::points_text))]
+fn push_points(dimension: Dimen, out: &mut Vec<u8>) -> Result<(), AllocError>
+    ensures { OnOk result (out.new.items ≡ out.old.items ++ points_text dimension) }
+{
+    print_dimen(dimension, out)?;
+    push_text("pt", out)
+}
+
+/// Appends width, height and depth.
+#[tactic(auto, unfolding(crate::specs::Texts::sizes_text))]
+fn push_sizes(sizes: &Sizes, out: &mut Vec<u8>) -> Result<(), AllocError>
+    ensures { OnOk result (out.new.items ≡ out.old.items ++ sizes_text sizes.now) }
+{
+    push_points(sizes.width, out)?;
+    push_text(" ", out)?;
+    push_points(sizes.height, out)?;
+    push_text(" ", out)?;
+    push_points(sizes.depth, out)
+}
+
+/// Appends a refusal with its number and name.
+#[tactic(auto, unfolding(crate::specs::Texts::refusal_text))]
+fn push_refusal(refusal: Refusal, out: &mut Vec<u8>) -> Result<(), AllocError>
+    ensures { OnOk result (out.new.items ≡ out.old.items ++ refusal_text refusal) }
+{
+    push_text("refused ", out)?;
+    push_number(u64::from(refusal_number(refusal)), out)?;
+    push_text(" ", out)?;
+    push_text(refusal_name(refusal), out)
+}
+
+/// Appends what was packed: sizes and badness.
+#[tactic(auto, unfolding(crate::specs::Texts::answer_text))]
+fn push_packed(sizes: &Sizes, badness: u32, out: &mut Vec<u8>) -> Result<(), AllocError>
+    ensures { OnOk result (out.new.items ≡ out.old.items ++ answer_text (Answer.Packed sizes.now badness)) }
+{
+    push_text("packed ", out)?;
+    push_sizes(sizes, out)?;
+    push_text(" badness ", out)?;
+    push_number(u64::from(badness), out)
+}
+
+/// Appends what was measured: a kind and sizes.
+#[tactic(auto, unfolding(crate::specs::Texts::answer_text))]
+fn push_measured(kind: Kind, sizes: &Sizes, out: &mut Vec<u8>) -> Result<(), AllocError>
+    ensures { OnOk result (out.new.items ≡ out.old.items ++ answer_text (Answer.Measured kind sizes.now)) }
+{
+    push_text("measured ", out)?;
+    push_text(kind_name(kind), out)?;
+    push_text(" ", out)?;
+    push_sizes(sizes, out)
+}
+
+/// Appends how many items characters added, and how many of them are missing.
+#[tactic(auto, unfolding(crate::specs::Texts::answer_text))]
+fn push_shaped(items: usize, missing: usize, out: &mut Vec<u8>) -> Result<(), AllocError>
+    ensures { OnOk result (out.new.items ≡ out.old.items ++ answer_text (Answer.Shaped items missing)) }
+{
+    push_text("added ", out)?;
+    push_number(items as u64, out)?;
+    push_text(" missing ", out)?;
+    push_number(missing as u64, out)
+}
+
+/// Appends how many items were added.
+#[tactic(auto, unfolding(crate::specs::Texts::answer_text))]
+fn push_added(items: usize, out: &mut Vec<u8>) -> Result<(), AllocError>
+    ensures { OnOk result (out.new.items ≡ out.old.items ++ answer_text (Answer.Added items)) }
+{
+    push_text("added ", out)?;
+    push_number(items as u64, out)
+}
+
+/// Appends the number of pages that were shipped.
+#[tactic(auto, unfolding(crate::specs::Texts::answer_text))]
+fn push_shipped(pages: u32, out: &mut Vec<u8>) -> Result<(), AllocError>
+    ensures { OnOk result (out.new.items ≡ out.old.items ++ answer_text (Answer.Shipped pages)) }
+{
+    push_text("shipped ", out)?;
+    push_number(u64::from(pages), out)
+}
+
+/// Appends an answer.
+#[tactic(auto, unfolding(crate::specs::Texts::answer_text))]
+fn push_answer(answer: &Answer, out: &mut Vec<u8>) -> Result<(), AllocError>
+    ensures { OnOk result (out.new.items ≡ out.old.items ++ answer_text answer.now) }
+{
+    match answer {
+        Answer::Done => push_text("ok", out),
+        Answer::Packed(sizes, badness) => push_packed(sizes, *badness, out),
+        Answer::Measured(kind, sizes) => push_measured(*kind, sizes, out),
+        Answer::MeasuredVoid => push_text("measured void", out),
+        Answer::Shaped { items, missing } => push_shaped(*items, *missing, out),
+        Answer::Added(items) => push_added(*items, out),
+        Answer::Shipped(pages) => push_shipped(*pages, out),
+    }
+}
+
+/// Appends what a job answered.
+fn push_reply(reply: &Reply, out: &mut Vec<u8>) -> Result<(), AllocError>
+    ensures { OnOk result (out.new.items ≡ out.old.items ++ reply_text reply.now) }
+{
+    match reply {
+        Ok(answer) => push_answer(answer, out),
+        Err(refusal) => push_refusal(*refusal, out),
+    }
+}
+
+/// Appends the line that answers the line of a script with this number.
+#[tactic(auto, unfolding(crate::specs::Texts::answer_line))]
+fn push_answer_line(number: usize, reply: &Reply, out: &mut Vec<u8>) -> Result<(), AllocError>
+    ensures { OnOk result (out.new.items ≡ out.old.items ++ answer_line number reply.now) }
+{
+    push_number(number as u64, out)?;
+    push_text(": ", out)?;
+    push_reply(reply, out)?;
+    push_text("\n", out)
+}
+
+/// Appends what a job said when it was finished.
+fn push_summary(end: &Result<Summary, Refusal>, out: &mut Vec<u8>) -> Result<(), AllocError>
+    ensures { OnOk result (out.new.items ≡ out.old.items ++ summary_text end.now) }
+{
+    match end {
+        Ok(summary) => {
+            push_text("pages ", out)?;
+            push_number(u64::from(summary.pages), out)?;
+            push_text(" bytes ", out)?;
+            push_number(summary.bytes, out)
+        }
+        Err(refusal) => push_refusal(*refusal, out),
+    }
+}
+
+/// Appends the last line.
+#[tactic(auto, unfolding(crate::specs::Texts::end_line))]
+fn push_end_line(end: &Result<Summary, Refusal>, out: &mut Vec<u8>) -> Result<(), AllocError>
+    ensures { OnOk result (out.new.items ≡ out.old.items ++ end_line end.now) }
+{
+    push_text("end: ", out)?;
+    push_summary(end, out)?;
+    push_text("\n", out)
+}
+
+/// Appends the lines that answer the lines of a script with these numbers.
+fn push_answer_lines(
+    numbers: &[usize],
+    replies: &[Reply],
+    out: &mut Vec<u8>,
+) -> Result<(), AllocError>
+    ensures { OnOk result (out.new.items ≡ out.old.items ++ answer_lines numbers.now replies.now) }
+{
+    for (number, reply) in numbers.iter().zip(replies) {
+        push_answer_line(*number, reply, out)?;
+    }
+    Ok(())
+}
+
+/// The texts of a script that was run: an answer for each line that says a command, by its number, and the end.
+#[tactic(auto, unfolding(crate::specs::Texts::answers_text))]
+pub fn answers_text(
+    alloc: Global,
+    numbers: &[usize],
+    replies: &[Reply],
+    end: &Result<Summary, Refusal>,
+) -> Result<Vec<u8>, AllocError>
+    ensures { IfOk result (λ text. text.items ≡ answers_text numbers.now replies.now end.now) }
+{
+    let mut text = Vec::new(alloc);
+    push_answer_lines(numbers, replies, &mut text)?;
+    push_end_line(end, &mut text)?;
+    Ok(text)
+}
+
+/// The text for a bad script: the number of its first bad line, and the cause.
+#[tactic(auto, unfolding(crate::specs::Texts::bad_script_text))]
+pub fn bad_script_text(alloc: Global, number: usize, cause: Cause) -> Result<Vec<u8>, AllocError>
+    ensures { IfOk result (λ text. text.items ≡ bad_script_text number cause) }
+{
+    let mut text = Vec::new(alloc);
+    push_text("refused 2 BadScript ", &mut text)?;
+    push_number(number as u64, &mut text)?;
+    push_text(" ", &mut text)?;
+    push_text(cause_name(cause), &mut text)?;
+    push_text("\n", &mut text)?;
+    Ok(text)
+}

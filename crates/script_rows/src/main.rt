@@ -1,0 +1,25 @@
+//! Named cases of scripts: the program reads a file of cases from its standard input, runs each, and prints what is written for it.
+//!
+//! The form of the file is in docs/FORMATS.md. In short: `file` and `bytes` give a font file, `case` begins a case, `font`, `device`, `each`
+//! and `last` say how its script is run and shown, and `|` or `\` stand in front of a line of the script.
+#![tactic(auto)]
+
+mod cases;
+mod devices;
+mod reading;
+
+use anyhow::Result;
+use reading::read_cases;
+use std::io::Read;
+
+/// Prints what is written for each case of the file on standard input; an Err names the first line that breaks the form.
+fn main(rt: HostRuntime) -> Result<()> {
+    let mut text = Vec::new(rt.alloc());
+    rt.reader().read_to_end(&mut text)?;
+    let cases = read_cases(rt.alloc(), &text)?;
+    let mut output = rt.stdout();
+    for case in &cases {
+        case.run(rt.alloc(), &mut output)?;
+    }
+    Ok(())
+}

@@ -1,0 +1,131 @@
+//! Reading a case file.
+
+use crate::cases::{Case, Piece};
+use crate::devices::DeviceKind;
+use anyhow::{Context, Result, bail, ensure};
+use program_core::{FontFile, FontName};
+use std::alloc::Global;
+use std::str;
+
+/// A font file that cases may be handed.
+#[derive(Drop)]
+struct StoredFile<'a> {
+    name: &'a str,
+    bytes: Vec<u8>,
+}
+
+/// A byte of a font file that is changed.
+#[derive(Clone, Copy)]
+struct Change {
+    place: usize,
+    byte: u8,
+}
+
+/// What was read of a case file.
+#[derive(Drop)]
+struct Reading<'a> {
+    alloc: Global,
+    files: Vec<StoredFile<'a>>,
+    cases: Vec<Case<'a>>,
+}
+
+/// The cases of a case file; an Err names the first line that breaks its form.
+pub fn read_cases(alloc: Global, text: &[u8]) -> Result<Vec<Case<'_>>> {
+    let mut reading = Reading {
+        alloc,
+        files: Vec::new(alloc),
+        cases: Vec::new(alloc),
+    };
+    for (number, line) in (1u64..).zip(text.split(|byte| *byte == b'\n')) {
+        if let Err(fault) = reading.take(line) {
+            bail!("line {number}: {fault}");
+        }
+    }
+    ensure!(!reading.is_in_repeat(), "the end: a repeat is open");
+    Ok(reading.cases)
+}
+
+impl<'a> Reading<'a> {
+    /// Takes a line.
+    fn take(&mut self, line: &'a [u8]) -> Result<()> {
+        let piece = match line {
+            [] | [b'%', ..] => return Ok(()),
+            [b'|', text @ ..] => Piece { text, ends: true },
+            [b'\\', text @ ..] => Piece { text, ends: false },
+            _ => {
+                let words: Vec<&str> = str::from_utf8(line)?.split(' ').collect(self.alloc)?;
+                return self.take_words(&words);
+            }
+        };
+        self.case()?.pieces.push(piece)?;
+        Ok(())
+    }
+
+    /// Takes the words of a line.
+    fn take_words(&mut self, words: &[&'a str]) -> Result<()> {
+        match *words {
+            ["file", name] => self.begin_file(name)?,
+            ["bytes", digits] => self.extend_file(digits)?,
+            ["case", name] => self.begin_case(name)?,
+            ["font", name] => self.hand_in(name, None)?,
+            ["font", name, place, byte] => {
+                let place = place.parse()?;
+                let byte = u8::from_str_radix(byte, 16)?;
+                self.hand_in(name, Some(Change { place, byte }))?;
+            }
+            ["device", "memory"] => self.case()?.device = DeviceKind::Memory,
+            ["device", "broken"] => self.case()?.device = DeviceKind::Broken,
+            ["each"] => self.case()?.each = true,
+            ["last", count] => self.case()?.last = Some(count.parse()?),
+            ["repeat", count] => self.case()?.begin_repeat(count.parse()?)?,
+            ["again"] => self.case()?.end_repeat()?,
+            _ => bail!("the form has no such line"),
+        }
+        Ok(())
+    }
+
+    /// Begins a font file without bytes.
+    fn begin_file(&mut self, name: &'a str) -> Result<()> {
+        let bytes = Vec::new(self.alloc);
+        self.files.push(StoredFile { name, bytes })?;
+        Ok(())
+    }
+
+    /// Puts bytes behind those of the last font file.
+    fn extend_file(&mut self, digits: &str) -> Result<()> {
+        let file = self.files.last_mut().context("no file has begun")?;
+        file.bytes
+            .extend_from_slice(&hex::decode(self.alloc, digits)?)?;
+        Ok(())
+    }
+
+    /// Hands the case the first font file of that name, as it is or changed.
+    fn hand_in(&mut self, name: &str, change: Option<Change>) -> Result<()> {
+        let file = self.files.iter().find(|file| file.name == name);
+        let mut bytes = file.context("no file has this name")?.bytes.clone()?;
+        if let Some(Change { place, byte }) = change {
+            *bytes.get_mut(place).context("the file ends before")? = byte;
+        }
+        let name = FontName::try_new(name.as_bytes().to_vec(self.alloc)?);
+        let file = FontFile::new(name.context("no name of a font")?, bytes);
+        self.case()?.fonts.push(file)?;
+        Ok(())
+    }
+
+    /// Begins a case.
+    fn begin_case(&mut self, name: &'a str) -> Result<()> {
+        ensure!(!self.is_in_repeat(), "a repeat is open");
+        self.cases.push(Case::new(self.alloc, name))?;
+        Ok(())
+    }
+
+    /// Whether a repeat of the last case is open.
+    fn is_in_repeat(&self) -> bool {
+        self.cases.last().is_some_and(|case| case.repeat.is_some())
+    }
+
+    /// The case that is read.
+    fn case(&mut self) -> Result<&mut Case<'a>> {
+        self.cases.last_mut().context("no case has begun")
+    }
+}
