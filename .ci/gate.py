@@ -88,13 +88,14 @@ def gate(room):
     """Runs the gate in an empty folder, and returns how many items passed, failed, and were skipped."""
     tree = f"{room}/tree"
     copy_tree(tree)
+    os.mkdir(f"{room}/edits")
     names, skipped = texts.untried(tree), 0
     for name in texts.crates(tree):
         folder = f"{tree}/crates/{name}/must-fail"
         if name not in names:
             skipped += len(texts.edits(tree, name))
         if os.path.isdir(folder):
-            shutil.move(folder, f"{room}/{name}")
+            shutil.move(folder, f"{room}/edits/{name}")
     say(f"edits to try: those of {' '.join(names) or 'no crate'}; {skipped} were refused on the same text before")
     passed, failed = step("formats, handles, proofs, tests, programs", prove, tree)
     if not failed:
@@ -103,7 +104,7 @@ def gate(room):
     if failed:
         return passed, failed, 0
     for name in names:
-        shutil.move(f"{room}/{name}", f"{tree}/crates/{name}/must-fail")
+        shutil.move(f"{room}/edits/{name}", f"{tree}/crates/{name}/must-fail")
     if names:
         more, failed = step("edits", try_edits, tree, names)
         passed += more

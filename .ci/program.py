@@ -27,20 +27,21 @@ def read(case, name, otherwise=b""):
 
 def run(case, program, root):
     """Runs the program on a case, and returns its status and what it printed to standard output and to standard error."""
-    words = [program, *read(case, "words").removesuffix(b"\n").split(b"\n")]
+    text = read(case, "words")
+    words = [program, *(text.removesuffix(b"\n").split(b"\n") if text else [])]
     how = {"stderr": subprocess.PIPE, "env": {"LANG": "C.UTF-8"}, "timeout": LIMIT}
     if os.path.exists(f"{case}/closed-stdin"):
         how["preexec_fn"] = lambda: os.close(0)
     elif os.path.exists(f"{case}/stdin-from"):
-        how["input"] = read(root, read(case, "stdin-from").decode().strip(), None)
+        with open(f"{root}/{read(case, 'stdin-from').decode().strip()}", "rb") as it:
+            how["input"] = it.read()
     else:
         how["input"] = read(case, "stdin")
-    output = "/dev/full" if os.path.exists(f"{case}/full-stdout") else None
-    with tempfile.TemporaryDirectory(prefix="gate-case-") as room, open(output or os.devnull, "wb") as full:
+    with tempfile.TemporaryDirectory(prefix="gate-case-") as room, open("/dev/full", "wb") as full:
         if os.path.isdir(f"{case}/files"):
             shutil.copytree(f"{case}/files", room, dirs_exist_ok=True)
-        words = words if os.path.exists(f"{case}/words") else [program]
-        ran = subprocess.run(words, cwd=room, stdout=full if output else subprocess.PIPE, **how)
+        output = full if os.path.exists(f"{case}/full-stdout") else subprocess.PIPE
+        ran = subprocess.run(words, cwd=room, stdout=output, **how)
     status = ran.returncode if ran.returncode >= 0 else 128 - ran.returncode
     return status, ran.stdout or b"", ran.stderr
 
@@ -52,12 +53,15 @@ def differs(case, program, root):
         return f"a case has no file {others[0]}"
     try:
         found = run(case, program, root)
-    except subprocess.TimeoutExpired:
-        return f"it had not ended after {LIMIT} seconds"
+    except (OSError, subprocess.TimeoutExpired) as error:
+        return f"{error}"
     wanted = int(read(case, "status", b"0")), read(case, "stdout"), read(case, "stderr")
-    for what, is_so, must_be in zip(("the status", "standard output", "standard error"), found, wanted):
+    if found[0] != wanted[0]:
+        return f"the status is {found[0]} and not {wanted[0]}; standard error: {found[2][:300]!r}"
+    for what, is_so, must_be in zip(("standard output", "standard error"), found[1:], wanted[1:]):
         if is_so != must_be:
-            return f"{what} is {is_so!r:.300} and not {must_be!r:.300}"
+            at = len(os.path.commonprefix([is_so, must_be]))
+            return f"{what} from byte {at} on is {is_so[at:at + 100]!r} and not {must_be[at:at + 100]!r}"
     return None
 
 
