@@ -79,8 +79,15 @@ def try_edits(tree, names):
     rt = edits.load_rt()
     lanes = max(1, min(4, rt.processors(), rt.free() // 3_000_000_000))
     size = lambda it: len(texts.edits(tree, it)) * sum(map(os.path.getsize, texts.files(f"{tree}/crates/{it}/src")))
+
+    def one(name):
+        refused, failed = edits.try_edits(tree, name, say, is_built=True)
+        if not failed:
+            say(f"the line of {name} in .ci/refused: {name} {texts.sum_of(tree, name)}")
+        return refused, failed
+
     with ThreadPoolExecutor(lanes) as pool:
-        found = [*pool.map(lambda it: edits.try_edits(tree, it, say, is_built=True), sorted(names, key=size, reverse=True))]
+        found = [*pool.map(one, sorted(names, key=size, reverse=True))]
     return sum(it for it, _ in found), sum(it for _, it in found)
 
 
