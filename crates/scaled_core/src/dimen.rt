@@ -48,7 +48,7 @@ impl Dimen {
 
     /// The dimension of that many scaled points, or None exactly where the number does not fit.
     #[tactic(auto, using(crate::proofs::Fitting::dimensions))]
-    pub fn try_new(value: i128) -> Option<Dimen>
+    pub fn try_new(value: i64) -> Option<Dimen>
         ensures fits { SomeIff result (Fits value) value }
         ensures value { result ≡ dimension_of value }
     {
@@ -63,6 +63,16 @@ impl Dimen {
         })
     }
 
+    /// The dimension of that many scaled points, which fit.
+    pub fn new(value: i64) -> Dimen
+        requires { Fits value }
+        ensures { result ≡ value }
+    {
+        Dimen {
+            value: value as i32,
+        }
+    }
+
     /// The number of scaled points, from -(2^30 - 1) to 2^30 - 1.
     pub fn get(self) -> i32
         ensures value { result ≡ self }
@@ -75,13 +85,13 @@ impl Dimen {
     pub fn checked_add(self, other: Dimen) -> Option<Dimen>
         ensures { result ≡ dimension_of (self +ℤ other) }
     {
-        Dimen::try_new(i128::from(self.get()) + i128::from(other.get()))
+        Dimen::try_new(i64::from(self.get()) + i64::from(other.get()))
     }
 
     /// How much more a dimension is than another, or None exactly where that does not fit.
     pub fn checked_sub(self, other: Dimen) -> Option<Dimen>
         ensures { result ≡ dimension_of (self -ℤ other) }
     {
-        Dimen::try_new(i128::from(self.get()) - i128::from(other.get()))
+        Dimen::try_new(i64::from(self.get()) - i64::from(other.get()))
     }
 }

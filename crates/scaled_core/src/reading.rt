@@ -166,6 +166,6 @@ fn fitting(negative: bool, size: u64) -> Result<Dimen, DimenFault>
     requires { size < 2 ^ 62 }
     ensures { result ≡ fitted (Some (with_minus negative size)) }
 {
-    let size = i128::from(size);
+    let size = size as i64;
     Dimen::try_new(if negative { -size } else { size }).ok_or(DimenFault::TooLarge)
 }
