@@ -58,9 +58,7 @@ impl Dimen {
         if value > 1_073_741_823 {
             return None;
         }
-        Some(Dimen {
-            value: value as i32,
-        })
+        Some(Dimen::new(value))
     }
 
     /// The dimension of that many scaled points, which fit.
