@@ -17,7 +17,7 @@ use Rattle.job_core.proofs.WholeRuns.{files_kept}
 use Rattle.std.specs.Io.KnownBytes.{Keeps}
 use Rattle.std.proofs.lemmas.List.{append-nil}
 use Rattle.program_core.specs.Texts.{hexadecimal_text}
-use Rattle.program_core.specs.Runs.{WasRun, WasRunWhole, IsUntouched, IsAnswered, RanScript, RefusedScript, RanInMemory, IsAnsweredInMemory, LacksMemory}
+use Rattle.program_core.specs.Runs.{commands_of, WasRun, IsUntouched, IsAnswered, RanScript, RefusedScript, RanInMemory, IsAnsweredInMemory, LacksMemory}
 
 pub on_err : {A E : Type 0} {P : Type 0} (r : Result A E) → is_err r ≡ true → OnErr r P → P
 on_err (Ok x) e h = absurd (cc)
@@ -91,15 +91,22 @@ answered_in_memory text files start memory answer whole fine fresh answered is =
     inr (record { number = refused.0.number; cause = refused.0.cause; bad = refused.0.bad; answer_is = same ∙ refused.0.answer_is; fine_is = refused.0.fine_is }))
     answered
 
--- where memory is refused on a device in memory, it was new before
-pub left_in_memory : (text : List ℕ) (files : List NamedBytes) (start memory : Held) (old : Option (List ℕ)) → start ≡ record { bytes = []; failures = 0 }
-    → IsUntouched start.failures memory.failures (Some memory.bytes) ⊎ WasRunWhole text files start.failures memory.failures (Some memory.bytes)
-    → Keeps old old → LacksMemory text files 0 memory.failures (Some memory.bytes) old old
-left_in_memory text files start memory old fresh left keeps =
-    let P : ℕ → Type 0 = λ n. IsUntouched n memory.failures (Some memory.bytes) ⊎ WasRunWhole text files n memory.failures (Some memory.bytes) in
-    record { device = subst P (ap (λ (m : Held). m.failures) fresh) left; silent = keeps }
-
--- known bytes stay as they are
-pub keeps_same : (old : Option (List ℕ)) → Keeps old old
-keeps_same None = tt
-keeps_same (Some bytes) = refl
+-- where memory is refused behind the run, the whole script was run, or it is bad and the device is new
+pub lacking_in_memory : (text : List ℕ) (files : List NamedBytes) (start memory : Held) (answer : List ℕ) (fine : Bool) (old : Option (List ℕ)) → start ≡ record { bytes = []; failures = 0 }
+    → IsAnswered {D = Held} (λ m. Some m.bytes) (λ m. m.failures) text files start memory answer fine
+    → LacksMemory text files 0 memory.failures (Some memory.bytes) old old
+lacking_in_memory text files start memory answer fine old fresh answered =
+    record {
+      device = ⊎_elim
+          (λ (ran : RanScript text files start.failures memory.failures (Some memory.bytes) answer fine).
+          let P : ℕ → Type 0 = λ n. WasRun files n (commands_of ran.lines) ran.replies ran.end memory.failures (Some memory.bytes) in
+          inr (ran.lines, ran.replies, ran.end, ran.script, subst P (ap (λ (m : Held). m.failures) fresh) ran.run))
+          (λ (refused : RefusedScript text answer fine × (memory ≡ start)).
+          inl (record { silent = ap (λ (m : Held). m.bytes) (refused.1 ∙ fresh); failed_is = ap (λ (m : Held). m.failures) (refused.1 ∙ fresh) }))
+          answered;
+      silent = keeps_same old;
+    }
+  where
+    keeps_same : (old : Option (List ℕ)) → Keeps old old
+    keeps_same None = tt
+    keeps_same (Some bytes) = refl

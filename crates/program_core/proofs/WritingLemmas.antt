@@ -1,5 +1,5 @@
 -- Known bytes that grow by one piece after the other.
-use Rattle.std.proofs.Common.{◌≡◌, ℕ, ◌+◌, ◌<◌, ◌≤◌, List, [], ◌++◌, length, take, drop, refl, ap, sym, ◌∙◌, append_assoc}
+use Rattle.std.proofs.Common.{◌≡◌, ℕ, ◌+◌, ◌<◌, ◌≤◌, List, [], ◌++◌, length, take, drop, ◌⊎◌, inl, inr, Result, Ok, Err, OnOk, OnErr, ap, subst, sym, ◌∙◌, append_assoc}
 use Rattle.std.specs.Prelude.{Option, Some, None}
 use Rattle.std.proofs.Math.Seq.{take-add}
 use Rattle.std.specs.Io.KnownBytes.{Appends, Keeps}
@@ -27,10 +27,22 @@ keeps_appends (Some xs) None new a h i = absurd h
 keeps_appends (Some xs) (Some ys) None a h i = absurd i
 keeps_appends (Some xs) (Some ys) (Some zs) a h i = i ∙ ap (λ (l : List ℕ). l ++ a) h
 
--- no text at all
-pub appends_none : (old : Option (List ℕ)) → Appends old old []
-appends_none None = tt
-appends_none (Some xs) = sym (append-nil xs)
+-- known bytes that stay are those of before, and no more
+pub keeps_none : (old new : Option (List ℕ)) → Keeps old new → Appends old new []
+keeps_none None new h = tt
+keeps_none (Some xs) None h = absurd h
+keeps_none (Some xs) (Some ys) h = h ∙ sym (append-nil xs)
+
+pub ruleset nothing_written = (keeps_none)
+
+-- a text, and then no more
+pub appends_no_more : (old mid new : Option (List ℕ)) (a : List ℕ) → Appends old mid a → Appends mid new [] → Appends old new a
+appends_no_more old mid new a h i = let P : List ℕ → Type 0 = λ xs. Appends old new xs in subst P (append-nil a) (appends_both old mid new a [] h i)
+
+-- a line was written, or a beginning of it
+pub either_way : {A E : Type 0} {P Q : Type 0} (r : Result A E) → OnOk r P → OnErr r Q → P ⊎ Q
+either_way (Ok x) p q = inl p
+either_way (Err e) p q = inr q
 
 -- n bytes more of a text, from place s on
 pub appends_more : (old mid new : Option (List ℕ)) (xs : List ℕ) (s n : ℕ) → Appends old mid (take s xs) → Appends mid new (take n (drop s xs)) → Appends old new (take (s + n) xs)

@@ -5,7 +5,7 @@ ghost use Rattle.std.specs.Io.KnownBytes.{Appends};
 ghost use Rattle.program_core.specs.Runs.{IsAnswerInMemory, IsLeftInMemory};
 
 use crate::hexadecimal::push_hexadecimal;
-use crate::run::{Answered, RunFault, answered};
+use crate::run::{Answered, RunFault, answer_script};
 use crate::writing::{Unwritten, write_text};
 use job_core::{FontFile, Memory};
 use std::alloc::Global;
@@ -24,7 +24,7 @@ pub fn run_memory<W: Write>(
         × Appends (W.contents writer.old) (W.contents writer.new) answer) }
     ensures left { IfErr result (λ fault. IsLeftInMemory text.now files.now fault (W.contents writer.old) (W.contents writer.new)) }
 {
-    let done = match answered(alloc, text, files, Memory::new(alloc)) {
+    let done = match answer_script(alloc, text, files, Memory::new(alloc)) {
         Ok(done) => done,
         Err(memory) => return Err(RunFault::Memory(memory)),
     };

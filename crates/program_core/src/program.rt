@@ -40,7 +40,7 @@ pub fn answer_input<R: Read, W: Write, E: Write>(
     ensures memory { result ≡ Err ProgramFault.OutOfMemory → Appends (W.contents output.old) (W.contents output.new) memory_line }
     ensures unwritten { result ≡ Err ProgramFault.Unwritten → WritesFront (W.contents output.old) (W.contents output.new) memory_line
         ⊎ ((answer : List ℕ) × (fine : Bool) × AnswersInput (R.remaining input.old) (R.remaining input.new) answer fine
-            × WritesFront (W.contents output.old) (W.contents output.new) answer) }
+        × WritesFront (W.contents output.old) (W.contents output.new) answer) }
     ensures unreadable { result ≡ Err ProgramFault.Unreadable → Keeps (W.contents output.old) (W.contents output.new) }
     ensures told { result ≡ Err ProgramFault.Unreadable → Appends (E.contents errors.old) (E.contents errors.new) unreadable_line
         ⊎ WritesFront (E.contents errors.old) (E.contents errors.new) unreadable_line }

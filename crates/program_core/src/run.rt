@@ -7,8 +7,7 @@ ghost use Rattle.program_core.specs.Runs.{commands_of, numbers_of, is_accepted, 
 
 use crate::texts::{answers_text, bad_script_text};
 use crate::writing::{Unwritten, write_text};
-use job_core::Job;
-use job_core::{Command, Device, FontFile, Refusal, Reply, Summary};
+use job_core::{Command, Device, FontFile, Job, Refusal, Reply, Summary};
 use script_core::{Cause, Line, ScriptFault, read_script};
 use std::alloc::{AllocError, Global};
 use std::io::Write;
@@ -35,7 +34,7 @@ pub struct Answered<D> {
 
 /// Runs a script text with these font files on a device, and makes the text of its answers, which nobody has seen yet. A bad script is refused
 /// whole: its text is its one line, and nothing is run. Where memory is refused the device comes back: nothing was run, or the whole script was.
-pub fn answered<D: Device>(
+pub fn answer_script<D: Device>(
     alloc: Global,
     text: &[u8],
     files: &[FontFile],
@@ -91,7 +90,7 @@ pub fn run_script<D: Device, W: Write>(
         × Appends (W.contents writer.old) (W.contents writer.new) answer) }
     ensures left { IfErr result (λ fault. IsLeft D.told D.failed text.now files.now device fault (W.contents writer.old) (W.contents writer.new)) }
 {
-    let done = match answered(alloc, text, files, device) {
+    let done = match answer_script(alloc, text, files, device) {
         Ok(done) => done,
         Err(device) => return Err(RunFault::Memory(device)),
     };

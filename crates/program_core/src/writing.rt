@@ -1,6 +1,6 @@
 //! Writing a text.
 
-ghost use Rattle.std.specs.Prelude.{OnOk, OnErr};
+ghost use Rattle.std.specs.Prelude.{◌≤◌, [], length, take, IfOk, OnOk, OnErr};
 ghost use Rattle.std.specs.Io.KnownBytes.{Appends};
 ghost use Rattle.program_core.specs.Runs.{WritesFront};
 
@@ -11,6 +11,25 @@ use thiserror::Error;
 #[derive(Clone, Copy, Debug, PartialEq, Eq, Error)]
 #[error("the text could not be written")]
 pub struct Unwritten;
+
+/// Hands a writer a piece of a text, and tells how many bytes of it were taken: none only where the call was interrupted.
+#[tactic(auto, using(crate::proofs::WritingLemmas::nothing_written))]
+fn write_piece<W: Write>(writer: &mut W, piece: &[u8]) -> Result<usize, Unwritten>
+    ensures within { IfOk result (λ count. count ≤ length piece.now) }
+    ensures taken { IfOk result (λ count. Appends (W.contents writer.old) (W.contents writer.new) (take count piece.now)) }
+    ensures none { OnErr result (Appends (W.contents writer.old) (W.contents writer.new) []) }
+{
+    match writer.write(piece) {
+        Ok(0) => Err(Unwritten),
+        Ok(count) => Ok(count),
+        Err(fault) => {
+            if fault.kind() == ErrorKind::Interrupted {
+                return Ok(0);
+            }
+            Err(Unwritten)
+        }
+    }
+}
 
 /// Writes a text, piece after piece. Where the writer fails or takes nothing, it has taken a beginning of the text, once, that is not all of it;
 /// after a call that was interrupted it is asked again.
@@ -23,15 +42,7 @@ pub fn write_text<W: Write>(writer: &mut W, text: &[u8]) -> Result<(), Unwritten
         if written >= text.len() {
             return Ok(());
         }
-        match writer.write(&text[written..]) {
-            Ok(0) => return Err(Unwritten),
-            Ok(count) => written += count,
-            Err(fault) => {
-                if fault.kind() != ErrorKind::Interrupted {
-                    return Err(Unwritten);
-                }
-            }
-        }
+        written += write_piece(writer, &text[written..])?;
     }
     if written < text.len() {
         return Err(Unwritten);
