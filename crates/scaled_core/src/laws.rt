@@ -43,7 +43,7 @@ pub fn printed_is_shortest()
         length (shortest_fraction f) ≤ length digits }
 {}
 
-/// The printed digits behind the point are those of TeX's own rule (TeX: The Program, part 7, print_scaled).
+/// The printed digits behind the point are those of TeX's own rule (TeX: The Program, part 7, §103, print_scaled).
 pub fn print_scaled_digits()
     ensures { (f : ℕ) → f < 65536 → print_scaled 5 (10 * f + 5) 10 ≡ shortest_fraction f }
 {}
