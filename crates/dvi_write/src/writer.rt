@@ -365,6 +365,7 @@ impl Writer {
         requires room { length self.old.bytes < 2 ^ 31 }
         requires deep { self.old.deep < 2 ^ 16 }
         ensures ok { OnOk result (self.new.bytes ≡ whole fonts.now self.old pages) }
+        ensures rest { OnOk result (self.new ≡ record self.old { bytes = whole fonts.now self.old pages }) }
         ensures err { OnErr result (self.new ≡ self.old) }
     {
         let held = self.bytes.len();

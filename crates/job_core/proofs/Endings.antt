@@ -1,7 +1,7 @@
 -- The end of a job and of its machine.
-use Rattle.std.proofs.Common.{◌≡◌, ◌≢◌, ℕ, ◌<◌, Bool, true, false, List, [], ◌∷◌, ◌++◌, length, take, Option, Some, None, Ok, Err, refl, ap, sym, ◌∙◌}
+use Rattle.std.proofs.Common.{◌≡◌, ◌≢◌, ℕ, ◌<◌, Bool, true, false, List, [], ◌∷◌, ◌++◌, length, take, Option, Some, None, Ok, Err, refl, ap, subst, sym, ◌∙◌}
 use Rattle.std.specs.Prelude.{◌==◌, not, IfSome}
-use Rattle.std.proofs.lemmas.List.{nil_from_length}
+use Rattle.std.proofs.lemmas.List.{append-nil, nil_from_length}
 use Rattle.command_core.specs.declared.command.Refusal.TheVariants.{OutOfMemory, Device, JobOver, ListsOpen}
 use Rattle.command_core.specs.declared.command.Summary.{Summary}
 use Rattle.job_core.specs.Told.{grown, GrowsByFront, IsFrontOf}
@@ -111,6 +111,28 @@ pub fronted :
     → GrowsByFront old.told new.told (whole old.state.fonts old.draft old.state.pages) → IfSome new.told (λ bytes. IsFrontOf bytes (file_of m.state.fonts m.pages))
 fronted old new m holds running some grows =
     told_front old.told new.told grows.0 (whole old.state.fonts old.draft old.state.pages) (file_of m.state.fonts m.pages) (empty_told old m holds running) grows.2 (whole-is old m holds running some)
+
+-- What the device tells has grown by the file of the machine's pages, where it took all,
+pub sent_all :
+    (old : Seen) (new : Option (List ℕ)) (m : Machine) → Holds old m → old.state.over ≡ false → old.state.pages ≢ 0
+    → new ≡ grown old.told (whole old.state.fonts old.draft old.state.pages) → new ≡ grown old.told (file_of m.state.fonts m.pages)
+sent_all old new m holds running some told = told ∙ ap (grown old.told) (whole-is old m holds running some)
+
+-- by a beginning of it, where it did not,
+pub sent_part :
+    (old : Seen) (new : Option (List ℕ)) (m : Machine) → Holds old m → old.state.over ≡ false → old.state.pages ≢ 0
+    → GrowsByFront old.told new (whole old.state.fonts old.draft old.state.pages) → GrowsByFront old.told new (file_of m.state.fonts m.pages)
+sent_part old new m holds running some grows = subst (GrowsByFront old.told new) (whole-is old m holds running some) grows
+
+grown_none : (told : Option (List ℕ)) → told ≡ grown told []
+grown_none None = refl
+grown_none (Some bytes) = ap Some (sym (append-nil bytes))
+
+-- and by nothing without pages.
+pub sent_none : (old : Seen) (m : Machine) → Holds old m → old.state.pages ≡ 0 → old.told ≡ grown old.told (file_of m.state.fonts m.pages)
+sent_none old m holds none =
+    let no_pages : m.pages ≡ [] = nil_from_length m.pages (sym holds.count ∙ (sym (ap (λ (s : State). s.pages) holds.state) ∙ none)) in
+    rw no_pages (grown_none old.told)
 
 -- The number of bytes that the device took.
 pub sized :

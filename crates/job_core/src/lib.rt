@@ -2,8 +2,8 @@
 //! no other crate for them. The programs stand above it.
 #![tactic(auto)]
 
-pub mod device;
-pub mod job;
+mod device;
+mod device_job;
 pub mod laws;
 
 pub use command_core::{
@@ -11,6 +11,7 @@ pub use command_core::{
     Reply, Sizes, Summary, Taking, Unboxing,
 };
 pub use device::{Device, DeviceFault, Memory};
+pub use device_job::Job;
 pub use pack_core::Target;
 pub use state_core::totality;
 pub use tfm_core::{FontFile, FontName, FontSize, TfmCause};

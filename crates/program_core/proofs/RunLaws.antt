@@ -1,5 +1,5 @@
 -- A job that runs the commands of a script and is finished.
-use Rattle.std.proofs.Common.{◌≡◌, ◌⊎◌, inl, inr, ℕ, Bool, true, false, List, [], ◌++◌, length, Option, Some, None, IfSome, Result, Ok, Err, IfOk, OnOk, OnErr, is_err, refl, sym, ◌∙◌, ap, subst, ⊎_elim, append_assoc}
+use Rattle.std.proofs.Common.{◌≡◌, ◌⊎◌, inl, inr, ℕ, Bool, true, false, List, [], ◌++◌, length, Option, Some, None, IfSome, Result, Ok, Err, IfOk, OnOk, OnErr, is_err, refl, sym, ◌∙◌, ap, subst, ⊎_elim}
 use Rattle.command_core.specs.declared.command.Command.{Command}
 use Rattle.command_core.specs.declared.command.Refusal.{Refusal}
 use Rattle.command_core.specs.declared.command.Refusal.TheVariants as refusals
@@ -9,14 +9,15 @@ use Rattle.tfm_core.specs.NamedBytes.{NamedBytes}
 use Rattle.job_core.specs.Told.{IsFrontOf}
 use Rattle.dvi_write.specs.Draft.{file_of}
 use Rattle.job_core.specs.Shown.{GivesFiles, FilesPages}
+use Rattle.job_core.specs.Closing.{ClosesFile}
 use Rattle.nest_core.specs.Machine.{Machine, first_machine}
 use Rattle.job_core.specs.Jobs.{Seen, Holds, RunsTo, FinishesTo}
 use Rattle.job_core.specs.Held.{Held}
 use Rattle.job_core.proofs.WholeRuns.{files_kept}
-use Rattle.std.specs.Io.KnownBytes.{Appends}
+use Rattle.std.specs.Io.KnownBytes.{Keeps}
 use Rattle.std.proofs.lemmas.List.{append-nil}
-use Rattle.program_core.specs.Texts.{bad_script_text, hexadecimal_text}
-use Rattle.program_core.specs.Runs.{WasRun, IsUntouched, RanScript, RefusedScript, RanInMemory}
+use Rattle.program_core.specs.Texts.{hexadecimal_text}
+use Rattle.program_core.specs.Runs.{WasRun, WasRunWhole, IsUntouched, IsAnswered, RanScript, RefusedScript, RanInMemory, IsAnsweredInMemory, LacksMemory}
 
 pub on_err : {A E : Type 0} {P : Type 0} (r : Result A E) → is_err r ≡ true → OnErr r P → P
 on_err (Ok x) e h = absurd (cc)
@@ -42,9 +43,10 @@ pub was_run : (files : List NamedBytes) (commands : List Command) (replies : Lis
     → FilesPages run end done
     → ((m : Machine) → Holds run m → OnOk end (IfSome done.told (λ bytes. bytes ≡ file_of m.state.fonts m.pages)))
     → IfOk end (λ summary. (m : Machine) → Holds run m → IfSome done.told (λ bytes. summary.bytes ≡ length bytes))
+    → ClosesFile run end done
     → (end ≡ Err refusals.Device → (m : Machine) → Holds run m → IfSome done.told (λ bytes. IsFrontOf bytes (file_of m.state.fonts m.pages)))
     → WasRun files job.failed commands replies end done.failed done.told
-was_run files commands replies end job run done holds runs finishes dvi file size front =
+was_run files commands replies end job run done holds runs finishes dvi file size closed front =
     let middle = runs (first_machine files) holds in
     let last = finishes middle.0 middle.2 in
     let same : middle.0.state.files ≡ files = files_kept (first_machine files) job.failed commands replies middle.0 run.failed middle.1 in
@@ -57,6 +59,7 @@ was_run files commands replies end job run done holds runs finishes dvi file siz
       dvi = λ metrics gives. dvi middle.0 metrics middle.2 (let P : List NamedBytes → Type 0 = λ all. GivesFiles metrics all in subst P (sym same) gives);
       file = file middle.0 middle.2;
       size = size_at end done.told run middle.0 middle.2 size;
+      closed = closed middle.0 middle.2;
       front = λ e. front e middle.0 middle.2;
       silent = last.2.told;
     }
@@ -70,50 +73,33 @@ same_run files n n' commands commands' replies replies' end k k' told told' a b 
 pub added_to_none : (old new added : List Reply) → old ≡ [] → new ≡ old ++ added → new ≡ added
 added_to_none old new added e h = h ∙ (rw e refl)
 
--- one text behind another
-appends_both : (old mid new : Option (List ℕ)) (a b : List ℕ) → Appends old mid a → Appends mid new b → Appends old new (a ++ b)
-appends_both None mid new a b h i = tt
-appends_both (Some xs) None new a b h i = absurd h
-appends_both (Some xs) (Some ys) None a b h i = absurd i
-appends_both (Some xs) (Some ys) (Some zs) a b h i = i ∙ ap (λ (l : List ℕ). l ++ b) h ∙ append_assoc xs a b
-
 no_lines : hexadecimal_text [] ≡ []
 unfolding hexadecimal_text
 no_lines = refl
 
-ran_in_memory : (text : List ℕ) (files : List NamedBytes) (old mid new : Option (List ℕ)) (fine : Bool) (memory : Held) → RanScript text files 0 memory.failures (Some memory.bytes) old mid fine → Appends mid new (hexadecimal_text memory.bytes) → RanInMemory text files old new fine
-ran_in_memory text files old mid new fine memory ran h = record {
-  lines = ran.lines;
-  replies = ran.replies;
-  end = ran.end;
-  failed = memory.failures;
-  bytes = memory.bytes;
-  script = ran.script;
-  run = ran.run;
-  wrote = appends_both old mid new _ _ ran.wrote h;
-  fine_is = ran.fine_is;
-}
-
-refused_in_memory : (text : List ℕ) (old mid new : Option (List ℕ)) (fine : Bool) → RefusedScript text old mid fine → Appends mid new [] → RefusedScript text old new fine
-refused_in_memory text old mid new fine refused h =
-    let P : List ℕ → Type 0 = λ bytes. Appends old new bytes in
-    record {
-      number = refused.number;
-      cause = refused.cause;
-      bad = refused.bad;
-      fine_is = refused.fine_is;
-      wrote = subst P (append-nil (bad_script_text refused.number refused.cause)) (appends_both old mid new _ [] refused.wrote h);
-    }
-
 -- the answers, and then the bytes of the memory
-pub answered_in_memory : (text : List ℕ) (files : List NamedBytes) (old mid new : Option (List ℕ)) (fine : Bool) (start memory : Held) (bytes : List ℕ) → start ≡ record { bytes = []; failures = 0 }
-    → RanScript text files start.failures memory.failures (Some memory.bytes) old mid fine ⊎ (RefusedScript text old mid fine × (memory ≡ start))
-    → bytes ≡ hexadecimal_text memory.bytes → Appends mid new bytes → RanInMemory text files old new fine ⊎ RefusedScript text old new fine
-answered_in_memory text files old mid new fine start memory bytes fresh answers is h = ⊎_elim
-    (λ (ran : RanScript text files start.failures memory.failures (Some memory.bytes) old mid fine).
-    let P : ℕ → Type 0 = λ n. RanScript text files n memory.failures (Some memory.bytes) old mid fine in
-    inl (ran_in_memory text files old mid new fine memory (subst P (ap (λ (m : Held). m.failures) fresh) ran) (rw (← is) h)))
-    (λ (refused : RefusedScript text old mid fine × (memory ≡ start)).
-    let nothing : bytes ≡ [] = is ∙ ap (λ (m : Held). hexadecimal_text m.bytes) refused.1 ∙ ap (λ (m : Held). hexadecimal_text m.bytes) fresh ∙ no_lines in
-    inr (refused_in_memory text old mid new fine refused.0 (rw (← nothing) h)))
-    answers
+pub answered_in_memory : (text : List ℕ) (files : List NamedBytes) (start memory : Held) (answer whole : List ℕ) (fine : Bool) → start ≡ record { bytes = []; failures = 0 }
+    → IsAnswered {D = Held} (λ m. Some m.bytes) (λ m. m.failures) text files start memory answer fine
+    → whole ≡ answer ++ hexadecimal_text memory.bytes → IsAnsweredInMemory text files memory whole fine
+answered_in_memory text files start memory answer whole fine fresh answered is = ⊎_elim
+    (λ (ran : RanScript text files start.failures memory.failures (Some memory.bytes) answer fine).
+    let P : ℕ → Type 0 = λ n. RanScript text files n memory.failures (Some memory.bytes) answer fine in
+    inl (record { answers = answer; ran = subst P (ap (λ (m : Held). m.failures) fresh) ran; answer_is = is }))
+    (λ (refused : RefusedScript text answer fine × (memory ≡ start)).
+    let nothing : hexadecimal_text memory.bytes ≡ [] = ap (λ (m : Held). hexadecimal_text m.bytes) (refused.1 ∙ fresh) ∙ no_lines in
+    let same : whole ≡ answer = is ∙ (ap (λ (more : List ℕ). answer ++ more) nothing ∙ append-nil answer) in
+    inr (record { number = refused.0.number; cause = refused.0.cause; bad = refused.0.bad; answer_is = same ∙ refused.0.answer_is; fine_is = refused.0.fine_is }))
+    answered
+
+-- where memory is refused on a device in memory, it was new before
+pub left_in_memory : (text : List ℕ) (files : List NamedBytes) (start memory : Held) (old : Option (List ℕ)) → start ≡ record { bytes = []; failures = 0 }
+    → IsUntouched start.failures memory.failures (Some memory.bytes) ⊎ WasRunWhole text files start.failures memory.failures (Some memory.bytes)
+    → Keeps old old → LacksMemory text files 0 memory.failures (Some memory.bytes) old old
+left_in_memory text files start memory old fresh left keeps =
+    let P : ℕ → Type 0 = λ n. IsUntouched n memory.failures (Some memory.bytes) ⊎ WasRunWhole text files n memory.failures (Some memory.bytes) in
+    record { device = subst P (ap (λ (m : Held). m.failures) fresh) left; silent = keeps }
+
+-- known bytes stay as they are
+pub keeps_same : (old : Option (List ℕ)) → Keeps old old
+keeps_same None = tt
+keeps_same (Some bytes) = refl

@@ -1,7 +1,7 @@
 -- Runs of a script and what is written of them (own).
-use Rattle.std.specs.Prelude.{◌≡◌, ◌⊎◌, ◌&&◌, ◌++◌, ℕ, Bool, false, List, [], length, map, Option, Some, IfSome, Result, Err, IfOk, OnOk, is_ok}
+use Rattle.std.specs.Prelude.{◌≡◌, ◌≢◌, ◌<◌, ◌⊎◌, ◌&&◌, ◌++◌, ℕ, Bool, false, List, [], length, map, take, codes, Option, Some, IfSome, Result, Err, IfOk, OnOk, is_ok}
 use Rattle.std.specs.List.{list_all}
-use Rattle.std.specs.Io.KnownBytes.{Appends, Keeps}
+use Rattle.std.specs.Io.KnownBytes.{Appends, Keeps, Consumes, IsAtEnd}
 use Rattle.command_core.specs.declared.command.Command.{Command}
 use Rattle.command_core.specs.declared.command.Refusal.{Refusal}
 use Rattle.command_core.specs.declared.command.Refusal.TheVariants as refusals
@@ -12,6 +12,8 @@ use Rattle.job_core.specs.Told.{IsFrontOf}
 use Rattle.dvi_ops.specs.Fonts.{Metrics}
 use Rattle.dvi_write.specs.Draft.{file_of}
 use Rattle.job_core.specs.Shown.{GivesFiles, IsFileOf}
+use Rattle.job_core.specs.Closing.{IsClosedFor}
+use Rattle.job_core.specs.Held.{Held}
 use Rattle.nest_core.specs.Machine.{Machine, first_machine}
 use Rattle.nest_core.specs.Runs.{Run, Finishes}
 use Rattle.script_core.specs.declared.cause.Cause.{Cause}
@@ -35,7 +37,8 @@ is_accepted replies end = list_all is_ok replies && is_ok end
 
 -- a new job with these font files took these commands and gave these replies, and was then finished with this end; its device's
 -- count of failures went from n to k, and the device then told these bytes: a DVI file of exactly the machine's pages, by the definition
--- of DVI files alone and by the widths that the font files give, which is the one that this writer lays out; or the front of it that it took
+-- of DVI files alone and by the widths that the font files give, which is the one that this writer lays out, and which ends as a file of these pages
+-- does; or the front of it that it took
 pub record WasRun (files : List NamedBytes) (n : ℕ) (commands : List Command) (replies : List Reply) (end : Result Summary Refusal) (k : ℕ) (told : Option (List ℕ)) : Type 0 where
   pub middle : Machine
   pub failed : ℕ
@@ -45,26 +48,32 @@ pub record WasRun (files : List NamedBytes) (n : ℕ) (commands : List Command) 
   pub dvi : (metrics : Metrics) → GivesFiles metrics files → OnOk end (IfSome told (λ bytes. IsFileOf metrics bytes middle.pages))
   pub file : OnOk end (IfSome told (λ bytes. bytes ≡ file_of middle.state.fonts middle.pages))
   pub size : IfOk end (λ summary. IfSome told (λ bytes. summary.bytes ≡ length bytes))
+  pub closed : middle.pages ≢ [] → OnOk end (IfSome told (λ bytes. IsClosedFor middle.state.fonts bytes middle.pages))
   pub front : end ≡ Err refusals.Device → IfSome told (λ bytes. IsFrontOf bytes (file_of middle.state.fonts middle.pages))
   pub silent : last.state.over ≡ false → IfSome told (λ bytes. bytes ≡ [])
 
--- a script was run, and its answers were written
-pub record RanScript (text : List ℕ) (files : List NamedBytes) (n k : ℕ) (told old new : Option (List ℕ)) (fine : Bool) : Type 0 where
+-- a script was run, and this is the text of its answers
+pub record RanScript (text : List ℕ) (files : List NamedBytes) (n k : ℕ) (told : Option (List ℕ)) (answer : List ℕ) (fine : Bool) : Type 0 where
   pub lines : List Line
   pub replies : List Reply
   pub end : Result Summary Refusal
   pub script : IsScript text lines
   pub run : WasRun files n (commands_of lines) replies end k told
-  pub wrote : Appends old new (answers_text (numbers_of lines) replies end)
+  pub answer_is : answer ≡ answers_text (numbers_of lines) replies end
   pub fine_is : fine ≡ is_accepted replies end
 
--- a bad script was refused, and its one line was written
-pub record RefusedScript (text : List ℕ) (old new : Option (List ℕ)) (fine : Bool) : Type 0 where
+-- a script is bad, and this is its one line
+pub record RefusedScript (text answer : List ℕ) (fine : Bool) : Type 0 where
   pub number : ℕ
   pub cause : Cause
   pub bad : IsFirstBad text number cause
-  pub wrote : Appends old new (bad_script_text number cause)
+  pub answer_is : answer ≡ bad_script_text number cause
   pub fine_is : fine ≡ false
+
+-- what a script is answered with, and the device then: its answers, and the device on which it was run; or its one line, and the device as it was
+abbrev pub IsAnswered : {D : Type 0} → (told : D → Option (List ℕ)) → (failed : D → ℕ) → List ℕ → List NamedBytes → (device back : D) → (answer : List ℕ) → (fine : Bool) → Type 0
+IsAnswered told failed text files device back answer fine =
+    RanScript text files (failed device) (failed back) (told back) answer fine ⊎ (RefusedScript text answer fine × (back ≡ device))
 
 -- a device that has told no byte and failed as often as before: nothing was run on it
 pub record IsUntouched (n k : ℕ) (told : Option (List ℕ)) : Type 0 where
@@ -76,34 +85,53 @@ abbrev pub WasRunWhole : List ℕ → List NamedBytes → (n k : ℕ) → Option
 WasRunWhole text files n k told =
     (lines : List Line) × (replies : List Reply) × (end : Result Summary Refusal) × IsScript text lines × WasRun files n (commands_of lines) replies end k told
 
--- the text is no script
-abbrev pub IsBad : List ℕ → Type 0
-IsBad text = (number : ℕ) × (cause : Cause) × IsFirstBad text number cause
+-- what was written is a beginning of a text that is not all of it
+abbrev pub WritesFront : (old new : Option (List ℕ)) → List ℕ → Type 0
+WritesFront old new text = (count : ℕ) × (count < length text) × Appends old new (take count text)
 
--- the device that a fault hands back
-abbrev pub device_of : {D : Type 0} → RunFault D → D
-device_of (Memory device) = device
-device_of (Answers device) = device
+-- where memory was refused, nothing was run, or the whole script was; and nothing was written
+pub record LacksMemory (text : List ℕ) (files : List NamedBytes) (n k : ℕ) (told old new : Option (List ℕ)) : Type 0 where
+  pub device : IsUntouched n k told ⊎ WasRunWhole text files n k told
+  pub silent : Keeps old new
 
--- what is known of the device that a fault hands back: nothing was run on it, or the whole script was; where only the answers are
--- missing, nothing was run only if the text is no script
-abbrev pub IsLeft : {D : Type 0} → RunFault D → List ℕ → List NamedBytes → (n k : ℕ) → Option (List ℕ) → Type 0
-IsLeft (Memory device) text files n k told = IsUntouched n k told ⊎ WasRunWhole text files n k told
-IsLeft (Answers device) text files n k told = (IsUntouched n k told × IsBad text) ⊎ WasRunWhole text files n k told
+-- what is known where a run failed: memory was refused; or the writer took a beginning of the answer, once, that is not all of it
+abbrev pub IsLeft : {D : Type 0} → (told : D → Option (List ℕ)) → (failed : D → ℕ) → List ℕ → List NamedBytes → (device : D) → RunFault D → (old new : Option (List ℕ)) → Type 0
+IsLeft told failed text files device (Memory back) old new = LacksMemory text files (failed device) (failed back) (told back) old new
+IsLeft told failed text files device (Answers back) old new =
+    (answer : List ℕ) × (fine : Bool) × IsAnswered told failed text files device back answer fine × WritesFront old new answer
 
--- where memory was refused, nothing was written
-abbrev pub WritesNothing : {D : Type 0} → RunFault D → Option (List ℕ) → Option (List ℕ) → Type 0
-WritesNothing (Memory device) old new = Keeps old new
-WritesNothing (Answers device) old new = Unit {0}
+-- a script was run on a device in memory: this text has its answers, and then the bytes that the device took
+pub record RanInMemory (text : List ℕ) (files : List NamedBytes) (failed : ℕ) (bytes answer : List ℕ) (fine : Bool) : Type 0 where
+  pub answers : List ℕ
+  pub ran : RanScript text files 0 failed (Some bytes) answers fine
+  pub answer_is : answer ≡ answers ++ hexadecimal_text bytes
 
--- a script was run on a device in memory, and its answers and then the bytes that the device took were written
-pub record RanInMemory (text : List ℕ) (files : List NamedBytes) (old new : Option (List ℕ)) (fine : Bool) : Type 0 where
-  pub lines : List Line
-  pub replies : List Reply
-  pub end : Result Summary Refusal
-  pub failed : ℕ
-  pub bytes : List ℕ
-  pub script : IsScript text lines
-  pub run : WasRun files 0 (commands_of lines) replies end failed (Some bytes)
-  pub wrote : Appends old new (answers_text (numbers_of lines) replies end ++ hexadecimal_text bytes)
-  pub fine_is : fine ≡ is_accepted replies end
+-- what a script is answered with where its device is in memory; a bad one with its one line
+abbrev pub IsAnsweredInMemory : List ℕ → List NamedBytes → Held → (answer : List ℕ) → (fine : Bool) → Type 0
+IsAnsweredInMemory text files memory answer fine = RanInMemory text files memory.failures memory.bytes answer fine ⊎ RefusedScript text answer fine
+
+-- the same, whatever device in memory it was
+abbrev pub IsAnswerInMemory : List ℕ → List NamedBytes → (answer : List ℕ) → (fine : Bool) → Type 0
+IsAnswerInMemory text files answer fine = (memory : Held) × IsAnsweredInMemory text files memory answer fine
+
+-- what is known where such a run failed
+abbrev pub IsLeftInMemory : List ℕ → List NamedBytes → RunFault Held → (old new : Option (List ℕ)) → Type 0
+IsLeftInMemory text files (Memory memory) old new = LacksMemory text files 0 memory.failures (Some memory.bytes) old new
+IsLeftInMemory text files (Answers memory) old new =
+    (answer : List ℕ) × (fine : Bool) × IsAnsweredInMemory text files memory answer fine × WritesFront old new answer
+
+-- the line that says that memory was refused, and the one that says that the input could not be read
+abbrev pub memory_line : List ℕ
+memory_line = codes "refused 1 OutOfMemory\n"
+
+abbrev pub unreadable_line : List ℕ
+unreadable_line = codes "boxglue: cannot read -\n"
+
+-- an input was read to its end, whole: it was this text
+pub record WasRead (old new : Option (List ℕ)) (text : List ℕ) : Type 0 where
+  pub all : Consumes old new text
+  pub end : IsAtEnd new
+
+-- an input was read to its end, run without font files on a device in memory, and answered with this text
+abbrev pub AnswersInput : (old new : Option (List ℕ)) → (answer : List ℕ) → (fine : Bool) → Type 0
+AnswersInput old new answer fine = (text : List ℕ) × WasRead old new text × IsAnswerInMemory text [] answer fine

@@ -1,20 +1,19 @@
 //! Bytes in hexadecimal digits.
 
-ghost use Rattle.std.specs.Prelude.{◌≡◌, ◌++◌, ◌<◌, OnOk, IfOk};
+ghost use Rattle.std.specs.Prelude.{◌≡◌, ◌++◌, ◌<◌, OnOk};
 ghost use Rattle.program_core.specs.Texts.{hexadecimal_digit, ends_line, byte_text, hexadecimal_text};
 
-use std::alloc::{AllocError, Global};
+use std::alloc::AllocError;
 
-/// Bytes as two lower case hexadecimal digits each, sixteen on a line.
+/// Appends bytes as two lower case hexadecimal digits each, sixteen on a line; or a front of that text.
 #[tactic(auto, unfolding(crate::specs::Texts::hexadecimal_text))]
-pub fn hexadecimal_text(alloc: Global, bytes: &[u8]) -> Result<Vec<u8>, AllocError>
-    ensures { IfOk result (λ text. text.items ≡ hexadecimal_text bytes.now) }
+pub fn push_hexadecimal(bytes: &[u8], text: &mut Vec<u8>) -> Result<(), AllocError>
+    ensures { OnOk result (text.new.items ≡ text.old.items ++ hexadecimal_text bytes.now) }
 {
-    let mut text = Vec::new(alloc);
     for (index, byte) in bytes.iter().enumerate() {
-        push_byte(bytes.len(), index, *byte, &mut text)?;
+        push_byte(bytes.len(), index, *byte, text)?;
     }
-    Ok(text)
+    Ok(())
 }
 
 /// Appends the digits of a byte, and a line feed where it ends a line.

@@ -10,9 +10,10 @@ mod memory_run;
 mod program;
 mod run;
 mod texts;
+mod writing;
 
 pub use job_core::{Device, DeviceFault, FontFile, FontName, Memory};
 pub use memory_run::run_memory;
-pub use program::{answer_input, refuse_memory};
+pub use program::{ProgramFault, answer_input, refuse_memory};
 pub use run::{RunFault, run_script};
 pub use script_core::{Cause, Line, ScriptFault, read_script};

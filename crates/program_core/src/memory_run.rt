@@ -1,33 +1,43 @@
 //! Running a script on a device in memory.
 
-ghost use Rattle.std.specs.Prelude.{◌⊎◌, Some, IfOk, IfErr};
-ghost use Rattle.program_core.specs.Runs.{RanInMemory, RefusedScript, IsLeft, device_of};
+ghost use Rattle.std.specs.Prelude.{◌≡◌, ◌++◌, ℕ, List, IfOk, IfErr};
+ghost use Rattle.std.specs.Io.KnownBytes.{Appends};
+ghost use Rattle.program_core.specs.Runs.{IsAnswerInMemory, IsLeftInMemory};
 
-use crate::hexadecimal::hexadecimal_text;
-use crate::run::{RunFault, run_script};
+use crate::hexadecimal::push_hexadecimal;
+use crate::run::{Answered, RunFault, answered};
+use crate::writing::{Unwritten, write_text};
 use job_core::{FontFile, Memory};
 use std::alloc::Global;
 use std::io::Write;
 
 /// Runs a script text with these font files on a device in memory, and writes the texts of its answers and then the bytes that the
-/// device took, in lines of sixteen. A bad script writes its one line alone. The truth value says that nothing was refused.
+/// device took, in lines of sixteen. A bad script writes its one line alone. The truth value says that nothing was refused. All texts are made before
+/// the first of them is written.
 pub fn run_memory<W: Write>(
     alloc: Global,
     text: &[u8],
     files: &[FontFile],
     writer: &mut W,
 ) -> Result<bool, RunFault<Memory>>
-    ensures answers { IfOk result (λ fine.
-        RanInMemory text.now files.now (W.contents writer.old) (W.contents writer.new) fine
-        ⊎ RefusedScript text.now (W.contents writer.old) (W.contents writer.new) fine) }
-    ensures left { IfErr result (λ fault. IsLeft fault text.now files.now 0 (device_of fault).failures (Some (device_of fault).bytes)) }
+    ensures answers { IfOk result (λ fine. (answer : List ℕ) × IsAnswerInMemory text.now files.now answer fine
+        × Appends (W.contents writer.old) (W.contents writer.new) answer) }
+    ensures left { IfErr result (λ fault. IsLeftInMemory text.now files.now fault (W.contents writer.old) (W.contents writer.new)) }
 {
-    let (fine, memory) = run_script(alloc, text, files, Memory::new(alloc), writer)?;
-    let Ok(bytes) = hexadecimal_text(alloc, memory.bytes()) else {
-        return Err(RunFault::Memory(memory));
+    let done = match answered(alloc, text, files, Memory::new(alloc)) {
+        Ok(done) => done,
+        Err(memory) => return Err(RunFault::Memory(memory)),
     };
-    match writer.write_all(&bytes) {
-        Ok(()) => Ok(fine),
-        Err(_) => Err(RunFault::Answers(memory)),
+    let Answered {
+        text: mut answer,
+        accepted,
+        device: memory,
+    } = done;
+    if push_hexadecimal(memory.bytes(), &mut answer).is_err() {
+        return Err(RunFault::Memory(memory));
+    }
+    match write_text(writer, &answer) {
+        Ok(()) => Ok(accepted),
+        Err(Unwritten) => Err(RunFault::Answers(memory)),
     }
 }

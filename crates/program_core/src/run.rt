@@ -1,11 +1,13 @@
 //! Running a script.
 
-ghost use Rattle.std.specs.Prelude.{◌≡◌, ◌<◌, ◌+◌, ◌^◌, ◌⊎◌, ◌&&◌, [], map, is_ok, IfOk, IfErr, IfSome};
+ghost use Rattle.std.specs.Prelude.{◌≡◌, ◌<◌, ◌+◌, ◌^◌, ◌⊎◌, ◌&&◌, ℕ, List, [], map, is_ok, IfOk, IfErr, IfSome};
 ghost use Rattle.std.specs.List.{list_all};
-ghost use Rattle.program_core.specs.Runs.{commands_of, numbers_of, is_accepted, WasRun, RanScript, RefusedScript, IsUntouched, IsLeft, device_of, WritesNothing};
+ghost use Rattle.std.specs.Io.KnownBytes.{Appends};
+ghost use Rattle.program_core.specs.Runs.{commands_of, numbers_of, is_accepted, WasRun, IsAnswered, IsUntouched, WasRunWhole, IsLeft};
 
 use crate::texts::{answers_text, bad_script_text};
-use job_core::job::Job;
+use crate::writing::{Unwritten, write_text};
+use job_core::Job;
 use job_core::{Command, Device, FontFile, Refusal, Reply, Summary};
 use script_core::{Cause, Line, ScriptFault, read_script};
 use std::alloc::{AllocError, Global};
@@ -15,16 +17,67 @@ use thiserror::Error;
 /// Why the answers of a script are not there. Each hands the device back.
 #[derive(Debug, Drop, Error)]
 pub enum RunFault<D> {
-    /// A growth of memory was refused: nothing was run, or all was run and the job was finished.
+    /// A growth of memory was refused: nothing was run, or all was run and the job was finished. Nothing was written.
     #[error("a growth of memory was refused")]
     Memory(D),
-    /// The writer of answers failed.
+    /// The writer did not take all that was to be written: it took a beginning of it.
     #[error("the answers could not be written")]
     Answers(D),
 }
 
+/// What a script is answered with, whether nothing was refused, and the device on which it was run.
+#[derive(Debug, Drop)]
+pub struct Answered<D> {
+    pub text: Vec<u8>,
+    pub accepted: bool,
+    pub device: D,
+}
+
+/// Runs a script text with these font files on a device, and makes the text of its answers, which nobody has seen yet. A bad script is refused
+/// whole: its text is its one line, and nothing is run. Where memory is refused the device comes back: nothing was run, or the whole script was.
+pub fn answered<D: Device>(
+    alloc: Global,
+    text: &[u8],
+    files: &[FontFile],
+    device: D,
+) -> Result<Answered<D>, D>
+    requires countable { D.failed device + 1 < 2 ^ 64 }
+    requires fresh { IfSome (D.told device) (λ bytes. bytes ≡ []) }
+    ensures answers { IfOk result (λ done. IsAnswered D.told D.failed text.now files.now device done.device done.text.items done.accepted) }
+    ensures left { IfErr result (λ back. IsUntouched (D.failed device) (D.failed back) (D.told back)
+        ⊎ WasRunWhole text.now files.now (D.failed device) (D.failed back) (D.told back)) }
+{
+    let lines = match read_script(alloc, text) {
+        Ok(lines) => lines,
+        Err(ScriptFault::OutOfMemory) => return Err(device),
+        Err(ScriptFault::BadScript { line, cause }) => {
+            return match bad_script_text(alloc, line, cause) {
+                Ok(text) => Ok(Answered {
+                    text,
+                    accepted: false,
+                    device,
+                }),
+                Err(_) => Err(device),
+            };
+        }
+    };
+    let Ok((numbers, commands)) = parted(alloc, lines) else {
+        return Err(device);
+    };
+    let (replies, end, device) = run_commands(alloc, &commands, files, device)?;
+    match answers_text(alloc, &numbers, &replies, &end) {
+        Ok(text) => Ok(Answered {
+            text,
+            accepted: is_accepted(&replies, &end),
+            device,
+        }),
+        Err(_) => Err(device),
+    }
+}
+
 /// Runs a script text with these font files on a device, and then writes the texts of its answers. A bad script is refused
-/// whole: it writes its one line and runs nothing. The truth value says that nothing was refused.
+/// whole: it writes its one line and runs nothing. The truth value says that nothing was refused. Of a writer that fails it is known that it took
+/// a beginning of the text, once.
 pub fn run_script<D: Device, W: Write>(
     alloc: Global,
     text: &[u8],
@@ -34,39 +87,22 @@ pub fn run_script<D: Device, W: Write>(
 ) -> Result<(bool, D), RunFault<D>>
     requires countable { D.failed device + 1 < 2 ^ 64 }
     requires fresh { IfSome (D.told device) (λ bytes. bytes ≡ []) }
-    ensures answers { IfOk result (λ done.
-        RanScript text.now files.now (D.failed device) (D.failed done.1) (D.told done.1) (W.contents writer.old) (W.contents writer.new) done.0
-        ⊎ (RefusedScript text.now (W.contents writer.old) (W.contents writer.new) done.0 × (done.1 ≡ device))) }
-    ensures left { IfErr result (λ fault.
-        IsLeft fault text.now files.now (D.failed device) (D.failed (device_of fault)) (D.told (device_of fault))) }
-    ensures unwritten { IfErr result (λ fault. WritesNothing fault (W.contents writer.old) (W.contents writer.new)) }
+    ensures answers { IfOk result (λ done. (answer : List ℕ) × IsAnswered D.told D.failed text.now files.now device done.1 answer done.0
+        × Appends (W.contents writer.old) (W.contents writer.new) answer) }
+    ensures left { IfErr result (λ fault. IsLeft D.told D.failed text.now files.now device fault (W.contents writer.old) (W.contents writer.new)) }
 {
-    let lines = match read_script(alloc, text) {
-        Ok(lines) => lines,
-        Err(ScriptFault::OutOfMemory) => return Err(RunFault::Memory(device)),
-        Err(ScriptFault::BadScript { line, cause }) => {
-            let Ok(answer) = bad_script_text(alloc, line, cause) else {
-                return Err(RunFault::Memory(device));
-            };
-            return match writer.write_all(&answer) {
-                Ok(()) => Ok((false, device)),
-                Err(_) => Err(RunFault::Answers(device)),
-            };
-        }
-    };
-    let Ok((numbers, commands)) = parted(alloc, lines) else {
-        return Err(RunFault::Memory(device));
-    };
-    let (replies, end, device) = match run_commands(alloc, &commands, files, device) {
-        Ok(ran) => ran,
+    let done = match answered(alloc, text, files, device) {
+        Ok(done) => done,
         Err(device) => return Err(RunFault::Memory(device)),
     };
-    let Ok(answers) = answers_text(alloc, &numbers, &replies, &end) else {
-        return Err(RunFault::Memory(device));
-    };
-    match writer.write_all(&answers) {
-        Ok(()) => Ok((is_accepted(&replies, &end), device)),
-        Err(_) => Err(RunFault::Answers(device)),
+    let Answered {
+        text: answers,
+        accepted,
+        device,
+    } = done;
+    match write_text(writer, &answers) {
+        Ok(()) => Ok((accepted, device)),
+        Err(Unwritten) => Err(RunFault::Answers(device)),
     }
 }
 

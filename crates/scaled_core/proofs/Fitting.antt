@@ -1,8 +1,8 @@
 -- What fits as a dimension, as a test and as a range.
-use Rattle.std.proofs.Common.{◌≡◌, ℤ, pos, negsuc, suc, true, arith}
+use Rattle.std.proofs.Common.{◌≡◌, ℤ, pos, negsuc, suc, true, Bool, false, Some, None, arith, refl}
 use Rattle.std.proofs.lemmas.Bool.{leb-true, le-leb}
 use Rattle.std.proofs.lemmas.Int.{ints}
-use Rattle.scaled_core.specs.Dimensions.{Fits, fits}
+use Rattle.scaled_core.specs.Dimensions.{Fits, fits, dimension_of}
 
 -- what is in the range passes the test
 pub dimension_fits : (z : ℤ) → Fits z → fits z ≡ true
@@ -13,3 +13,18 @@ dimension_fits (negsuc n) within = le-leb (suc n) 1073741823 (omega (arith, ints
 pub fits_within : (z : ℤ) → fits z ≡ true → Fits z
 fits_within (pos n) fit = let high = leb-true n 1073741823 fit in record { low = omega (arith, ints); high = omega (arith, ints) }
 fits_within (negsuc n) fit = let low = leb-true (suc n) 1073741823 fit in record { low = omega (arith, ints); high = omega (arith, ints) }
+
+-- a number that fits is its dimension, and one that does not has none
+pub some_dimension : (z : ℤ) → Fits z → Some z ≡ dimension_of z
+unfolding dimension_of
+some_dimension z within = rw (dimension_fits z within) refl
+
+pub no_dimension : (z : ℤ) → (Fits z → ⊥) → None ≡ dimension_of z
+unfolding dimension_of
+no_dimension z misfit = here (fits z) refl
+  where
+    here : (b : Bool) → fits z ≡ b → None ≡ dimension_of z
+    here true e = absurd (misfit (fits_within z e))
+    here false e = rw e refl
+
+pub ruleset dimensions = (some_dimension, no_dimension)

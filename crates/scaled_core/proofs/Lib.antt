@@ -8,3 +8,4 @@ pub mod PrintedTexts
 pub mod PrintScaled
 pub mod RoundingLaws
 pub mod BadnessLaws
+pub mod PointTexts

@@ -30,7 +30,7 @@ print_scaled-goes : (turns s delta : ℕ) → delta * 10 < 10 * (left s delta % 
 print_scaled-goes turns s delta h = print_scaled-turn turns s delta ∙ turn_goes turns delta (left s delta) h
 
 -- from any turn on
-print_scaled-rest : (turns f places s delta : ℕ) → f < 65536 → turns + places ≡ 5 → IsPrinting f places s delta → last_digits places (spread places f / 655360) ++ print_scaled turns s delta ≡ shortest_fraction f
+print_scaled-rest : (turns f places s delta : ℕ) → f < 65536 → 5 ≤ turns + places → IsPrinting f places s delta → last_digits places (spread places f / 655360) ++ print_scaled turns s delta ≡ shortest_fraction f
 print_scaled-rest zero f places s delta small e p = absurd (omega (arith, p.short))
 print_scaled-rest (suc turns) f places s delta small e p = ⊎_elim
     (λ (go : delta * 10 < 10 * (left s delta % 65536)).
@@ -43,5 +43,5 @@ print_scaled-rest (suc turns) f places s delta small e p = ⊎_elim
     (cases_lt (delta * 10) (10 * (left s delta % 65536)))
 
 -- TeX's digits are those of the shortest decimal that reads back
-pub print_scaled-shortest : (f : ℕ) → f < 65536 → print_scaled 5 (10 * f + 5) 10 ≡ shortest_fraction f
-print_scaled-shortest f small = print_scaled-rest 5 f 0 (10 * f + 5) 10 small refl (begins f small)
+pub print_scaled-shortest : (turns f : ℕ) → 5 ≤ turns → f < 65536 → print_scaled turns (10 * f + 5) 10 ≡ shortest_fraction f
+print_scaled-shortest turns f enough small = print_scaled-rest turns f 0 (10 * f + 5) 10 small (omega arith) (begins f small)

@@ -1,5 +1,5 @@
 -- Dimensions: whole numbers of scaled points (TeX: The Program, part 7).
-use Rattle.std.specs.Prelude.{ℕ, ℤ, Bool, pos, neg_ℤ, unsigned_abs, nat_le, ◌≤ℤ◌}
+use Rattle.std.specs.Prelude.{ℕ, ℤ, Bool, pos, neg_ℤ, unsigned_abs, nat_le, if◌then◌else◌, Option, Some, None, ◌≤ℤ◌}
 
 -- The absolute value is at most n (own).
 pub record Within (n : ℕ) (z : ℤ) : Type 0 where
@@ -13,3 +13,7 @@ Fits z = Within 1073741823 z
 -- Whether a number fits as a dimension: Fits as a test (TeX: The Program, part 7; max_dimen of part 26).
 abbrev pub fits : ℤ → Bool
 fits z = nat_le (unsigned_abs z) 1073741823
+
+-- The dimension of that many scaled points, where they fit (own).
+unfoldable pub dimension_of : ℤ → Option ℤ
+dimension_of z = if fits z then Some z else None

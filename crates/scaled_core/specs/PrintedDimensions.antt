@@ -34,8 +34,8 @@ unfoldable pub dimension_text : ℤ → List ℕ
 dimension_text (pos n) = size_text n
 dimension_text (negsuc n) = codes "-" ++ size_text (suc n)
 
--- TeX's own rule for the digits behind the point, five turns at most, from what is left and a unit: the law `print_scaled_digits` says that they are
--- those of `shortest_fraction` (TeX: The Program, part 7, §103, print_scaled)
+-- TeX's own rule for the digits behind the point, so many turns at most, from what is left and a unit: the law `print_scaled_digits` says that
+-- five turns are enough, and that they are those of `shortest_fraction` (TeX: The Program, part 7, §103, print_scaled)
 unfoldable pub print_scaled : ℕ → ℕ → ℕ → List ℕ
 print_scaled zero s delta = []
 print_scaled (suc turns) s delta =

@@ -1,8 +1,8 @@
 //! A dimension: a whole number of scaled points that fits.
 
-ghost use Rattle.std.specs.Prelude.{◌≡◌, ◌*◌, pos};
+ghost use Rattle.std.specs.Prelude.{◌≡◌, ◌*◌, ◌+ℤ◌, ◌-ℤ◌, pos};
 ghost use Rattle.std.specs.Option.{SomeIff};
-ghost use Rattle.scaled_core.specs.Dimensions.{Fits};
+ghost use Rattle.scaled_core.specs.Dimensions.{Fits, dimension_of};
 
 use std::marker::Model;
 
@@ -47,8 +47,10 @@ impl Dimen {
     }
 
     /// The dimension of that many scaled points, or None exactly where the number does not fit.
+    #[tactic(auto, using(crate::proofs::Fitting::dimensions))]
     pub fn try_new(value: i64) -> Option<Dimen>
-        ensures { SomeIff result (Fits value) value }
+        ensures fits { SomeIff result (Fits value) value }
+        ensures value { result ≡ dimension_of value }
     {
         if value < -1_073_741_823 {
             return None;
@@ -56,9 +58,17 @@ impl Dimen {
         if value > 1_073_741_823 {
             return None;
         }
-        Some(Dimen {
+        Some(Dimen::new(value))
+    }
+
+    /// The dimension of that many scaled points, which fit.
+    pub fn new(value: i64) -> Dimen
+        requires { Fits value }
+        ensures { result ≡ value }
+    {
+        Dimen {
             value: value as i32,
-        })
+        }
     }
 
     /// The number of scaled points, from -(2^30 - 1) to 2^30 - 1.
@@ -67,5 +77,19 @@ impl Dimen {
         ensures fits { Fits result }
     {
         self.value
+    }
+
+    /// The sum of two dimensions, or None exactly where it does not fit.
+    pub fn checked_add(self, other: Dimen) -> Option<Dimen>
+        ensures { result ≡ dimension_of (self +ℤ other) }
+    {
+        Dimen::try_new(i64::from(self.get()) + i64::from(other.get()))
+    }
+
+    /// How much more a dimension is than another, or None exactly where that does not fit.
+    pub fn checked_sub(self, other: Dimen) -> Option<Dimen>
+        ensures { result ≡ dimension_of (self -ℤ other) }
+    {
+        Dimen::try_new(i64::from(self.get()) - i64::from(other.get()))
     }
 }

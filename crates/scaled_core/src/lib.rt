@@ -5,7 +5,7 @@
 
 pub mod dimen;
 pub mod fault;
-mod glue;
+mod glue_badness;
 pub mod laws;
 mod printing;
 pub mod ratio;
@@ -15,7 +15,8 @@ mod units;
 
 pub use dimen::Dimen;
 pub use fault::DimenFault;
-pub use glue::badness;
+pub use glue_badness::badness;
 pub use printing::print_dimen;
 pub use ratio::Ratio;
-pub use reading::parse_dimen;
+pub use reading::{parse_dimen, parse_points};
+pub use rounding::rounded;

@@ -1,6 +1,6 @@
 //! Reading dimensions.
 
-ghost use Rattle.std.specs.Prelude.{◌≡◌, ◌↔◌, Err, ◌*◌, ◌^◌, ◌<◌, ◌≤◌, IsTrue, IfOk, length, min};
+ghost use Rattle.std.specs.Prelude.{◌≡◌, ◌↔◌, ◌++◌, Err, ◌*◌, ◌^◌, ◌<◌, ◌≤◌, IsTrue, IfOk, codes, length, min};
 ghost use Rattle.std.specs.List.{prefix_len};
 ghost use Rattle.std.specs.Char.{is_ascii_digit};
 ghost use Rattle.std.specs.Str.{all_ascii_digits};
@@ -8,7 +8,7 @@ ghost use Rattle.std.specs.Str.Parse.{digits_value};
 ghost use Rattle.scaled_core.specs.Dimensions.{Fits};
 ghost use Rattle.scaled_core.specs.DimensionTexts.{IsDimensionText, IsNoDimension, IsTooLargeText, decimal_fraction};
 ghost use Rattle.scaled_core.specs.Rounding.{nearest};
-ghost use Rattle.scaled_core.specs.ParsedTexts.{fitted, measured, behind_digits, behind_fraction, behind_sign, front_digits, is_negative, point_digits, read_dimension, with_minus};
+ghost use Rattle.scaled_core.specs.ParsedTexts.{fitted, measured, behind_digits, behind_fraction, behind_sign, front_digits, is_negative, point_digits, read_dimension, unit_named, with_minus};
 
 use crate::dimen::Dimen;
 use crate::fault::DimenFault;
@@ -29,6 +29,31 @@ pub fn parse_dimen(text: &[u8]) -> Result<Dimen, DimenFault>
     let (whole, behind) = digits_first(number);
     let (fraction, name) = fraction_first(behind);
     measured(negative, whole, fraction, LengthUnit::from_name(name))
+}
+
+/// The dimension that a text writes in points where it leaves their unit out: as `parse_dimen` reads the text with `pt` behind it. Takes no memory.
+pub fn parse_points(text: &[u8]) -> Result<Dimen, DimenFault>
+    ensures ok { IfOk result (λ d. IsDimensionText (text.now ++ codes "pt") d) }
+    ensures fits { IfOk result (λ d. Fits d) }
+    ensures too_large { (result ≡ Err DimenFault.TooLarge) ↔ IsTooLargeText (text.now ++ codes "pt") }
+    ensures not_a_dimension { (result ≡ Err DimenFault.NotADimension) ↔ IsNoDimension (text.now ++ codes "pt") }
+    ensures value { result ≡ read_dimension (text.now ++ codes "pt") }
+{
+    let (negative, number) = after_sign(text);
+    let (whole, behind) = digits_first(number);
+    let (fraction, name) = fraction_first(behind);
+    measured(negative, whole, fraction, unit_of_points(name))
+}
+
+/// The unit of a number of points that stands without one: none where anything stands in its place.
+#[tactic(auto, using(crate::proofs::PointTexts::points))]
+fn unit_of_points(name: &[u8]) -> Option<LengthUnit>
+    ensures { result ≡ unit_named (name.now ++ codes "pt") }
+{
+    if name.is_empty() {
+        return Some(LengthUnit::Point);
+    }
+    None
 }
 
 /// The dimension of that sign, those digits before and behind the point, and that unit.

@@ -1,12 +1,11 @@
 //! Amounts of stretch and shrink.
 
-ghost use Rattle.std.specs.Prelude.{◌≡◌, IfOk};
+ghost use Rattle.std.specs.Prelude.{◌≡◌};
 ghost use Rattle.script_core.specs.Reading.{amount_in, amount_of, no_amount, number_in_points};
 
 use crate::cause::Cause;
 use node_core::Order;
-use scaled_core::{Dimen, parse_dimen};
-use std::alloc::{AllocError, Global};
+use scaled_core::{Dimen, parse_dimen, parse_points};
 
 /// How much a glue stretches or shrinks, and in which order.
 #[derive(Clone, Copy, Debug, PartialEq, Eq)]
@@ -29,32 +28,30 @@ impl Amount {
 
 /// The amount that a field writes: a dimension, or a number with the unit `fil`, `fill` or `filll`.
 #[tactic(auto, unfolding(crate::specs::Reading::amount_of, crate::specs::Reading::before_unit))]
-pub fn amount_of(alloc: Global, field: &[u8]) -> Result<Result<Amount, Cause>, AllocError>
-    ensures { IfOk result (λ read. read ≡ amount_of field.now) }
+pub fn amount_of(field: &[u8]) -> Result<Amount, Cause>
+    ensures { result ≡ amount_of field.now }
 {
     if let Some(number) = field.strip_suffix(b"filll") {
-        return number_in_points(alloc, Order::Filll, number);
+        return number_in_points(Order::Filll, number);
     }
     if let Some(number) = field.strip_suffix(b"fill") {
-        return number_in_points(alloc, Order::Fill, number);
+        return number_in_points(Order::Fill, number);
     }
     if let Some(number) = field.strip_suffix(b"fil") {
-        return number_in_points(alloc, Order::Fil, number);
+        return number_in_points(Order::Fil, number);
     }
-    Ok(amount_in(Order::Normal, field))
+    amount_in(Order::Normal, field)
 }
 
 /// The amount of that order whose value is that of a number in points.
-fn number_in_points(
-    alloc: Global,
-    order: Order,
-    number: &[u8],
-) -> Result<Result<Amount, Cause>, AllocError>
-    ensures { IfOk result (λ read. read ≡ number_in_points order number.now) }
+#[tactic(auto, unfolding(crate::specs::Reading::amount_in))]
+fn number_in_points(order: Order, number: &[u8]) -> Result<Amount, Cause>
+    ensures { result ≡ number_in_points order number.now }
 {
-    let mut text = number.to_vec(alloc)?;
-    text.extend_from_slice(b"pt")?;
-    Ok(amount_in(order, &text))
+    match parse_points(number) {
+        Ok(size) => Ok(Amount { size, order }),
+        Err(_) => Err(Cause::Dimension),
+    }
 }
 
 /// The amount of that order whose value is that of a dimension.

@@ -131,14 +131,11 @@ impl<'a> Fields<'a> {
 
     /// The next field as an amount of stretch or shrink.
     #[tactic(auto, unfolding(crate::specs::Reading::amount_first))]
-    fn amount(&mut self, alloc: Global) -> Result<Result<Amount, Cause>, AllocError>
-        ensures value { IfOk result (λ read. read ≡ amount_first (fields_of self.old.rest.now)) }
+    fn amount(&mut self) -> Result<Amount, Cause>
+        ensures value { result ≡ amount_first (fields_of self.old.rest.now) }
         ensures rest { fields_of self.new.rest.now ≡ rest_of (fields_of self.old.rest.now) }
     {
-        match self.field() {
-            Ok(field) => amount_of(alloc, field),
-            Err(cause) => Ok(Err(cause)),
-        }
+        amount_of(self.field()?)
     }
 
     /// The next field, which is the last, as a number from 0 to 255.
@@ -180,13 +177,12 @@ impl<'a> Fields<'a> {
 
     /// The next field, which is the last, as an amount of stretch or shrink.
     #[tactic(auto, unfolding(crate::specs::Reading::last_amount))]
-    fn last_amount(&mut self, alloc: Global) -> Result<Result<Amount, Cause>, AllocError>
-        ensures { IfOk result (λ read. read ≡ last_amount (fields_of self.old.rest.now)) }
+    fn last_amount(&mut self) -> Result<Amount, Cause>
+        ensures { result ≡ last_amount (fields_of self.old.rest.now) }
     {
-        Ok(match self.amount(alloc)? {
-            Ok(amount) => self.end().map(|()| amount),
-            Err(cause) => Err(cause),
-        })
+        let amount = self.amount()?;
+        self.end()?;
+        Ok(amount)
     }
 
     /// What stands behind the name of a font: nothing, or `at` and a size.
@@ -309,86 +305,69 @@ impl<'a> Fields<'a> {
 
     /// A glue as the last fields: its width, and its stretch, its shrink or both.
     #[tactic(auto, unfolding(crate::specs::Reading::glue_of))]
-    fn glue(&mut self, alloc: Global) -> Result<Result<Glue, Cause>, AllocError>
-        ensures { IfOk result (λ read. read ≡ glue_of (fields_of self.old.rest.now)) }
+    fn glue(&mut self) -> Result<Glue, Cause>
+        ensures { result ≡ glue_of (fields_of self.old.rest.now) }
     {
-        match self.dimen() {
-            Ok(width) => self.glue_parts(alloc, width),
-            Err(cause) => Ok(Err(cause)),
-        }
+        let width = self.dimen()?;
+        self.glue_parts(width)
     }
 
     /// What stands behind the width of a glue: nothing, or its stretch, its shrink or both.
     #[tactic(auto, unfolding(crate::specs::Reading::parts_of))]
-    fn glue_parts(&mut self, alloc: Global, width: Dimen) -> Result<Result<Glue, Cause>, AllocError>
-        ensures { IfOk result (λ read. read ≡ parts_of width (fields_of self.old.rest.now)) }
+    fn glue_parts(&mut self, width: Dimen) -> Result<Glue, Cause>
+        ensures { result ≡ parts_of width (fields_of self.old.rest.now) }
     {
         match self.field() {
-            Ok(b"plus") => match self.amount(alloc)? {
-                Ok(stretch) => self.shrink(alloc, width, stretch),
-                Err(cause) => Ok(Err(cause)),
-            },
-            Ok(b"minus") => self.last_shrink(alloc, width, Amount::none()),
-            Ok(_) => Ok(Err(Cause::Word)),
-            Err(_) => Ok(Ok(glue(width, Amount::none(), Amount::none()))),
+            Ok(b"plus") => {
+                let stretch = self.amount()?;
+                self.shrink(width, stretch)
+            }
+            Ok(b"minus") => self.last_shrink(width, Amount::none()),
+            Ok(_) => Err(Cause::Word),
+            Err(_) => Ok(glue(width, Amount::none(), Amount::none())),
         }
     }
 
     /// What stands behind the stretch of a glue: nothing, or `minus` and its shrink.
     #[tactic(auto, unfolding(crate::specs::Reading::shrink_of))]
-    fn shrink(
-        &mut self,
-        alloc: Global,
-        width: Dimen,
-        stretch: Amount,
-    ) -> Result<Result<Glue, Cause>, AllocError>
-        ensures { IfOk result (λ read. read ≡ shrink_of width stretch (fields_of self.old.rest.now)) }
+    fn shrink(&mut self, width: Dimen, stretch: Amount) -> Result<Glue, Cause>
+        ensures { result ≡ shrink_of width stretch (fields_of self.old.rest.now) }
     {
         match self.field() {
-            Ok(b"minus") => self.last_shrink(alloc, width, stretch),
-            Ok(_) => Ok(Err(Cause::Word)),
-            Err(_) => Ok(Ok(glue(width, stretch, Amount::none()))),
+            Ok(b"minus") => self.last_shrink(width, stretch),
+            Ok(_) => Err(Cause::Word),
+            Err(_) => Ok(glue(width, stretch, Amount::none())),
         }
     }
 
     /// A glue of that width and stretch, and its shrink as the last field.
     #[tactic(auto, unfolding(crate::specs::Reading::last_shrink_of))]
-    fn last_shrink(
-        &mut self,
-        alloc: Global,
-        width: Dimen,
-        stretch: Amount,
-    ) -> Result<Result<Glue, Cause>, AllocError>
-        ensures { IfOk result (λ read. read ≡ last_shrink_of width stretch (fields_of self.old.rest.now)) }
+    fn last_shrink(&mut self, width: Dimen, stretch: Amount) -> Result<Glue, Cause>
+        ensures { result ≡ last_shrink_of width stretch (fields_of self.old.rest.now) }
     {
-        Ok(match self.last_amount(alloc)? {
-            Ok(shrink) => Ok(glue(width, stretch, shrink)),
-            Err(cause) => Err(cause),
-        })
+        let shrink = self.last_amount()?;
+        Ok(glue(width, stretch, shrink))
     }
 
     /// What stands behind `set`: the name of a parameter and its value.
     #[tactic(auto, unfolding(crate::specs::Reading::parameter_of))]
-    fn parameter(&mut self, alloc: Global) -> Result<Result<Parameter, Cause>, AllocError>
-        ensures { IfOk result (λ read. read ≡ parameter_of (fields_of self.old.rest.now)) }
+    fn parameter(&mut self) -> Result<Parameter, Cause>
+        ensures { result ≡ parameter_of (fields_of self.old.rest.now) }
     {
-        let word = match self.field() {
-            Ok(word) => word,
-            Err(cause) => return Ok(Err(cause)),
-        };
+        let word = self.field()?;
         if word == b"boxmaxdepth".as_slice() {
-            return Ok(self.last_dimen().map(Parameter::BoxMaxDepth));
+            return self.last_dimen().map(Parameter::BoxMaxDepth);
         }
         if word == b"baselineskip".as_slice() {
-            return Ok(self.glue(alloc)?.map(Parameter::BaselineSkip));
+            return self.glue().map(Parameter::BaselineSkip);
         }
         if word == b"lineskip".as_slice() {
-            return Ok(self.glue(alloc)?.map(Parameter::LineSkip));
+            return self.glue().map(Parameter::LineSkip);
         }
         if word == b"lineskiplimit".as_slice() {
-            return Ok(self.last_dimen().map(Parameter::LineSkipLimit));
+            return self.last_dimen().map(Parameter::LineSkipLimit);
         }
-        Ok(Err(Cause::Word))
+        Err(Cause::Word)
     }
 
     /// What stands behind `rule`.
@@ -420,14 +399,14 @@ impl<'a> Fields<'a> {
             Name::Character => Ok(self.last_number().map(Command::Character)),
             Name::Rule => Ok(self.rule()),
             Name::Kern => Ok(self.last_dimen().map(Command::Kern)),
-            Name::Glue => Ok(self.glue(alloc)?.map(Command::Glue)),
+            Name::Glue => Ok(self.glue().map(Command::Glue)),
             Name::Penalty => Ok(self.last_penalty().map(Command::Penalty)),
             Name::Append(taking) => Ok(self.append(taking)),
             Name::Unbox(kind, taking) => Ok(self.unboxing(kind, taking)),
             Name::LastBox => Ok(self.last_register().map(Command::LastBox)),
             Name::Measure => Ok(self.last_register().map(Command::Measure)),
             Name::Void => Ok(self.last_register().map(Command::Void)),
-            Name::Set => Ok(self.parameter(alloc)?.map(Command::Set)),
+            Name::Set => Ok(self.parameter().map(Command::Set)),
             Name::Ship => Ok(self.last_register().map(Command::Ship)),
         }
     }

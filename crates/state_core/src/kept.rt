@@ -133,7 +133,7 @@ impl Kept {
         if self.fonts.get(load.slot).is_some() {
             return Ok(Err(Refusal::SlotTaken));
         }
-        let Some(file) = file_named(&self.files, &load.name) else {
+        let Some(file) = file_named(&self.files, load.name.as_bytes()) else {
             return Ok(Err(Refusal::NoFont));
         };
         let alloc = *self.files.allocator();

@@ -206,7 +206,7 @@ impl Font {
         ensures ok { IfOk result (λ font. font ≡ font_at tfm.now (chosen_size tfm.now size)) }
         ensures fits { OnOk result (fits_at tfm.now (chosen_size tfm.now size) ≡ true) }
         ensures numbers { IfOk result HasNumbers }
-        ensures refused { result ≡ Err DimensionTooLarge → fits_at tfm.now (chosen_size tfm.now size) ≡ false }
+        ensures refused { (result ≡ Err DimensionTooLarge) ↔ (fits_at tfm.now (chosen_size tfm.now size) ≡ false) }
     {
         let size = chosen_size(tfm, size);
         if !fits_at(tfm.entries(), size) {

@@ -103,10 +103,8 @@ impl FontFile {
 }
 
 /// The first file of that name. Takes no memory.
-pub fn file_named<'a>(files: &'a [FontFile], name: &FontName) -> Option<&'a FontFile>
+pub fn file_named<'a>(files: &'a [FontFile], name: &[u8]) -> Option<&'a FontFile>
     ensures { option_copied result ≡ file_named name.now files.now }
 {
-    files
-        .iter()
-        .find(|file| file.name().as_bytes() == name.as_bytes())
+    files.iter().find(|file| file.name().as_bytes() == name)
 }

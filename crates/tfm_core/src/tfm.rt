@@ -1,8 +1,8 @@
 //! Metric files.
 
-ghost use Rattle.std.specs.Prelude.{◌≡◌, None, Ok, Err, IfOk};
+ghost use Rattle.std.specs.Prelude.{◌≡◌, None, Ok, Err, IfOk, OnErr};
 ghost use Rattle.tfm_core.specs.declared.fault.TfmCause.{TfmCause};
-ghost use Rattle.tfm_core.specs.declared.fault.TfmFault.TheVariants.{Bad};
+ghost use Rattle.tfm_core.specs.declared.fault.TfmFault.TheVariants.{Bad, OutOfMemory};
 ghost use Rattle.tfm_core.specs.MetricFile.{HasTables, MetricFile};
 ghost use Rattle.tfm_core.specs.Scaling.{design_size_of};
 ghost use Rattle.tfm_core.specs.Rules.{IsFirstBroken, IsMetricFile, KeepsRules, broken_in_front, broken_in_tables, metric_file};
@@ -69,7 +69,8 @@ fn broken_in_tables(file: &Entries) -> Option<TfmCause>
 impl Tfm {
     /// The metric file that the bytes hold; bytes behind its last word are ignored (TFtoPL, 8 to 15).
     ///
-    /// `Bad` names the first broken rule. It takes memory for its tables.
+    /// `Bad` names the first broken rule. It takes memory for its tables, and only where no rule is broken that needs no table: not TooShort, Counts
+    /// or DesignSize.
     #[tactic(auto, using(crate::proofs::ReadingLemmas::relations))]
     pub fn read(alloc: Global, bytes: &[u8]) -> Result<Tfm, TfmFault>
         ensures ok { IfOk result (λ tfm. IsMetricFile bytes.now tfm) }
@@ -77,6 +78,7 @@ impl Tfm {
         ensures none { (cause : TfmCause) (file : MetricFile) → result ≡ Err (Bad cause) → IsMetricFile bytes.now file → ⊥ }
         ensures value { IfOk result (λ tfm. metric_file bytes.now ≡ Ok tfm) }
         ensures refused { (cause : TfmCause) → result ≡ Err (Bad cause) → metric_file bytes.now ≡ Err cause }
+        ensures early { result ≡ Err OutOfMemory → broken_in_front bytes.now ≡ None }
     {
         match file_in(alloc, bytes) {
             Ok(Ok(tfm)) => Ok(tfm),
@@ -113,7 +115,8 @@ impl Tfm {
 /// What the bytes hold.
 #[tactic(auto, using(crate::proofs::ReadingLemmas::reading))]
 fn file_in(alloc: Global, bytes: &[u8]) -> Result<Result<Tfm, TfmCause>, AllocError>
-    ensures { IfOk result (λ held. held ≡ metric_file bytes.now) }
+    ensures held { IfOk result (λ held. held ≡ metric_file bytes.now) }
+    ensures early { OnErr result (broken_in_front bytes.now ≡ None) }
 {
     if let Some(cause) = broken_in_front(bytes) {
         return Ok(Err(cause));

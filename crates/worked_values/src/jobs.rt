@@ -3,7 +3,7 @@
 ghost use Rattle.std.specs.Prelude.{Some};
 
 use crate::samples::TINY;
-use job_core::job::Job;
+use job_core::Job;
 use job_core::{
     Answer, BoxForm, Command, Device, DeviceFault, FontFile, FontLoad, FontName, FontSize, Opening,
     Refusal, Register, Summary, Target,

@@ -181,16 +181,16 @@ fn a_writer_that_fails(rt: HostRuntime) {
 #[test]
 fn the_program_answers_its_input(rt: HostRuntime) {
     let alloc = rt.alloc();
-    for (script, status, expected) in [
-        ("", 0, "end: pages 0 bytes 0\n"),
-        ("end 1", 1, "refused 2 BadScript 1 Extra\n"),
+    for (script, accepted, expected) in [
+        ("", true, "end: pages 0 bytes 0\n"),
+        ("end 1", false, "refused 2 BadScript 1 Extra\n"),
     ] {
         let mut out = Vec::new(alloc);
         let mut errors = Vec::new(alloc);
         let mut input = Cursor::new(script);
         assert_eq!(rt;
             answer_input(alloc, &mut input, &mut out, &mut errors),
-            status
+            Ok(accepted)
         );
         assert_eq!(rt; out.as_slice(), expected.as_bytes());
         assert_eq!(rt; errors.len(), 0);

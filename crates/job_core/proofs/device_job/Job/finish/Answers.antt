@@ -1,10 +1,10 @@
 use Rattle.std.proofs.Common.{◌≢◌, length, refl, ap, ap₂, sym, ◌∙◌, arith}
-use Rattle.job_core.proofs.Endings.{may_finish, over_refused, open_refused, finished, losing}
+use Rattle.job_core.proofs.Endings.{may_finish, over_refused, open_refused, finished, losing, sent_all, sent_part, sent_none}
 use Rattle.job_core.specs.Told.{grown}
 use Rattle.dvi_write.specs.Draft.{whole}
 use Rattle.job_core.proofs.Moves.{small_enough}
 use Rattle.job_core.proofs.FinishedFiles.{filed_pages, filed_end, no_pages}
-use Rattle.job_core.proofs.job.Job.finish.Goals as goal
+use Rattle.job_core.proofs.device_job.Job.finish.Goals as goal
 
 pub close-requires : goal.close-requires
 close-requires g c =
@@ -55,3 +55,21 @@ returns-clause-end g c =
 pub returns-then-pages-eq0-clause-end : goal.returns-then-pages-eq0-clause-end
 returns-then-pages-eq0-clause-end g c =
     rw (← c.self.view_is) (λ m holds some. absurd (some (no_pages _ m holds (sym (sym c.if-pages-eq0.true ∙ c.pages-pages.ensures)))))
+
+pub returns-clause-sent : goal.returns-clause-sent
+returns-clause-sent g c =
+    let running = sym c.is_over.ensures ∙ c.if-is_over.false in
+    let some : c.self.inside.kept.pages ≢ 0 = λ none. c.if-pages-eq0.false (c.pages-pages.ensures ∙ none) in
+    let bytes = c.bytes-bytes.ensures ∙ (c.in-Ok.ensures.ok ∙ ap₂ (λ fonts count. whole fonts c.self.inside.writer count) c.fonts.ensures c.pages-pages.ensures) in
+    rw (← c.self.view_is) (λ m holds. sent_all _ _ m holds running some (c.in-Ok-write_all.ensures.taken ∙ ap (grown (g.D.Device.told c.self.inside.device)) bytes))
+
+pub returns-then-pages-eq0-clause-sent : goal.returns-then-pages-eq0-clause-sent
+returns-then-pages-eq0-clause-sent g c =
+    rw (← c.self.view_is) (λ m holds. sent_none _ m holds (sym (sym c.if-pages-eq0.true ∙ c.pages-pages.ensures)))
+
+pub returns-in_default-write_all-clause-part : goal.returns-in_default-write_all-clause-part
+returns-in_default-write_all-clause-part g c device =
+    let running = sym c.is_over.ensures ∙ c.if-is_over.false in
+    let some : c.self.inside.kept.pages ≢ 0 = λ none. c.if-pages-eq0.false (c.pages-pages.ensures ∙ none) in
+    let bytes = c.bytes-bytes.ensures ∙ (c.in-Ok.ensures.ok ∙ ap₂ (λ fonts count. whole fonts c.self.inside.writer count) c.fonts.ensures c.pages-pages.ensures) in
+    rw (← c.self.view_is) (λ m holds. sent_part _ _ m holds running some (rw bytes at c.in_default-write_all.ensures.front))

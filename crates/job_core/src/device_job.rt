@@ -98,10 +98,10 @@ impl<D: Device> Model for Job<D> {
 }
 
 impl<D: Device> Job<D> {
-    ghost use Rattle.std.specs.Prelude.{◌≡◌, ◌<◌, ◌+◌, ◌^◌, ◌++◌, [], true, List, IfOk, IfErr, OnOk, OnErr, IfSome, Err, length};
+    ghost use Rattle.std.specs.Prelude.{◌≡◌, ◌≢◌, ◌<◌, ◌+◌, ◌^◌, ◌++◌, [], true, List, IfOk, IfErr, OnOk, OnErr, IfSome, Err, length};
     ghost use Rattle.nest_core.specs.Machine.{Machine, first_machine};
     ghost use Rattle.dvi_write.specs.Draft.{file_of};
-    ghost use Rattle.job_core.specs.Told.{IsFrontOf};
+    ghost use Rattle.job_core.specs.Told.{grown, GrowsByFront, IsFrontOf};
     ghost use Rattle.command_core.specs.declared.command.Refusal.{Refusal};
     ghost use Rattle.command_core.specs.Reply.{Reply as AReply};
     ghost use Rattle.job_core.specs.Jobs.{Holds, KeepsTo, RunsTo, FinishesTo};
@@ -135,6 +135,7 @@ impl<D: Device> Job<D> {
     pub fn step(&mut self, command: &Command) -> Result<Answer, Refusal>
         ensures keeps { KeepsTo self.old command.now result self.new }
         ensures idle { self.old.state.over ≡ true → self.new ≡ self.old }
+        ensures told { self.new.told ≡ self.old.told }
     {
         let Ok(reply) = obey(&mut self.kept, &mut self.writer, command) else {
             return Err(Refusal::OutOfMemory);
@@ -149,6 +150,7 @@ impl<D: Device> Job<D> {
         ensures none { OnErr result (self.new ≡ self.old) }
         ensures cut { OnErr result (replies.new.items ≡ replies.old.items) }
         ensures idle { self.old.state.over ≡ true → self.new ≡ self.old }
+        ensures told { self.new.told ≡ self.old.told }
     {
         replies.reserve(commands.len())?;
         for command in commands {
@@ -171,6 +173,11 @@ impl<D: Device> Job<D> {
         ensures size { IfOk result (λ summary. (m : Machine) → Holds self.old m → IfSome self.new.told (λ bytes. summary.bytes ≡ length bytes)) }
         ensures count { IfOk result (λ summary. (m : Machine) → Holds self.old m → summary.bytes ≡ length (file_of m.state.fonts m.pages)) }
         ensures front { result ≡ Err Refusal.Device → (m : Machine) → Holds self.old m → IfSome self.new.told (λ bytes. IsFrontOf bytes (file_of m.state.fonts m.pages)) }
+
+        // What the device tells has grown by what was sent: the file, a beginning of it, or nothing.
+        ensures sent { OnOk result ((m : Machine) → Holds self.old m → self.new.told ≡ grown self.old.told (file_of m.state.fonts m.pages)) }
+        ensures part { result ≡ Err Refusal.Device → (m : Machine) → Holds self.old m → GrowsByFront self.old.told self.new.told (file_of m.state.fonts m.pages) }
+        ensures unsent { IfErr result (λ refusal. refusal ≢ Refusal.Device → self.new.told ≡ self.old.told) }
     {
         if self.kept.is_over() {
             return Err(Refusal::JobOver);

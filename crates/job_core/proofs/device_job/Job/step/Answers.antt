@@ -2,7 +2,7 @@ use Rattle.std.proofs.Common.{◌≡◌, refl, ap, sym, ◌∙◌}
 use Rattle.nest_core.specs.Machine.{State}
 use Rattle.state_core.proofs.KeptRest.{job_kept}
 use Rattle.job_core.proofs.Moves.{roomy, replied, small_after, numbered}
-use Rattle.job_core.proofs.job.Job.step.Goals as goal
+use Rattle.job_core.proofs.device_job.Job.step.Goals as goal
 
 pub obey-requires : goal.obey-requires
 obey-requires g c running = small_after c.self.inside.kept c.self.inside.writer c.args.command.now (c.self.invariant.0 running)

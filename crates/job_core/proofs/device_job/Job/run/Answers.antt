@@ -4,7 +4,7 @@ use Rattle.command_core.specs.declared.command.Command.{Command}
 use Rattle.command_core.specs.Reply.{Reply}
 use Rattle.job_core.specs.Jobs.{Seen, RunsTo}
 use Rattle.job_core.proofs.Moves.{runs_more}
-use Rattle.job_core.proofs.job.Job.run.Goals as goal
+use Rattle.job_core.proofs.device_job.Job.run.Goals as goal
 
 pub loop-command-preserved : goal.loop-command-preserved
 loop-command-preserved g c =
@@ -26,5 +26,6 @@ loop-command-preserved g c =
       idle = λ over.
           let same = c.loop-command.invariant.idle over in
           c.step-reply.ensures.idle (ap (λ (job : Seen). job.state.over) same ∙ over) ∙ same;
+      told = c.step-reply.ensures.told ∙ c.loop-command.invariant.told;
       room = omega (arith, c.in-Ok.ensures.len, c.in-Ok.ensures.capacity);
     }

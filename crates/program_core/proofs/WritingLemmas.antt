@@ -1,0 +1,41 @@
+-- Known bytes that grow by one piece after the other.
+use Rattle.std.proofs.Common.{◌≡◌, ℕ, ◌+◌, ◌<◌, ◌≤◌, List, [], ◌++◌, length, take, drop, refl, ap, sym, ◌∙◌, append_assoc}
+use Rattle.std.specs.Prelude.{Option, Some, None}
+use Rattle.std.proofs.Math.Seq.{take-add}
+use Rattle.std.specs.Io.KnownBytes.{Appends, Keeps}
+use Rattle.std.proofs.lemmas.List.{append-nil}
+use Rattle.program_core.specs.Runs.{WritesFront}
+
+-- one text behind another
+pub appends_both : (old mid new : Option (List ℕ)) (a b : List ℕ) → Appends old mid a → Appends mid new b → Appends old new (a ++ b)
+appends_both None mid new a b h i = tt
+appends_both (Some xs) None new a b h i = absurd h
+appends_both (Some xs) (Some ys) None a b h i = absurd i
+appends_both (Some xs) (Some ys) (Some zs) a b h i = i ∙ ap (λ (l : List ℕ). l ++ b) h ∙ append_assoc xs a b
+
+-- nothing behind a text
+pub appends_keeps : (old mid new : Option (List ℕ)) (a : List ℕ) → Appends old mid a → Keeps mid new → Appends old new a
+appends_keeps None mid new a h i = tt
+appends_keeps (Some xs) None new a h i = absurd h
+appends_keeps (Some xs) (Some ys) None a h i = absurd i
+appends_keeps (Some xs) (Some ys) (Some zs) a h i = i ∙ h
+
+-- a text behind nothing
+pub keeps_appends : (old mid new : Option (List ℕ)) (a : List ℕ) → Keeps old mid → Appends mid new a → Appends old new a
+keeps_appends None mid new a h i = tt
+keeps_appends (Some xs) None new a h i = absurd h
+keeps_appends (Some xs) (Some ys) None a h i = absurd i
+keeps_appends (Some xs) (Some ys) (Some zs) a h i = i ∙ ap (λ (l : List ℕ). l ++ a) h
+
+-- no text at all
+pub appends_none : (old : Option (List ℕ)) → Appends old old []
+appends_none None = tt
+appends_none (Some xs) = sym (append-nil xs)
+
+-- n bytes more of a text, from place s on
+pub appends_more : (old mid new : Option (List ℕ)) (xs : List ℕ) (s n : ℕ) → Appends old mid (take s xs) → Appends mid new (take n (drop s xs)) → Appends old new (take (s + n) xs)
+appends_more old mid new xs s n h i = rw (take-add s n xs) (appends_both old mid new (take s xs) (take n (drop s xs)) h i)
+
+-- a beginning of a text behind nothing
+pub keeps_front : (old mid new : Option (List ℕ)) (a : List ℕ) → Keeps old mid → WritesFront mid new a → WritesFront old new a
+keeps_front old mid new a h front = (front.0, front.1, keeps_appends old mid new (take front.0 a) h front.2)

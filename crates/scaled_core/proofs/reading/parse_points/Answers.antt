@@ -1,0 +1,22 @@
+use Rattle.std.proofs.Common.{arith}
+use Rattle.std.proofs.lemmas.Grind.{common_steps}
+use Rattle.std.specs.Prelude.{◌++◌, codes}
+use Rattle.scaled_core.proofs.PointTexts.{read_dimension-points}
+use Rattle.scaled_core.proofs.ReadingCases.{reads-ok, reads-fits, reads-too_large, reads-not_a_dimension}
+use Rattle.scaled_core.proofs.reading.parse_points.Goals as goal
+
+-- the parts give the value, and the other clauses follow from it
+pub returns-clause-value : goal.returns-clause-value
+returns-clause-value c = rw (read_dimension-points c.args.text.now) (grind (arith, common_steps))
+
+pub returns-clause-ok : goal.returns-clause-ok
+returns-clause-ok c = reads-ok (c.args.text.now ++ codes "pt") c.measured.result (returns-clause-value c)
+
+pub returns-clause-fits : goal.returns-clause-fits
+returns-clause-fits c = reads-fits (c.args.text.now ++ codes "pt") c.measured.result (returns-clause-value c)
+
+pub returns-clause-too_large : goal.returns-clause-too_large
+returns-clause-too_large c = reads-too_large (c.args.text.now ++ codes "pt") c.measured.result (returns-clause-value c)
+
+pub returns-clause-not_a_dimension : goal.returns-clause-not_a_dimension
+returns-clause-not_a_dimension c = reads-not_a_dimension (c.args.text.now ++ codes "pt") c.measured.result (returns-clause-value c)
