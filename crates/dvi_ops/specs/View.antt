@@ -6,7 +6,7 @@ use Rattle.dvi_ops.specs.declared.op.Op.TheVariants as ops
 use Rattle.dvi_ops.specs.declared.op.Postamble.{Postamble as Closing}
 use Rattle.dvi_ops.specs.declared.op.Units.{Units as Measures}
 
--- The font definition that one of the code stands for, with its area and its name as bytes.
+-- The font definition that a value of the code stands for, with its area and its name as bytes.
 abbrev pub definition : FontDefinition → Definition
 definition d = record {
   number = d.number;
@@ -17,11 +17,11 @@ definition d = record {
   name = d.name.now;
 }
 
--- The units that those of the code stand for.
+-- The units that a value of the code stands for.
 abbrev pub units : Measures → Units
 units u = record { num = u.num; den = u.den; mag = u.mag }
 
--- What post says, by what the code has of it.
+-- What post says of the whole file, from the value of the code.
 abbrev pub postamble : Closing → Postamble
 postamble p = record {
   last_bop = p.last_bop;
