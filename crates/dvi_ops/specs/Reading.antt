@@ -1,5 +1,5 @@
--- The instruction at the front of some bytes as a function (own; private calls alone, no public clause speaks of it). What it has to do with the
--- table is on `next`.
+-- The instruction at the front of some bytes as a function (own; private calls alone, no public clause speaks of it).
+-- What it has to do with the table is on `next`.
 use Rattle.std.specs.Prelude.{◌-◌, ◌∷◌, [], List, length, take, drop, ℕ, zero, suc, ℤ, pos, nat_lt, nat_le, if◌then◌else◌, Option, Some, None}
 use Rattle.byteorder.specs.Endian.{big_number}
 use Rattle.dvi_ops.specs.Instruction.{Axis, Across, Downward, First, Second, By, Set, Again, Definition, SetChar, PutChar, SetRule, PutRule, Nop, Move, FontNum, FontDef, Xxx, Instruction, Do, Push, Pop, Bop, Eop, Pre, Post, PostPost}

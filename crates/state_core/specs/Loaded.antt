@@ -1,5 +1,4 @@
--- Fonts that were read from the font files of a job (own; calls between the crates of the job and the invariant of `Job` alone, no public clause of
--- `job_core` speaks of it).
+-- Fonts that were read from the font files of a job (own; the crates of the job alone, no public clause of `job_core` speaks of it).
 use Rattle.std.specs.Prelude.{◌≡◌, List, length, Some, Ok, IfOk, IfSome}
 use Rattle.std.specs.List.{AllByRecursion}
 use Rattle.tfm_core.specs.NamedBytes.{NamedBytes, IsFontName, file_named}
