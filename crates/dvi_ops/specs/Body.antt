@@ -52,11 +52,11 @@ start =
       font = None;
     }
 
--- No mark, and this state.
+-- The meaning of an instruction that makes no mark and leaves this state.
 abbrev pub only : State → Meaning
 only s = Some ([], s)
 
--- h grows by an amount.
+-- A state whose h has grown by an amount.
 abbrev pub right : State → ℤ → State
 right s z = record s { place = record (s.place) { h = s.place.h +ℤ z } }
 
@@ -103,12 +103,12 @@ abbrev pub glyph : Widths → (code : ℤ) → Place → Option ℤ → Option (
 glyph widths code p None = None
 glyph widths code p (Some font) = glyph_of font code p (widths font code)
 
--- The glyph is a mark (DVItype, 15: put).
+-- What putting a glyph does: the glyph is a mark; there is no meaning without a glyph (DVItype, 15: put).
 abbrev pub put_glyph : Option (Mark × ℤ) → State → Meaning
 put_glyph None s = None
 put_glyph (Some (mark, width)) s = Some (mark ∷ [], s)
 
--- The glyph is a mark, and h grows by its width (DVItype, 15: set).
+-- What setting a glyph does: the glyph is a mark, and h grows by its width; there is no meaning without a glyph (DVItype, 15: set).
 abbrev pub set_glyph : Option (Mark × ℤ) → State → Meaning
 set_glyph None s = None
 set_glyph (Some (mark, width)) s = Some (mark ∷ [], right s width)
@@ -126,12 +126,12 @@ acts widths (FontNum f) s = only (record s { font = Some f })
 acts widths (FontDef d) s = only s
 acts widths (Xxx text) s = only s
 
--- Whether a number fits into 32 bits with a sign.
+-- Whether a number fits into 32 bits with a sign (own).
 abbrev pub in_range : ℤ → Bool
 in_range (pos a) = nat_lt a (2 ^ 31)
 in_range (negsuc a) = nat_lt a (2 ^ 31)
 
--- A meaning, where h and v are in that range after it.
+-- A meaning, where h and v are in signed 32 bits after it (own).
 abbrev pub kept_in : Meaning → Meaning
 kept_in None = None
 kept_in (Some (marks, s)) = if in_range s.place.h && in_range s.place.v then Some (marks, s) else None

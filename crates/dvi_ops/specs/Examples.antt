@@ -10,32 +10,34 @@ use Rattle.dvi_ops.specs.File.{MarkedPage}
 abbrev pub one_rule_body : Forest
 one_rule_body = Then (Move Downward (By (pos 65536))) (Then (SetRule (pos 65536) (pos 65536)) Empty)
 
+-- The mark of that page: the rule, with its corner 1pt below the origin.
 abbrev pub one_rule_marks : List Mark
 one_rule_marks = Rule (pos 0) (pos 65536) (pos 65536) (pos 65536) ∷ []
 
--- w1 5, put_rule, push, w1 7, put_rule, pop, w0, put_rule.
+-- The body w1 5, put_rule, push, w1 7, put_rule, pop, w0, put_rule.
 abbrev pub saved_register_body : Forest
 saved_register_body =
     Then (Move Across (Set First (pos 5))) (Then (PutRule (pos 1) (pos 1))
     (Group (Then (Move Across (Set First (pos 7))) (Then (PutRule (pos 1) (pos 1)) Empty))
     (Then (Move Across (Again First)) (Then (PutRule (pos 1) (pos 1)) Empty))))
 
--- The rules stand at 5, 12 and 10: pop brings back w and the place.
+-- The marks of that body. The rules stand at 5, 12 and 10: pop brings back w and the place.
 abbrev pub saved_register_marks : List Mark
 saved_register_marks = Rule (pos 5) (pos 0) (pos 1) (pos 1) ∷ Rule (pos 12) (pos 0) (pos 1) (pos 1) ∷ Rule (pos 10) (pos 0) (pos 1) (pos 1) ∷ []
 
--- set_rule 0 5, put_rule: the first rule is no mark, and h grows by its width all the same.
+-- The body set_rule 0 5, put_rule: the first rule is no mark, and h grows by its width all the same.
 abbrev pub empty_rule_body : Forest
 empty_rule_body = Then (SetRule (pos 0) (pos 5)) (Then (PutRule (pos 1) (pos 1)) Empty)
 
+-- The one mark of that body: the second rule, at 5.
 abbrev pub empty_rule_marks : List Mark
 empty_rule_marks = Rule (pos 5) (pos 0) (pos 1) (pos 1) ∷ []
 
--- right by 2^31 - 1, right by 1: h leaves signed 32 bits.
+-- The body right by 2^31 - 1, right by 1: h leaves signed 32 bits.
 abbrev pub too_far_body : Forest
 too_far_body = Then (Move Across (By (pos 2147483647))) (Then (Move Across (By (pos 1))) Empty)
 
--- The file of one page with that rule, as its bytes.
+-- The file of the page with one rule, as its bytes.
 abbrev pub one_rule_file : List ℕ
 one_rule_file =
     0xf7 ∷ 0x02 ∷ 0x01 ∷ 0x83 ∷ 0x92 ∷ 0xc0 ∷ 0x1c ∷ 0x3b ∷ 0x00 ∷ 0x00 ∷ 0x00 ∷ 0x00 ∷ 0x03 ∷ 0xe8 ∷ 0x00 ∷ 0x8b ∷
@@ -47,26 +49,27 @@ one_rule_file =
     0x01 ∷ 0x00 ∷ 0x00 ∷ 0x00 ∷ 0x00 ∷ 0x00 ∷ 0x01 ∷ 0xf9 ∷ 0x00 ∷ 0x00 ∷ 0x00 ∷ 0x4a ∷ 0x02 ∷ 0xdf ∷ 0xdf ∷ 0xdf ∷
     0xdf ∷ 0xdf ∷ 0xdf ∷ 0xdf ∷ []
 
+-- The pages of that file: one, with ten counts of 0 and the mark of the rule.
 abbrev pub one_rule_pages : List MarkedPage
 one_rule_pages = record { counts = replicate 10 (pos 0); marks = one_rule_marks } ∷ []
 
--- The same bytes, but the bop names its own place 15 in the place of -1.
+-- The file of one rule, but its bop names its own place 15 in the place of -1.
 abbrev pub self_naming_file : List ℕ
 self_naming_file = take 56 one_rule_file ++ (0x00 ∷ 0x00 ∷ 0x00 ∷ 0x0f ∷ drop 60 one_rule_file)
 
--- The same bytes, but pop and three nops in the place of the movement.
+-- The file of one rule, but with pop and three nops in the place of the movement.
 abbrev pub stray_pop_file : List ℕ
 stray_pop_file = take 60 one_rule_file ++ (0x8e ∷ 0x8a ∷ 0x8a ∷ 0x8a ∷ drop 64 one_rule_file)
 
--- The same bytes up to the third of the bytes 223.
+-- The file of one rule, but only up to the third of the bytes 223.
 abbrev pub short_file : List ℕ
 short_file = take 112 one_rule_file
 
--- The same bytes, but post says that there are two pages.
+-- The file of one rule, but post says that there are two pages.
 abbrev pub miscounted_file : List ℕ
 miscounted_file = take 102 one_rule_file ++ (0x02 ∷ drop 103 one_rule_file)
 
--- The file of two such pages, the second with 7 as its first count. Its bop points to the first page's.
+-- The file of two pages with one rule each, the second with 7 as its first count. Its bop points to the first page's.
 abbrev pub two_page_file : List ℕ
 two_page_file =
     0xf7 ∷ 0x02 ∷ 0x01 ∷ 0x83 ∷ 0x92 ∷ 0xc0 ∷ 0x1c ∷ 0x3b ∷ 0x00 ∷ 0x00 ∷ 0x00 ∷ 0x00 ∷ 0x03 ∷ 0xe8 ∷ 0x00 ∷ 0x8b ∷
@@ -81,6 +84,7 @@ two_page_file =
     0x00 ∷ 0x00 ∷ 0x00 ∷ 0x00 ∷ 0x03 ∷ 0xe8 ∷ 0x00 ∷ 0x01 ∷ 0x00 ∷ 0x00 ∷ 0x00 ∷ 0x01 ∷ 0x00 ∷ 0x00 ∷ 0x00 ∷ 0x00 ∷
     0x00 ∷ 0x02 ∷ 0xf9 ∷ 0x00 ∷ 0x00 ∷ 0x00 ∷ 0x85 ∷ 0x02 ∷ 0xdf ∷ 0xdf ∷ 0xdf ∷ 0xdf ∷ []
 
+-- The pages of that file, with their counts and the mark of the rule on each.
 abbrev pub two_pages : List MarkedPage
 two_pages =
     record { counts = replicate 10 (pos 0); marks = one_rule_marks } ∷ record { counts = pos 7 ∷ replicate 9 (pos 0); marks = one_rule_marks } ∷ []
@@ -103,6 +107,7 @@ fonts_in_nested_boxes_file =
     0x0a ∷ 0x00 ∷ 0x00 ∷ 0x00 ∷ 0x04 ∷ 0x74 ∷ 0x69 ∷ 0x6e ∷ 0x79 ∷ 0xf9 ∷ 0x00 ∷ 0x00 ∷ 0x00 ∷ 0x74 ∷ 0x02 ∷ 0xdf ∷
     0xdf ∷ 0xdf ∷ 0xdf ∷ 0xdf ∷ []
 
+-- The page of that file, with its three glyphs: 99 of font 0, 98 of font 1 and 99 of font 1.
 abbrev pub fonts_in_nested_boxes_pages : List MarkedPage
 fonts_in_nested_boxes_pages =
     record {
@@ -112,18 +117,19 @@ fonts_in_nested_boxes_pages =
           ∷ Glyph (pos 1) (pos 99) (pos 983040) (pos 655360) ∷ [];
     } ∷ []
 
--- The same bytes, but fnt_num 2 in the place of fnt_num 1: font 2 has no definition.
+-- The file with two fonts, but fnt_num 2 in the place of fnt_num 1: font 2 has no definition.
 abbrev pub undefined_font_file : List ℕ
 undefined_font_file = take 107 fonts_in_nested_boxes_file ++ (0xad ∷ drop 108 fonts_in_nested_boxes_file)
 
--- The same bytes, but post says that no push is open in any page.
+-- The file with two fonts, but post says that no push is open in any page.
 abbrev pub shallow_file : List ℕ
 shallow_file = take 142 fonts_in_nested_boxes_file ++ (0x00 ∷ drop 143 fonts_in_nested_boxes_file)
 
+-- The name of both fonts of that file.
 abbrev pub tiny_name : List ℕ
 tiny_name = codes "tiny"
 
--- Its fonts have the name tiny. These are their metric files: the widths of three characters, at the size 655360 and at twice that size.
+-- Metric files for fonts of that name: the width of character 99 at the size 655360, and those of 98 and 99 at twice that size.
 pub record GivesTiny (metrics : Metrics) : Type 0 where
   pub small : ℤ → Option ℤ
   pub large : ℤ → Option ℤ

@@ -43,7 +43,8 @@ IsRightAfter known (Do (FontDef d)) = IsSize d.size × AllByRecursion (AgreesWit
 IsRightAfter known (Do (FontNum f)) = IsSome (defined f known)
 IsRightAfter known i = Unit {0}
 
--- This holds of each instruction. `known` are the definitions before them all.
+-- Instructions, one behind the other: each definition has a size and agrees with those before it, and each selected font is defined before it.
+-- `known` are the definitions before them all.
 abbrev pub FontsAreRight : List Definition → List Instruction → Type 0
 FontsAreRight known [] = Unit {0}
 FontsAreRight known (i ∷ rest) = IsRightAfter known i × FontsAreRight (definition_of i ++ known) rest
@@ -57,7 +58,7 @@ known_after known (i ∷ rest) = known_after (definition_of i ++ known) rest
 abbrev pub Metrics : Type 0
 Metrics = List ℕ → ℤ → Option (ℤ → Option ℤ)
 
--- The widths of a defined font. The area is ignored.
+-- The widths of a defined font, if there is one. The area is ignored (own).
 abbrev pub font_in : Metrics → Option Definition → Option (ℤ → Option ℤ)
 font_in metrics None = None
 font_in metrics (Some d) = metrics d.name d.size

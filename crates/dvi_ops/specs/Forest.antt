@@ -42,27 +42,28 @@ nests Empty = 0
 nests (Then i rest) = nests rest
 nests (Group inner rest) = max (nests inner + 1) (nests rest)
 
--- The marks alone.
+-- The marks of a meaning, without the state after them.
 abbrev pub marks_of : Meaning → Option (List Mark)
 marks_of None = None
 marks_of (Some (marks, s)) = Some marks
 
--- One body behind another.
+-- One body behind another (own).
 abbrev pub beside : Forest → Forest → Forest
 beside Empty g = g
 beside (Then i f) g = Then i (beside f g)
 beside (Group inner f) g = Group inner (beside f g)
 
--- The places (h, v) after each instruction and after each group, as far as there is a meaning.
+-- The place (h, v) after a meaning, and the places from there on; none where there is no meaning (own).
 abbrev pub points_then : Meaning → (State → List (ℤ × ℤ)) → List (ℤ × ℤ)
 points_then None next = []
 points_then (Some (marks, s)) next = (s.place.h, s.place.v) ∷ next s
 
+-- The places (h, v) after each instruction and after each group of a body, as far as there is a meaning (own).
 abbrev pub points : Acts → Forest → State → List (ℤ × ℤ)
 points does Empty s = []
 points does (Then i rest) s = points_then (does i s) (λ t. points does rest t)
 points does (Group inner rest) s = points does inner s ++ points_then (restored s.place (meaning does inner s)) (λ t. points does rest t)
 
--- A place in signed 32 bits.
+-- A place in signed 32 bits (own).
 abbrev pub IsPoint : ℤ × ℤ → Type 0
 IsPoint (h, v) = IsTrue (in_range h) × IsTrue (in_range v)

@@ -38,7 +38,7 @@ pub record Written : Type 0 where
   pub depth : ℕ
   pub known : List Definition
 
--- Behind the preamble, which has 15 bytes.
+-- What the writer knows behind the preamble, which has 15 bytes.
 abbrev pub at_first : Written
 at_first = record { last = negsuc 0; size = 15; depth = 0; known = [] }
 
@@ -66,7 +66,7 @@ abbrev pub after_all : Written → List Sheet → Written
 after_all s [] = s
 after_all s (p ∷ rest) = after_all (after s p) rest
 
--- The bytes up to the last eop.
+-- The bytes of a file up to the last eop.
 abbrev pub front_of : List Sheet → List ℕ
 front_of sheets = bytes_of (preamble ∷ sheets_from at_first sheets)
 
@@ -75,7 +75,7 @@ abbrev pub stop_of : Written → (tall wide : ℤ) → (count : ℕ) → Postamb
 stop_of s tall wide count =
     record { last_bop = s.last; units = scaled_points; height_plus_depth = tall; width = wide; stack_depth = s.depth; pages = count % 65536 }
 
--- From post to the end.
+-- The bytes from post to the end of a file.
 abbrev pub ending_of : Written → Postamble → List Definition → (padding : ℕ) → List ℕ
 ending_of s stop closing padding = bytes_of (Post stop ∷ (define closing ++ PostPost (pos s.size) 2 ∷ [])) ++ replicate padding 223
 
@@ -100,7 +100,7 @@ table_widths metrics table f c = width_in (font_in metrics (table f)) c
 abbrev pub IsWritable : Instruction → Type 0
 IsWritable i = HasSpelling i × NumbersFit i
 
--- A definition is that of the job's font of its number.
+-- A definition is that of the job's font of its number, has the size of a font, and can be written.
 pub record IsTabled (table : Table) (d : Definition) : Type 0 where
   pub listed : table d.number ≡ Some d
   pub size : IsSize d.size

@@ -1,4 +1,5 @@
--- The instruction at the front of some bytes as a function, which the private parts of `next` compute (own). What it has to do with the table is on `next`.
+-- The instruction at the front of some bytes as a function (own; private calls alone, no public clause speaks of it).
+-- What it has to do with the table is on `next`.
 use Rattle.std.specs.Prelude.{◌-◌, ◌∷◌, [], List, length, take, drop, ℕ, zero, suc, ℤ, pos, nat_lt, nat_le, if◌then◌else◌, Option, Some, None}
 use Rattle.byteorder.specs.Endian.{big_number}
 use Rattle.dvi_ops.specs.Instruction.{Axis, Across, Downward, First, Second, By, Set, Again, Definition, SetChar, PutChar, SetRule, PutRule, Nop, Move, FontNum, FontDef, Xxx, Instruction, Do, Push, Pop, Bop, Eop, Pre, Post, PostPost}
@@ -8,12 +9,12 @@ use Rattle.dvi_ops.specs.Table.{signed, code}
 abbrev pub Front : Type 0 → Type 0
 Front A = Option (A × List ℕ)
 
--- What is made of it.
+-- What a function makes of something at the front of some bytes; the bytes behind it stay.
 abbrev pub made : {A B : Type 0} → (A → B) → Front A → Front B
 made f None = None
 made f (Some (value, rest)) = Some (f value, rest)
 
--- Then what stands behind it.
+-- What is read behind something at the front of some bytes, by what that is.
 abbrev pub followed : {A B : Type 0} → Front A → (A → List ℕ → Front B) → Front B
 followed None next = None
 followed (Some (value, rest)) next = next value rest
@@ -22,13 +23,15 @@ followed (Some (value, rest)) next = next value rest
 abbrev pub cut : ℕ → List ℕ → Front (List ℕ)
 cut n bytes = if nat_le n (length bytes) then Some (take n bytes, drop n bytes) else None
 
--- A signed number of n bytes; the number of a character or of a font; a number of two bytes.
+-- A signed number of n bytes.
 unfoldable pub signed_at : ℕ → List ℕ → Front ℤ
 signed_at n bytes = made (signed n) (cut n bytes)
 
+-- The number of a character or of a font, in n bytes.
 unfoldable pub code_at : ℕ → List ℕ → Front ℤ
 code_at n bytes = made (code n) (cut n bytes)
 
+-- A number of two bytes.
 unfoldable pub half_at : List ℕ → Front ℕ
 half_at bytes = made (big_number 2) (cut 2 bytes)
 
@@ -47,13 +50,15 @@ abbrev pub byte_at : List ℕ → Front ℕ
 byte_at [] = None
 byte_at (byte ∷ rest) = Some (byte, rest)
 
--- Two numbers of four bytes, or three; two numbers of two bytes.
+-- Two numbers of four bytes.
 unfoldable pub two_at : List ℕ → Front (ℤ × ℤ)
 two_at bytes = followed (signed_at 4 bytes) (λ a rest. made (λ b. (a, b)) (signed_at 4 rest))
 
+-- Three numbers of four bytes.
 unfoldable pub three_at : List ℕ → Front (ℤ × ℤ × ℤ)
 three_at bytes = followed (signed_at 4 bytes) (λ a rest. made (λ bc. (a, bc.0, bc.1)) (two_at rest))
 
+-- Two numbers of two bytes.
 unfoldable pub halves_at : List ℕ → Front (ℕ × ℕ)
 halves_at bytes = followed (half_at bytes) (λ a rest. made (λ b. (a, b)) (half_at rest))
 
@@ -119,11 +124,12 @@ long_at operation rest =
 unfoldable pub comment_at : List ℕ → Front (List ℕ)
 comment_at bytes = followed (byte_at bytes) (λ k rest. cut k rest)
 
--- pre, post and post_post, each behind its code.
+-- pre, behind its code.
 unfoldable pub pre_at : List ℕ → Front Instruction
 pre_at bytes =
     followed (byte_at bytes) (λ id rest. followed (three_at rest) (λ u rest. made (λ comment. Pre id (record { num = u.0; den = u.1; mag = u.2 }) comment) (comment_at rest)))
 
+-- post, behind its code.
 unfoldable pub post_at : List ℕ → Front Instruction
 post_at bytes =
     followed
@@ -137,6 +143,7 @@ post_at bytes =
       pages = counts.1;
     })) (halves_at rest))))
 
+-- post_post, behind its code.
 unfoldable pub post_post_at : List ℕ → Front Instruction
 post_post_at bytes = followed (signed_at 4 bytes) (λ place rest. made (λ id. PostPost place id) (byte_at rest))
 
@@ -148,7 +155,7 @@ frame_at operation rest =
     else if nat_lt operation 250 then post_post_at rest
     else None
 
--- The instruction, by its code.
+-- The instruction at the front of some bytes, by its code.
 unfoldable pub read : List ℕ → Front Instruction
 read [] = None
 read (operation ∷ rest) =

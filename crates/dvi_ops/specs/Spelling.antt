@@ -98,20 +98,22 @@ spelling (Pre id units comment) = 247 ∷ id ∷ (units_bytes units ++ (length c
 spelling (Post p) = 248 ∷ post_bytes p
 spelling (PostPost place id) = 249 ∷ (operand 4 place ++ id ∷ [])
 
--- Each length fits its field.
+-- Each length in an instruction fits its field (own; the widths of the fields: DVItype, 15 to 20).
 abbrev pub HasSpelling : Instruction → Type 0
 HasSpelling (Do (FontDef d)) = (length d.area < 256) × (length d.name < 256)
 HasSpelling (Do (Xxx text)) = length text < 2 ^ 32
 HasSpelling (Pre id units comment) = length comment < 256
 HasSpelling i = Unit {0}
 
--- Each number of two bytes or more fits its field. (An identifier is its byte as it stands.)
+-- A number fits a field of four bytes (own; the widths of the fields: DVItype, 15 to 20).
 abbrev pub NumberFits : ℤ → Type 0
 NumberFits z = FitsSigned w32 z
 
+-- num, den and mag each fit a field of four bytes.
 abbrev pub UnitsFit : Units → Type 0
 UnitsFit units = NumberFits units.num × NumberFits units.den × NumberFits units.mag
 
+-- Each number in what stands in a body fits a field of four bytes.
 abbrev pub LeafFits : Leaf → Type 0
 LeafFits (SetChar c) = NumberFits c
 LeafFits (PutChar c) = NumberFits c
@@ -125,6 +127,7 @@ LeafFits (FontNum f) = NumberFits f
 LeafFits (FontDef d) = NumberFits d.number × NumberFits d.check_sum × NumberFits d.size × NumberFits d.design_size
 LeafFits (Xxx text) = Unit {0}
 
+-- Each number of two bytes or more in an instruction fits its field, and a bop has ten counts. (An identifier is its byte as it stands.)
 abbrev pub NumbersFit : Instruction → Type 0
 NumbersFit (Do leaf) = LeafFits leaf
 NumbersFit (Bop counts pointer) = (length counts ≡ 10) × AllByRecursion NumberFits counts × NumberFits pointer
@@ -136,12 +139,12 @@ NumbersFit (Post p) =
     NumberFits p.last_bop × UnitsFit p.units × NumberFits p.height_plus_depth × NumberFits p.width × (p.stack_depth < 65536) × (p.pages < 65536)
 NumbersFit (PostPost place id) = NumberFits place
 
--- A special holds up to 255 bytes, so that xxx1 spells it; any other instruction.
+-- An instruction that is no special, or a special of up to 255 bytes, which xxx1 spells.
 abbrev pub HasShortText : Instruction → Type 0
 HasShortText (Do (Xxx text)) = length text < 256
 HasShortText i = Unit {0}
 
--- What stands in a body, but for specials and font definitions.
+-- What stands in a body is neither a special nor a font definition.
 abbrev pub IsBrief : Leaf → Type 0
 IsBrief (FontDef d) = ⊥
 IsBrief (Xxx text) = ⊥

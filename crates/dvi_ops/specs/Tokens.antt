@@ -9,15 +9,15 @@ pub record Token : Type 0 where
   pub says : Instruction
   pub bytes : List ℕ
 
--- Its bytes spell it.
+-- The bytes of a token spell its instruction.
 abbrev pub IsSpelled : Token → Type 0
 IsSpelled t = Spells t.says t.bytes
 
--- The instructions.
+-- The instructions of tokens, in order.
 abbrev pub says : List Token → List Instruction
 says tokens = map (λ t. t.says) tokens
 
--- The bytes, one instruction's behind the other's.
+-- The bytes of tokens, one instruction's behind the other's.
 abbrev pub written : List Token → List ℕ
 written tokens = flat_map (λ t. t.bytes) tokens
 

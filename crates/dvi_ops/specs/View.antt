@@ -6,6 +6,7 @@ use Rattle.dvi_ops.specs.declared.op.Op.TheVariants as ops
 use Rattle.dvi_ops.specs.declared.op.Postamble.{Postamble as Closing}
 use Rattle.dvi_ops.specs.declared.op.Units.{Units as Measures}
 
+-- The font definition that a value of the code stands for, with its area and its name as bytes.
 abbrev pub definition : FontDefinition → Definition
 definition d = record {
   number = d.number;
@@ -16,9 +17,11 @@ definition d = record {
   name = d.name.now;
 }
 
+-- The units that a value of the code stands for.
 abbrev pub units : Measures → Units
 units u = record { num = u.num; den = u.den; mag = u.mag }
 
+-- What post says of the whole file, from the value of the code.
 abbrev pub postamble : Closing → Postamble
 postamble p = record {
   last_bop = p.last_bop;
@@ -29,6 +32,7 @@ postamble p = record {
   pages = p.pages;
 }
 
+-- The instruction that an op stands for.
 abbrev pub view : Op → Instruction
 view (ops.SetChar c) = Do (SetChar c)
 view (ops.PutChar c) = Do (PutChar c)

@@ -12,7 +12,8 @@ use Rattle.node_core.specs.declared.tree.BoxNode.{BoxNode}
 use Rattle.ship_core.specs.Marks.{Page}
 use Rattle.ship_core.specs.Drawing.{body_of}
 
--- The page that a box makes: all counts are 0, and the reference point is its height below the origin.
+-- The page that a box makes: all counts are 0, and the reference point is its height below the origin
+-- (own; the place: TeX: The Program, part 32, §640).
 abbrev pub page_of : BoxNode → Page
 page_of b = record { counts = replicate 10 (pos 0); shown = b; h = pos 0; v = b.height }
 
@@ -55,7 +56,7 @@ is_among slot slots = list_any (λ other. other == slot) slots
 unfoldable pub is_fresh : Slots → (defined : List ℕ) → List Instruction → ℕ → Bool
 is_fresh fonts defined is slot = is_some (font_in fonts slot) && (not (is_among slot defined) && list_any (selects slot) is)
 
--- The slots of these fonts, rising.
+-- The slots of the fonts that are selected by these instructions and not defined yet, rising.
 unfoldable pub fresh_slots : Slots → (defined : List ℕ) → List Instruction → List ℕ
 fresh_slots fonts defined is = filter (is_fresh fonts defined is) (numbers_below 256)
 
@@ -63,20 +64,21 @@ fresh_slots fonts defined is = filter (is_fresh fonts defined is) (numbers_below
 unfoldable pub in_rising_order : (defined : List ℕ) → List ℕ
 in_rising_order defined = filter (λ slot. is_among slot defined) (numbers_below 256)
 
--- What is written for a page behind these definitions.
+-- What is written for a page, where the fonts of these slots are defined before it.
 abbrev pub sheet_of : Slots → (defined : List ℕ) → Page → Sheet
 sheet_of fonts defined page =
     record { counts = page.counts; fresh = definitions_of fonts (fresh_slots fonts defined (flat (body_of page))); body = body_of page }
 
--- How far down and to the right a page reaches.
+-- How far down a page reaches: to the bottom of its box (TeX: The Program, part 32, §641).
 abbrev pub reach_down : Page → ℤ
 reach_down page = page.v +ℤ page.shown.depth
 
+-- How far to the right a page reaches: to the right edge of its box (TeX: The Program, part 32, §641).
 abbrev pub reach_right : Page → ℤ
 reach_right page = page.h +ℤ page.shown.width
 
--- The bytes up to the last eop; the slots of the fonts that they define, in order; the place of the last bop, or -1; the greatest
--- reaches of the pages, at least 0; and the most pushes that are open at once in a page.
+-- What the writer keeps: the bytes up to the last eop; the slots of the fonts that they define, in order; the place of the last bop, or -1; the
+-- greatest reaches of the pages, at least 0; and the most pushes that are open at once in a page.
 pub record Draft : Type 0 where
   pub bytes : List ℕ
   pub defined : List ℕ
@@ -85,11 +87,11 @@ pub record Draft : Type 0 where
   pub wide : ℤ
   pub deep : ℕ
 
--- No page yet.
+-- The draft of no page: the preamble alone.
 abbrev pub first_draft : Draft
 first_draft = record { bytes = bytes_of (preamble ∷ []); defined = []; last = negsuc 0; tall = pos 0; wide = pos 0; deep = 0 }
 
--- One page more.
+-- A draft with one page more.
 unfoldable pub with_page : Slots → Draft → Page → Draft
 with_page fonts draft page =
     record {
@@ -101,7 +103,7 @@ with_page fonts draft page =
       deep = max draft.deep (nests (body_of page));
     }
 
--- These pages more, in order.
+-- A draft with these pages more, in order.
 abbrev pub with_pages : Slots → Draft → List Page → Draft
 with_pages fonts draft [] = draft
 with_pages fonts draft (page ∷ pages) = with_pages fonts (with_page fonts draft page) pages
@@ -110,7 +112,7 @@ with_pages fonts draft (page ∷ pages) = with_pages fonts (with_page fonts draf
 abbrev pub draft_of : Slots → List Page → Draft
 draft_of fonts pages = with_pages fonts first_draft pages
 
--- What post says.
+-- What post says of a draft with that many pages (TeX: The Program, part 32, §642).
 abbrev pub closing : Draft → ℕ → Postamble
 closing draft count =
     record { last_bop = draft.last; units = scaled_points; height_plus_depth = draft.tall; width = draft.wide; stack_depth = draft.deep; pages = count % 65536 }
@@ -120,7 +122,7 @@ abbrev pub closing_ops : Slots → Draft → ℕ → List Instruction
 closing_ops fonts draft count =
     Post (closing draft count) ∷ (define (definitions_of fonts (in_rising_order draft.defined)) ++ PostPost (pos (length draft.bytes)) 2 ∷ [])
 
--- All bytes but the bytes 223.
+-- All bytes of a file but the bytes 223 at its end.
 abbrev pub closed : Slots → Draft → ℕ → List ℕ
 closed fonts draft count = draft.bytes ++ bytes_of (closing_ops fonts draft count)
 

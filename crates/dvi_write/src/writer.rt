@@ -42,7 +42,7 @@ impl Model for Writer {
     ghost view = { λ writer. record { bytes = writer.bytes.items; defined = writer.defined.items; last = writer.last; tall = writer.tall; wide = writer.wide; deep = writer.deep } };
 }
 
-/// A scaled point.
+/// The units of a file: a scaled point.
 const SCALED_POINTS: Units = Units {
     num: 25_400_000,
     den: 473_628_672,

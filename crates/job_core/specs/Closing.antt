@@ -1,4 +1,4 @@
--- How the finished file ends (TeX: The Program, part 32; DVItype, 19 and 20).
+-- How the finished file ends (TeX: The Program, part 32, §642; DVItype, 18 to 20).
 use Rattle.std.specs.Prelude.{◌≡◌, ◌≢◌, ◌≤◌, ◌≤ℤ◌, ◌%◌, [], ◌∷◌, ℕ, ℤ, pos, List, length, map, ◌++◌, Some, Result, OnOk, IfSome}
 use Rattle.std.specs.List.{AllByRecursion, Contains, flat_map}
 use Rattle.dvi_ops.specs.Instruction.{Definition, Pre}
@@ -14,7 +14,7 @@ use Rattle.dvi_write.specs.Draft.{definition_of, reach_down, reach_right}
 use Rattle.nest_core.specs.Machine.{Machine}
 use Rattle.job_core.specs.Jobs.{Seen, Holds}
 
--- The greatest number of a list: none is above it, and it is one of them.
+-- The greatest number of a list: none is above it, and it is one of them (own).
 pub record IsGreatestOf (numbers : List ℤ) (greatest : ℤ) : Type 0 where
   pub bounds : AllByRecursion (λ z. z ≤ℤ greatest) numbers
   pub reached : Contains numbers greatest
@@ -37,14 +37,15 @@ pub record IsClosedFor (fonts : Slots) (bytes : List ℕ) (pages : List Page) : 
   -- post has the greatest reaches of the pages down and to the right, at least 0.
   pub tall : IsGreatestOf (pos 0 ∷ map reach_down pages) frame.stop.height_plus_depth
   pub wide : IsGreatestOf (pos 0 ∷ map reach_right pages) frame.stop.width
-  -- It has the greatest number of pushes that are open at once.
+  -- post has the greatest number of pushes that are open at once.
   pub deep : IsGreatestOf (pos 0 ∷ map (λ part. pos (depth_of part)) parts) (pos frame.stop.stack_depth)
   -- Four to seven bytes 223 fill the length up to a multiple of 4.
   pub least : 4 ≤ frame.padding
   pub most : frame.padding ≤ 7
   pub fills : length bytes % 4 ≡ 0
 
--- Where the end succeeds, what the device has taken ends so, unless there are no pages.
+-- Where the end succeeds, the bytes that the device has taken are closed for the pages of each machine that the job stood for, unless there are none
+-- (own).
 abbrev pub ClosesFile : Seen → Result Summary Refusal → Seen → Type 0
 ClosesFile old result new =
     (m : Machine) → Holds old m → m.pages ≢ [] → OnOk result (IfSome new.told (λ bytes. IsClosedFor m.state.fonts bytes m.pages))

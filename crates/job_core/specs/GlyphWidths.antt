@@ -16,7 +16,7 @@ pub record HasFileWidth (s : State) (g : Glyph) : Type 0 where
   pub given : file_widths s.files loaded.name loaded.font.size ≡ Some widths
   pub width : widths (pos g.code) ≡ Some g.width
 
--- The same of a leaf that is a glyph.
+-- A leaf that is a glyph has the width that the font files give its character.
 abbrev pub IsMeasured : State → Leaf → Type 0
 IsMeasured s (glyph g) = HasFileWidth s g
 IsMeasured s (font_kern width) = Unit {0}
@@ -25,6 +25,6 @@ IsMeasured s (glue g) = Unit {0}
 IsMeasured s (penalty p) = Unit {0}
 IsMeasured s (rule sizes) = Unit {0}
 
--- So has each glyph of a page, in its inner boxes too.
+-- Each glyph of a page, in its inner boxes too, has the width that the font files give its character.
 abbrev pub IsMeasuredPage : State → Page → Type 0
 IsMeasuredPage s page = EachLeaf (IsMeasured s) page.shown.list

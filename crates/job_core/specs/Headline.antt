@@ -26,5 +26,5 @@ pub record IsDone (files : List NamedBytes) (commands : List Command) (replies :
   -- and the summary has its length.
   pub file : (metrics : Metrics) → GivesFiles metrics files → OnOk result (IfSome ended.told (λ bytes. IsFileOf metrics bytes machine.pages))
   pub size : IfOk result (λ summary. IfSome ended.told (λ bytes. summary.bytes ≡ length bytes))
-  -- It ends as a file of these pages does, and each font that it defines is that of the machine's slot of its number.
+  -- The file ends as one of these pages does, and each font that it defines is that of the machine's slot of its number.
   pub closed : machine.pages ≢ [] → OnOk result (IfSome ended.told (λ bytes. IsClosedFor machine.state.fonts bytes machine.pages))

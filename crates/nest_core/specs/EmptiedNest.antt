@@ -1,4 +1,4 @@
--- The nest while its innermost list is being closed (own).
+-- The nest while its innermost list is being closed (own; the crates of the job alone, no public clause of `job_core` speaks of it).
 use Rattle.std.specs.Prelude.{◌-◌, List, length, slice_set, Option, Some, None}
 use Rattle.node_core.specs.Items.{Items, none}
 use Rattle.nest_core.specs.declared.nest.OpenList.{OpenList}

@@ -30,7 +30,7 @@ abbrev pub font_of : Option NamedBytes → Option ℤ → Result SizedFont Refus
 font_of None size = Err NoFont
 font_of (Some file) size = sized_font (metric_file file.bytes) size
 
--- The slots with a font of that name in one of them.
+-- The slots with a font of that name in one of them; as they were where there is no font for it.
 abbrev pub with_font : Slots → ℕ → List ℕ → Result SizedFont Refusal → Slots
 with_font fonts slot name (Err refusal) = fonts
 with_font fonts slot name (Ok font) = slice_set fonts slot (Some (record { name = name; font = font }))
@@ -45,11 +45,11 @@ pub record CharacterItems : Type 0 where
   pub items : List Node
   pub missing : ℕ
 
--- Without a font they come to nothing.
+-- What characters come to without a font: nothing.
 abbrev pub unshaped : CharacterItems
 unshaped = record { items = []; missing = 0 }
 
--- A text in the font of a slot.
+-- What a text comes to in the font of a slot.
 abbrev pub text_in : Option LoadedFont → ℕ → List ℕ → CharacterItems
 text_in None slot text = unshaped
 text_in (Some loaded) slot text =
@@ -58,7 +58,7 @@ text_in (Some loaded) slot text =
       missing = text_missing (glyph_of loaded.font) (step_of loaded.font) text;
     }
 
--- One character in the font of a slot: the word of this character.
+-- What one character comes to in the font of a slot: it is shaped as a word of its own.
 abbrev pub character_in : Option LoadedFont → ℕ → ℕ → CharacterItems
 character_in None slot code = unshaped
 character_in (Some loaded) slot code =
@@ -67,11 +67,12 @@ character_in (Some loaded) slot code =
       missing = shaped_missing (glyph_of loaded.font) (step_of loaded.font) (code ∷ []);
     }
 
--- The same in the current font.
+-- What a text comes to in the current font; nothing where none was chosen.
 abbrev pub text_shaped : Slots → Option ℕ → List ℕ → CharacterItems
 text_shaped fonts None text = unshaped
 text_shaped fonts (Some slot) text = text_in (font_in fonts slot) slot text
 
+-- What one character comes to in the current font; nothing where none was chosen.
 abbrev pub character_shaped : Slots → Option ℕ → ℕ → CharacterItems
 character_shaped fonts None code = unshaped
 character_shaped fonts (Some slot) code = character_in (font_in fonts slot) slot code

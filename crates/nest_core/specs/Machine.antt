@@ -1,4 +1,4 @@
--- The abstract machine: what a job keeps, and what each command answers and changes (own; after TeX: The Program, parts 16, 32 and 33).
+-- The abstract machine: what a job keeps, and what each command answers and changes (own; after TeX: The Program, parts 16, 32, 33 and 47).
 use Rattle.std.specs.Prelude.{◌≡◌, ◌+◌, ◌-◌, ◌==◌, ◌++◌, ◌∷◌, ◌&&◌, ◌||◌, [], ℕ, ℤ, pos, Bool, true, false, not, nat_le, nat_lt, if◌then◌else◌, List, length, take, replicate, slice_get, slice_set, Option, Some, None, is_none, is_some, unwrap_or, Result, Ok, Err, is_ok}
 use Rattle.node_core.specs.declared.tree.Node.{Node}
 use Rattle.node_core.specs.declared.tree.Node.TheVariants as nodes
@@ -57,19 +57,23 @@ pub record State : Type 0 where
   pub pages : ℕ
   pub over : Bool
 
--- The limits: open lists, how deep a box is, items of an open list, pages, and nodes that are shipped in a job.
+-- How many lists may be open at once.
 abbrev pub most_open : ℕ
 most_open = 64
 
+-- How deep boxes may nest in a box, that box counted.
 abbrev pub most_deep : ℕ
 most_deep = 200
 
+-- How many items an open list may have.
 abbrev pub most_items : ℕ
 most_items = 65536
 
+-- How many pages a job may ship.
 abbrev pub most_pages : ℕ
 most_pages = 1
 
+-- How many nodes a job may ship, on all its pages together.
 abbrev pub most_shipped : ℕ
 most_shipped = 16777216
 
@@ -96,7 +100,7 @@ opened opening = record { opening = opening; list = none; previous_depth = ignor
 abbrev pub innermost : List OpenList → Option OpenList
 innermost nest = slice_get nest (length nest - 1)
 
--- The open lists around it.
+-- The open lists around the innermost one.
 abbrev pub outer : List OpenList → List OpenList
 outer nest = take (length nest - 1) nest
 
@@ -111,7 +115,7 @@ with_nodes nest nodes None = nest
 with_nodes nest nodes (Some open_list) =
     slice_set nest (length nest - 1) (record open_list { list = items_of (nodes_of open_list.list ++ nodes) })
 
--- The nest with a rule at the end of its innermost list, whose previous depth is then ignored (TeX: The Program, part 47).
+-- The nest with a rule at the end of its innermost list, whose previous depth is then ignored (TeX: The Program, part 47, §1056).
 abbrev pub with_rule : List OpenList → rules.Rule → Option OpenList → List OpenList
 with_rule nest rule None = nest
 with_rule nest rule (Some open_list) =
@@ -141,15 +145,15 @@ abbrev pub glue_by : Kind → Params → (previous height : ℤ) → Result (Opt
 glue_by Horizontal params previous height = Ok None
 glue_by Vertical params previous height = interline params previous height
 
--- That glue in front of a box at the end of an open list.
+-- The glue in front of a box of that height at the end of an open list.
 abbrev pub glue_in : Params → OpenList → (height : ℤ) → Result (Option glues.Glue) distances.DimensionTooLarge
 glue_in params open_list height = glue_by (kind_of open_list.opening.form) params open_list.previous_depth height
 
--- The items that a box brings to an open list: that glue, and the box with its shift.
+-- The items that a box brings to an open list: the glue in front of it, and the box with its shift.
 abbrev pub box_items : Params → OpenList → (shift : ℤ) → BoxNode → List Node
 box_items params open_list shift b = appended (glue_of (glue_in params open_list b.height)) shift b
 
--- The list with a box at its end: the previous depth is then that of the box.
+-- The list with a box at its end: the previous depth is then that of the box (TeX: The Program, part 33, §679).
 abbrev pub list_with_box : Params → (shift : ℤ) → BoxNode → OpenList → OpenList
 list_with_box params shift b open_list =
     record open_list { list = items_of (nodes_of open_list.list ++ box_items params open_list shift b); previous_depth = b.depth }
@@ -159,14 +163,15 @@ abbrev pub with_box : Params → List OpenList → (shift : ℤ) → BoxNode →
 with_box params nest shift b None = nest
 with_box params nest shift b (Some open_list) = slice_set nest (length nest - 1) (list_with_box params shift b open_list)
 
--- The nest without a box at the end of its innermost list.
+-- The nest without a box at the end of its innermost list (TeX: The Program, part 47, §1080 and §1081).
 abbrev pub without_last : List OpenList → Option OpenList → List OpenList
 without_last nest None = nest
 without_last nest (Some open_list) =
     slice_set nest (length nest - 1)
     (record open_list { list = items_of (without (last_box (nodes_of open_list.list)) (nodes_of open_list.list)) })
 
--- The box that a list of items becomes, or the items where a size does not fit; a vbox is no deeper than boxmaxdepth.
+-- The box that a list of items becomes, or the items where a size does not fit; a vbox is no deeper than boxmaxdepth
+-- (TeX: The Program, part 47, §1086).
 abbrev pub packed_as : BoxForm → Params → Target → Items → Result packs.Packed TooLarge
 packed_as Hbox params target items = hpacked target items
 packed_as Vbox params target items = vpacked target params.box_max_depth items
@@ -209,11 +214,12 @@ abbrev pub count_in : Option BoxNode → ℕ
 count_in None = 0
 count_in (Some b) = box_count b
 
--- The page of the box of a register, if there is one, and whether that page is huge (TeX: The Program, part 32).
+-- The page of the box of a register, if there is one (TeX: The Program, part 32).
 abbrev pub pages_of : Option BoxNode → List Page
 pages_of None = []
 pages_of (Some b) = page_of b ∷ []
 
+-- Whether the page of the box of a register is huge, if there is one.
 abbrev pub is_huge_in : Option BoxNode → Bool
 is_huge_in None = false
 is_huge_in (Some b) = is_huge (page_of b)
@@ -236,7 +242,7 @@ abbrev pub character_checks : State → List (Bool × Refusal)
 character_checks m =
     (length m.nest == 0, NoOpenList) ∷ (is_vertical (kind_in (innermost m.nest)), WrongMode) ∷ (is_none (current_font m.fonts m.current), NoFont) ∷ []
 
--- Those of characters that come to these items.
+-- The refusals of characters that come to these items: those of any characters, and that the items are too many.
 abbrev pub shape_checks : State → CharacterItems → List (Bool × Refusal)
 shape_checks m shaped = character_checks m ++ length_checks m shaped.items
 
@@ -255,16 +261,16 @@ box_checks params (Some open_list) b =
     (not (is_ok (glue_in params open_list b.height)), DimensionTooLarge)
     ∷ (nat_lt most_items (length (nodes_of open_list.list) + length (box_items params open_list (pos 0) b)), ListTooLong) ∷ []
 
--- The refusals of the box of a closed list: a register takes any box.
+-- The refusals of the place where the box of a closed list goes: a register takes any box.
 abbrev pub home_checks : Params → (around : List OpenList) → (into : Option ℕ) → BoxNode → List (Bool × Refusal)
 home_checks params around None b = box_checks params (innermost around) b
 home_checks params around (Some r) b = []
 
--- With them that of a box which is too deep, in front.
+-- The refusals of the box of a closed list: that it is too deep, and then those of the place where it goes.
 abbrev pub place_checks : Params → (around : List OpenList) → (into : Option ℕ) → BoxNode → List (Bool × Refusal)
 place_checks params around into b = (nat_lt most_deep (box_depth b), TooDeep) ∷ home_checks params around into b
 
--- That of sizes which do not fit, or those of the box.
+-- The refusals of what an open list was packed to: that a size does not fit where there is no box, else those of the box.
 abbrev pub packed_checks : Params → (around : List OpenList) → (into : Option ℕ) → Option packs.Packed → List (Bool × Refusal)
 packed_checks params around into None = (true, DimensionTooLarge) ∷ []
 packed_checks params around into (Some packed) = place_checks params around into packed.shown
@@ -288,7 +294,7 @@ abbrev pub held_checks : Params → Option OpenList → Option BoxNode → List 
 held_checks params open_list None = []
 held_checks params open_list (Some b) = box_checks params open_list b
 
--- Those with the list that is needed, of `box` and of `copy`.
+-- The refusals of `box` and of `copy`: that no list is open, and then those of the box of the register.
 abbrev pub append_checks : State → (register : ℕ) → List (Bool × Refusal)
 append_checks m r = (length m.nest == 0, NoOpenList) ∷ held_checks m.params (innermost m.nest) (held_in m.registers r)
 
@@ -305,7 +311,7 @@ items_checks kind count None = []
 items_checks kind count (Some b) =
     (is_other kind b.kind, WrongKind) ∷ (nat_lt most_items (count + length (nodes_of b.list)), ListTooLong) ∷ []
 
--- Those with the list that is needed, which has to be of the kind of the command.
+-- The refusals of the four commands that unbox: that no list is open, that it is not of the kind of the command, and then those of the items.
 abbrev pub unbox_checks : State → Kind → (register : ℕ) → List (Bool × Refusal)
 unbox_checks m kind r =
     (length m.nest == 0, NoOpenList) ∷ (is_other kind (kind_in (innermost m.nest)), WrongMode)
@@ -415,7 +421,7 @@ with_used m taking r shift None = m
 with_used m taking r shift (Some b) =
     record m { nest = with_box m.params m.nest shift b (innermost m.nest); registers = with_taken taking m.registers r }
 
--- The state with the items of the box of a register at the end of the innermost list.
+-- The state with the items of the box of a register at the end of the innermost list (TeX: The Program, part 47, §1110).
 abbrev pub with_unboxed : State → Taking → (register : ℕ) → Option BoxNode → State
 with_unboxed m taking r None = m
 with_unboxed m taking r (Some b) =
@@ -450,19 +456,21 @@ after m (Ship r) =
       pages = m.pages + 1;
     }
 
--- The reply: the first refusal whose condition holds, or the answer.
+-- The reply to a command: the first refusal whose condition holds, or the answer.
 abbrev pub reply_by : Option Refusal → Answer → Reply
 reply_by None answer = Ok answer
 reply_by (Some refusal) answer = Err refusal
 
+-- The reply of a job in that state to a command.
 abbrev pub reply_to : State → Command → Reply
 reply_to m command = reply_by (first_of (checks m command)) (answer_of m command)
 
--- A refusal leaves the state as it is.
+-- What is there after a command: a refusal leaves the old as it is.
 abbrev pub state_by : {A : Type 0} → Option Refusal → A → A → A
 state_by None old new = new
 state_by (Some refusal) old new = old
 
+-- The state after a command, which is as it was where the command is refused.
 abbrev pub state_after : State → Command → State
 state_after m command = state_by (first_of (checks m command)) m (after m command)
 
@@ -471,7 +479,7 @@ abbrev pub new_pages : State → Command → List Page
 new_pages m (Ship r) = pages_of (held_in m.registers r)
 new_pages m command = []
 
--- The machine: such a state, and the pages that were shipped, in order.
+-- The machine: a state, and the pages that were shipped, in order.
 pub record Machine : Type 0 where
   pub state : State
   pub pages : List Page

@@ -1,4 +1,4 @@
--- How the logic stores the items of a list (own).
+-- How the logic stores the items of a list (own; the model of `NodeList` alone, no public clause speaks of it).
 use Rattle.std.proofs.Common.{◌≡◌, ◌≢◌, ◌⊎◌, ℕ, ℤ, refl, inl, inr, ap, arith}
 use Rattle.std.specs.Coded.{Coded, code_by, coded⊎, coded×, coded_ℤ}
 use base.Stored.{Gv, gnil, gnum, gcons}
@@ -14,10 +14,11 @@ use Rattle.node_core.specs.contracts.tree.Rule as a_rule
 use Rattle.node_core.specs.contracts.tree.Setting as a_setting
 use Rattle.node_core.specs.Items.{Leaf, glyph, font_kern, kern, glue, penalty, rule, Frame, Items, none, leaf, box}
 
--- A leaf is a number (of a kern of either kind, or of a penalty), or a glyph, glue or a rule (own).
+-- What a leaf is stored as: a number (of a kern of either kind, or of a penalty), or a glyph, glue or a rule (own).
 abbrev pub Cases : Type 0
 Cases = (ℤ ⊎ (ℤ ⊎ ℤ)) ⊎ (Glyph ⊎ (Glue ⊎ Rule))
 
+-- The case that a leaf is stored as (own).
 abbrev pub cases_of : Leaf → Cases
 cases_of (glyph g) = inr (inl g)
 cases_of (font_kern width) = inl (inl width)
@@ -26,7 +27,7 @@ cases_of (penalty p) = inl (inr (inr p))
 cases_of (glue g) = inr (inr (inl g))
 cases_of (rule sizes) = inr (inr (inr sizes))
 
--- And back (own).
+-- The leaf that is stored as a case (own).
 abbrev pub leaf_of : Cases → Leaf
 leaf_of (inl (inl width)) = font_kern width
 leaf_of (inl (inr (inl width))) = kern width
@@ -35,7 +36,7 @@ leaf_of (inr (inl g)) = glyph g
 leaf_of (inr (inr (inl g))) = glue g
 leaf_of (inr (inr (inr sizes))) = rule sizes
 
--- The two are inverse (own).
+-- The leaf that is stored as the case of a leaf is this leaf (own).
 pub leaf_of-cases_of : (x : Leaf) → leaf_of (cases_of x) ≡ x
 leaf_of-cases_of (glyph g) = refl
 leaf_of-cases_of (font_kern width) = refl
@@ -57,12 +58,13 @@ coded_frame =
     (λ f. ((f.kind, f.setting), (f.width, (f.height, f.depth))))
     (λ p. record { kind = p.0.0; setting = p.0.1; width = p.1.0; height = p.1.1.0; depth = p.1.1.1 }) (λ _. refl)
 
--- The two parts of a stored pair (own).
+-- The first part of a stored pair; nothing where it is no pair (own).
 abbrev pub head : Gv → Gv
 head gnil = gnil
 head (gnum n) = gnil
 head (gcons a b) = a
 
+-- The second part of a stored pair; nothing where it is no pair (own).
 abbrev pub tail : Gv → Gv
 tail gnil = gnil
 tail (gnum n) = gnil

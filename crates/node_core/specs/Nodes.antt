@@ -9,10 +9,11 @@ use Rattle.node_core.specs.Items.{Leaf, glyph, font_kern, kern, glue, penalty, r
 abbrev pub most_nodes : ℕ
 most_nodes = 131072
 
--- A box without its list, and a box of a frame and a list (own).
+-- A box without its list (own).
 abbrev pub frame_of : BoxNode → Frame
 frame_of b = record { kind = b.kind; width = b.width; height = b.height; depth = b.depth; setting = b.setting }
 
+-- The box of a frame and a list (own).
 abbrev pub box_of : Frame → Items → BoxNode
 box_of frame items =
     record { kind = frame.kind; width = frame.width; height = frame.height; depth = frame.depth; setting = frame.setting; list = items }
@@ -61,7 +62,7 @@ box_in (Penalty p) = None
 box_in (Rule sizes) = None
 box_in (Box shift b) = Some b
 
--- The same of a node that may be missing (own).
+-- The box that a node is, if there is a node and it is a box (own).
 abbrev pub box_at : Option Node → Option BoxNode
 box_at None = None
 box_at (Some x) = box_in x
@@ -70,7 +71,7 @@ box_at (Some x) = box_in x
 abbrev pub last_box : List Node → Option BoxNode
 last_box nodes = box_at (slice_get nodes (length nodes - 1))
 
--- The list without that box (own).
+-- The list without the box at its end, if there is one (own).
 abbrev pub without : Option BoxNode → List Node → List Node
 without None nodes = nodes
 without (Some b) nodes = take (length nodes - 1) nodes

@@ -4,7 +4,7 @@ use Rattle.node_core.specs.declared.tree.Glue.{Glue}
 use Rattle.node_core.specs.declared.tree.Order.TheVariants.{Normal}
 use Rattle.node_core.specs.declared.params.Params.{Params}
 
--- Glue of a width that neither stretches nor shrinks.
+-- Glue of a width that neither stretches nor shrinks (own).
 abbrev pub rigid : (width : ℤ) → Glue
 rigid width = record { width = width; stretch = pos 0; stretch_order = Normal; shrink = pos 0; shrink_order = Normal }
 

@@ -1,4 +1,4 @@
--- The packed boxes (TeX: The Program, part 33; a vtop: part 47). Which numbers have to fit is own: TeX looks at none.
+-- The packed boxes (TeX: The Program, part 33, §649 to §678; a vtop: part 47, §1087). Which numbers have to fit is own: TeX looks at none.
 use Rattle.std.specs.Prelude.{◌+ℤ◌, ◌-ℤ◌, ◌++◌, ℕ, ℤ, if◌then◌else◌, List, [], ◌∷◌, Result, Ok, Err}
 use Rattle.std.specs.List.{list_all}
 use Rattle.std.specs.Int.{int_min}
@@ -17,7 +17,7 @@ use Rattle.scaled_core.specs.Dimensions.{fits}
 use Rattle.pack_core.specs.Totals.{total, greatest, pending_depth, first_height}
 use Rattle.pack_core.specs.Glue.{stretch_totals, shrink_totals, setting_of, setting_badness}
 
--- The size that is wanted of a list of that natural size: the natural one, a given one, or so much more.
+-- The size that is wanted of a list of that natural size: the natural one, a given one, or so much more (TeX: The Program, part 33, §657 and §672).
 abbrev pub wanted : Target → (natural : ℤ) → ℤ
 wanted Natural natural = natural
 wanted (To size) natural = size
@@ -27,20 +27,21 @@ wanted (Spread more) natural = natural +ℤ more
 abbrev pub packed_if : List ℤ → Packed → Items → Result Packed TooLarge
 packed_if numbers packed items = if list_all fits numbers then Ok packed else Err (record { list = items })
 
--- The totals of stretch and of shrink in each order.
+-- The totals of stretch and of shrink of a list in each order, as numbers that have to fit (own).
 abbrev pub glue_totals : List Node → List ℤ
 glue_totals nodes =
     stretch_totals nodes Normal ∷ stretch_totals nodes Fil ∷ stretch_totals nodes Fill ∷ stretch_totals nodes Filll
     ∷ shrink_totals nodes Normal ∷ shrink_totals nodes Fil ∷ shrink_totals nodes Fill ∷ shrink_totals nodes Filll ∷ []
 
--- The width of an hbox, and how much that is more than the natural width.
+-- The width of an hbox: what is wanted of its natural width, the sum of the widths of its items (TeX: The Program, part 33, §657).
 abbrev pub hbox_width : Target → List Node → ℤ
 hbox_width target nodes = wanted target (total across nodes)
 
+-- How much more the width of an hbox is than its natural width: what its glue has to make up (TeX: The Program, part 33, §657).
 abbrev pub hbox_excess : Target → List Node → ℤ
 hbox_excess target nodes = hbox_width target nodes -ℤ total across nodes
 
--- A horizontal list as a box: as wide as is wanted, as high and as deep as its highest and its deepest item.
+-- A horizontal list as a box: as wide as is wanted, as high and as deep as its highest and its deepest item (TeX: The Program, part 33, §649).
 unfoldable pub hbox : Target → Items → BoxNode
 hbox target items =
     record {
@@ -52,33 +53,37 @@ hbox target items =
       list = items;
     }
 
+-- How badly the glue of an hbox is stretched or shrunk (TeX: The Program, part 33, §658 to §667).
 abbrev pub hbox_badness : Target → Items → ℕ
 hbox_badness target items = setting_badness (hbox_excess target (nodes_of items)) (nodes_of items)
 
--- The numbers of a horizontal list that have to fit: its natural width, the totals of its glue, and the sizes of its box.
+-- The numbers of a horizontal list that have to fit: its natural width, the totals of its glue, and the sizes of its box (own).
 abbrev pub hbox_numbers : Target → List Node → List ℤ
 hbox_numbers target nodes =
     total across nodes ∷ hbox_width target nodes ∷ greatest above nodes ∷ greatest below nodes ∷ glue_totals nodes
 
+-- What a horizontal list is packed to: its box and its badness; or the list comes back, where one of its numbers does not fit (own).
 unfoldable pub hpacked : Target → Items → Result Packed TooLarge
 hpacked target items =
     packed_if (hbox_numbers target (nodes_of items)) (record { shown = hbox target items; badness = hbox_badness target items }) items
 
--- The depth of a vbox: that of its last rule or box, but no more than the limit.
+-- The depth of a vbox: that of its last rule or box, but no more than the limit (TeX: The Program, part 33, §668).
 abbrev pub vbox_depth : (limit : ℤ) → List Node → ℤ
 vbox_depth limit nodes = int_min (pending_depth nodes) limit
 
--- Its natural height: all that is not depth (TeX: The Program, part 33: what is deeper than the limit counts as height).
+-- The natural height of a vbox: all that is not depth; what is deeper than the limit counts as height (TeX: The Program, part 33, §668).
 abbrev pub natural_height : (limit : ℤ) → List Node → ℤ
 natural_height limit nodes = total downward nodes -ℤ vbox_depth limit nodes
 
+-- The height of a vbox: what is wanted of its natural height (TeX: The Program, part 33, §672).
 abbrev pub vbox_height : Target → (limit : ℤ) → List Node → ℤ
 vbox_height target limit nodes = wanted target (natural_height limit nodes)
 
+-- How much more the height of a vbox is than its natural height: what its glue has to make up (TeX: The Program, part 33, §672).
 abbrev pub vbox_excess : Target → (limit : ℤ) → List Node → ℤ
 vbox_excess target limit nodes = vbox_height target limit nodes -ℤ natural_height limit nodes
 
--- A vertical list as a box: as wide as its widest item, its baseline at the bottom.
+-- A vertical list as a box: as wide as its widest item, its baseline at the bottom (TeX: The Program, part 33, §668).
 unfoldable pub vbox : Target → (limit : ℤ) → Items → BoxNode
 vbox target limit items =
     record {
@@ -90,33 +95,36 @@ vbox target limit items =
       list = items;
     }
 
+-- How badly the glue of a vbox is stretched or shrunk (TeX: The Program, part 33, §673 to §678).
 abbrev pub vbox_badness : Target → (limit : ℤ) → Items → ℕ
 vbox_badness target limit items = setting_badness (vbox_excess target limit (nodes_of items)) (nodes_of items)
 
--- The numbers of a vertical list that have to fit: its natural height, the totals of its glue, and the sizes of its box.
+-- The numbers of a vertical list that have to fit: its natural height, the totals of its glue, and the sizes of its box (own).
 abbrev pub vbox_numbers : Target → (limit : ℤ) → List Node → List ℤ
 vbox_numbers target limit nodes =
     natural_height limit nodes ∷ vbox_height target limit nodes ∷ vbox_depth limit nodes ∷ greatest breadth nodes ∷ glue_totals nodes
 
+-- What a vertical list is packed to as a vbox: its box and its badness; or the list comes back, where one of its numbers does not fit (own).
 unfoldable pub vpacked : Target → (limit : ℤ) → Items → Result Packed TooLarge
 vpacked target limit items =
     packed_if (vbox_numbers target limit (nodes_of items))
     (record { shown = vbox target limit items; badness = vbox_badness target limit items }) items
 
--- The depth of a vtop: its height and its depth are together those of the vbox.
+-- The depth of a vtop: its height and its depth are together those of the vbox (TeX: The Program, part 47, §1087).
 abbrev pub vtop_depth : Target → (limit : ℤ) → List Node → ℤ
 vtop_depth target limit nodes = (vbox_depth limit nodes +ℤ vbox_height target limit nodes) -ℤ first_height nodes
 
--- A vertical list as a box whose baseline is that of its first item: the same box with another border between height and depth (TeX: The Program,
--- part 47).
+-- A vertical list as a box whose baseline is that of its first item: the same box with another border between height and depth
+-- (TeX: The Program, part 47, §1087).
 unfoldable pub vtop_box : Target → (limit : ℤ) → Items → BoxNode
 vtop_box target limit items =
     record (vbox target limit items) { height = first_height (nodes_of items); depth = vtop_depth target limit (nodes_of items) }
 
--- The numbers that have to fit: those of the vbox, and the two new sizes.
+-- The numbers of a vertical list that have to fit for its vtop: those of the vbox, and the two new sizes (own).
 abbrev pub vtop_numbers : Target → (limit : ℤ) → List Node → List ℤ
 vtop_numbers target limit nodes = vbox_numbers target limit nodes ++ first_height nodes ∷ vtop_depth target limit nodes ∷ []
 
+-- What a vertical list is packed to as a vtop: its box and its badness; or the list comes back, where one of its numbers does not fit (own).
 unfoldable pub vtopped : Target → (limit : ℤ) → Items → Result Packed TooLarge
 vtopped target limit items =
     packed_if (vtop_numbers target limit (nodes_of items))

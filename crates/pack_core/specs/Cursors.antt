@@ -1,4 +1,4 @@
--- How far a walk over the items of a box has come (own).
+-- How far a walk over the items of a box has come (own; the clauses `reached` of `Cursor` tie it to `place`).
 use Rattle.std.specs.Prelude.{◌+ℤ◌, ◌+◌, ◌*◌, ◌^◌, ◌≤◌, ℕ, ℤ, List, length}
 use Rattle.node_core.specs.declared.tree.Kind.{Kind}
 use Rattle.node_core.specs.declared.tree.Node.{Node}
@@ -9,27 +9,27 @@ use Rattle.pack_core.specs.Items.{advance}
 use Rattle.pack_core.specs.Totals.{total}
 use Rattle.pack_core.specs.Places.{share, set_by}
 
--- The sums of the advances and of the shares of the items passed, and how many those are.
+-- What a walk has reached: the sums of the advances and of the shares of the items passed, and how many those are.
 pub record Reached : Type 0 where
   pub natural : ℤ
   pub shares : ℤ
   pub passed : ℕ
 
--- No list has more items, and so the sums are small.
+-- No more items were passed than a list has, and so the sums are small.
 pub record IsReachable (natural shares : ℤ) (passed : ℕ) : Type 0 where
   pub advances : Within (2 ^ 31 * passed) natural
   pub parts : Within (2 ^ 31 * passed) shares
   pub few : passed ≤ most_nodes
 
--- What is reached behind these items.
+-- What a walk has reached behind these items.
 unfoldable pub reached : Kind → Setting → (before : List Node) → Reached
 reached kind setting before = record { natural = total (advance kind) before; shares = total (share setting) before; passed = length before }
 
--- What is reached behind one more item.
+-- What a walk has reached behind one more item.
 abbrev pub one_more : Kind → Setting → Reached → Node → Reached
 one_more kind setting from node =
     record { natural = from.natural +ℤ advance kind node; shares = from.shares +ℤ share setting node; passed = from.passed + 1 }
 
--- The place that is reached.
+-- The place behind the items passed, from the beginning of the list.
 abbrev pub place_at : Setting → Reached → ℤ
 place_at setting at = at.natural +ℤ set_by setting at.shares

@@ -1,4 +1,4 @@
--- How the glue of a list is set, and how bad that is (TeX: The Program, part 33).
+-- How the glue of a list is set, and how bad that is (TeX: The Program, part 33, §657 to §667 and §672 to §678).
 use Rattle.std.specs.Prelude.{ℕ, ℤ, pos, negsuc, zero, suc, neg_ℤ, Bool, true, false, int_lt, if◌then◌else◌, List, [], ◌∷◌, Option, Some, None}
 use Rattle.node_core.specs.declared.tree.Node.{Node}
 use Rattle.node_core.specs.declared.tree.Order.{Order}
@@ -10,12 +10,13 @@ use Rattle.scaled_core.specs.Badness.{badness_of}
 use Rattle.pack_core.specs.Items.{stretch_in, shrink_in}
 use Rattle.pack_core.specs.Totals.{total}
 
+-- Whether a number is 0 (own).
 abbrev pub is_zero : ℤ → Bool
 is_zero (pos zero) = true
 is_zero (pos (suc n)) = false
 is_zero (negsuc n) = false
 
--- The highest order whose total is not 0.
+-- The highest order whose total is not 0; none where all totals are 0 (TeX: The Program, part 33, §659 and §665).
 unfoldable pub highest : (Order → ℤ) → Option Order
 highest totals =
     if is_zero (totals Filll)
@@ -27,50 +28,53 @@ abbrev pub fraction : (amount total : ℤ) → Fraction
 fraction amount (pos n) = record { num = amount; den = pos n }
 fraction amount (negsuc n) = record { num = neg_ℤ amount; den = pos (suc n) }
 
--- Glue is stretched by an amount above 0: that of the highest order by the amount as a fraction of the total.
+-- Glue is stretched by an amount above 0: that of the highest order by the amount as a fraction of the total
+-- (TeX: The Program, part 33, §658 and §673).
 abbrev pub stretched : (amount : ℤ) → (totals : Order → ℤ) → Option Order → Setting
 stretched amount totals None = Natural
 stretched amount totals (Some order) = Stretch order (fraction amount (totals order))
 
--- What glue of normal order can shrink is less than the amount.
+-- What glue of normal order can shrink is less than the amount (TeX: The Program, part 33, §664 and §676).
 abbrev pub is_short : (amount : ℤ) → (totals : Order → ℤ) → Bool
 is_short amount totals = int_lt (totals Normal) amount
 
--- Glue is shrunk by an amount above 0. Glue of normal order shrinks by no more than it can: the ratio is at most 1.
+-- Glue is shrunk by an amount above 0. Glue of normal order shrinks by no more than it can: the ratio is at most 1
+-- (TeX: The Program, part 33, §664 and §676).
 abbrev pub shrunk : (amount : ℤ) → (totals : Order → ℤ) → Option Order → Setting
 shrunk amount totals None = Natural
 shrunk amount totals (Some Normal) =
     Shrink Normal (if is_short amount totals then record { num = pos 1; den = pos 1 } else fraction amount (totals Normal))
 shrunk amount totals (Some order) = Shrink order (fraction amount (totals order))
 
--- The totals of a list for each order.
+-- How much the glue of a list can stretch together, in each order (TeX: The Program, part 33, §656 and §671).
 abbrev pub stretch_totals : List Node → Order → ℤ
 stretch_totals nodes order = total (stretch_in order) nodes
 
+-- How much the glue of a list can shrink together, in each order (TeX: The Program, part 33, §656 and §671).
 abbrev pub shrink_totals : List Node → Order → ℤ
 shrink_totals nodes order = total (shrink_in order) nodes
 
--- The setting of a list with that much space too much (or, below 0, too little).
+-- The setting of a list with that much space too much (or, below 0, too little) (TeX: The Program, part 33, §657 and §672).
 unfoldable pub setting_of : (excess : ℤ) → List Node → Setting
 setting_of (pos zero) nodes = Natural
 setting_of (pos (suc n)) nodes = stretched (pos (suc n)) (stretch_totals nodes) (highest (stretch_totals nodes))
 setting_of (negsuc n) nodes = shrunk (pos (suc n)) (shrink_totals nodes) (highest (shrink_totals nodes))
 
--- Whether the glue that is set is of normal order, or there is none.
+-- Whether the glue that is set is of normal order, or there is none to set.
 abbrev pub is_finite : Option Order → Bool
 is_finite None = true
 is_finite (Some Normal) = true
 is_finite (Some order) = false
 
--- The badness of an overfull box.
+-- The badness of an overfull box (TeX: The Program, part 33, §664 and §676).
 abbrev pub overfull : ℕ
 overfull = 1000000
 
--- How bad it is to stretch by an amount; glue of infinite order stretches for nothing.
+-- How bad it is to stretch by an amount: not at all where glue of an infinite order is set.
 abbrev pub stretch_badness : (amount : ℤ) → (totals : Order → ℤ) → ℕ
 stretch_badness amount totals = if is_finite (highest totals) then badness_of amount (totals Normal) else 0
 
--- How bad it is to shrink by an amount: overfull where glue of normal order can't.
+-- How bad it is to shrink by an amount: overfull where glue of normal order can't, and not at all where glue of an infinite order is set.
 abbrev pub shrink_badness : (amount : ℤ) → (totals : Order → ℤ) → ℕ
 shrink_badness amount totals =
     if is_finite (highest totals) then (if is_short amount totals then overfull else badness_of amount (totals Normal)) else 0

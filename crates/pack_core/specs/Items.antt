@@ -1,4 +1,4 @@
--- What an item adds to the list that it stands in (TeX: The Program, part 33).
+-- What an item adds to the list that it stands in (TeX: The Program, part 33, §651 to §656 and §669 to §671).
 use Rattle.std.specs.Prelude.{◌+ℤ◌, ◌-ℤ◌, ℤ, pos, Bool, true, false, if◌then◌else◌}
 use Rattle.node_core.specs.declared.tree.Kind.{Kind}
 use Rattle.node_core.specs.declared.tree.Kind.TheVariants.{Horizontal, Vertical}
@@ -34,7 +34,7 @@ above (nodes.Penalty penalty) = pos 0
 above (nodes.Rule rule) = own_size rule.height
 above (nodes.Box shift b) = b.height -ℤ shift
 
--- How far it stands below: a box that is shifted down, by its shift more.
+-- How far an item stands below the baseline: a box that is shifted down, by its shift more.
 abbrev pub below : Node → ℤ
 below (nodes.Glyph glyph) = glyph.depth
 below (nodes.FontKern width) = pos 0
@@ -44,7 +44,7 @@ below (nodes.Penalty penalty) = pos 0
 below (nodes.Rule rule) = own_size rule.depth
 below (nodes.Box shift b) = b.depth +ℤ shift
 
--- Its advance in a vertical list: of a rule or a box height plus depth, of glue and kerns their width. A character does not stand in one.
+-- The advance of an item in a vertical list: of a rule or a box height plus depth, of glue and kerns their width. A character does not stand in one.
 abbrev pub downward : Node → ℤ
 downward (nodes.Glyph glyph) = pos 0
 downward (nodes.FontKern width) = width
@@ -69,7 +69,7 @@ abbrev pub advance : Kind → Node → ℤ
 advance Horizontal node = across node
 advance Vertical node = downward node
 
--- Whether two orders of glue are the same.
+-- Whether two orders of glue are the same (own).
 abbrev pub is_order : Order → Order → Bool
 is_order Normal Normal = true
 is_order Fil Fil = true
@@ -87,7 +87,7 @@ stretch_in order (nodes.Penalty penalty) = pos 0
 stretch_in order (nodes.Rule rule) = pos 0
 stretch_in order (nodes.Box shift b) = pos 0
 
--- How much it can shrink.
+-- How much an item can shrink in an order: only glue of this order can.
 abbrev pub shrink_in : Order → Node → ℤ
 shrink_in order (nodes.Glue glue) = if is_order order glue.shrink_order then glue.shrink else pos 0
 shrink_in order (nodes.Glyph glyph) = pos 0
@@ -97,7 +97,7 @@ shrink_in order (nodes.Penalty penalty) = pos 0
 shrink_in order (nodes.Rule rule) = pos 0
 shrink_in order (nodes.Box shift b) = pos 0
 
--- Whether an item is a penalty.
+-- Whether an item is a penalty (own).
 abbrev pub is_penalty : Node → Bool
 is_penalty (nodes.Penalty penalty) = true
 is_penalty (nodes.Glyph glyph) = false
@@ -107,7 +107,8 @@ is_penalty (nodes.Glue glue) = false
 is_penalty (nodes.Rule rule) = false
 is_penalty (nodes.Box shift b) = false
 
--- The height of an item that is a rule or a box, else 0: how far the first item of a vtop stands above its baseline (TeX: The Program, part 47).
+-- The height of an item that is a rule or a box, else 0: how far the first item of a vtop stands above its baseline
+-- (TeX: The Program, part 47, §1087).
 abbrev pub first_above : Node → ℤ
 first_above (nodes.Rule rule) = own_size rule.height
 first_above (nodes.Box shift b) = b.height

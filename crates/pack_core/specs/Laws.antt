@@ -17,10 +17,11 @@ pub record IsHighest (totals : Order → ℤ) (order : Order) : Type 0 where
   pub not_zero : totals order ≢ pos 0
   pub alone : (other : Order) → rank order < rank other → totals other ≡ pos 0
 
--- Glue of no width that stretches by that much, and glue that shrinks.
+-- Glue of no width that stretches by that much in that order, and does not shrink.
 abbrev pub stretching : ℤ → Order → Glue
 stretching stretch order = record { width = pos 0; stretch = stretch; stretch_order = order; shrink = pos 0; shrink_order = Normal }
 
+-- Glue of no width that shrinks by that much in order normal, and does not stretch.
 abbrev pub shrinking : ℤ → Glue
 shrinking shrink = record { width = pos 0; stretch = pos 0; stretch_order = Normal; shrink = shrink; shrink_order = Normal }
 

@@ -1,5 +1,5 @@
--- Where the items of a set box stand (after TeX: The Program, part 32, as later versions of TeX do it: the share of all glue before an item is rounded
--- once; own: by an exact ratio, where TeX has a floating-point one).
+-- Where the items of a set box stand (after TeX: The Program, part 32, §625 and §634, as later versions of TeX do it: the share of all glue before an
+-- item is rounded once; own: by an exact ratio, where TeX has a floating-point one).
 use Rattle.std.specs.Prelude.{◌+ℤ◌, ℕ, ℤ, pos, neg_ℤ, List, take}
 use Rattle.node_core.specs.declared.tree.Kind.{Kind}
 use Rattle.node_core.specs.declared.tree.Node.{Node}

@@ -15,12 +15,13 @@ abbrev pub greatest : (Node → ℤ) → List Node → ℤ
 greatest size [] = pos 0
 greatest size (x ∷ xs) = int_max (size x) (greatest size xs)
 
--- The depth of the last rule or box if only penalties follow it, else 0 (TeX: The Program, part 33: the depth that is pending at the end).
+-- The depth of the last rule or box if only penalties follow it, else 0: the depth that is pending at the end
+-- (TeX: The Program, part 33, §669 to §671).
 abbrev pub pending_depth : List Node → ℤ
 pending_depth [] = pos 0
 pending_depth (x ∷ xs) = if list_all is_penalty xs then last_below x else pending_depth xs
 
--- The height of the first item if that is a rule or a box, else 0 (TeX: The Program, part 47).
+-- The height of the first item if that is a rule or a box, else 0 (TeX: The Program, part 47, §1087).
 abbrev pub first_height : List Node → ℤ
 first_height [] = pos 0
 first_height (x ∷ xs) = first_above x

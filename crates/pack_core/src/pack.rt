@@ -1,4 +1,4 @@
-//! Packed boxes (TeX: The Program, part 33).
+//! Packed boxes (TeX: The Program, part 33, §649 to §678).
 
 ghost use Rattle.std.specs.Prelude.{◌≡◌, ◌≢◌, ◌+ℤ◌, ◌-ℤ◌, ◌≤◌, ◌^◌, IfOk, IfErr, length};
 ghost use Rattle.std.specs.Result.{is_ok};
@@ -79,7 +79,7 @@ pub fn vpack(list: NodeList, target: Target, depth_limit: Dimen) -> Result<Packe
 }
 
 /// The vtop of a vertical list: the vbox with its baseline at that of its first item, where that is a rule or a box, and else at its top
-/// (TeX: The Program, part 47). It is refused exactly where one of its numbers does not fit, and the list comes back. It takes no memory.
+/// (TeX: The Program, part 47, §1087). It is refused exactly where one of its numbers does not fit, and the list comes back. It takes no memory.
 #[tactic(auto, using(crate::proofs::Packing::packing))]
 pub fn vtop(list: NodeList, target: Target, depth_limit: Dimen) -> Result<Packed, TooLarge>
     ensures value { result ≡ vtopped target depth_limit list }
@@ -103,7 +103,7 @@ struct Shell {
     set: GlueSet,
 }
 
-/// What a total is more than a dimension.
+/// How much more a total is than a dimension.
 fn less(total: i64, part: Dimen) -> i64
     requires { Within (2 ^ 49) total }
     ensures value { result ≡ total -ℤ part }
@@ -151,7 +151,7 @@ fn height_above(depth: Dimen, nodes: &[Node]) -> Option<Dimen>
     fitted(less(total_of(Quantity::Advance(Kind::Vertical), nodes), depth))
 }
 
-/// The greatest size that way, where it fits.
+/// The greatest size of the items of a list that way, where it fits.
 #[tactic(auto, using(crate::proofs::Steps::steps))]
 fn extent(way: Extent, nodes: &[Node]) -> Option<Dimen>
     ensures { result ≡ given (fits (greatest (extent_in way) nodes.now)) (greatest (extent_in way) nodes.now) }
@@ -159,7 +159,7 @@ fn extent(way: Extent, nodes: &[Node]) -> Option<Dimen>
     fitted(greatest_of(way, nodes))
 }
 
-/// The hbox of a list, where its numbers fit.
+/// The hbox of a list, without the list, where its numbers fit.
 #[tactic(auto, using(crate::proofs::Steps::steps))]
 fn hbox_shell(target: Target, nodes: &[Node]) -> Option<Shell>
     requires { length nodes.now ≤ most_nodes }
@@ -179,7 +179,7 @@ fn hbox_shell(target: Target, nodes: &[Node]) -> Option<Shell>
     })
 }
 
-/// The vbox of a list, where its numbers fit.
+/// The vbox of a list, without the list, where its numbers fit.
 #[tactic(auto, using(crate::proofs::Steps::steps))]
 fn vbox_shell(target: Target, limit: Dimen, nodes: &[Node]) -> Option<Shell>
     requires { length nodes.now ≤ most_nodes }
@@ -199,7 +199,7 @@ fn vbox_shell(target: Target, limit: Dimen, nodes: &[Node]) -> Option<Shell>
     })
 }
 
-/// The same box with that height, where its depth fits.
+/// A box without its list, with that height in the place of its own, where its depth then fits.
 #[tactic(auto, using(crate::proofs::Steps::steps))]
 fn with_height(shell: &Shell, height: Dimen) -> Option<Shell>
     ensures value { result ≡ given (fits ((vtop_shell shell.now height).depth)) (vtop_shell shell.now height) }
@@ -215,7 +215,7 @@ fn with_height(shell: &Shell, height: Dimen) -> Option<Shell>
     })
 }
 
-/// The vtop of a list, where its numbers fit.
+/// The vtop of a list, without the list, where its numbers fit.
 #[tactic(auto, using(crate::proofs::Steps::steps))]
 fn vtop_shell_of(target: Target, limit: Dimen, nodes: &[Node]) -> Option<Shell>
     requires { length nodes.now ≤ most_nodes }
@@ -228,7 +228,7 @@ fn vtop_shell_of(target: Target, limit: Dimen, nodes: &[Node]) -> Option<Shell>
     }
 }
 
-/// The list in its box, or back.
+/// The list in its box, or back where there is no box for it.
 #[tactic(auto, unfolding(crate::specs::Steps::boxed))]
 fn boxed(list: NodeList, shell: Option<Shell>) -> Result<Packed, TooLarge>
     ensures { result ≡ boxed list shell }
@@ -239,7 +239,7 @@ fn boxed(list: NodeList, shell: Option<Shell>) -> Result<Packed, TooLarge>
     }
 }
 
-/// The list in that box, and how bad the box is.
+/// A list in a box that was without one, and how bad the box is.
 #[tactic(auto, unfolding(crate::specs::Steps::packed_of))]
 fn packed_of(list: NodeList, shell: &Shell) -> Packed
     ensures { result ≡ packed_of list shell.now }

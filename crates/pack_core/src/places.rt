@@ -1,4 +1,4 @@
-//! Where the items of a set box stand (after TeX: The Program, part 32; the ratio is exact).
+//! Where the items of a set box stand (after TeX: The Program, part 32, §625 and §634; the ratio is exact).
 
 ghost use Rattle.std.specs.Prelude.{◌≡◌, ◌≤◌, ◌<◌, ◌+◌, ◌^◌, ◌++◌, ◌∷◌, [], List, pos, length};
 ghost use Rattle.scaled_core.specs.Dimensions.{Within};

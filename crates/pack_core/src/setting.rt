@@ -1,4 +1,4 @@
-//! How the glue of a list is set (TeX: The Program, part 33).
+//! How the glue of a list is set (TeX: The Program, part 33, §657 to §667 and §672 to §678).
 
 ghost use Rattle.std.specs.Prelude.{◌≡◌, ◌≢◌, ◌-ℤ◌, ◌≤ℤ◌, ◌≤◌, ◌^◌, pos, length};
 ghost use Rattle.std.specs.Option.{IfSome};
@@ -48,7 +48,7 @@ fn quantity(flow: Flow, order: Order) -> Quantity
     }
 }
 
-/// The total of an order, where it fits.
+/// How much the glue of a list can stretch or shrink together in an order, where that fits.
 #[tactic(auto, using(crate::proofs::Steps::steps))]
 fn order_total(flow: Flow, order: Order, nodes: &[Node]) -> Option<Dimen>
     requires { length nodes.now ≤ most_nodes }
@@ -57,7 +57,7 @@ fn order_total(flow: Flow, order: Order, nodes: &[Node]) -> Option<Dimen>
     dimension(i128::from(total_of(quantity(flow, order), nodes)))
 }
 
-/// The totals of all orders, where they fit.
+/// How much the glue of a list can stretch or shrink together in each order, where the totals fit.
 #[tactic(auto, using(crate::proofs::Steps::steps))]
 fn totals_of(flow: Flow, nodes: &[Node]) -> Option<OrderTotals>
     requires { length nodes.now ≤ most_nodes }
@@ -75,7 +75,7 @@ fn totals_of(flow: Flow, nodes: &[Node]) -> Option<OrderTotals>
     })
 }
 
-/// The total of an order.
+/// The total of an order, out of those of all orders.
 fn in_order(totals: &OrderTotals, order: Order) -> Dimen
     ensures { result ≡ by_order totals.now order }
 {
@@ -87,6 +87,7 @@ fn in_order(totals: &OrderTotals, order: Order) -> Dimen
     }
 }
 
+/// Whether a dimension is 0.
 fn is_zero(amount: Dimen) -> bool
     ensures { result ≡ is_zero amount }
 {
@@ -142,7 +143,7 @@ fn stretch_setting(amount: i64, totals: &OrderTotals) -> Setting
     }
 }
 
-/// By what glue of an order shrinks; that of normal order by no more than it can.
+/// The ratio by which glue of an order shrinks by an amount; glue of normal order by no more than it can.
 #[tactic(auto, unfolding(crate::specs::Steps::shrink_ratio))]
 fn shrink_ratio(amount: i64, totals: &OrderTotals, order: Order) -> Ratio
     requires amount { Within (2 ^ 31) amount }
@@ -204,7 +205,7 @@ fn is_finite(order: Option<Order>) -> bool
     }
 }
 
-/// How bad it is to stretch by an amount.
+/// How bad it is to stretch by an amount: not at all where glue of an infinite order is set.
 #[tactic(auto, unfolding(crate::specs::Steps::stretch_bad))]
 fn stretch_bad(amount: i64, totals: &OrderTotals) -> u32
     requires { pos 0 ≤ℤ amount }
@@ -216,7 +217,7 @@ fn stretch_bad(amount: i64, totals: &OrderTotals) -> u32
     badness(amount, i64::from(totals.normal.get()))
 }
 
-/// How bad it is to shrink by an amount: overfull where glue of normal order can't.
+/// How bad it is to shrink by an amount: overfull where glue of normal order can't, and not at all where glue of an infinite order is set.
 #[tactic(auto, unfolding(crate::specs::Steps::shrink_bad))]
 fn shrink_bad(amount: i64, totals: &OrderTotals) -> u32
     requires { pos 0 ≤ℤ amount }
@@ -248,7 +249,7 @@ fn bad_to(excess: i64, stretch: &OrderTotals, shrink: &OrderTotals) -> u32
     0
 }
 
-/// The same; of an empty list it is 0.
+/// How bad a list is with that much space too much (or, below 0, too little): 0 where it is empty.
 #[tactic(auto, unfolding(crate::specs::Steps::bad_of))]
 fn bad_of(empty: bool, excess: i64, stretch: &OrderTotals, shrink: &OrderTotals) -> u32
     requires { Within (2 ^ 31) excess }

@@ -1,4 +1,4 @@
-//! What an item adds to the list that it stands in (TeX: The Program, part 33).
+//! What an item adds to the list that it stands in (TeX: The Program, part 33, §651 to §656 and §669 to §671).
 
 ghost use Rattle.std.specs.Prelude.{◌≡◌, ◌+ℤ◌, ◌-ℤ◌, ◌^◌};
 ghost use Rattle.scaled_core.specs.Dimensions.{Within};
@@ -50,7 +50,7 @@ pub fn width_of(node: &Node) -> Dimen
     }
 }
 
-/// How far it stands above the baseline; a box that is shifted down, by its shift less.
+/// How far an item stands above the baseline; a box that is shifted down, by its shift less.
 pub fn height_of(node: &Node) -> i64
     ensures value { result ≡ above node.now }
     ensures small { Within (2 ^ 31) result }
@@ -63,7 +63,7 @@ pub fn height_of(node: &Node) -> i64
     }
 }
 
-/// How far it stands below; a box that is shifted down, by its shift more.
+/// How far an item stands below the baseline; a box that is shifted down, by its shift more.
 pub fn depth_of(node: &Node) -> i64
     ensures value { result ≡ below node.now }
     ensures small { Within (2 ^ 31) result }

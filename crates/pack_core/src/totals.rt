@@ -68,7 +68,7 @@ pub fn total_of(what: Quantity, nodes: &[Node]) -> i64
 pub enum Extent {
     /// Above the baseline of a horizontal list.
     Above,
-    /// Below it.
+    /// Below the baseline of a horizontal list.
     Below,
     /// To the right in a vertical list.
     Breadth,
@@ -86,7 +86,7 @@ fn extent_of(way: Extent, node: &Node) -> i64
     }
 }
 
-/// The greatest size that way, at least 0.
+/// The greatest size of the items of a list that way, at least 0.
 pub fn greatest_of(way: Extent, nodes: &[Node]) -> i64
     ensures value { result ≡ greatest (extent_in way) nodes.now }
     ensures small { Within (2 ^ 31) result }

@@ -5,6 +5,7 @@ use Rattle.command_core.specs.declared.command.Refusal.TheVariants.{NoFont, BadT
 use Rattle.tfm_core.specs.declared.fault.TfmCause.TheVariants.{Counts}
 use Rattle.program_core.specs.Texts.{answers_text}
 
+-- the answers of the script of the one-rule page are written so
 abbrev pub OneRuleAnswers : Type 0
 OneRuleAnswers =
     answers_text (1 ∷ 2 ∷ 3 ∷ 4 ∷ [])
@@ -12,6 +13,7 @@ OneRuleAnswers =
     (Ok (record { pages = 1; bytes = 116 }))
     ≡ codes "1: ok\n2: ok\n3: packed 1.0pt 1.0pt 0.0pt badness 0\n4: shipped 1\nend: pages 1 bytes 116\n"
 
+-- answers and refusals of fonts and texts are written so
 abbrev pub TextAnswers : Type 0
 TextAnswers =
     answers_text (1 ∷ 2 ∷ 4 ∷ 5 ∷ []) (Err (BadTfm Counts) ∷ Err NoFont ∷ Ok (Shaped 2 1) ∷ Err SlotTaken ∷ []) (Err ListsOpen)

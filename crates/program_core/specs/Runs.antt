@@ -106,24 +106,25 @@ pub record RanInMemory (text : List ℕ) (files : List NamedBytes) (failed : ℕ
   pub ran : RanScript text files 0 failed (Some bytes) answers fine
   pub answer_is : answer ≡ answers ++ hexadecimal_text bytes
 
--- what a script is answered with where its device is in memory; a bad one with its one line
+-- what a script is answered with where its device is in memory and then holds this; a bad one with its one line
 abbrev pub IsAnsweredInMemory : List ℕ → List NamedBytes → Held → (answer : List ℕ) → (fine : Bool) → Type 0
 IsAnsweredInMemory text files memory answer fine = RanInMemory text files memory.failures memory.bytes answer fine ⊎ RefusedScript text answer fine
 
--- the same, whatever device in memory it was
+-- what a script is answered with where its device is in memory, whatever that then holds; a bad one with its one line
 abbrev pub IsAnswerInMemory : List ℕ → List NamedBytes → (answer : List ℕ) → (fine : Bool) → Type 0
 IsAnswerInMemory text files answer fine = (memory : Held) × IsAnsweredInMemory text files memory answer fine
 
--- what is known where such a run failed
+-- what is known where a run on a device in memory failed: memory was refused; or the writer took a beginning of the answer that is not all of it
 abbrev pub IsLeftInMemory : List ℕ → List NamedBytes → RunFault Held → (old new : Option (List ℕ)) → Type 0
 IsLeftInMemory text files (Memory memory) old new = LacksMemory text files 0 memory.failures (Some memory.bytes) old new
 IsLeftInMemory text files (Answers memory) old new =
     (answer : List ℕ) × (fine : Bool) × IsAnsweredInMemory text files memory answer fine × WritesFront old new answer
 
--- the line that says that memory was refused, and the one that says that the input could not be read
+-- the line that says that memory was refused
 abbrev pub memory_line : List ℕ
 memory_line = codes "refused 1 OutOfMemory\n"
 
+-- the line that says that the input could not be read
 abbrev pub unreadable_line : List ℕ
 unreadable_line = codes "boxglue: cannot read -\n"
 

@@ -36,7 +36,7 @@ refusal_number Device = 18
 refusal_number JobOver = 19
 refusal_number VoidBox = 21
 
--- a metric file that is refused, with the cause
+-- the name of the refusal of a metric file, with its cause
 abbrev pub bad_file_name : TfmCause → List ℕ
 bad_file_name TooShort = codes "BadTfm TooShort"
 bad_file_name Counts = codes "BadTfm Counts"
@@ -65,6 +65,7 @@ refusal_name Device = codes "Device"
 refusal_name JobOver = codes "JobOver"
 refusal_name VoidBox = codes "VoidBox"
 
+-- the name of a cause why a script is bad
 abbrev pub cause_name : Cause → List ℕ
 cause_name Byte = codes "Byte"
 cause_name Word = codes "Word"
@@ -74,10 +75,12 @@ cause_name Number = codes "Number"
 cause_name Dimension = codes "Dimension"
 cause_name causes.Name = codes "Name"
 
+-- the word for a kind of box
 abbrev pub kind_name : Kind → List ℕ
 kind_name Horizontal = codes "hbox"
 kind_name Vertical = codes "vbox"
 
+-- the byte that ends a line
 abbrev pub line_feed : List ℕ
 line_feed = 10 ∷ []
 
@@ -85,12 +88,15 @@ line_feed = 10 ∷ []
 unfoldable pub points_text : ℤ → List ℕ
 points_text dimension = dimension_text dimension ++ codes "pt"
 
+-- width, height and depth, with a space between them
 unfoldable pub sizes_text : Sizes → List ℕ
 sizes_text sizes = points_text sizes.width ++ (codes " " ++ (points_text sizes.height ++ (codes " " ++ points_text sizes.depth)))
 
+-- a refusal with its number and its name
 unfoldable pub refusal_text : Refusal → List ℕ
 refusal_text refusal = codes "refused " ++ (decimal (refusal_number refusal) ++ (codes " " ++ refusal_name refusal))
 
+-- an answer to a command
 unfoldable pub answer_text : Answer → List ℕ
 answer_text Done = codes "ok"
 answer_text (Packed sizes badness) = codes "packed " ++ (sizes_text sizes ++ (codes " badness " ++ decimal badness))
@@ -100,6 +106,7 @@ answer_text (Shaped items missing) = codes "added " ++ (decimal items ++ (codes 
 answer_text (Added items) = codes "added " ++ decimal items
 answer_text (Shipped pages) = codes "shipped " ++ decimal pages
 
+-- an answer or a refusal
 abbrev pub reply_text : Result Answer Refusal → List ℕ
 reply_text (Ok answer) = answer_text answer
 reply_text (Err refusal) = refusal_text refusal
@@ -108,11 +115,12 @@ reply_text (Err refusal) = refusal_text refusal
 unfoldable pub answer_line : ℕ → Result Answer Refusal → List ℕ
 answer_line number reply = decimal number ++ (codes ": " ++ (reply_text reply ++ line_feed))
 
+-- what a job tells when it is finished: its pages and its bytes, or a refusal
 abbrev pub summary_text : Result Summary Refusal → List ℕ
 summary_text (Ok summary) = codes "pages " ++ (decimal summary.pages ++ (codes " bytes " ++ decimal summary.bytes))
 summary_text (Err refusal) = refusal_text refusal
 
--- the last line
+-- the last line: what the job tells when it is finished
 unfoldable pub end_line : Result Summary Refusal → List ℕ
 end_line end = codes "end: " ++ (summary_text end ++ line_feed)
 
@@ -136,11 +144,12 @@ hexadecimal_digit n = if nat_lt n 10 then 48 + n else 87 + n
 abbrev pub ends_line : ℕ → ℕ → Bool
 ends_line count index = (index % 16 == 15) || (index + 1 == count)
 
+-- the two hexadecimal digits of the byte at an index of so many, and a line feed where it ends a line
 unfoldable pub byte_text : ℕ → ℕ → ℕ → List ℕ
 byte_text count index byte =
     hexadecimal_digit (byte / 16) ∷ hexadecimal_digit (byte % 16) ∷ (if ends_line count index then line_feed else [])
 
--- some of so many bytes, the first of them at this index
+-- the text of some of so many bytes, the first of them at this index
 abbrev pub bytes_text : ℕ → ℕ → List ℕ → List ℕ
 bytes_text count index bytes = flat_map (λ p. byte_text count p.0 p.1) (enumerate_from index bytes)
 

@@ -1,4 +1,4 @@
--- Texts of dimensions and their values (TeX: The Program, parts 7 and 26, scan_dimen).
+-- Texts of dimensions and their values (TeX: The Program, part 7, §102, and part 26, §448 to §458, scan_dimen).
 use Rattle.std.specs.Prelude.{◌≡◌, ℕ, ℤ, pos, neg_ℤ, ◌+◌, ◌*◌, ◌^◌, ◌<◌, IsTrue, List, [], ◌++◌, Option, None, Some, codes, length, take}
 use Rattle.std.specs.Str.{all_ascii_digits}
 use Rattle.std.specs.Str.Parse.{digits_value}
@@ -7,7 +7,8 @@ use Rattle.scaled_core.specs.Dimensions.{Fits}
 use Rattle.scaled_core.specs.Rounding.{nearest}
 use Rattle.scaled_core.specs.Units.{unit_text, scaled_points}
 
--- the fraction 0.DIGITS in 65536ths, to the nearest, halves upward; digits after the 17th do not count (TeX: The Program, part 7, round_decimals)
+-- the fraction 0.DIGITS in 65536ths, to the nearest, halves upward (TeX: The Program, part 7, §102, round_decimals); digits after the 17th do not
+-- count (TeX: The Program, part 26, §452)
 unfoldable pub decimal_fraction : List ℕ → ℕ
 decimal_fraction digits = nearest (digits_value 10 (take 17 digits) * 65536) (10 ^ length (take 17 digits))
 
@@ -17,7 +18,7 @@ pub data Sign : Type 0 where
   plus : Sign
   minus : Sign
 
--- how it is written (TeX: The Program, part 26)
+-- how a sign is written (TeX: The Program, part 26)
 abbrev pub sign_text : Sign → List ℕ
 sign_text unsigned = []
 sign_text plus = codes "+"
@@ -29,7 +30,7 @@ signed unsigned n = pos n
 signed plus n = pos n
 signed minus n = neg_ℤ (pos n)
 
--- the parts of a dimension text; with no fraction there is no point (TeX: The Program, part 26)
+-- the parts of a dimension text; with no fraction there is no point (TeX: The Program, part 26, §448)
 pub record DimensionParts : Type 0 where
   pub sign : Sign
   pub whole : List ℕ
@@ -41,22 +42,22 @@ abbrev pub fraction_digits : Option (List ℕ) → List ℕ
 fraction_digits None = []
 fraction_digits (Some digits) = digits
 
--- the point and the digits behind it (TeX: The Program, part 26)
+-- the point and the digits behind it (TeX: The Program, part 26, §452)
 abbrev pub fraction_text : Option (List ℕ) → List ℕ
 fraction_text None = []
 fraction_text (Some digits) = codes "." ++ digits
 
--- the text that the parts write (TeX: The Program, part 26)
+-- the text that the parts write (TeX: The Program, part 26, §448)
 abbrev pub parts_text : DimensionParts → List ℕ
 parts_text p = sign_text p.sign ++ (p.whole ++ (fraction_text p.fraction ++ unit_text p.unit))
 
--- its number of scaled points (TeX: The Program, part 26)
+-- the number of scaled points that the parts give (TeX: The Program, part 26, §448)
 abbrev pub parts_value : DimensionParts → ℤ
 parts_value p = signed p.sign (scaled_points p.unit (digits_value 10 p.whole) (decimal_fraction (fraction_digits p.fraction)))
 
--- the text writes a dimension of that many scaled points, which may be too large to fit: an optional sign, digits with at most one
--- point among them and at least one digit, and a unit with no space before it (TeX: The Program, part 26, scan_dimen; that no space,
--- comma, second sign or other unit is taken is own)
+-- the text writes a dimension of that many scaled points, which may be too large to fit: an optional sign, digits with at most one point among them
+-- and at least one digit, and a unit with no space before it (TeX: The Program, part 26, §448, scan_dimen; that no space, comma, second sign or other
+-- unit is taken is own)
 pub record IsDimensionText (text : List ℕ) (value : ℤ) : Type 0 where
   pub parts : DimensionParts
   pub whole : IsTrue (all_ascii_digits parts.whole)

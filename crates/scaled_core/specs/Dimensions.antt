@@ -10,7 +10,7 @@ pub record Within (n : ℕ) (z : ℤ) : Type 0 where
 abbrev pub Fits : ℤ → Type 0
 Fits z = Within 1073741823 z
 
--- The same as a test (TeX: The Program, part 7).
+-- Whether a number fits as a dimension: Fits as a test (TeX: The Program, part 7; max_dimen of part 26).
 abbrev pub fits : ℤ → Bool
 fits z = nat_le (unsigned_abs z) 1073741823
 

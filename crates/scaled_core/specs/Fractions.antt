@@ -7,6 +7,6 @@ pub record Fraction : Type 0 where
   pub num : ℤ
   pub den : ℤ
 
--- that fraction of an amount, rounded to the nearest whole number, halves away from zero (own)
+-- a fraction of an amount, rounded to the nearest whole number, halves away from zero (own)
 unfoldable pub round_times : Fraction → ℤ → ℤ
 round_times f amount = rounded (f.num *ℤ amount) (unsigned_abs f.den)

@@ -1,4 +1,4 @@
--- The value of a text as a function: its parts from the left (own, after TeX: The Program, part 26, scan_dimen).
+-- The value of a text as a function: its parts from the left (own, after TeX: The Program, part 26, §448, scan_dimen).
 use Rattle.std.specs.Prelude.{◌==◌, ℕ, ℤ, pos, neg_ℤ, Bool, true, false, ◌&&◌, if◌then◌else◌, List, [], ◌∷◌, Option, None, Some, Result, Ok, Err, length, drop, option_map}
 use Rattle.std.specs.List.{find, prefix_len, take_while}
 use Rattle.std.specs.Char.{is_ascii_digit}
@@ -12,11 +12,11 @@ use Rattle.scaled_core.specs.Dimensions.{fits}
 use Rattle.scaled_core.specs.DimensionTexts.{decimal_fraction}
 use Rattle.scaled_core.specs.Units.{scaled_points, unit_text}
 
--- all units (TeX: The Program, part 26)
+-- all units (TeX: The Program, part 26, §453 and §458)
 abbrev pub units : List LengthUnit
 units = Point ∷ Inch ∷ Pica ∷ Centimeter ∷ Millimeter ∷ BigPoint ∷ DidotPoint ∷ Cicero ∷ ScaledPoint ∷ []
 
--- the unit that is written so (TeX: The Program, part 26)
+-- the unit that is written so, if there is one (TeX: The Program, part 26, §453 and §458)
 unfoldable pub unit_named : List ℕ → Option LengthUnit
 unit_named text = find (λ u. bytes_eq text (unit_text u)) units
 
@@ -34,7 +34,7 @@ behind_sign (c ∷ cs) = if c == 45 then cs else (if c == 43 then cs else c ∷ 
 unfoldable pub front_digits : List ℕ → List ℕ
 front_digits text = take_while is_ascii_digit text
 
--- what stands behind them (own)
+-- the text behind the digits at the front (own)
 unfoldable pub behind_digits : List ℕ → List ℕ
 behind_digits text = drop (prefix_len is_ascii_digit text) text
 
@@ -54,19 +54,19 @@ with_minus true n = neg_ℤ (pos n)
 with_minus false n = pos n
 
 -- the value of a number of that sign, those digits before and behind the point, and that unit; none where there is no digit or no unit
--- (TeX: The Program, part 26)
+-- (TeX: The Program, part 26, §448)
 unfoldable pub measured : Bool → List ℕ → List ℕ → Option LengthUnit → Option ℤ
 measured negative whole fraction unit =
     if (length whole == 0) && (length fraction == 0) then None
     else option_map (λ u. with_minus negative (scaled_points u (digits_value 10 whole) (decimal_fraction fraction))) unit
 
--- the number of scaled points that a dimension text writes; none exactly where the text is no dimension (TeX: The Program, part 26, scan_dimen)
+-- the number of scaled points that a dimension text writes; none exactly where the text is no dimension (TeX: The Program, part 26, §448, scan_dimen)
 unfoldable pub dimension_value : List ℕ → Option ℤ
 dimension_value text =
     let number = behind_sign text in
     measured (is_negative text) (front_digits number) (point_digits (behind_digits number)) (unit_named (behind_fraction (behind_digits number)))
 
--- the dimension of that value, if there is one and it fits (own)
+-- the dimension of a value, or why there is none: no value, or one that does not fit (own)
 unfoldable pub fitted : Option ℤ → Result ℤ DimenFault
 fitted None = Err NotADimension
 fitted (Some value) = if fits value then Ok value else Err TooLarge

@@ -1,4 +1,4 @@
--- The printed texts of dimensions (TeX: The Program, part 7, print_scaled).
+-- The printed texts of dimensions (TeX: The Program, part 7, §103, print_scaled).
 use Rattle.std.specs.Prelude.{◌==◌, ℕ, ℤ, pos, negsuc, if◌then◌else◌, nat_lt, nat_le, ◌+◌, ◌-◌, ◌*◌, ◌/◌, ◌%◌, ◌^◌, zero, suc, Bool, List, [], ◌∷◌, ◌++◌, codes, unwrap_or, decimal}
 use Rattle.std.specs.List.{find}
 use Rattle.scaled_core.specs.Rounding.{nearest}
@@ -12,23 +12,24 @@ last_digits (suc count) n = last_digits count (n / 10) ++ (48 + n % 10) ∷ []
 unfoldable pub nearest_decimal : ℕ → ℕ → ℕ
 nearest_decimal f places = nearest (f * 10 ^ places) 65536
 
--- whether that decimal, read as a fraction, is f again (own)
+-- whether the decimal with that many places nearest to f / 65536, read as a fraction, is f again (own)
 unfoldable pub reads_back : ℕ → ℕ → Bool
 reads_back f places = nearest (nearest_decimal f places * 65536) (10 ^ places) == f
 
--- the least number of places, from 1 on, with which f reads back; 5 always do (TeX: The Program, part 7, print_scaled)
+-- the least number of places, from 1 on, with which f reads back; 5 always do (TeX: The Program, part 7, §103, print_scaled)
 unfoldable pub fraction_places : ℕ → ℕ
 fraction_places f = unwrap_or (find (reads_back f) (1 ∷ 2 ∷ 3 ∷ 4 ∷ [])) 5
 
--- the digits behind the point of f 65536ths: the decimal nearest to them with the fewest places that reads back (TeX: The Program, part 7, print_scaled)
+-- the digits behind the point of f 65536ths: the decimal nearest to them with the fewest places that reads back
+-- (TeX: The Program, part 7, §103, print_scaled)
 unfoldable pub shortest_fraction : ℕ → List ℕ
 shortest_fraction f = last_digits (fraction_places f) (nearest_decimal f (fraction_places f))
 
--- the text of n scaled points, in points and without its unit (TeX: The Program, part 7, print_scaled)
+-- the text of n scaled points, in points and without its unit (TeX: The Program, part 7, §103, print_scaled)
 unfoldable pub size_text : ℕ → List ℕ
 size_text n = decimal (n / 65536) ++ (codes "." ++ shortest_fraction (n % 65536))
 
--- the printed text of a dimension, without its unit (TeX: The Program, part 7, print_scaled)
+-- the printed text of a dimension, without its unit (TeX: The Program, part 7, §103, print_scaled)
 unfoldable pub dimension_text : ℤ → List ℕ
 dimension_text (pos n) = size_text n
 dimension_text (negsuc n) = codes "-" ++ size_text (suc n)

@@ -6,8 +6,8 @@ ghost use Rattle.scaled_core.specs.Badness.{IsBadness, IsRatioBadness, badness_o
 use crate::rounding::nearest;
 
 /// The badness of glue that is stretched or shrunk by `t` where `s` is what it can stretch or shrink, both in scaled points, with
-/// `t` not below 0: 0 where `t` is 0, 10000 where `s` is 0 or below it, and else about 100 (t / s)^3, at most 10000 (TeX: The
-/// Program, part 7, badness). Takes no memory.
+/// `t` not below 0: 0 where `t` is 0, 10000 where `s` is 0 or below it, and else about 100 (t / s)^3, at most 10000
+/// (TeX: The Program, part 7, §108, badness). Takes no memory.
 #[tactic(auto, unfolding(crate::specs::Badness::badness_of))]
 pub fn badness(t: i64, s: i64) -> u32
     requires { pos 0 ≤ℤ t }
@@ -24,7 +24,7 @@ pub fn badness(t: i64, s: i64) -> u32
     ratio_badness(badness_ratio(t as u64, s as u64))
 }
 
-/// About `297 * t / s`, or `t` where that is above 1290 (TeX: The Program, part 7, badness).
+/// About `297 * t / s`, or `t` where that is above 1290 (TeX: The Program, part 7, §108, badness).
 #[tactic(auto, unfolding(crate::specs::Badness::badness_ratio))]
 fn badness_ratio(t: u64, s: u64) -> u64
     requires { 0 < s }

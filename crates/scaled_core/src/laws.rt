@@ -43,8 +43,8 @@ pub fn printed_is_shortest()
         length (shortest_fraction f) ≤ length digits }
 {}
 
-/// The printed digits behind the point are those of TeX's own rule, however many turns it is given from five on: it has stopped by then (TeX: The
-/// Program, part 7, §103, print_scaled).
+/// The printed digits behind the point are those of TeX's own rule, however many turns it is given from five on: it has stopped by then
+/// (TeX: The Program, part 7, §103, print_scaled).
 pub fn print_scaled_digits()
     ensures { (turns f : ℕ) → 5 ≤ turns → f < 65536 → print_scaled turns (10 * f + 5) 10 ≡ shortest_fraction f }
 {}

@@ -16,8 +16,8 @@ use crate::rounding::nearest;
 use crate::units::LengthUnit;
 
 /// The dimension that a text writes: an optional sign, digits with at most one `.` among them (at least one digit) and, with
-/// no space before it, a unit of pt, in, pc, cm, mm, bp, dd, cc, sp (TeX: The Program, part 26, scan_dimen). `NotADimension` comes
-/// exactly where the text is none, and `TooLarge` exactly where its value does not fit. Takes no memory.
+/// no space before it, a unit of pt, in, pc, cm, mm, bp, dd, cc, sp (TeX: The Program, part 26, §448, scan_dimen). `NotADimension`
+/// comes exactly where the text is none, and `TooLarge` exactly where its value does not fit. Takes no memory.
 pub fn parse_dimen(text: &[u8]) -> Result<Dimen, DimenFault>
     ensures ok { IfOk result (λ d. IsDimensionText text.now d) }
     ensures fits { IfOk result (λ d. Fits d) }

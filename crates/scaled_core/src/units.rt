@@ -4,7 +4,7 @@ ghost use Rattle.std.specs.Prelude.{◌≡◌, ◌^◌, ◌<◌, ◌≤◌};
 ghost use Rattle.scaled_core.specs.ParsedTexts.{unit_named};
 ghost use Rattle.scaled_core.specs.Units.{of_points, scaled_points};
 
-/// A unit of length (TeX: The Program, part 26, scan_dimen).
+/// A unit of length (TeX: The Program, part 26, §453 and §458, scan_dimen).
 #[derive(Clone, Copy, Debug, PartialEq, Eq)]
 pub enum LengthUnit {
     /// `pt`: a printer's point.

@@ -31,15 +31,15 @@ IsWord field = Begins (field ∷ []) ⊎ IsInnerWord field
 abbrev pub GivesNumber : List ℕ → Type 0
 GivesNumber field = (n : ℕ) × IsNumber field n
 
--- some dimension that fits
+-- a field that writes some dimension that fits
 abbrev pub GivesDimension : List ℕ → Type 0
 GivesDimension field = (z : ℤ) × IsDimension field z
 
--- some size of a font
+-- a field that writes some size of a font
 abbrev pub GivesSizeOfFont : List ℕ → Type 0
 GivesSizeOfFont field = (z : ℤ) × IsSizeOfFont field z
 
--- some size of a rule
+-- a field that gives some size of a rule
 abbrev pub GivesSize : List ℕ → Type 0
 GivesSize field = (size : RuleSize) × IsSize field size
 

@@ -27,12 +27,12 @@ pub record IsInteger (field : List ℕ) (z : ℤ) : Type 0 where
   pub digits : IsNumeral 10 (without_leading_sign field)
   pub value : signed_digits_value 10 field ≡ z
 
--- one from 0 to 255: that of a register, of a font's slot or of a character
+-- a field that writes this whole number, from 0 to 255: that of a register, of a font's slot or of a character
 pub record IsNumber (field : List ℕ) (n : ℕ) : Type 0 where
   pub written : IsInteger field (pos n)
   pub small : n < 256
 
--- one of absolute value at most 500,000,000: that of a penalty
+-- a field that writes this whole number, of absolute value at most 500,000,000: that of a penalty
 pub record IsPenalty (field : List ℕ) (z : ℤ) : Type 0 where
   pub written : IsInteger field z
   pub small : Within 500000000 z
@@ -55,7 +55,7 @@ is_alphanumeric byte = (nat_le 48 byte && nat_le byte 57) || ((nat_le 65 byte &&
 abbrev pub is_name_byte : ℕ → Bool
 is_name_byte byte = is_alphanumeric byte || ((byte == 45) || ((byte == 95) || (byte == 46)))
 
--- a field that is the name of a font: 1 to 255 such bytes
+-- a field that is the name of a font: 1 to 255 letters, digits, `-`, `_` and `.`
 pub record IsName (field : List ℕ) : Type 0 where
   pub bytes : list_all is_name_byte field ≡ true
   pub some : 0 < length field
@@ -88,7 +88,7 @@ abbrev pub IsDestination : List (List ℕ) → Option ℕ → Type 0
 IsDestination fields None = fields ≡ []
 IsDestination fields (Some n) = (r : List ℕ) × (fields ≡ codes "into" ∷ r ∷ []) × IsNumber r n
 
--- how the command is called that appends the box of a register so
+-- how the command is called that appends the box of a register, moved or copied
 abbrev pub taking_text : Taking → List ℕ
 taking_text Moved = codes "box"
 taking_text Copied = codes "copy"
@@ -97,7 +97,7 @@ taking_text Copied = codes "copy"
 abbrev pub IsShift : List (List ℕ) → ℤ → Type 0
 IsShift fields z = ((fields ≡ []) × (z ≡ pos 0)) ⊎ ((d : List ℕ) × (fields ≡ codes "shift" ∷ d ∷ []) × IsDimension d z)
 
--- how the command is called that appends the items of a box of that kind so
+-- how the command is called that appends the items of a box of that kind, moved or copied
 abbrev pub unboxing_text : Kind → Taking → List ℕ
 unboxing_text Horizontal Moved = codes "unhbox"
 unboxing_text Horizontal Copied = codes "unhcopy"

@@ -1,4 +1,4 @@
--- The names of commands, but for `text`, whose lines are no fields (own).
+-- The names of commands, but for `text`, whose lines are no fields (own; private calls alone, no public clause speaks of it).
 use Rattle.std.specs.Prelude.{ℕ, if◌then◌else◌, List, Option, None, Some, codes}
 use Rattle.std.specs.Str.{bytes_eq}
 use Rattle.node_core.specs.declared.tree.Kind.TheVariants.{Horizontal, Vertical}
@@ -44,6 +44,7 @@ item_name word =
     else (if bytes_eq word (codes "set") then Some Set
     else None)))))))
 
+-- the first of two names that is there, if one is
 abbrev pub name_or : Option Name → Option Name → Option Name
 name_or None later = later
 name_or (Some name) later = Some name

@@ -1,4 +1,4 @@
--- What the functions that read a script compute (own).
+-- What the functions that read a script compute (own; private calls alone, no public clause speaks of it).
 use Rattle.std.specs.Prelude.{◌≡◌, ◌==◌, ℕ, ℤ, pos, negsuc, Bool, not, ◌&&◌, if◌then◌else◌, List, [], ◌∷◌, ◌++◌, ◌+◌, ◌-◌, Option, None, Some, Result, Ok, Err, codes, drop, take, length, nat_lt, nat_le, unsigned_abs}
 use Rattle.std.specs.List.{prefix_len, list_all}
 use Rattle.std.specs.Char.{digit_value}
@@ -33,10 +33,11 @@ use Rattle.script_core.specs.Names.{name_of}
 use Rattle.script_core.specs.ScriptLines.{is_space, is_printable, is_passed_over, fields_of}
 use Rattle.script_core.specs.Grammar.{is_name_byte}
 
--- a byte before the end of a line, and of a field
+-- a byte before the end of a line: any but a line feed
 abbrev pub in_line : ℕ → Bool
 in_line byte = not (byte == 10)
 
+-- a byte of a field: any but a space
 abbrev pub in_field : ℕ → Bool
 in_field byte = not (is_space byte)
 
@@ -48,24 +49,26 @@ without_spaces line = drop (prefix_len is_space line) line
 unfoldable pub front_field : List ℕ → List ℕ
 front_field line = take (prefix_len in_field (without_spaces line)) (without_spaces line)
 
--- what stands behind it
+-- what stands behind the first field of a line
 unfoldable pub behind_field : List ℕ → List ℕ
 behind_field line = drop (prefix_len in_field (without_spaces line)) (without_spaces line)
 
--- the first of some fields
+-- the first of some fields; the cause is Missing where there is none
 abbrev pub first_of : List (List ℕ) → Result (List ℕ) Cause
 first_of [] = Err Missing
 first_of (field ∷ rest) = Ok field
 
--- those behind it
+-- the fields behind the first one
 abbrev pub rest_of : List (List ℕ) → List (List ℕ)
 rest_of [] = []
 rest_of (field ∷ rest) = rest
 
+-- what is there, or this cause where nothing is
 abbrev pub some_or : {A : Type 0} → Cause → Option A → Result A Cause
 some_or cause None = Err cause
 some_or cause (Some x) = Ok x
 
+-- whether there are digits, and nothing else
 abbrev pub is_numeral : List ℕ → Bool
 is_numeral digits = nat_lt 0 (length digits) && list_all (λ c. nat_lt (digit_value c) 10) digits
 
@@ -86,13 +89,16 @@ penalty_number z = if nat_le (unsigned_abs z) 500000000 then Some z else None
 unfoldable pub penalty_of : List ℕ → Option ℤ
 penalty_of field = if is_numeral (without_leading_sign field) then penalty_number (signed_digits_value 10 field) else None
 
+-- a field as a number from 0 to 255; the cause is Number where it is none, and stays where there is no field
 abbrev pub as_number : Result (List ℕ) Cause → Result ℕ Cause
 as_number (Err cause) = Err cause
 as_number (Ok field) = some_or Number (number_of field)
 
+-- the first of some fields as a number from 0 to 255
 unfoldable pub number_first : List (List ℕ) → Result ℕ Cause
 number_first fields = as_number (first_of fields)
 
+-- a field as the number of a penalty; the cause is Number where it is none, and stays where there is no field
 abbrev pub as_penalty : Result (List ℕ) Cause → Result ℤ Cause
 as_penalty (Err cause) = Err cause
 as_penalty (Ok field) = some_or Number (penalty_of field)
@@ -101,14 +107,17 @@ as_penalty (Ok field) = some_or Number (penalty_of field)
 unfoldable pub penalty_first : List (List ℕ) → Result ℤ Cause
 penalty_first fields = as_penalty (first_of fields)
 
+-- a dimension that was read; the cause is Dimension where there is none or it does not fit
 abbrev pub dimension_or : Result ℤ DimenFault → Result ℤ Cause
 dimension_or (Err fault) = Err Dimension
 dimension_or (Ok z) = Ok z
 
+-- a field as a dimension; the cause is Dimension where it is none or does not fit, and stays where there is no field
 abbrev pub as_dimension : Result (List ℕ) Cause → Result ℤ Cause
 as_dimension (Err cause) = Err cause
 as_dimension (Ok field) = dimension_or (read_dimension field)
 
+-- the first of some fields as a dimension
 unfoldable pub dimension_first : List (List ℕ) → Result ℤ Cause
 dimension_first fields = as_dimension (first_of fields)
 
@@ -117,6 +126,7 @@ abbrev pub size_of_font : ℤ → Option ℤ
 size_of_font (pos n) = if nat_lt 0 n && nat_lt n 134217728 then Some (pos n) else None
 size_of_font (negsuc n) = None
 
+-- a dimension as the size of a font; the cause is Number where it is none, and stays where there is no dimension
 abbrev pub as_size_of_font : Result ℤ Cause → Result ℤ Cause
 as_size_of_font (Err cause) = Err cause
 as_size_of_font (Ok z) = some_or Number (size_of_font z)
@@ -125,7 +135,7 @@ as_size_of_font (Ok z) = some_or Number (size_of_font z)
 unfoldable pub size_of_font_first : List (List ℕ) → Result ℤ Cause
 size_of_font_first fields = as_size_of_font (dimension_first fields)
 
--- 1 to 255 bytes
+-- whether a field has 1 to 255 bytes
 abbrev pub is_short : List ℕ → Bool
 is_short field = nat_lt 0 (length field) && nat_lt (length field) 256
 
@@ -133,6 +143,7 @@ is_short field = nat_lt 0 (length field) && nat_lt (length field) 256
 abbrev pub is_name : List ℕ → Bool
 is_name field = is_short field && list_all is_name_byte field
 
+-- a field as the name of a font; the cause is Name where it is none, and stays where there is no field
 abbrev pub as_name : Result (List ℕ) Cause → Result (List ℕ) Cause
 as_name (Err cause) = Err cause
 as_name (Ok field) = if is_name field then Ok field else Err causes.Name
@@ -141,6 +152,7 @@ as_name (Ok field) = if is_name field then Ok field else Err causes.Name
 unfoldable pub name_first : List (List ℕ) → Result (List ℕ) Cause
 name_first fields = as_name (first_of fields)
 
+-- what a function makes of what was read; a cause stays
 abbrev pub map_ok : {A B : Type 0} → (A → B) → Result A Cause → Result B Cause
 map_ok f (Err cause) = Err cause
 map_ok f (Ok x) = Ok (f x)
@@ -149,10 +161,12 @@ map_ok f (Ok x) = Ok (f x)
 unfoldable pub size_of : List ℕ → Result RuleSize Cause
 size_of field = if bytes_eq field (codes "*") then Ok Running else map_ok Fixed (dimension_or (read_dimension field))
 
+-- a field as a size of a rule; the cause stays where there is no field
 abbrev pub as_size : Result (List ℕ) Cause → Result RuleSize Cause
 as_size (Err cause) = Err cause
 as_size (Ok field) = size_of field
 
+-- the first of some fields as a size of a rule
 unfoldable pub size_first : List (List ℕ) → Result RuleSize Cause
 size_first fields = as_size (first_of fields)
 
@@ -160,6 +174,7 @@ size_first fields = as_size (first_of fields)
 unfoldable pub before_unit : List ℕ → List ℕ → Option (List ℕ)
 before_unit unit field = if bytes_eq (drop (length field - length unit) field) unit then Some (take (length field - length unit) field) else None
 
+-- so much stretch or shrink of that order
 abbrev pub amount : Order → ℤ → Amount
 amount order size = record { size = size; order = order }
 
@@ -171,6 +186,7 @@ amount_in order text = map_ok (amount order) (dimension_or (read_dimension text)
 abbrev pub number_in_points : Order → List ℕ → Result Amount Cause
 number_in_points order number = amount_in order (number ++ codes "pt")
 
+-- the amount of that order by the number in front of its unit, or another amount where the unit is not there
 abbrev pub amount_or : Order → Option (List ℕ) → Result Amount Cause → Result Amount Cause
 amount_or order None other = other
 amount_or order (Some number) other = number_in_points order number
@@ -183,6 +199,7 @@ amount_of field =
     (amount_or Fil (before_unit (codes "fil") field)
     (amount_in Normal field)))
 
+-- a field as an amount of stretch or shrink; the cause stays where there is no field
 abbrev pub as_amount : Result (List ℕ) Cause → Result Amount Cause
 as_amount (Err cause) = Err cause
 as_amount (Ok field) = amount_of field
@@ -202,9 +219,11 @@ and_right (Err cause) after = Err cause
 and_right (Ok x) (Err cause) = Err cause
 and_right (Ok x) (Ok u) = Ok x
 
+-- the first of some fields, which is the last one too, as a number from 0 to 255
 unfoldable pub last_number : List (List ℕ) → Result ℕ Cause
 last_number fields = and_right (number_first fields) (ended (rest_of fields))
 
+-- the first of some fields, which is the last one too, as a dimension
 unfoldable pub last_dimension : List (List ℕ) → Result ℤ Cause
 last_dimension fields = and_right (dimension_first fields) (ended (rest_of fields))
 
@@ -218,12 +237,15 @@ abbrev pub and_then : {A B : Type 0} → Result A Cause → (A → Result B Caus
 and_then (Err cause) more = Err cause
 and_then (Ok x) more = more x
 
+-- the first of some fields, which is the last one too, as the number of a penalty
 unfoldable pub last_penalty : List (List ℕ) → Result ℤ Cause
 last_penalty fields = and_right (penalty_first fields) (ended (rest_of fields))
 
+-- the first of some fields, which is the last one too, as an amount of stretch or shrink
 unfoldable pub last_amount : List (List ℕ) → Result Amount Cause
 last_amount fields = and_right (amount_first fields) (ended (rest_of fields))
 
+-- the command that opens a list of that form and target, whose box goes into that register or into the enclosing list
 abbrev pub opening : BoxForm → Target → Option ℕ → Command
 opening form target into = Open (record { form = form; target = target; into = into })
 
@@ -231,12 +253,12 @@ opening form target into = Open (record { form = form; target = target; into = i
 unfoldable pub opened : BoxForm → Target → List (List ℕ) → Result Command Cause
 opened form target fields = map_ok (λ register. opening form target (Some register)) (last_number fields)
 
--- and with what stands behind its size: nothing, or `into` and a register
+-- the opening of a list by what stands behind its size: nothing, or `into` and a register
 unfoldable pub opened_into : BoxForm → Target → List (List ℕ) → Result Command Cause
 opened_into form target [] = Ok (opening form target None)
 opened_into form target (word ∷ rest) = if bytes_eq word (codes "into") then opened form target rest else Err Word
 
--- and with a dimension before that
+-- the opening of a list by the dimension of its size and what stands behind that
 unfoldable pub opened_sized : BoxForm → (ℤ → Target) → List (List ℕ) → Result Command Cause
 opened_sized form sized fields = and_then (dimension_first fields) (λ z. opened_into form (sized z) (rest_of fields))
 
@@ -249,6 +271,7 @@ opening_of form (word ∷ rest) =
     else (if bytes_eq word (codes "spread") then opened_sized form Spread rest
     else Err Word))
 
+-- the command that appends the box of a register, moved or copied, with that shift
 abbrev pub append : Taking → ℕ → ℤ → Command
 append taking register shift = Append (record { register = register; taking = taking; shift = shift })
 
@@ -261,12 +284,15 @@ shift_of (word ∷ rest) = if bytes_eq word (codes "shift") then last_dimension 
 unfoldable pub append_of : Taking → List (List ℕ) → Result Command Cause
 append_of taking fields = and_then (number_first fields) (λ register. map_ok (append taking register) (shift_of (rest_of fields)))
 
+-- the command that appends the items of the box of a register, which is of that kind, moved or copied
 abbrev pub unboxing : Kind → Taking → ℕ → Command
 unboxing kind taking register = Unbox (record { kind = kind; register = register; taking = taking })
 
+-- no stretch or shrink: 0 of order normal
 abbrev pub no_amount : Amount
 no_amount = amount Normal (pos 0)
 
+-- the glue of that width, stretch and shrink
 abbrev pub glue : ℤ → Amount → Amount → glues.Glue
 glue width stretch shrink =
     record { width = width; stretch = stretch.size; stretch_order = stretch.order; shrink = shrink.size; shrink_order = shrink.order }
@@ -308,6 +334,7 @@ chosen_size_of [] = Ok None
 chosen_size_of (word ∷ rest) =
     if bytes_eq word (codes "at") then map_ok Some (and_right (size_of_font_first rest) (ended (rest_of rest))) else Err Word
 
+-- the command that loads a font by its slot, its name and its size, or the first cause among them
 abbrev pub font_by : Result ℕ Cause → Result (List ℕ) Cause → Result (Option ℤ) Cause → Result Command Cause
 font_by (Err cause) name size = Err cause
 font_by (Ok slot) (Err cause) size = Err cause
@@ -318,6 +345,7 @@ font_by (Ok slot) (Ok name) (Ok size) = Ok (LoadFont (record { slot = slot; name
 unfoldable pub font_of : List (List ℕ) → Result Command Cause
 font_of fields = font_by (number_first fields) (name_first (rest_of fields)) (chosen_size_of (rest_of (rest_of fields)))
 
+-- the command that appends a rule by its width, its height and its depth, with no field behind them, or the first cause among them
 abbrev pub rule_by : Result RuleSize Cause → Result RuleSize Cause → Result RuleSize Cause → Result (Unit {0}) Cause → Result Command Cause
 rule_by (Err cause) height depth end = Err cause
 rule_by (Ok width) (Err cause) depth end = Err cause
@@ -325,6 +353,7 @@ rule_by (Ok width) (Ok height) (Err cause) end = Err cause
 rule_by (Ok width) (Ok height) (Ok depth) (Err cause) = Err cause
 rule_by (Ok width) (Ok height) (Ok depth) (Ok u) = Ok (Rule (record { width = width; height = height; depth = depth }))
 
+-- what the fields behind `rule` say
 unfoldable pub rule_of : List (List ℕ) → Result Command Cause
 rule_of fields = rule_by (size_first fields) (size_first (rest_of fields)) (size_first (rest_of (rest_of fields))) (ended (rest_of (rest_of (rest_of fields))))
 
@@ -347,10 +376,12 @@ command_named names.Void fields = map_ok Void (last_number fields)
 command_named names.Set fields = map_ok Set (parameter_of fields)
 command_named names.Ship fields = map_ok Ship (last_number fields)
 
+-- the command of that name with these fields behind it; the cause is Word where there is no name
 abbrev pub named_by : Option Name → List (List ℕ) → Result Command Cause
 named_by None fields = Err Word
 named_by (Some name) fields = command_named name fields
 
+-- the command of that first word with these fields behind it; the cause stays where there is no word
 abbrev pub command_by : Result (List ℕ) Cause → List (List ℕ) → Result Command Cause
 command_by (Err cause) fields = Err cause
 command_by (Ok word) fields = named_by (name_of word) fields
@@ -367,6 +398,7 @@ text_behind line = if bytes_eq line (codes "text") then Some [] else (if bytes_e
 unfoldable pub text_of : List ℕ → Option (List ℕ)
 text_of line = text_behind (without_spaces line)
 
+-- the command of a line: the text, where it is a line of text, else what its fields say
 abbrev pub given_by : Option (List ℕ) → List ℕ → Result Command Cause
 given_by None line = command_of (fields_of line)
 given_by (Some text) line = Ok (Text text)
@@ -375,14 +407,16 @@ given_by (Some text) line = Ok (Text text)
 unfoldable pub line_of : List ℕ → Result Command Cause
 line_of line = if list_all is_printable line then given_by (text_of line) line else Err Byte
 
+-- what is found in lines: the lines that say commands, or why the script was not read
 abbrev pub Found : Type 0
 Found = Result (List Line) ScriptFault
 
--- what is found behind some lines
+-- lines that were found, in front of what is found behind them; a fault stays
 abbrev pub prefixed : List Line → Found → Found
 prefixed found (Err fault) = Err fault
 prefixed found (Ok more) = Ok (found ++ more)
 
+-- what a line of that number says, and what is found behind it; or the fault where the line says no command
 abbrev pub reads_by : ℕ → Result Command Cause → Found → Found
 reads_by number (Err cause) more = Err (BadScript number cause)
 reads_by number (Ok command) more = prefixed (record { number = number; command = command } ∷ []) more
@@ -392,10 +426,10 @@ abbrev pub reads : ℕ → List (List ℕ) → Found
 reads number [] = Ok []
 reads number (line ∷ rest) = if is_passed_over line then reads (number + 1) rest else reads_by number (line_of line) (reads (number + 1) rest)
 
--- reading goes on behind a line
+-- reading goes on behind a line: `old` are the lines found in front of it, `new` those found when it is read too
 abbrev pub ReadsOn : ℕ → List ℕ → List Line → List Line → Type 0
 ReadsOn number line old new = (rest : List (List ℕ)) → prefixed old (reads number (line ∷ rest)) ≡ prefixed new (reads (number + 1) rest)
 
--- or ends at it
+-- reading ends at a line with that fault, whatever stands behind the line
 abbrev pub StopsAt : ℕ → List ℕ → List Line → ScriptFault → Type 0
 StopsAt number line old fault = (rest : List (List ℕ)) → prefixed old (reads number (line ∷ rest)) ≡ Err fault

@@ -20,9 +20,11 @@ one_rule_lines =
     ∷ record { number = 4; command = Ship 0 }
     ∷ []
 
+-- the script of the one-rule page says those lines
 abbrev pub OneRuleScript : Type 0
 OneRuleScript = IsScript (codes "hbox into 0\nrule 1pt 1pt 0pt\nend\nship 0\n") one_rule_lines
 
+-- a dimension without its unit in the second line: that line is the first bad one, for its dimension
 abbrev pub BadRow : Type 0
 BadRow = IsFirstBad (codes "end\nkern 1\n") 2 Dimension
 
@@ -35,13 +37,15 @@ text_lines =
     ∷ record { number = 5; command = Character 99 }
     ∷ []
 
+-- the script with a font, a comment line, a text with spaces around it and a character says those lines
 abbrev pub TextScript : Type 0
 TextScript = IsScript (codes "font 0 tiny at 10pt\nuse +0\n% text\n  text  a \nchar 99\n") text_lines
 
--- a font of no size, and a name with a stroke
+-- a font of no size is bad for its number
 abbrev pub BadSizeRow : Type 0
 BadSizeRow = IsFirstBad (codes "font 0 tiny at 0pt") 1 Number
 
+-- a name of a font with a stroke in it is bad for its name
 abbrev pub BadNameRow : Type 0
 BadNameRow = IsFirstBad (codes "font 0 a/b at 0pt") 1 causes.Name
 
@@ -55,12 +59,14 @@ tall_box_lines =
     ∷ record { number = 5; command = End }
     ∷ []
 
+-- the script of a parameter and of a vertical box of a given size says those lines
 abbrev pub TallBoxScript : Type 0
 TallBoxScript = IsScript (codes "set boxmaxdepth 1pt\nvbox to 20pt into 0\nglue 0pt plus 1fil\npenalty -10000\nend\n") tall_box_lines
 
--- `into` without its register, and a glue with its stretch behind its shrink
+-- `into` without its register is bad for what is missing
 abbrev pub NoRegisterRow : Type 0
 NoRegisterRow = IsFirstBad (codes "hbox to 1pt into") 1 Missing
 
+-- a glue with its stretch behind its shrink is bad for what is too many
 abbrev pub LateStretchRow : Type 0
 LateStretchRow = IsFirstBad (codes "glue 1pt minus 1fil plus 1pt") 1 Extra

@@ -12,7 +12,7 @@ use Rattle.script_core.specs.ScriptLines.{is_passed_over, fields_of, IsTextLine}
 use Rattle.script_core.specs.Grammar.{Says}
 use Rattle.script_core.specs.Causes.{IsPrintable, IsCause}
 
--- a line counts but says nothing
+-- a line that counts but says nothing
 abbrev pub IsPassedOver : List ℕ → Type 0
 IsPassedOver line = is_passed_over line ≡ true
 
@@ -39,6 +39,7 @@ SayFrom number (line ∷ rest) found =
 abbrev pub IsScript : List ℕ → List Line → Type 0
 IsScript text found = SayFrom 1 (lines text) found
 
+-- a line that is passed over or says some command
 abbrev pub IsRightLine : List ℕ → Type 0
 IsRightLine line = IsPassedOver line ⊎ ((command : Command) × SaysLine line command)
 

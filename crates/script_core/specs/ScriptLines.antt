@@ -11,10 +11,12 @@ abbrev pub is_passed_over : List ℕ → Bool
 is_passed_over [] = true
 is_passed_over (byte ∷ line) = byte == 37
 
+-- whether a part of a line is not empty
 abbrev pub is_filled : List ℕ → Bool
 is_filled [] = false
 is_filled (byte ∷ bytes) = true
 
+-- a space: the byte 32
 abbrev pub is_space : ℕ → Bool
 is_space byte = byte == 32
 

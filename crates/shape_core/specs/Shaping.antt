@@ -1,4 +1,4 @@
--- Shaping of a word: its characters become glyphs, font kerns and ligatures (TeX: The Program, part 46; TFtoPL, 13).
+-- Shaping of a word: its characters become glyphs, font kerns and ligatures (TeX: The Program, part 46, §1029 to §1045; TFtoPL, 13).
 use Rattle.std.specs.Prelude.{◌≡◌, ◌+◌, ◌++◌, ℕ, ℤ, List, [], ◌∷◌, Option, Some, None, if◌then◌else◌, is_some, slice_get}
 use Rattle.node_core.specs.declared.tree.Node.{Node}
 use Rattle.node_core.specs.declared.tree.Node.TheVariants.{Glyph, FontKern}
@@ -26,8 +26,8 @@ step_to sizes steps c None = None
 step_to sizes steps c (Some d) = if is_some (sizes d) then steps c d else None
 
 -- these are the items of a word, and so many of its characters are missing, by cases on the word:
--- it is empty; its first character is not in the font, is dropped and counted (own); nothing stands between the first character and the
--- next one; a kern stands there; a ligature's character stands for both (TeX: The Program, part 46; TFtoPL, 13)
+-- it is empty; its first character is not in the font, is dropped and counted (own); nothing stands between the first character and the next one; a
+-- kern stands there; a ligature's character stands for both (TeX: The Program, part 46, §1029 to §1045; TFtoPL, 13)
 pub data Shaping (slot : ℕ) (sizes : ℕ → Option GlyphSize) (steps : ℕ → ℕ → Option Step) : List ℕ → List Node → ℕ → Type 0 where
   empty : Shaping slot sizes steps [] [] 0
   missing : {c : ℕ} {word : List ℕ} {items : List Node} {n : ℕ} → sizes c ≡ None
@@ -42,25 +42,25 @@ pub data Shaping (slot : ℕ) (sizes : ℕ → Option GlyphSize) (steps : ℕ �
       → step_to sizes steps c (Some d) ≡ Some (Ligature e)
       → Shaping slot sizes steps (e ∷ word) items n → Shaping slot sizes steps (c ∷ d ∷ word) items n
 
--- The same as a function: what becomes of a character, by its sizes and what stands behind it (own).
+-- What becomes of a character, by its sizes and what stands behind it; from here on the items of a word are given by functions (own).
 abbrev pub outcome_of : Option GlyphSize → Option Step → Outcome
 outcome_of None step = Dropped
 outcome_of (Some size) None = Alone size
 outcome_of (Some size) (Some (Kern width)) = Kerned size width
 outcome_of (Some size) (Some (Ligature e)) = Joined e
 
--- that of a character before the one that follows, if one does (own)
+-- what becomes of a character before the one that follows it, if one does (own)
 unfoldable pub outcome_at : (ℕ → Option GlyphSize) → (ℕ → ℕ → Option Step) → ℕ → Option ℕ → Outcome
 outcome_at sizes steps c following = outcome_of (sizes c) (step_to sizes steps c following)
 
--- the items that it gives (own)
+-- the items that a character gives, by what becomes of it (own)
 abbrev pub outcome_items : ℕ → ℕ → Outcome → List Node
 outcome_items slot c Dropped = []
 outcome_items slot c (Alone size) = glyph_node slot c size ∷ []
 outcome_items slot c (Kerned size width) = glyph_node slot c size ∷ FontKern width ∷ []
 outcome_items slot c (Joined e) = []
 
--- how many characters are missing by it (own)
+-- how many characters are missing by what becomes of a character (own)
 abbrev pub outcome_missing : Outcome → ℕ
 outcome_missing Dropped = 1
 outcome_missing (Alone size) = 0
@@ -80,7 +80,7 @@ items_from slot sizes steps c [] = outcome_items slot c (outcome_at sizes steps 
 items_from slot sizes steps c (d ∷ word) =
     outcome_items slot c (outcome_at sizes steps c (Some d)) ++ items_from slot sizes steps (outcome_next d (outcome_at sizes steps c (Some d))) word
 
--- how many of them are missing (own)
+-- how many characters are missing, of a character and the word behind it (own)
 abbrev pub missing_from : (ℕ → Option GlyphSize) → (ℕ → ℕ → Option Step) → ℕ → List ℕ → ℕ
 missing_from sizes steps c [] = outcome_missing (outcome_at sizes steps c None)
 missing_from sizes steps c (d ∷ word) =
@@ -91,7 +91,7 @@ abbrev pub shaped_items : ℕ → (ℕ → Option GlyphSize) → (ℕ → ℕ �
 shaped_items slot sizes steps [] = []
 shaped_items slot sizes steps (c ∷ word) = items_from slot sizes steps c word
 
--- how many of its characters are missing (own)
+-- how many characters of a word are missing (own)
 abbrev pub shaped_missing : (ℕ → Option GlyphSize) → (ℕ → ℕ → Option Step) → List ℕ → ℕ
 shaped_missing sizes steps [] = 0
 shaped_missing sizes steps (c ∷ word) = missing_from sizes steps c word

@@ -17,7 +17,7 @@ pub data Part : Type 0 where
 abbrev pub is_space : ℕ → Bool
 is_space c = c == 32
 
--- every other character stands in a word (own)
+-- any other character: it stands in a word (own)
 abbrev pub is_other : ℕ → Bool
 is_other c = not (is_space c)
 
@@ -50,7 +50,7 @@ abbrev pub part_items : ℕ → (ℕ → Option GlyphSize) → (ℕ → ℕ → 
 part_items slot sizes steps blank spaces = node.Glue blank ∷ []
 part_items slot sizes steps blank (word w) = shaped_items slot sizes steps w
 
--- how many of its characters are missing (own)
+-- how many characters of a part are missing (own)
 abbrev pub part_missing : (ℕ → Option GlyphSize) → (ℕ → ℕ → Option Step) → Part → ℕ
 part_missing sizes steps spaces = 0
 part_missing sizes steps (word w) = shaped_missing sizes steps w
@@ -59,11 +59,11 @@ part_missing sizes steps (word w) = shaped_missing sizes steps w
 unfoldable pub text_items : ℕ → (ℕ → Option GlyphSize) → (ℕ → ℕ → Option Step) → Glue → List ℕ → List Node
 text_items slot sizes steps blank text = flat_map (part_items slot sizes steps blank) (parts_of text)
 
--- how many of its characters are missing (own)
+-- how many characters of a text are missing (own)
 unfoldable pub text_missing : (ℕ → Option GlyphSize) → (ℕ → ℕ → Option Step) → List ℕ → ℕ
 text_missing sizes steps text = sum_by (part_missing sizes steps) (parts_of text)
 
--- the part that is all of a text (own)
+-- the part that a whole text is, by its first character: spaces, or a word (own)
 abbrev pub part_of : List ℕ → Part
 part_of [] = spaces
 part_of (c ∷ text) = if is_space c then spaces else word (c ∷ text)

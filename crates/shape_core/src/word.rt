@@ -90,7 +90,7 @@ pub(crate) fn push(node: Node, nodes: &mut Vec<Node>) -> Result<(), AllocError>
 }
 
 impl Outcome {
-    /// How many characters are missing by it.
+    /// How many characters are missing by what becomes of a character.
     fn missing(&self) -> usize
         ensures value { result ≡ outcome_missing self.now }
         ensures small { result ≤ 1 }
@@ -115,7 +115,7 @@ impl Outcome {
         }
     }
 
-    /// Appends the items that it gives, or a front of them.
+    /// Appends the items that a character gives, or a front of them.
     fn append(&self, slot: u8, code: u8, nodes: &mut Vec<Node>) -> Result<(), AllocError>
         ensures ok { OnOk result (nodes.new.items ≡ nodes.old.items ++ outcome_items slot code self.now) }
         ensures front { take (length nodes.old.items) nodes.new.items ≡ nodes.old.items }
@@ -160,8 +160,8 @@ fn shape_from<M: Metrics>(
     })
 }
 
-/// Appends the items of a word in the font of that slot, and gives how many of its characters are missing (TeX: The Program, part 46;
-/// TFtoPL, 13). Where memory is refused, `nodes` is as it was.
+/// Appends the items of a word in the font of that slot, and gives how many of its characters are missing
+/// (TeX: The Program, part 46, §1029 to §1045; TFtoPL, 13). Where memory is refused, `nodes` is as it was.
 #[tactic(auto, using(crate::proofs::ShapingLemmas::shapings))]
 pub fn shape<M: Metrics>(
     metrics: &M,

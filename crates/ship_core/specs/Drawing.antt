@@ -62,11 +62,12 @@ abbrev pub selected : (current : Option ℤ) → (font : ℤ) → Forest → For
 selected None font rest = Then (FontNum font) rest
 selected (Some current) font rest = if int_eq font current then rest else Then (FontNum font) rest
 
--- A rule: in a horizontal list it moves to the right by its width, in a vertical one it moves nothing.
+-- The instruction for a rule: in a horizontal list it moves to the right by its width, in a vertical one it moves nothing.
 abbrev pub ruled : Kind → (height width : ℤ) → instructions.Leaf
 ruled Horizontal height width = SetRule height width
 ruled Vertical height width = PutRule height width
 
+-- Where h is behind a rule of that width: further by the width in a horizontal list, and where it was in a vertical one.
 abbrev pub behind_rule : Kind → (h width : ℤ) → ℤ
 behind_rule Horizontal h width = h +ℤ width
 behind_rule Vertical h width = h

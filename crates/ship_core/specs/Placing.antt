@@ -1,4 +1,4 @@
--- What the shipping of a box goes through, one item after the other (own).
+-- What the shipping of a box goes through, one item after the other (own; private calls alone, no public clause speaks of it).
 use Rattle.std.specs.Prelude.{◌≡◌, ◌+ℤ◌, ◌++◌, ◌&&◌, [], ◌∷◌, ℤ, pos, negsuc, zero, suc, if◌then◌else◌, List, map, Option, Some, None}
 use Rattle.std.specs.Ordering.{int_eq}
 use Rattle.std.specs.Option.{option_map}
@@ -41,7 +41,7 @@ abbrev pub behind : Kind → (h width : ℤ) → Ink → ℤ
 behind kind h width (ink.Rule height) = behind_rule kind h width
 behind kind h width (ink.Glyph slot code) = h +ℤ width
 
--- A mark ends there.
+-- The end of a mark is where h is behind its ink.
 abbrev pub Ends : Kind → MarkAt → Type 0
 Ends kind m = m.end ≡ behind kind m.h m.width m.ink
 
@@ -89,16 +89,17 @@ strokes_of b h v (nodes.Glyph g) rest = in_front (mark_of b h v (items.glyph g))
 strokes_of b h v (nodes.Rule sizes) rest = in_front (mark_of b h v (items.rule sizes)) (width_in b (items.rule sizes)) rest
 strokes_of b h v other rest = rest
 
--- The reference point of a box that stands at (h, v); of another item its place.
+-- How far to the right the reference point is of a box that stands at h; of another item its place.
 abbrev pub reference_h : Kind → (h : ℤ) → Node → ℤ
 reference_h kind h (nodes.Box shift inner) = box_h kind h shift
 reference_h kind h other = h
 
+-- How far down the reference point is of a box that stands at v; of another item its place.
 abbrev pub reference_v : Kind → (v : ℤ) → Node → ℤ
 reference_v kind v (nodes.Box shift inner) = box_v kind v shift inner.height
 reference_v kind v other = v
 
--- Where an item of a box stands at a place of its list, which begins at (h, v).
+-- The point at a place of the list of a box, which begins at (h, v), where both of its numbers fit.
 abbrev pub point_in : BoxNode → (h v place : ℤ) → Option Position
 point_in b h v place = point (right_at b.kind h place) (down_at b.kind v place)
 

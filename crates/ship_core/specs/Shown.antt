@@ -1,4 +1,4 @@
--- What the plan of a page shows, by the meaning of DVI instructions alone (DVItype, 13 to 20).
+-- What the plan of a page shows, by the meaning of DVI instructions alone (own, over `meaning`, `acts` and `kept` of dvi_ops: DVItype, 13 to 20).
 use Rattle.std.specs.Prelude.{◌≡◌, ◌<◌, ◌≤◌, ℤ, pos, false, Option, Some, None}
 use Rattle.std.specs.List.{AllByRecursion}
 use Rattle.node_core.specs.Items.{Leaf, glyph, font_kern, kern, glue, penalty, rule, EachLeaf, items_depth}
@@ -35,7 +35,7 @@ NamesNoRegister (Do (Move axis (Set register z))) = ⊥
 NamesNoRegister (Do (Move axis (Again register))) = ⊥
 NamesNoRegister other = Unit {0}
 
--- Each instruction of it can be written, none names w, x, y or z, and its groups nest less deep than the box.
+-- Each instruction of the body of a page can be written, none names w, x, y or z, and its groups nest less deep than the box.
 abbrev pub CanBeWritten : Type 0
 CanBeWritten =
     (widths : Widths) (page : Page) → is_huge page ≡ false → EachLeaf (HasWidth widths) page.shown.list

@@ -8,7 +8,8 @@ pub fn a_plan_shows_its_marks()
     ensures { ShowsItsMarks }
 {}
 
-/// Each of its instructions can be written, none sets or reads w, x, y or z, and its groups nest less deep than the box.
+/// Each instruction of the plan of a page that is not huge can be written, none sets or reads w, x, y or z, and the groups nest less deep
+/// than the box, where each glyph has the width that its font gives.
 pub fn a_plan_can_be_written()
     ensures { CanBeWritten }
 {}

@@ -1,4 +1,4 @@
-//! Shipping: from a box to the instructions that draw its page (TeX: The Program, part 32).
+//! Shipping: from a box to the instructions that draw its page (TeX: The Program, part 32, §619 to §641).
 #![tactic(auto)]
 
 mod drawing;

@@ -20,7 +20,7 @@ pub struct Position {
 }
 
 impl Position {
-    /// Both numbers fit. It does nothing.
+    /// Both numbers of a position fit: dimensions always do. It does nothing.
     #[tactic(auto, using(scaled_core::proofs::Fitting::dimension_fits))]
     fn known(&self)
         ensures h { fits self.now.h ≡ true }
@@ -64,7 +64,7 @@ fn point(h: i128, v: i128) -> Option<Position>
     Some(Position { h, v })
 }
 
-/// A number that is so much more.
+/// A number that is a distance more than another.
 fn moved(from: i64, distance: i128) -> i128
     requires { Within (2 ^ 126 + 2 ^ 63) distance }
     ensures { result ≡ from +ℤ distance }

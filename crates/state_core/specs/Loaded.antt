@@ -1,4 +1,4 @@
--- Fonts that were read from the font files of a job (own).
+-- Fonts that were read from the font files of a job (own; the crates of the job alone, no public clause of `job_core` speaks of it).
 use Rattle.std.specs.Prelude.{◌≡◌, List, length, Some, Ok, IfOk, IfSome}
 use Rattle.std.specs.List.{AllByRecursion}
 use Rattle.tfm_core.specs.NamedBytes.{NamedBytes, IsFontName, file_named}
@@ -17,7 +17,7 @@ pub record IsLoaded (files : List NamedBytes) (loaded : LoadedFont) : Type 0 whe
   pub name : IsFontName loaded.name
   pub numbers : HasNumbers loaded.font
 
--- There are 256 slots, and each font in them is such a font.
+-- There are 256 slots, and each font in them is what the first file of its name gives at its size.
 pub record AreLoaded (files : List NamedBytes) (fonts : Slots) : Type 0 where
   pub slots : length fonts ≡ 256
   pub each : AllByRecursion (λ slot. IfSome slot (IsLoaded files)) fonts
@@ -26,7 +26,7 @@ pub record AreLoaded (files : List NamedBytes) (fonts : Slots) : Type 0 where
 abbrev pub GivesNumbers : State → FontLoad → Type 0
 GivesNumbers s load = IsFontName load.name × IfOk (font_for s load) HasNumbers
 
--- The same of a command that loads a font.
+-- A command that loads a font asks for one that can be defined in a file of pages, if the files give it; other commands ask for none.
 abbrev pub GivesNumbersFor : State → Command → Type 0
 GivesNumbersFor s (LoadFont load) = GivesNumbers s load
 GivesNumbersFor s command = Unit {0}

@@ -16,7 +16,7 @@ use Rattle.nest_core.specs.Machine.{State, most_deep}
 abbrev pub HasSizes : Slots → glyphs.Glyph → Type 0
 HasSizes fonts g = glyph_by (font_in fonts g.slot) g.code ≡ Some (record { width = g.width; height = g.height; depth = g.depth })
 
--- The same of a leaf that is a glyph.
+-- A leaf that is a glyph has the sizes of its character in the font of its slot.
 abbrev pub IsSizedLeaf : Slots → Leaf → Type 0
 IsSizedLeaf fonts (glyph g) = HasSizes fonts g
 IsSizedLeaf fonts (font_kern width) = Unit {0}
@@ -25,12 +25,12 @@ IsSizedLeaf fonts (glue g) = Unit {0}
 IsSizedLeaf fonts (penalty p) = Unit {0}
 IsSizedLeaf fonts (rule sizes) = Unit {0}
 
--- The glyphs of a box have such sizes, in its inner boxes too, and it is at most 200 deep.
+-- The glyphs of a box have the sizes that their fonts give, in its inner boxes too, and it is at most 200 deep.
 pub record IsSoundBox (fonts : Slots) (b : BoxNode) : Type 0 where
   pub glyphs : EachLeaf (IsSizedLeaf fonts) b.list
   pub depth : box_depth b ≤ most_deep
 
--- A glyph among the items of a list has such sizes, and a box among them is such a box.
+-- A glyph among the items of a list has the sizes that its font gives, and a box among them is sound: `IsSoundBox`.
 abbrev pub IsSized : Slots → Node → Type 0
 IsSized fonts (Glyph g) = HasSizes fonts g
 IsSized fonts (FontKern width) = Unit {0}
@@ -40,18 +40,20 @@ IsSized fonts (Penalty p) = Unit {0}
 IsSized fonts (Rule sizes) = Unit {0}
 IsSized fonts (Box shift b) = IsSoundBox fonts b
 
+-- Each glyph among these items has the sizes that its font gives, and each box among them is sound.
 abbrev pub AreSized : Slots → List Node → Type 0
 AreSized fonts nodes = AllByRecursion (IsSized fonts) nodes
 
--- So is it in an open list, and in a register that is not void.
+-- The items of an open list are such: glyphs with the sizes of their fonts, and sound boxes.
 abbrev pub IsSizedList : Slots → OpenList → Type 0
 IsSizedList fonts open_list = AreSized fonts (nodes_of open_list.list)
 
+-- The box of a register is sound, if the register is not void.
 abbrev pub IsSizedHeld : Slots → Option BoxNode → Type 0
 IsSizedHeld fonts None = Unit {0}
 IsSizedHeld fonts (Some b) = IsSoundBox fonts b
 
--- So is it in all open lists and in all registers.
+-- Glyphs have the sizes that their fonts give, and boxes are sound, in all open lists and in all registers.
 pub record HasSizedGlyphs (s : State) : Type 0 where
   pub nest : AllByRecursion (IsSizedList s.fonts) s.nest
   pub registers : AllByRecursion (IsSizedHeld s.fonts) s.registers

@@ -1,4 +1,4 @@
--- How the logic stores the state of a machine (own).
+-- How the logic stores the state of a machine (own; the models of `Kept` and `Job` alone, no public clause speaks of it).
 use Rattle.std.specs.Prelude.{ℕ, Bool, List, Option, refl}
 use Rattle.std.specs.Coded.{Coded, code_by, coded×, coded_ℕ, coded_bool, coded_list, coded_option}
 use Rattle.node_core.specs.declared.tree.BoxNode.{BoxNode}
@@ -12,22 +12,26 @@ use Rattle.dvi_write.specs.declared.fonts.LoadedFont.{LoadedFont}
 use Rattle.dvi_write.specs.contracts.fonts.LoadedFont as loaded_font
 use Rattle.nest_core.specs.Machine.{State}
 
+-- How a font file is stored: its name and its bytes.
 abbrev pub coded_named : Coded NamedBytes
 coded_named =
     code_by (List ℕ × List ℕ) (coded× (coded_list coded_ℕ) (coded_list coded_ℕ)) (λ f. (f.name, f.bytes)) (λ p. record { name = p.0; bytes = p.1 }) (λ _. refl)
 
--- The state as a pair of pairs.
+-- The parts of a state, as a pair of pairs.
 abbrev pub Parts : Type 0
 Parts = ((List NamedBytes × (List (Option LoadedFont) × Option ℕ)) × (Params × List OpenList)) × (List (Option BoxNode) × ((ℕ × ℕ) × Bool))
 
+-- How the fonts of the slots are stored, with the slot of the current one.
 abbrev pub coded_fonts : Coded (List (Option LoadedFont) × Option ℕ)
 coded_fonts = coded× (coded_list (coded_option loaded_font.the_row.coded)) (coded_option coded_ℕ)
 
+-- How the parts of a state are stored.
 abbrev pub coded_parts : Coded Parts
 coded_parts =
     coded× (coded× (coded× (coded_list coded_named) coded_fonts) (coded× params_code.the_row.coded (coded_list open_list.the_row.coded)))
     (coded× (coded_list (coded_option box_node.the_row.coded)) (coded× (coded× coded_ℕ coded_ℕ) coded_bool))
 
+-- How a state is stored: by its parts.
 abbrev pub coded_state : Coded State
 coded_state =
     code_by Parts coded_parts (λ s. (((s.files, (s.fonts, s.current)), (s.params, s.nest)), (s.registers, ((s.shipped, s.pages), s.over))))

@@ -17,7 +17,7 @@ abbrev pub widths_by : Result MetricFile TfmCause → ℤ → Option (ℤ → Op
 widths_by (Err cause) size = None
 widths_by (Ok file) size = if fits_at file size then Some (width_at (font_at file size)) else None
 
--- Those of a file, if there is one (own).
+-- The widths at a size that a file gives, if there is a file (own).
 abbrev pub widths_of_file : Option NamedBytes → ℤ → Option (ℤ → Option ℤ)
 widths_of_file None size = None
 widths_of_file (Some file) size = widths_by (metric_file file.bytes) size

@@ -1,8 +1,8 @@
--- A font as its fields hold it (own).
+-- A font as its fields hold it (own; the model of `Font` alone, no public clause speaks of it).
 use Rattle.tfm_core.specs.declared.font.Font.TheInside.{Inside}
 use Rattle.tfm_core.specs.Fonts.{IsWhole, SizedFont}
 
--- the font of these fields (own)
+-- the font that the fields hold (own)
 abbrev pub font_view : Inside → SizedFont
 font_view f = record {
   size = f.size;
@@ -18,6 +18,6 @@ font_view f = record {
   space = f.space;
 }
 
--- it is whole (own)
+-- the font that the fields hold is whole (own)
 abbrev pub font_is_whole : Inside → Type 0
 font_is_whole f = IsWhole (font_view f)

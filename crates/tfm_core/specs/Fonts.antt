@@ -16,11 +16,11 @@ use Rattle.tfm_core.specs.Program.{first_for, info_program}
 use Rattle.tfm_core.specs.Rules.{character_at, names_past}
 use Rattle.tfm_core.specs.Scaling.{IsFontSize, design_size_of, scaled}
 
--- the size that is asked for, or the design size (TeX: The Program, part 30)
+-- the size that is asked for, or the design size (TeX: The Program, part 30, §568)
 abbrev pub chosen_size : MetricFile → Option ℤ → ℤ
 chosen_size file size = unwrap_or size (design_size_of file.design_word)
 
--- parameter n, which counts from 1; one that is missing is 0 (own)
+-- parameter n, which counts from 1; one that the file does not have counts as 0 (TeX: The Program, part 30, §575)
 abbrev pub parameter : ℕ → List ℤ → ℤ
 parameter n parameters = get_or parameters (n - 1) (pos 0)
 
@@ -38,7 +38,7 @@ pub record SizedFont : Type 0 where
   pub kerns : List ℤ
   pub space : Space
 
--- the space between words: parameters 2, 3 and 4 (TFtoPL, 15)
+-- the space between words at a size: parameters 2, 3 and 4 (TFtoPL, 15)
 unfoldable pub space_at : ℤ → List ℤ → Space
 space_at size parameters = record {
   width = scaled size (parameter 2 parameters);
@@ -66,11 +66,11 @@ font_at file size = record {
 unfoldable pub is_dimen_at : ℤ → ℤ → Bool
 is_dimen_at size word = fits (scaled size word)
 
--- so does each of them (own)
+-- each of these words at a size fits as a dimension (own)
 unfoldable pub are_dimens_at : ℤ → List ℤ → Bool
 are_dimens_at size words = list_all (is_dimen_at size) words
 
--- so do the sizes of the space (own)
+-- the sizes of the space at a size fit as dimensions (own)
 unfoldable pub is_space_at : ℤ → List ℤ → Bool
 is_space_at size parameters =
     is_dimen_at size (parameter 2 parameters) && is_dimen_at size (parameter 3 parameters) && is_dimen_at size (parameter 4 parameters)
@@ -99,7 +99,7 @@ sizes_of font c = record {
 unfoldable pub glyph_of : SizedFont → ℕ → Option GlyphSize
 glyph_of font code = option_map (sizes_of font) (character_at font.first font.characters code)
 
--- the words that a character names, at a size (TeX: The Program, part 30)
+-- the words that a character names, at a size (TeX: The Program, part 30, §571)
 abbrev pub sizes_in : MetricFile → ℤ → CharInfo → GlyphSize
 sizes_in file size c = record {
   width = scaled size (get_or file.widths c.width (pos 0));
@@ -128,7 +128,7 @@ step_of font code following = option_and_then (action_of font) (matching_step fo
 unfoldable pub is_in_tables : SizedFont → CharInfo → Bool
 is_in_tables font c = nat_lt c.width (length font.widths) && nat_lt c.height (length font.heights) && nat_lt c.depth (length font.depths)
 
--- the same as facts (own)
+-- a character's indices are within their tables: `is_in_tables` as facts (own)
 pub record IsInTables (font : SizedFont) (c : CharInfo) : Type 0 where
   pub width : c.width < length font.widths
   pub height : c.height < length font.heights

@@ -68,47 +68,47 @@ pub record MetricFile : Type 0 where
 
 -- Where each table begins, in words: behind the twelve halfwords the header, then one table behind the other (TFtoPL, 8 and 9).
 
--- ec - bc + 1 (TFtoPL, 8)
+-- how many characters have a word: ec - bc + 1 (TFtoPL, 8)
 abbrev pub character_count : Counts → ℕ
 character_count c = c.last + 1 - c.first
 
--- behind six words and the header (TFtoPL, 9)
+-- where the characters begin: behind six words and the header (TFtoPL, 9)
 abbrev pub characters_place : Counts → ℕ
 characters_place c = 6 + c.header
 
--- the characters' words stand before the widths (TFtoPL, 9)
+-- where the widths begin: behind the characters (TFtoPL, 9)
 abbrev pub widths_place : Counts → ℕ
 widths_place c = characters_place c + character_count c
 
--- the widths before the heights (TFtoPL, 9)
+-- where the heights begin: behind the widths (TFtoPL, 9)
 abbrev pub heights_place : Counts → ℕ
 heights_place c = widths_place c + c.widths
 
--- the heights before the depths (TFtoPL, 9)
+-- where the depths begin: behind the heights (TFtoPL, 9)
 abbrev pub depths_place : Counts → ℕ
 depths_place c = heights_place c + c.heights
 
--- the depths before the italic corrections (TFtoPL, 9)
+-- where the italic corrections begin: behind the depths (TFtoPL, 9)
 abbrev pub italics_place : Counts → ℕ
 italics_place c = depths_place c + c.depths
 
--- the italic corrections before the steps (TFtoPL, 9)
+-- where the steps begin: behind the italic corrections (TFtoPL, 9)
 abbrev pub steps_place : Counts → ℕ
 steps_place c = italics_place c + c.italics
 
--- the steps before the kerns (TFtoPL, 9)
+-- where the kerns begin: behind the steps (TFtoPL, 9)
 abbrev pub kerns_place : Counts → ℕ
 kerns_place c = steps_place c + c.steps
 
--- the kerns and the extensible recipes before the parameters (TFtoPL, 9)
+-- where the parameters begin: behind the kerns and the extensible recipes (TFtoPL, 9)
 abbrev pub parameters_place : Counts → ℕ
 parameters_place c = kerns_place c + c.kerns + c.recipes
 
--- the parameters are the last table: lf is this sum (TFtoPL, 8)
+-- where the parameters, the last table, end: lf is this sum (TFtoPL, 8)
 abbrev pub end_place : Counts → ℕ
 end_place c = parameters_place c + c.parameters
 
--- all these places (TFtoPL, 9)
+-- where each table begins that is read, and where the last one ends (TFtoPL, 9)
 unfoldable pub places_of : Counts → Places
 places_of c = record {
   characters = characters_place c;
@@ -132,7 +132,7 @@ pub record HasTables (bytes : List ℕ) : Type 0 where
 abbrev pub check_sum_in : List ℕ → ℤ
 check_sum_in bytes = signed_word (from_word bytes 6)
 
--- its word 1: the design size in 2^20ths of a point (TFtoPL, 10)
+-- the header's word 1: the design size in 2^20ths of a point (TFtoPL, 10)
 abbrev pub design_word_in : List ℕ → ℤ
 design_word_in bytes = signed_word (from_word bytes 7)
 

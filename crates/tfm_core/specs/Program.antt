@@ -1,4 +1,4 @@
--- The ligature/kern program of a character (TFtoPL, 13; TeX: The Program, part 30).
+-- The ligature/kern program of a character (TFtoPL, 13; TeX: The Program, part 30, §545).
 use Rattle.std.specs.Prelude.{◌≡◌, ◌==◌, ◌&&◌, ◌||◌, ◌+◌, ◌*◌, ◌<◌, ◌≤◌, ℕ, zero, suc, Bool, false, List, [], ◌∷◌, Option, Some, None, if◌then◌else◌, length, nat_le, nat_lt, slice_get}
 use Rattle.std.specs.List.{find}
 use Rattle.std.specs.Option.{option_and_then, option_map_or}
@@ -15,13 +15,13 @@ pub data Takes (steps : List LigKernStep) : ℕ → List ℕ → Type 0 where
   next : {k : ℕ} {s : LigKernStep} {later : List ℕ} → slice_get steps k ≡ Some s → s.skip < 128
       → Takes steps (k + (s.skip + 1)) later → Takes steps k (k ∷ later)
 
--- those numbers: `pass` steps are passed over, and the steps in hand count from k (own)
+-- the numbers of the steps that are taken, where `pass` steps are passed over first and the steps in hand count from k (own)
 abbrev pub taken_from : ℕ → ℕ → List LigKernStep → List ℕ
 taken_from k pass [] = []
 taken_from k zero (s ∷ rest) = k ∷ (if nat_lt s.skip 128 then taken_from (k + 1) s.skip rest else [])
 taken_from k (suc pass) (s ∷ rest) = taken_from (k + 1) pass rest
 
--- those from step k on (own)
+-- the numbers of the steps that are taken from step k on (own)
 unfoldable pub taken : List LigKernStep → ℕ → List ℕ
 taken steps k = taken_from 0 k steps
 
@@ -41,7 +41,7 @@ tag_program steps Plain = []
 tag_program steps (Larger c) = []
 tag_program steps (Recipe r) = []
 
--- those of a character that is there (TFtoPL, 11 and 13)
+-- the numbers of the steps of a character's program, rising; none where the character is not there (TFtoPL, 11 and 13)
 abbrev pub info_program : List LigKernStep → Option CharInfo → List ℕ
 info_program steps None = []
 info_program steps (Some c) = tag_program steps c.tag

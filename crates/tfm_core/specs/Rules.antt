@@ -1,4 +1,5 @@
--- The rules of a metric file, each as a test that says where it is broken (TeX: The Program, part 30, read_font_info; their order is own).
+-- The rules of a metric file, each as a test that says where it is broken
+-- (TeX: The Program, part 30, §560 to §576, read_font_info; their order is own).
 use Rattle.std.specs.Prelude.{◌≡◌, ◌==◌, ◌&&◌, ◌||◌, ◌+◌, ◌-◌, ◌*◌, ◌/◌, ℕ, ℤ, pos, Bool, false, not, List, [], ◌∷◌, Option, Some, None, Result, Ok, Err, if◌then◌else◌, int_lt, length, drop, take, nat_le, nat_lt, slice_get, unsigned_abs, is_none, IsTrue, IsFalse}
 use Rattle.std.specs.List.{AllByRecursion, enumerate_from, find, list_any}
 use Rattle.std.specs.Ordering.{int_eq}
@@ -29,15 +30,16 @@ has_large_number c = list_any (nat_le 32768) (twelve c)
 unfoldable pub has_wrong_codes : Numbers → Bool
 has_wrong_codes c = nat_lt (c.last + 1) c.first || nat_lt 255 c.last
 
--- the header has fewer than 2 words, or there is no width, height, depth or italic (TFtoPL, 8)
+-- the header has fewer than 2 words, or there is no width, height, depth or italic (TeX: The Program, part 30, §565 and §568)
 unfoldable pub lacks_a_table : Numbers → Bool
 lacks_a_table c = nat_lt c.header 2 || c.widths == 0 || c.heights == 0 || c.depths == 0 || c.italics == 0
 
--- Counts: one of those, or the tables do not fill the file (TFtoPL, 8)
+-- Counts: a number is too large, the codes are wrong, a table is lacking, or the tables do not fill the file
+-- (TFtoPL, 8; TeX: The Program, part 30, §565)
 unfoldable pub breaks_counts : Numbers → Bool
 breaks_counts c = has_large_number c || has_wrong_codes c || lacks_a_table c || not (c.file == end_place c)
 
--- DesignSize: the word is negative, or the size is below a point, which is 16 * 65536 of its units (TeX: The Program, part 30)
+-- DesignSize: the word is negative, or the size is below a point, which is 16 * 65536 of its units (TeX: The Program, part 30, §568)
 unfoldable pub breaks_design_size : ℤ → Bool
 breaks_design_size word = int_lt word (pos 0) || nat_lt (unsigned_abs word / 16) 65536
 
@@ -48,7 +50,7 @@ begins_past steps Plain = false
 begins_past steps (Larger c) = false
 begins_past steps (Recipe r) = false
 
--- an index of a character is past its table, or its program begins past the steps (TeX: The Program, part 30)
+-- an index of a character is past its table, or its program begins past the steps (TeX: The Program, part 30, §569)
 unfoldable pub breaks_character : MetricFile → Info → Bool
 breaks_character file c =
     nat_le (length file.widths) c.width
@@ -57,7 +59,7 @@ breaks_character file c =
     || nat_le (length file.italics) c.italic
     || begins_past (length file.steps) c.tag
 
--- CharInfo: of some character, also of one that is not there (TeX: The Program, part 30)
+-- CharInfo: some character breaks its rule, also one that is not there (TeX: The Program, part 30, §569)
 unfoldable pub breaks_char_info : MetricFile → Bool
 breaks_char_info file = list_any (breaks_character file) file.characters
 
@@ -74,7 +76,7 @@ begins_otherwise (word ∷ words) = not (int_eq word (pos 0))
 abbrev pub space_words : List ℤ → List ℤ
 space_words parameters = take 3 (drop 1 parameters)
 
--- a width, height, depth or italic is no fix word (TeX: The Program, part 30)
+-- a width, height, depth or italic is no fix word (TeX: The Program, part 30, §571)
 unfoldable pub has_other_size : MetricFile → Bool
 has_other_size file = has_other_word file.widths || has_other_word file.heights || has_other_word file.depths || has_other_word file.italics
 
@@ -82,12 +84,12 @@ has_other_size file = has_other_word file.widths || has_other_word file.heights 
 unfoldable pub has_other_distance : MetricFile → Bool
 has_other_distance file = has_other_word file.kerns || has_other_word (space_words file.parameters)
 
--- entry 0 of the widths, heights, depths or italics is not 0 (TeX: The Program, part 30)
+-- entry 0 of the widths, heights, depths or italics is not 0 (TeX: The Program, part 30, §571)
 unfoldable pub begins_wrong : MetricFile → Bool
 begins_wrong file =
     begins_otherwise file.widths || begins_otherwise file.heights || begins_otherwise file.depths || begins_otherwise file.italics
 
--- FixWord: one of those (TeX: The Program, part 30)
+-- FixWord: a size or a distance is no fix word, or a table of sizes does not begin with 0 (TeX: The Program, part 30, §571)
 unfoldable pub breaks_fix_word : MetricFile → Bool
 breaks_fix_word file = has_other_size file || has_other_distance file || begins_wrong file
 
@@ -106,15 +108,15 @@ names_past first characters kerns s =
     if nat_le 128 s.op then nat_le kerns (256 * (s.op - 128) + s.remainder)
     else ((s.op == 0) && is_none (character_at first characters s.remainder))
 
--- step k is a restart past the steps; or it is none, and it names past, or the next step is past the steps (TeX: The Program, part 30);
--- whether the following character is there is not asked (own)
+-- step k is a restart past the steps; or it is none, and it names a kern or a character that is not there, or the next step is past the steps
+-- (TeX: The Program, part 30, §573); whether the following character is there is not asked (own)
 unfoldable pub breaks_step : MetricFile → ℕ × LigKernStep → Bool
 breaks_step file (k, s) =
     if nat_lt 128 s.skip then nat_le (length file.steps) (256 * s.op + s.remainder)
     else (names_past file.counts.first file.characters (length file.kerns) s
     || (nat_lt s.skip 128 && nat_le (length file.steps) (k + s.skip + 1)))
 
--- LigKern: of some step (TeX: The Program, part 30)
+-- LigKern: some step breaks its rule (TeX: The Program, part 30, §573)
 unfoldable pub breaks_lig_kern : MetricFile → Bool
 breaks_lig_kern file = list_any (breaks_step file) (enumerate_from 0 file.steps)
 
@@ -154,7 +156,7 @@ first_broken bytes = find (is_broken bytes) (TooShort ∷ Counts ∷ DesignSize 
 unfoldable pub broken_in_front : List ℕ → Option TfmCause
 broken_in_front bytes = find (is_broken bytes) (TooShort ∷ Counts ∷ DesignSize ∷ [])
 
--- the first broken one of the other rules (own)
+-- the first broken one of the rules that need tables (own)
 unfoldable pub broken_in_tables : MetricFile → Option TfmCause
 broken_in_tables file =
     if breaks_char_info file then Some CharInfo

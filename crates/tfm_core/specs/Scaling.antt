@@ -1,4 +1,4 @@
--- Scaling of the words of a metric file by the size of a font (TeX: The Program, part 30).
+-- Scaling of the words of a metric file by the size of a font (TeX: The Program, part 30, §571 and §572).
 use Rattle.std.specs.Prelude.{◌≡◌, ◌==◌, ◌||◌, ◌^◌, ◌+◌, ◌-◌, ◌/◌, ◌%◌, ◌<◌, ◌≤◌, ◌+ℤ◌, ◌*ℤ◌, ◌≤ℤ◌, ◌<ℤ◌, ℕ, ℤ, pos, Bool, Option, Some, None, if◌then◌else◌, int_div, nat_lt, unsigned_abs}
 use Rattle.std.specs.Int.{w32, cast_unsigned, int_div_euclid}
 
@@ -11,16 +11,16 @@ pub record IsFontSize (size : ℤ) : Type 0 where
 abbrev pub first_byte : ℤ → ℕ
 first_byte word = cast_unsigned w32 word / 2 ^ 24
 
--- a fix word: its first byte is 0 or 255 (TeX: The Program, part 30)
+-- a fix word: its first byte is 0 or 255 (TeX: The Program, part 30, §571)
 unfoldable pub is_fix_word : ℤ → Bool
 is_fix_word word = (first_byte word == 0) || (first_byte word == 255)
 
--- j is the number of bits of a size that do not count: the least with size < 2^(23 + j) (TeX: The Program, part 30)
+-- j is the number of bits of a size that do not count: the least with size < 2^(23 + j) (TeX: The Program, part 30, §572)
 pub record IsCleared (size j : ℕ) : Type 0 where
   pub below : size < 2 ^ (23 + j)
   pub least : (i : ℕ) → i < j → 2 ^ (23 + i) ≤ size
 
--- q is the floor of fix * kept / 2^20, where kept is the size with its lowest j bits cleared (TeX: The Program, part 30)
+-- q is the floor of fix * kept / 2^20, where kept is the size with its lowest j bits cleared (TeX: The Program, part 30, §571 and §572)
 pub record IsScaled (fix size q : ℤ) : Type 0 where
   pub j : ℕ
   pub kept : ℤ
@@ -29,7 +29,7 @@ pub record IsScaled (fix size q : ℤ) : Type 0 where
   pub low : (q *ℤ pos (2 ^ 20)) ≤ℤ (fix *ℤ kept)
   pub high : (fix *ℤ kept) <ℤ ((q +ℤ pos 1) *ℤ pos (2 ^ 20))
 
--- that j of a size below 2^27 (TeX: The Program, part 30)
+-- the number of bits of a size below 2^27 that do not count: the j of `IsCleared` (TeX: The Program, part 30, §572)
 unfoldable pub cleared_bits : ℕ → ℕ
 cleared_bits size =
     if nat_lt size (2 ^ 23) then 0
@@ -38,15 +38,15 @@ cleared_bits size =
     else (if nat_lt size (2 ^ 26) then 3
     else 4)))
 
--- the size with those bits cleared (TeX: The Program, part 30)
+-- a size with the bits that do not count cleared (TeX: The Program, part 30, §572)
 unfoldable pub kept_size : ℤ → ℕ
 kept_size size = unsigned_abs size - unsigned_abs size % 2 ^ cleared_bits (unsigned_abs size)
 
--- a fix word at a size, by one floor (TeX: The Program, part 30)
+-- a fix word at a size, by one floor (TeX: The Program, part 30, §571 and §572)
 unfoldable pub scaled : ℤ → ℤ → ℤ
 scaled size fix = int_div_euclid (fix *ℤ pos (kept_size size)) (pos (2 ^ 20))
 
--- a word at a size, where it is a fix word (TeX: The Program, part 30)
+-- a word at a size, where it is a fix word (TeX: The Program, part 30, §571 and §572)
 unfoldable pub scaled_word : ℤ → ℤ → Option ℤ
 scaled_word size word = if is_fix_word word then Some (scaled size word) else None
 

@@ -21,6 +21,6 @@ pub record IsTable {X : Type 0} (entry : List ℕ → X) (bytes : List ℕ) (pla
   pub length_is : length entries ≡ count
   pub each : (k : ℕ) (past : X) → k < count → get_or entries k past ≡ entry (from_word bytes (place + k))
 
--- those entries as a list (own)
+-- the entries of `count` words, from word `place` on, as a list (own)
 unfoldable pub table : {X : Type 0} → (List ℕ → X) → List ℕ → ℕ → ℕ → List X
 table entry bytes place count = map (λ k. entry (from_word bytes k)) (range_with_len place count)

@@ -88,7 +88,7 @@ fn is_dimen_at(size: FontSize, word: i32) -> bool
     Dimen::try_new(scaled_fix(word, size)).is_some()
 }
 
-/// Whether all of these words do.
+/// Whether each of these words at a size fits as a dimension.
 #[tactic(auto, unfolding(crate::specs::Fonts::are_dimens_at))]
 fn are_dimens_at(size: FontSize, words: &[i32]) -> bool
     ensures { result ≡ are_dimens_at size words.now }
@@ -96,7 +96,7 @@ fn are_dimens_at(size: FontSize, words: &[i32]) -> bool
     words.iter().all(|word| is_dimen_at(size, *word))
 }
 
-/// Parameter n, from 1 on, or 0 where it is missing.
+/// Parameter n, from 1 on, or 0 where the file does not have it (TeX: The Program, part 30, §575).
 fn parameter(n: usize, parameters: &[i32]) -> i32
     requires { 1 ≤ n }
     ensures { result ≡ parameter n parameters.now }
@@ -104,7 +104,7 @@ fn parameter(n: usize, parameters: &[i32]) -> i32
     parameters.get(n - 1).copied().unwrap_or(0)
 }
 
-/// Whether the sizes of the space do.
+/// Whether the sizes of the space at a size fit as dimensions.
 #[tactic(auto, unfolding(crate::specs::Fonts::is_space_at))]
 fn is_space_at(size: FontSize, parameters: &[i32]) -> bool
     ensures { result ≡ is_space_at size parameters.now }
@@ -114,7 +114,7 @@ fn is_space_at(size: FontSize, parameters: &[i32]) -> bool
         && is_dimen_at(size, parameter(4, parameters))
 }
 
-/// Whether all sizes of the font do.
+/// Whether all sizes of the font fit as dimensions.
 #[tactic(auto, unfolding(crate::specs::Fonts::fits_at))]
 fn fits_at(file: &Entries, size: FontSize) -> bool
     ensures { result ≡ fits_at file.now size }

@@ -1,4 +1,4 @@
-//! The ligature/kern program of a character (TFtoPL, 13; TeX: The Program, part 30).
+//! The ligature/kern program of a character (TFtoPL, 13; TeX: The Program, part 30, §545).
 
 ghost use Rattle.std.specs.Prelude.{◌≡◌, slice_get};
 ghost use Rattle.tfm_core.specs.Program.{first_for, first_step, is_for, tag_program, taken};

@@ -1,4 +1,4 @@
-//! The rules of a metric file (TeX: The Program, part 30).
+//! The rules of a metric file (TeX: The Program, part 30, §560 to §576).
 
 ghost use Rattle.std.specs.Prelude.{◌≡◌, ◌<◌, length};
 ghost use Rattle.tfm_core.specs.Rules.{begins_otherwise, begins_past, begins_wrong, breaks_char_info, breaks_character, breaks_counts, breaks_design_size, breaks_fix_word, breaks_lig_kern, breaks_step, character_at, has_large_number, has_other_distance, has_other_size, has_other_word, has_wrong_codes, is_too_short, lacks_a_table, names_past, space_words};
@@ -19,7 +19,7 @@ pub fn is_too_short(bytes: &[u8]) -> bool
     bytes.len() < 4 * usize::from(counts(bytes).file)
 }
 
-/// Whether one of the twelve is 32768 or more.
+/// Whether one of the twelve numbers is 32768 or more.
 #[tactic(auto, unfolding(crate::specs::Rules::has_large_number))]
 fn has_large_number(c: Counts) -> bool
     ensures { result ≡ has_large_number c }
@@ -49,7 +49,7 @@ fn has_wrong_codes(c: Counts) -> bool
     usize::from(c.last) + 1 < usize::from(c.first) || 255 < c.last
 }
 
-/// Whether the header or one of the first four tables is too short.
+/// Whether the header has fewer than 2 words, or there is no width, height, depth or italic (TeX: The Program, part 30, §565 and §568).
 #[tactic(auto, unfolding(crate::specs::Rules::lacks_a_table))]
 fn lacks_a_table(c: Counts) -> bool
     ensures { result ≡ lacks_a_table c }
@@ -209,7 +209,7 @@ fn names_past(first: u16, characters: &[CharInfo], kerns: usize, s: LigKernStep)
     s.op == 0 && character_at(first, characters, s.remainder).is_none()
 }
 
-/// Whether some step does.
+/// Whether some step names a step, a kern or a character that is not there.
 #[tactic(auto, unfolding(crate::specs::Rules::breaks_lig_kern))]
 pub fn breaks_lig_kern(file: &Entries) -> bool
     ensures { result ≡ breaks_lig_kern file.now }

@@ -1,4 +1,4 @@
-//! Sizes of fonts, and the scaling of words of a metric file (TeX: The Program, part 30).
+//! Sizes of fonts, and the scaling of words of a metric file (TeX: The Program, part 30, §571 and §572).
 
 ghost use Rattle.std.specs.Prelude.{◌≡◌, ◌↔◌, ◌^◌, ◌*ℤ◌, ◌<◌, false, pos, IsTrue, IsSome, IfSome, FitsSigned, unsigned_abs};
 ghost use Rattle.std.specs.Int.{w64, int_div_euclid};
@@ -80,7 +80,7 @@ fn cleared_bits(size: u32) -> u32
     4
 }
 
-/// The size with those bits cleared.
+/// A size with the bits that do not count cleared.
 #[tactic(auto, using(crate::proofs::ScalingLemmas::scaling), unfolding(crate::specs::Scaling::kept_size))]
 fn kept_size(size: FontSize) -> u32
     ensures value { result ≡ kept_size size }
@@ -99,7 +99,7 @@ pub fn is_fix_word(word: i32) -> bool
     matches!(word.cast_unsigned() / (1 << 24), 0 | 255)
 }
 
-/// The floor of the product by 2^20.
+/// The floor of `fix * kept / 2^20`.
 fn floor(fix: i32, kept: u32) -> i64
     requires { kept < 2 ^ 27 }
     ensures value { result ≡ int_div_euclid (fix *ℤ pos kept) (pos (2 ^ 20)) }
@@ -118,8 +118,8 @@ pub fn scaled_fix(fix: i32, size: FontSize) -> i64
 }
 
 /// A word of a metric file at a size, in scaled points: the floor of fix * kept / 2^20, where `kept` is the size with its lowest
-/// j bits cleared, j the least number with size < 2^(23 + j) (TeX: The Program, part 30). None exactly where the word's first
-/// byte is neither 0 nor 255. Takes no memory.
+/// j bits cleared, j the least number with size < 2^(23 + j) (TeX: The Program, part 30, §571 and §572). None exactly where the
+/// word's first byte is neither 0 nor 255. Takes no memory.
 #[tactic(auto, unfolding(crate::specs::Scaling::scaled_word))]
 pub fn scaled(fix: i32, size: FontSize) -> Option<i64>
     ensures fits { IsSome result ↔ IsTrue (is_fix_word fix) }

@@ -49,7 +49,7 @@ fn broken_in_front(bytes: &[u8]) -> Option<TfmCause>
     None
 }
 
-/// The first broken one of the other rules.
+/// The first broken one of the rules that need tables.
 #[tactic(auto, unfolding(crate::specs::Rules::broken_in_tables))]
 fn broken_in_tables(file: &Entries) -> Option<TfmCause>
     ensures { result ≡ broken_in_tables file.now }

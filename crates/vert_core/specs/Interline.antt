@@ -1,4 +1,4 @@
--- Interline glue: what sets the boxes of a vertical list apart (TeX: The Program, part 33, append_to_vlist).
+-- Interline glue: what sets the boxes of a vertical list apart (TeX: The Program, part 33, §679, append_to_vlist).
 use Rattle.std.specs.Prelude.{◌-ℤ◌, ℤ, negsuc, int_lt, int_le, if◌then◌else◌, List, [], ◌∷◌, Option, Some, None, Result, Ok, Err}
 use Rattle.node_core.specs.declared.params.Params.{Params}
 use Rattle.node_core.specs.declared.tree.BoxNode.{BoxNode}
@@ -30,7 +30,7 @@ interline params previous height =
     else (if int_lt (distance params previous height) params.line_skip_limit then Ok (Some params.line_skip)
     else baseline_glue params (distance params previous height))
 
--- That glue, where it is not refused (own).
+-- The glue in front of a box, where it is not refused and there is some (own).
 abbrev pub glue_of : Result (Option Glue) DimensionTooLarge → Option Glue
 glue_of (Ok glue) = glue
 glue_of (Err e) = None

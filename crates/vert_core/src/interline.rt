@@ -1,4 +1,4 @@
-//! The glue between two boxes of a vertical list (TeX: The Program, part 33, append_to_vlist).
+//! The glue between two boxes of a vertical list (TeX: The Program, part 33, §679, append_to_vlist).
 
 ghost use Rattle.std.specs.Prelude.{◌≡◌};
 ghost use Rattle.vert_core.specs.Interline.{distance, baseline_glue, interline};
