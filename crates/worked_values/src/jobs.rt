@@ -3,10 +3,9 @@
 ghost use Rattle.std.specs.Prelude.{Some};
 
 use crate::samples::TINY;
-use job_core::Job;
 use job_core::{
-    Answer, BoxForm, Command, Device, DeviceFault, FontFile, FontLoad, FontName, FontSize, Opening,
-    Refusal, Register, Summary, Target,
+    Answer, BoxForm, Command, Device, DeviceFault, FontFile, FontLoad, FontName, FontSize, Job,
+    Opening, Refusal, Register, Summary, Target,
 };
 use node_core::{Rule, RuleSize};
 use scaled_core::Dimen;
