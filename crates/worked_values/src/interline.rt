@@ -4,7 +4,7 @@ use node_core::{BoxNode, Glue, Kind, Node, NodeList, Order, Params, Setting};
 use scaled_core::Dimen;
 use std::alloc::Global;
 use std::process::Abort;
-use vert_core::{AppendFault, DimensionTooLarge, append_box, interline_glue};
+use vert_core::{append_box, interline_glue};
 
 const POINT: i64 = 65536;
 
@@ -86,30 +86,4 @@ fn near_boxes_and_the_limit(rt: HostRuntime) {
     assert!(rt; first == Ok(None));
     let below = interline_glue(sp(&rt, 1 - 1000 * POINT), Dimen::ZERO, &params);
     assert!(rt; below == Ok(Some(glue(&rt, 1012 * POINT - 1))));
-}
-
-#[test]
-fn a_box_too_far_away_comes_back(rt: HostRuntime) {
-    let (most, half) = (1_073_741_823, POINT / 2);
-    let params = baselines(&rt, most);
-    let mut nodes = Vec::new(rt.alloc());
-    let shown = hbox(&rt, rt.alloc(), half - 1, POINT);
-    let refused = append_box(&mut nodes, shown, sp(&rt, POINT), sp(&rt, -half), &params);
-    let Err(unappended) = refused else {
-        panic!(rt; "the glue does not fit");
-    };
-    assert!(rt; unappended.fault == AppendFault::DimensionTooLarge);
-    assert_eq!(rt; unappended.shown.height, sp(&rt, half - 1));
-    assert_eq!(rt; nodes.len(), 0);
-    let none = interline_glue(sp(&rt, -half), sp(&rt, half - 1), &params);
-    assert!(rt; none == Err(DimensionTooLarge));
-    let mut shown = unappended.shown;
-    shown.height = sp(&rt, half);
-    let depth = append_box(&mut nodes, shown, Dimen::ZERO, sp(&rt, -half), &params);
-    assert_eq!(rt; depth.expect(&rt, "there is memory"), sp(&rt, POINT));
-    let [Node::Glue(between), shown] = &nodes[..] else {
-        panic!(rt; "not glue and a box");
-    };
-    assert_eq!(rt; *between, glue(&rt, most));
-    expect_box(&rt, shown, 0, half, POINT);
 }

@@ -93,42 +93,6 @@ fn a_device_takes_one_byte_a_call_and_may_fail(rt: HostRuntime) {
     assert_eq!(rt; dripped(rt.alloc(), 75), Some((Err(Refusal::Device), 74)));
 }
 
-/// Appends a kern of so many scaled points, and tells whether that was done.
-fn append_kern(job: &mut Job<Dripping>, width: i64) -> bool {
-    match Dimen::try_new(width) {
-        Some(width) => job.step(&Command::Kern(width)).is_ok(),
-        None => false,
-    }
-}
-
-/// Ends the innermost list: the width of its box in scaled points.
-fn end(job: &mut Job<Dripping>) -> Result<i32, Refusal> {
-    match job.step(&Command::End)? {
-        Answer::Packed(sizes, _) => Ok(sizes.width.get()),
-        _ => Ok(0),
-    }
-}
-
-#[test]
-fn a_refused_end_leaves_the_list_open(rt: HostRuntime) {
-    let mut job = job(rt.alloc(), &[], 0).expect(&rt, "there is memory");
-    assert!(rt; job.step(&hbox()).is_ok());
-    assert!(rt; append_kern(&mut job, 1_073_741_823));
-    assert!(rt; append_kern(&mut job, 65_536));
-    assert_eq!(rt; end(&mut job), Err(Refusal::DimensionTooLarge));
-    assert!(rt; append_kern(&mut job, -65_536));
-    assert_eq!(rt; end(&mut job), Ok(1_073_741_823));
-}
-
-#[test]
-fn only_so_many_lists_open(rt: HostRuntime) {
-    let mut job = job(rt.alloc(), &[], 0).expect(&rt, "there is memory");
-    for _ in 0..64u32 {
-        assert!(rt; job.step(&hbox()).is_ok());
-    }
-    assert_eq!(rt; job.step(&hbox()), Err(Refusal::TooDeep));
-}
-
 /// The name of the font file.
 fn name(alloc: Global) -> Option<FontName> {
     FontName::try_new(b"tiny".to_vec(alloc).ok()?)
