@@ -80,27 +80,3 @@ fn every_beginning_is_too_short(rt: HostRuntime) {
         );
     }
 }
-
-#[test]
-fn changed_bytes(rt: HostRuntime) {
-    for (place, byte, cause) in [
-        (0, 0x80, Some(TfmCause::TooShort)),
-        (7, 0x66, Some(TfmCause::Counts)),
-        (28, 0x80, Some(TfmCause::DesignSize)),
-        (32, 0x03, Some(TfmCause::CharInfo)),
-        (35, 0x03, Some(TfmCause::CharInfo)),
-        (52, 0x01, Some(TfmCause::FixWord)),
-        (55, 0x01, Some(TfmCause::FixWord)),
-        (56, 0x01, Some(TfmCause::FixWord)),
-        (84, 0x03, Some(TfmCause::LigKern)),
-        (86, 0x80, Some(TfmCause::LigKern)),
-        (87, 0x66, Some(TfmCause::LigKern)),
-    ] {
-        assert_eq!(rt;
-            broken_rule(rt.alloc(), &with_byte(TINY, place, byte)),
-            cause,
-            "at {place}"
-        );
-    }
-    assert!(rt; Tfm::read(rt.alloc(), &with_byte(TINY, 100, 0x7f)).is_ok());
-}

@@ -2,10 +2,9 @@
 
 ghost use Rattle.std.specs.Prelude.{Some};
 
-use crate::samples::TINY;
 use job_core::{
-    Answer, BoxForm, Command, Device, DeviceFault, FontFile, FontLoad, FontName, FontSize, Job,
-    Opening, Refusal, Register, Summary, Target,
+    Answer, BoxForm, Command, Device, DeviceFault, FontFile, Job, Opening, Refusal, Register,
+    Summary, Target,
 };
 use node_core::{Rule, RuleSize};
 use scaled_core::Dimen;
@@ -91,53 +90,4 @@ fn a_device_takes_one_byte_a_call_and_may_fail(rt: HostRuntime) {
     };
     assert_eq!(rt; dripped(rt.alloc(), 0), Some((Ok(summary), 116)));
     assert_eq!(rt; dripped(rt.alloc(), 75), Some((Err(Refusal::Device), 74)));
-}
-
-/// The name of the font file.
-fn name(alloc: Global) -> Option<FontName> {
-    FontName::try_new(b"tiny".to_vec(alloc).ok()?)
-}
-
-/// The command that loads the font file into a slot.
-fn load(alloc: Global, slot: u8, size: Option<FontSize>) -> Option<Command> {
-    let name = name(alloc)?;
-    Some(Command::LoadFont(FontLoad { slot, name, size }))
-}
-
-/// A page of a character of one font and one of another is shipped.
-fn ship_two_characters(job: &mut Job<Dripping>) -> Result<Answer, Refusal> {
-    job.step(&hbox())?;
-    job.step(&Command::UseFont(1))?;
-    job.step(&Command::Character(99))?;
-    job.step(&Command::UseFont(0))?;
-    job.step(&Command::Character(98))?;
-    job.step(&Command::End)?;
-    job.step(&Command::Ship(Register::FIRST))
-}
-
-/// The file with that page, with the font in the slots 1 and 0.
-fn page_of_two_fonts(alloc: Global) -> Option<Vec<u8>> {
-    let file = FontFile::new(name(alloc)?, TINY.to_vec(alloc).ok()?);
-    let first = load(alloc, 1, None)?;
-    let second = load(alloc, 0, FontSize::try_new(1_310_720))?;
-    let mut job = job(alloc, &[file], 0)?;
-    job.step(&first).ok()?;
-    job.step(&second).ok()?;
-    ship_two_characters(&mut job).ok()?;
-    job.finish().ok()?;
-    Some(job.into_device().bytes)
-}
-
-/// Asserts that some bytes have others at that place.
-fn expect_part(rt: &impl Abort, bytes: &[u8], place: usize, part: &[u8]) {
-    let found = bytes.get(place..).expect(rt, "there are so many bytes");
-    assert!(rt; found.starts_with(part));
-}
-
-#[test]
-fn fonts_are_defined_in_rising_order(rt: HostRuntime) {
-    let bytes = page_of_two_fonts(rt.alloc()).expect(&rt, "the page is shipped");
-    expect_part(&rt, &bytes, 15, &[243, 0]);
-    expect_part(&rt, &bytes, 35, &[243, 1]);
-    expect_part(&rt, &bytes, 100, &[159, 10, 0, 0, 172, 99, 171, 98, 140]);
 }
