@@ -12,7 +12,14 @@ use node_core::{BoxNode, Glyph, Kind, Node, Rule, RuleSize};
 use pack_core::{counted, dimension};
 use scaled_core::Dimen;
 
-/// A position on a page, in scaled points to the right of its origin and below it.
+/// A point of a page, in scaled points to the right of its origin and below it: a dimension, or the sum of two, each way.
+#[derive(Clone, Copy, Debug, PartialEq, Eq)]
+pub struct PagePoint {
+    pub h: i32,
+    pub v: i32,
+}
+
+/// A position on a page that fits, in scaled points to the right of its origin and below it.
 #[derive(Clone, Copy, Debug, PartialEq, Eq)]
 pub struct Position {
     pub h: Dimen,
@@ -20,6 +27,17 @@ pub struct Position {
 }
 
 impl Position {
+    /// The point of the page at a position.
+    pub fn point(self) -> PagePoint
+        ensures h { result.h ≡ self.h }
+        ensures v { result.v ≡ self.v }
+    {
+        PagePoint {
+            h: self.h.get(),
+            v: self.v.get(),
+        }
+    }
+
     /// Both numbers of a position fit: dimensions always do. It does nothing.
     #[tactic(auto, using(scaled_core::proofs::Fitting::dimension_fits))]
     fn known(&self)
@@ -73,13 +91,13 @@ fn moved(from: i64, distance: i128) -> i128
 }
 
 /// The position at a distance from where a list begins that goes that way.
-pub fn point_at(kind: Kind, h: Dimen, v: i64, distance: i128) -> Option<Position>
+pub fn point_at(kind: Kind, h: i64, v: i64, distance: i128) -> Option<Position>
     requires { Within (2 ^ 126 + 2 ^ 63) distance }
     ensures { result ≡ point (right_at kind h distance) (down_at kind v distance) }
 {
     match kind {
-        Kind::Horizontal => point(moved(i64::from(h.get()), distance), i128::from(v)),
-        Kind::Vertical => point(i128::from(h.get()), moved(v, distance)),
+        Kind::Horizontal => point(moved(h, distance), i128::from(v)),
+        Kind::Vertical => point(i128::from(h), moved(v, distance)),
     }
 }
 
@@ -88,17 +106,6 @@ fn added(a: Dimen, b: Dimen) -> i128
     ensures { result ≡ a +ℤ b }
 {
     i128::from(a.get()) + i128::from(b.get())
-}
-
-/// The sum of two dimensions, in scaled points; None exactly where it does not fit. (That the two themselves fit is said too: dimensions always do.)
-#[tactic(auto, using(scaled_core::proofs::Fitting::dimension_fits))]
-pub fn sum(a: Dimen, b: Dimen) -> Option<Dimen>
-    ensures value { IfSome result (λ sum. sum ≡ a +ℤ b) }
-    ensures fits { is_some result ≡ fits (a +ℤ b) }
-    ensures first { fits a ≡ true }
-    ensures second { fits b ≡ true }
-{
-    dimension(added(a, b))
 }
 
 /// A size of a rule where it stands in a box.
@@ -120,22 +127,23 @@ struct RuleSizes {
 }
 
 /// The sizes of a rule in the list of a box; None exactly where its height plus depth does not fit.
-fn sizes_of(shown: &BoxNode, rule: Rule) -> Option<RuleSizes>
-    ensures fits { is_some result ≡ fits (rule_tall shown.now.kind shown.now rule) }
-    ensures below { IfSome result (λ s. s.below ≡ rule_below shown.now.kind shown.now rule) }
-    ensures tall { IfSome result (λ s. s.tall ≡ rule_tall shown.now.kind shown.now rule) }
-    ensures wide { IfSome result (λ s. s.wide ≡ rule_wide shown.now.kind shown.now rule) }
+#[tactic(auto, unfolding(scaled_core::specs::Dimensions::dimension_of))]
+fn sizes_of(box_node: &BoxNode, rule: Rule) -> Option<RuleSizes>
+    ensures fits { is_some result ≡ fits (rule_tall box_node.now.kind box_node.now rule) }
+    ensures below { IfSome result (λ s. s.below ≡ rule_below box_node.now.kind box_node.now rule) }
+    ensures tall { IfSome result (λ s. s.tall ≡ rule_tall box_node.now.kind box_node.now rule) }
+    ensures wide { IfSome result (λ s. s.wide ≡ rule_wide box_node.now.kind box_node.now rule) }
 {
-    match shown.kind {
+    match box_node.kind {
         Kind::Horizontal => {
-            let below = size_where(shown.depth, rule.depth);
-            let tall = sum(size_where(shown.height, rule.height), below)?;
+            let below = size_where(box_node.depth, rule.depth);
+            let tall = size_where(box_node.height, rule.height).checked_add(below)?;
             let wide = counted(rule.width);
             Some(RuleSizes { below, tall, wide })
         }
         Kind::Vertical => {
-            let tall = sum(counted(rule.height), counted(rule.depth))?;
-            let wide = size_where(shown.width, rule.width);
+            let tall = counted(rule.height).checked_add(counted(rule.depth))?;
+            let wide = size_where(box_node.width, rule.width);
             Some(RuleSizes {
                 below: tall,
                 tall,
@@ -198,17 +206,18 @@ fn place_box(
 }
 
 /// A rule at a place of the list of a box; None exactly where one of its numbers does not fit.
-fn place_rule(shown: &BoxNode, at: Position, next: Position, rule: Rule) -> Option<PlacedItem>
-    requires { Reaches shown.now.kind at.h next.h (nodes.Rule rule) }
-    ensures fits { is_some result ≡ list_all fits (numbers_of shown.now at.h at.v next.h next.v (nodes.Rule rule)) }
-    ensures mark { IfSome result (λ s. (rest : Picture) → strokes_in s.mark rest ≡ strokes_of shown.now at.h at.v (nodes.Rule rule) rest) }
-    ensures end { IfSome result (λ s. IfSome s.mark (Ends shown.now.kind)) }
+#[tactic(auto, unfolding(scaled_core::specs::Dimensions::dimension_of))]
+fn place_rule(box_node: &BoxNode, at: Position, next: Position, rule: Rule) -> Option<PlacedItem>
+    requires { Reaches box_node.now.kind at.h next.h (nodes.Rule rule) }
+    ensures fits { is_some result ≡ list_all fits (numbers_of box_node.now at.h at.v next.h next.v (nodes.Rule rule)) }
+    ensures mark { IfSome result (λ s. (rest : Picture) → strokes_in s.mark rest ≡ strokes_of box_node.now at.h at.v (nodes.Rule rule) rest) }
+    ensures end { IfSome result (λ s. IfSome s.mark (Ends box_node.now.kind)) }
     ensures at { IfSome result (λ s. s.at ≡ at) }
 {
     at.known();
     next.known();
-    let sizes = sizes_of(shown, rule)?;
-    let v = sum(at.v, sizes.below)?;
+    let sizes = sizes_of(box_node, rule)?;
+    let v = at.v.checked_add(sizes.below)?;
     Some(PlacedItem {
         mark: visible(sizes.tall, at.h, v, sizes.wide, next.h),
         at,
@@ -216,12 +225,12 @@ fn place_rule(shown: &BoxNode, at: Position, next: Position, rule: Rule) -> Opti
 }
 
 /// The mark of a glyph at a place of the list of a box.
-fn place_glyph(shown: &BoxNode, at: Position, next: Position, glyph: Glyph) -> Option<MarkAt>
-    requires { Reaches shown.now.kind at.h next.h (nodes.Glyph glyph) }
-    ensures mark { (rest : Picture) → strokes_in result rest ≡ strokes_of shown.now at.h at.v (nodes.Glyph glyph) rest }
-    ensures end { IfSome result (Ends shown.now.kind) }
+fn place_glyph(box_node: &BoxNode, at: Position, next: Position, glyph: Glyph) -> Option<MarkAt>
+    requires { Reaches box_node.now.kind at.h next.h (nodes.Glyph glyph) }
+    ensures mark { (rest : Picture) → strokes_in result rest ≡ strokes_of box_node.now at.h at.v (nodes.Glyph glyph) rest }
+    ensures end { IfSome result (Ends box_node.now.kind) }
 {
-    match shown.kind {
+    match box_node.kind {
         Kind::Vertical => None,
         Kind::Horizontal => Some(MarkAt {
             h: at.h,
@@ -237,21 +246,26 @@ fn place_glyph(shown: &BoxNode, at: Position, next: Position, glyph: Glyph) -> O
 }
 
 /// An item at a place of the list of a box; None exactly where one of its numbers does not fit. Those of its own items are not looked at.
-pub fn place_item(shown: &BoxNode, at: Position, next: Position, node: &Node) -> Option<PlacedItem>
-    requires { Reaches shown.now.kind at.h next.h node.now }
-    ensures fits { is_some result ≡ list_all fits (numbers_of shown.now at.h at.v next.h next.v node.now) }
-    ensures mark { IfSome result (λ s. (rest : Picture) → strokes_in s.mark rest ≡ strokes_of shown.now at.h at.v node.now rest) }
-    ensures end { IfSome result (λ s. IfSome s.mark (Ends shown.now.kind)) }
-    ensures h { IfSome result (λ s. s.at.h ≡ reference_h shown.now.kind at.h node.now) }
-    ensures v { IfSome result (λ s. s.at.v ≡ reference_v shown.now.kind at.v node.now) }
+pub fn place_item(
+    box_node: &BoxNode,
+    at: Position,
+    next: Position,
+    node: &Node,
+) -> Option<PlacedItem>
+    requires { Reaches box_node.now.kind at.h next.h node.now }
+    ensures fits { is_some result ≡ list_all fits (numbers_of box_node.now at.h at.v next.h next.v node.now) }
+    ensures mark { IfSome result (λ s. (rest : Picture) → strokes_in s.mark rest ≡ strokes_of box_node.now at.h at.v node.now rest) }
+    ensures end { IfSome result (λ s. IfSome s.mark (Ends box_node.now.kind)) }
+    ensures h { IfSome result (λ s. s.at.h ≡ reference_h box_node.now.kind at.h node.now) }
+    ensures v { IfSome result (λ s. s.at.v ≡ reference_v box_node.now.kind at.v node.now) }
 {
     at.known();
     next.known();
     match node {
-        Node::Box(shift, inner) => place_box(shown.kind, at, next, *shift, inner),
-        Node::Rule(rule) => place_rule(shown, at, next, *rule),
+        Node::Box(shift, inner) => place_box(box_node.kind, at, next, *shift, inner),
+        Node::Rule(rule) => place_rule(box_node, at, next, *rule),
         Node::Glyph(glyph) => Some(PlacedItem {
-            mark: place_glyph(shown, at, next, *glyph),
+            mark: place_glyph(box_node, at, next, *glyph),
             at,
         }),
         _ => Some(PlacedItem { mark: None, at }),
