@@ -40,7 +40,7 @@ impl Position {
 
     /// Both numbers of a position fit: dimensions always do. It does nothing.
     #[tactic(auto, using(scaled_core::proofs::Fitting::dimension_fits))]
-    fn known(&self)
+    fn numbers_fit(&self)
         ensures h { fits self.now.h ≡ true }
         ensures v { fits self.now.v ≡ true }
     {
@@ -82,8 +82,8 @@ fn point(h: i128, v: i128) -> Option<Position>
     Some(Position { h, v })
 }
 
-/// A number that is a distance more than another.
-fn moved(from: i64, distance: i128) -> i128
+/// The number behind another at a distance.
+fn number_behind(from: i64, distance: i128) -> i128
     requires { Within (2 ^ 126 + 2 ^ 63) distance }
     ensures { result ≡ from +ℤ distance }
 {
@@ -96,16 +96,9 @@ pub fn point_at(kind: Kind, h: i64, v: i64, distance: i128) -> Option<Position>
     ensures { result ≡ point (right_at kind h distance) (down_at kind v distance) }
 {
     match kind {
-        Kind::Horizontal => point(moved(h, distance), i128::from(v)),
-        Kind::Vertical => point(i128::from(h), moved(v, distance)),
+        Kind::Horizontal => point(number_behind(h, distance), i128::from(v)),
+        Kind::Vertical => point(i128::from(h), number_behind(v, distance)),
     }
-}
-
-/// The sum of two dimensions, whether it fits or not.
-fn added(a: Dimen, b: Dimen) -> i128
-    ensures { result ≡ a +ℤ b }
-{
-    i128::from(a.get()) + i128::from(b.get())
 }
 
 /// A size of a rule where it stands in a box.
@@ -154,7 +147,7 @@ fn sizes_of(box_node: &BoxNode, rule: Rule) -> Option<RuleSizes>
 }
 
 /// A rule of that height that is seen; None exactly where its height or its width is not positive.
-fn visible(height: Dimen, h: Dimen, v: Dimen, width: Dimen, end: Dimen) -> Option<MarkAt>
+fn visible_rule(height: Dimen, h: Dimen, v: Dimen, width: Dimen, end: Dimen) -> Option<MarkAt>
     ensures mark { (rest : Picture) → strokes_in result rest ≡ in_front (rule_mark h v height width) width rest }
     ensures end { IfSome result (λ m. m ≡ record { h = h; v = v; width = width; end = end; ink = Ink.Rule height }) }
 {
@@ -174,13 +167,15 @@ fn visible(height: Dimen, h: Dimen, v: Dimen, width: Dimen, end: Dimen) -> Optio
 }
 
 /// The reference point of a box that stands at a place of a list of that kind, where it fits.
+#[tactic(auto, using(scaled_core::proofs::Fitting::dimension_fits), unfolding(scaled_core::specs::Dimensions::dimension_of))]
 fn reference_of(kind: Kind, at: Position, shift: Dimen, height: Dimen) -> Option<Position>
     ensures { result ≡ point (box_h kind at.h shift) (box_v kind at.v shift height) }
 {
-    match kind {
-        Kind::Horizontal => point(i128::from(at.h.get()), added(at.v, shift)),
-        Kind::Vertical => point(added(at.h, shift), added(at.v, height)),
-    }
+    let (h, v) = match kind {
+        Kind::Horizontal => (Some(at.h), at.v.checked_add(shift)),
+        Kind::Vertical => (at.h.checked_add(shift), at.v.checked_add(height)),
+    };
+    Some(Position { h: h?, v: v? })
 }
 
 /// A box at a place of the list of another; None exactly where its reference point does not fit.
@@ -196,8 +191,6 @@ fn place_box(
     ensures h { IfSome result (λ s. s.at.h ≡ box_h kind at.h shift) }
     ensures v { IfSome result (λ s. s.at.v ≡ box_v kind at.v shift inner.now.height) }
 {
-    at.known();
-    next.known();
     let reference = reference_of(kind, at, shift, inner.height)?;
     Some(PlacedItem {
         mark: None,
@@ -214,12 +207,10 @@ fn place_rule(box_node: &BoxNode, at: Position, next: Position, rule: Rule) -> O
     ensures end { IfSome result (λ s. IfSome s.mark (Ends box_node.now.kind)) }
     ensures at { IfSome result (λ s. s.at ≡ at) }
 {
-    at.known();
-    next.known();
     let sizes = sizes_of(box_node, rule)?;
     let v = at.v.checked_add(sizes.below)?;
     Some(PlacedItem {
-        mark: visible(sizes.tall, at.h, v, sizes.wide, next.h),
+        mark: visible_rule(sizes.tall, at.h, v, sizes.wide, next.h),
         at,
     })
 }
@@ -259,8 +250,8 @@ pub fn place_item(
     ensures h { IfSome result (λ s. s.at.h ≡ reference_h box_node.now.kind at.h node.now) }
     ensures v { IfSome result (λ s. s.at.v ≡ reference_v box_node.now.kind at.v node.now) }
 {
-    at.known();
-    next.known();
+    at.numbers_fit();
+    next.numbers_fit();
     match node {
         Node::Box(shift, inner) => place_box(box_node.kind, at, next, *shift, inner),
         Node::Rule(rule) => place_rule(box_node, at, next, *rule),
