@@ -3,6 +3,7 @@ use Rattle.std.specs.Prelude.{◌+◌, ◌%◌, ◌++◌, ◌==◌, ◌&&◌, no
 use Rattle.std.specs.Int.{int_max}
 use Rattle.std.specs.Ordering.{int_eq}
 use Rattle.std.specs.List.{flat_map, list_any}
+use Rattle.dvi_ops.specs.declared.opcodes.TheConstants.{FORMAT, PADDING}
 use Rattle.dvi_ops.specs.Instruction.{Definition, FontNum, Instruction, Do, Post, PostPost, Postamble}
 use Rattle.dvi_ops.specs.Forest.{flat, nests}
 use Rattle.dvi_ops.specs.Layout.{Sheet, bytes_of, define, preamble, scaled_points, sheet_from, padding_after}
@@ -107,15 +108,15 @@ closing draft count =
 -- The instructions of the postamble: post, all font definitions in rising order, and post_post, which names post's place.
 abbrev pub closing_ops : Slots → Draft → ℕ → List Instruction
 closing_ops fonts draft count =
-    Post (closing draft count) ∷ (define (definitions_of fonts (in_rising_order draft.defined)) ++ PostPost (pos (length draft.bytes)) 2 ∷ [])
+    Post (closing draft count) ∷ (define (definitions_of fonts (in_rising_order draft.defined)) ++ PostPost (pos (length draft.bytes)) FORMAT ∷ [])
 
--- All bytes of a file but the bytes 223 at its end.
+-- All bytes of a file but the padding at its end.
 abbrev pub closed : Slots → Draft → ℕ → List ℕ
 closed fonts draft count = draft.bytes ++ bytes_of (closing_ops fonts draft count)
 
 -- The whole file of a number of pages that is not 0.
 unfoldable pub whole : Slots → Draft → ℕ → List ℕ
-whole fonts draft count = closed fonts draft count ++ replicate (padding_after (length (closed fonts draft count))) 223
+whole fonts draft count = closed fonts draft count ++ replicate (padding_after (length (closed fonts draft count))) PADDING
 
 -- The bytes of a job with these fonts and pages: none without pages.
 abbrev pub file_of : Slots → List Page → List ℕ

@@ -4,6 +4,7 @@ ghost use Rattle.std.specs.Prelude.{◌≡◌, ◌<◌, ◌+◌, ◌*◌, ◌^�
 ghost use Rattle.std.specs.Int.{int_max};
 ghost use Rattle.dvi_ops.specs.Instruction.{Bop, Do, Eop, FontDef, Post};
 ghost use Rattle.dvi_ops.specs.declared.op.Op.TheVariants as ops;
+ghost use Rattle.dvi_ops.specs.declared.opcodes.TheConstants.{PADDING};
 ghost use Rattle.dvi_ops.specs.Forest.{Forest, flat, nests};
 ghost use Rattle.dvi_ops.specs.Layout.{bytes_of, define, padding_after};
 ghost use Rattle.dvi_ops.specs.Spelling.{HasSpelling};
@@ -16,7 +17,7 @@ ghost use Rattle.dvi_write.specs.Draft.{Draft, closing, closing_ops, definition_
 ghost use Rattle.ship_core.specs.Drawing.{body_of};
 
 use crate::fonts::{Fonts, LoadedFont};
-use dvi_ops::{FontDefinition, Op, Postamble, Units, spell};
+use dvi_ops::{FontDefinition, Op, Postamble, Units, opcodes, spell};
 use node_core::BoxNode;
 use scaled_core::Dimen;
 use ship_core::{PagePoint, draw_page, push_depth};
@@ -204,13 +205,13 @@ fn append_both(
     Ok(place)
 }
 
-/// Appends four to seven bytes 223, so that the length is a multiple of 4, or nothing.
+/// Appends four to seven padding bytes, so that the length is a multiple of 4, or nothing.
 fn append_padding(bytes: &mut Vec<u8>) -> Result<(), AllocError>
-    ensures ok { OnOk result (bytes.new.items ≡ bytes.old.items ++ replicate (padding_after (length bytes.old.items)) 223) }
+    ensures ok { OnOk result (bytes.new.items ≡ bytes.old.items ++ replicate (padding_after (length bytes.old.items)) PADDING) }
     ensures err { OnErr result (bytes.new.items ≡ bytes.old.items) }
 {
     let padding = 7 - (bytes.len() + 3) % 4;
-    bytes.extend_from_slice(&[223; 7][..padding])
+    bytes.extend_from_slice(&[opcodes::PADDING; 7][..padding])
 }
 
 /// The instructions of the page of a box.
@@ -219,11 +220,7 @@ fn page_body(alloc: Global, box_node: &BoxNode) -> Result<Vec<Op<'static>>, Allo
     requires { is_huge (page_of box_node.now) ≡ false }
     ensures { IfOk result (λ ops. map view ops.items ≡ flat (body_of (page_of box_node.now))) }
 {
-    let at = PagePoint {
-        h: 0,
-        v: box_node.height.get(),
-    };
-    draw_page(alloc, box_node, at)
+    draw_page(alloc, box_node, PagePoint::of_box(box_node))
 }
 
 /// The greater of a reach so far and that of a page, from its point and its size.
@@ -247,7 +244,7 @@ impl Writer {
         append_all(
             &mut bytes,
             &[Op::Pre {
-                id: 2,
+                id: opcodes::FORMAT,
                 units: SCALED_POINTS,
                 comment: &[],
             }],
@@ -350,7 +347,7 @@ impl Writer {
         append_definitions(fonts, &slots, &mut ops)?;
         ops.push(Op::PostPost {
             place: self.bytes.len() as i32,
-            id: 2,
+            id: opcodes::FORMAT,
         })?;
         Ok(ops)
     }

@@ -1,6 +1,6 @@
 //! Where the items of a box stand on a page, and their marks.
 
-ghost use Rattle.std.specs.Prelude.{◌≡◌, ◌+ℤ◌, ◌+◌, ◌^◌, [], ◌∷◌, true, None, is_some, IfSome};
+ghost use Rattle.std.specs.Prelude.{◌≡◌, ◌+ℤ◌, ◌+◌, ◌^◌, [], ◌∷◌, pos, true, None, is_some, IfSome};
 ghost use Rattle.std.specs.List.{list_all};
 ghost use Rattle.scaled_core.specs.Dimensions.{Within, fits};
 ghost use Rattle.ship_core.specs.Marks.{size_in, right_at, down_at, rule_below, rule_tall, rule_wide, rule_mark, box_h, box_v, numbers_of};
@@ -17,6 +17,18 @@ use scaled_core::Dimen;
 pub struct PagePoint {
     pub h: i32,
     pub v: i32,
+}
+
+impl PagePoint {
+    /// The reference point of the page that a box makes: its height below the origin.
+    pub fn of_box(box_node: &BoxNode) -> PagePoint
+        ensures { result ≡ record { h = pos 0; v = box_node.now.height } }
+    {
+        PagePoint {
+            h: 0,
+            v: box_node.height.get(),
+        }
+    }
 }
 
 /// A position on a page that fits, in scaled points to the right of its origin and below it.
