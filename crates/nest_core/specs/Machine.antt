@@ -17,7 +17,6 @@ use Rattle.vert_core.specs.declared.interline.DimensionTooLarge as distances
 use Rattle.vert_core.specs.Interline.{ignored_depth, interline, glue_of, appended}
 use Rattle.nest_core.specs.declared.nest.OpenList.{OpenList}
 use Rattle.command_core.specs.BoxForms.{kind_of}
-use Rattle.dvi_write.specs.Draft.{page_of}
 use Rattle.command_core.specs.declared.command.Sizes.{Sizes}
 use Rattle.command_core.specs.declared.command.FontLoad.{FontLoad}
 use Rattle.command_core.specs.declared.command.BoxForm.{BoxForm}
@@ -39,6 +38,7 @@ use Rattle.pack_core.specs.declared.pack.Packed as packs
 use Rattle.pack_core.specs.declared.pack.TooLarge.{TooLarge}
 use Rattle.pack_core.specs.Boxes.{hpacked, vpacked, vtopped}
 use Rattle.ship_core.specs.Marks.{Page, is_huge}
+use Rattle.ship_core.specs.Pages.{page_of}
 use Rattle.tfm_core.specs.NamedBytes.{NamedBytes, file_named}
 use Rattle.tfm_core.specs.Fonts.{SizedFont}
 use Rattle.dvi_write.specs.Fonts.{Slots, font_in}

@@ -6,7 +6,7 @@ ghost use Rattle.dvi_write.specs.Fonts.{font_in};
 ghost use Rattle.state_core.specs.Loaded.{GivesNumbers};
 ghost use Rattle.node_core.specs.Nodes.{most_nodes, nodes_of};
 ghost use Rattle.nest_core.specs.EmptiedNest.{refilled};
-ghost use Rattle.nest_core.specs.Machine.{first_state, innermost, outer, items_in, held_in, nodes_in, checks, first_of, reply_by, reply_to, state_by, state_after, after, sizes_of, character_checks, item_checks, length_checks, held_checks, home_checks, place_checks, shaped_answer, with_items, with_used, with_unboxed, with_home, GoesIntoList, is_other, is_running, is_misplaced};
+ghost use Rattle.nest_core.specs.Machine.{first_state, innermost, outer, items_in, held_in, count_in, nodes_in, checks, first_of, reply_by, reply_to, state_by, state_after, after, sizes_of, character_checks, item_checks, length_checks, held_checks, home_checks, place_checks, shaped_answer, with_items, with_used, with_unboxed, with_home, GoesIntoList, is_other, is_running, is_misplaced};
 ghost use Rattle.nest_core.specs.Runs.{early_checks};
 
 use command_core::{
@@ -21,7 +21,7 @@ use node_core::{BoxNode, Kind, Node, Params, Rule, RuleSize};
 use pack_core::Packed;
 use scaled_core::Dimen;
 use shape_core::{Missing, shape_character, shape_text};
-use ship_core::is_huge;
+use ship_core::{PagePoint, is_huge};
 use std::alloc::{AllocError, Global};
 use std::marker::Model;
 use tfm_core::{FontFile, file_named};
@@ -52,6 +52,13 @@ impl Model for Kept {
     ghost view = { λ kept. record { files = kept.files.items; fonts = kept.fonts; current = kept.current; params = kept.params; nest = kept.nest; registers = kept.registers; shipped = kept.shipped; pages = kept.pages; over = kept.over } };
 
     ghost invariant = { λ kept. (kept.shipped ≤ most_shipped) × (kept.pages ≤ most_pages) };
+}
+
+/// The box in a register that may be shipped now, and the number of its nodes.
+#[derive(Clone, Copy, Debug)]
+pub struct BoxToShip<'a> {
+    pub box_node: &'a BoxNode,
+    pub nodes: u64,
 }
 
 /// Copies of the files.
@@ -527,36 +534,37 @@ impl Kept {
     }
 
     /// The box in a register that may be shipped now, or why it may not.
-    pub fn admitted(&self, register: Register) -> Result<&BoxNode, Refusal>
+    pub fn box_to_ship(&self, register: Register) -> Result<BoxToShip<'_>, Refusal>
         requires { self.now.over ≡ false }
-        ensures shown { IfOk result (λ shown. held_in self.now.registers register ≡ Some shown.now) }
+        ensures held { IfOk result (λ found. held_in self.now.registers register ≡ Some found.box_node.now) }
+        ensures nodes { IfOk result (λ found. found.nodes ≡ count_in (held_in self.now.registers register)) }
         ensures ok { OnOk result (first_of (checks self.now (commands.Ship register)) ≡ None) }
         ensures err { IfErr result (λ refusal. first_of (checks self.now (commands.Ship register)) ≡ Some refusal) }
     {
-        let Some(shown) = self.registers.get(register) else {
+        let Some(box_node) = self.registers.get(register) else {
             return Err(Refusal::VoidBox);
         };
         if self.pages >= 1 {
             return Err(Refusal::TooManyPages);
         }
-        if self.shipped.saturating_add(shown.count()) > 16_777_216 {
+        let nodes = box_node.count();
+        if self.shipped.saturating_add(nodes) > 16_777_216 {
             return Err(Refusal::TooMuchShipped);
         }
-        if is_huge(shown, Dimen::ZERO, shown.height) {
+        if is_huge(box_node, PagePoint::of_box(box_node)) {
             return Err(Refusal::HugePage);
         }
-        Ok(shown)
+        Ok(BoxToShip { box_node, nodes })
     }
 
-    /// Counts the page of the box in a register, and makes it void. It answers the number of pages.
-    pub fn count_page(&mut self, register: Register) -> u32
-        requires { first_of (checks self.old (commands.Ship register)) ≡ None }
+    /// Counts the page of the box in a register, which has that many nodes, and makes it void. It answers the number of pages.
+    pub fn count_page(&mut self, register: Register, nodes: u64) -> u32
+        requires accepted { first_of (checks self.old (commands.Ship register)) ≡ None }
+        requires nodes { nodes ≡ count_in (held_in self.old.registers register) }
         ensures number { result ≡ self.old.pages + 1 }
         ensures state { self.new ≡ after self.old (commands.Ship register) }
     {
-        if let Some(shown) = self.registers.get(register) {
-            self.shipped += shown.count();
-        }
+        self.shipped += nodes;
         self.pages += 1;
         self.registers.put(register, None);
         self.pages
