@@ -19,7 +19,8 @@ use Rattle.command_core.specs.Reply.{Reply}
 use Rattle.tfm_core.specs.NamedBytes.{NamedBytes}
 use Rattle.dvi_ops.specs.Spelling.{spelling, operand}
 use Rattle.ship_core.specs.Marks.{Page}
-use Rattle.dvi_write.specs.Draft.{page_of, Draft, definitions_of, fresh_slots, sheet_of, reach_down, reach_right, with_page, with_pages, first_draft, draft_of}
+use Rattle.ship_core.specs.Pages.{page_of, reach_down, reach_right}
+use Rattle.dvi_write.specs.Draft.{Draft, definitions_of, fresh_slots, sheet_of, with_page, with_pages, first_draft, draft_of}
 use Rattle.nest_core.specs.Machine.{State, Machine, checks, own_checks, first_of, reply_by, reply_to, answer_of, after, state_by, state_after, new_pages, pages_of, held_in, count_in, is_huge_in, step, most_shipped, most_pages, first_state}
 use Rattle.ship_core.specs.Drawing.{body_of}
 use Rattle.nest_core.specs.Runs.{TakesMemory, early_checks, Steps, Replies, LacksMemory, Run}
@@ -181,7 +182,7 @@ pub record KnowsFonts (s : State) : Type 0 where
 
 stays_shipped : (s : State) (command : Command) (pages : List Page) → first_of (checks s command) ≡ None → AllByRecursion (IsShipped s.fonts) pages → AllByRecursion (IsShipped (after s command).fonts) pages
 stays_shipped s command pages none all =
-    all_weaker (IsShipped s.fonts) (IsShipped (after s command).fonts) pages (λ page of. (of.0, of.1, stays_sized s command none page.shown of.2)) all
+    all_weaker (IsShipped s.fonts) (IsShipped (after s command).fonts) pages (λ page of. (of.0, of.1, stays_sized s command none page.box_node of.2)) all
 
 all_shipped :
     (s : State) (command : Command) (pages : List Page) (refused : Option Refusal) → first_of (checks s command) ≡ refused → (s.over ≡ false → KnowsFonts s)

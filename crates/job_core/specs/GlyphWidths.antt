@@ -27,4 +27,4 @@ IsMeasured s (rule sizes) = Unit {0}
 
 -- Each glyph of a page, in its inner boxes too, has the width that the font files give its character.
 abbrev pub IsMeasuredPage : State → Page → Type 0
-IsMeasuredPage s page = EachLeaf (IsMeasured s) page.shown.list
+IsMeasuredPage s page = EachLeaf (IsMeasured s) page.box_node.list

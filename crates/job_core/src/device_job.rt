@@ -30,11 +30,14 @@ fn ship(kept: &mut Kept, writer: &mut Writer, register: Register) -> Result<Repl
     ensures err { OnErr result (kept.new ≡ kept.old) }
     ensures same { OnErr result (writer.new ≡ writer.old) }
 {
-    match kept.admitted(register) {
+    let nodes = match kept.box_to_ship(register) {
         Err(refusal) => return Ok(Err(refusal)),
-        Ok(shown) => writer.add_page(shown, kept.fonts())?,
-    }
-    let pages = kept.count_page(register);
+        Ok(found) => {
+            writer.add_page(found.box_node, kept.fonts())?;
+            found.nodes
+        }
+    };
+    let pages = kept.count_page(register, nodes);
     Ok(Ok(Answer::Shipped(pages)))
 }
 
