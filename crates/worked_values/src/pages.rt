@@ -8,44 +8,52 @@ use std::alloc::Global;
 use std::process::Abort;
 use std::test::Fail;
 
-/// The dimension of so many points.
-fn points(rt: &impl Abort, number: i64) -> Dimen {
-    Dimen::try_new(number * 65_536).expect(rt, "it fits")
-}
-
 /// A vertical box 15pt high and of that depth, of a rule 5pt high and 3pt wide.
-fn box_of_a_rule(rt: &impl Abort, alloc: Global, depth: Dimen) -> Result<BoxNode, Fail> {
+fn box_of_a_rule(alloc: Global, depth: Dimen) -> Result<BoxNode, Fail> {
     let rule = Node::Rule(Rule {
-        width: RuleSize::Fixed(points(rt, 3)),
-        height: RuleSize::Fixed(points(rt, 5)),
+        width: RuleSize::Fixed(Dimen::points(3)),
+        height: RuleSize::Fixed(Dimen::points(5)),
         depth: RuleSize::Running,
     });
     Ok(BoxNode {
         kind: Kind::Vertical,
-        width: points(rt, 3),
-        height: points(rt, 15),
+        width: Dimen::points(3),
+        height: Dimen::points(15),
         depth,
         setting: Setting::Natural,
         list: NodeList::from_vec(Vec::from_array(alloc, [rule])?),
     })
 }
 
-#[test]
-fn page_below_all_dimensions(rt: HostRuntime) -> Result<(), Fail> {
+/// Asserts what the instructions are of the page of such a box whose reference point is 16385pt below the origin; None where it is huge.
+fn expect_plan(
+    rt: &impl Abort,
+    alloc: Global,
+    depth: Dimen,
+    want: Option<&[Op<'static>]>,
+) -> Result<(), Fail> {
     let at = PagePoint {
         h: 0,
-        v: 16_385 * 65_536,
+        v: 1_073_807_360,
     };
-    let drawn = box_of_a_rule(&rt, rt.alloc(), points(&rt, -10))?;
-    let ops = plan(rt.alloc(), &drawn, at)?;
-    let [Op::Down(1_073_152_000), Op::PutRule { height, width }] = ops.as_slice() else {
-        panic!(&rt; "a movement down to the rule's corner at 16375pt, and the rule");
-    };
-    assert_eq!(&rt; (*height, *width), (327_680, 196_608));
-    let huge = box_of_a_rule(&rt, rt.alloc(), Dimen::ZERO)?;
-    assert_eq!(&rt;
-        plan(rt.alloc(), &huge, at).err(),
-        Some(ShipFault::HugePage)
-    );
+    match plan(alloc, &box_of_a_rule(alloc, depth)?, at) {
+        Ok(ops) => assert!(rt; want == Some(ops.as_slice())),
+        Err(ShipFault::HugePage) => assert!(rt; want.is_none()),
+        Err(fault) => return Err(fault.into()),
+    }
     Ok(())
+}
+
+#[test]
+fn page_below_all_dimensions(rt: HostRuntime) -> Result<(), Fail> {
+    let rule = [
+        Op::Down(1_073_152_000),
+        Op::PutRule {
+            height: 327_680,
+            width: 196_608,
+        },
+    ];
+    let ten_up = Dimen::try_new(-655_360).expect(&rt, "it fits");
+    expect_plan(&rt, rt.alloc(), ten_up, Some(&rule))?;
+    expect_plan(&rt, rt.alloc(), Dimen::ZERO, None)
 }
