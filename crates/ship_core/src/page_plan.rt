@@ -103,7 +103,7 @@ fn all_fit(box_node: &BoxNode, begin: &Begin) -> bool
     true
 }
 
-/// Where the list of a box begins whose reference point is there.
+/// Where the list of a box begins whose reference point is `at`.
 fn begin_of(box_node: &BoxNode, at: PagePoint) -> Begin
     ensures h { result.h ≡ at.h }
     ensures v { result.v ≡ list_v box_node.now.kind box_node.now.height at.v }
@@ -118,7 +118,7 @@ fn begin_of(box_node: &BoxNode, at: PagePoint) -> Begin
     }
 }
 
-/// Whether the end of a size fits that begins at a number.
+/// Whether a size that begins at a number ends at one that fits.
 #[tactic(auto, unfolding(scaled_core::specs::Dimensions::dimension_of))]
 fn end_fits(from: i32, size: Dimen) -> bool
     ensures { result ≡ fits (from +ℤ size) }
@@ -126,7 +126,7 @@ fn end_fits(from: i32, size: Dimen) -> bool
     Dimen::try_new(i64::from(from) + i64::from(size.get())).is_some()
 }
 
-/// Whether the page of a box whose reference point is there is huge: how far it reaches down or to the right, or a place or a size of an
+/// Whether the page of a box whose reference point is `at` is huge: how far it reaches down or to the right, or a place or a size of an
 /// item, in inner boxes too, does not fit. The reference point itself need not. It takes no memory.
 #[tactic(auto, unfolding(crate::specs::Marks::is_huge))]
 pub fn is_huge(box_node: &BoxNode, at: PagePoint) -> bool
@@ -176,7 +176,7 @@ pub enum ShipFault {
     OutOfMemory,
 }
 
-/// The instructions that draw the page of a box whose reference point is there, where the page is not huge: plain movements, selections of
+/// The instructions that draw the page of a box whose reference point is `at`, where the page is not huge: plain movements, selections of
 /// fonts, characters and rules, and an inner box with items between push and pop.
 #[tactic(auto, unfolding(crate::specs::Drawing::body_of))]
 pub fn draw_page(
@@ -192,7 +192,7 @@ pub fn draw_page(
     Ok(drawing.ops)
 }
 
-/// The instructions that draw the page of a box whose reference point is there, as `draw_page` gives them. HugePage exactly where a place
+/// The instructions that draw the page of a box whose reference point is `at`, as `draw_page` gives them. HugePage exactly where a place
 /// or a size on the page does not fit; that is found before memory is taken.
 pub fn plan(alloc: Global, box_node: &BoxNode, at: PagePoint) -> Result<Vec<Op<'static>>, ShipFault>
     ensures ok { IfOk result (λ ops. (counts : List ℤ) → map view ops.items ≡ flat (body_of (page_at counts at.h at.v box_node.now))) }

@@ -12,7 +12,7 @@ use node_core::{BoxNode, Glyph, Kind, Node, Rule, RuleSize};
 use pack_core::{counted, dimension};
 use scaled_core::Dimen;
 
-/// A point of a page, in scaled points to the right of its origin and below it: a dimension, or the sum of two, each way.
+/// A point of a page, in scaled points to the right of its origin and below it. Each number is a dimension or the sum of two, and need not fit.
 #[derive(Clone, Copy, Debug, PartialEq, Eq)]
 pub struct PagePoint {
     pub h: i32,
