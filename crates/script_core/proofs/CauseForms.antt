@@ -1,5 +1,6 @@
 -- The forms of causes, and right fields of each kind.
-use Rattle.std.proofs.Common.{◌≡◌, inl, inr, ℕ, ℤ, pos, true, List, [], ◌∷◌, ◌++◌, Option, Some, None, Result, Ok, Err, codes, refl, ap, sym, ◌∙◌, subst, arith, append_assoc}
+use Rattle.std.proofs.Common.{◌≡◌, inl, inr, ℕ, ℤ, pos, ◌<◌, true, List, [], ◌∷◌, ◌++◌, Option, Some, None, Result, Ok, Err, codes, refl, ap, sym, ◌∙◌, subst, arith, append_assoc}
+use Rattle.std.proofs.lemmas.Bool.{lt-ltb}
 use Rattle.std.proofs.lemmas.List.{append-nil}
 use Rattle.node_core.specs.declared.tree.Order.TheVariants.{Normal}
 use Rattle.node_core.specs.declared.tree.RuleSize.TheVariants.{Running, Fixed}
@@ -7,7 +8,7 @@ use Rattle.command_core.specs.declared.command.Command.{Command}
 use Rattle.script_core.specs.declared.amounts.Amount.{Amount}
 use Rattle.script_core.specs.declared.cause.Cause.{Cause}
 use Rattle.script_core.specs.declared.cause.Cause.TheVariants.{Missing, Extra, Number, Dimension}
-use Rattle.script_core.specs.Grammar.{IsName}
+use Rattle.script_core.specs.Grammar.{register_count, IsName}
 use Rattle.script_core.specs.Causes.{SaysSome, Begins, IsWord, GivesNumber, GivesDimension, GivesSize, HasBad, LacksField, HasExtra, TakesNames, HasBadElsewhere, IsFieldCause}
 use Rattle.script_core.specs.Reading.{some_or, number_of, number_first, last_number, penalty_of, penalty_first, last_penalty, dimension_or, dimension_first, last_dimension, no_amount, before_unit, amount_in, amount_of, amount_first, last_amount, map_ok, ended, and_right, is_name, size_of, command_of}
 use Rattle.scaled_core.specs.declared.fault.DimenFault.{DimenFault}
@@ -59,9 +60,9 @@ letter_passes = refl
 pub letter_names : IsName letter
 letter_names = names_font letter letter_passes
 
-pub letter_no_number : number_of letter ≡ None
+pub letter_no_number : (count : ℕ) → number_of count letter ≡ None
 unfolding number_of
-letter_no_number = refl
+letter_no_number count = refl
 
 letter_no_penalty : penalty_of letter ≡ None
 unfolding penalty_of
@@ -115,12 +116,12 @@ twice make part (Ok x) = refl
 abbrev pub zero_text : List ℕ
 zero_text = codes "0"
 
-pub zero_names : number_of zero_text ≡ Some 0
+pub zero_names : (count : ℕ) → 0 < count → number_of count zero_text ≡ Some 0
 unfolding number_of
-zero_names = refl
+zero_names count some = rw (lt-ltb 0 count some) refl
 
 pub zero_number : GivesNumber zero_text
-zero_number = (0, writes_number zero_text 0 zero_names)
+zero_number = (0, inl (writes_number register_count zero_text 0 (zero_names register_count (omega arith))))
 
 pub star_given : size_of (codes "*") ≡ Ok Running
 unfolding size_of
@@ -181,8 +182,8 @@ no_number_by front field rest more command None cause e wanted fails unnamed = a
 no_number_by front field rest more command (Some n) cause e wanted fails unnamed = absurd (cc)
 
 -- no number where one belongs
-pub bad_number : (front : List (List ℕ)) (field : List ℕ) (rest more : List (List ℕ)) (command : Command) (cause : Cause) → some_or Number (number_of field) ≡ Err cause → Wanted front zero_text more command → AllFail front field → AllFail front letter → IsFieldCause cause (front ++ field ∷ rest)
-bad_number front field rest more command cause e wanted fails unnamed = no_number_by front field rest more command (number_of field) cause e wanted fails unnamed
+pub bad_number : (count : ℕ) (front : List (List ℕ)) (field : List ℕ) (rest more : List (List ℕ)) (command : Command) (cause : Cause) → some_or Number (number_of count field) ≡ Err cause → Wanted front zero_text more command → AllFail front field → AllFail front letter → IsFieldCause cause (front ++ field ∷ rest)
+bad_number count front field rest more command cause e wanted fails unnamed = no_number_by front field rest more command (number_of count field) cause e wanted fails unnamed
 
 no_penalty_by : (front : List (List ℕ)) (field : List ℕ) (rest more : List (List ℕ)) (command : Command) (o : Option ℤ) (cause : Cause) → some_or Number o ≡ Err cause → Wanted front zero_text more command → AllFail front field → AllFail front letter → IsFieldCause cause (front ++ field ∷ rest)
 no_penalty_by front field rest more command None cause e wanted fails unnamed = as_cause _ Number cause (cc) (inl (bad_elsewhere GivesNumber front field rest zero_text more command zero_number wanted fails unnamed))
@@ -245,11 +246,11 @@ module _ (A : Type 0) (front : List (List ℕ)) (make : A → Command) (last : L
   last_cause (field ∷ rest) cause h = by_last field rest (read field) cause refl (sym (some field rest) ∙ h)
 
 -- one number and nothing else
-pub number_cause : (front : List (List ℕ)) (make : ℕ → Command) → ((rest : List (List ℕ)) → command_of (front ++ rest) ≡ map_ok make (last_number rest)) → (rest : List (List ℕ)) (cause : Cause) → last_number rest ≡ Err cause → IsFieldCause cause (front ++ rest)
+pub number_cause : (count : ℕ) → 0 < count → (front : List (List ℕ)) (make : ℕ → Command) → ((rest : List (List ℕ)) → command_of (front ++ rest) ≡ map_ok make (last_number count rest)) → (rest : List (List ℕ)) (cause : Cause) → last_number count rest ≡ Err cause → IsFieldCause cause (front ++ rest)
 unfolding last_number number_first
-number_cause front make reads rest cause h =
-    last_cause ℕ front make last_number (λ field. some_or Number (number_of field)) refl (λ field rest. refl) reads zero_text 0 (rw zero_names refl) Number (rw letter_no_number refl)
-    (λ field rest cause e wanted fails unnamed. bad_number front field rest [] (make 0) cause e wanted fails unnamed) rest cause h
+number_cause count some front make reads rest cause h =
+    last_cause ℕ front make (last_number count) (λ field. some_or Number (number_of count field)) refl (λ field rest. refl) reads zero_text 0 (rw (zero_names count some) refl) Number (rw (letter_no_number count) refl)
+    (λ field rest cause e wanted fails unnamed. bad_number count front field rest [] (make 0) cause e wanted fails unnamed) rest cause h
 
 -- one number of a penalty
 pub penalty_cause : (front : List (List ℕ)) (make : ℤ → Command) → ((rest : List (List ℕ)) → command_of (front ++ rest) ≡ map_ok make (last_penalty rest)) → (rest : List (List ℕ)) (cause : Cause) → last_penalty rest ≡ Err cause → IsFieldCause cause (front ++ rest)

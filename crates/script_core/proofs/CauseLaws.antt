@@ -1,5 +1,5 @@
 -- The cause that the function names holds of the fields.
-use Rattle.std.proofs.Common.{◌≡◌, inl, ℕ, ℤ, Bool, true, false, List, [], ◌∷◌, Option, Some, None, Result, Ok, Err, codes, refl, sym, ◌∙◌, subst}
+use Rattle.std.proofs.Common.{◌≡◌, inl, ℕ, ℤ, ◌<◌, Bool, true, false, List, [], ◌∷◌, Option, Some, None, Result, Ok, Err, codes, refl, sym, ◌∙◌, subst, arith}
 use Rattle.std.specs.Str.{bytes_eq}
 use Rattle.node_core.specs.declared.tree.RuleSize.{RuleSize}
 use Rattle.node_core.specs.declared.tree.RuleSize.TheVariants.{Running, Fixed}
@@ -10,6 +10,7 @@ use Rattle.script_core.specs.declared.cause.Cause.TheVariants.{Word, Missing, Ex
 use Rattle.script_core.specs.declared.name.Name.{Name}
 use Rattle.script_core.specs.declared.name.Name.TheVariants as names
 use Rattle.script_core.specs.Names.{box_name, register_name, item_name, name_of}
+use Rattle.script_core.specs.Grammar.{register_count, slot_count, character_count}
 use Rattle.script_core.specs.Causes.{IsWord, GivesSize, IsFieldCause}
 use Rattle.script_core.specs.Reading.{dimension_or, map_ok, size_of, size_first, ended, last_number, last_dimension, last_penalty, right_and, unboxing, rule_of, command_named, named_by, command_of}
 use Rattle.scaled_core.specs.declared.fault.DimenFault.{DimenFault}
@@ -137,9 +138,9 @@ rule_cause [] cause e =
 rule_cause (w ∷ rest) cause e = rule_by_width w rest (size_of w) cause refl e
 
 -- a command of one number
-alone_cause : (name : Name) (make : ℕ → Command) (rest : List (List ℕ)) (cause : Cause) → ((fields : List (List ℕ)) → command_named name fields ≡ map_ok make (last_number fields)) → command_named name rest ≡ Err cause → IsFieldCause cause (name_text name ∷ rest)
-alone_cause name make rest cause is h =
-    number_cause (name_text name ∷ []) make (λ fields. named name fields ∙ is fields) rest cause (not_made make (last_number rest) cause (sym (is rest) ∙ h))
+alone_cause : (count : ℕ) → 0 < count → (name : Name) (make : ℕ → Command) (rest : List (List ℕ)) (cause : Cause) → ((fields : List (List ℕ)) → command_named name fields ≡ map_ok make (last_number count fields)) → command_named name rest ≡ Err cause → IsFieldCause cause (name_text name ∷ rest)
+alone_cause count some name make rest cause is h =
+    number_cause count some (name_text name ∷ []) make (λ fields. named name fields ∙ is fields) rest cause (not_made make (last_number count rest) cause (sym (is rest) ∙ h))
 
 kern_cause : (rest : List (List ℕ)) (cause : Cause) → command_named names.Kern rest ≡ Err cause → IsFieldCause cause (codes "kern" ∷ rest)
 unfolding command_named
@@ -152,21 +153,21 @@ penalties_cause rest cause h = penalty_cause (codes "penalty" ∷ []) Penalty (�
 named_cause : (name : Name) (rest : List (List ℕ)) (cause : Cause) → command_named name rest ≡ Err cause → IsFieldCause cause (name_text name ∷ rest)
 unfolding command_named
 named_cause names.Font rest cause h = font_cause rest cause (font_reads rest ∙ h)
-named_cause names.Use rest cause h = alone_cause names.Use UseFont rest cause (λ fields. refl) h
+named_cause names.Use rest cause h = alone_cause slot_count (omega arith) names.Use UseFont rest cause (λ fields. refl) h
 named_cause (names.Open form) rest cause h = opening_cause form rest cause (named (names.Open form) rest ∙ h)
 named_cause names.End rest cause h = end_cause rest cause h
-named_cause names.Character rest cause h = alone_cause names.Character Character rest cause (λ fields. refl) h
+named_cause names.Character rest cause h = alone_cause character_count (omega arith) names.Character Character rest cause (λ fields. refl) h
 named_cause names.Rule rest cause h = rule_cause rest cause (rule_reads rest ∙ h)
 named_cause names.Kern rest cause h = kern_cause rest cause h
 named_cause names.Glue rest cause h = glue_cause rest cause (named names.Glue rest ∙ h)
 named_cause names.Penalty rest cause h = penalties_cause rest cause h
 named_cause (names.Append taking) rest cause h = append_cause taking rest cause (named (names.Append taking) rest ∙ h)
-named_cause (names.Unbox kind taking) rest cause h = alone_cause (names.Unbox kind taking) (unboxing kind taking) rest cause (λ fields. refl) h
-named_cause names.LastBox rest cause h = alone_cause names.LastBox LastBox rest cause (λ fields. refl) h
-named_cause names.Measure rest cause h = alone_cause names.Measure Measure rest cause (λ fields. refl) h
-named_cause names.Void rest cause h = alone_cause names.Void Void rest cause (λ fields. refl) h
+named_cause (names.Unbox kind taking) rest cause h = alone_cause register_count (omega arith) (names.Unbox kind taking) (unboxing kind taking) rest cause (λ fields. refl) h
+named_cause names.LastBox rest cause h = alone_cause register_count (omega arith) names.LastBox LastBox rest cause (λ fields. refl) h
+named_cause names.Measure rest cause h = alone_cause register_count (omega arith) names.Measure Measure rest cause (λ fields. refl) h
+named_cause names.Void rest cause h = alone_cause register_count (omega arith) names.Void Void rest cause (λ fields. refl) h
 named_cause names.Set rest cause h = set_cause rest cause (set_reads rest ∙ h)
-named_cause names.Ship rest cause h = alone_cause names.Ship Ship rest cause (λ fields. refl) h
+named_cause names.Ship rest cause h = alone_cause register_count (omega arith) names.Ship Ship rest cause (λ fields. refl) h
 
 no_name : (word : List ℕ) (rest : List (List ℕ)) → name_of word ≡ None → command_of (word ∷ rest) ≡ Err Word
 unfolding command_of

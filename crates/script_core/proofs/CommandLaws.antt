@@ -14,7 +14,7 @@ use Rattle.script_core.specs.declared.cause.Cause.TheVariants.{Word}
 use Rattle.script_core.specs.declared.name.Name.{Name}
 use Rattle.script_core.specs.declared.name.Name.TheVariants as names
 use Rattle.script_core.specs.Names.{name_of}
-use Rattle.script_core.specs.Grammar.{IsNumber, IsDimension, form_text, IsTarget, taking_text, unboxing_text, IsGlue, Says}
+use Rattle.script_core.specs.Grammar.{register_count, slot_count, character_count, IsNumberAmong, IsDimension, form_text, IsTarget, taking_text, unboxing_text, IsGlue, Says}
 use Rattle.script_core.specs.Reading.{rest_of, number_first, dimension_first, map_ok, ended, last_number, last_dimension, right_and, font_of, rule_of, last_penalty, opening, opened, opened_into, opened_sized, opening_of, append, shift_of, append_of, unboxing, glue_of, parameter_of, command_named, named_by, command_of}
 use Rattle.script_core.proofs.FieldLaws.{same_bytes}
 use Rattle.script_core.proofs.NameLaws.{name_text, name_written}
@@ -26,8 +26,8 @@ along fields c d e h = let P : Command → Type 0 = λ x. Says fields x in subst
 says_open : (form : BoxForm) (target : Target) (size : List (List ℕ)) (rest : List (List ℕ)) (command : Command) → IsTarget size target → opened form target rest ≡ Ok command → Says (form_text form ∷ (size ++ codes "into" ∷ rest)) command
 unfolding opened
 says_open form target size rest command is h =
-    let make = made (λ register. opening form target (Some register)) (last_number rest) command h in
-    let last = number_last rest make.0 make.1 in
+    let make = made (λ register. opening form target (Some register)) (last_number register_count rest) command h in
+    let last = number_last register_count rest make.0 make.1 in
     along _ _ _ make.2 (size, codes "into" ∷ last.0 ∷ [], ap (λ (xs : List (List ℕ)). form_text form ∷ (size ++ codes "into" ∷ xs)) last.1, is, (last.0, refl, last.2))
 
 into_by : (form : BoxForm) (target : Target) (size : List (List ℕ)) (w : List ℕ) (rest : List (List ℕ)) (command : Command) (b : Bool) → bytes_eq w (codes "into") ≡ b → IsTarget size target → opened_into form target (w ∷ rest) ≡ Ok command → Says (form_text form ∷ (size ++ w ∷ rest)) command
@@ -77,8 +77,8 @@ says_opening form (w ∷ rest) command h = by_into form w rest command (bytes_eq
 says_append : (taking : Taking) (rest : List (List ℕ)) (command : Command) → append_of taking rest ≡ Ok command → Says (taking_text taking ∷ rest) command
 unfolding append_of
 says_append taking rest command h =
-    let read = then_read (number_first rest) (λ register. map_ok (append taking register) (shift_of (rest_of rest))) command h in
-    let r = number_read rest read.0 read.1 in
+    let read = then_read (number_first register_count rest) (λ register. map_ok (append taking register) (shift_of (rest_of rest))) command h in
+    let r = number_read register_count rest read.0 read.1 in
     let m = made (append taking read.0) (shift_of (rest_of rest)) command read.2 in
     along _ _ _ m.2 (r.0, rest_of rest, ap (λ (xs : List (List ℕ)). taking_text taking ∷ xs) r.1, r.2, shift_read (rest_of rest) m.0 m.1)
 
@@ -142,10 +142,10 @@ says_set rest command h =
     let m = made Set (parameter_of rest) command h in
     along (codes "set" ∷ rest) (Set m.0) command m.2 (says_parameter rest m.0 m.1)
 
-says_alone : (name : List ℕ) (rest : List (List ℕ)) (make : ℕ → Command) (command : Command) → ((r : List ℕ) (n : ℕ) → IsNumber r n → Says (name ∷ r ∷ []) (make n)) → map_ok make (last_number rest) ≡ Ok command → Says (name ∷ rest) command
-says_alone name rest make command says h =
-    let m = made make (last_number rest) command h in
-    let last = number_last rest m.0 m.1 in
+says_alone : (count : ℕ) (name : List ℕ) (rest : List (List ℕ)) (make : ℕ → Command) (command : Command) → ((r : List ℕ) (n : ℕ) → IsNumberAmong count r n → Says (name ∷ r ∷ []) (make n)) → map_ok make (last_number count rest) ≡ Ok command → Says (name ∷ rest) command
+says_alone count name rest make command says h =
+    let m = made make (last_number count rest) command h in
+    let last = number_last count rest m.0 m.1 in
     along _ _ _ m.2 (let P : List (List ℕ) → Type 0 = λ xs. Says (name ∷ xs) (make m.0) in subst P (sym last.1) (says last.0 m.0 last.2))
 
 says_end : (rest : List (List ℕ)) (command : Command) → right_and (ended rest) (Ok End) ≡ Ok command → Says (codes "end" ∷ rest) command
@@ -173,7 +173,7 @@ says_font : (rest : List (List ℕ)) (command : Command) → font_of rest ≡ Ok
 unfolding font_of
 says_font rest command h =
     let r = font_read _ _ _ command h in
-    let slot = number_read rest r.slot r.slot_is in
+    let slot = number_read slot_count rest r.slot r.slot_is in
     let name = font_name_read (rest_of rest) r.name r.name_is in
     let all : rest ≡ slot.0 ∷ r.name ∷ rest_of (rest_of rest) = cc in
     along _ _ _ (sym r.command_is)
@@ -182,21 +182,21 @@ says_font rest command h =
 says_named : (name : Name) (rest : List (List ℕ)) (command : Command) → command_named name rest ≡ Ok command → Says (name_text name ∷ rest) command
 unfolding command_named
 says_named names.Font rest command h = says_font rest command h
-says_named names.Use rest command h = says_alone (codes "use") rest UseFont command (λ r n is. (r, refl, is)) h
+says_named names.Use rest command h = says_alone slot_count (codes "use") rest UseFont command (λ r n is. (r, refl, is)) h
 says_named (names.Open form) rest command h = says_opening form rest command h
 says_named names.End rest command h = says_end rest command h
-says_named names.Character rest command h = says_alone (codes "char") rest Character command (λ r n is. (r, refl, is)) h
+says_named names.Character rest command h = says_alone character_count (codes "char") rest Character command (λ r n is. (r, refl, is)) h
 says_named names.Rule rest command h = says_rule rest command h
 says_named names.Kern rest command h = says_kern rest command h
 says_named names.Glue rest command h = says_glue rest command h
 says_named names.Penalty rest command h = says_penalty rest command h
 says_named (names.Append taking) rest command h = says_append taking rest command h
-says_named (names.Unbox kind taking) rest command h = says_alone (unboxing_text kind taking) rest (unboxing kind taking) command (λ r n is. (r, refl, is)) h
-says_named names.LastBox rest command h = says_alone (codes "lastbox") rest LastBox command (λ r n is. (r, refl, is)) h
-says_named names.Measure rest command h = says_alone (codes "measure") rest Measure command (λ r n is. (r, refl, is)) h
-says_named names.Void rest command h = says_alone (codes "void") rest Void command (λ r n is. (r, refl, is)) h
+says_named (names.Unbox kind taking) rest command h = says_alone register_count (unboxing_text kind taking) rest (unboxing kind taking) command (λ r n is. (r, refl, is)) h
+says_named names.LastBox rest command h = says_alone register_count (codes "lastbox") rest LastBox command (λ r n is. (r, refl, is)) h
+says_named names.Measure rest command h = says_alone register_count (codes "measure") rest Measure command (λ r n is. (r, refl, is)) h
+says_named names.Void rest command h = says_alone register_count (codes "void") rest Void command (λ r n is. (r, refl, is)) h
 says_named names.Set rest command h = says_set rest command h
-says_named names.Ship rest command h = says_alone (codes "ship") rest Ship command (λ r n is. (r, refl, is)) h
+says_named names.Ship rest command h = says_alone register_count (codes "ship") rest Ship command (λ r n is. (r, refl, is)) h
 
 says_by : (word : List ℕ) (rest : List (List ℕ)) (command : Command) (o : Option Name) → name_of word ≡ o → named_by o rest ≡ Ok command → Says (word ∷ rest) command
 says_by word rest command None e h = absurd (cc)

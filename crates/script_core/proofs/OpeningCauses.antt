@@ -1,5 +1,5 @@
 -- The cause that the function names holds of the fields behind `hbox`, `vbox` and `vtop`.
-use Rattle.std.proofs.Common.{◌≡◌, ℕ, ℤ, pos, Bool, true, false, List, [], ◌∷◌, Some, None, Result, Ok, Err, codes, refl, ap, sym, ◌∙◌, subst}
+use Rattle.std.proofs.Common.{◌≡◌, ℕ, ℤ, pos, Bool, true, false, List, [], ◌∷◌, Some, None, Result, Ok, Err, codes, refl, ap, sym, ◌∙◌, subst, arith}
 use Rattle.std.specs.Str.{bytes_eq}
 use Rattle.pack_core.specs.declared.pack.Target.{Target}
 use Rattle.pack_core.specs.declared.pack.Target.TheVariants.{Natural, To, Spread}
@@ -11,7 +11,7 @@ use Rattle.scaled_core.specs.ParsedTexts.{read_dimension}
 use Rattle.script_core.specs.declared.cause.Cause.{Cause}
 use Rattle.script_core.specs.declared.cause.Cause.TheVariants.{Word, Missing, Dimension}
 use Rattle.script_core.specs.declared.name.Name.TheVariants as names
-use Rattle.script_core.specs.Grammar.{form_text}
+use Rattle.script_core.specs.Grammar.{register_count, form_text}
 use Rattle.script_core.specs.Causes.{IsWord, IsFieldCause}
 use Rattle.script_core.specs.Reading.{number_first, last_number, dimension_first, map_ok, opening, opened, opened_into, opened_sized, opening_of, command_named, command_of}
 use Rattle.script_core.proofs.FieldLaws.{same_bytes}
@@ -30,7 +30,7 @@ abbrev for_list : BoxForm → Target → Command
 for_list form target = opening form target None
 
 -- the register behind a size
-register_reads : (form : BoxForm) (target : Target) (rest : List (List ℕ)) → opened form target rest ≡ map_ok (for_register form target) (last_number rest)
+register_reads : (form : BoxForm) (target : Target) (rest : List (List ℕ)) → opened form target rest ≡ map_ok (for_register form target) (last_number register_count rest)
 unfolding opened
 register_reads form target rest = refl
 
@@ -48,7 +48,7 @@ no_into form target w rest e = rw e refl
 
 zero_read : (form : BoxForm) (target : Target) → opened form target (zero_text ∷ []) ≡ Ok (for_register form target 0)
 unfolding opened last_number number_first
-zero_read form target = rw zero_names refl
+zero_read form target = rw (zero_names register_count (omega arith)) refl
 
 -- behind `to` or `spread`
 module _ (form : BoxForm) (word : List ℕ) (sized : ℤ → Target) (reads : (rest : List (List ℕ)) → command_of (form_text form ∷ word ∷ rest) ≡ opened_sized form sized rest) where
@@ -75,10 +75,10 @@ module _ (form : BoxForm) (word : List ℕ) (sized : ℤ → Target) (reads : (r
       let into : w ≡ codes "into" = same_bytes w (codes "into") f in
       let P : List ℕ → Type 0 = λ x. IsFieldCause cause (form_text form ∷ word ∷ d ∷ x ∷ rest) in
       let Q : List ℕ → Type 0 = λ x. opened_into form (sized z) (x ∷ rest) ≡ Err cause in
-      let fault : map_ok (for_register form (sized z)) (last_number rest) ≡ Err cause = sym (into_reads form (sized z) rest ∙ register_reads form (sized z) rest) ∙ subst Q into h in
+      let fault : map_ok (for_register form (sized z)) (last_number register_count rest) ≡ Err cause = sym (into_reads form (sized z) rest ∙ register_reads form (sized z) rest) ∙ subst Q into h in
       subst P (sym into)
-      (number_cause (form_text form ∷ word ∷ d ∷ codes "into" ∷ []) (for_register form (sized z)) (λ more. behind_size d z (codes "into" ∷ more) e ∙ into_reads form (sized z) more ∙ register_reads form (sized z) more) rest cause
-      (not_made (for_register form (sized z)) (last_number rest) cause fault))
+      (number_cause register_count (omega arith) (form_text form ∷ word ∷ d ∷ codes "into" ∷ []) (for_register form (sized z)) (λ more. behind_size d z (codes "into" ∷ more) e ∙ into_reads form (sized z) more ∙ register_reads form (sized z) more) rest cause
+      (not_made (for_register form (sized z)) (last_number register_count rest) cause fault))
   by_into d z w rest false cause e f h =
       as_cause _ Word cause (let no = no_into form (sized z) w rest f in cc)
       (bad_elsewhere IsWord (form_text form ∷ word ∷ d ∷ []) w rest (codes "into") (zero_text ∷ []) (for_register form (sized z) 0) into_is_word (whole d z e)
@@ -128,8 +128,8 @@ natural form = behind_into form (zero_text ∷ []) ∙ zero_read form Natural
 
 natural_cause : (form : BoxForm) (rest : List (List ℕ)) (cause : Cause) → command_of (form_text form ∷ codes "into" ∷ rest) ≡ Err cause → IsFieldCause cause (form_text form ∷ codes "into" ∷ rest)
 natural_cause form rest cause h =
-    number_cause (form_text form ∷ codes "into" ∷ []) (for_register form Natural) (λ more. behind_into form more ∙ register_reads form Natural more) rest cause
-    (not_made (for_register form Natural) (last_number rest) cause (sym (behind_into form rest ∙ register_reads form Natural rest) ∙ h))
+    number_cause register_count (omega arith) (form_text form ∷ codes "into" ∷ []) (for_register form Natural) (λ more. behind_into form more ∙ register_reads form Natural more) rest cause
+    (not_made (for_register form Natural) (last_number register_count rest) cause (sym (behind_into form rest ∙ register_reads form Natural rest) ∙ h))
 
 -- the cause behind a word that is this one
 along_word : (form : BoxForm) (w word : List ℕ) (rest : List (List ℕ)) (cause : Cause) → bytes_eq w word ≡ true → (command_of (form_text form ∷ word ∷ rest) ≡ Err cause → IsFieldCause cause (form_text form ∷ word ∷ rest)) → command_of (form_text form ∷ w ∷ rest) ≡ Err cause → IsFieldCause cause (form_text form ∷ w ∷ rest)

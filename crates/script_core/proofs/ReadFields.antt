@@ -9,7 +9,7 @@ use Rattle.script_core.specs.declared.cause.Cause.{Cause}
 use Rattle.script_core.specs.declared.cause.Cause.TheVariants as causes
 use Rattle.script_core.specs.declared.cause.Cause.TheVariants.{Word, Number}
 use Rattle.script_core.specs.declared.amounts.Amount.{Amount}
-use Rattle.script_core.specs.Grammar.{IsNumber, IsPenalty, IsDimension, IsSize, IsName, IsSizeOfFont, IsChosenSize, IsShift, IsAmount, IsPart, IsGlue}
+use Rattle.script_core.specs.Grammar.{IsNumberAmong, IsPenalty, IsDimension, IsSize, IsName, IsSizeOfFont, IsChosenSize, IsShift, IsAmount, IsPart, IsGlue}
 use Rattle.script_core.specs.Reading.{rest_of, some_or, number_of, number_first, dimension_or, dimension_first, size_of_font, as_size_of_font, size_of_font_first, is_name, as_name, name_first, map_ok, size_first, ended, and_right, last_number, last_dimension, chosen_size_of, font_by, rule_by, penalty_of, penalty_first, last_penalty, amount_of, amount_first, last_amount, and_then, shift_of, no_amount, glue, last_shrink_of, shrink_of, parts_of, glue_of}
 use Rattle.scaled_core.specs.declared.fault.DimenFault.{DimenFault}
 use Rattle.scaled_core.specs.ParsedTexts.{read_dimension}
@@ -22,17 +22,17 @@ nothing_after (Err cause) rest x h = absurd (cc)
 nothing_after (Ok y) [] x h = (refl, h)
 nothing_after (Ok y) (field ∷ rest) x h = absurd (cc)
 
-number_in : (r : List ℕ) (o : Option ℕ) (n : ℕ) → number_of r ≡ o → some_or Number o ≡ Ok n → IsNumber r n
-number_in r None n e h = absurd (cc)
-number_in r (Some m) n e h = writes_number r n (cc)
+number_in : (count : ℕ) (r : List ℕ) (o : Option ℕ) (n : ℕ) → number_of count r ≡ o → some_or Number o ≡ Ok n → IsNumberAmong count r n
+number_in count r None n e h = absurd (cc)
+number_in count r (Some m) n e h = writes_number count r n (cc)
 
 -- one number and nothing else was read
-pub number_last : (rest : List (List ℕ)) (n : ℕ) → last_number rest ≡ Ok n → (r : List ℕ) × (rest ≡ r ∷ []) × IsNumber r n
+pub number_last : (count : ℕ) (rest : List (List ℕ)) (n : ℕ) → last_number count rest ≡ Ok n → (r : List ℕ) × (rest ≡ r ∷ []) × IsNumberAmong count r n
 unfolding last_number number_first
-number_last [] n h = absurd (cc)
-number_last (r ∷ rest) n h =
-    let after = nothing_after (some_or Number (number_of r)) rest n h in
-    (r, ap (λ (xs : List (List ℕ)). r ∷ xs) after.0, number_in r (number_of r) n refl after.1)
+number_last count [] n h = absurd (cc)
+number_last count (r ∷ rest) n h =
+    let after = nothing_after (some_or Number (number_of count r)) rest n h in
+    (r, ap (λ (xs : List (List ℕ)). r ∷ xs) after.0, number_in count r (number_of count r) n refl after.1)
 
 dimension_in : (d : List ℕ) (o : Result ℤ DimenFault) (z : ℤ) → read_dimension d ≡ o → dimension_or o ≡ Ok z → IsDimension d z
 dimension_in d (Err fault) z e h = absurd (cc)
@@ -47,10 +47,10 @@ dimension_last (d ∷ rest) z h =
     (d, ap (λ (xs : List (List ℕ)). d ∷ xs) after.0, dimension_in d (read_dimension d) z refl after.1)
 
 -- a number was read
-pub number_read : (fields : List (List ℕ)) (n : ℕ) → number_first fields ≡ Ok n → (s : List ℕ) × (fields ≡ s ∷ rest_of fields) × IsNumber s n
+pub number_read : (count : ℕ) (fields : List (List ℕ)) (n : ℕ) → number_first count fields ≡ Ok n → (s : List ℕ) × (fields ≡ s ∷ rest_of fields) × IsNumberAmong count s n
 unfolding number_first
-number_read [] n h = absurd (cc)
-number_read (s ∷ rest) n h = (s, refl, number_in s (number_of s) n refl h)
+number_read count [] n h = absurd (cc)
+number_read count (s ∷ rest) n h = (s, refl, number_in count s (number_of count s) n refl h)
 
 name_by : (field name : List ℕ) (b : Bool) → is_name field ≡ b → as_name (Ok field) ≡ Ok name → (field ≡ name) × IsName name
 name_by field name true e h =
