@@ -79,6 +79,6 @@ pub const POST: u8 = 248;
 pub const POST_POST: u8 = 249;
 
 /// The version of the format, which pre and post_post name.
-pub const VERSION: u8 = 2;
+pub const FORMAT: u8 = 2;
 /// The byte of which four or more stand behind post_post.
 pub const PADDING: u8 = 223;

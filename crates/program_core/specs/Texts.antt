@@ -37,20 +37,20 @@ refusal_number JobOver = 19
 refusal_number VoidBox = 21
 
 -- the name of the refusal of a metric file, with its cause
-abbrev pub bad_file_name : TfmCause → List ℕ
-bad_file_name TooShort = codes "BadTfm TooShort"
-bad_file_name Counts = codes "BadTfm Counts"
-bad_file_name DesignSize = codes "BadTfm DesignSize"
-bad_file_name CharInfo = codes "BadTfm CharInfo"
-bad_file_name FixWord = codes "BadTfm FixWord"
-bad_file_name LigKern = codes "BadTfm LigKern"
+abbrev pub metric_refusal_name : TfmCause → List ℕ
+metric_refusal_name TooShort = codes "BadTfm TooShort"
+metric_refusal_name Counts = codes "BadTfm Counts"
+metric_refusal_name DesignSize = codes "BadTfm DesignSize"
+metric_refusal_name CharInfo = codes "BadTfm CharInfo"
+metric_refusal_name FixWord = codes "BadTfm FixWord"
+metric_refusal_name LigKern = codes "BadTfm LigKern"
 
 -- the name of a refusal
 abbrev pub refusal_name : Refusal → List ℕ
 refusal_name OutOfMemory = codes "OutOfMemory"
 refusal_name DimensionTooLarge = codes "DimensionTooLarge"
 refusal_name NoFont = codes "NoFont"
-refusal_name (BadTfm cause) = bad_file_name cause
+refusal_name (BadTfm cause) = metric_refusal_name cause
 refusal_name SlotTaken = codes "SlotTaken"
 refusal_name NoOpenList = codes "NoOpenList"
 refusal_name WrongMode = codes "WrongMode"
@@ -133,8 +133,8 @@ unfoldable pub answers_text : List ℕ → List (Result Answer Refusal) → Resu
 answers_text numbers replies end = answer_lines numbers replies ++ end_line end
 
 -- the text for a bad script
-unfoldable pub bad_script_text : ℕ → Cause → List ℕ
-bad_script_text number cause = codes "refused 2 BadScript " ++ (decimal number ++ (codes " " ++ (cause_name cause ++ line_feed)))
+unfoldable pub script_refusal_text : ℕ → Cause → List ℕ
+script_refusal_text number cause = codes "refused 2 BadScript " ++ (decimal number ++ (codes " " ++ (cause_name cause ++ line_feed)))
 
 -- a lower case hexadecimal digit
 abbrev pub hexadecimal_digit : ℕ → ℕ

@@ -1,7 +1,7 @@
 //! The texts of answers.
 
 ghost use Rattle.std.specs.Prelude.{◌≡◌, ◌++◌, ◌+◌, ◌*◌, ◌<◌, decimal, OnOk, OnErr, IfOk};
-ghost use Rattle.program_core.specs.Texts.{refusal_number, refusal_name, bad_file_name, cause_name, kind_name, points_text, sizes_text, refusal_text, answer_text, reply_text, answer_line, summary_text, end_line, answer_lines, answers_text, bad_script_text};
+ghost use Rattle.program_core.specs.Texts.{refusal_number, refusal_name, metric_refusal_name, cause_name, kind_name, points_text, sizes_text, refusal_text, answer_text, reply_text, answer_line, summary_text, end_line, answer_lines, answers_text, script_refusal_text};
 
 use itoa::Buffer;
 use job_core::{Answer, Refusal, Reply, Sizes, Summary, TfmCause};
@@ -36,8 +36,8 @@ fn refusal_number(refusal: Refusal) -> u32
 }
 
 /// The name of the refusal of a metric file, with its cause.
-fn bad_file_name(cause: TfmCause) -> &'static str
-    ensures { result.now ≡ bad_file_name cause }
+fn metric_refusal_name(cause: TfmCause) -> &'static str
+    ensures { result.now ≡ metric_refusal_name cause }
 {
     match cause {
         TfmCause::TooShort => "BadTfm TooShort",
@@ -57,7 +57,7 @@ fn refusal_name(refusal: Refusal) -> &'static str
         Refusal::OutOfMemory => "OutOfMemory",
         Refusal::DimensionTooLarge => "DimensionTooLarge",
         Refusal::NoFont => "NoFont",
-        Refusal::BadTfm(cause) => bad_file_name(cause),
+        Refusal::BadTfm(cause) => metric_refusal_name(cause),
         Refusal::SlotTaken => "SlotTaken",
         Refusal::NoOpenList => "NoOpenList",
         Refusal::WrongMode => "WrongMode",
@@ -292,9 +292,13 @@ pub fn answers_text(
 }
 
 /// The text for a bad script: the number of its first bad line, and the cause.
-#[tactic(auto, unfolding(crate::specs::Texts::bad_script_text))]
-pub fn bad_script_text(alloc: Global, number: usize, cause: Cause) -> Result<Vec<u8>, AllocError>
-    ensures { IfOk result (λ text. text.items ≡ bad_script_text number cause) }
+#[tactic(auto, unfolding(crate::specs::Texts::script_refusal_text))]
+pub fn script_refusal_text(
+    alloc: Global,
+    number: usize,
+    cause: Cause,
+) -> Result<Vec<u8>, AllocError>
+    ensures { IfOk result (λ text. text.items ≡ script_refusal_text number cause) }
 {
     let mut text = Vec::new(alloc);
     push_text("refused 2 BadScript ", &mut text)?;

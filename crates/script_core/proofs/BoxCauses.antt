@@ -10,7 +10,7 @@ use Rattle.script_core.specs.Causes.{IsWord, IsFieldCause}
 use Rattle.script_core.specs.Reading.{number_of, number_first, dimension_first, last_dimension, map_ok, append, shift_of, append_of, command_named, command_of}
 use Rattle.script_core.proofs.FieldLaws.{same_bytes}
 use Rattle.script_core.proofs.NameLaws.{named}
-use Rattle.script_core.proofs.CauseForms.{missing, bad_elsewhere, as_cause, not_made, zero_text, zero_names, zero_dimension, shift_is_word, letter, letter_no_number, bad_number, dimension_cause}
+use Rattle.script_core.proofs.CauseForms.{missing, has_bad_elsewhere, as_cause, not_made, zero_text, zero_names, zero_dimension, shift_is_word, letter, letter_no_number, no_number_cause, dimension_cause}
 
 module _ (taking : Taking) where
   append_reads : (rest : List (List ℕ)) → command_of (taking_text taking ∷ rest) ≡ append_of taking rest
@@ -55,7 +55,7 @@ module _ (taking : Taking) where
       (not_made (append taking n) (last_dimension rest) cause (sym (behind_shift r n rest e) ∙ subst Q same h)))
   by_word r n w rest false cause e f h =
       as_cause _ Word cause (let no = no_shift r n w rest e f in cc)
-      (bad_elsewhere IsWord (taking_text taking ∷ r ∷ []) w rest (codes "shift") (codes "0sp" ∷ []) (append taking n (pos 0)) shift_is_word (zero_shift r n e)
+      (has_bad_elsewhere IsWord (taking_text taking ∷ r ∷ []) w rest (codes "shift") (codes "0sp" ∷ []) (append taking n (pos 0)) shift_is_word (zero_shift r n e)
       (λ later. (Word, no_shift r n w later e f)) (λ later. (Word, no_shift r n letter later e refl)))
 
   shift_cause : (r : List ℕ) (n : ℕ) (rest : List (List ℕ)) (cause : Cause) → number_of register_count r ≡ Some n → command_of (taking_text taking ∷ r ∷ rest) ≡ Err cause → IsFieldCause cause (taking_text taking ∷ r ∷ rest)
@@ -65,7 +65,7 @@ module _ (taking : Taking) where
   by_register : (r : List ℕ) (rest : List (List ℕ)) (o : Option ℕ) (cause : Cause) → number_of register_count r ≡ o → command_of (taking_text taking ∷ r ∷ rest) ≡ Err cause → IsFieldCause cause (taking_text taking ∷ r ∷ rest)
   by_register r rest None cause e h =
       let is : Number ≡ cause = let no = no_register r rest e in cc in
-      bad_number register_count (taking_text taking ∷ []) r rest [] (append taking 0 (pos 0)) cause (rw e (ap (λ (c : Cause). Err c) is)) (register_alone zero_text 0 (zero_names register_count (omega arith)))
+      no_number_cause register_count (taking_text taking ∷ []) r rest [] (append taking 0 (pos 0)) cause (rw e (ap (λ (c : Cause). Err c) is)) (register_alone zero_text 0 (zero_names register_count (omega arith)))
       (λ later. (Number, no_register r later e)) (λ later. (Number, no_register letter later (letter_no_number register_count)))
   by_register r rest (Some n) cause e h = shift_cause r n rest cause e h
 

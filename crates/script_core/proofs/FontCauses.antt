@@ -19,7 +19,7 @@ use Rattle.script_core.specs.Reading.{number_of, number_first, size_of_font, siz
 use Rattle.script_core.proofs.FieldLaws.{same_bytes, reads_dimension, font_named, is_size_of_font}
 use Rattle.script_core.proofs.NameLaws.{named}
 use Rattle.script_core.proofs.CommandLaws.{sound}
-use Rattle.script_core.proofs.CauseForms.{Fails, AllFail, missing, bad_field, bad_elsewhere, extra, as_cause, not_made, zero_text, zero_names, zero_number, no_dimension_given, at_is_word, letter, letter_passes, letter_names, letter_no_number, letter_no_dimension}
+use Rattle.script_core.proofs.CauseForms.{Fails, AllFail, missing, has_bad, has_bad_elsewhere, extra, as_cause, not_made, zero_text, zero_names, zero_number, no_dimension_given, at_is_word, letter, letter_passes, letter_names, letter_no_number, letter_no_dimension}
 
 abbrev load : ℕ → List ℕ → Option ℤ → Command
 load slot name size = LoadFont (record { slot = slot; name = name; size = size })
@@ -117,7 +117,7 @@ module _ (s : List ℕ) (n : ℕ) (name : List ℕ) (is_slot : number_of slot_co
   by_size d rest z None cause e f h =
       as_cause _ Number cause (let no = no_size d rest z e f in cc)
       (inr (
-        bad_elsewhere GivesSizeOfFont (codes "font" ∷ s ∷ name ∷ codes "at" ∷ []) d rest one [] (load n name (Some (pos 1))) one_size_of_font (loads (codes "at" ∷ one ∷ []) (Some (pos 1)) at_given)
+        has_bad_elsewhere GivesSizeOfFont (codes "font" ∷ s ∷ name ∷ codes "at" ∷ []) d rest one [] (load n name (Some (pos 1))) one_size_of_font (loads (codes "at" ∷ one ∷ []) (Some (pos 1)) at_given)
             (λ later. fails (codes "at" ∷ d ∷ later) Number (no_size d later z e f)) fails_at,
         (z, reads_dimension d z e),
       ))
@@ -130,7 +130,7 @@ module _ (s : List ℕ) (n : ℕ) (name : List ℕ) (is_slot : number_of slot_co
   by_dimension : (d : List ℕ) (rest : List (List ℕ)) (o : Result ℤ DimenFault) (cause : Cause) → read_dimension d ≡ o → chosen_size_of (codes "at" ∷ d ∷ rest) ≡ Err cause → IsFieldCause cause (codes "font" ∷ s ∷ name ∷ codes "at" ∷ d ∷ rest)
   by_dimension d rest (Err fault) cause e h =
       as_cause _ Dimension cause (let no = no_dimension d rest fault e in cc) (
-        bad_elsewhere GivesSize (codes "font" ∷ s ∷ name ∷ codes "at" ∷ []) d rest one [] (load n name (Some (pos 1))) one_size (loads (codes "at" ∷ one ∷ []) (Some (pos 1)) at_given)
+        has_bad_elsewhere GivesSize (codes "font" ∷ s ∷ name ∷ codes "at" ∷ []) d rest one [] (load n name (Some (pos 1))) one_size (loads (codes "at" ∷ one ∷ []) (Some (pos 1)) at_given)
             (λ later. fails (codes "at" ∷ d ∷ later) Dimension (no_dimension d later fault e)) fails_at,
         no_dimension_given d fault e,
       )
@@ -150,7 +150,7 @@ module _ (s : List ℕ) (n : ℕ) (name : List ℕ) (is_slot : number_of slot_co
       subst P (sym at) (behind_at rest cause (subst Q at h))
   by_word w rest false cause e h =
       as_cause _ Word cause (let no = no_at w rest e in cc)
-      (bad_elsewhere IsWord (codes "font" ∷ s ∷ name ∷ []) w rest (codes "at") (one ∷ []) (load n name (Some (pos 1))) at_is_word (loads (codes "at" ∷ one ∷ []) (Some (pos 1)) at_given)
+      (has_bad_elsewhere IsWord (codes "font" ∷ s ∷ name ∷ []) w rest (codes "at") (one ∷ []) (load n name (Some (pos 1))) at_is_word (loads (codes "at" ∷ one ∷ []) (Some (pos 1)) at_given)
       (λ later. fails (w ∷ later) Word (no_at w later e)) (λ later. fails (letter ∷ later) Word (no_at letter later refl)))
 
   pub size_cause : (rest : List (List ℕ)) (cause : Cause) → chosen_size_of rest ≡ Err cause → IsFieldCause cause (codes "font" ∷ s ∷ name ∷ rest)
@@ -163,7 +163,7 @@ with_letter s n e = loads s n letter e letter_passes [] None nothing_given
 name_by : (s : List ℕ) (n : ℕ) (name : List ℕ) (rest : List (List ℕ)) (b : Bool) (cause : Cause) → number_of slot_count s ≡ Some n → is_name name ≡ b → command_of (codes "font" ∷ s ∷ name ∷ rest) ≡ Err cause → IsFieldCause cause (codes "font" ∷ s ∷ name ∷ rest)
 name_by s n name rest false cause e f h =
     as_cause _ causes.Name cause (let no = no_name s n name rest e f in cc) (
-      bad_field IsName (codes "font" ∷ s ∷ []) name rest letter [] (load n letter None) letter_names (with_letter s n e) (λ later. (causes.Name, no_name s n name later e f)),
+      has_bad IsName (codes "font" ∷ s ∷ []) name rest letter [] (load n letter None) letter_names (with_letter s n e) (λ later. (causes.Name, no_name s n name later e f)),
       λ other is. ([], (load n other None, sound (codes "font" ∷ s ∷ other ∷ []) (load n other None) (loads s n other e (font_named other is) [] None nothing_given))),
     )
 name_by s n name rest true cause e f h =
@@ -172,7 +172,7 @@ name_by s n name rest true cause e f h =
 slot_by : (s : List ℕ) (rest : List (List ℕ)) (o : Option ℕ) (cause : Cause) → number_of slot_count s ≡ o → command_of (codes "font" ∷ s ∷ rest) ≡ Err cause → IsFieldCause cause (codes "font" ∷ s ∷ rest)
 slot_by s rest None cause e h =
     as_cause _ Number cause (let no = no_slot s rest e in cc)
-    (inl (bad_elsewhere GivesNumber (codes "font" ∷ []) s rest zero_text (letter ∷ []) (load 0 letter None) zero_number (with_letter zero_text 0 (zero_names slot_count (omega arith)))
+    (inl (has_bad_elsewhere GivesNumber (codes "font" ∷ []) s rest zero_text (letter ∷ []) (load 0 letter None) zero_number (with_letter zero_text 0 (zero_names slot_count (omega arith)))
     (λ later. (Number, no_slot s later e)) (λ later. (Number, no_slot letter later (letter_no_number slot_count)))))
 slot_by s [] (Some n) cause e h =
     as_cause _ Missing cause (let lacks = name_lacks s n e in cc)

@@ -12,7 +12,7 @@ use Rattle.command_core.specs.declared.command.Command.TheVariants.{LoadFont, Us
 use Rattle.script_core.specs.declared.name.Name.TheVariants as names
 use Rattle.script_core.specs.declared.amounts.Amount.{Amount}
 use Rattle.script_core.specs.Grammar.{register_count, slot_count, character_count, IsNumberAmong, IsRegister, IsChosenSize, IsTarget, IsDestination, IsShift, IsAmount, IsPart, IsGlue, Says}
-use Rattle.script_core.specs.Reading.{number_first, dimension_first, size_of_font_first, name_first, map_ok, size_first, last_number, last_dimension, chosen_size_of, font_of, rule_of, penalty_first, last_penalty, amount, amount_first, last_amount, opening, opened, opened_into, opened_sized, opening_of, append, shift_of, append_of, unboxing, no_amount, glue, last_shrink_of, shrink_of, parts_of, glue_of, parameter_of, command_named, command_of}
+use Rattle.script_core.specs.Reading.{number_first, dimension_first, size_of_font_first, name_first, map_ok, size_first, last_number, last_dimension, chosen_size_of, font_of, rule_of, penalty_first, last_penalty, amount, amount_first, last_amount, opening, opening_with_register, opening_into, opening_with_size, opening_of, append, shift_of, append_of, unboxing, no_amount, glue, last_shrink_of, shrink_of, parts_of, glue_of, parameter_of, command_named, command_of}
 use Rattle.script_core.proofs.AmountLaws.{amount_given}
 use Rattle.script_core.proofs.FieldLaws.{number_written, penalty_written, dimension_read, size_given, font_named, size_of_font_is}
 use Rattle.script_core.proofs.NameLaws.{named}
@@ -29,19 +29,19 @@ chosen_size_given fields None h = rw h refl
 chosen_size_given fields (Some z) (d, e, h) = rw (e, dimension_read d z h.dimension, size_of_font_is z h.size) refl
 
 -- what stands behind a size
-destination_given : (form : BoxForm) (target : Target) (fields : List (List ℕ)) (into : Option ℕ) → IsDestination fields into → opened_into form target fields ≡ Ok (opening form target into)
-unfolding opened_into opened
+destination_given : (form : BoxForm) (target : Target) (fields : List (List ℕ)) (into : Option ℕ) → IsDestination fields into → opening_into form target fields ≡ Ok (opening form target into)
+unfolding opening_into opening_with_register
 destination_given form target fields None h = rw h refl
 destination_given form target fields (Some n) (r, e, h) = rw e (number_alone register_count (λ register. opening form target (Some register)) r n h)
 
 natural_given : (form : BoxForm) (fields : List (List ℕ)) (into : Option ℕ) → IsDestination fields into → opening_of form fields ≡ Ok (opening form Natural into)
-unfolding opening_of opened
+unfolding opening_of opening_with_register
 natural_given form fields None h = rw h refl
 natural_given form fields (Some n) (r, e, h) = rw e (number_alone register_count (λ register. opening form Natural (Some register)) r n h)
 
 -- a size and what stands behind it
 opening_given : (form : BoxForm) (size : List (List ℕ)) (target : Target) (fields : List (List ℕ)) (into : Option ℕ) → IsTarget size target → IsDestination fields into → opening_of form (size ++ fields) ≡ Ok (opening form target into)
-unfolding opening_of opened_sized dimension_first
+unfolding opening_of opening_with_size dimension_first
 opening_given form size Natural fields into e h = rw e (natural_given form fields into h)
 opening_given form size (To z) fields into (d, e, is) h = rw (e, dimension_read d z is) (destination_given form (To z) fields into h)
 opening_given form size (Spread z) fields into (d, e, is) h = rw (e, dimension_read d z is) (destination_given form (Spread z) fields into h)

@@ -12,7 +12,7 @@ use Rattle.script_core.specs.Causes.{IsWord, IsFieldCause}
 use Rattle.script_core.specs.Reading.{dimension_first, last_dimension, map_ok, no_amount, glue, parts_of, glue_of, parameter_of, command_named, command_of}
 use Rattle.script_core.proofs.FieldLaws.{same_bytes}
 use Rattle.script_core.proofs.NameLaws.{named}
-use Rattle.script_core.proofs.CauseForms.{missing, bad_elsewhere, as_cause, not_made, twice, zero_dimension, depth_is_word, letter, dimension_cause}
+use Rattle.script_core.proofs.CauseForms.{missing, has_bad_elsewhere, as_cause, not_made, twice, zero_dimension, depth_is_word, letter, dimension_cause}
 use Rattle.script_core.proofs.GlueCauses.{glue_reads, glue_cause}
 use Rattle.script_core.proofs.SharedCauses.{shared_cause}
 
@@ -107,7 +107,7 @@ by_word w rest false false true most cause a b c d h = along_word w (codes "line
 by_word w rest false false false true cause a b c d h = along_word w (codes "lineskiplimit") rest cause d (limit_cause rest cause) h
 by_word w rest false false false false cause a b c d h =
     as_cause _ Word cause (let no = no_parameter w rest a b c d in cc)
-    (bad_elsewhere IsWord (codes "set" ∷ []) w rest (codes "boxmaxdepth") (codes "0sp" ∷ []) (depth (pos 0)) depth_is_word depth_zero
+    (has_bad_elsewhere IsWord (codes "set" ∷ []) w rest (codes "boxmaxdepth") (codes "0sp" ∷ []) (depth (pos 0)) depth_is_word depth_zero
     (λ later. (Word, no_parameter w later a b c d)) (λ later. (Word, no_parameter letter later refl refl refl refl)))
 
 pub set_cause : (rest : List (List ℕ)) (cause : Cause) → command_of (codes "set" ∷ rest) ≡ Err cause → IsFieldCause cause (codes "set" ∷ rest)

@@ -10,14 +10,14 @@ use Rattle.script_core.specs.declared.cause.Cause.TheVariants as causes
 use Rattle.script_core.specs.declared.cause.Cause.TheVariants.{Word, Number}
 use Rattle.script_core.specs.declared.amounts.Amount.{Amount}
 use Rattle.script_core.specs.Grammar.{IsNumberAmong, IsPenalty, IsDimension, IsSize, IsName, IsSizeOfFont, IsChosenSize, IsShift, IsAmount, IsPart, IsGlue}
-use Rattle.script_core.specs.Reading.{rest_of, some_or, number_of, number_first, dimension_or, dimension_first, size_of_font, as_size_of_font, size_of_font_first, is_name, as_name, name_first, map_ok, size_first, ended, and_right, last_number, last_dimension, chosen_size_of, font_by, rule_by, penalty_of, penalty_first, last_penalty, amount_of, amount_first, last_amount, and_then, shift_of, no_amount, glue, last_shrink_of, shrink_of, parts_of, glue_of}
+use Rattle.script_core.specs.Reading.{rest_of, some_or, number_of, number_first, dimension_or, dimension_first, size_of_font, as_size_of_font, size_of_font_first, is_name, as_name, name_first, map_ok, size_first, no_field_left, and_right, last_number, last_dimension, chosen_size_of, font_by, rule_by, penalty_of, penalty_first, last_penalty, amount_of, amount_first, last_amount, and_then, shift_of, no_amount, glue, last_shrink_of, shrink_of, parts_of, glue_of}
 use Rattle.scaled_core.specs.declared.fault.DimenFault.{DimenFault}
 use Rattle.scaled_core.specs.ParsedTexts.{read_dimension}
 use Rattle.script_core.proofs.AmountLaws.{gives_amount}
 use Rattle.script_core.proofs.FieldLaws.{same_bytes, writes_number, writes_penalty, reads_dimension, gives_size, names_font, is_size_of_font}
 
 -- no field is left where the end was read
-pub nothing_after : {A : Type 0} (r : Result A Cause) (rest : List (List ℕ)) (x : A) → and_right r (ended rest) ≡ Ok x → (rest ≡ []) × (r ≡ Ok x)
+pub nothing_after : {A : Type 0} (r : Result A Cause) (rest : List (List ℕ)) (x : A) → and_right r (no_field_left rest) ≡ Ok x → (rest ≡ []) × (r ≡ Ok x)
 nothing_after (Err cause) rest x h = absurd (cc)
 nothing_after (Ok y) [] x h = (refl, h)
 nothing_after (Ok y) (field ∷ rest) x h = absurd (cc)
@@ -80,7 +80,7 @@ size_of_dimension d z (Err fault) e h = absurd (cc)
 size_of_dimension d z (Ok y) e h = size_in d y z (size_of_font y) e refl h
 
 -- the size of a font and nothing else was read
-size_of_font_last : (fields : List (List ℕ)) (z : ℤ) → and_right (size_of_font_first fields) (ended (rest_of fields)) ≡ Ok z → (d : List ℕ) × (fields ≡ d ∷ []) × IsSizeOfFont d z
+size_of_font_last : (fields : List (List ℕ)) (z : ℤ) → and_right (size_of_font_first fields) (no_field_left (rest_of fields)) ≡ Ok z → (d : List ℕ) × (fields ≡ d ∷ []) × IsSizeOfFont d z
 unfolding size_of_font_first dimension_first
 size_of_font_last [] z h = absurd (cc)
 size_of_font_last (d ∷ rest) z h =
@@ -100,7 +100,7 @@ two_words field word rest more e f = rw (e, f) refl
 at_by : (word : List ℕ) (rest : List (List ℕ)) (size : Option ℤ) (b : Bool) → bytes_eq word (codes "at") ≡ b → chosen_size_of (word ∷ rest) ≡ Ok size → IsChosenSize (word ∷ rest) size
 unfolding chosen_size_of
 at_by word rest size true e h =
-    let some = some_size (and_right (size_of_font_first rest) (ended (rest_of rest))) size (rw e at h) in
+    let some = some_size (and_right (size_of_font_first rest) (no_field_left (rest_of rest))) size (rw e at h) in
     let last = size_of_font_last rest some.0 some.1 in
     let all : word ∷ rest ≡ codes "at" ∷ last.0 ∷ [] = two_fields word (codes "at") rest last.0 (same_bytes word (codes "at") e) last.1 in
     let P : Option ℤ → Type 0 = λ o. IsChosenSize (word ∷ rest) o in
@@ -122,7 +122,7 @@ unfolding size_first
 size_read [] size h = absurd (cc)
 size_read (field ∷ rest) size h = (field, refl, gives_size field size h)
 
-pub nothing_left : (fields : List (List ℕ)) (u : Unit {0}) → ended fields ≡ Ok u → fields ≡ []
+pub nothing_left : (fields : List (List ℕ)) (u : Unit {0}) → no_field_left fields ≡ Ok u → fields ≡ []
 nothing_left [] u h = refl
 nothing_left (field ∷ rest) u h = absurd (cc)
 

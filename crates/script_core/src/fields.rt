@@ -7,7 +7,7 @@ ghost use Rattle.tfm_core.specs.NamedBytes.{IsFontName};
 ghost use Rattle.command_core.specs.declared.command.Command.TheVariants as commands;
 ghost use Rattle.script_core.specs.Grammar.{register_count, slot_count, character_count, IsInteger, is_name_byte};
 ghost use Rattle.script_core.specs.ScriptLines.{fields_of};
-ghost use Rattle.script_core.specs.Reading.{first_of, rest_of, number_among, number_of, number_first, dimension_first, size_of_font, size_of_font_first, is_short, is_name, name_first, size_of, size_first, ended, last_number, last_dimension, map_ok, chosen_size_of, font_of, penalty_of, penalty_first, last_penalty, amount_first, last_amount, opening, opened, opened_into, opening_of, shift_of, append_of, unboxing, glue, shrink_of, last_shrink_of, parts_of, glue_of, parameter_of, rule_of, command_named, command_of};
+ghost use Rattle.script_core.specs.Reading.{first_of, rest_of, number_among, number_of, number_first, dimension_first, size_of_font, size_of_font_first, is_short, is_name, name_first, size_of, size_first, no_field_left, last_number, last_dimension, map_ok, chosen_size_of, font_of, penalty_of, penalty_first, last_penalty, amount_first, last_amount, opening, opening_with_register, opening_into, opening_of, shift_of, append_of, unboxing, glue, shrink_of, last_shrink_of, parts_of, glue_of, parameter_of, rule_of, command_named, command_of};
 
 use crate::amounts::{Amount, amount_of};
 use crate::cause::Cause;
@@ -52,7 +52,7 @@ impl<'a> Fields<'a> {
 
     /// No field is left.
     fn end(&mut self) -> Result<(), Cause>
-        ensures { result ≡ ended (fields_of self.old.rest.now) }
+        ensures { result ≡ no_field_left (fields_of self.old.rest.now) }
     {
         match self.field() {
             Ok(_) => Err(Cause::Extra),
@@ -248,19 +248,19 @@ impl<'a> Fields<'a> {
     }
 
     /// What stands behind `hbox`, `vbox` or `vtop`: a size or none, and a register or none.
-    #[tactic(auto, unfolding(crate::specs::Reading::opening_of, crate::specs::Reading::opened_sized))]
+    #[tactic(auto, unfolding(crate::specs::Reading::opening_of, crate::specs::Reading::opening_with_size))]
     fn opening(&mut self, form: BoxForm) -> Result<Command, Cause>
         ensures { result ≡ opening_of form (fields_of self.old.rest.now) }
     {
         match self.field() {
-            Ok(b"into") => self.opened(form, Target::Natural),
+            Ok(b"into") => self.opening_with_register(form, Target::Natural),
             Ok(b"to") => {
                 let size = self.dimen()?;
-                self.opened_into(form, Target::To(size))
+                self.opening_into(form, Target::To(size))
             }
             Ok(b"spread") => {
                 let more = self.dimen()?;
-                self.opened_into(form, Target::Spread(more))
+                self.opening_into(form, Target::Spread(more))
             }
             Ok(_) => Err(Cause::Word),
             Err(_) => Ok(opening(form, Target::Natural, None)),
@@ -268,21 +268,21 @@ impl<'a> Fields<'a> {
     }
 
     /// The opening of a list, with nothing behind its size, or with `into` and a register.
-    #[tactic(auto, unfolding(crate::specs::Reading::opened_into))]
-    fn opened_into(&mut self, form: BoxForm, target: Target) -> Result<Command, Cause>
-        ensures { result ≡ opened_into form target (fields_of self.old.rest.now) }
+    #[tactic(auto, unfolding(crate::specs::Reading::opening_into))]
+    fn opening_into(&mut self, form: BoxForm, target: Target) -> Result<Command, Cause>
+        ensures { result ≡ opening_into form target (fields_of self.old.rest.now) }
     {
         match self.field() {
-            Ok(b"into") => self.opened(form, target),
+            Ok(b"into") => self.opening_with_register(form, target),
             Ok(_) => Err(Cause::Word),
             Err(_) => Ok(opening(form, target, None)),
         }
     }
 
     /// The opening of a list, with a register as the last field.
-    #[tactic(auto, unfolding(crate::specs::Reading::opened))]
-    fn opened(&mut self, form: BoxForm, target: Target) -> Result<Command, Cause>
-        ensures { result ≡ opened form target (fields_of self.old.rest.now) }
+    #[tactic(auto, unfolding(crate::specs::Reading::opening_with_register))]
+    fn opening_with_register(&mut self, form: BoxForm, target: Target) -> Result<Command, Cause>
+        ensures { result ≡ opening_with_register form target (fields_of self.old.rest.now) }
     {
         let register = self.last_register()?;
         Ok(opening(form, target, Some(register)))
@@ -411,7 +411,11 @@ impl<'a> Fields<'a> {
 
     /// The command of that name with the fields behind it.
     #[tactic(auto, unfolding(crate::specs::Reading::command_named))]
-    fn named(&mut self, alloc: Global, name: Name) -> Result<Result<Command, Cause>, AllocError>
+    fn command_named(
+        &mut self,
+        alloc: Global,
+        name: Name,
+    ) -> Result<Result<Command, Cause>, AllocError>
         ensures { IfOk result (λ read. read ≡ command_named name (fields_of self.old.rest.now)) }
     {
         match name {
@@ -444,7 +448,7 @@ impl<'a> Fields<'a> {
             Err(cause) => return Ok(Err(cause)),
         };
         match Name::of(word) {
-            Some(name) => self.named(alloc, name),
+            Some(name) => self.command_named(alloc, name),
             None => Ok(Err(Cause::Word)),
         }
     }

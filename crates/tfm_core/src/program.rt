@@ -1,7 +1,7 @@
 //! The ligature/kern program of a character (TFtoPL, 13; TeX: The Program, part 30, §545).
 
 ghost use Rattle.std.specs.Prelude.{◌≡◌, slice_get};
-ghost use Rattle.tfm_core.specs.Program.{first_for, first_step, is_for, tag_program, taken};
+ghost use Rattle.tfm_core.specs.Program.{first_for, first_step, is_for, tag_program, taken_steps};
 
 use crate::record::{LigKernStep, Tag};
 
@@ -37,7 +37,7 @@ fn is_for(following: u8, step: LigKernStep) -> bool
 /// The first step for the following character, of those that are taken from step k on.
 #[tactic(auto, using(crate::proofs::ProgramLemmas::programs))]
 fn first_from(steps: &[LigKernStep], mut k: usize, following: u8) -> Option<LigKernStep>
-    ensures { result ≡ first_for steps.now following (taken steps.now k) }
+    ensures { result ≡ first_for steps.now following (taken_steps steps.now k) }
 {
     while let Some(step) = step_at(steps, k) {
         if is_for(following, step) {
