@@ -64,7 +64,7 @@ was_run files commands replies end job run done holds runs finishes dvi file siz
       silent = last.2.told;
     }
 
--- the same run by other names
+-- a run stays one where its numbers, lists and bytes are replaced by equal ones
 pub same_run : (files : List NamedBytes) (n n' : ℕ) (commands commands' : List Command) (replies replies' : List Reply) (end : Result Summary Refusal) (k k' : ℕ) (told told' : Option (List ℕ))
     → n' ≡ n → commands' ≡ commands → replies' ≡ replies → k' ≡ k → told' ≡ told → WasRun files n commands replies end k told → WasRun files n' commands' replies' end k' told'
 same_run files n n' commands commands' replies replies' end k k' told told' a b c d e h = rw (a, b, c, d, e) h

@@ -245,28 +245,28 @@ module _ (A : Type 0) (front : List (List ℕ)) (make : A → Command) (last : L
   last_cause [] cause h = as_cause _ Missing cause (cc) lacks_last
   last_cause (field ∷ rest) cause h = by_last field rest (read field) cause refl (sym (some field rest) ∙ h)
 
--- one number and nothing else
+-- the cause where one number and nothing else belongs
 pub number_cause : (count : ℕ) → 0 < count → (front : List (List ℕ)) (make : ℕ → Command) → ((rest : List (List ℕ)) → command_of (front ++ rest) ≡ map_ok make (last_number count rest)) → (rest : List (List ℕ)) (cause : Cause) → last_number count rest ≡ Err cause → IsFieldCause cause (front ++ rest)
 unfolding last_number number_first
 number_cause count some front make reads rest cause h =
     last_cause ℕ front make (last_number count) (λ field. some_or Number (number_of count field)) refl (λ field rest. refl) reads zero_text 0 (rw (zero_names count some) refl) Number (rw (letter_no_number count) refl)
     (λ field rest cause e wanted fails unnamed. no_number_cause count front field rest [] (make 0) cause e wanted fails unnamed) rest cause h
 
--- one number of a penalty
+-- the cause where one number of a penalty and nothing else belongs
 pub penalty_cause : (front : List (List ℕ)) (make : ℤ → Command) → ((rest : List (List ℕ)) → command_of (front ++ rest) ≡ map_ok make (last_penalty rest)) → (rest : List (List ℕ)) (cause : Cause) → last_penalty rest ≡ Err cause → IsFieldCause cause (front ++ rest)
 unfolding last_penalty penalty_first
 penalty_cause front make reads rest cause h =
     last_cause ℤ front make last_penalty (λ field. some_or Number (penalty_of field)) refl (λ field rest. refl) reads zero_text (pos 0) (rw zero_penalty refl) Number (rw letter_no_penalty refl)
     (λ field rest cause e wanted fails unnamed. no_penalty_cause front field rest [] (make (pos 0)) cause e wanted fails unnamed) rest cause h
 
--- one dimension
+-- the cause where one dimension and nothing else belongs
 pub dimension_cause : (front : List (List ℕ)) (make : ℤ → Command) → ((rest : List (List ℕ)) → command_of (front ++ rest) ≡ map_ok make (last_dimension rest)) → (rest : List (List ℕ)) (cause : Cause) → last_dimension rest ≡ Err cause → IsFieldCause cause (front ++ rest)
 unfolding last_dimension dimension_first
 dimension_cause front make reads rest cause h =
     last_cause ℤ front make last_dimension (λ field. dimension_or (read_dimension field)) refl (λ field rest. refl) reads (codes "0sp") (pos 0) (rw zero_dimension refl) Dimension (rw letter_no_dimension refl)
     (λ field rest cause e wanted fails unnamed. no_dimension_cause front field rest [] (make (pos 0)) cause e wanted fails unnamed) rest cause h
 
--- one amount of stretch or shrink
+-- the cause where one amount of stretch or shrink and nothing else belongs
 pub amount_cause : (front : List (List ℕ)) (make : Amount → Command) → ((rest : List (List ℕ)) → command_of (front ++ rest) ≡ map_ok make (last_amount rest)) → (rest : List (List ℕ)) (cause : Cause) → last_amount rest ≡ Err cause → IsFieldCause cause (front ++ rest)
 unfolding last_amount amount_first
 amount_cause front make reads rest cause h =

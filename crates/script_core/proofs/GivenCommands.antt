@@ -17,7 +17,7 @@ use Rattle.script_core.proofs.AmountLaws.{amount_given}
 use Rattle.script_core.proofs.FieldLaws.{number_written, penalty_written, dimension_read, size_given, font_named, size_of_font_is}
 use Rattle.script_core.proofs.NameLaws.{named}
 
--- a last number
+-- a number that is the last field
 pub number_alone : (count : ℕ) (make : ℕ → Command) (r : List ℕ) (n : ℕ) → IsNumberAmong count r n → map_ok make (last_number count (r ∷ [])) ≡ Ok (make n)
 unfolding last_number number_first
 number_alone count make r n h = rw (number_written count r n h) refl

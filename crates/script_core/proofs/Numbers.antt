@@ -71,7 +71,7 @@ not_text field h z is fits = h (IsUtf8-from_ascii field (number_ascii field is.d
 same_fits : (y z : ℤ) → y ≡ z → FitsSigned w64 z → FitsSigned w64 y
 same_fits y z e h = subst (FitsSigned w64) (sym e) h
 
--- nor does what is no number of 64 bits
+-- what is no number of 64 bits writes none of them
 pub not_number : (field : List ℕ) → (IsNumeral 10 (without_leading_sign field) × FitsSigned w64 (signed_digits_value 10 field) → ⊥) → (z : ℤ) → IsInteger field z → FitsSigned w64 z → ⊥
 not_number field h z is fits = h (is.digits, same_fits (signed_digits_value 10 field) z is.value fits)
 

@@ -131,7 +131,7 @@ natural_cause form rest cause h =
     number_cause register_count (omega arith) (form_text form ∷ codes "into" ∷ []) (for_register form Natural) (λ more. behind_into form more ∙ register_reads form Natural more) rest cause
     (not_made (for_register form Natural) (last_number register_count rest) cause (sym (behind_into form rest ∙ register_reads form Natural rest) ∙ h))
 
--- the cause behind a word that is this one
+-- what holds behind a word holds behind its bytes
 along_word : (form : BoxForm) (w word : List ℕ) (rest : List (List ℕ)) (cause : Cause) → bytes_eq w word ≡ true → (command_of (form_text form ∷ word ∷ rest) ≡ Err cause → IsFieldCause cause (form_text form ∷ word ∷ rest)) → command_of (form_text form ∷ w ∷ rest) ≡ Err cause → IsFieldCause cause (form_text form ∷ w ∷ rest)
 along_word form w word rest cause e there h =
     let is : w ≡ word = same_bytes w word e in

@@ -75,7 +75,7 @@ zero_glue : glue_of (codes "0sp" ∷ []) ≡ Ok (glue (pos 0) no_amount no_amoun
 unfolding glue_of dimension_first parts_of
 zero_glue = rw zero_dimension refl
 
--- the cause of the same fields behind `glue`
+-- a cause why some fields are no glue holds of them behind `glue`
 of_glue : (rest : List (List ℕ)) (make : glues.Glue → Command) (cause : Cause) → map_ok make (glue_of rest) ≡ Err cause → IsFieldCause cause (codes "glue" ∷ rest)
 of_glue rest make cause h =
     let fault = not_made make (glue_of rest) cause h in
@@ -91,7 +91,7 @@ line_skip_cause rest cause h =
     shared_cause glues.Glue glue_of (codes "glue") (codes "set") (codes "lineskip") Glue line_skip glue_reads line_skip_reads (codes "0sp" ∷ []) _ zero_glue cause rest
     (of_glue rest line_skip cause (sym (line_skip_reads rest) ∙ h))
 
--- the cause behind a word that is this one
+-- what holds behind a word holds behind its bytes
 along_word : (w word : List ℕ) (rest : List (List ℕ)) (cause : Cause) → bytes_eq w word ≡ true → (command_of (codes "set" ∷ word ∷ rest) ≡ Err cause → IsFieldCause cause (codes "set" ∷ word ∷ rest)) → command_of (codes "set" ∷ w ∷ rest) ≡ Err cause → IsFieldCause cause (codes "set" ∷ w ∷ rest)
 along_word w word rest cause e there h =
     let is : w ≡ word = same_bytes w word e in

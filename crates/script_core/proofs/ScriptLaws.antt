@@ -121,7 +121,7 @@ pub record BadFrom (number : ℕ) (all : List (List ℕ)) (fault : ScriptFault) 
   pub counted : is_passed_over line ≡ false
   pub holds : IsCause cause line
 
--- a right line in front
+-- the first bad line of some lines with a right line in front of them
 first_bad_behind : (number : ℕ) (line : List ℕ) (rest : List (List ℕ)) (fault : ScriptFault) → IsRightLine line → BadFrom (number + 1) rest fault → BadFrom number (line ∷ rest) fault
 first_bad_behind number line rest fault right bad = record {
   front = line ∷ bad.front;
@@ -190,14 +190,14 @@ explained text number cause bad =
 pub script_read : (text : List ℕ) (found : List Line) → reads 1 (lines text) ≡ Ok found → IsScript text found
 script_read text found h = said_from 1 (lines text) found h
 
--- one that is not is none, and its first bad line is named
+-- a text that is not read is no script, and its first bad line is named
 pub script_refused : (text : List ℕ) (fault : ScriptFault) → reads 1 (lines text) ≡ Err fault → Explains text fault
 script_refused text OutOfMemory h = tt
 script_refused text (BadScript number cause) h =
     let bad = first_bad_from 1 (lines text) (BadScript number cause) h in
     (explained text number cause bad, λ found said. let o = read_from 1 (lines text) found said in cc)
 
--- and has no other lines
+-- a script has no other lines than those that are read
 pub script_one : (text : List ℕ) (found : List Line) → reads 1 (lines text) ≡ Ok found → (others : List Line) → IsScript text others → others ≡ found
 script_one text found h others said = let o = read_from 1 (lines text) others said in cc
 

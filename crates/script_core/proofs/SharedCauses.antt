@@ -72,7 +72,7 @@ module _ (A : Type 0) (read : List (List ℕ) → Result A Cause) (word first se
       × ((name : List ℕ) → Begins (bad.front ++ name ∷ []) → Begins (new.front ++ name ∷ [])) × ((name : List ℕ) → Begins (new.front ++ name ∷ []) → Begins (bad.front ++ name ∷ []))
   has_bad_shared IsRight rest bad = has_bad_by IsRight rest bad.front bad.field bad.rest bad.right bad.split bad.is_right bad.wanted bad.bad
 
-  -- elsewhere too
+  -- a bad field that stands where not each name may, behind the other two words
   elsewhere_shared : (IsRight : List ℕ → Type 0) (rest : List (List ℕ)) (bad : HasBadElsewhere IsRight (word ∷ rest)) → (new : HasBadElsewhere IsRight (first ∷ second ∷ rest)) × (new.found.field ≡ bad.found.field)
   elsewhere_shared IsRight rest bad =
       let new = has_bad_shared IsRight rest bad.found in

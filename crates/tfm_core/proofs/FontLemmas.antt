@@ -51,7 +51,7 @@ IsInTables-from_test font c h =
       depth = ltb-true _ _ p.1;
     }
 
--- and it has its sizes
+-- a character that is there has its sizes in the tables
 pub IsInTables-from_character : (font : SizedFont) (code : ℕ) (found : Option CharInfo) → IsWhole font → found ≡ character_at font.first font.characters code → IfSome found (IsInTables font)
 IsInTables-from_character font code None w e = tt
 IsInTables-from_character font code (Some c) w e =
@@ -80,7 +80,7 @@ given_by false true kerns i None r h e = absurd (cc)
 given_by false true kerns i (Some c) r h e = refl
 given_by false false kerns i char r h e = absurd (cc)
 
--- it gives something
+-- a step that names what is there gives a kern or a ligature
 action-given : (font : SizedFont) (s : LigKernStep) → names_absent_kern_or_character font.first font.characters (length font.kerns) s ≡ false → (eqb s.op 0 || leb 128 s.op) ≡ true → IsSome (action_of font s)
 unfolding action_of names_absent_kern_or_character
 action-given font s h e =

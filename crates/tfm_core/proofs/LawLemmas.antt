@@ -41,7 +41,7 @@ Takes-within steps zero k h =
 Takes-within steps (suc n) k h =
     Takes-at steps k (slice_get steps k) refl (λ s. Takes-within steps n (k + (s.skip + 1)) (omega arith))
 
--- the list is the one that is taken
+-- `Takes` holds of one list alone: that of the steps that are taken
 pub Takes-taken_steps : (steps : List LigKernStep) (k : ℕ) (ks : List ℕ) → (Takes steps k ks ↔ (ks ≡ taken_steps steps k))
 Takes-taken_steps steps k ks =
     (λ t. taken_steps-unique steps t, λ e. subst (λ js. Takes steps k js) (sym e) (Takes-within steps (length steps) k (omega arith)))
@@ -63,7 +63,7 @@ Takes-rising steps (last h m) i l = absurd (omega arith)
 Takes-rising steps (next {k = k} {s = s} {later = later} h m t) i l =
     increasing_cons k later (λ some. let e = first_taken steps t some in omega arith) (Takes-rising steps t) i l
 
--- and it rises
+-- the numbers of the steps that are taken rise
 pub taken_steps-rising : (steps : List LigKernStep) (k : ℕ) → IsStrictlyIncreasing (taken_steps steps k)
 taken_steps-rising steps k = Takes-rising steps (Takes-within steps (length steps) k (omega arith))
 
@@ -79,7 +79,7 @@ mapped_some : {X Y : Type 0} (f : X → Y) (o : Option X) → IsSome o → IsSom
 mapped_some f None h = absurd (cc)
 mapped_some f (Some x) h = refl
 
--- their characters are there
+-- the characters of ligatures are there
 pub ligature-there : (font : SizedFont) (code following e : ℕ) → step_of font code following ≡ Some (Ligature e) → IsSome (glyph_of font e)
 unfolding step_of action_of glyph_of
 ligature-there font code following e h =

@@ -25,7 +25,7 @@ taken_steps_from-step j (suc k) (t ∷ rest) s h =
     let behind : suc k + (s.skip + 1) ≡ suc (k + (s.skip + 1)) = omega arith in
     rw (here, behind) later
 
--- the same of `taken_steps`
+-- the steps that are taken from step k on, by the step that stands there
 pub taken_steps-past : (steps : List LigKernStep) (k : ℕ) → slice_get steps k ≡ None → taken_steps steps k ≡ []
 unfolding taken_steps
 taken_steps-past steps k h = taken_steps_from-past 0 k steps h

@@ -25,7 +25,7 @@ dimension_in_64 (negsuc n) h = fits_signed_from_abs w64 (negsuc n) (omega (arith
 pub Fits-in_64 : (z : ℤ) → Fits z → Fits (to_z w64 (of_z w64 z))
 Fits-in_64 z h = subst Fits (sym (to_z-of_z w64 z (dimension_in_64 z h))) h
 
--- each of the words does
+-- where the test of some words holds, it holds of each of them
 pub dimen-at : (size : ℤ) (words : List ℤ) (i : ℕ) (d : ℤ) → are_dimens_at size words ≡ true → i < length words → is_dimen_at size (get_or words i d) ≡ true
 unfolding are_dimens_at
 dimen-at size words i d h l =
