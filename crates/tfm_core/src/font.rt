@@ -9,7 +9,7 @@ ghost use Rattle.tfm_core.specs.Scaling.{scaled as scaled_by};
 use crate::entries::Entries;
 use crate::fault::FontFault;
 use crate::program::first_for;
-use crate::record::{CharInfo, LigKernStep};
+use crate::record::{CharInfo, KERN_FLAG, LigKernStep};
 use crate::rules::character_at;
 use crate::scaling::{FontSize, scaled_fix};
 use crate::tfm::Tfm;
@@ -301,8 +301,8 @@ impl Font {
     fn action(&self, step: LigKernStep) -> Option<Step>
         ensures { result ≡ action_of self.now step }
     {
-        if 128 <= step.op {
-            let kern = 256 * usize::from(step.op - 128) + usize::from(step.remainder);
+        if KERN_FLAG <= step.op {
+            let kern = 256 * usize::from(step.op - KERN_FLAG) + usize::from(step.remainder);
             return Some(Step::Kern(*self.kerns.get(kern)?));
         }
         if character_at(self.first, &self.characters, step.remainder).is_none() {

@@ -5,7 +5,7 @@ ghost use Rattle.tfm_core.specs.Rules.{begins_nonzero, begins_past_steps, some_t
 
 use crate::entries::{Entries, counts};
 use crate::places::places_of;
-use crate::record::{CharInfo, Counts, LigKernStep, Tag};
+use crate::record::{CharInfo, Counts, KERN_FLAG, LigKernStep, STOP_FLAG, Tag};
 use crate::scaling::is_fix_word;
 
 /// Whether there are fewer bytes than the file says, or than its twelve numbers take.
@@ -193,11 +193,11 @@ fn breaks_step(file: &Entries, k: usize, s: LigKernStep) -> bool
     requires { k < length file.now.steps }
     ensures { result ≡ breaks_step file.now (k, s) }
 {
-    if 128 < s.skip {
+    if STOP_FLAG < s.skip {
         return file.steps.len() <= 256 * usize::from(s.op) + usize::from(s.remainder);
     }
     names_absent_kern_or_character(file.counts.first, &file.characters, file.kerns.len(), s)
-        || s.skip < 128 && file.steps.len() <= k + usize::from(s.skip) + 1
+        || s.skip < STOP_FLAG && file.steps.len() <= k + usize::from(s.skip) + 1
 }
 
 /// Whether a step gives a kern past that many, or a ligature with a character that is not there.
@@ -210,8 +210,8 @@ fn names_absent_kern_or_character(
 ) -> bool
     ensures { result ≡ names_absent_kern_or_character first characters.now kerns s }
 {
-    if 128 <= s.op {
-        return kerns <= 256 * usize::from(s.op - 128) + usize::from(s.remainder);
+    if KERN_FLAG <= s.op {
+        return kerns <= 256 * usize::from(s.op - KERN_FLAG) + usize::from(s.remainder);
     }
     s.op == 0 && character_at(first, characters, s.remainder).is_none()
 }
