@@ -157,7 +157,7 @@ fn units_of(units: &Units) -> [u8; 12]
     bytes
 }
 
-/// Each count is in the range of its type. (The loop reads each; it does nothing else.)
+/// Each count is in the range of its type. The loop only reads each of them: so the prover learns its range.
 fn counts_fit(counts: &[i32; 10])
     ensures ten { length counts.now ≡ 10 }
     ensures fits { AllByRecursion NumberFits counts.now }
