@@ -7,7 +7,9 @@ use Rattle.command_core.specs.declared.command.Summary.{Summary}
 use Rattle.job_core.specs.Told.{grown, GrowsByFront, IsFrontOf}
 use Rattle.dvi_write.specs.Fonts.{Slots}
 use Rattle.ship_core.specs.Marks.{Page}
-use Rattle.nest_core.specs.Machine.{State, Machine, first_of, stopped}
+use Rattle.nest_core.specs.State.{State}
+use Rattle.nest_core.specs.Checks.{first_of}
+use Rattle.nest_core.specs.Machine.{Machine, stopped}
 use Rattle.dvi_write.specs.Draft.{draft_of, whole, file_of}
 use Rattle.nest_core.specs.Runs.{finish_checks, Finished, Refuses, WantsMemory, LostDevice}
 use Rattle.job_core.specs.Jobs.{Seen, Holds, FinishesTo}

@@ -20,7 +20,7 @@ use Rattle.state_core.specs.Loaded.{AreLoaded}
 use Rattle.state_core.specs.Sized.{IsSoundBox}
 use Rattle.ship_core.specs.Marks.{Page, marks_of_page, is_huge}
 use Rattle.ship_core.specs.Drawing.{body_of}
-use Rattle.nest_core.specs.Machine.{most_deep}
+use Rattle.nest_core.specs.State.{most_deep}
 use Rattle.dvi_write.specs.Draft.{Draft, first_draft, with_page, with_pages, draft_of, definitions_of, fresh_slots, in_rising_order, selects, sheet_of, reach_down, reach_right, closing, closed, whole, file_of}
 use Rattle.job_core.specs.Jobs.{IsShipped}
 use Rattle.job_core.specs.Shown.{GivesFiles, shown_page, IsFileOf}

@@ -20,7 +20,11 @@ use Rattle.tfm_core.specs.NamedBytes.{NamedBytes}
 use Rattle.dvi_ops.specs.Spelling.{spelling, operand}
 use Rattle.ship_core.specs.Marks.{Page}
 use Rattle.dvi_write.specs.Draft.{page_of, Draft, definitions_of, fresh_slots, sheet_of, reach_down, reach_right, with_page, with_pages, first_draft, draft_of}
-use Rattle.nest_core.specs.Machine.{State, Machine, checks, own_checks, first_of, reply_by, reply_to, answer_of, after, state_by, state_after, new_pages, pages_of, held_in, count_in, is_huge_in, step, most_shipped, most_pages, first_state}
+use Rattle.nest_core.specs.State.{State, held_in, count_in, most_shipped, most_pages, first_state}
+use Rattle.nest_core.specs.Checks.{checks, own_checks, first_of, is_huge_in}
+use Rattle.nest_core.specs.Answers.{answer_of}
+use Rattle.nest_core.specs.Effects.{after, new_pages, pages_of}
+use Rattle.nest_core.specs.Machine.{Machine, reply_by, reply_to, state_by, state_after, step}
 use Rattle.ship_core.specs.Drawing.{body_of}
 use Rattle.nest_core.specs.Runs.{TakesMemory, early_checks, Steps, Replies, LacksMemory, Run}
 use Rattle.job_core.specs.Jobs.{draft_after, IsShipped, Seen, Holds, KeepsTo, RunsTo}

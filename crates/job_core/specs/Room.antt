@@ -1,7 +1,7 @@
 -- How much a job may hold, and what its fonts and glyphs are (own; the invariant of `Job` alone, no public clause speaks of it).
 -- The limits keep every place in the file below 2^31.
 use Rattle.std.specs.Prelude.{◌≡◌, ◌+◌, ◌*◌, ◌≤◌, length}
-use Rattle.nest_core.specs.Machine.{State, most_shipped, most_pages, most_deep}
+use Rattle.nest_core.specs.State.{State, most_shipped, most_pages, most_deep}
 use Rattle.dvi_write.specs.Draft.{Draft, in_rising_order}
 use Rattle.state_core.specs.Sized.{HasSizedGlyphs}
 use Rattle.state_core.specs.Loaded.{AreLoaded}

@@ -4,7 +4,8 @@ ghost use Rattle.std.specs.Prelude.{◌≡◌, ◌<◌, ◌+◌, ◌*◌, ◌^�
 ghost use Rattle.command_core.specs.declared.command.Command.TheVariants as commands;
 ghost use Rattle.command_core.specs.Reply.{Reply as AReply};
 ghost use Rattle.state_core.specs.Loaded.{GivesNumbersFor};
-ghost use Rattle.nest_core.specs.Machine.{Machine, first_machine, checks, first_of, reply_to, state_after};
+ghost use Rattle.nest_core.specs.Checks.{checks, first_of};
+ghost use Rattle.nest_core.specs.Machine.{Machine, first_machine, reply_to, state_after};
 ghost use Rattle.nest_core.specs.Runs.{TakesMemory, early_checks};
 ghost use Rattle.job_core.specs.Jobs.{draft_after, Holds, KeepsTo, RunsTo, FinishesTo};
 ghost use Rattle.job_core.specs.Shown.{FilesPages};

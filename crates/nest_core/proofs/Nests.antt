@@ -10,7 +10,10 @@ use Rattle.node_core.specs.declared.params.Params.{Params}
 use Rattle.command_core.specs.declared.command.Refusal.{Refusal}
 use Rattle.pack_core.specs.declared.pack.Packed as packs
 use Rattle.command_core.specs.declared.command.Command.TheVariants.{End}
-use Rattle.nest_core.specs.Machine.{State, checks, place_checks, packed_list, items_in, first_of, innermost, outer, held_in, list_with_box, with_box}
+use Rattle.nest_core.specs.State.{State, items_in, innermost, outer, held_in}
+use Rattle.nest_core.specs.OpenLists.{packed_list}
+use Rattle.nest_core.specs.Checks.{checks, place_checks, first_of}
+use Rattle.nest_core.specs.Effects.{list_with_box, with_box}
 use Rattle.nest_core.specs.EmptiedNest.{refilled, emptied}
 
 module _ {A : Type 0} where

@@ -1,3 +1,8 @@
+pub mod State
+pub mod OpenLists
+pub mod Checks
+pub mod Answers
+pub mod Effects
 pub mod Machine
 pub mod FontSlots
 pub mod Runs

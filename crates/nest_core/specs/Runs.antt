@@ -8,7 +8,10 @@ use Rattle.command_core.specs.declared.command.Summary.{Summary}
 use Rattle.command_core.specs.Reply.{Reply}
 use Rattle.tfm_core.specs.NamedBytes.{file_named}
 use Rattle.dvi_write.specs.Fonts.{font_in}
-use Rattle.nest_core.specs.Machine.{State, Machine, innermost, held_in, GoesIntoList, checks, character_checks, first_of, reply_to, step, stopped}
+use Rattle.nest_core.specs.State.{State, innermost, held_in}
+use Rattle.nest_core.specs.OpenLists.{GoesIntoList}
+use Rattle.nest_core.specs.Checks.{checks, character_checks, first_of}
+use Rattle.nest_core.specs.Machine.{Machine, reply_to, step, stopped}
 
 -- The commands for which memory may be wanted. The end of a list takes none where the box goes into a register, and what takes the box of a
 -- register none where that is void.

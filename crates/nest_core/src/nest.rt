@@ -4,7 +4,10 @@ ghost use Rattle.std.specs.Prelude.{◌≡◌, ◌<◌, ◌≤◌, ◌+◌, ◌-
 ghost use Rattle.node_core.specs.Items.{none};
 ghost use Rattle.node_core.specs.Nodes.{most_nodes, items_of, nodes_of, last_box};
 ghost use Rattle.vert_core.specs.Interline.{interline, glue_of, appended};
-ghost use Rattle.nest_core.specs.Machine.{opened, innermost, items_in, outer, with_nodes, with_rule, glue_in, box_items, list_with_box, with_box, without_last, packed_as, packed_list, box_checks, first_of};
+ghost use Rattle.nest_core.specs.State.{innermost, items_in, outer};
+ghost use Rattle.nest_core.specs.OpenLists.{opened, glue_in, box_items, packed_as, packed_list};
+ghost use Rattle.nest_core.specs.Checks.{box_checks, first_of};
+ghost use Rattle.nest_core.specs.Effects.{with_nodes, with_rule, list_with_box, with_box, without_last};
 ghost use Rattle.nest_core.specs.EmptiedNest.{emptied, refilled};
 
 use command_core::{BoxForm, Opening, Refusal};

@@ -1,7 +1,7 @@
 //! The box registers of a job.
 
 ghost use Rattle.std.specs.Prelude.{◌≡◌, ◌<◌, List, Option, None, IfOk, option_copied, replicate, slice_set};
-ghost use Rattle.nest_core.specs.Machine.{held_in};
+ghost use Rattle.nest_core.specs.State.{held_in};
 
 use command_core::Register;
 use node_core::BoxNode;

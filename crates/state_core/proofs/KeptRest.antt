@@ -5,7 +5,11 @@ use Rattle.node_core.specs.declared.tree.BoxNode.{BoxNode}
 use Rattle.pack_core.specs.declared.pack.Packed as packs
 use Rattle.nest_core.specs.declared.nest.OpenList.{OpenList}
 use Rattle.command_core.specs.declared.command.Taking.{Taking}
-use Rattle.nest_core.specs.Machine.{State, innermost, outer, packed_list, held_in, with_home, with_closed, with_used, with_unboxed, checks, first_of, state_by, after, state_after}
+use Rattle.nest_core.specs.State.{State, innermost, outer, held_in}
+use Rattle.nest_core.specs.OpenLists.{packed_list}
+use Rattle.nest_core.specs.Checks.{checks, first_of}
+use Rattle.nest_core.specs.Effects.{with_home, with_closed, with_used, with_unboxed, after}
+use Rattle.nest_core.specs.Machine.{state_by, state_after}
 use Rattle.command_core.specs.declared.command.BoxUse.{BoxUse}
 use Rattle.command_core.specs.declared.command.Unboxing.{Unboxing}
 use Rattle.command_core.specs.declared.command.Refusal.{Refusal}

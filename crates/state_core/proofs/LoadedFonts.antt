@@ -20,7 +20,9 @@ use Rattle.dvi_write.specs.Fonts.{Slots, font_in}
 use Rattle.nest_core.specs.FontSlots.{sized_font, font_of, with_font}
 use Rattle.state_core.proofs.KeptRest.{KeepsRest, end_keeps, append_keeps, unbox_keeps}
 use Rattle.state_core.specs.Loaded.{IsLoaded, AreLoaded, GivesNumbersFor}
-use Rattle.nest_core.specs.Machine.{State, checks, first_of, font_for, after}
+use Rattle.nest_core.specs.State.{State, font_for}
+use Rattle.nest_core.specs.Checks.{checks, first_of}
+use Rattle.nest_core.specs.Effects.{after}
 use Rattle.state_core.proofs.EachOf.{each_set, each_copy, each_held, held_within}
 
 -- What a metric file gives: a font of its sizes, which fit.

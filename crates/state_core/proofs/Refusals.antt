@@ -19,7 +19,11 @@ use Rattle.node_core.specs.declared.tree.Kind.{Kind}
 use Rattle.node_core.specs.declared.tree.BoxNode.{BoxNode}
 use Rattle.pack_core.specs.declared.pack.Packed as packs
 use Rattle.nest_core.specs.declared.nest.OpenList.{OpenList}
-use Rattle.nest_core.specs.Machine.{State, Machine, innermost, outer, open_count, held_in, packed_list, box_checks, held_checks, home_checks, packed_checks, close_checks, items_checks, checks, first_of, refusal_in, reply_by, reply_to, answer_of, step}
+use Rattle.nest_core.specs.State.{State, innermost, outer, open_count, held_in}
+use Rattle.nest_core.specs.OpenLists.{packed_list}
+use Rattle.nest_core.specs.Checks.{box_checks, held_checks, home_checks, packed_checks, close_checks, items_checks, checks, first_of, refusal_in}
+use Rattle.nest_core.specs.Answers.{answer_of}
+use Rattle.nest_core.specs.Machine.{Machine, reply_by, reply_to, step}
 use Rattle.nest_core.specs.Runs.{early_checks, finish_checks, Finishes, Finished, Refuses, WantsMemory, LostDevice, TakesMemory, Steps, Replies, LacksMemory, LosesDevice, Run}
 
 -- A refusal that the machine gives: any but want of memory and a device's failure.

@@ -39,7 +39,10 @@ use Rattle.nest_core.proofs.PackedItems.{packed_items}
 use Rattle.state_core.specs.Sized.{HasSizes, IsSizedLeaf, IsSoundBox, IsSized, AreSized, IsSizedList, IsSizedHeld, HasSizedGlyphs}
 use Rattle.command_core.specs.declared.command.Taking.{Taking}
 use Rattle.command_core.specs.declared.command.Taking.TheVariants.{Moved, Copied}
-use Rattle.nest_core.specs.Machine.{State, most_deep, first_state, innermost, outer, items_in, with_nodes, with_rule, with_items, glue_in, box_items, with_box, without_last, held_in, with_taken, if_packed, packed_as, packed_list, home_checks, packed_checks, close_checks, with_home, with_closed, with_used, with_unboxed, checks, first_of, font_for, refusal_in, after}
+use Rattle.nest_core.specs.State.{State, most_deep, first_state, innermost, outer, items_in, held_in, font_for}
+use Rattle.nest_core.specs.OpenLists.{glue_in, box_items, if_packed, packed_as, packed_list}
+use Rattle.nest_core.specs.Checks.{home_checks, packed_checks, close_checks, checks, first_of, refusal_in}
+use Rattle.nest_core.specs.Effects.{with_nodes, with_rule, with_items, with_box, without_last, with_taken, with_home, with_closed, with_used, with_unboxed, after}
 
 -- A slot that has a font keeps it where another one is given a font.
 font_kept : (fonts : Slots) (other : ℕ) (font : LoadedFont) (slot : ℕ) (loaded : LoadedFont) → font_in fonts other ≡ None

@@ -9,7 +9,7 @@ use Rattle.command_core.specs.declared.command.Command.{Command}
 use Rattle.command_core.specs.declared.command.Command.TheVariants.{LoadFont}
 use Rattle.dvi_write.specs.Fonts.{Slots}
 use Rattle.nest_core.specs.FontSlots.{font_of}
-use Rattle.nest_core.specs.Machine.{State, font_for}
+use Rattle.nest_core.specs.State.{State, font_for}
 
 -- A font is what the first file of its name gives at its size.
 pub record IsLoaded (files : List NamedBytes) (loaded : LoadedFont) : Type 0 where

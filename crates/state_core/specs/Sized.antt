@@ -10,7 +10,7 @@ use Rattle.node_core.specs.Nodes.{nodes_of, box_depth}
 use Rattle.nest_core.specs.declared.nest.OpenList.{OpenList}
 use Rattle.dvi_write.specs.Fonts.{Slots, font_in}
 use Rattle.nest_core.specs.FontSlots.{glyph_by}
-use Rattle.nest_core.specs.Machine.{State, most_deep}
+use Rattle.nest_core.specs.State.{State, most_deep}
 
 -- A glyph has the sizes of its character in the font of its slot.
 abbrev pub HasSizes : Slots → glyphs.Glyph → Type 0

@@ -6,7 +6,12 @@ ghost use Rattle.dvi_write.specs.Fonts.{font_in};
 ghost use Rattle.state_core.specs.Loaded.{GivesNumbers};
 ghost use Rattle.node_core.specs.Nodes.{most_nodes, nodes_of};
 ghost use Rattle.nest_core.specs.EmptiedNest.{refilled};
-ghost use Rattle.nest_core.specs.Machine.{first_state, innermost, outer, items_in, held_in, nodes_in, checks, first_of, reply_by, reply_to, state_by, state_after, after, sizes_of, character_checks, item_checks, length_checks, held_checks, home_checks, place_checks, shaped_answer, with_items, with_used, with_unboxed, with_home, GoesIntoList, is_other, is_running, is_misplaced};
+ghost use Rattle.nest_core.specs.State.{first_state, innermost, outer, items_in, held_in, nodes_in};
+ghost use Rattle.nest_core.specs.OpenLists.{GoesIntoList};
+ghost use Rattle.nest_core.specs.Checks.{checks, first_of, character_checks, item_checks, length_checks, held_checks, home_checks, place_checks, is_other, is_running, is_misplaced};
+ghost use Rattle.nest_core.specs.Answers.{sizes_of, shaped_answer};
+ghost use Rattle.nest_core.specs.Effects.{after, with_items, with_used, with_unboxed, with_home};
+ghost use Rattle.nest_core.specs.Machine.{reply_by, reply_to, state_by, state_after};
 ghost use Rattle.nest_core.specs.Runs.{early_checks};
 
 use command_core::{
@@ -42,7 +47,7 @@ pub struct Kept {
 
 impl Model for Kept {
     ghost use Rattle.std.specs.Prelude.{◌≤◌};
-    ghost use Rattle.nest_core.specs.Machine.{State, most_shipped, most_pages};
+    ghost use Rattle.nest_core.specs.State.{State, most_shipped, most_pages};
     ghost use Rattle.state_core.specs.StateCode.{coded_state};
 
     ghost Value = { State };

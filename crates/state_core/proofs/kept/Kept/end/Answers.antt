@@ -3,7 +3,10 @@ use Rattle.std.specs.Option.{option_copied}
 use Rattle.nest_core.specs.declared.nest.OpenList.{OpenList}
 use Rattle.state_core.specs.contracts.kept.Kept as a_kept
 use Rattle.command_core.specs.declared.command.Command.TheVariants.{End}
-use Rattle.nest_core.specs.Machine.{State, checks, first_of, state_by, after}
+use Rattle.nest_core.specs.State.{State}
+use Rattle.nest_core.specs.Checks.{checks, first_of}
+use Rattle.nest_core.specs.Effects.{after}
+use Rattle.nest_core.specs.Machine.{state_by}
 use Rattle.nest_core.proofs.Nests.{put_back, end_refused, on_err}
 use Rattle.state_core.proofs.kept.Kept.end.Goals as goal
 
