@@ -65,7 +65,7 @@ fn obey(kept: &mut Kept, writer: &mut Writer, command: &Command) -> Result<Reply
         Command::Kern(width) => kept.append_item(Node::Kern(*width)),
         Command::Glue(glue) => kept.append_item(Node::Glue(*glue)),
         Command::Penalty(number) => kept.append_item(Node::Penalty(number.get())),
-        Command::Append(taken) => kept.append_box(taken),
+        Command::Append(taken) => kept.append_register_box(taken),
         Command::Unbox(taken) => kept.unbox(taken),
         Command::LastBox(register) => Ok(kept.last_box(*register)),
         Command::Measure(register) => Ok(kept.measure(*register)),

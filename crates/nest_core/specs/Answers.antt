@@ -23,9 +23,9 @@ packed_answer None = Done
 packed_answer (Some packed) = Packed (sizes_of packed.shown) packed.badness
 
 -- What a register is measured as.
-abbrev pub measured : Option BoxNode → Answer
-measured None = MeasuredVoid
-measured (Some b) = Measured b.kind (sizes_of b)
+abbrev pub measured_answer : Option BoxNode → Answer
+measured_answer None = MeasuredVoid
+measured_answer (Some b) = Measured b.kind (sizes_of b)
 
 -- The answer to characters that come to these items.
 abbrev pub shaped_answer : CharacterItems → Answer
@@ -52,7 +52,7 @@ answer_of m (Penalty n) = Done
 answer_of m (Append taken) = Added (box_count_in m.params (innermost m.nest) (held_in m.registers taken.register))
 answer_of m (Unbox taken) = Added (length (nodes_in (held_in m.registers taken.register)))
 answer_of m (LastBox r) = Done
-answer_of m (Measure r) = measured (held_in m.registers r)
+answer_of m (Measure r) = measured_answer (held_in m.registers r)
 answer_of m (Void r) = Done
 answer_of m (Set parameter) = Done
 answer_of m (Ship r) = Shipped (m.pages + 1)

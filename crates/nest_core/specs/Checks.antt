@@ -15,13 +15,14 @@ use Rattle.command_core.specs.declared.command.Command.{Command}
 use Rattle.command_core.specs.declared.command.Command.TheVariants.{LoadFont, UseFont, Open, End, Text, Character, Rule, Kern, Glue, Penalty, Append, Unbox, LastBox, Measure, Void, Set, Ship}
 use Rattle.command_core.specs.declared.command.Refusal.{Refusal}
 use Rattle.command_core.specs.declared.command.Refusal.TheVariants.{DimensionTooLarge, NoFont, SlotTaken, NoOpenList, WrongMode, WrongKind, ListTooLong, TooDeep, HugePage, TooManyPages, TooMuchShipped, JobOver, VoidBox}
+use Rattle.command_core.specs.declared.limits.TheConstants.{MOST_OPEN, MOST_ITEMS, MOST_DEEP, MOST_PAGES, MOST_SHIPPED}
 use Rattle.pack_core.specs.declared.pack.Packed as packs
 use Rattle.ship_core.specs.Marks.{is_huge}
 use Rattle.tfm_core.specs.Fonts.{SizedFont}
 use Rattle.dvi_write.specs.Fonts.{font_in}
 use Rattle.nest_core.specs.FontSlots.{current_font, CharacterItems, text_shaped, character_shaped}
-use Rattle.nest_core.specs.State.{State, most_open, most_deep, most_items, most_pages, most_shipped, innermost, outer, open_count, held_in, count_in, font_for}
-use Rattle.nest_core.specs.OpenLists.{kind_in, is_vertical, glue_in, box_items, packed_list}
+use Rattle.nest_core.specs.State.{State, innermost, outer, open_count, held_in, count_in, font_for}
+use Rattle.nest_core.specs.OpenLists.{kind_in, is_vertical, register_of, glue_in, box_items, packed_list}
 
 -- The first refusal whose condition holds.
 abbrev pub first_of : List (Bool × Refusal) → Option Refusal
@@ -30,11 +31,11 @@ first_of ((holds, refusal) ∷ rest) = if holds then Some refusal else first_of 
 
 -- The refusal of items that are too many for the innermost list.
 abbrev pub length_checks : State → List Node → List (Bool × Refusal)
-length_checks m items = (nat_lt most_items (open_count m + length items), ListTooLong) ∷ []
+length_checks m items = (nat_lt MOST_ITEMS (open_count m + length items), ListTooLong) ∷ []
 
 -- The refusals of one more item.
 abbrev pub item_checks : State → List (Bool × Refusal)
-item_checks m = (length m.nest == 0, NoOpenList) ∷ (nat_le most_items (open_count m), ListTooLong) ∷ []
+item_checks m = (length m.nest == 0, NoOpenList) ∷ (nat_le MOST_ITEMS (open_count m), ListTooLong) ∷ []
 
 -- The refusals of characters, whatever they come to: they belong in a horizontal list.
 abbrev pub character_checks : State → List (Bool × Refusal)
@@ -52,14 +53,14 @@ refusal_in (Err refusal) = (true, refusal) ∷ []
 
 -- The refusals of a list that is opened: a box without a register goes into the enclosing list.
 abbrev pub open_checks : List OpenList → Option ℕ → List (Bool × Refusal)
-open_checks nest into = (is_none into && (length nest == 0), NoOpenList) ∷ (nat_le most_open (length nest), TooDeep) ∷ []
+open_checks nest into = (is_none into && (length nest == 0), NoOpenList) ∷ (nat_le MOST_OPEN (length nest), TooDeep) ∷ []
 
 -- The refusals of a box at the end of an open list: the glue in front of it does not fit, or the list would be too long.
 abbrev pub box_checks : Params → Option OpenList → BoxNode → List (Bool × Refusal)
 box_checks params None b = (true, NoOpenList) ∷ []
 box_checks params (Some open_list) b =
     (not (is_ok (glue_in params open_list b.height)), DimensionTooLarge)
-    ∷ (nat_lt most_items (length (nodes_of open_list.list) + length (box_items params open_list (pos 0) b)), ListTooLong) ∷ []
+    ∷ (nat_lt MOST_ITEMS (length (nodes_of open_list.list) + length (box_items params open_list (pos 0) b)), ListTooLong) ∷ []
 
 -- The refusals of the place where the box of a closed list goes: a register takes any box.
 abbrev pub home_checks : Params → (around : List OpenList) → (into : Option ℕ) → BoxNode → List (Bool × Refusal)
@@ -68,7 +69,7 @@ home_checks params around (Some r) b = []
 
 -- The refusals of the box of a closed list: that it is too deep, and then those of the place where it goes.
 abbrev pub place_checks : Params → (around : List OpenList) → (into : Option ℕ) → BoxNode → List (Bool × Refusal)
-place_checks params around into b = (nat_lt most_deep (box_depth b), TooDeep) ∷ home_checks params around into b
+place_checks params around into b = (nat_lt MOST_DEEP (box_depth b), TooDeep) ∷ home_checks params around into b
 
 -- The refusals of what an open list was packed to: that a size does not fit where there is no box, else those of the box.
 abbrev pub packed_checks : Params → (around : List OpenList) → (into : Option ℕ) → Option packs.Packed → List (Bool × Refusal)
@@ -78,7 +79,7 @@ packed_checks params around into (Some packed) = place_checks params around into
 -- The refusals of the end of an open list that has these lists around.
 abbrev pub close_checks : Params → (around : List OpenList) → Option OpenList → List (Bool × Refusal)
 close_checks params around None = (true, NoOpenList) ∷ []
-close_checks params around (Some open_list) = packed_checks params around open_list.opening.into (packed_list params (Some open_list))
+close_checks params around (Some open_list) = packed_checks params around (register_of open_list.purpose) (packed_list params (Some open_list))
 
 -- The refusals of the end of the innermost list.
 abbrev pub end_checks : Params → List OpenList → List (Bool × Refusal)
@@ -104,7 +105,7 @@ is_other Vertical Horizontal = true
 abbrev pub items_checks : Kind → (count : ℕ) → Option BoxNode → List (Bool × Refusal)
 items_checks kind count None = []
 items_checks kind count (Some b) =
-    (is_other kind b.kind, WrongKind) ∷ (nat_lt most_items (count + length (nodes_of b.list)), ListTooLong) ∷ []
+    (is_other kind b.kind, WrongKind) ∷ (nat_lt MOST_ITEMS (count + length (nodes_of b.list)), ListTooLong) ∷ []
 
 -- The refusals of the four commands that unbox: that no list is open, that it is not of the kind of the command, and then those of the items.
 abbrev pub unbox_checks : State → Kind → (register : ℕ) → List (Bool × Refusal)
@@ -137,7 +138,7 @@ own_checks m (Open opening) = open_checks m.nest opening.into
 own_checks m End = end_checks m.params m.nest
 own_checks m (Rule rule) =
     (length m.nest == 0, NoOpenList) ∷ (is_misplaced (kind_in (innermost m.nest)) rule, WrongMode)
-    ∷ (nat_le most_items (open_count m), ListTooLong) ∷ []
+    ∷ (nat_le MOST_ITEMS (open_count m), ListTooLong) ∷ []
 own_checks m (Kern width) = item_checks m
 own_checks m (Glue glue) = item_checks m
 own_checks m (Penalty n) = item_checks m
@@ -148,8 +149,8 @@ own_checks m (Measure r) = []
 own_checks m (Void r) = []
 own_checks m (Set parameter) = []
 own_checks m (Ship r) =
-    (is_none (held_in m.registers r), VoidBox) ∷ (nat_le most_pages m.pages, TooManyPages)
-    ∷ (nat_lt most_shipped (m.shipped + count_in (held_in m.registers r)), TooMuchShipped)
+    (is_none (held_in m.registers r), VoidBox) ∷ (nat_le MOST_PAGES m.pages, TooManyPages)
+    ∷ (nat_lt MOST_SHIPPED (m.shipped + count_in (held_in m.registers r)), TooMuchShipped)
     ∷ (is_huge_in (held_in m.registers r), HugePage) ∷ []
 
 -- A job that is over refuses each command for that.

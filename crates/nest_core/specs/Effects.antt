@@ -18,14 +18,14 @@ use Rattle.command_core.specs.declared.command.Command.TheVariants.{LoadFont, Us
 use Rattle.pack_core.specs.declared.pack.Packed as packs
 use Rattle.ship_core.specs.Marks.{Page}
 use Rattle.nest_core.specs.FontSlots.{with_font, text_shaped, character_shaped}
-use Rattle.nest_core.specs.State.{State, innermost, outer, items_in, held_in, count_in, font_for}
-use Rattle.nest_core.specs.OpenLists.{opened, box_items, packed_list}
+use Rattle.nest_core.specs.State.{State, innermost, outer, with_innermost, items_in, held_in, count_in, font_for}
+use Rattle.nest_core.specs.OpenLists.{opened_list, register_of, box_items, packed_list}
 
 -- The nest with more nodes at the end of its innermost list.
 abbrev pub with_nodes : List OpenList → List Node → Option OpenList → List OpenList
 with_nodes nest nodes None = nest
 with_nodes nest nodes (Some open_list) =
-    slice_set nest (length nest - 1) (record open_list { list = items_of (nodes_of open_list.list ++ nodes) })
+    with_innermost nest (record open_list { list = items_of (nodes_of open_list.list ++ nodes) })
 
 -- The state with items behind the innermost list.
 abbrev pub with_items : State → List Node → State
@@ -35,7 +35,7 @@ with_items m items = record m { nest = with_nodes m.nest items (innermost m.nest
 abbrev pub with_rule : List OpenList → rules.Rule → Option OpenList → List OpenList
 with_rule nest rule None = nest
 with_rule nest rule (Some open_list) =
-    slice_set nest (length nest - 1)
+    with_innermost nest
     (record open_list { list = items_of (nodes_of open_list.list ++ nodes.Rule rule ∷ []); previous_depth = ignored_depth })
 
 -- The list with a box at its end: the previous depth is then that of the box (TeX: The Program, part 33, §679).
@@ -46,13 +46,13 @@ list_with_box params shift b open_list =
 -- The nest with a box at the end of its innermost list.
 abbrev pub with_box : Params → List OpenList → (shift : ℤ) → BoxNode → Option OpenList → List OpenList
 with_box params nest shift b None = nest
-with_box params nest shift b (Some open_list) = slice_set nest (length nest - 1) (list_with_box params shift b open_list)
+with_box params nest shift b (Some open_list) = with_innermost nest (list_with_box params shift b open_list)
 
 -- The nest without a box at the end of its innermost list (TeX: The Program, part 47, §1080 and §1081).
 abbrev pub without_last : List OpenList → Option OpenList → List OpenList
 without_last nest None = nest
 without_last nest (Some open_list) =
-    slice_set nest (length nest - 1)
+    with_innermost nest
     (record open_list { list = items_of (without (last_box (nodes_of open_list.list)) (nodes_of open_list.list)) })
 
 -- The registers when the box of one was taken from it.
@@ -76,7 +76,7 @@ with_home m around (Some r) b = record m { nest = around; registers = slice_set 
 abbrev pub with_closed : State → Option OpenList → Option packs.Packed → State
 with_closed m None packed = m
 with_closed m (Some open_list) None = m
-with_closed m (Some open_list) (Some packed) = with_home m (outer m.nest) open_list.opening.into packed.shown
+with_closed m (Some open_list) (Some packed) = with_home m (outer m.nest) (register_of open_list.purpose) packed.shown
 
 -- The state with the box of a register at the end of the innermost list.
 abbrev pub with_used : State → Taking → (register : ℕ) → (shift : ℤ) → Option BoxNode → State
@@ -96,7 +96,7 @@ after m (LoadFont load) = record m { fonts = with_font m.fonts load.slot load.na
 after m (UseFont slot) = record m { current = Some slot }
 after m (Text text) = with_items m (text_shaped m.fonts m.current text).items
 after m (Character code) = with_items m (character_shaped m.fonts m.current code).items
-after m (Open opening) = record m { nest = m.nest ++ opened opening ∷ [] }
+after m (Open opening) = record m { nest = m.nest ++ opened_list opening ∷ [] }
 after m End = with_closed m (innermost m.nest) (packed_list m.params (innermost m.nest))
 after m (Rule rule) = record m { nest = with_rule m.nest rule (innermost m.nest) }
 after m (Kern width) = with_items m (nodes.Kern width ∷ [])

@@ -7,3 +7,4 @@ pub mod Machine
 pub mod FontSlots
 pub mod Runs
 pub mod EmptiedNest
+pub mod Lending

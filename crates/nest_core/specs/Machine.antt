@@ -20,7 +20,7 @@ reply_by (Some refusal) answer = Err refusal
 abbrev pub reply_to : State → Command → Reply
 reply_to m command = reply_by (first_of (checks m command)) (answer_of m command)
 
--- What is there after a command: a refusal leaves the old as it is.
+-- The old where a command is refused, and the new where it is accepted.
 abbrev pub state_by : {A : Type 0} → Option Refusal → A → A → A
 state_by None old new = new
 state_by (Some refusal) old new = old
@@ -47,5 +47,5 @@ step m command =
     }
 
 -- The machine whose job is over.
-abbrev pub stopped : Machine → Machine
-stopped m = record m { state = record (m.state) { over = true } }
+abbrev pub stopped_machine : Machine → Machine
+stopped_machine m = record m { state = record (m.state) { over = true } }

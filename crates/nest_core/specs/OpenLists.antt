@@ -1,5 +1,5 @@
 -- An open list: its kind, what a box brings to it, and the box that it becomes (own; after TeX: The Program, parts 33 and 47).
-use Rattle.std.specs.Prelude.{◌≡◌, ℤ, Bool, true, false, List, Option, Some, None, Result, Ok, Err}
+use Rattle.std.specs.Prelude.{◌≡◌, ℕ, ℤ, Bool, true, false, List, Option, Some, None, Result, Ok, Err}
 use Rattle.node_core.specs.declared.tree.Node.{Node}
 use Rattle.node_core.specs.declared.tree.Kind.{Kind}
 use Rattle.node_core.specs.declared.tree.Kind.TheVariants.{Horizontal, Vertical}
@@ -10,6 +10,8 @@ use Rattle.node_core.specs.Items.{Items, none}
 use Rattle.vert_core.specs.declared.interline.DimensionTooLarge as distances
 use Rattle.vert_core.specs.Interline.{ignored_depth, interline, glue_of, appended}
 use Rattle.nest_core.specs.declared.nest.OpenList.{OpenList}
+use Rattle.nest_core.specs.declared.nest.ListPurpose.{ListPurpose}
+use Rattle.nest_core.specs.declared.nest.ListPurpose.TheVariants.{Box}
 use Rattle.command_core.specs.BoxForms.{kind_of}
 use Rattle.command_core.specs.declared.command.BoxForm.{BoxForm}
 use Rattle.command_core.specs.declared.command.BoxForm.TheVariants.{Hbox, Vbox, Vtop}
@@ -20,13 +22,17 @@ use Rattle.pack_core.specs.declared.pack.TooLarge.{TooLarge}
 use Rattle.pack_core.specs.Boxes.{hpacked, vpacked, vtopped}
 
 -- A list that was just opened: it has no items, and no previous depth.
-abbrev pub opened : Opening → OpenList
-opened opening = record { opening = opening; list = none; previous_depth = ignored_depth }
+abbrev pub opened_list : Opening → OpenList
+opened_list opening = record { purpose = Box opening; list = none; previous_depth = ignored_depth }
+
+-- Which way a list goes, by what it was opened for.
+abbrev pub kind_by : ListPurpose → Kind
+kind_by (Box opening) = kind_of opening.form
 
 -- The kind of an open list; where there is none, no command asks for it.
 abbrev pub kind_in : Option OpenList → Kind
 kind_in None = Horizontal
-kind_in (Some open_list) = kind_of open_list.opening.form
+kind_in (Some open_list) = kind_by open_list.purpose
 
 -- Whether lists of that kind are vertical.
 abbrev pub is_vertical : Kind → Bool
@@ -40,7 +46,7 @@ glue_by Vertical params previous height = interline params previous height
 
 -- The glue in front of a box of that height at the end of an open list.
 abbrev pub glue_in : Params → OpenList → (height : ℤ) → Result (Option glues.Glue) distances.DimensionTooLarge
-glue_in params open_list height = glue_by (kind_of open_list.opening.form) params open_list.previous_depth height
+glue_in params open_list height = glue_by (kind_by open_list.purpose) params open_list.previous_depth height
 
 -- The items that a box brings to an open list: the glue in front of it, and the box with its shift.
 abbrev pub box_items : Params → OpenList → (shift : ℤ) → BoxNode → List Node
@@ -53,6 +59,10 @@ packed_as Hbox params target items = hpacked target items
 packed_as Vbox params target items = vpacked target params.box_max_depth items
 packed_as Vtop params target items = vtopped target params.box_max_depth items
 
+-- The box that a list with these items becomes, by what it was opened for.
+abbrev pub packed_by : ListPurpose → Params → Items → Result packs.Packed TooLarge
+packed_by (Box opening) params items = packed_as opening.form params opening.target items
+
 -- What was packed, if the sizes fit.
 abbrev pub if_packed : Result packs.Packed TooLarge → Option packs.Packed
 if_packed (Ok packed) = Some packed
@@ -61,9 +71,13 @@ if_packed (Err items) = None
 -- The box of an open list, if there is one and its sizes fit.
 abbrev pub packed_list : Params → Option OpenList → Option packs.Packed
 packed_list params None = None
-packed_list params (Some open_list) = if_packed (packed_as open_list.opening.form params open_list.opening.target open_list.list)
+packed_list params (Some open_list) = if_packed (packed_by open_list.purpose params open_list.list)
+
+-- The register that the box of a list goes into; none where it goes into the list around.
+abbrev pub register_of : ListPurpose → Option ℕ
+register_of (Box opening) = opening.into
 
 -- Whether the box of an open list goes into the list around it.
 abbrev pub GoesIntoList : Option OpenList → Type 0
 GoesIntoList None = ⊥
-GoesIntoList (Some open_list) = open_list.opening.into ≡ None
+GoesIntoList (Some open_list) = register_of open_list.purpose ≡ None

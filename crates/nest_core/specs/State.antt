@@ -1,5 +1,5 @@
--- What a job keeps, its limits, and what is read of it (own; after TeX: The Program, parts 16, 32 and 33).
-use Rattle.std.specs.Prelude.{◌-◌, [], ℕ, Bool, false, List, length, take, replicate, slice_get, Option, Some, None, unwrap_or, Result}
+-- What a job keeps, and what is read of it (own; after TeX: The Program, parts 16, 32 and 33).
+use Rattle.std.specs.Prelude.{◌-◌, [], ℕ, Bool, false, List, length, take, replicate, slice_get, slice_set, Option, Some, None, unwrap_or, Result}
 use Rattle.node_core.specs.declared.tree.Node.{Node}
 use Rattle.node_core.specs.declared.tree.BoxNode.{BoxNode}
 use Rattle.node_core.specs.declared.params.Params.{Params}
@@ -8,10 +8,12 @@ use Rattle.node_core.specs.Nodes.{nodes_of, box_count}
 use Rattle.node_core.specs.Parameters.{first_params}
 use Rattle.nest_core.specs.declared.nest.OpenList.{OpenList}
 use Rattle.command_core.specs.declared.command.FontLoad.{FontLoad}
+use Rattle.command_core.specs.declared.limits.TheConstants.{REGISTERS}
 use Rattle.command_core.specs.declared.command.Refusal.{Refusal}
 use Rattle.tfm_core.specs.NamedBytes.{NamedBytes, file_named}
 use Rattle.tfm_core.specs.Fonts.{SizedFont}
 use Rattle.dvi_write.specs.Fonts.{Slots}
+use Rattle.dvi_write.specs.declared.fonts.TheConstants.{FONT_SLOTS}
 use Rattle.nest_core.specs.FontSlots.{font_of}
 
 -- What commands read and change: the font files; the fonts by slot, and the slot of the current one; the parameters; the open lists, the
@@ -27,36 +29,16 @@ pub record State : Type 0 where
   pub pages : ℕ
   pub over : Bool
 
--- How many lists may be open at once.
-abbrev pub most_open : ℕ
-most_open = 64
-
--- How deep boxes may nest in a box, that box counted.
-abbrev pub most_deep : ℕ
-most_deep = 200
-
--- How many items an open list may have.
-abbrev pub most_items : ℕ
-most_items = 65536
-
--- How many pages a job may ship.
-abbrev pub most_pages : ℕ
-most_pages = 1
-
--- How many nodes a job may ship, on all its pages together.
-abbrev pub most_shipped : ℕ
-most_shipped = 16777216
-
 -- The state of a new job with these files.
 abbrev pub first_state : List NamedBytes → State
 first_state files =
     record {
       files = files;
-      fonts = replicate 256 None;
+      fonts = replicate FONT_SLOTS None;
       current = None;
       params = first_params;
       nest = [];
-      registers = replicate 256 None;
+      registers = replicate REGISTERS None;
       shipped = 0;
       pages = 0;
       over = false;
@@ -69,6 +51,10 @@ innermost nest = slice_get nest (length nest - 1)
 -- The open lists around the innermost one.
 abbrev pub outer : List OpenList → List OpenList
 outer nest = take (length nest - 1) nest
+
+-- The nest with another list in place of the innermost one.
+abbrev pub with_innermost : List OpenList → OpenList → List OpenList
+with_innermost nest open_list = slice_set nest (length nest - 1) open_list
 
 -- The items of an open list, if there is one.
 abbrev pub items_in : Option OpenList → Items
