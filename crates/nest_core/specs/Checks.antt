@@ -21,7 +21,7 @@ use Rattle.ship_core.specs.Marks.{is_huge}
 use Rattle.tfm_core.specs.Fonts.{SizedFont}
 use Rattle.dvi_write.specs.Fonts.{font_in}
 use Rattle.nest_core.specs.FontSlots.{current_font, CharacterItems, text_shaped, character_shaped}
-use Rattle.nest_core.specs.State.{State, innermost, outer, open_count, held_in, count_in, font_for}
+use Rattle.nest_core.specs.State.{State, innermost, outer, items_in, open_count, held_in, count_in, font_for}
 use Rattle.nest_core.specs.OpenLists.{kind_in, is_vertical, register_of, glue_in, box_items, packed_list}
 
 -- The first refusal whose condition holds.
@@ -107,11 +107,15 @@ items_checks kind count None = []
 items_checks kind count (Some b) =
     (is_other kind b.kind, WrongKind) ∷ (nat_lt MOST_ITEMS (count + length (nodes_of b.list)), ListTooLong) ∷ []
 
--- The refusals of the four commands that unbox: that no list is open, that it is not of the kind of the command, and then those of the items.
+-- The refusals of the items of the box of a register at the end of an open list: that the list is not of the kind of the command, and then
+-- those of the items.
+abbrev pub inner_checks : Kind → Option OpenList → Option BoxNode → List (Bool × Refusal)
+inner_checks kind open_list held =
+    (is_other kind (kind_in open_list), WrongMode) ∷ items_checks kind (length (nodes_of (items_in open_list))) held
+
+-- The refusals of the four commands that unbox: that no list is open, and then those of the items of the register's box.
 abbrev pub unbox_checks : State → Kind → (register : ℕ) → List (Bool × Refusal)
-unbox_checks m kind r =
-    (length m.nest == 0, NoOpenList) ∷ (is_other kind (kind_in (innermost m.nest)), WrongMode)
-    ∷ items_checks kind (open_count m) (held_in m.registers r)
+unbox_checks m kind r = (length m.nest == 0, NoOpenList) ∷ inner_checks kind (innermost m.nest) (held_in m.registers r)
 
 -- Whether a size of a rule is running.
 abbrev pub is_running : RuleSize → Bool

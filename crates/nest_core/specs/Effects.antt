@@ -1,5 +1,5 @@
 -- What a command that is accepted changes, and the pages that it adds: a row a command (own; after TeX: The Program, parts 16, 32, 33 and 47).
-use Rattle.std.specs.Prelude.{◌+◌, ◌-◌, ◌++◌, ◌∷◌, [], ℕ, ℤ, pos, List, length, slice_set, Option, Some, None}
+use Rattle.std.specs.Prelude.{◌+◌, ◌++◌, ◌∷◌, [], ℕ, ℤ, pos, List, slice_set, Option, Some, None}
 use Rattle.node_core.specs.declared.tree.Node.{Node}
 use Rattle.node_core.specs.declared.tree.Node.TheVariants as nodes
 use Rattle.node_core.specs.declared.tree.Rule as rules

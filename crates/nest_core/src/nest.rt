@@ -4,9 +4,9 @@ ghost use Rattle.std.specs.Prelude.{◌≡◌, ◌<◌, ◌≤◌, ◌+◌, ◌-
 ghost use Rattle.node_core.specs.Items.{none};
 ghost use Rattle.node_core.specs.Nodes.{most_nodes, items_of, nodes_of, last_box};
 ghost use Rattle.vert_core.specs.Interline.{interline, glue_of, appended};
-ghost use Rattle.nest_core.specs.State.{innermost, items_in, outer};
+ghost use Rattle.nest_core.specs.State.{innermost, items_in, nodes_in, outer};
 ghost use Rattle.nest_core.specs.OpenLists.{kind_by, register_of, packed_by, opened_list, glue_in, box_items, packed_as, packed_list};
-ghost use Rattle.nest_core.specs.Checks.{box_checks, first_of};
+ghost use Rattle.nest_core.specs.Checks.{box_checks, inner_checks, is_other, first_of};
 ghost use Rattle.nest_core.specs.Effects.{with_nodes, with_rule, list_with_box, with_box, without_last};
 ghost use Rattle.nest_core.specs.EmptiedNest.{emptied_nest, refilled_nest};
 ghost use Rattle.nest_core.specs.Lending.{LendsInnermost};
@@ -100,6 +100,13 @@ fn pack_for(purpose: ListPurpose, params: &Params, list: NodeList) -> Result<Pac
     }
 }
 
+/// Whether two kinds are not the same.
+fn is_other(a: Kind, b: Kind) -> bool
+    ensures { result ≡ is_other a b }
+{
+    a != b
+}
+
 impl OpenList {
     /// The box of the list, which is then empty; or None where a size does not fit, and the list stays as it was.
     fn pack(&mut self, alloc: Global, params: &Params) -> Option<Packed>
@@ -143,6 +150,31 @@ impl OpenList {
             return Err(Refusal::ListTooLong);
         }
         Ok(count)
+    }
+
+    /// How many items the box of a register brings to the list without the box itself, or why they may not stand at its end. A void register
+    /// brings none.
+    pub fn room_for_items(&self, kind: Kind, held: Option<&BoxNode>) -> Result<usize, Refusal>
+        ensures ok { OnOk result (first_of (inner_checks kind (Some self.now) (option_copied held.entry)) ≡ None) }
+        ensures count { IfOk result (λ count. count ≡ length (nodes_in (option_copied held.entry))) }
+        ensures err { IfErr result (λ refusal. first_of (inner_checks kind (Some self.now) (option_copied held.entry)) ≡ Some refusal) }
+        ensures short { IfOk result (λ count. length (nodes_of self.now.list) + count ≤ most_nodes) }
+    {
+        let length = self.list.len();
+        if is_other(kind, self.purpose.kind()) {
+            return Err(Refusal::WrongMode);
+        }
+        let Some(box_node) = held else {
+            return Ok(0);
+        };
+        if is_other(kind, box_node.kind) {
+            return Err(Refusal::WrongKind);
+        }
+        let items = box_node.list.len();
+        if length + items > MOST_ITEMS {
+            return Err(Refusal::ListTooLong);
+        }
+        Ok(items)
     }
 
     /// Puts a box at the end of a horizontal list.

@@ -8,7 +8,7 @@ ghost use Rattle.node_core.specs.Nodes.{most_nodes, nodes_of};
 ghost use Rattle.nest_core.specs.EmptiedNest.{refilled_nest};
 ghost use Rattle.nest_core.specs.State.{first_state, innermost, outer, items_in, held_in, nodes_in};
 ghost use Rattle.nest_core.specs.OpenLists.{GoesIntoList};
-ghost use Rattle.nest_core.specs.Checks.{checks, first_of, character_checks, item_checks, length_checks, held_checks, home_checks, place_checks, is_other, is_running, is_misplaced};
+ghost use Rattle.nest_core.specs.Checks.{checks, first_of, character_checks, item_checks, length_checks, held_checks, home_checks, place_checks, is_running, is_misplaced};
 ghost use Rattle.nest_core.specs.Answers.{sizes_of, shaped_answer};
 ghost use Rattle.nest_core.specs.Effects.{after, with_items, with_used, with_unboxed, with_home};
 ghost use Rattle.nest_core.specs.Machine.{reply_by, reply_to, state_by, state_after};
@@ -368,19 +368,11 @@ impl Kept {
         let Some(innermost) = self.nest.innermost() else {
             return Ok(Err(Refusal::NoOpenList));
         };
-        if is_other(taken.kind, innermost.purpose.kind()) {
-            return Ok(Err(Refusal::WrongMode));
-        }
-        let Some(box_node) = self.registers.get(taken.register) else {
-            return Ok(Ok(Answer::Added(0)));
+        let held = self.registers.get(taken.register);
+        let count = match innermost.room_for_items(taken.kind, held) {
+            Ok(count) => count,
+            Err(refusal) => return Ok(Err(refusal)),
         };
-        if is_other(taken.kind, box_node.kind) {
-            return Ok(Err(Refusal::WrongKind));
-        }
-        let count = box_node.list.len();
-        if innermost.list.len() + count > MOST_ITEMS {
-            return Ok(Err(Refusal::ListTooLong));
-        }
         match taken.taking {
             Taking::Moved => self.move_items(taken.register)?,
             Taking::Copied => self.copy_items(taken.register)?,
@@ -393,6 +385,7 @@ impl Kept {
         requires { length (nodes_of (items_in (innermost self.old.nest))) + length (nodes_in (held_in self.old.registers register)) ≤ most_nodes }
         ensures ok { OnOk result (self.new ≡ with_unboxed self.old Taking.Moved register (held_in self.old.registers register)) }
         ensures err { OnErr result (self.new ≡ self.old) }
+        ensures takes { OnErr result (IsSome (held_in self.old.registers register)) }
     {
         let Some(mut box_node) = self.registers.take(register) else {
             return Ok(());
@@ -411,6 +404,7 @@ impl Kept {
         requires { length (nodes_of (items_in (innermost self.old.nest))) + length (nodes_in (held_in self.old.registers register)) ≤ most_nodes }
         ensures ok { OnOk result (self.new ≡ with_unboxed self.old Taking.Copied register (held_in self.old.registers register)) }
         ensures err { OnErr result (self.new ≡ self.old) }
+        ensures takes { OnErr result (IsSome (held_in self.old.registers register)) }
     {
         let Some(box_node) = self.registers.get(register) else {
             return Ok(());
@@ -587,13 +581,6 @@ fn sizes_of(box_node: &BoxNode) -> Sizes
         height: box_node.height,
         depth: box_node.depth,
     }
-}
-
-/// Whether two kinds are not the same.
-fn is_other(a: Kind, b: Kind) -> bool
-    ensures { result ≡ is_other a b }
-{
-    a != b
 }
 
 /// Whether a size of a rule is running.
