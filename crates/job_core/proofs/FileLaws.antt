@@ -21,7 +21,7 @@ use Rattle.state_core.specs.Sized.{IsSoundBox}
 use Rattle.ship_core.specs.Marks.{Page, marks_of_page, is_huge}
 use Rattle.ship_core.specs.Pages.{reach_down, reach_right}
 use Rattle.ship_core.specs.Drawing.{body_of}
-use Rattle.nest_core.specs.Machine.{most_deep}
+use Rattle.command_core.specs.declared.limits.TheConstants.{MOST_DEEP}
 use Rattle.dvi_write.specs.Draft.{Draft, first_draft, with_page, with_pages, draft_of, definitions_of, fresh_slots, in_rising_order, selects, sheet_of, closing, closed, whole, file_of}
 use Rattle.job_core.specs.Jobs.{IsShipped}
 use Rattle.job_core.specs.Shown.{GivesFiles, shown_page, IsFileOf}
@@ -198,8 +198,8 @@ wide_fits fonts pages all =
     number_within _ (subst (Within 1073741823) (sym (wide-is fonts first_draft pages)) (farthest_within fonts reach_right (pos 0) pages zero_within (λ page here. (reaches fonts page here).1) all))
 
 -- Few pushes are open at once in the pages.
-pub few_pushes : (fonts : Slots) (slots : List ℕ) (s : Written) (pages : List Page) → AllByRecursion (IsShipped fonts) pages → s.depth ≤ most_deep
-    → (after_all s (sheets_of fonts slots pages)).depth ≤ most_deep
+pub few_pushes : (fonts : Slots) (slots : List ℕ) (s : Written) (pages : List Page) → AllByRecursion (IsShipped fonts) pages → s.depth ≤ MOST_DEEP
+    → (after_all s (sheets_of fonts slots pages)).depth ≤ MOST_DEEP
 few_pushes fonts slots s [] all few = few
 few_pushes fonts slots s (page ∷ pages) ((is, small, sound), all) few =
     few_pushes fonts (slots ++ fresh_slots fonts slots (flat (body_of page))) (after s (sheet_of fonts slots page)) pages all

@@ -22,7 +22,10 @@ use Rattle.state_core.specs.Sized.{IsSizedLeaf, IsSoundBox, HasSizedGlyphs}
 use Rattle.state_core.proofs.Leaves.{each_leaf}
 use Rattle.state_core.proofs.KeptRest.{KeepsRest, end_keeps, append_keeps, unbox_keeps}
 use Rattle.ship_core.specs.Marks.{Page}
-use Rattle.nest_core.specs.Machine.{State, Machine, first_machine, checks, first_of, after, font_for, held_in, pages_of, new_pages, state_by}
+use Rattle.nest_core.specs.State.{State, font_for, held_in}
+use Rattle.nest_core.specs.Checks.{checks, first_of}
+use Rattle.nest_core.specs.Effects.{after, pages_of, new_pages}
+use Rattle.nest_core.specs.Machine.{Machine, first_machine, state_by}
 use Rattle.nest_core.specs.Runs.{Steps, Replies, LacksMemory, LosesDevice, Run}
 use Rattle.job_core.specs.GlyphWidths.{HasFileWidth, IsMeasured, IsMeasuredPage}
 use Rattle.state_core.proofs.EachOf.{each_set, each_copy, each_held}

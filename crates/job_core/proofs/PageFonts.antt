@@ -54,7 +54,7 @@ tabled files fonts loaded s l has =
     size_fits (pos n) positive below = record { sfits = omega (arith, ints, below) }
     size_fits (negsuc n) positive below = record { sfits = omega (arith, ints, positive) }
 
--- A number is a slot with a font.
+-- A number that is that of a slot with a font.
 pub record IsSlot (fonts : Slots) (f : ℤ) : Type 0 where
   pub slot : ℕ
   pub loaded : LoadedFont

@@ -6,7 +6,7 @@ use Rattle.node_core.specs.Items.{Leaf, glyph, font_kern, kern, glue, penalty, r
 use Rattle.dvi_write.specs.declared.fonts.LoadedFont.{LoadedFont}
 use Rattle.dvi_write.specs.Fonts.{font_in}
 use Rattle.ship_core.specs.Marks.{Page}
-use Rattle.nest_core.specs.Machine.{State}
+use Rattle.nest_core.specs.State.{State}
 
 -- A glyph's slot has a font, whose name and size are those of widths that the font files give; and the glyph has its character's width.
 pub record HasFileWidth (s : State) (g : Glyph) : Type 0 where

@@ -10,7 +10,10 @@ use Rattle.ship_core.specs.Pages.{page_of}
 use Rattle.dvi_write.specs.Fonts.{Slots}
 use Rattle.state_core.specs.Sized.{IsSoundBox}
 use Rattle.dvi_write.specs.Draft.{Draft, draft_of, with_pages}
-use Rattle.nest_core.specs.Machine.{State, Machine, checks, first_of, state_by, new_pages}
+use Rattle.nest_core.specs.State.{State}
+use Rattle.nest_core.specs.Checks.{checks, first_of}
+use Rattle.nest_core.specs.Effects.{new_pages}
+use Rattle.nest_core.specs.Machine.{Machine, state_by}
 use Rattle.nest_core.specs.Runs.{Steps, Run, Finishes}
 
 -- What a job is seen as: its kept state, its draft of the file, and of its device the bytes that it tells and how often it failed.
