@@ -47,8 +47,16 @@ impl Dimen {
     }
 
     /// The dimension of that many scaled points, or None exactly where the number does not fit.
-    #[tactic(auto, using(crate::proofs::Fitting::dimensions))]
     pub fn try_new(value: i64) -> Option<Dimen>
+        ensures fits { SomeIff result (Fits value) value }
+        ensures value { result ≡ dimension_of value }
+    {
+        Dimen::from_wide(i128::from(value))
+    }
+
+    /// The dimension of a sum of scaled points, or None exactly where the sum does not fit.
+    #[tactic(auto, using(crate::proofs::Fitting::dimensions))]
+    pub fn from_wide(value: i128) -> Option<Dimen>
         ensures fits { SomeIff result (Fits value) value }
         ensures value { result ≡ dimension_of value }
     {
@@ -58,7 +66,9 @@ impl Dimen {
         if value > 1_073_741_823 {
             return None;
         }
-        Some(Dimen::new(value))
+        Some(Dimen {
+            value: value as i32,
+        })
     }
 
     /// The dimension of that many scaled points, which fit.
