@@ -16,7 +16,7 @@ use crate::drawing::Drawing;
 use crate::placing::{PlacedItem, Position, place_item, point_at, sum};
 use dvi_ops::Op;
 use node_core::{BoxNode, Kind, Node};
-use pack_core::{Cursor, difference};
+use pack_core::Cursor;
 use scaled_core::Dimen;
 use std::alloc::{AllocError, Global};
 use thiserror::Error;
@@ -104,7 +104,7 @@ fn begin_of(shown: &BoxNode, h: Dimen, v: Dimen) -> Begin
 {
     let v = match shown.kind {
         Kind::Horizontal => i64::from(v.get()),
-        Kind::Vertical => difference(v, shown.height),
+        Kind::Vertical => v.exact_sub(shown.height),
     };
     Begin { h, v }
 }

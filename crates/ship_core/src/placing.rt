@@ -9,7 +9,7 @@ ghost use Rattle.ship_core.specs.Placing.{point, Reaches, Ends, strokes_in, stro
 ghost use Rattle.node_core.specs.declared.tree.Node.TheVariants as nodes;
 
 use node_core::{BoxNode, Glyph, Kind, Node, Rule, RuleSize};
-use pack_core::{counted, dimension};
+use pack_core::own_size;
 use scaled_core::Dimen;
 
 /// A position on a page, in scaled points to the right of its origin and below it.
@@ -59,8 +59,8 @@ pub struct PlacedItem {
 fn point(h: i128, v: i128) -> Option<Position>
     ensures { result ≡ point h v }
 {
-    let h = dimension(h)?;
-    let v = dimension(v)?;
+    let h = Dimen::from_wide(h)?;
+    let v = Dimen::from_wide(v)?;
     Some(Position { h, v })
 }
 
@@ -98,7 +98,7 @@ pub fn sum(a: Dimen, b: Dimen) -> Option<Dimen>
     ensures first { fits a ≡ true }
     ensures second { fits b ≡ true }
 {
-    dimension(added(a, b))
+    Dimen::from_wide(added(a, b))
 }
 
 /// A size of a rule where it stands in a box.
@@ -130,11 +130,11 @@ fn sizes_of(shown: &BoxNode, rule: Rule) -> Option<RuleSizes>
         Kind::Horizontal => {
             let below = size_where(shown.depth, rule.depth);
             let tall = sum(size_where(shown.height, rule.height), below)?;
-            let wide = counted(rule.width);
+            let wide = own_size(rule.width);
             Some(RuleSizes { below, tall, wide })
         }
         Kind::Vertical => {
-            let tall = sum(counted(rule.height), counted(rule.depth))?;
+            let tall = sum(own_size(rule.height), own_size(rule.depth))?;
             let wide = size_where(shown.width, rule.width);
             Some(RuleSizes {
                 below: tall,
