@@ -16,7 +16,7 @@ use std::alloc::{AllocError, Global};
 use std::default::MadeWith;
 use std::marker::Model;
 use std::mem::replace;
-use vert_core::{DimensionTooLarge, append_box, interline_glue};
+use vert_core::{DimensionTooLarge, append_with_glue, interline_glue};
 
 /// An open list, how it was opened, and the depth of its last box: -1000pt or less where it counts as none.
 #[derive(Debug, Drop)]
@@ -111,35 +111,25 @@ impl OpenList {
     }
 
     /// Puts a box at the end of a vertical list, with the glue in front of it.
-    fn append_down(
-        &mut self,
-        alloc: Global,
-        shown: BoxNode,
-        shift: Dimen,
-        params: &Params,
-    ) -> Result<(), BoxNode>
+    fn append_down(&mut self, shown: BoxNode, shift: Dimen, params: &Params) -> Result<(), BoxNode>
         requires short { length (nodes_of self.old.list) + 2 ≤ most_nodes }
         requires fits { IsOk (interline params.now self.old.previous_depth shown.height) }
         ensures ok { OnOk result (self.new ≡ record self.old { list = items_of (nodes_of self.old.list ++ appended (glue_of (interline params.now self.old.previous_depth shown.height)) shift shown); previous_depth = shown.depth }) }
         ensures err { OnErr result (self.new ≡ self.old) }
         ensures back { IfErr result (λ back. back ≡ shown) }
     {
-        let mut nodes = replace(&mut self.list, NodeList::new(alloc)).into_vec();
-        let result = append_box(&mut nodes, shown, shift, self.previous_depth, params);
-        self.list = NodeList::from_vec(nodes);
-        match result {
-            Ok(depth) => {
-                self.previous_depth = depth;
-                Ok(())
-            }
-            Err(unappended) => Err(unappended.shown),
-        }
+        let depth = shown.depth;
+        let Ok(glue) = interline_glue(self.previous_depth, shown.height, params) else {
+            return Err(shown);
+        };
+        append_with_glue(&mut self.list, glue, shift, shown)?;
+        self.previous_depth = depth;
+        Ok(())
     }
 
     /// Puts a box at the end of the list; where memory is refused, it comes back, and the list is as it was.
     pub fn append_box(
         &mut self,
-        alloc: Global,
         shown: BoxNode,
         shift: Dimen,
         params: &Params,
@@ -151,7 +141,7 @@ impl OpenList {
     {
         match self.opening.form.kind() {
             Kind::Horizontal => self.append_across(shown, shift),
-            Kind::Vertical => self.append_down(alloc, shown, shift, params),
+            Kind::Vertical => self.append_down(shown, shift, params),
         }
     }
 }
@@ -302,12 +292,11 @@ impl Nest {
         ensures err { OnErr result (self.new ≡ self.old) }
         ensures back { IfErr result (λ back. back ≡ shown) }
     {
-        let alloc = *self.lists.allocator();
         let last = self.lists.len().saturating_sub(1);
         let Some(innermost) = self.lists.get_mut(last) else {
             return Err(shown);
         };
-        innermost.append_box(alloc, shown, shift, params)
+        innermost.append_box(shown, shift, params)
     }
 
     /// Takes the last item of the innermost list away, if it is a box.
@@ -374,7 +363,6 @@ impl Nest {
         ensures err { OnErr result (self.new ≡ self.old) }
         ensures back { IfErr result (λ back. back ≡ shown) }
     {
-        let alloc = *self.lists.allocator();
         let count = self.lists.len();
         if count < 2 {
             return Err(shown);
@@ -382,7 +370,7 @@ impl Nest {
         let Some(around) = self.lists.get_mut(count - 2) else {
             return Err(shown);
         };
-        around.append_box(alloc, shown, Dimen::ZERO, params)?;
+        around.append_box(shown, Dimen::ZERO, params)?;
         let _ = self.lists.pop();
         Ok(())
     }

@@ -24,26 +24,26 @@ use Rattle.std.proofs.Math.Bool.{and-true, and-false}
 use Rattle.scaled_core.proofs.Fitting.{dimension_fits, dimension_found, dimension_missing}
 use Rattle.std.proofs.lemmas.List.Folds.{list_all-append}
 use Rattle.pack_core.specs.Orders.{by_order, order_dimens, order_amounts, each_order}
-use Rattle.pack_core.specs.Steps.{given, dimens_of, shrink_ratio, shrink_setting, stretch_setting, set_to, stretching_badness, shrinking_badness, excess_badness, list_badness, glue_set, hbox_shell, vbox_shell, vtop_shell}
+use Rattle.pack_core.specs.Steps.{some_if, dimens_of, shrink_ratio, shrink_setting, stretch_setting, set_to, stretching_badness, shrinking_badness, excess_badness, list_badness, glue_set, hbox_shell, vbox_shell, vtop_shell}
 
--- What was given was given for a test that holds.
-pub given-true : {A : Type 0} (x : A) → given true x ≡ Some x
-unfolding given
-given-true x = refl
+-- A value where a test holds: it is there exactly where the test holds.
+pub some_if-true : {A : Type 0} (x : A) → some_if true x ≡ Some x
+unfolding some_if
+some_if-true x = refl
 
-pub given-false : {A : Type 0} (x : A) → given false x ≡ None
-unfolding given
-given-false x = refl
+pub some_if-false : {A : Type 0} (x : A) → some_if false x ≡ None
+unfolding some_if
+some_if-false x = refl
 
-pub given-some : {A : Type 0} (b : Bool) (x y : A) → given b x ≡ Some y → (b ≡ true) × (x ≡ y)
-unfolding given
-given-some true x y e = (refl, cc)
-given-some false x y e = absurd (cc)
+pub some_if-some : {A : Type 0} (b : Bool) (x y : A) → some_if b x ≡ Some y → (b ≡ true) × (x ≡ y)
+unfolding some_if
+some_if-some true x y e = (refl, cc)
+some_if-some false x y e = absurd (cc)
 
-pub given-none : {A : Type 0} (b : Bool) (x : A) → given b x ≡ None → b ≡ false
-unfolding given
-given-none true x e = absurd (cc)
-given-none false x e = refl
+pub some_if-none : {A : Type 0} (b : Bool) (x : A) → some_if b x ≡ None → b ≡ false
+unfolding some_if
+some_if-none true x e = absurd (cc)
+some_if-none false x e = refl
 
 -- The advances of a horizontal and of a vertical list.
 pub total-across : (nodes : List Node) → total (advance Horizontal) nodes ≡ total across nodes
@@ -73,12 +73,12 @@ dimens-given amounts normal fil fill filll n f l m =
     let f' = dimension_found amounts.fil fil f in
     let l' = dimension_found amounts.fill fill l in
     let m' = dimension_found amounts.filll filll m in
-    rw (n'.0, f'.0, l'.0, m'.0, ← n'.1, ← f'.1, ← l'.1, ← m'.1) (sym (given-true _))
+    rw (n'.0, f'.0, l'.0, m'.0, ← n'.1, ← f'.1, ← l'.1, ← m'.1) (sym (some_if-true _))
 
 pub dimens-refused :
     (amounts : OrderAmounts) → list_all fits (amounts.normal ∷ amounts.fil ∷ amounts.fill ∷ amounts.filll ∷ []) ≡ false → None ≡ dimens_of amounts
 unfolding dimens_of
-dimens-refused amounts some = rw some (sym (given-false _))
+dimens-refused amounts some = rw some (sym (some_if-false _))
 
 -- Glue of each order shrinks by the ratio of the order.
 shrunk-ratio :
@@ -101,9 +101,9 @@ pub shrink_setting-none :
 unfolding shrink_setting
 shrink_setting-none amount totals e = ap (shrunk amount (by_order totals)) e
 
-pub ruleset steps = (given-true, given-false, given-some, given-none, dimension_found, dimension_missing, total-across, total-downward, shrink_setting-some, shrink_setting-none)
+pub ruleset steps = (some_if-true, some_if-false, some_if-some, some_if-none, dimension_found, dimension_missing, total-across, total-downward, shrink_setting-some, shrink_setting-none)
 
--- What is set by the totals of each order is set as the list wants it.
+-- The setting by the totals of the four orders is the setting of the list.
 set_to-is : (excess : ℤ) (nodes : List Node) → set_to excess (order_dimens (stretch_totals nodes)) (order_dimens (shrink_totals nodes)) ≡ setting_of excess nodes
 unfolding set_to setting_of stretch_setting shrink_setting
 set_to-is (pos zero) nodes = refl
@@ -138,35 +138,35 @@ pub glue-given :
     → dimens_of (order_amounts (shrink_totals nodes)) ≡ Some shrink
     → setting ≡ set_to excess stretch shrink
     → badness ≡ list_badness (length nodes == 0) excess stretch shrink
-    → Some (record { setting = setting; badness = badness }) ≡ given (list_all fits (glue_totals nodes)) (glue_set excess nodes)
+    → Some (record { setting = setting; badness = badness }) ≡ some_if (list_all fits (glue_totals nodes)) (glue_set excess nodes)
 unfolding glue_set dimens_of
 glue-given excess nodes stretch shrink setting badness can_stretch can_shrink set bad =
-    let s = given-some (list_all fits (each_order (stretch_totals nodes))) (order_dimens (stretch_totals nodes)) stretch can_stretch in
-    let t = given-some (list_all fits (each_order (shrink_totals nodes))) (order_dimens (shrink_totals nodes)) shrink can_shrink in
+    let s = some_if-some (list_all fits (each_order (stretch_totals nodes))) (order_dimens (stretch_totals nodes)) stretch can_stretch in
+    let t = some_if-some (list_all fits (each_order (shrink_totals nodes))) (order_dimens (shrink_totals nodes)) shrink can_shrink in
     let set-is : setting ≡ setting_of excess nodes = set ∙ (rw (← s.1, ← t.1) (set_to-is excess nodes)) in
     let bad-is : badness ≡ setting_badness excess nodes = bad ∙ (rw (empty-length nodes, ← s.1, ← t.1) (list_badness-is excess nodes)) in
     let all : list_all fits (glue_totals nodes) ≡ true =
     list_all-append fits (each_order (stretch_totals nodes)) (each_order (shrink_totals nodes)) ∙ rw (s.0, t.0) refl in
-    rw (all, set-is, bad-is) (sym (given-true _))
+    rw (all, set-is, bad-is) (sym (some_if-true _))
 
 -- Where a total of stretch or of shrink does not fit, no glue is set.
-pub glue-refused-stretch : (excess : ℤ) (nodes : List Node) → dimens_of (order_amounts (stretch_totals nodes)) ≡ None → None ≡ given (list_all fits (glue_totals nodes)) (glue_set excess nodes)
+pub glue-refused-stretch : (excess : ℤ) (nodes : List Node) → dimens_of (order_amounts (stretch_totals nodes)) ≡ None → None ≡ some_if (list_all fits (glue_totals nodes)) (glue_set excess nodes)
 unfolding dimens_of
 glue-refused-stretch excess nodes refused =
-    let some : list_all fits (each_order (stretch_totals nodes)) ≡ false = given-none _ (order_dimens (stretch_totals nodes)) refused in
+    let some : list_all fits (each_order (stretch_totals nodes)) ≡ false = some_if-none _ (order_dimens (stretch_totals nodes)) refused in
     let all : list_all fits (glue_totals nodes) ≡ false = list_all-append fits (each_order (stretch_totals nodes)) (each_order (shrink_totals nodes)) ∙ rw some refl in
-    rw all (sym (given-false _))
+    rw all (sym (some_if-false _))
 
-pub glue-refused-shrink : (excess : ℤ) (nodes : List Node) → dimens_of (order_amounts (shrink_totals nodes)) ≡ None → None ≡ given (list_all fits (glue_totals nodes)) (glue_set excess nodes)
+pub glue-refused-shrink : (excess : ℤ) (nodes : List Node) → dimens_of (order_amounts (shrink_totals nodes)) ≡ None → None ≡ some_if (list_all fits (glue_totals nodes)) (glue_set excess nodes)
 unfolding dimens_of
 glue-refused-shrink excess nodes refused =
-    let some : list_all fits (each_order (shrink_totals nodes)) ≡ false = given-none _ (order_dimens (shrink_totals nodes)) refused in
+    let some : list_all fits (each_order (shrink_totals nodes)) ≡ false = some_if-none _ (order_dimens (shrink_totals nodes)) refused in
     let all : list_all fits (glue_totals nodes) ≡ false =
     list_all-append fits (each_order (stretch_totals nodes)) (each_order (shrink_totals nodes)) ∙ rw some (and-false (list_all fits (each_order (stretch_totals nodes)))) in
-    rw all (sym (given-false _))
+    rw all (sym (some_if-false _))
 
-given-all : {A : Type 0} (b : Bool) (x : A) → b ≡ true → Some x ≡ given b x
-given-all b x e = rw e (sym (given-true x))
+some_if-all : {A : Type 0} (b : Bool) (x : A) → b ≡ true → Some x ≡ some_if b x
+some_if-all b x e = rw e (sym (some_if-true x))
 
 pub hbox-given :
     (target : Target) (nodes : List Node) (natural width height depth : ℤ) (set : GlueSet)
@@ -174,32 +174,32 @@ pub hbox-given :
     → dimension_of (wanted target natural) ≡ Some width
     → dimension_of (greatest above nodes) ≡ Some height
     → dimension_of (greatest below nodes) ≡ Some depth
-    → given (list_all fits (glue_totals nodes)) (glue_set (width -ℤ natural) nodes) ≡ Some set
+    → some_if (list_all fits (glue_totals nodes)) (glue_set (width -ℤ natural) nodes) ≡ Some set
     → Some (record { kind = Horizontal; width = width; height = height; depth = depth; set = set })
-    ≡ given (list_all fits (hbox_numbers target nodes)) (hbox_shell target nodes)
+    ≡ some_if (list_all fits (hbox_numbers target nodes)) (hbox_shell target nodes)
 unfolding hbox_shell
 hbox-given target nodes natural width height depth set n w h d s =
     let n' = dimension_found (total across nodes) natural n in
     let w' = dimension_found (wanted target natural) width w in
     let h' = dimension_found (greatest above nodes) height h in
     let d' = dimension_found (greatest below nodes) depth d in
-    let s' = given-some (list_all fits (glue_totals nodes)) (glue_set (width -ℤ natural) nodes) set s in
+    let s' = some_if-some (list_all fits (glue_totals nodes)) (glue_set (width -ℤ natural) nodes) set s in
     let width-fits : fits (hbox_width target nodes) ≡ true = rw n'.1 w'.0 in
     let width-is : hbox_width target nodes ≡ width = rw n'.1 w'.1 in
     let set-is : glue_set (hbox_excess target nodes) nodes ≡ set = rw (width-is, n'.1) s'.1 in
     let all : list_all fits (hbox_numbers target nodes) ≡ true = rw (n'.0, width-fits, h'.0, d'.0) s'.0 in
-    rw (← h'.1, ← d'.1, ← width-is, ← set-is) (given-all _ _ all)
+    rw (← h'.1, ← d'.1, ← width-is, ← set-is) (some_if-all _ _ all)
 
 pub hbox-refused :
     (target : Target) (nodes : List Node) (natural : ℤ)
     → dimension_of (total across nodes) ≡ Some natural
     → dimension_of (wanted target natural) ≡ None
-    → None ≡ given (list_all fits (hbox_numbers target nodes)) (hbox_shell target nodes)
+    → None ≡ some_if (list_all fits (hbox_numbers target nodes)) (hbox_shell target nodes)
 hbox-refused target nodes natural n w =
     let n' = dimension_found (total across nodes) natural n in
     let width-unfit : fits (hbox_width target nodes) ≡ false = rw n'.1 (dimension_missing (wanted target natural) w) in
     let some : list_all fits (hbox_numbers target nodes) ≡ false = rw (n'.0, width-unfit) refl in
-    rw some (sym (given-false _))
+    rw some (sym (some_if-false _))
 
 pub vbox-given :
     (target : Target) (limit : ℤ) (nodes : List Node) (natural width height depth : ℤ) (set : GlueSet)
@@ -207,16 +207,16 @@ pub vbox-given :
     → dimension_of (total downward nodes -ℤ depth) ≡ Some natural
     → dimension_of (wanted target natural) ≡ Some height
     → dimension_of (greatest breadth nodes) ≡ Some width
-    → given (list_all fits (glue_totals nodes)) (glue_set (height -ℤ natural) nodes) ≡ Some set
+    → some_if (list_all fits (glue_totals nodes)) (glue_set (height -ℤ natural) nodes) ≡ Some set
     → Within 1073741823 depth
     → Some (record { kind = Vertical; width = width; height = height; depth = depth; set = set })
-    ≡ given (list_all fits (vbox_numbers target limit nodes)) (vbox_shell target limit nodes)
+    ≡ some_if (list_all fits (vbox_numbers target limit nodes)) (vbox_shell target limit nodes)
 unfolding vbox_shell
 vbox-given target limit nodes natural width height depth set d n h w s deep =
     let n' = dimension_found (total downward nodes -ℤ depth) natural n in
     let h' = dimension_found (wanted target natural) height h in
     let w' = dimension_found (greatest breadth nodes) width w in
-    let s' = given-some (list_all fits (glue_totals nodes)) (glue_set (height -ℤ natural) nodes) set s in
+    let s' = some_if-some (list_all fits (glue_totals nodes)) (glue_set (height -ℤ natural) nodes) set s in
     let natural-is : natural_height limit nodes ≡ natural = rw (← d) n'.1 in
     let natural-fits : fits (natural_height limit nodes) ≡ true = rw (← d) n'.0 in
     let height-fits : fits (vbox_height target limit nodes) ≡ true = rw natural-is h'.0 in
@@ -224,34 +224,34 @@ vbox-given target limit nodes natural width height depth set d n h w s deep =
     let set-is : glue_set (vbox_excess target limit nodes) nodes ≡ set = rw (height-is, natural-is) s'.1 in
     let deep-fits : fits (vbox_depth limit nodes) ≡ true = rw (← d) (dimension_fits depth deep) in
     let all : list_all fits (vbox_numbers target limit nodes) ≡ true = rw (natural-fits, height-fits, deep-fits, w'.0) s'.0 in
-    rw (← w'.1, d, ← height-is, ← set-is) (given-all _ _ all)
+    rw (← w'.1, d, ← height-is, ← set-is) (some_if-all _ _ all)
 
-pub given-refused : {A : Type 0} (z : ℤ) (y : A) → dimension_of z ≡ None → None ≡ given (fits z) y
-given-refused z y e = rw (dimension_missing z e) (sym (given-false y))
+pub some_if-refused : {A : Type 0} (z : ℤ) (y : A) → dimension_of z ≡ None → None ≡ some_if (fits z) y
+some_if-refused z y e = rw (dimension_missing z e) (sym (some_if-false y))
 
 pub vbox-refused :
     (target : Target) (limit : ℤ) (nodes : List Node) (natural depth : ℤ)
     → depth ≡ vbox_depth limit nodes
     → dimension_of (total downward nodes -ℤ depth) ≡ Some natural
     → dimension_of (wanted target natural) ≡ None
-    → None ≡ given (list_all fits (vbox_numbers target limit nodes)) (vbox_shell target limit nodes)
+    → None ≡ some_if (list_all fits (vbox_numbers target limit nodes)) (vbox_shell target limit nodes)
 vbox-refused target limit nodes natural depth d n h =
     let n' = dimension_found (total downward nodes -ℤ depth) natural n in
     let natural-is : natural_height limit nodes ≡ natural = rw (← d) n'.1 in
     let natural-fits : fits (natural_height limit nodes) ≡ true = rw (← d) n'.0 in
     let height-unfit : fits (vbox_height target limit nodes) ≡ false = rw natural-is (dimension_missing (wanted target natural) h) in
     let some : list_all fits (vbox_numbers target limit nodes) ≡ false = rw (natural-fits, height-unfit) refl in
-    rw some (sym (given-false _))
+    rw some (sym (some_if-false _))
 
 pub vtop-given :
     (shell : Shell) (height depth : ℤ)
     → dimension_of ((vtop_shell shell height).depth) ≡ Some depth
     → Some (record { kind = shell.kind; width = shell.width; height = height; depth = depth; set = shell.set })
-    ≡ given (fits ((vtop_shell shell height).depth)) (vtop_shell shell height)
+    ≡ some_if (fits ((vtop_shell shell height).depth)) (vtop_shell shell height)
 unfolding vtop_shell
 vtop-given shell height depth d =
     let d' = dimension_found ((vtop_shell shell height).depth) depth d in
-    rw (← d'.1) (given-all _ _ d'.0)
+    rw (← d'.1) (some_if-all _ _ d'.0)
 
 vtop-depth-is :
     (target : Target) (limit : ℤ) (nodes : List Node)
@@ -261,13 +261,13 @@ vtop-depth-is target limit nodes = refl
 
 pub vtop-found :
     (target : Target) (limit : ℤ) (nodes : List Node) (shell : Shell) (height : ℤ) (result : Option Shell)
-    → given (list_all fits (vbox_numbers target limit nodes)) (vbox_shell target limit nodes) ≡ Some shell
+    → some_if (list_all fits (vbox_numbers target limit nodes)) (vbox_shell target limit nodes) ≡ Some shell
     → height ≡ first_height nodes
     → Within 1073741823 height
-    → result ≡ given (fits ((vtop_shell shell height).depth)) (vtop_shell shell height)
-    → result ≡ given (list_all fits (vtop_numbers target limit nodes)) (vtop_shell (vbox_shell target limit nodes) (first_height nodes))
+    → result ≡ some_if (fits ((vtop_shell shell height).depth)) (vtop_shell shell height)
+    → result ≡ some_if (list_all fits (vtop_numbers target limit nodes)) (vtop_shell (vbox_shell target limit nodes) (first_height nodes))
 vtop-found target limit nodes shell height result s h high r =
-    let s' = given-some (list_all fits (vbox_numbers target limit nodes)) (vbox_shell target limit nodes) shell s in
+    let s' = some_if-some (list_all fits (vbox_numbers target limit nodes)) (vbox_shell target limit nodes) shell s in
     let high-fits : fits (first_height nodes) ≡ true = rw (← h) (dimension_fits height high) in
     let deep : ℤ = vtop_depth target limit nodes in
     let all : list_all fits (vtop_numbers target limit nodes) ≡ fits deep =

@@ -26,14 +26,14 @@ use Rattle.pack_core.specs.Glue.{setting_of, setting_badness, stretch_badness, s
 use Rattle.pack_core.specs.Boxes.{hbox_width, hbox_excess, vbox_depth, vbox_height, vbox_excess}
 
 -- A value where a test holds, else none.
-unfoldable pub given : {A : Type 0} → Bool → A → Option A
-given true x = Some x
-given false x = None
+unfoldable pub some_if : {A : Type 0} → Bool → A → Option A
+some_if true x = Some x
+some_if false x = None
 
 -- Totals as dimensions, where all four fit.
 unfoldable pub dimens_of : OrderAmounts → Option OrderDimens
 dimens_of amounts =
-    given (list_all fits (amounts.normal ∷ amounts.fil ∷ amounts.fill ∷ amounts.filll ∷ []))
+    some_if (list_all fits (amounts.normal ∷ amounts.fil ∷ amounts.fill ∷ amounts.filll ∷ []))
     (record { normal = amounts.normal; fil = amounts.fil; fill = amounts.fill; filll = amounts.filll })
 
 -- The ratio by which glue of an order shrinks by an amount; glue of order normal by no more than it can, so that the ratio is at most 1.

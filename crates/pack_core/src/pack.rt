@@ -12,7 +12,7 @@ ghost use Rattle.pack_core.specs.Measures.{extent_in};
 ghost use Rattle.pack_core.specs.Boxes.{wanted, hbox, hbox_badness, hbox_numbers, hpacked};
 ghost use Rattle.pack_core.specs.Boxes.{vbox, vbox_badness, vbox_numbers, vpacked, vtop_box, vtop_numbers, vtopped};
 ghost use Rattle.pack_core.specs.Places.{place_in};
-ghost use Rattle.pack_core.specs.Steps.{given, hbox_shell, vbox_shell, vtop_shell, packed_of, boxed_list};
+ghost use Rattle.pack_core.specs.Steps.{some_if, hbox_shell, vbox_shell, vtop_shell, packed_of, boxed_list};
 
 use crate::extents::{Extent, first_height, greatest_of};
 use crate::setting::{GlueSet, set_glue};
@@ -52,7 +52,7 @@ pub struct TooLarge {
 #[tactic(auto, using(crate::proofs::Packing::packing))]
 pub fn hpack(list: NodeList, target: Target) -> Result<Packed, TooLarge>
     ensures value { result ≡ hpacked target list }
-    ensures ok { IfOk result (λ p. (p.shown ≡ hbox target list) × (p.badness ≡ hbox_badness target list)) }
+    ensures ok { IfOk result (λ p. (p.shown ≡ hbox target list) × (p.badness ≡ hbox_badness target (nodes_of list))) }
     ensures fits { is_ok result ≡ list_all fits (hbox_numbers target (nodes_of list)) }
     ensures back { IfErr result (λ e. e.list ≡ list) }
     ensures edge { IfOk result (λ p. p.shown.setting ≢ Setting.Natural → p.badness ≢ 1000000 →
@@ -67,7 +67,7 @@ pub fn hpack(list: NodeList, target: Target) -> Result<Packed, TooLarge>
 #[tactic(auto, using(crate::proofs::Packing::packing))]
 pub fn vpack(list: NodeList, target: Target, depth_limit: Dimen) -> Result<Packed, TooLarge>
     ensures value { result ≡ vpacked target depth_limit list }
-    ensures ok { IfOk result (λ p. (p.shown ≡ vbox target depth_limit list) × (p.badness ≡ vbox_badness target depth_limit list)) }
+    ensures ok { IfOk result (λ p. (p.shown ≡ vbox target depth_limit list) × (p.badness ≡ vbox_badness target depth_limit (nodes_of list))) }
     ensures fits { is_ok result ≡ list_all fits (vbox_numbers target depth_limit (nodes_of list)) }
     ensures back { IfErr result (λ e. e.list ≡ list) }
     ensures edge { IfOk result (λ p. p.shown.setting ≢ Setting.Natural → p.badness ≢ 1000000 →
@@ -82,7 +82,7 @@ pub fn vpack(list: NodeList, target: Target, depth_limit: Dimen) -> Result<Packe
 #[tactic(auto, using(crate::proofs::Packing::packing))]
 pub fn vtop(list: NodeList, target: Target, depth_limit: Dimen) -> Result<Packed, TooLarge>
     ensures value { result ≡ vtopped target depth_limit list }
-    ensures ok { IfOk result (λ p. (p.shown ≡ vtop_box target depth_limit list) × (p.badness ≡ vbox_badness target depth_limit list)) }
+    ensures ok { IfOk result (λ p. (p.shown ≡ vtop_box target depth_limit list) × (p.badness ≡ vbox_badness target depth_limit (nodes_of list))) }
     ensures fits { is_ok result ≡ list_all fits (vtop_numbers target depth_limit (nodes_of list)) }
     ensures back { IfErr result (λ e. e.list ≡ list) }
     ensures edge { IfOk result (λ p. p.shown.setting ≢ Setting.Natural → p.badness ≢ 1000000 →
@@ -147,7 +147,7 @@ fn extent(way: Extent, nodes: &[Node]) -> Option<Dimen>
 /// The hbox of a list, without the list, where its numbers fit.
 #[tactic(auto, using(crate::proofs::Steps::steps))]
 fn hbox_shell(target: Target, nodes: &[Node]) -> Option<Shell>
-    ensures { result ≡ given (list_all fits (hbox_numbers target nodes.now)) (hbox_shell target nodes.now) }
+    ensures { result ≡ some_if (list_all fits (hbox_numbers target nodes.now)) (hbox_shell target nodes.now) }
 {
     let totals = Totals::of(Kind::Horizontal, nodes);
     let natural = natural_width(&totals)?;
@@ -167,7 +167,7 @@ fn hbox_shell(target: Target, nodes: &[Node]) -> Option<Shell>
 /// The vbox of a list, without the list, where its numbers fit.
 #[tactic(auto, using(crate::proofs::Steps::steps))]
 fn vbox_shell(target: Target, limit: Dimen, nodes: &[Node]) -> Option<Shell>
-    ensures { result ≡ given (list_all fits (vbox_numbers target limit nodes.now)) (vbox_shell target limit nodes.now) }
+    ensures { result ≡ some_if (list_all fits (vbox_numbers target limit nodes.now)) (vbox_shell target limit nodes.now) }
 {
     let totals = Totals::of(Kind::Vertical, nodes);
     let depth = at_most(totals.pending_depth(), limit);
@@ -187,7 +187,7 @@ fn vbox_shell(target: Target, limit: Dimen, nodes: &[Node]) -> Option<Shell>
 /// A box without its list, with that height in the place of its own, where its depth then fits.
 #[tactic(auto, using(crate::proofs::Steps::steps))]
 fn with_height(shell: &Shell, height: Dimen) -> Option<Shell>
-    ensures value { result ≡ given (fits ((vtop_shell shell.now height).depth)) (vtop_shell shell.now height) }
+    ensures value { result ≡ some_if (fits ((vtop_shell shell.now height).depth)) (vtop_shell shell.now height) }
     ensures height { Fits height }
 {
     let whole = shell.depth.exact_add(shell.height);
@@ -204,7 +204,7 @@ fn with_height(shell: &Shell, height: Dimen) -> Option<Shell>
 /// The vtop of a list, without the list, where its numbers fit.
 #[tactic(auto, using(crate::proofs::Steps::steps))]
 fn vtop_shell_of(target: Target, limit: Dimen, nodes: &[Node]) -> Option<Shell>
-    ensures { result ≡ given (list_all fits (vtop_numbers target limit nodes.now)) (vtop_shell (vbox_shell target limit nodes.now) (first_height nodes.now)) }
+    ensures { result ≡ some_if (list_all fits (vtop_numbers target limit nodes.now)) (vtop_shell (vbox_shell target limit nodes.now) (first_height nodes.now)) }
 {
     let shell = vbox_shell(target, limit, nodes);
     match &shell {

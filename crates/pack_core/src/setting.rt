@@ -8,7 +8,7 @@ ghost use Rattle.pack_core.specs.Glue.{is_zero, highest, fraction, is_finite};
 ghost use Rattle.pack_core.specs.Boxes.{glue_totals};
 ghost use Rattle.pack_core.specs.Orders.{by_order};
 ghost use Rattle.pack_core.specs.ListTotals.{totals_of};
-ghost use Rattle.pack_core.specs.Steps.{given, dimens_of, glue_set};
+ghost use Rattle.pack_core.specs.Steps.{some_if, dimens_of, glue_set};
 ghost use Rattle.pack_core.specs.Steps.{shrink_ratio, stretch_setting, shrink_setting, set_to, stretching_badness, shrinking_badness, excess_badness, list_badness};
 
 use crate::orders::{OrderAmounts, OrderDimens};
@@ -230,7 +230,7 @@ fn list_badness(empty: bool, excess: i64, stretch: &OrderDimens, shrink: &OrderD
 #[tactic(auto, using(crate::proofs::Steps::steps))]
 pub fn set_glue(size: Dimen, natural: Dimen, nodes: &[Node], totals: &Totals) -> Option<GlueSet>
     requires { totals.now ≡ totals_of totals.now.kind nodes.now }
-    ensures { result ≡ given (list_all fits (glue_totals nodes.now)) (glue_set (size -ℤ natural) nodes.now) }
+    ensures { result ≡ some_if (list_all fits (glue_totals nodes.now)) (glue_set (size -ℤ natural) nodes.now) }
 {
     let stretch = dimens_of(totals.stretch())?;
     let shrink = dimens_of(totals.shrink())?;

@@ -3,7 +3,7 @@ use Rattle.std.specs.Prelude.{◌-ℤ◌}
 use Rattle.std.proofs.lemmas.Int.{ints}
 use Rattle.scaled_core.specs.Dimensions.{dimension_of}
 use Rattle.pack_core.specs.Steps.{vtop_shell}
-use Rattle.pack_core.proofs.Steps.{dimension-same, given-refused, vtop-given}
+use Rattle.pack_core.proofs.Steps.{dimension-same, some_if-refused, vtop-given}
 use Rattle.pack_core.proofs.pack.with_height.Goals as goal
 
 pub returns-in_err-depth : goal.returns-in_err-depth
@@ -14,7 +14,7 @@ returns-in_err-depth c =
     record {
       value =
           c.from_residual.ensures
-          ∙ given-refused ((vtop_shell c.args.shell.now c.args.height).depth) (vtop_shell c.args.shell.now c.args.height) (cc (found, c.in_err-depth.was));
+          ∙ some_if-refused ((vtop_shell c.args.shell.now c.args.height).depth) (vtop_shell c.args.shell.now c.args.height) (cc (found, c.in_err-depth.was));
       height = rw (← c.get.ensures.value) c.get.ensures.fits;
     }
 
