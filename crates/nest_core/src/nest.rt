@@ -22,7 +22,7 @@ use std::alloc::{AllocError, Global};
 use std::default::MadeWith;
 use std::marker::Model;
 use std::mem::replace;
-use vert_core::{DimensionTooLarge, append_box, interline_glue};
+use vert_core::{DimensionTooLarge, append_with_glue, interline_glue};
 
 /// What a list was opened for.
 #[derive(Clone, Copy, Debug, PartialEq, Eq)]
@@ -193,7 +193,6 @@ impl OpenList {
     /// Puts a box at the end of a vertical list, with the glue in front of it.
     fn append_down(
         &mut self,
-        alloc: Global,
         box_node: BoxNode,
         shift: Dimen,
         params: &Params,
@@ -204,22 +203,18 @@ impl OpenList {
         ensures err { OnErr result (self.new ≡ self.old) }
         ensures back { IfErr result (λ back. back ≡ box_node) }
     {
-        let mut nodes = replace(&mut self.list, NodeList::new(alloc)).into_vec();
-        let result = append_box(&mut nodes, box_node, shift, self.previous_depth, params);
-        self.list = NodeList::from_vec(nodes);
-        match result {
-            Ok(depth) => {
-                self.previous_depth = depth;
-                Ok(())
-            }
-            Err(unappended) => Err(unappended.shown),
-        }
+        let depth = box_node.depth;
+        let Ok(glue) = interline_glue(self.previous_depth, box_node.height, params) else {
+            return Err(box_node);
+        };
+        append_with_glue(&mut self.list, glue, shift, box_node)?;
+        self.previous_depth = depth;
+        Ok(())
     }
 
     /// Puts a box at the end of the list, with the glue in front of it; where memory is refused, it comes back, and the list is as it was.
     pub fn append_with_glue(
         &mut self,
-        alloc: Global,
         box_node: BoxNode,
         shift: Dimen,
         params: &Params,
@@ -231,7 +226,7 @@ impl OpenList {
     {
         match self.purpose.kind() {
             Kind::Horizontal => self.append_across(box_node, shift),
-            Kind::Vertical => self.append_down(alloc, box_node, shift, params),
+            Kind::Vertical => self.append_down(box_node, shift, params),
         }
     }
 }
@@ -394,11 +389,10 @@ impl Nest {
         ensures err { OnErr result (self.new ≡ self.old) }
         ensures back { IfErr result (λ back. back ≡ box_node) }
     {
-        let alloc = *self.lists.allocator();
         let Some(innermost) = self.innermost_mut() else {
             return Err(box_node);
         };
-        innermost.append_with_glue(alloc, box_node, shift, params)
+        innermost.append_with_glue(box_node, shift, params)
     }
 
     /// Takes the last item of the innermost list away, if it is a box.
@@ -463,7 +457,6 @@ impl Nest {
         ensures err { OnErr result (self.new ≡ self.old) }
         ensures back { IfErr result (λ back. back ≡ box_node) }
     {
-        let alloc = *self.lists.allocator();
         let count = self.lists.len();
         if count < 2 {
             return Err(box_node);
@@ -471,7 +464,7 @@ impl Nest {
         let Some(around) = self.lists.get_mut(count - 2) else {
             return Err(box_node);
         };
-        around.append_with_glue(alloc, box_node, Dimen::ZERO, params)?;
+        around.append_with_glue(box_node, Dimen::ZERO, params)?;
         let _ = self.lists.pop();
         Ok(())
     }

@@ -3,7 +3,7 @@
 //! A list is seen as its items, a tree without pointers and capacities; so two lists, nodes or boxes are equal in a clause exactly where they are
 //! the same tree. `nodes_of` gives the nodes of a list in order.
 
-ghost use Rattle.std.specs.Prelude.{◌≡◌, ◌==◌, ◌<◌, ◌≤◌, ◌+◌, [], ◌∷◌, ◌++◌, length, OnOk, OnErr, IfOk, IfErr, min, max};
+ghost use Rattle.std.specs.Prelude.{◌≡◌, ◌==◌, ◌<◌, ◌≤◌, ◌+◌, [], ◌∷◌, ◌++◌, length, take, OnOk, OnErr, IfOk, IfErr, min, max};
 ghost use Rattle.node_core.specs.Items.{Items, none, items_depth, items_count};
 ghost use Rattle.node_core.specs.Nodes.{most_nodes, items_of, nodes_of, box_depth, box_count, last_box, without};
 
@@ -248,6 +248,14 @@ impl NodeList {
         ensures back { OnErr result (other.new ≡ other.old) }
     {
         self.nodes.append(&mut other.nodes)
+    }
+
+    /// Keeps the first nodes, at most so many, and drops the others.
+    #[tactic(auto, using(crate::proofs::NodeLemmas::nodes))]
+    pub fn truncate(&mut self, count: usize)
+        ensures { self.new ≡ items_of (take count (nodes_of self.old)) }
+    {
+        self.nodes.truncate(count);
     }
 
     /// Takes the last node away, if it is a box; its shift is dropped.

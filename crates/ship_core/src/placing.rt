@@ -9,7 +9,7 @@ ghost use Rattle.ship_core.specs.Placing.{point, Reaches, Ends, strokes_in, stro
 ghost use Rattle.node_core.specs.declared.tree.Node.TheVariants as nodes;
 
 use node_core::{BoxNode, Glyph, Kind, Node, Rule, RuleSize};
-use pack_core::{counted, dimension};
+use pack_core::own_size;
 use scaled_core::Dimen;
 
 /// A point of a page, in scaled points to the right of its origin and below it. Each number is a dimension or the sum of two, and need not fit.
@@ -89,8 +89,8 @@ pub struct PlacedItem {
 fn point(h: i128, v: i128) -> Option<Position>
     ensures { result ≡ point h v }
 {
-    let h = dimension(h)?;
-    let v = dimension(v)?;
+    let h = Dimen::from_wide(h)?;
+    let v = Dimen::from_wide(v)?;
     Some(Position { h, v })
 }
 
@@ -143,11 +143,11 @@ fn sizes_of(box_node: &BoxNode, rule: Rule) -> Option<RuleSizes>
         Kind::Horizontal => {
             let below = size_where(box_node.depth, rule.depth);
             let tall = size_where(box_node.height, rule.height).checked_add(below)?;
-            let wide = counted(rule.width);
+            let wide = own_size(rule.width);
             Some(RuleSizes { below, tall, wide })
         }
         Kind::Vertical => {
-            let tall = counted(rule.height).checked_add(counted(rule.depth))?;
+            let tall = own_size(rule.height).checked_add(own_size(rule.depth))?;
             let wide = size_where(box_node.width, rule.width);
             Some(RuleSizes {
                 below: tall,

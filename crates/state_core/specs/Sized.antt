@@ -5,7 +5,7 @@ use Rattle.node_core.specs.declared.tree.Glyph as glyphs
 use Rattle.node_core.specs.declared.tree.Node.{Node}
 use Rattle.node_core.specs.declared.tree.Node.TheVariants.{Glyph, FontKern, Kern, Glue, Penalty, Rule, Box}
 use Rattle.node_core.specs.declared.tree.BoxNode.{BoxNode}
-use Rattle.node_core.specs.Items.{Leaf, glyph, font_kern, kern, glue, penalty, rule, EachLeaf}
+use Rattle.node_core.specs.Items.{Leaf, IfGlyph, EachLeaf}
 use Rattle.node_core.specs.Nodes.{nodes_of, box_depth}
 use Rattle.nest_core.specs.declared.nest.OpenList.{OpenList}
 use Rattle.dvi_write.specs.Fonts.{Slots, font_in}
@@ -19,12 +19,7 @@ HasSizes fonts g = glyph_by (font_in fonts g.slot) g.code ≡ Some (record { wid
 
 -- A leaf that is a glyph has the sizes of its character in the font of its slot.
 abbrev pub IsSizedLeaf : Slots → Leaf → Type 0
-IsSizedLeaf fonts (glyph g) = HasSizes fonts g
-IsSizedLeaf fonts (font_kern width) = Unit {0}
-IsSizedLeaf fonts (kern width) = Unit {0}
-IsSizedLeaf fonts (glue g) = Unit {0}
-IsSizedLeaf fonts (penalty p) = Unit {0}
-IsSizedLeaf fonts (rule sizes) = Unit {0}
+IsSizedLeaf fonts x = IfGlyph (HasSizes fonts) x
 
 -- The glyphs of a box have the sizes that their fonts give, in its inner boxes too, and it is at most `MOST_DEEP` deep.
 pub record IsSoundBox (fonts : Slots) (b : BoxNode) : Type 0 where

@@ -1,10 +1,11 @@
 //! Boxes are put behind a vertical list.
 
-ghost use Rattle.std.specs.Prelude.{◌≡◌, ◌++◌, [], ◌∷◌, is_ok, if◌then◌else◌, IsOk, OnOk, OnErr, IfOk, IfErr};
+ghost use Rattle.std.specs.Prelude.{◌≡◌, ◌≤◌, ◌+◌, ◌++◌, [], ◌∷◌, is_ok, if◌then◌else◌, IsOk, OnOk, OnErr, IfOk, IfErr, length};
+ghost use Rattle.node_core.specs.Nodes.{most_nodes, items_of, nodes_of};
 ghost use Rattle.vert_core.specs.Interline.{interline, glue_of, appended};
 
 use crate::interline::{DimensionTooLarge, interline_glue};
-use node_core::{BoxNode, Glue, Node, Params, push_box};
+use node_core::{BoxNode, Glue, Node, NodeList, Params, push_box};
 use scaled_core::Dimen;
 use thiserror::Error;
 
@@ -59,6 +60,36 @@ pub fn append_box(
                 fault: AppendFault::OutOfMemory,
             }),
         },
+    }
+}
+
+/// Puts glue, if there is some, and a box behind a list, which has room for two more nodes. Where a growth is refused, the box comes back
+/// and the list is as it was.
+#[tactic(auto, using(node_core::proofs::NodeLemmas::nodes))]
+pub fn append_with_glue(
+    list: &mut NodeList,
+    glue: Option<Glue>,
+    shift: Dimen,
+    box_node: BoxNode,
+) -> Result<(), BoxNode>
+    requires short { length (nodes_of list.old) + 2 ≤ most_nodes }
+    ensures ok { OnOk result (list.new ≡ items_of (nodes_of list.old ++ appended glue shift box_node)) }
+    ensures err { OnErr result (list.new ≡ list.old) }
+    ensures back { IfErr result (λ back. back ≡ box_node) }
+{
+    let Some(glue) = glue else {
+        return list.push_box(shift, box_node);
+    };
+    let count = list.len();
+    if list.push(Node::Glue(glue)).is_err() {
+        return Err(box_node);
+    }
+    match list.push_box(shift, box_node) {
+        Ok(()) => Ok(()),
+        Err(box_node) => {
+            list.truncate(count);
+            Err(box_node)
+        }
     }
 }
 

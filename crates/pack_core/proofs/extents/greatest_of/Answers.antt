@@ -2,7 +2,7 @@ use Rattle.std.proofs.Common.{arith}
 use Rattle.std.proofs.lemmas.Int.{ints, clamps}
 use Rattle.pack_core.specs.Measures.{extent_in}
 use Rattle.pack_core.proofs.Sums.{greatest_more}
-use Rattle.pack_core.proofs.totals.greatest_of.Goals as goal
+use Rattle.pack_core.proofs.extents.greatest_of.Goals as goal
 
 pub loop-node-preserved : goal.loop-node-preserved
 loop-node-preserved c =
