@@ -137,11 +137,11 @@ put_back nest now items l is taken same =
 -- The end of a list is refused as its box is.
 pub end_refused : (s : State) (l : OpenList) (p : packs.Packed) (now : List OpenList) (found : Option Refusal) → s.over ≡ false → innermost s.nest ≡ Some l
     → packed_list s.params (innermost s.nest) ≡ Some p → now ≡ emptied_nest s.nest (innermost s.nest)
-    → found ≡ first_of (place_checks s.params (outer now) (register_of l.purpose) p.shown) → first_of (checks s End) ≡ found
+    → found ≡ first_of (place_checks s.params (outer now) (register_of l.purpose) p.box_node) → first_of (checks s End) ≡ found
 end_refused s l p now found running is packed taken asked =
     let around = ap outer (taken ∙ ap (emptied_nest s.nest) is) ∙ outer-emptied s.nest l in
     let own = sym (ap (packed_list s.params) is) ∙ packed in
-    rw (running, is, own) (sym (asked ∙ ap (λ nest. first_of (place_checks s.params nest (register_of l.purpose) p.shown)) around))
+    rw (running, is, own) (sym (asked ∙ ap (λ nest. first_of (place_checks s.params nest (register_of l.purpose) p.box_node)) around))
 
 pub on_err : {A E : Type 0} {P : Type 0} (r : Result A E) → P → OnErr r P
 on_err (Ok x) p = tt

@@ -20,7 +20,7 @@ sizes_of b = record { width = b.width; height = b.height; depth = b.depth }
 -- The answer to the end of a list. Where there is no box, it is refused and this answer is not given.
 abbrev pub packed_answer : Option packs.Packed → Answer
 packed_answer None = Done
-packed_answer (Some packed) = Packed (sizes_of packed.shown) packed.badness
+packed_answer (Some packed) = Packed (sizes_of packed.box_node) packed.badness
 
 -- What a register is measured as.
 abbrev pub measured_answer : Option BoxNode → Answer

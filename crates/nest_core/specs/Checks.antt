@@ -74,7 +74,7 @@ place_checks params around into b = (nat_lt MOST_DEEP (box_depth b), TooDeep) �
 -- The refusals of what an open list was packed to: that a size does not fit where there is no box, else those of the box.
 abbrev pub packed_checks : Params → (around : List OpenList) → (into : Option ℕ) → Option packs.Packed → List (Bool × Refusal)
 packed_checks params around into None = (true, DimensionTooLarge) ∷ []
-packed_checks params around into (Some packed) = place_checks params around into packed.shown
+packed_checks params around into (Some packed) = place_checks params around into packed.box_node
 
 -- The refusals of the end of an open list that has these lists around.
 abbrev pub close_checks : Params → (around : List OpenList) → Option OpenList → List (Bool × Refusal)

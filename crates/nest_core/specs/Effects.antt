@@ -76,7 +76,7 @@ with_home m around (Some r) b = record m { nest = around; registers = slice_set 
 abbrev pub with_closed : State → Option OpenList → Option packs.Packed → State
 with_closed m None packed = m
 with_closed m (Some open_list) None = m
-with_closed m (Some open_list) (Some packed) = with_home m (outer m.nest) (register_of open_list.purpose) packed.shown
+with_closed m (Some open_list) (Some packed) = with_home m (outer m.nest) (register_of open_list.purpose) packed.box_node
 
 -- The state with the box of a register at the end of the innermost list.
 abbrev pub with_used : State → Taking → (register : ℕ) → (shift : ℤ) → Option BoxNode → State

@@ -113,7 +113,7 @@ impl OpenList {
         ensures value { result ≡ packed_list params.now (Some self.old) }
         ensures some { IfSome result (λ packed. self.new ≡ record self.old { list = none }) }
         ensures none { result ≡ None → self.new ≡ self.old }
-        ensures list { IfSome result (λ packed. packed.shown.list ≡ self.old.list) }
+        ensures list { IfSome result (λ packed. packed.box_node.list ≡ self.old.list) }
     {
         let list = replace(&mut self.list, NodeList::new(alloc));
         match pack_for(self.purpose, params, list) {
@@ -413,7 +413,7 @@ impl Nest {
         ensures value { result ≡ packed_list params.now (innermost self.old) }
         ensures some { IfSome result (λ packed. self.new ≡ emptied_nest self.old (innermost self.old)) }
         ensures none { result ≡ None → self.new ≡ self.old }
-        ensures list { IfSome result (λ packed. packed.shown.list ≡ items_in (innermost self.old)) }
+        ensures list { IfSome result (λ packed. packed.box_node.list ≡ items_in (innermost self.old)) }
     {
         let alloc = *self.lists.allocator();
         let Some(innermost) = self.innermost_mut() else {

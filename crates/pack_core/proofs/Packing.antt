@@ -73,9 +73,9 @@ filled :
 filled kind items excess set good = rw (whole items) (fills kind (nodes_of items) excess set good)
 
 -- An hbox.
-pub hpacked-ok : (target : Target) (items : Items) → IfOk (hpacked target items) (λ p. (p.shown ≡ hbox target items) × (p.badness ≡ hbox_badness target (nodes_of items)))
+pub hpacked-ok : (target : Target) (items : Items) → IfOk (hpacked target items) (λ p. (p.box_node ≡ hbox target items) × (p.badness ≡ hbox_badness target (nodes_of items)))
 unfolding hpacked hbox
-hpacked-ok target items = packed-ok _ _ items (λ p. (p.shown ≡ hbox target items) × (p.badness ≡ hbox_badness target (nodes_of items))) (refl, refl)
+hpacked-ok target items = packed-ok _ _ items (λ p. (p.box_node ≡ hbox target items) × (p.badness ≡ hbox_badness target (nodes_of items))) (refl, refl)
 
 pub hpacked-fits : (target : Target) (items : Items) → is_ok (hpacked target items) ≡ list_all fits (hbox_numbers target (nodes_of items))
 unfolding hpacked
@@ -87,18 +87,18 @@ hpacked-back target items = packed-back _ _ items
 
 pub hpacked-edge :
     (target : Target) (items : Items)
-    → IfOk (hpacked target items) (λ p. p.shown.setting ≢ Natural → p.badness ≢ 1000000 → place_in p.shown (length (nodes_of p.shown.list)) ≡ p.shown.width)
+    → IfOk (hpacked target items) (λ p. p.box_node.setting ≢ Natural → p.badness ≢ 1000000 → place_in p.box_node (length (nodes_of p.box_node.list)) ≡ p.box_node.width)
 unfolding hpacked hbox
 hpacked-edge target items =
-    packed-ok _ _ items (λ p. p.shown.setting ≢ Natural → p.badness ≢ 1000000 → place_in p.shown (length (nodes_of p.shown.list)) ≡ p.shown.width)
+    packed-ok _ _ items (λ p. p.box_node.setting ≢ Natural → p.badness ≢ 1000000 → place_in p.box_node (length (nodes_of p.box_node.list)) ≡ p.box_node.width)
     (λ set good. omega (arith, ints, filled Horizontal items (hbox_excess target (nodes_of items)) set good))
 
 -- A vbox.
 pub vpacked-ok :
     (target : Target) (limit : ℤ) (items : Items)
-    → IfOk (vpacked target limit items) (λ p. (p.shown ≡ vbox target limit items) × (p.badness ≡ vbox_badness target limit (nodes_of items)))
+    → IfOk (vpacked target limit items) (λ p. (p.box_node ≡ vbox target limit items) × (p.badness ≡ vbox_badness target limit (nodes_of items)))
 unfolding vpacked vbox
-vpacked-ok target limit items = packed-ok _ _ items (λ p. (p.shown ≡ vbox target limit items) × (p.badness ≡ vbox_badness target limit (nodes_of items))) (refl, refl)
+vpacked-ok target limit items = packed-ok _ _ items (λ p. (p.box_node ≡ vbox target limit items) × (p.badness ≡ vbox_badness target limit (nodes_of items))) (refl, refl)
 
 pub vpacked-fits : (target : Target) (limit : ℤ) (items : Items) → is_ok (vpacked target limit items) ≡ list_all fits (vbox_numbers target limit (nodes_of items))
 unfolding vpacked
@@ -111,19 +111,19 @@ vpacked-back target limit items = packed-back _ _ items
 pub vpacked-edge :
     (target : Target) (limit : ℤ) (items : Items)
     → IfOk (vpacked target limit items)
-    (λ p. p.shown.setting ≢ Natural → p.badness ≢ 1000000 → place_in p.shown (length (nodes_of p.shown.list)) ≡ p.shown.height +ℤ p.shown.depth)
+    (λ p. p.box_node.setting ≢ Natural → p.badness ≢ 1000000 → place_in p.box_node (length (nodes_of p.box_node.list)) ≡ p.box_node.height +ℤ p.box_node.depth)
 unfolding vpacked vbox
 vpacked-edge target limit items =
     packed-ok _ _ items
-    (λ p. p.shown.setting ≢ Natural → p.badness ≢ 1000000 → place_in p.shown (length (nodes_of p.shown.list)) ≡ p.shown.height +ℤ p.shown.depth)
+    (λ p. p.box_node.setting ≢ Natural → p.badness ≢ 1000000 → place_in p.box_node (length (nodes_of p.box_node.list)) ≡ p.box_node.height +ℤ p.box_node.depth)
     (λ set good. omega (arith, ints, filled Vertical items (vbox_excess target limit (nodes_of items)) set good))
 
 -- A vtop.
 pub vtopped-ok :
     (target : Target) (limit : ℤ) (items : Items)
-    → IfOk (vtopped target limit items) (λ p. (p.shown ≡ vtop_box target limit items) × (p.badness ≡ vbox_badness target limit (nodes_of items)))
+    → IfOk (vtopped target limit items) (λ p. (p.box_node ≡ vtop_box target limit items) × (p.badness ≡ vbox_badness target limit (nodes_of items)))
 unfolding vtopped vtop_box
-vtopped-ok target limit items = packed-ok _ _ items (λ p. (p.shown ≡ vtop_box target limit items) × (p.badness ≡ vbox_badness target limit (nodes_of items))) (refl, refl)
+vtopped-ok target limit items = packed-ok _ _ items (λ p. (p.box_node ≡ vtop_box target limit items) × (p.badness ≡ vbox_badness target limit (nodes_of items))) (refl, refl)
 
 pub vtopped-fits : (target : Target) (limit : ℤ) (items : Items) → is_ok (vtopped target limit items) ≡ list_all fits (vtop_numbers target limit (nodes_of items))
 unfolding vtopped
@@ -136,11 +136,11 @@ vtopped-back target limit items = packed-back _ _ items
 pub vtopped-edge :
     (target : Target) (limit : ℤ) (items : Items)
     → IfOk (vtopped target limit items)
-    (λ p. p.shown.setting ≢ Natural → p.badness ≢ 1000000 → place_in p.shown (length (nodes_of p.shown.list)) ≡ p.shown.height +ℤ p.shown.depth)
+    (λ p. p.box_node.setting ≢ Natural → p.badness ≢ 1000000 → place_in p.box_node (length (nodes_of p.box_node.list)) ≡ p.box_node.height +ℤ p.box_node.depth)
 unfolding vtopped vtop_box vbox
 vtopped-edge target limit items =
     packed-ok _ _ items
-    (λ p. p.shown.setting ≢ Natural → p.badness ≢ 1000000 → place_in p.shown (length (nodes_of p.shown.list)) ≡ p.shown.height +ℤ p.shown.depth)
+    (λ p. p.box_node.setting ≢ Natural → p.badness ≢ 1000000 → place_in p.box_node (length (nodes_of p.box_node.list)) ≡ p.box_node.height +ℤ p.box_node.depth)
     (λ set good. omega (arith, ints, filled Vertical items (vbox_excess target limit (nodes_of items)) set good))
 
 pub ruleset packing = (boxed-hbox, boxed-vbox, boxed-vtop)

@@ -32,7 +32,7 @@ pub record Packing : Type 0 where
 -- The list in its box, and how bad the box is; or the list comes back, where one of the numbers does not fit (own).
 abbrev pub packed_by : Packing → Items → Result Packed TooLarge
 packed_by packing items =
-    if list_all fits packing.numbers then Ok (record { shown = box_of packing.frame items; badness = packing.badness })
+    if list_all fits packing.numbers then Ok (record { box_node = box_of packing.frame items; badness = packing.badness })
     else Err (record { list = items })
 
 -- The totals of stretch and of shrink of a list in each order, as numbers that have to fit (own).

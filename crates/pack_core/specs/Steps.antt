@@ -110,7 +110,7 @@ vtop_shell shell height = record shell { height = height; depth = (shell.depth +
 unfoldable pub packed_of : Items → Shell → Packed
 packed_of items shell =
     record {
-      shown = record {
+      box_node = record {
         kind = shell.kind;
         width = shell.width;
         height = shell.height;

@@ -35,7 +35,7 @@ pub enum Target {
 /// A packed box.
 #[derive(Debug, Drop)]
 pub struct Packed {
-    pub shown: BoxNode,
+    pub box_node: BoxNode,
     /// How badly its glue is stretched or shrunk: 0 to 10000, or 1000000 where it is overfull.
     pub badness: u32,
 }
@@ -52,11 +52,11 @@ pub struct TooLarge {
 #[tactic(auto, using(crate::proofs::Packing::packing))]
 pub fn hpack(list: NodeList, target: Target) -> Result<Packed, TooLarge>
     ensures value { result ≡ hpacked target list }
-    ensures ok { IfOk result (λ p. (p.shown ≡ hbox target list) × (p.badness ≡ hbox_badness target (nodes_of list))) }
+    ensures ok { IfOk result (λ p. (p.box_node ≡ hbox target list) × (p.badness ≡ hbox_badness target (nodes_of list))) }
     ensures fits { is_ok result ≡ list_all fits (hbox_numbers target (nodes_of list)) }
     ensures back { IfErr result (λ e. e.list ≡ list) }
-    ensures edge { IfOk result (λ p. p.shown.setting ≢ Setting.Natural → p.badness ≢ 1000000 →
-        place_in p.shown (length (nodes_of p.shown.list)) ≡ p.shown.width) }
+    ensures edge { IfOk result (λ p. p.box_node.setting ≢ Setting.Natural → p.badness ≢ 1000000 →
+        place_in p.box_node (length (nodes_of p.box_node.list)) ≡ p.box_node.width) }
 {
     let shell = hbox_shell(target, list.as_slice());
     boxed_list(list, shell)
@@ -67,11 +67,11 @@ pub fn hpack(list: NodeList, target: Target) -> Result<Packed, TooLarge>
 #[tactic(auto, using(crate::proofs::Packing::packing))]
 pub fn vpack(list: NodeList, target: Target, depth_limit: Dimen) -> Result<Packed, TooLarge>
     ensures value { result ≡ vpacked target depth_limit list }
-    ensures ok { IfOk result (λ p. (p.shown ≡ vbox target depth_limit list) × (p.badness ≡ vbox_badness target depth_limit (nodes_of list))) }
+    ensures ok { IfOk result (λ p. (p.box_node ≡ vbox target depth_limit list) × (p.badness ≡ vbox_badness target depth_limit (nodes_of list))) }
     ensures fits { is_ok result ≡ list_all fits (vbox_numbers target depth_limit (nodes_of list)) }
     ensures back { IfErr result (λ e. e.list ≡ list) }
-    ensures edge { IfOk result (λ p. p.shown.setting ≢ Setting.Natural → p.badness ≢ 1000000 →
-        place_in p.shown (length (nodes_of p.shown.list)) ≡ p.shown.height +ℤ p.shown.depth) }
+    ensures edge { IfOk result (λ p. p.box_node.setting ≢ Setting.Natural → p.badness ≢ 1000000 →
+        place_in p.box_node (length (nodes_of p.box_node.list)) ≡ p.box_node.height +ℤ p.box_node.depth) }
 {
     let shell = vbox_shell(target, depth_limit, list.as_slice());
     boxed_list(list, shell)
@@ -82,11 +82,11 @@ pub fn vpack(list: NodeList, target: Target, depth_limit: Dimen) -> Result<Packe
 #[tactic(auto, using(crate::proofs::Packing::packing))]
 pub fn vtop(list: NodeList, target: Target, depth_limit: Dimen) -> Result<Packed, TooLarge>
     ensures value { result ≡ vtopped target depth_limit list }
-    ensures ok { IfOk result (λ p. (p.shown ≡ vtop_box target depth_limit list) × (p.badness ≡ vbox_badness target depth_limit (nodes_of list))) }
+    ensures ok { IfOk result (λ p. (p.box_node ≡ vtop_box target depth_limit list) × (p.badness ≡ vbox_badness target depth_limit (nodes_of list))) }
     ensures fits { is_ok result ≡ list_all fits (vtop_numbers target depth_limit (nodes_of list)) }
     ensures back { IfErr result (λ e. e.list ≡ list) }
-    ensures edge { IfOk result (λ p. p.shown.setting ≢ Setting.Natural → p.badness ≢ 1000000 →
-        place_in p.shown (length (nodes_of p.shown.list)) ≡ p.shown.height +ℤ p.shown.depth) }
+    ensures edge { IfOk result (λ p. p.box_node.setting ≢ Setting.Natural → p.badness ≢ 1000000 →
+        place_in p.box_node (length (nodes_of p.box_node.list)) ≡ p.box_node.height +ℤ p.box_node.depth) }
 {
     let shell = vtop_shell_of(target, depth_limit, list.as_slice());
     boxed_list(list, shell)
@@ -229,7 +229,7 @@ fn boxed_list(list: NodeList, shell: Option<Shell>) -> Result<Packed, TooLarge>
 fn packed_of(list: NodeList, shell: &Shell) -> Packed
     ensures { result ≡ packed_of list shell.now }
 {
-    let shown = BoxNode {
+    let box_node = BoxNode {
         kind: shell.kind,
         width: shell.width,
         height: shell.height,
@@ -238,7 +238,7 @@ fn packed_of(list: NodeList, shell: &Shell) -> Packed
         list,
     };
     Packed {
-        shown,
+        box_node,
         badness: shell.set.badness,
     }
 }

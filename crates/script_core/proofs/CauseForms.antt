@@ -15,7 +15,7 @@ use Rattle.scaled_core.specs.declared.fault.DimenFault.{DimenFault}
 use Rattle.scaled_core.specs.declared.fault.DimenFault.TheVariants.{NotADimension}
 use Rattle.scaled_core.specs.Rounding.{nearest}
 use Rattle.scaled_core.specs.DimensionTexts.{decimal_fraction}
-use Rattle.scaled_core.specs.ParsedTexts.{read_dimension, dimension_value, fitted, measured, unit_named, is_negative, behind_sign, front_digits, behind_digits, point_digits, behind_fraction}
+use Rattle.scaled_core.specs.ParsedTexts.{read_dimension, dimension_value, parsed_value, written_value, unit_named, is_negative, behind_sign, front_digits, behind_digits, point_digits, behind_fraction}
 use Rattle.script_core.proofs.FieldLaws.{writes_number, reads_dimension, dimension_read, size_given, names_font}
 use Rattle.script_core.proofs.AmountLaws.{amount_given, amount_fault}
 use Rattle.script_core.proofs.GivenCommands.{complete}
@@ -69,7 +69,7 @@ unfolding penalty_of
 letter_no_penalty = refl
 
 pub letter_no_dimension : read_dimension letter ≡ Err NotADimension
-unfolding read_dimension dimension_value fitted measured unit_named is_negative behind_sign front_digits behind_digits point_digits behind_fraction
+unfolding read_dimension dimension_value parsed_value written_value unit_named is_negative behind_sign front_digits behind_digits point_digits behind_fraction
 letter_no_dimension = refl
 
 pub letter_no_size : size_of letter ≡ Err Dimension
@@ -131,7 +131,7 @@ pub star_size : GivesSize (codes "*")
 star_size = (Running, refl)
 
 pub zero_dimension : read_dimension (codes "0sp") ≡ Ok (pos 0)
-unfolding read_dimension dimension_value fitted measured unit_named is_negative behind_sign front_digits behind_digits point_digits behind_fraction decimal_fraction nearest
+unfolding read_dimension dimension_value parsed_value written_value unit_named is_negative behind_sign front_digits behind_digits point_digits behind_fraction decimal_fraction nearest
 zero_dimension = refl
 
 pub zero_size : GivesSize (codes "0sp")

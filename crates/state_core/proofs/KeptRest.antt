@@ -33,7 +33,7 @@ home_rest s around (Some r) b = record { files = refl; fonts = refl; over = refl
 closed_rest : (s : State) (l : Option OpenList) (packed : Option packs.Packed) → KeepsRest s (with_closed s l packed)
 closed_rest s None packed = same_rest s
 closed_rest s (Some l) None = same_rest s
-closed_rest s (Some l) (Some packed) = home_rest s (outer s.nest) (register_of l.purpose) packed.shown
+closed_rest s (Some l) (Some packed) = home_rest s (outer s.nest) (register_of l.purpose) packed.box_node
 
 used_rest : (s : State) (taking : Taking) (r : ℕ) (shift : ℤ) (held : Option BoxNode) → KeepsRest s (with_used s taking r shift held)
 used_rest s taking r shift None = same_rest s

@@ -71,7 +71,7 @@ chosen_by_home params around (Some register) b = tt
 
 chosen_by_packed : (params : Params) (around : List OpenList) (into : Option ℕ) (packed : Option packs.Packed) → AreChosen (packed_checks params around into packed)
 chosen_by_packed params around into None = (tt, tt)
-chosen_by_packed params around into (Some packed) = (tt, chosen_by_home params around into packed.shown)
+chosen_by_packed params around into (Some packed) = (tt, chosen_by_home params around into packed.box_node)
 
 chosen_by_end : (params : Params) (around : List OpenList) (l : Option OpenList) → AreChosen (close_checks params around l)
 chosen_by_end params around None = (tt, tt)

@@ -312,15 +312,15 @@ home_sized s (Some r) b sized sound =
       registers = each_set (IsSizedHeld s.fonts) s.registers r (Some b) sized.registers sound;
     }
 
-packed_sized : (s : State) (l : OpenList) (found : Result packs.Packed TooLarge) → ((q : packs.Packed) → found ≡ Ok q → l.list ≡ q.shown.list)
+packed_sized : (s : State) (l : OpenList) (found : Result packs.Packed TooLarge) → ((q : packs.Packed) → found ≡ Ok q → l.list ≡ q.box_node.list)
     → first_of ((s.over, JobOver) ∷ packed_checks s.params (outer s.nest) (register_of l.purpose) (if_packed found)) ≡ None
     → HasSizedGlyphs s → IsSizedList s.fonts l → HasSizedGlyphs (with_closed s (Some l) (if_packed found))
 packed_sized s l (Err large) own may sized list = sized
 packed_sized s l (Ok q) own may sized list =
     let glyphs = subst (EachLeaf (IsSizedLeaf s.fonts)) (own q refl) (sized_leaves s.fonts l.list list) in
     let shallow =
-    second_fails s.over (nat_lt MOST_DEEP (box_depth q.shown)) JobOver TooDeep (home_checks s.params (outer s.nest) (register_of l.purpose) q.shown) may in
-    home_sized s (register_of l.purpose) q.shown sized (record { glyphs = glyphs; depth = not_deeper (box_depth q.shown) shallow })
+    second_fails s.over (nat_lt MOST_DEEP (box_depth q.box_node)) JobOver TooDeep (home_checks s.params (outer s.nest) (register_of l.purpose) q.box_node) may in
+    home_sized s (register_of l.purpose) q.box_node sized (record { glyphs = glyphs; depth = not_deeper (box_depth q.box_node) shallow })
 
 closed_sized : (s : State) (l : Option OpenList) → innermost s.nest ≡ l → first_of ((s.over, JobOver) ∷ close_checks s.params (outer s.nest) l) ≡ None
     → HasSizedGlyphs s → HasSizedGlyphs (with_closed s l (packed_list s.params l))

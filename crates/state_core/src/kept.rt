@@ -450,10 +450,7 @@ impl Kept {
         let Some(packed) = self.nest.pack(&self.params) else {
             return Ok(Err(Refusal::DimensionTooLarge));
         };
-        let Packed {
-            shown: box_node,
-            badness,
-        } = packed;
+        let Packed { box_node, badness } = packed;
         if let Some(refusal) = self.refusal_of(&into, &box_node) {
             self.nest.refill(box_node.list);
             return Ok(Err(refusal));

@@ -24,7 +24,7 @@ pub enum AppendFault {
 #[derive(Debug, Drop, Error)]
 #[error("the box was not appended: {fault}")]
 pub struct Unappended {
-    pub shown: BoxNode,
+    pub box_node: BoxNode,
     pub fault: AppendFault,
 }
 
@@ -32,31 +32,31 @@ pub struct Unappended {
 /// previous one. Where the glue does not fit or memory is refused, the box comes back and the list is as it was.
 pub fn append_box(
     nodes: &mut Vec<Node>,
-    shown: BoxNode,
+    box_node: BoxNode,
     shift: Dimen,
     previous_depth: Dimen,
     params: &Params,
 ) -> Result<Dimen, Unappended>
     ensures ok { OnOk result (nodes.new.items ≡
-        nodes.old.items ++ appended (glue_of (interline params.now previous_depth shown.height)) shift shown) }
-    ensures depth { IfOk result (λ depth. depth ≡ shown.depth) }
+        nodes.old.items ++ appended (glue_of (interline params.now previous_depth box_node.height)) shift box_node) }
+    ensures depth { IfOk result (λ depth. depth ≡ box_node.depth) }
     // The glue fits, and else this is the fault, even where memory would be refused too.
-    ensures fits { OnOk result (IsOk (interline params.now previous_depth shown.height)) }
+    ensures fits { OnOk result (IsOk (interline params.now previous_depth box_node.height)) }
     ensures fault { IfErr result (λ e. e.fault ≡
-        (if is_ok (interline params.now previous_depth shown.height) then AppendFault.OutOfMemory else AppendFault.DimensionTooLarge)) }
+        (if is_ok (interline params.now previous_depth box_node.height) then AppendFault.OutOfMemory else AppendFault.DimensionTooLarge)) }
     ensures err { OnErr result (nodes.new.items ≡ nodes.old.items) }
-    ensures back { IfErr result (λ e. e.shown ≡ shown) }
+    ensures back { IfErr result (λ e. e.box_node ≡ box_node) }
 {
-    let depth = shown.depth;
-    match interline_glue(previous_depth, shown.height, params) {
+    let depth = box_node.depth;
+    match interline_glue(previous_depth, box_node.height, params) {
         Err(DimensionTooLarge) => Err(Unappended {
-            shown,
+            box_node,
             fault: AppendFault::DimensionTooLarge,
         }),
-        Ok(glue) => match push_with_glue(nodes, glue, shift, shown) {
+        Ok(glue) => match push_with_glue(nodes, glue, shift, box_node) {
             Ok(()) => Ok(depth),
-            Err(shown) => Err(Unappended {
-                shown,
+            Err(box_node) => Err(Unappended {
+                box_node,
                 fault: AppendFault::OutOfMemory,
             }),
         },
@@ -98,23 +98,23 @@ fn push_with_glue(
     nodes: &mut Vec<Node>,
     glue: Option<Glue>,
     shift: Dimen,
-    shown: BoxNode,
+    box_node: BoxNode,
 ) -> Result<(), BoxNode>
-    ensures ok { OnOk result (nodes.new.items ≡ nodes.old.items ++ appended glue shift shown) }
+    ensures ok { OnOk result (nodes.new.items ≡ nodes.old.items ++ appended glue shift box_node) }
     ensures err { OnErr result (nodes.new.items ≡ nodes.old.items) }
-    ensures back { IfErr result (λ back. back ≡ shown) }
+    ensures back { IfErr result (λ back. back ≡ box_node) }
 {
     let Some(glue) = glue else {
-        return push_box(nodes, shift, shown);
+        return push_box(nodes, shift, box_node);
     };
     if nodes.push(Node::Glue(glue)).is_err() {
-        return Err(shown);
+        return Err(box_node);
     }
-    match push_box(nodes, shift, shown) {
+    match push_box(nodes, shift, box_node) {
         Ok(()) => Ok(()),
-        Err(shown) => {
+        Err(box_node) => {
             nodes.pop();
-            Err(shown)
+            Err(box_node)
         }
     }
 }

@@ -14,8 +14,8 @@ pub returns-in-Some-refusal_of-clause-state : goal.returns-in-Some-refusal_of-cl
 returns-in-Some-refusal_of-clause-state c =
     let nest = c.self.inside.nest in
     let is = sym c.innermost.ensures ∙ ap option_copied c.in-Some.is in
-    let back = c.refill.ensures ∙ put_back nest c.pack.new.self c.in-Some-pack.packed.shown.list c.in-Some.innermost.now is c.in-Some-pack.ensures.some c.in-Some-pack.ensures.list in
-    let goes = ap (λ into. first_of (place_checks c.self.inside.params (outer c.pack.new.self) into c.in-Some-pack.packed.shown)) c.register-into.ensures in
+    let back = c.refill.ensures ∙ put_back nest c.pack.new.self c.in-Some-pack.packed.box_node.list c.in-Some.innermost.now is c.in-Some-pack.ensures.some c.in-Some-pack.ensures.list in
+    let goes = ap (λ into. first_of (place_checks c.self.inside.params (outer c.pack.new.self) into c.in-Some-pack.packed.box_node)) c.register-into.ensures in
     let running = ap (λ (s : State). s.over) c.self.view_is ∙ c.requires in
     let refused =
     end_refused (a_kept.the_view c.self.inside) c.in-Some.innermost.now c.in-Some-pack.packed c.pack.new.self c.refusal_of.result running is (sym c.pack.ensures.value ∙ c.in-Some-pack.is)
@@ -29,5 +29,5 @@ pub returns-in_err-put_closed_box-clause-err : goal.returns-in_err-put_closed_bo
 returns-in_err-put_closed_box-clause-err c =
     let nest = c.self.inside.nest in
     let is = sym c.innermost.ensures ∙ ap option_copied c.in-Some.is in
-    let back = put_back nest c.pack.new.self c.in-Some-pack.packed.shown.list c.in-Some.innermost.now is c.in-Some-pack.ensures.some c.in-Some-pack.ensures.list in
+    let back = put_back nest c.pack.new.self c.in-Some-pack.packed.box_node.list c.in-Some.innermost.now is c.in-Some-pack.ensures.some c.in-Some-pack.ensures.list in
     on_err c.from_residual.result (c.in_err-put_closed_box.ensures.err ∙ rw (sym c.self.view_is, back) refl)
