@@ -3,6 +3,6 @@ pub mod Entries
 pub mod Dictionary
 pub mod Since
 pub mod Lists
--- pub mod Reached
+pub mod Reached
 -- pub mod Rows
 -- pub mod Bellman
