@@ -4,5 +4,5 @@ pub mod Dictionary
 pub mod Since
 pub mod Lists
 pub mod Reached
--- pub mod Rows
--- pub mod Bellman
+pub mod Rows
+pub mod Bellman

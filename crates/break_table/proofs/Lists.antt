@@ -6,7 +6,7 @@ use Rattle.std.proofs.lemmas.Bool.{cases_eq, cases_lt}
 use Rattle.std.proofs.lemmas.Option.{same_Some}
 use Rattle.std.proofs.lemmas.List.Elements.{Contains-append_right, Contains-append_left, Contains-push, Contains-append_cases, Contains-push_cases}
 use Rattle.break_table.specs.declared.state.Line.{Line}
-use Rattle.break_table.specs.Problems.{Problem, Path, first_path, with_line, with_line_if, lengthened, path_of}
+use Rattle.break_table.specs.Problems.{Problem, Path, first_path, with_line, with_line_if, lengthened, path_of, ends_of, places_of}
 use Rattle.break_table.specs.Chosen.{top, IsFalling, IsBreakList}
 use Rattle.break_table.specs.Ways.{since, Way, starts, goes}
 use Rattle.break_table.proofs.Since.{since_forced, forced_within}
@@ -87,10 +87,11 @@ pub record IsListOf (p : Problem) (q : Path) : Type 0 where
   pub ends : top places ≡ q.last.place
   pub forced : HasForced p q.last.place places
   pub admitted : path_of p places ≡ Some q
+  pub same : places ≡ places_of (ends_of q)
 
 pub list_of : (p : Problem) (q : Path) → Way p q → IsListOf p q
 list_of p _ starts =
-    record { places = []; falls = tt; ends = refl; forced = λ f some within here. absurd (omega arith); admitted = refl }
+    record { places = []; falls = tt; ends = refl; forced = λ f some within here. absurd (omega arith); admitted = refl; same = refl }
 list_of p _ (goes q b l way later since_b is) = more (list_of p q way)
   where
     more : IsListOf p q → IsListOf p (with_line p q b l)
@@ -101,6 +102,7 @@ list_of p _ (goes q b l way later since_b is) = more (list_of p q way)
           ends = refl;
           forced = λ f some within here. at f some here (cases_lt f b) within;
           admitted = ap (λ r. lengthened p r b) before.admitted ∙ ap (with_line_if p q b) is;
+          same = ap (λ xs. b ∷ xs) before.same;
         }
       where
         at : (f : ℕ) → 0 < f → p.forced f ≡ true → (f < b) ⊎ (b ≤ f) → f ≤ b → Contains (b ∷ before.places) f
@@ -112,9 +114,9 @@ list_of p _ (goes q b l way later since_b is) = more (list_of p q way)
 
 pub break_list_of_way :
     (p : Problem) (q : Path) → Way p q → q.last.place ≡ p.places
-    → (places : List ℕ) × IsBreakList p places × (path_of p places ≡ Some q)
+    → IsBreakList p (places_of (ends_of q)) × (path_of p (places_of (ends_of q)) ≡ Some q)
 break_list_of_way p q way at =
     let list = list_of p q way in
-    (list.places,
-    record { falls = list.falls; ends = list.ends ∙ at; forced = λ f some within here. list.forced f some (omega (arith, at)) here },
+    subst (λ places. IsBreakList p places × (path_of p places ≡ Some q)) list.same
+    (record { falls = list.falls; ends = list.ends ∙ at; forced = λ f some within here. list.forced f some (omega (arith, at)) here },
     list.admitted)

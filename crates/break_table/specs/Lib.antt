@@ -4,3 +4,4 @@ pub mod Problems
 pub mod Chosen
 pub mod Ways
 pub mod Tables
+pub mod Live

@@ -76,6 +76,11 @@ ends_from last (s ∷ before) = last ∷ ends_from s before
 abbrev pub ends_of : Path → List State
 ends_of q = ends_from q.last q.before
 
+-- The places of ends.
+abbrev pub places_of : List State → List ℕ
+places_of [] = []
+places_of (s ∷ states) = s.place ∷ places_of states
+
 -- The ends of lines, as the numbers by which ties are decided, from the last one on: the later place comes first, then fewer lines, then the lower class
 -- (own: TeX takes what it met last).
 abbrev pub numbers_of : List State → List ℤ

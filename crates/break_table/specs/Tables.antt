@@ -125,3 +125,38 @@ pub record IsRow (p : Problem) (table : List Entry) (b n : ℕ) (row : List (Opt
   pub wide : length row ≡ slots p.cut
   pub held : (s : ℕ) (o : Entry) → slice_get row s ≡ Some (Some o) → IsHeld p table b n s o
   pub met : (k : ℕ) (o : Entry) → k < n → IsOffered p table b k o → IsMet row o
+
+-- What is kept of an offer and of what a slot held: the one that is not after the other.
+pub record IsKept (old : Option Entry) (o r : Entry) : Type 0 where
+  pub is : (r ≡ o) ⊎ (old ≡ Some r)
+  pub offered : NotAfter (short r) (short o)
+  pub older : (h : Entry) → old ≡ Some h → NotAfter (short r) (short h)
+
+-- What a row holds, in the order of its slots.
+abbrev pub held_in : List (Option Entry) → List Entry
+held_in [] = []
+held_in (None ∷ row) = held_in row
+held_in (Some e ∷ row) = e ∷ held_in row
+
+-- Entry number k is the best one of its place so far: of the first n entries.
+pub record IsBestEnd (table : List Entry) (place n k : ℕ) : Type 0 where
+  pub entry : Entry
+  pub stands : slice_get table k ≡ Some entry
+  pub at : entry.end.place ≡ place
+  pub best : (j : ℕ) (f : Entry) → j < n → slice_get table j ≡ Some f → f.end.place ≡ place → NotAfter (short entry) (short f)
+
+-- None of the first n entries is of this place.
+abbrev pub HasNoEnd : (table : List Entry) (place n : ℕ) → Type 0
+HasNoEnd table place n = (j : ℕ) (f : Entry) → j < n → slice_get table j ≡ Some f → f.end.place ≡ place → ⊥
+
+-- These are the ends of the lines of each way that entry number k stands for, whatever the problem is that the table is for.
+abbrev pub IsRead : (table : List Entry) (k : ℕ) (ends : List State) → Type 0
+IsRead table k ends =
+    (p : Problem) (b : ℕ) → IsTable p b table → (e : Entry) → slice_get table k ≡ Some e
+    → (w : Path) → IsLeast p e.end w → ends ≡ ends_of w
+
+-- The same, where the last ones are read already, the later ones first, and what is left are the ends up to entry number k.
+abbrev pub IsReading : (table : List Entry) (whole k : ℕ) (read : List State) → Type 0
+IsReading table whole k read =
+    (p : Problem) (b : ℕ) → IsTable p b table → (e f : Entry) → slice_get table whole ≡ Some e → slice_get table k ≡ Some f
+    → (w v : Path) → IsLeast p e.end w → IsLeast p f.end v → ends_of w ≡ read ++ ends_of v

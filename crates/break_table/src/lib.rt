@@ -6,6 +6,10 @@
 //! `break_core` stands above it, with lines of nodes and their cost.
 #![tactic(auto)]
 
+pub mod answer;
+pub mod group;
 pub mod state;
 
+pub use answer::Least;
+pub use group::Group;
 pub use state::{Class, Line, State};
