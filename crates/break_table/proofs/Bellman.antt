@@ -1,15 +1,17 @@
 -- The table grows by the row of a place, and the best entry of the end is the list that is chosen.
-use Rattle.std.proofs.Common.{◌≡◌, ◌≢◌, ◌∙◌, ℕ, zero, suc, ◌+◌, ◌*◌, ◌<◌, ◌≤◌, min, Bool, true, false, cond, List, [], ◌∷◌, ◌++◌, length, length-append, append_assoc, refl, ap, sym, subst, arith, Option, Some, None}
+use Rattle.std.proofs.Common.{◌≡◌, ◌≢◌, ◌∙◌, ℕ, zero, suc, ◌+◌, ◌*◌, ◌<◌, ◌≤◌, min, Bool, true, false, cond, List, [], ◌∷◌, ◌++◌, length, append_assoc, reverse, refl, ap, sym, subst, arith, Option, Some, None}
 use Rattle.std.specs.Prelude.{ℤ, pos, nat_le, slice_get}
 use Rattle.std.proofs.Math.Logic.{◌⊎◌, inl, inr}
 use Rattle.std.proofs.lemmas.Bool.{cases_Bool, cases_eq, cases_lt, cond-true, cond-false, leb-true}
 use Rattle.std.proofs.lemmas.Option.{same_Some, slice_get_within}
+use Rattle.std.proofs.lemmas.List.{reverse-reverse}
+use Rattle.break_table.specs.declared.answer.Least.{Least}
 use Rattle.break_table.specs.declared.group.Group.{Group}
 use Rattle.break_table.specs.declared.state.State.{State}
 use Rattle.break_table.specs.declared.state.Line.{Line}
 use Rattle.break_table.specs.Orders.{NotAfter}
 use Rattle.break_table.specs.Problems.{Problem, Path, start, first_path, with_line, path_of, ends_of, places_of, key}
-use Rattle.break_table.specs.Chosen.{IsBreakList, IsChosen, AdmitsNone}
+use Rattle.break_table.specs.Chosen.{IsBreakList, IsChosen, AdmitsNone, IsAnswer}
 use Rattle.break_table.specs.Ways.{since, Way, starts, goes, IsLeast}
 use Rattle.break_table.specs.Tables.{Entry, first_entry, short, slot, IsReached, way_to, IsLinked, IsBest, IsTable, offer_of, offer, IsOffered, IsHeld, IsMet, IsRow, held_in, IsBestEnd, HasNoEnd, IsRead, IsReading}
 use Rattle.break_table.specs.Live.{IsGroup, IsSilent, IsLive}
@@ -126,24 +128,24 @@ next_table p b table row some is full =
 
 -- The best entry of the last place is the list that is chosen.
 pub chosen :
-    (p : Problem) (table : List Entry) (k : ℕ)
-    → 0 < p.places → IsTable p (p.places + 1) table → (best : IsBestEnd table p.places (length table) k) → (w : Path) → IsLeast p best.entry.end w
-    → IsChosen p (places_of (ends_of w)) w
-chosen p table zero some is best w least =
+    (p : Problem) (places : ℕ) (table : List Entry) (k : ℕ)
+    → p.places ≡ places → 0 < places → IsTable p (places + 1) table → (best : IsBestEnd table places (length table) k) → (w : Path)
+    → IsLeast p best.entry.end w → IsChosen p (places_of (ends_of w)) w
+chosen p places table zero same_places some is best w least =
     let same : first_entry ≡ best.entry = same_Some first_entry best.entry (sym is.first ∙ best.stands) in
     absurd (omega (arith, ap (λ e. e.end.place) same, best.at))
-chosen p table (suc k) some is best w least =
-    let at : w.last.place ≡ p.places = ap (λ s. s.place) least.ends ∙ best.at in
+chosen p places table (suc k) same_places some is best w least =
+    let at : w.last.place ≡ p.places = ap (λ s. s.place) least.ends ∙ best.at ∙ sym same_places in
     let list = break_list_of_way p w least.way at in
     record { is_list = list.0; admitted = list.1; least = before }
   where
     before : (others : List ℕ) (r : Path) → IsBreakList p others → path_of p others ≡ Some r → NotAfter (key w) (key r)
     before others r is_list admitted =
         let way = way_of_break_list p others r is_list admitted in
-        let found = is.whole r way.0 (omega (arith, way.1)) in
-        at_entry r way.0 way.1 found.0 found.1 found.2 found.3
+        let found = is.whole r way.0 (omega (arith, way.1, same_places)) in
+        at_entry r way.0 (way.1 ∙ same_places) found.0 found.1 found.2 found.3
       where
-        at_entry : (u : Path) → Way p u → u.last.place ≡ p.places → (j : ℕ) (f : Entry) → slice_get table j ≡ Some f → f.end ≡ u.last → NotAfter (key w) (key u)
+        at_entry : (u : Path) → Way p u → u.last.place ≡ places → (j : ℕ) (f : Entry) → slice_get table j ≡ Some f → f.end ≡ u.last → NotAfter (key w) (key u)
         at_entry u way place zero f stands ends =
             let same : first_entry ≡ f = same_Some first_entry f (sym is.first ∙ stands) in
             absurd (omega (arith, ap (λ e. e.end.place) same, ap (λ s. s.place) ends))
@@ -156,6 +158,23 @@ chosen p table (suc k) some is best w least =
             let all = not_after_trans (key (way_to p best.entry mine.reached)) (key (way_to p f other.reached)) (key u) first
                 (other.least.least u way (sym ends)) in
             subst (λ x. NotAfter (key x) (key u)) (sym one) all
+
+-- What is read of the best entry of the last place is the list that is chosen.
+pub answered :
+    (p : Problem) (places : ℕ) (table : List Entry) (k : ℕ) (e : Entry) (answer : Least)
+    → p.places ≡ places → 0 < places → IsTable p (places + 1) table → IsBestEnd table places (length table) k → slice_get table k ≡ Some e
+    → IsRead table k (reverse answer.ends.items) → answer.overhang ≡ e.overhang → answer.demerits ≡ e.demerits → IsAnswer p answer
+answered p places table k e answer same_places some is best stands read overhang demerits =
+    let one : e ≡ best.entry = same_Some e best.entry (sym stands ∙ best.stands) in
+    let r = right p (places + 1) table k best.entry is best.stands in
+    let ends : reverse answer.ends.items ≡ ends_of r.path = read p (places + 1) is best.entry best.stands r.path r.least in
+    record {
+      path = r.path;
+      chosen = chosen p places table k same_places some is best r.path r.least;
+      ends = sym (reverse-reverse answer.ends.items) ∙ ap reverse ends;
+      overhang = overhang ∙ ap (λ x. x.overhang) one ∙ sym r.overhang;
+      demerits = demerits ∙ ap (λ x. x.demerits) one ∙ sym r.demerits;
+    }
 
 -- Where the last place has no entry, no list is admitted.
 pub admits_none :

@@ -6,3 +6,5 @@ pub mod Lists
 pub mod Reached
 pub mod Rows
 pub mod Bellman
+pub mod Comparing
+pub mod BestEnds

@@ -1,9 +1,9 @@
 -- Rows: the offers for a place, one after another.
-use Rattle.std.proofs.Common.{◌≡◌, ◌≢◌, ◌∙◌, ℕ, zero, suc, ◌+◌, ◌*◌, ◌<◌, ◌≤◌, min, Bool, true, false, cond, List, [], ◌∷◌, ◌++◌, length, set, replicate, refl, ap, sym, subst, arith, length-set, Option, Some, None}
+use Rattle.std.proofs.Common.{◌≡◌, ◌≢◌, ◌∙◌, ℕ, zero, suc, ◌+◌, ◌*◌, ◌<◌, ◌≤◌, min, Bool, true, false, cond, List, [], ◌∷◌, ◌++◌, length, take, get_or, set, replicate, refl, ap, sym, subst, arith, length-set, Option, Some, None}
 use Rattle.std.specs.Prelude.{ℤ, pos, nat_le, slice_get}
 use Rattle.std.proofs.Math.Logic.{◌⊎◌, inl, inr}
 use Rattle.std.proofs.lemmas.Bool.{cases_eq, cases_lt}
-use Rattle.std.proofs.lemmas.List.{length-replicate}
+use Rattle.std.proofs.lemmas.List.{length-replicate, take_more}
 use Rattle.std.proofs.lemmas.Option.{same_Some}
 use Rattle.break_table.specs.declared.state.State.{State}
 use Rattle.break_table.specs.Orders.{NotAfter}
@@ -161,3 +161,16 @@ held_from [] j e is = absurd (cc)
 held_from (None ∷ row) j e is = let rest = held_from row j e is in (suc rest.0, rest.1)
 held_from (Some x ∷ row) zero e is = (0, ap Some is)
 held_from (Some x ∷ row) (suc j) e is = let rest = held_from row j e is in (suc rest.0, rest.1)
+
+-- What a row holds up to one more slot.
+held-append : (front row : List (Option Entry)) → held_in (front ++ row) ≡ held_in front ++ held_in row
+held-append [] row = refl
+held-append (None ∷ front) row = held-append front row
+held-append (Some e ∷ front) row = ap (λ xs. e ∷ xs) (held-append front row)
+
+pub held_in_more :
+    (row : List (Option Entry)) (i : ℕ) (x : Option Entry) → i < length row → x ≡ get_or row i x
+    → held_in (take (i + 1) row) ≡ held_in (take i row) ++ held_in (x ∷ [])
+held_in_more row i x within is =
+    ap held_in (take_more row i x within) ∙ held-append (take i row) (get_or row i x ∷ [])
+    ∙ ap (λ y. held_in (take i row) ++ held_in (y ∷ [])) (sym is)

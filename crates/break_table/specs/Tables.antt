@@ -48,6 +48,10 @@ extended cut e index place line =
 abbrev pub short : Entry → List ℤ
 short e = e.overhang ∷ e.demerits ∷ numbers_of (e.end ∷ e.from ∷ [])
 
+-- A state decides before another one, whatever is behind.
+abbrev pub IsFirst : State → State → Type 0
+IsFirst s t = (xs ys : List ℤ) → NotAfter (numbers_of (s ∷ []) ++ xs) (numbers_of (t ∷ []) ++ ys)
+
 -- Where a state stands in the row of its place.
 abbrev pub slot : State → ℕ
 slot s = 4 * s.lines + rank s.class
@@ -160,3 +164,13 @@ abbrev pub IsReading : (table : List Entry) (whole k : ℕ) (read : List State) 
 IsReading table whole k read =
     (p : Problem) (b : ℕ) → IsTable p b table → (e f : Entry) → slice_get table whole ≡ Some e → slice_get table k ≡ Some f
     → (w v : Path) → IsLeast p e.end w → IsLeast p f.end v → ends_of w ≡ read ++ ends_of v
+
+-- Between two rows entry number `index` was offered for a place, by that line of its own, whatever the problem and the table are.
+abbrev pub IsImproved : (cut : ℕ) (entry : Entry) (index place : ℕ) (line : Option Line) (old new : List (Option Entry)) → Type 0
+IsImproved cut entry index place line old new =
+    (p : Problem) (table : List Entry) → p.cut ≡ cut → slice_get table index ≡ Some entry → since p place ≤ entry.end.place
+    → p.line entry.end place ≡ line → IsRow p table place index old → IsRow p table place (index + 1) new
+
+-- It is a table of some problem.
+abbrev pub IsSomeTable : List Entry → Type 0
+IsSomeTable table = (p : Problem) × (b : ℕ) × IsTable p b table

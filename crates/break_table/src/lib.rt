@@ -7,9 +7,13 @@
 #![tactic(auto)]
 
 pub mod answer;
+pub mod entry;
 pub mod group;
+mod row;
 pub mod state;
 
-pub use answer::Least;
+pub use answer::{Least, chosen_list};
+pub use entry::Best;
 pub use group::Group;
+pub use row::{empty_row, improve, keep};
 pub use state::{Class, Line, State};

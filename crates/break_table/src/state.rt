@@ -2,7 +2,9 @@
 
 ghost use Rattle.std.specs.Prelude.{◌≡◌, ◌<◌, ◌≤◌, ◌*◌, ◌+◌};
 ghost use Rattle.break_table.specs.Problems.{rank, start, state_after};
-ghost use Rattle.break_table.specs.Tables.{slot, slots};
+ghost use Rattle.break_table.specs.Tables.{slot, slots, IsFirst};
+
+use std::cmp::Ordering;
 
 /// How loosely or tightly a line is set (TeX: The Program, part 38, §817).
 #[derive(Clone, Copy, Debug, PartialEq, Eq)]
@@ -79,4 +81,31 @@ impl State {
     {
         4 * self.lines + self.class.rank()
     }
+}
+
+/// Which of two ends of lines comes first where all else is the same: the later place, then the one with fewer lines, then the lower class.
+pub fn order(a: State, b: State) -> Ordering
+    ensures less { result ≡ Ordering.Less → IsFirst a b }
+    ensures greater { result ≡ Ordering.Greater → IsFirst b a }
+    ensures equal { result ≡ Ordering.Equal → a ≡ b }
+{
+    if a.place > b.place {
+        return Ordering::Less;
+    }
+    if a.place < b.place {
+        return Ordering::Greater;
+    }
+    if a.lines < b.lines {
+        return Ordering::Less;
+    }
+    if a.lines > b.lines {
+        return Ordering::Greater;
+    }
+    if a.class.rank() < b.class.rank() {
+        return Ordering::Less;
+    }
+    if a.class.rank() > b.class.rank() {
+        return Ordering::Greater;
+    }
+    Ordering::Equal
 }
