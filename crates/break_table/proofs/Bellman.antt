@@ -214,11 +214,3 @@ read_all table whole read is p b table_is e at w least =
     all : (xs : List State) → xs ++ [] ≡ xs
     all [] = refl
     all (x ∷ xs) = ap (λ ys. x ∷ ys) (all xs)
-
--- Entries before a place that must be taken offer nothing behind it.
-early_silent : (p : Problem) (e : Entry) (k b l : ℕ) → e.end.place < since p b → b ≤ l → offer p e k l ≡ None
-early_silent p e k b l early behind = cases (cases_Bool (nat_le (since p l) e.end.place))
-  where
-    cases : (nat_le (since p l) e.end.place ≡ true) ⊎ (nat_le (since p l) e.end.place ≡ false) → offer p e k l ≡ None
-    cases (inl late) = absurd (omega (arith, leb-true (since p l) e.end.place late, since_grows p b l behind))
-    cases (inr is) = cond-false (nat_le (since p l) e.end.place) (offer_of p.cut e k l (p.line e.end l)) None is

@@ -8,3 +8,4 @@ pub mod Rows
 pub mod Bellman
 pub mod Comparing
 pub mod BestEnds
+pub mod Live

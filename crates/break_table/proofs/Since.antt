@@ -53,3 +53,9 @@ since_grows p b c before = cases (cases_lt 0 (since p b))
         let forced = since_forced p b above in
         forced_within p (since p b) c (omega (arith, forced.1)) forced.0
     cases (inr none) = omega arith
+
+-- A place that need not be taken changes nothing for the next one.
+pub since_free : (p : Problem) (b : ℕ) → p.forced b ≡ false → since p (b + 1) ≡ since p b
+since_free p b free =
+    let one : b + 1 ≡ suc b = omega arith in
+    ap (since p) one ∙ cond-false (p.forced b) b (since p b) free

@@ -9,6 +9,7 @@
 pub mod answer;
 pub mod entry;
 pub mod group;
+pub mod laws;
 mod row;
 pub mod state;
 
