@@ -64,6 +64,24 @@ pub struct Params {
     pub line_skip: Glue,
     /// How near boxes may come, in scaled points: lineskiplimit.
     pub line_skip_limit: Dimen,
+    /// How wide the lines of a paragraph are, in scaled points: hsize.
+    pub hsize: Dimen,
+    /// The glue at the end of a paragraph: parfillskip.
+    pub par_fill_skip: Glue,
+    /// How bad a line may be in the first pass over a paragraph; below 0 there is no such pass: pretolerance.
+    pub pretolerance: Number,
+    /// How bad a line may be in the second pass: tolerance.
+    pub tolerance: Number,
+    /// What counts for each line beside its badness: linepenalty.
+    pub line_penalty: Number,
+    /// What a line costs that does not go with the line before: adjdemerits.
+    pub adj_demerits: Number,
+    /// The penalty behind the first line of a paragraph: clubpenalty.
+    pub club_penalty: Number,
+    /// The penalty behind the last line but one: widowpenalty.
+    pub widow_penalty: Number,
+    /// The penalty behind each line but the last: interlinepenalty.
+    pub interline_penalty: Number,
 }
 
 /// Glue of a width that neither stretches nor shrinks.
@@ -81,7 +99,7 @@ fn rigid(width: Dimen) -> Glue
 
 impl Params {
     /// The parameters of a new job: a vbox may be as deep as a dimension can be, baselines are 12pt apart, and boxes that would come nearer
-    /// than 0pt are 1pt apart.
+    /// than 0pt are 1pt apart. Lines are 6.5in wide, the last one is filled up with glue of order fil, and the numbers are those of plain TeX.
     pub fn first() -> Params
         ensures { result ≡ first_params }
     {
@@ -90,6 +108,19 @@ impl Params {
             baseline_skip: rigid(Dimen::points(12)),
             line_skip: rigid(Dimen::points(1)),
             line_skip_limit: Dimen::ZERO,
+            hsize: Dimen::new(30_785_863),
+            par_fill_skip: Glue {
+                stretch: Dimen::points(1),
+                stretch_order: Order::Fil,
+                ..rigid(Dimen::ZERO)
+            },
+            pretolerance: Number { value: 100 },
+            tolerance: Number { value: 200 },
+            line_penalty: Number { value: 10 },
+            adj_demerits: Number { value: 10_000 },
+            club_penalty: Number { value: 150 },
+            widow_penalty: Number { value: 150 },
+            interline_penalty: Number { value: 0 },
         }
     }
 }

@@ -1,0 +1,176 @@
+-- Rows: the offers for a place, one after another.
+use Rattle.std.proofs.Common.{◌≡◌, ◌≢◌, ◌∙◌, ℕ, zero, suc, ◌+◌, ◌*◌, ◌<◌, ◌≤◌, min, Bool, true, false, cond, List, [], ◌∷◌, ◌++◌, length, take, get_or, set, replicate, refl, ap, sym, subst, arith, length-set, Option, Some, None}
+use Rattle.std.specs.Prelude.{ℤ, pos, nat_le, slice_get}
+use Rattle.std.proofs.Math.Logic.{◌⊎◌, inl, inr}
+use Rattle.std.proofs.lemmas.Bool.{cases_eq, cases_lt}
+use Rattle.std.proofs.lemmas.List.{length-replicate, take_more}
+use Rattle.std.proofs.lemmas.Option.{same_Some}
+use Rattle.break_table.specs.declared.state.State.{State}
+use Rattle.break_table.specs.Orders.{NotAfter}
+use Rattle.break_table.specs.Problems.{Problem, rank, state_after}
+use Rattle.break_table.specs.Tables.{Entry, short, slot, slots, extended, offer, IsOffered, IsHeld, IsMet, IsRow, IsKept, held_in}
+use Rattle.break_table.specs.Live.{IsSilent}
+use Rattle.break_table.proofs.Dictionary.{state_same, rank_few, rank_apart, not_after_trans}
+use Rattle.break_table.proofs.Reached.{IsExtended, extended_is}
+use Rattle.break_table.proofs.Entries.{get-set_same, get-set_other, get-replicate}
+
+-- States of one place with one slot are the same.
+pub slot_apart : (s t : State) → s.place ≡ t.place → slot s ≡ slot t → s ≡ t
+slot_apart s t place same =
+    let few_s = rank_few s.class in
+    let few_t = rank_few t.class in
+    state_same s t place (omega (arith, few_s, few_t)) (rank_apart s.class t.class (omega (arith, few_s, few_t)))
+
+-- An offer for a place ends there.
+pub offered_at : (p : Problem) (table : List Entry) (b k : ℕ) (o : Entry) → IsOffered p table b k o → (o.end.place ≡ b) × (o.end.lines ≤ p.cut)
+offered_at p table b k o offered =
+    let ext = extended_is p offered.by k b o offered.offers in
+    let lines : o.end.lines ≡ min (offered.by.end.lines + 1) p.cut = ap (λ e. e.end.lines) ext.is in
+    (ap (λ e. e.end.place) ext.is, omega (arith, lines))
+
+-- Before any offer a row is empty.
+pub row_empty : (p : Problem) (table : List Entry) (b : ℕ) → IsRow p table b 0 (replicate (slots p.cut) None)
+row_empty p table b =
+    record {
+      wide = length-replicate (slots p.cut) None;
+      held = λ s o is. let none = get-replicate (slots p.cut) s None (Some o) is in absurd (cc);
+      met = λ k o below offered. absurd (omega arith);
+    }
+
+held_more :
+    (p : Problem) (table : List Entry) (b n m s : ℕ) (o : Entry) → n ≤ m → IsHeld p table b n s o → IsHeld p table b m s o
+held_more p table b n m s o more held =
+    record { k = held.k; below = omega (arith, held.below); offered = held.offered; here = held.here }
+
+-- Entries that offer nothing leave a row as it is.
+pub row_silent :
+    (p : Problem) (table : List Entry) (b n m : ℕ) (row : List (Option Entry))
+    → n ≤ m → IsSilent p table b n m → IsRow p table b n row → IsRow p table b m row
+row_silent p table b n m row more silent is =
+    record {
+      wide = is.wide;
+      held = λ s o at. held_more p table b n m s o more (is.held s o at);
+      met = λ k o below offered. met k o below offered (cases_lt k n);
+    }
+  where
+    met : (k : ℕ) (o : Entry) → k < m → IsOffered p table b k o → (k < n) ⊎ (n ≤ k) → IsMet row o
+    met k o below offered (inl before) = is.met k o before offered
+    met k o below offered (inr behind) =
+        let none = silent k offered.by behind below offered.stands b (omega arith) in
+        let some = offered.offers in
+        absurd (cc)
+
+-- An entry that offers nothing for this place leaves a row as it is.
+pub row_none :
+    (p : Problem) (table : List Entry) (b n : ℕ) (e : Entry) (row : List (Option Entry))
+    → slice_get table n ≡ Some e → offer p e n b ≡ None → IsRow p table b n row → IsRow p table b (n + 1) row
+row_none p table b n e row stands none is =
+    record {
+      wide = is.wide;
+      held = λ s o at. held_more p table b n (n + 1) s o (omega arith) (is.held s o at);
+      met = λ k o below offered. met k o below offered (cases_lt k n);
+    }
+  where
+    met : (k : ℕ) (o : Entry) → k < n + 1 → IsOffered p table b k o → (k < n) ⊎ (n ≤ k) → IsMet row o
+    met k o below offered (inl before) = is.met k o before offered
+    met k o below offered (inr behind) =
+        let same : k ≡ n = omega arith in
+        let there : slice_get table n ≡ Some offered.by = ap (slice_get table) (sym same) ∙ offered.stands in
+        let one : offered.by ≡ e = same_Some offered.by e (sym there ∙ stands) in
+        let some : offer p e n b ≡ Some o = ap (λ x. offer p x n b) (sym one) ∙ ap (λ x. offer p offered.by x b) (sym same) ∙ offered.offers in
+        absurd (cc)
+
+-- An offer that is put into its slot, or what the slot held, whichever is before the other.
+pub row_step :
+    (p : Problem) (table : List Entry) (b n : ℕ) (e o r : Entry) (old : Option Entry) (row : List (Option Entry))
+    → slice_get table n ≡ Some e → offer p e n b ≡ Some o → slice_get row (slot o.end) ≡ Some old → IsKept old o r
+    → IsRow p table b n row → IsRow p table b (n + 1) (set row (slot o.end) (Some r))
+row_step p table b n e o r old row stands offers was kept is =
+    record {
+      wide = length-set row (slot o.end) (Some r) ∙ is.wide;
+      held = λ s f at. held s f at (cases_eq s (slot o.end));
+      met = λ k f below offered. met k f below offered (cases_lt k n);
+    }
+  where
+    offered_o : IsOffered p table b n o
+    offered_o = record { by = e; stands = stands; offers = offers }
+    written : slice_get (set row (slot o.end) (Some r)) (slot o.end) ≡ Some (Some r)
+    written = get-set_same row (slot o.end) (Some r) old was
+    -- What the slot holds now.
+    now : (r ≡ o) ⊎ (old ≡ Some r) → IsHeld p table b (n + 1) (slot o.end) r
+    now (inl same) = subst (λ x. IsHeld p table b (n + 1) (slot o.end) x) (sym same) (record { k = n; below = omega arith; offered = offered_o; here = refl })
+    now (inr same) = held_more p table b n (n + 1) (slot o.end) r (omega arith) (is.held (slot o.end) r (was ∙ ap Some same))
+    held :
+        (s : ℕ) (f : Entry) → slice_get (set row (slot o.end) (Some r)) s ≡ Some (Some f) → (s ≡ slot o.end) ⊎ (s ≡ slot o.end → ⊥)
+        → IsHeld p table b (n + 1) s f
+    held s f at (inl same) =
+        let there : slice_get (set row (slot o.end) (Some r)) (slot o.end) ≡ Some (Some f) =
+            ap (slice_get (set row (slot o.end) (Some r))) (sym same) ∙ at in
+        let one : r ≡ f = cc (written, there) in
+        subst (λ x. IsHeld p table b (n + 1) x f) (sym same) (subst (λ x. IsHeld p table b (n + 1) (slot o.end) x) one (now kept.is))
+    held s f at (inr other) =
+        held_more p table b n (n + 1) s f (omega arith) (is.held s f (sym (get-set_other row (slot o.end) s (Some r) other) ∙ at))
+    end_of_r : r.end ≡ o.end
+    end_of_r =
+        let h = now kept.is in
+        let place : r.end.place ≡ b = (offered_at p table b h.k r h.offered).0 in
+        let place_o : o.end.place ≡ b = (offered_at p table b n o offered_o).0 in
+        slot_apart r.end o.end (place ∙ sym place_o) h.here
+    -- An offer in another slot is met by what stood there, one in this slot by what stands there now.
+    spread : (f : Entry) → f.end.place ≡ b → IsMet row f → (slot f.end ≡ slot o.end) ⊎ (slot f.end ≡ slot o.end → ⊥) → IsMet (set row (slot o.end) (Some r)) f
+    spread f at m (inl same) =
+        let there : slice_get row (slot o.end) ≡ Some (Some m.held) = ap (slice_get row) (sym same) ∙ m.stands in
+        let was_held : old ≡ Some m.held = cc (was, there) in
+        let place_o : o.end.place ≡ b = (offered_at p table b n o offered_o).0 in
+        let one : f.end ≡ o.end = slot_apart f.end o.end (at ∙ sym place_o) same in
+        record {
+          held = r;
+          stands = ap (slice_get (set row (slot o.end) (Some r))) same ∙ written;
+          same = end_of_r ∙ sym one;
+          before = not_after_trans (short r) (short m.held) (short f) (kept.older m.held was_held) m.before;
+        }
+    spread f at m (inr other) =
+        record {
+          held = m.held;
+          stands = get-set_other row (slot o.end) (slot f.end) (Some r) other ∙ m.stands;
+          same = m.same;
+          before = m.before;
+        }
+    met : (k : ℕ) (f : Entry) → k < n + 1 → IsOffered p table b k f → (k < n) ⊎ (n ≤ k) → IsMet (set row (slot o.end) (Some r)) f
+    met k f below offered (inl before) =
+        spread f (offered_at p table b k f offered).0 (is.met k f before offered) (cases_eq (slot f.end) (slot o.end))
+    met k f below offered (inr behind) =
+        let same : k ≡ n = omega arith in
+        let there : slice_get table n ≡ Some offered.by = ap (slice_get table) (sym same) ∙ offered.stands in
+        let one : offered.by ≡ e = same_Some offered.by e (sym there ∙ stands) in
+        let some : offer p e n b ≡ Some f = ap (λ x. offer p x n b) (sym one) ∙ ap (λ x. offer p offered.by x b) (sym same) ∙ offered.offers in
+        let is_o : o ≡ f = same_Some o f (sym offers ∙ some) in
+        subst (λ x. IsMet (set row (slot o.end) (Some r)) x) is_o
+        (record { held = r; stands = written; same = end_of_r; before = kept.offered })
+
+-- What a row holds stands behind each other, and nothing else does.
+pub held_has : (row : List (Option Entry)) (s : ℕ) (e : Entry) → slice_get row s ≡ Some (Some e) → (j : ℕ) × (slice_get (held_in row) j ≡ Some e)
+held_has [] s e is = absurd (cc)
+held_has (None ∷ row) zero e is = absurd (cc)
+held_has (None ∷ row) (suc s) e is = held_has row s e is
+held_has (Some x ∷ row) zero e is = (0, same_Some (Some x) (Some e) is)
+held_has (Some x ∷ row) (suc s) e is = let rest = held_has row s e is in (suc rest.0, rest.1)
+
+pub held_from : (row : List (Option Entry)) (j : ℕ) (e : Entry) → slice_get (held_in row) j ≡ Some e → (s : ℕ) × (slice_get row s ≡ Some (Some e))
+held_from [] j e is = absurd (cc)
+held_from (None ∷ row) j e is = let rest = held_from row j e is in (suc rest.0, rest.1)
+held_from (Some x ∷ row) zero e is = (0, ap Some is)
+held_from (Some x ∷ row) (suc j) e is = let rest = held_from row j e is in (suc rest.0, rest.1)
+
+-- What a row holds up to one more slot.
+held-append : (front row : List (Option Entry)) → held_in (front ++ row) ≡ held_in front ++ held_in row
+held-append [] row = refl
+held-append (None ∷ front) row = held-append front row
+held-append (Some e ∷ front) row = ap (λ xs. e ∷ xs) (held-append front row)
+
+pub held_in_more :
+    (row : List (Option Entry)) (i : ℕ) (x : Option Entry) → i < length row → x ≡ get_or row i x
+    → held_in (take (i + 1) row) ≡ held_in (take i row) ++ held_in (x ∷ [])
+held_in_more row i x within is =
+    ap held_in (take_more row i x within) ∙ held-append (take i row) (get_or row i x ∷ [])
+    ∙ ap (λ y. held_in (take i row) ++ held_in (y ∷ [])) (sym is)

@@ -1,0 +1,58 @@
+//! The row of a place: to each state the best offer so far.
+
+ghost use Rattle.std.specs.Prelude.{◌≡◌, ◌<◌, ◌≤◌, ◌++◌, length, replicate, None, IfSome, IfOk, OnOk};
+ghost use Rattle.break_table.specs.Tables.{most_places, slots, held_in, IsSmallLine, IsImproved};
+
+use crate::entry::{Best, kept};
+use crate::state::Line;
+use std::alloc::{AllocError, Global};
+
+/// A row without an offer.
+pub fn empty_row(alloc: Global, cut: usize) -> Result<Vec<Option<Best>>, AllocError>
+    requires few { cut < 1000 }
+    ensures { IfOk result (λ row. row.items ≡ replicate (slots cut) None) }
+{
+    let mut row = Vec::new(alloc);
+    for _ in 0..4 * (cut + 1) {
+        row.push(None)?;
+    }
+    Ok(row)
+}
+
+/// Offers an entry, number `index` of its table, for a place, by its line to there, if there is one.
+pub fn improve(
+    row: &mut Vec<Option<Best>>,
+    entry: Best,
+    index: usize,
+    place: usize,
+    line: Option<Line>,
+    cut: usize,
+)
+    requires few { cut < 1000 }
+    requires wide { length row.old.items ≡ slots cut }
+    requires counted { entry.end.lines ≤ cut }
+    requires later { entry.end.place < place }
+    requires places { place ≤ most_places }
+    requires small { IfSome line IsSmallLine }
+    ensures row { IsImproved cut entry index place line row.old.items row.new.items }
+    ensures wide { length row.new.items ≡ slots cut }
+{
+    let Some(line) = line else {
+        return;
+    };
+    let offered = entry.extended(index, place, line, cut);
+    let slot = offered.end().slot(cut);
+    row[slot] = Some(kept(row[slot], offered));
+}
+
+/// Puts what a row holds behind a table. Where a growth is refused, a part of it may be there.
+pub fn keep(table: &mut Vec<Best>, row: &[Option<Best>]) -> Result<(), AllocError>
+    ensures { OnOk result (table.new.items ≡ table.old.items ++ held_in row.now) }
+{
+    for slot in row {
+        if let Some(entry) = slot {
+            table.push(*entry)?;
+        }
+    }
+    Ok(())
+}
