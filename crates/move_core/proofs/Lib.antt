@@ -1,0 +1,3 @@
+-- Lemmas on what is written for the body of a page.
+pub mod Choices
+pub mod Meanings

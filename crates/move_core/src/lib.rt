@@ -1,0 +1,4 @@
+//! Movement registers: the body of a page in fewer bytes, with movements that come again written by w, x, y and z (DVItype, 14 and 15).
+#![tactic(auto)]
+
+pub mod laws;
