@@ -1,3 +1,6 @@
 -- Lemmas on what is written for the body of a page.
 pub mod Choices
 pub mod Meanings
+pub mod Pruned
+pub mod Tidy
+pub mod Kept
