@@ -4,3 +4,5 @@ pub mod Meanings
 pub mod Pruned
 pub mod Tidy
 pub mod Kept
+pub mod Laters
+pub mod Flags

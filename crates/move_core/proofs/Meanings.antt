@@ -57,16 +57,18 @@ act_turned : (widths : Widths) (k : Known) (leaf : Leaf) (again : Bool) (r : Reg
 unfolding Turned
 act_turned widths k (SetChar c) again r s plain h = set_turned k _ _ r s (glyph_stays widths c r s.place s.font) h
 act_turned widths k (PutChar c) again r s plain h = put_turned k _ _ r s (glyph_stays widths c r s.place s.font) h
-act_turned widths k (Move Across (By n)) again r s plain h =
-    (record { across = held_after r.across (choose k.across n again).step; down = r.down },
-    (knows_on (is_amount k.across.first n) (is_amount k.across.second n) again k.across n r.across h.0, h.1),
-    ap (λ (z : ℤ). only (record { place = record { h = s.place.h +ℤ z; v = s.place.v; held = record { across = held_after r.across (choose k.across n again).step; down = r.down } }; font = s.font }))
-    (goes_as_far (is_amount k.across.first n) (is_amount k.across.second n) again k.across n r.across refl refl h.0))
-act_turned widths k (Move Downward (By n)) again r s plain h =
-    (record { across = r.across; down = held_after r.down (choose k.down n again).step },
-    (h.0, knows_on (is_amount k.down.first n) (is_amount k.down.second n) again k.down n r.down h.1),
-    ap (λ (z : ℤ). only (record { place = record { h = s.place.h; v = s.place.v +ℤ z; held = record { across = r.across; down = held_after r.down (choose k.down n again).step } }; font = s.font }))
-    (goes_as_far (is_amount k.down.first n) (is_amount k.down.second n) again k.down n r.down refl refl h.1))
+act_turned widths k (Move Across (By n)) again r s plain h = (
+  record { across = held_after r.across (choose k.across n again).step; down = r.down },
+  (knows_on (is_amount k.across.first n) (is_amount k.across.second n) again k.across n r.across h.0, h.1),
+  ap (λ (z : ℤ). only (record { place = record { h = s.place.h +ℤ z; v = s.place.v; held = record { across = held_after r.across (choose k.across n again).step; down = r.down } }; font = s.font }))
+      (goes_as_far (is_amount k.across.first n) (is_amount k.across.second n) again k.across n r.across refl refl h.0),
+)
+act_turned widths k (Move Downward (By n)) again r s plain h = (
+  record { across = r.across; down = held_after r.down (choose k.down n again).step },
+  (h.0, knows_on (is_amount k.down.first n) (is_amount k.down.second n) again k.down n r.down h.1),
+  ap (λ (z : ℤ). only (record { place = record { h = s.place.h; v = s.place.v +ℤ z; held = record { across = r.across; down = held_after r.down (choose k.down n again).step } }; font = s.font }))
+      (goes_as_far (is_amount k.down.first n) (is_amount k.down.second n) again k.down n r.down refl refl h.1),
+)
 act_turned widths k (Move Across (Set register n)) again r s plain h = absurd plain
 act_turned widths k (Move Across (Again register)) again r s plain h = absurd plain
 act_turned widths k (Move Downward (Set register n)) again r s plain h = absurd plain

@@ -2,4 +2,5 @@
 pub mod Registers
 pub mod Reused
 pub mod SamePage
+pub mod Passes
 pub mod Examples

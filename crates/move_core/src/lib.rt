@@ -1,4 +1,7 @@
 //! Movement registers: the body of a page in fewer bytes, with movements that come again written by w, x, y and z (DVItype, 14 and 15).
 #![tactic(auto)]
 
+mod later;
 pub mod laws;
+mod passes;
+mod registers;
