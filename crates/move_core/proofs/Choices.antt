@@ -1,10 +1,9 @@
 -- What the rule for one movement keeps: how far it goes, and that what is known of the registers is what they hold.
-use Rattle.std.proofs.Common.{◌≡◌, ℤ, Option, Some, None, Bool, true, false, refl, sym}
-use Rattle.std.specs.Ordering.{int_eq}
+use Rattle.std.proofs.Common.{◌≡◌, ℤ, Option, Some, None, Bool, true, false, refl}
 use Rattle.std.proofs.lemmas.Bool.Decides.{Decides-int_eq}
 use Rattle.dvi_ops.specs.Instruction.{Register, First, Second}
 use Rattle.dvi_ops.specs.Body.{Pair, Registers, amount, held_after}
-use Rattle.move_core.specs.Registers.{Held, Known, nothing_known, is_amount, set_other, choice, choose}
+use Rattle.move_core.specs.Registers.{Held, Known, nothing_known, is_amount, set_other, choice}
 
 -- What is known of a register is what it holds.
 abbrev pub Holds : Option ℤ → ℤ → Type 0

@@ -1,5 +1,5 @@
 -- Flags that are made from the last instruction to the first, and taken back from the first to the last.
-use Rattle.std.proofs.Common.{◌≡◌, ◌<◌, ◌+◌, ◌-◌, ◌∷◌, [], ◌++◌, List, ℕ, Bool, false, Option, Some, None, refl, sym, ◌∙◌, ap, ap₂, reverse, length, get_or, drop, map, unwrap_or, arith}
+use Rattle.std.proofs.Common.{◌≡◌, ◌<◌, ◌+◌, ◌-◌, ◌∷◌, [], ◌++◌, List, ℕ, Bool, false, Option, Some, None, sym, ◌∙◌, ap, ap₂, reverse, length, get_or, drop, map, unwrap_or, arith}
 use Rattle.std.specs.Prelude.{option_to_list, MatchOption}
 use Rattle.std.proofs.lemmas.List.{reverse-append, drop_more, nil_from_length}
 use Rattle.dvi_ops.specs.Instruction.{Instruction}

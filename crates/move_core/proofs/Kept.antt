@@ -1,13 +1,13 @@
 -- What is written for a body is no longer, can be written where the body can, and keeps the other instructions in order.
-use Rattle.std.proofs.Common.{◌≡◌, ◌≤◌, ◌+◌, ◌++◌, [], ◌∷◌, List, length, ℕ, ℤ, Bool, true, false, refl, sym, ◌∙◌, ap, ap₂, arith, length-append}
-use Rattle.std.specs.List.{flat_map, AllByRecursion}
+use Rattle.std.proofs.Common.{◌≡◌, ◌≤◌, ◌+◌, ◌++◌, ◌∷◌, List, length, ℕ, ℤ, Bool, true, false, refl, sym, ◌∙◌, ap, ap₂, arith, length-append}
+use Rattle.std.specs.List.{AllByRecursion}
 use Rattle.std.proofs.lemmas.Grind.{flat_map-append}
-use Rattle.dvi_ops.specs.Instruction.{Axis, Across, Downward, Register, First, Second, Step, By, Set, Again, Leaf, Move, Instruction, Do, Push, Pop}
-use Rattle.dvi_ops.specs.Spelling.{spelling, leaf_spelling, NumbersFit}
+use Rattle.dvi_ops.specs.Instruction.{Axis, Across, Downward, Register, First, Second, By, Leaf, Move, Instruction, Do, Push, Pop}
+use Rattle.dvi_ops.specs.Spelling.{spelling, leaf_spelling}
 use Rattle.dvi_ops.specs.Layout.{bytes_of, IsWritable}
 use Rattle.dvi_ops.specs.Forest.{Forest, Empty, Then, Group, flat}
 use Rattle.dvi_ops.proofs.Appends.{all_append, all_front, all_back}
-use Rattle.move_core.specs.Registers.{Held, Known, Written, written, set_other, choice, choose, is_amount}
+use Rattle.move_core.specs.Registers.{Held, Known, written, set_other, choice, is_amount}
 use Rattle.move_core.specs.Reused.{has_move, comes_again, reused_from, grouped, pruned}
 use Rattle.move_core.specs.SamePage.{still_of, still}
 

@@ -1,5 +1,5 @@
 -- The amounts that come later, in front of a pop and of a push.
-use Rattle.std.proofs.Common.{◌≡◌, ◌+◌, ◌∷◌, [], ◌++◌, List, ℕ, ℤ, zero, suc, Bool, false, Option, Some, None, refl, sym, ◌∙◌, ap, reverse, length, unwrap_or}
+use Rattle.std.proofs.Common.{◌≡◌, ◌+◌, ◌∷◌, [], ◌++◌, List, ℕ, ℤ, zero, suc, false, Option, Some, None, sym, ◌∙◌, ap, reverse, length, unwrap_or}
 use Rattle.std.specs.Prelude.{option_to_list, MatchOption}
 use Rattle.std.proofs.lemmas.List.{reverse-append, nil_from_length}
 use Rattle.dvi_ops.specs.Instruction.{Axis, Instruction, Push, Pop}

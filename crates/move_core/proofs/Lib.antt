@@ -6,3 +6,5 @@ pub mod Tidy
 pub mod Kept
 pub mod Laters
 pub mod Flags
+pub mod Passing
+pub mod SameBody

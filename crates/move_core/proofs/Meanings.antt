@@ -1,14 +1,13 @@
 -- A body and what is written for it mean the same, from every state, and pass through the same places.
-use Rattle.std.proofs.Common.{◌≡◌, ◌++◌, [], ◌∷◌, List, ℤ, Option, Some, None, Bool, refl, sym, ◌∙◌, ap, ap₂, append-nil, ◌+ℤ◌, Contains, ◌⊎◌, inl, inr}
-use Rattle.std.specs.List.{AllByRecursion}
-use Rattle.dvi_ops.specs.Instruction.{Axis, Across, Downward, Step, By, Set, Again, Leaf, SetChar, PutChar, SetRule, PutRule, Nop, Move, FontNum, FontDef, Xxx, Instruction, Do}
-use Rattle.dvi_ops.specs.Body.{Mark, Pair, Registers, Place, State, Widths, Meaning, Acts, acts, only, glyph, glyph_of, set_glyph, put_glyph, moved, amount, held_after}
+use Rattle.std.proofs.Common.{◌≡◌, ◌++◌, ◌∷◌, List, ℤ, Option, Some, None, Bool, refl, ap, ap₂, ◌+ℤ◌}
+use Rattle.dvi_ops.specs.Instruction.{Across, Downward, By, Set, Again, Leaf, SetChar, PutChar, Move, Do}
+use Rattle.dvi_ops.specs.Body.{Mark, Registers, Place, State, Widths, Meaning, acts, only, glyph, glyph_of, set_glyph, put_glyph, held_after}
 use Rattle.dvi_ops.specs.Forest.{Forest, Empty, Then, Group, ahead, and_then, restored, meaning, points, points_then}
 use Rattle.dvi_ops.specs.Plain.{NamesNoRegister}
-use Rattle.move_core.specs.Registers.{Held, Known, Written, written, choose, is_amount, nothing_known}
-use Rattle.move_core.specs.Reused.{has_move, comes_again, reused_from, grouped, pruned, reused}
-use Rattle.move_core.specs.SamePage.{Shown, shown}
-use Rattle.move_core.proofs.Choices.{Agree, AgreeAll, nothing_agrees, goes_as_far, knows_on}
+use Rattle.move_core.specs.Registers.{Known, written, choose, is_amount}
+use Rattle.move_core.specs.Reused.{has_move, comes_again, reused_from}
+use Rattle.move_core.specs.SamePage.{shown}
+use Rattle.move_core.proofs.Choices.{AgreeAll, goes_as_far, knows_on}
 
 -- A state with other registers.
 abbrev pub with_held : Registers → State → State
@@ -110,6 +109,12 @@ reused_follows widths k (Group inner rest) r s (within, plain) h =
     (λ t. meaning (acts widths) rest t) (λ t. meaning (acts widths) (reused_from k rest) t)
     (restored_turned k r s.place (meaning (acts widths) inner s) (meaning (acts widths) (reused_from k inner) (with_held r s)) (reused_follows widths k inner r s within h) h)
     (λ t q agree. reused_follows widths k rest q t plain agree)
+
+-- It shows the same.
+pub shown_follows : (m m' : Meaning) → Follows m m' → shown m' ≡ shown m
+unfolding Follows
+shown_follows None m' e = ap shown e
+shown_follows (Some (marks, s)) m' (r, e) = ap shown e
 
 -- The same places.
 points_turned : (k : Known) (m m' : Meaning) (j j' : State → List (ℤ × ℤ)) → Turned k m m' →

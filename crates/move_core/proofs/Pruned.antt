@@ -1,7 +1,7 @@
 -- What leaving out empty groups keeps.
-use Rattle.std.proofs.Common.{◌≡◌, ◌≤◌, ◌+◌, ◌++◌, max, [], ◌∷◌, List, ℤ, Option, Some, None, Bool, true, false, ◌&&◌, refl, sym, ◌∙◌, ap, ap₂, subst, Contains, ◌⊎◌, inl, inr, arith}
+use Rattle.std.proofs.Common.{◌≡◌, ◌≤◌, ◌+◌, ◌++◌, max, [], ◌∷◌, List, ℤ, Some, None, Bool, true, false, ◌&&◌, refl, sym, ◌∙◌, ap, subst, Contains, ◌⊎◌, inl, inr, arith}
 use Rattle.std.proofs.lemmas.List.Elements.{Contains-append_left, Contains-append_right, Contains-append_cases}
-use Rattle.dvi_ops.specs.Body.{State, Meaning, Acts, only}
+use Rattle.dvi_ops.specs.Body.{State, Meaning, Acts}
 use Rattle.dvi_ops.specs.Forest.{Forest, Empty, Then, Group, ahead, and_then, restored, meaning, nests, points, points_then}
 use Rattle.dvi_ops.proofs.Forests.{and_then-same}
 use Rattle.move_core.specs.Reused.{grouped, pruned}

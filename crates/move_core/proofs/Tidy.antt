@@ -1,13 +1,12 @@
 -- What does not stand in what is written for a body: an amount that a register holds, a plain movement that comes again, a hollow group.
 use Rattle.std.proofs.Common.{◌≡◌, ℤ, ℕ, max, ◌+◌, Option, Some, None, Bool, true, false, ◌||◌, ◌&&◌, refl, sym, ◌∙◌, ap, ap₂, subst}
-use Rattle.std.specs.Ordering.{int_eq}
 use Rattle.std.proofs.lemmas.Bool.Decides.{Decides-int_eq}
 use Rattle.dvi_ops.specs.Instruction.{Axis, Across, Downward, Register, First, Second, Step, By, Set, Again, Leaf, Move, Do}
 use Rattle.dvi_ops.specs.Forest.{Forest, Empty, Then, Group, nests}
 use Rattle.dvi_ops.specs.Plain.{NamesNoRegister}
-use Rattle.move_core.specs.Registers.{Held, Known, Written, written, set_other, choice, choose, is_amount}
+use Rattle.move_core.specs.Registers.{Held, Known, Written, written, set_other, choice, is_amount}
 use Rattle.move_core.specs.Reused.{along, plain_amount, has_move, comes_again, reused_from}
-use Rattle.move_core.specs.SamePage.{is_hollow, HasNoHollow, Stored, stored_after, IsNotStored, NamesNoStored, UsesStored, goes, goes_later, GoesNoLater, SetsAhead}
+use Rattle.move_core.specs.SamePage.{is_hollow, HasNoHollow, Stored, stored_after, NamesNoStored, UsesStored, goes, goes_later, GoesNoLater, SetsAhead}
 use Rattle.move_core.proofs.Meanings.{IsPlain}
 
 -- What is known of the registers of a direction is what they were set to.

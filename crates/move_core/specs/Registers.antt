@@ -1,7 +1,7 @@
 -- The rule by which movements are written with registers (own; the registers and what moves by them: DVItype, 14 and 15).
 use Rattle.std.specs.Prelude.{Option, Some, None, Bool, true, false, ℤ}
 use Rattle.std.specs.Ordering.{int_eq}
-use Rattle.dvi_ops.specs.Instruction.{Axis, Across, Downward, Register, First, Second, Step, By, Set, Again, Leaf, Move}
+use Rattle.dvi_ops.specs.Instruction.{Across, Downward, Register, First, Second, Step, By, Set, Again, Leaf, Move}
 
 -- What is known of the two registers of a direction, w and x or y and z, and which of them was used last.
 pub record Held : Type 0 where

@@ -1,5 +1,5 @@
 -- What the answer of `reuse` keeps of the body that it is given, and what does not stand in it; by the meaning of DVI instructions alone.
-use Rattle.std.specs.Prelude.{◌≡◌, ◌≤◌, ◌++◌, [], ◌∷◌, List, length, Option, Some, None, Bool, true, false, ◌&&◌, ◌||◌, ℤ, Contains}
+use Rattle.std.specs.Prelude.{◌≡◌, ◌≤◌, [], ◌∷◌, List, Option, Some, None, Bool, true, false, ◌&&◌, ◌||◌, ℤ, Contains}
 use Rattle.std.specs.List.{flat_map, AllByRecursion}
 use Rattle.dvi_ops.specs.Instruction.{Axis, First, Second, Step, By, Set, Again, Leaf, Move, Instruction, Do}
 use Rattle.dvi_ops.specs.Body.{Mark, State, Widths, Meaning, acts}

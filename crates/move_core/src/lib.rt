@@ -3,5 +3,8 @@
 
 mod later;
 pub mod laws;
+pub mod page;
 mod passes;
 mod registers;
+
+pub use page::reuse;

@@ -10,11 +10,11 @@ use dvi_ops::Op;
 use std::alloc::{AllocError, Global};
 
 /// The instructions without the groups that hold nothing but such groups.
-pub fn without_empty_groups<'a>(alloc: Global, ops: &[Op<'a>]) -> Result<Vec<Op<'a>>, AllocError>
-    ensures { IfOk result (λ kept. map view kept.items ≡ trimmed (map view ops.now) []) }
+pub fn without_empty_groups<'a>(ops: Vec<Op<'a>>) -> Result<Vec<Op<'a>>, AllocError>
+    ensures { IfOk result (λ kept. map view kept.items ≡ trimmed (map view ops.entry.items) []) }
 {
-    let mut kept = Vec::new(alloc);
-    for op in ops {
+    let mut kept = Vec::new(*ops.allocator());
+    for op in &ops {
         if matches!(op, Op::Pop) && matches!(kept.last(), Some(Op::Push)) {
             kept.pop();
         } else {
@@ -76,16 +76,17 @@ impl<'a> Pass<'a> {
 }
 
 /// The instructions with their movements written by registers.
-pub fn with_registers<'a>(alloc: Global, ops: &[Op<'a>]) -> Result<Vec<Op<'a>>, AllocError>
-    ensures { IfOk result (λ written. map view written.items ≡ rewritten (map view ops.now) at_first) }
+pub fn with_registers<'a>(ops: Vec<Op<'a>>) -> Result<Vec<Op<'a>>, AllocError>
+    ensures { IfOk result (λ written. map view written.items ≡ rewritten (map view ops.entry.items) at_first) }
 {
-    let mut flags = which_come_again(alloc, ops)?;
+    let alloc = *ops.allocator();
+    let mut flags = which_come_again(alloc, &ops)?;
     let mut pass = Pass {
         out: Vec::new(alloc),
         known: Known::nothing(),
         outer: Vec::new(alloc),
     };
-    for op in ops {
+    for op in &ops {
         let again = flags.pop().unwrap_or(false);
         pass.write(*op, again)?;
     }

@@ -1,4 +1,4 @@
-use Rattle.std.proofs.Common.{◌-◌, ◌∷◌, [], map, drop, get_or, sym, subst, arith, ◌∙◌, ap, pos, List, ◌<◌, length}
+use Rattle.std.proofs.Common.{◌-◌, map, drop, get_or, sym, subst, arith, ◌∙◌, ap, pos, List, ◌<◌, length}
 use Rattle.dvi_ops.specs.Instruction.{Instruction}
 use Rattle.dvi_ops.specs.View.{view}
 use Rattle.dvi_ops.specs.declared.op.Op.{Op}

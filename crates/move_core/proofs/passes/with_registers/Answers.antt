@@ -1,4 +1,4 @@
-use Rattle.std.proofs.Common.{◌≡◌, ◌+◌, ◌<◌, ◌∷◌, map, drop, get_or, length, sym, ◌∙◌, ap, pos, reverse, List, arith}
+use Rattle.std.proofs.Common.{◌+◌, ◌<◌, map, drop, get_or, length, sym, ◌∙◌, ap, pos, List, arith}
 use Rattle.dvi_ops.specs.Instruction.{Instruction}
 use Rattle.dvi_ops.specs.View.{view}
 use Rattle.dvi_ops.specs.declared.op.Op.{Op}
@@ -9,7 +9,7 @@ use Rattle.move_core.proofs.passes.with_registers.Goals as goal
 
 pub loop-op-preserved : goal.loop-op-preserved
 loop-op-preserved c =
-    let all = c.args.ops.now in
+    let all = c.deref-op-items.result.now in
     let i = c.loop-op.op-index in
     let op : Op = get_or all i (ops.SetChar (pos 0)) in
     let rest : List Instruction = map view (drop (i + 1) all) in

@@ -5,6 +5,6 @@ use Rattle.move_core.proofs.passes.with_registers.Given as goal
 
 abbrev pub invariant-loop-op : goal.invariant-loop-op
 invariant-loop-op l = record {
-  makes : makes l.pass (map view (drop l.op-index l.ops)) ≡ rewritten (map view l.ops) at_first;
-  flags : reverse l.flags.items ≡ flags_of (map view (drop l.op-index l.ops));
+  makes : makes l.pass (map view (drop l.op-index l.op-items)) ≡ rewritten (map view l.op-items) at_first;
+  flags : reverse l.flags.items ≡ flags_of (map view (drop l.op-index l.op-items));
 }

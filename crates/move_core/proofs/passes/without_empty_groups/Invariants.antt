@@ -4,4 +4,4 @@ use Rattle.move_core.specs.Passes.{trimmed}
 use Rattle.move_core.proofs.passes.without_empty_groups.Given as goal
 
 abbrev pub invariant-loop-op : goal.invariant-loop-op
-invariant-loop-op l = trimmed (map view (drop l.op-index l.ops)) (reverse (map view l.kept.items)) ≡ trimmed (map view l.ops) []
+invariant-loop-op l = trimmed (map view (drop l.op-index l.op-items)) (reverse (map view l.kept.items)) ≡ trimmed (map view l.op-items) []
