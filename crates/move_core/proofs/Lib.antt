@@ -8,3 +8,4 @@ pub mod Laters
 pub mod Flags
 pub mod Passing
 pub mod SameBody
+pub mod PlainBodies

@@ -1,8 +1,8 @@
 -- What the passes over a list of instructions give (own; that they give what `reused` says is the clause `reused` of `reuse`).
-use Rattle.std.specs.Prelude.{◌≡◌, ◌++◌, [], ◌∷◌, List, map, reverse, ℕ, ℤ, zero, suc, Bool, false, ◌||◌}
+use Rattle.std.specs.Prelude.{◌≡◌, ◌++◌, [], ◌∷◌, List, map, reverse, ℕ, ℤ, zero, suc, Bool, true, false, Option, Some, None, ◌||◌}
 use Rattle.std.specs.Ordering.{int_cmp}
 use Rattle.std.specs.BTreeSet.{contains}
-use Rattle.dvi_ops.specs.Instruction.{Axis, Across, Downward, Step, By, Set, Again, Leaf, Instruction, Do, Push, Pop}
+use Rattle.dvi_ops.specs.Instruction.{Axis, Across, Downward, Step, By, Set, Again, Leaf, Move, Instruction, Do, Push, Pop}
 use Rattle.dvi_ops.specs.Instruction as instructions
 use Rattle.dvi_ops.specs.View.{view}
 use Rattle.move_core.specs.declared.registers.Register.{Register}
@@ -32,6 +32,23 @@ held_view k = record { first = k.first; second = k.second; last = register_view 
 
 abbrev pub known_view : KnownNow → Known
 known_view k = record { across = held_view k.across; down = held_view k.down }
+
+-- How many groups are open behind an instruction in a body; none, where it pops what is not open, names a register, or stands in no body.
+abbrev pub depth_after : (depth : ℕ) → Instruction → Option ℕ
+depth_after depth Push = Some (suc depth)
+depth_after zero Pop = None
+depth_after (suc depth) Pop = Some depth
+depth_after depth (Do (Move axis (Set register n))) = None
+depth_after depth (Do (Move axis (Again register))) = None
+depth_after depth (Do leaf) = Some depth
+depth_after depth i = None
+
+-- Whether instructions stand in a body and close all groups, those that are open in front of them too.
+abbrev pub closes_all : List Instruction → (depth : Option ℕ) → Bool
+closes_all [] (Some zero) = true
+closes_all [] depth = false
+closes_all (i ∷ rest) None = false
+closes_all (i ∷ rest) (Some depth) = closes_all rest (depth_after depth i)
 
 -- What is left when each push with a pop directly behind it goes, over and over; `out` is what was kept so far, the last first.
 abbrev pub trimmed : List Instruction → (out : List Instruction) → List Instruction

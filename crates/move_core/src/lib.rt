@@ -5,6 +5,8 @@ mod later;
 pub mod laws;
 pub mod page;
 mod passes;
+pub mod plain;
 mod registers;
 
 pub use page::reuse;
+pub use plain::is_plain_body;
