@@ -3,7 +3,7 @@ use Rattle.std.proofs.Common.{◌≡◌, ℤ, Option, Some, None, Bool, true, fa
 use Rattle.std.proofs.lemmas.Bool.Decides.{Decides-int_eq}
 use Rattle.dvi_ops.specs.Instruction.{Register, First, Second}
 use Rattle.dvi_ops.specs.Body.{Pair, Registers, amount, held_after}
-use Rattle.move_core.specs.Registers.{Held, Known, nothing_known, is_amount, set_other, choice}
+use Rattle.move_core.specs.Registers.{Held, Known, nothing_known, is_amount, other, set_in, choice}
 
 -- What is known of a register is what it holds.
 abbrev pub Holds : Option ℤ → ℤ → Type 0
@@ -31,11 +31,11 @@ pub goes_as_far : (first second again : Bool) (k : Held) (n : ℤ) (p : Pair) �
     Agree k p → amount p (choice first second again k n).step ≡ n
 goes_as_far true second again k n p a b h = held_amount k.first n p.first h.0 a
 goes_as_far false true again k n p a b h = held_amount k.second n p.second h.1 b
-goes_as_far false false true k n p a b h = other k.last
+goes_as_far false false true k n p a b h = by_register (other k.last)
   where
-    other : (last : Register) → amount p (set_other last k n).step ≡ n
-    other First = refl
-    other Second = refl
+    by_register : (register : Register) → amount p (set_in register k n).step ≡ n
+    by_register First = refl
+    by_register Second = refl
 goes_as_far false false false k n p a b h = refl
 
 -- What is known behind it is what is held behind it.
@@ -43,9 +43,9 @@ pub knows_on : (first second again : Bool) (k : Held) (n : ℤ) (p : Pair) → A
     Agree (choice first second again k n).held (held_after p (choice first second again k n).step)
 knows_on true second again k n p h = h
 knows_on false true again k n p h = h
-knows_on false false true k n p h = other k.last
+knows_on false false true k n p h = by_register (other k.last)
   where
-    other : (last : Register) → Agree (set_other last k n).held (held_after p (set_other last k n).step)
-    other First = (h.0, refl)
-    other Second = (refl, h.1)
+    by_register : (register : Register) → Agree (set_in register k n).held (held_after p (set_in register k n).step)
+    by_register First = (refl, h.1)
+    by_register Second = (h.0, refl)
 knows_on false false false k n p h = h

@@ -7,7 +7,7 @@ use Rattle.dvi_ops.specs.Spelling.{spelling, leaf_spelling}
 use Rattle.dvi_ops.specs.Layout.{bytes_of, IsWritable}
 use Rattle.dvi_ops.specs.Forest.{Forest, Empty, Then, Group, flat}
 use Rattle.dvi_ops.proofs.Appends.{all_append, all_front, all_back}
-use Rattle.move_core.specs.Registers.{Held, Known, written, set_other, choice, is_amount}
+use Rattle.move_core.specs.Registers.{Held, Known, written, other, set_in, choice, is_amount}
 use Rattle.move_core.specs.Reused.{has_move, comes_again, reused_from, grouped, pruned}
 use Rattle.move_core.specs.SamePage.{still_of, still}
 
@@ -16,11 +16,11 @@ step_shorter : (axis : Axis) (first second again : Bool) (k : Held) (n : ℤ) �
 unfolding spelling leaf_spelling
 step_shorter axis true second again k n = omega arith
 step_shorter axis false true again k n = omega arith
-step_shorter axis false false true k n = other k.last
+step_shorter axis false false true k n = by_register (other k.last)
   where
-    other : (last : Register) → length (spelling (Do (Move axis (set_other last k n).step))) ≤ length (spelling (Do (Move axis (By n))))
-    other First = omega arith
-    other Second = omega arith
+    by_register : (register : Register) → length (spelling (Do (Move axis (set_in register k n).step))) ≤ length (spelling (Do (Move axis (By n))))
+    by_register First = omega arith
+    by_register Second = omega arith
 step_shorter axis false false false k n = omega arith
 
 leaf_shorter : (k : Known) (leaf : Leaf) (again : Bool) → length (spelling (Do (written k leaf again).leaf)) ≤ length (spelling (Do leaf))
@@ -95,22 +95,22 @@ leaf_writable k (Move Across (By n)) again (spelled, fit) = step_writable (is_am
     step_writable : (first second again : Bool) (k : Held) → IsWritable (Do (Move Across (choice first second again k n).step))
     step_writable true second again k = (tt, tt)
     step_writable false true again k = (tt, tt)
-    step_writable false false true k = other k.last
+    step_writable false false true k = by_register (other k.last)
       where
-        other : (last : Register) → IsWritable (Do (Move Across (set_other last k n).step))
-        other First = (tt, fit)
-        other Second = (tt, fit)
+        by_register : (register : Register) → IsWritable (Do (Move Across (set_in register k n).step))
+        by_register First = (tt, fit)
+        by_register Second = (tt, fit)
     step_writable false false false k = (tt, fit)
 leaf_writable k (Move Downward (By n)) again (spelled, fit) = step_writable (is_amount k.down.first n) (is_amount k.down.second n) again k.down
   where
     step_writable : (first second again : Bool) (k : Held) → IsWritable (Do (Move Downward (choice first second again k n).step))
     step_writable true second again k = (tt, tt)
     step_writable false true again k = (tt, tt)
-    step_writable false false true k = other k.last
+    step_writable false false true k = by_register (other k.last)
       where
-        other : (last : Register) → IsWritable (Do (Move Downward (set_other last k n).step))
-        other First = (tt, fit)
-        other Second = (tt, fit)
+        by_register : (register : Register) → IsWritable (Do (Move Downward (set_in register k n).step))
+        by_register First = (tt, fit)
+        by_register Second = (tt, fit)
     step_writable false false false k = (tt, fit)
 leaf_writable k leaf again h = h
 

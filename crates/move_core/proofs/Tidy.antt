@@ -4,7 +4,7 @@ use Rattle.std.proofs.lemmas.Bool.Decides.{Decides-int_eq}
 use Rattle.dvi_ops.specs.Instruction.{Axis, Across, Downward, Register, First, Second, Step, By, Set, Again, Leaf, Move, Do}
 use Rattle.dvi_ops.specs.Forest.{Forest, Empty, Then, Group, nests}
 use Rattle.dvi_ops.specs.Plain.{NamesNoRegister}
-use Rattle.move_core.specs.Registers.{Held, Known, Written, written, set_other, choice, is_amount}
+use Rattle.move_core.specs.Registers.{Held, Known, Written, written, other, set_in, choice, is_amount}
 use Rattle.move_core.specs.Reused.{along, plain_amount, has_move, comes_again, reused_from}
 use Rattle.move_core.specs.SamePage.{is_hollow, HasNoHollow, Stored, stored_after, NamesNoStored, UsesStored, goes, goes_later, GoesNoLater, SetsAhead}
 use Rattle.move_core.proofs.Meanings.{IsPlain}
@@ -21,22 +21,22 @@ choice_keeps : (first second again : Bool) (k : Held) (n : ℤ) →
     stored_of (choice first second again k n).held ≡ stored_after (stored_of k) (Some (choice first second again k n).step)
 choice_keeps true second again k n = refl
 choice_keeps false true again k n = refl
-choice_keeps false false true k n = other k.last
+choice_keeps false false true k n = by_register (other k.last)
   where
-    other : (last : Register) → stored_of (set_other last k n).held ≡ stored_after (stored_of k) (Some (set_other last k n).step)
-    other First = refl
-    other Second = refl
+    by_register : (register : Register) → stored_of (set_in register k n).held ≡ stored_after (stored_of k) (Some (set_in register k n).step)
+    by_register First = refl
+    by_register Second = refl
 choice_keeps false false false k n = refl
 
 choice_uses : (first second again : Bool) (k : Held) (n : ℤ) → is_amount k.first n ≡ first → is_amount k.second n ≡ second →
     NamesNoStored (stored_of k) (Some (choice first second again k n).step)
 choice_uses true second again k n a b = tt
 choice_uses false true again k n a b = tt
-choice_uses false false true k n a b = other k.last
+choice_uses false false true k n a b = by_register (other k.last)
   where
-    other : (last : Register) → NamesNoStored (stored_of k) (Some (set_other last k n).step)
-    other First = (a, b)
-    other Second = (a, b)
+    by_register : (register : Register) → NamesNoStored (stored_of k) (Some (set_in register k n).step)
+    by_register First = (a, b)
+    by_register Second = (a, b)
 choice_uses false false false k n a b = (a, b)
 
 known_amount : (known : Option ℤ) (n : ℤ) → is_amount known n ≡ true → known ≡ Some n
@@ -47,11 +47,11 @@ choice_goes : (first second again : Bool) (k : Held) (n : ℤ) → is_amount k.f
     goes (stored_of k) (Some (choice first second again k n).step) ≡ Some n
 choice_goes true second again k n a b = known_amount k.first n a
 choice_goes false true again k n a b = known_amount k.second n b
-choice_goes false false true k n a b = other k.last
+choice_goes false false true k n a b = by_register (other k.last)
   where
-    other : (last : Register) → goes (stored_of k) (Some (set_other last k n).step) ≡ Some n
-    other First = refl
-    other Second = refl
+    by_register : (register : Register) → goes (stored_of k) (Some (set_in register k n).step) ≡ Some n
+    by_register First = refl
+    by_register Second = refl
 choice_goes false false false k n a b = refl
 
 -- Where a movement is plain, its amount does not come again.
@@ -64,11 +64,11 @@ choice_last : (first second again : Bool) (k : Held) (n : ℤ) (later : ℤ → 
 unfolding IsLast
 choice_last true second again k n later e = tt
 choice_last false true again k n later e = tt
-choice_last false false true k n later e = other k.last
+choice_last false false true k n later e = by_register (other k.last)
   where
-    other : (last : Register) → IsLast later (Some (set_other last k n).step)
-    other First = tt
-    other Second = tt
+    by_register : (register : Register) → IsLast later (Some (set_in register k n).step)
+    by_register First = tt
+    by_register Second = tt
 choice_last false false false k n later e = e
 
 -- What is written for an instruction, seen in one direction.

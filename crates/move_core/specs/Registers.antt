@@ -32,17 +32,22 @@ pub record Choice : Type 0 where
   pub step : Step
   pub held : Held
 
--- The register that is not the last one is set.
-abbrev pub set_other : (last : Register) → Held → ℤ → Choice
-set_other First k n = record { step = Set Second n; held = record k { second = Some n; last = Second } }
-set_other Second k n = record { step = Set First n; held = record k { first = Some n; last = First } }
+-- The register that is not this one.
+abbrev pub other : Register → Register
+other First = Second
+other Second = First
+
+-- A register is set.
+abbrev pub set_in : Register → Held → ℤ → Choice
+set_in First k n = record { step = Set First n; held = record k { first = Some n; last = First } }
+set_in Second k n = record { step = Set Second n; held = record k { second = Some n; last = Second } }
 
 -- How a movement by an amount is written: by the first register, if that holds the amount; else by the second, if that does; else, where the
--- amount comes again, a register is set; else it names no register.
+-- amount comes again, the register that is not the last one is set; else it names no register.
 abbrev pub choice : (in_first in_second again : Bool) → Held → ℤ → Choice
 choice true in_second again k n = record { step = Again First; held = record k { last = First } }
 choice false true again k n = record { step = Again Second; held = record k { last = Second } }
-choice false false true k n = set_other k.last k n
+choice false false true k n = set_in (other k.last) k n
 choice false false false k n = record { step = By n; held = k }
 
 -- The same, by what is known of the registers.

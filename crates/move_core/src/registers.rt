@@ -3,8 +3,8 @@
 ghost use Rattle.std.specs.Prelude.{◌≡◌};
 ghost use Rattle.dvi_ops.specs.Instruction.{Across, Downward, Do, Move};
 ghost use Rattle.dvi_ops.specs.View.{view};
-ghost use Rattle.move_core.specs.Registers.{nothing_known, choose};
-ghost use Rattle.move_core.specs.Passes.{step_view, held_view, known_view, op_written, known_behind};
+ghost use Rattle.move_core.specs.Registers.{nothing_known, choose, other};
+ghost use Rattle.move_core.specs.Passes.{register_view, step_view, held_view, known_view, op_written, known_behind};
 
 use dvi_ops::Op;
 
@@ -67,6 +67,18 @@ fn down_op(step: Step) -> Op<'static>
     }
 }
 
+impl Register {
+    /// The register that is not this one.
+    fn other(self) -> Register
+        ensures { register_view result ≡ other (register_view self) }
+    {
+        match self {
+            Register::First => Register::Second,
+            Register::Second => Register::First,
+        }
+    }
+}
+
 impl Held {
     /// Nothing is known of either register, and x or z counts as the last one.
     const NOTHING: Held = Held {
@@ -91,17 +103,13 @@ impl Held {
         if !again {
             return Step::By(amount);
         }
-        match self.last {
-            Register::First => {
-                self.second = Some(amount);
-                self.last = Register::Second;
-            }
-            Register::Second => {
-                self.first = Some(amount);
-                self.last = Register::First;
-            }
+        let register = self.last.other();
+        match register {
+            Register::First => self.first = Some(amount),
+            Register::Second => self.second = Some(amount),
         }
-        Step::Set(self.last, amount)
+        self.last = register;
+        Step::Set(register, amount)
     }
 }
 
