@@ -9,3 +9,4 @@ pub mod Flags
 pub mod Passing
 pub mod SameBody
 pub mod PlainBodies
+pub mod Sheets
