@@ -1,4 +1,5 @@
--- What the answer of `reuse` keeps of the body that it is given, and what does not stand in it; by the meaning of DVI instructions alone.
+-- What the answer of `reuse` keeps of the body that it is given, and what does not stand in it (own, over the meaning of DVI instructions:
+-- DVItype, 14 and 15).
 use Rattle.std.specs.Prelude.{◌≡◌, ◌≤◌, [], ◌∷◌, List, Option, Some, None, Bool, true, false, ◌&&◌, ◌||◌, ℤ, Contains}
 use Rattle.std.specs.List.{flat_map, AllByRecursion}
 use Rattle.dvi_ops.specs.Instruction.{Axis, First, Second, Step, By, Set, Again, Leaf, Move, Instruction, Do}
@@ -41,13 +42,13 @@ PassesThroughNoOther f g =
 abbrev pub NestsNoDeeper : (given answered : Forest) → Type 0
 NestsNoDeeper f g = nests g ≤ nests f
 
--- A body that holds nothing but groups that hold nothing but such groups.
+-- Whether nothing stands in a body, or nothing but groups that are hollow too.
 abbrev pub is_hollow : Forest → Bool
 is_hollow Empty = true
 is_hollow (Then leaf rest) = false
 is_hollow (Group inner rest) = is_hollow inner && is_hollow rest
 
--- No group is hollow.
+-- No group of a body is hollow.
 abbrev pub HasNoHollow : Forest → Type 0
 HasNoHollow Empty = Unit {0}
 HasNoHollow (Then leaf rest) = HasNoHollow rest
