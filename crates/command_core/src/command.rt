@@ -4,6 +4,7 @@ ghost use Rattle.std.specs.Prelude.{◌≡◌, ◌<◌};
 ghost use Rattle.std.specs.Option.{SomeIff};
 ghost use Rattle.command_core.specs.BoxForms.{kind_of};
 
+use crate::limits::REGISTERS;
 use node_core::{Glue, Kind, Number, Rule};
 use pack_core::Target;
 use scaled_core::Dimen;
@@ -19,12 +20,13 @@ pub struct Register {
 
 impl Model for Register {
     ghost use Rattle.std.specs.Prelude.{ℕ, ◌<◌};
+    ghost use Rattle.command_core.specs.declared.limits.TheConstants.{REGISTERS};
 
     ghost Value = { ℕ };
 
     ghost view = { λ register. register.number };
 
-    ghost invariant = { λ register. register.number < 256 };
+    ghost invariant = { λ register. register.number < REGISTERS };
 
     ghost inverse = { λ n. record { number = n } };
 }
@@ -35,9 +37,9 @@ impl Register {
 
     /// The register of that number, or None exactly where there is none.
     pub fn try_new(number: u64) -> Option<Register>
-        ensures { SomeIff result (number < 256) number }
+        ensures { SomeIff result (number < REGISTERS) number }
     {
-        if number < 256 {
+        if number < REGISTERS as u64 {
             Some(Register {
                 number: number as u16,
             })
@@ -49,7 +51,7 @@ impl Register {
     /// The number of the register.
     pub fn number(self) -> usize
         ensures value { result ≡ self }
-        ensures small { result < 256 }
+        ensures small { result < REGISTERS }
     {
         self.number as usize
     }

@@ -3,6 +3,7 @@
 
 pub mod command;
 pub mod laws;
+pub mod limits;
 
 pub use command::{
     Answer, BoxForm, BoxUse, Characters, Command, FontLoad, Opening, Parameter, Refusal, Register,

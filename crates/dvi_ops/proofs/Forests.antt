@@ -112,7 +112,7 @@ pub ends_eop : (rest : List Instruction) → Ends (Eop ∷ rest)
 unfolding Ends
 ends_eop rest = tt
 
--- Two forests with such lists behind their own are equal, and so are the lists behind them.
+-- Two forests are equal where their instructions with a list behind each that ends a body are equal; the two lists are equal too.
 pub flat_cut : (f g : Forest) (x y : List Instruction) → Ends x → Ends y → flat f ++ x ≡ flat g ++ y → (f ≡ g) × (x ≡ y)
 unfolding Ends
 flat_cut Empty Empty x y ends ends' e = (refl, e)

@@ -12,41 +12,29 @@ use Rattle.dvi_ops.specs.Layout.{scaled_points, preamble, IsWritable}
 use Rattle.dvi_ops.specs.Examples.{self_naming_file, stray_pop_file, short_file, miscounted_file, undefined_font_file, shallow_file, one_rule_file}
 use Rattle.dvi_ops.proofs.KnownFiles.{nested_body, zeros, all_fit, small, large, small_tabled, large_tabled}
 use Rattle.dvi_ops.proofs.Appends.{length-pages}
-use Rattle.dvi_ops.proofs.Frames.{one_trailer, cut_of, one_parts}
+use Rattle.dvi_ops.proofs.Frames.{one_trailer, cut_of, one_parts, facts_of, file_at}
 use Rattle.dvi_ops.proofs.WholeFile.{facts_of_written}
 
 -- More bytes 223 at the end.
 pub padding_grows : (metrics : Metrics) (bytes : List ℕ) (pages : List MarkedPage) → IsFile metrics bytes pages → IsFile metrics (bytes ++ 223 ∷ []) pages
 padding_grows metrics bytes pages f =
     let g = f.frame in
-    record {
-      frame =
-          record {
-            front = g.front;
-            post = g.post;
-            stop = g.stop;
-            tail = g.tail;
-            ending = g.ending;
-            padding = g.padding + 1;
-            whole = ap (λ (bytes : List ℕ). bytes ++ 223 ∷ []) g.whole ∙ more g.front g.post g.tail g.ending g.padding;
-            padded = (let enough = g.padded in omega arith);
-            front_spelled = g.front_spelled;
-            post_spelled = g.post_spelled;
-            tail_spelled = g.tail_spelled;
-            ending_spelled = g.ending_spelled;
-          };
-      comment = f.comment;
-      parts = f.parts;
-      front_is = f.front_is;
-      tail_is = f.tail_is;
-      units = f.units;
-      chain = f.chain;
-      count = f.count;
-      fonts = f.fonts;
-      closing = f.closing;
-      depth = f.depth;
-      shows = f.shows;
-    }
+    file_at metrics (bytes ++ 223 ∷ []) pages
+    (record {
+      front = g.front;
+      post = g.post;
+      stop = g.stop;
+      tail = g.tail;
+      ending = g.ending;
+      padding = g.padding + 1;
+      whole = ap (λ (bytes : List ℕ). bytes ++ 223 ∷ []) g.whole ∙ more g.front g.post g.tail g.ending g.padding;
+      padded = (let enough = g.padded in omega arith);
+      front_spelled = g.front_spelled;
+      post_spelled = g.post_spelled;
+      tail_spelled = g.tail_spelled;
+      ending_spelled = g.ending_spelled;
+    })
+    (facts_of metrics bytes pages f)
   where
     more : (front : List Token) (post : List ℕ) (tail : List Token) (ending : List ℕ) (n : ℕ) →
         (written front ++ (post ++ (written tail ++ (ending ++ replicate n 223)))) ++ 223 ∷ [] ≡ written front ++ (post ++ (written tail ++ (ending ++ replicate (n + 1) 223)))

@@ -33,7 +33,7 @@ from_ahead : (marks : List Mark) (m : Meaning) (out : List Mark × State) → ah
 from_ahead marks None out e = absurd cc
 from_ahead marks (Some last) out e = (last, refl)
 
--- What follows a meaning that is kept: the same without the range, and places in it.
+-- What a meaning within the range gives: without the range it is the same, and all its places are in the range.
 Follows : (m : Meaning) (k : State → Meaning) (next : State → List (ℤ × ℤ)) (out : List Mark × State) → Type 0
 Follows m k next out = (and_then m k ≡ Some out) × AllByRecursion IsPoint (points_then m next)
 

@@ -12,7 +12,7 @@ use Rattle.dvi_ops.proofs.Appends.{all_front, all_back, selections-append}
 abbrev pub SameWidths : Widths → Widths → ℤ → Type 0
 SameWidths v w f = (c : ℤ) → v f c ≡ w f c
 
--- They have the same widths of the current font.
+-- Two tables have the same widths of the current font, if there is one.
 SameNow : Widths → Widths → Option ℤ → Type 0
 SameNow v w None = Unit {0}
 SameNow v w (Some f) = SameWidths v w f
@@ -26,7 +26,7 @@ Ends P (Some (marks, s)) = P s
 Alike : Widths → Widths → Meaning → Meaning → Type 0
 Alike v w m n = (m ≡ n) × Ends (λ s. SameNow v w s.font) m
 
--- The same steps, and what follows alike.
+-- A step, and two continuations that are alike behind it.
 then_alike : (v w : Widths) (m : Meaning) (j k : State → Meaning) → Ends (λ s. SameNow v w s.font) m → ((s : State) → SameNow v w s.font → Alike v w (j s) (k s)) → Alike v w (and_then m j) (and_then m k)
 unfolding Alike Ends
 then_alike v w None j k p next = (refl, tt)
@@ -36,7 +36,7 @@ then_alike v w (Some (marks, s)) j k p next = ahead_alike (j s) (k s) (next s p)
     ahead_alike None n (e, q) = (ap (ahead marks) e, tt)
     ahead_alike (Some (more, t)) n (e, q) = (ap (ahead marks) e, q)
 
--- Alike steps, and what follows alike.
+-- Two steps that are alike, and two continuations that are alike behind them.
 alike_then : (v w : Widths) (m n : Meaning) (j k : State → Meaning) → Alike v w m n → ((s : State) → SameNow v w s.font → Alike v w (j s) (k s)) → Alike v w (and_then m j) (and_then n k)
 unfolding Alike Ends
 alike_then v w m n j k (e, p) next = let first = then_alike v w m j k p next in (first.0 ∙ ap (λ (o : Meaning). and_then o k) e, first.1)
@@ -95,7 +95,7 @@ pub same_meaning : (v w : Widths) (f : Forest) → AllByRecursion (SameWidths v 
 unfolding Alike Ends SameNow
 same_meaning v w f sel = (alike_meaning v w f start sel tt).0
 
--- The pages of parts, likewise.
+-- The pages of parts with either table, where both have the same widths of all fonts that the parts select.
 pub same_pages : (v w : Widths) (parts : List Part) → AllByRecursion (SameWidths v w) (selections (flat_map instructions parts)) → pages_of (kept (acts v)) parts ≡ pages_of (kept (acts w)) parts
 same_pages v w [] sel = refl
 same_pages v w (Idle ∷ parts) sel = same_pages v w parts sel

@@ -83,10 +83,10 @@ held_after held (Set register z) = put_in register z held
 held_after held (Again register) = held
 
 -- The place after a movement: h grows across, v downward (DVItype, 15).
-abbrev pub moved : Axis → Step → Place → Place
-moved Across step p =
+abbrev pub place_after : Axis → Step → Place → Place
+place_after Across step p =
     record { h = p.h +ℤ amount p.held.across step; v = p.v; held = record { across = held_after p.held.across step; down = p.held.down } }
-moved Downward step p =
+place_after Downward step p =
     record { h = p.h; v = p.v +ℤ amount p.held.down step; held = record { across = p.held.across; down = held_after p.held.down step } }
 
 -- A rule at a place, as a list of one mark; it is no mark where its height or its width is not positive (DVItype, 15).
@@ -121,7 +121,7 @@ acts widths (PutChar c) s = put_glyph (glyph widths c s.place s.font) s
 acts widths (SetRule height width) s = Some (rule_at height width s.place, right s width)
 acts widths (PutRule height width) s = Some (rule_at height width s.place, s)
 acts widths Nop s = only s
-acts widths (Move axis step) s = only (record s { place = moved axis step s.place })
+acts widths (Move axis step) s = only (record s { place = place_after axis step s.place })
 acts widths (FontNum f) s = only (record s { font = Some f })
 acts widths (FontDef d) s = only s
 acts widths (Xxx text) s = only s

@@ -1,4 +1,5 @@
--- How this writer lays a file out (own): the preamble, for each page the definitions of its new fonts and the page, then the postamble.
+-- How this writer lays a file out (own; the law `whole_is_file` ties it to `IsFile`): the preamble, for each page the definitions of its new fonts and
+-- the page, then the postamble.
 use Rattle.std.specs.Prelude.{◌≡◌, ◌≤◌, ◌+◌, ◌-◌, ◌%◌, ◌++◌, max, [], ◌∷◌, List, length, map, replicate, ℕ, ℤ, pos, negsuc, Option, Some, IsSome}
 use Rattle.std.specs.List.{flat_map, AllByRecursion}
 use Rattle.dvi_ops.specs.Instruction.{Definition, Units, Postamble, FontDef, Instruction, Do, Bop, Eop, Pre, Post, PostPost}

@@ -1,5 +1,5 @@
 -- The one spelling of an instruction that is written: the fewest bytes for every instruction whose operand may have several lengths; of xxx
--- the first form or the last (own).
+-- the first form or the last (own; the clause `spelled` of `spell` ties it to `Spells`).
 use Rattle.std.specs.Prelude.{◌≡◌, ◌<◌, ◌+◌, ◌++◌, ◌^◌, ◌∷◌, [], List, length, ℕ, ℤ, pos, negsuc, nat_lt, if◌then◌else◌}
 use Rattle.std.specs.Int.{w32, cast_unsigned}
 use Rattle.std.specs.Int.RustNames.{FitsSigned}

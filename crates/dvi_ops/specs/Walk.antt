@@ -1,4 +1,5 @@
--- The pass over the instructions of a body with a stack of places, as DVItype itself does it (DVItype, 15: push and pop).
+-- The pass over the instructions of a body with a stack of places, as DVItype itself does it (DVItype, 15: push and pop; the laws `pass_is_meaning` and
+-- `passed_is_body` tie it to `meaning`).
 use Rattle.std.specs.Prelude.{[], ◌∷◌, List, None}
 use Rattle.dvi_ops.specs.Instruction.{Instruction, Do, Push, Pop}
 use Rattle.dvi_ops.specs.Body.{Place, State, Meaning, Acts, only}

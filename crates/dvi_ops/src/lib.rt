@@ -5,6 +5,7 @@ pub mod dvi_file;
 mod fault;
 pub mod laws;
 pub mod op;
+pub mod opcodes;
 pub mod page_body;
 mod reading;
 mod spelling;

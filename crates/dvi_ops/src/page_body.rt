@@ -26,7 +26,8 @@ pub fn one_body()
     ensures { (f g : Forest) → flat f ≡ flat g → f ≡ g }
 {}
 
-/// What stands in one body behind another: their instructions, their meanings one after the other, the pushes of the deeper.
+/// One body behind another has the instructions of both in order; it means what the first means and then the second, from where the first ends; and
+/// as many pushes are open in it at once as in the deeper of the two.
 pub fn one_behind_another()
     ensures instructions { (f g : Forest) → flat (beside f g) ≡ flat f ++ flat g }
     ensures marks { (does : Acts) (f g : Forest) (s : State)

@@ -1,6 +1,6 @@
 //! The instruction at the front of some bytes.
 
-ghost use Rattle.std.specs.Prelude.{◌≡◌, ◌≤◌, ◌-◌, length, option_map, slice_index, take, IfOk, OnErr, ◌↔◌, ℕ};
+ghost use Rattle.std.specs.Prelude.{◌≡◌, ◌≤◌, ◌-◌, ◌+◌, length, option_map, slice_index, take, IfOk, OnErr, ◌↔◌, ℕ};
 ghost use Rattle.dvi_ops.specs.Instruction.{Across, Downward, Instruction};
 ghost use Rattle.dvi_ops.specs.Reading.{bop_at, char_at, code_at, comment_at, definition_at, font_at, frame_at, half_at, halves_at, long_at, movement_at, names_at, plain_at, post_at, post_post_at, pre_at, read, signed_at, text_at, three_at, two_at, words};
 ghost use Rattle.dvi_ops.specs.Table.{Spells, code, signed};
@@ -8,6 +8,7 @@ ghost use Rattle.dvi_ops.specs.View.{definition as view_definition, view};
 
 use crate::fault::OpFault;
 use crate::op::{FontDefinition, Op, Postamble, Units};
+use crate::opcodes;
 use byteorder::{BigEndian, ByteOrder};
 
 /// What the bytes say as a signed number.
@@ -62,16 +63,28 @@ fn half(bytes: &[u8]) -> Option<(u16, &[u8])>
     Some((BigEndian::read_u16(operand), rest))
 }
 
+/// How many bytes the operand behind a code has, by the code of its kind whose operand has one byte.
+fn operand_size(operation: u8, first: u8) -> usize
+    requires code { 1 ≤ first }
+    requires low { first ≤ operation }
+    requires high { operation ≤ first + 3 }
+    ensures size { result ≡ operation - (first - 1) }
+    ensures some { 1 ≤ result }
+    ensures few { result ≤ 4 }
+{
+    usize::from(operation - first) + 1
+}
+
 /// A character, by its code from 0 to 131.
 #[tactic(auto, unfolding(crate::specs::Reading::char_at))]
 fn character(operation: u8, rest: &[u8]) -> Option<(Op<'_>, &[u8])>
     requires { operation ≤ 131 }
     ensures { option_map (λ found. (view found.0, found.1.now)) result ≡ char_at operation rest.now }
 {
-    if operation < 128 {
+    if operation < opcodes::SET1 {
         return Some((Op::SetChar(i32::from(operation)), rest));
     }
-    let (number, rest) = code_number(rest, usize::from(operation - 127))?;
+    let (number, rest) = code_number(rest, operand_size(operation, opcodes::SET1))?;
     Some((Op::SetChar(number), rest))
 }
 
@@ -134,22 +147,22 @@ fn plain(operation: u8, rest: &[u8]) -> Option<(Op<'_>, &[u8])>
     ensures { option_map (λ found. (view found.0, found.1.now)) result ≡ plain_at operation rest.now }
 {
     match operation {
-        132 => {
+        opcodes::SET_RULE => {
             let ((height, width), rest) = two(rest)?;
             Some((Op::SetRule { height, width }, rest))
         }
-        133..=136 => {
-            let (number, rest) = code_number(rest, usize::from(operation - 132))?;
+        opcodes::PUT1..=opcodes::PUT4 => {
+            let (number, rest) = code_number(rest, operand_size(operation, opcodes::PUT1))?;
             Some((Op::PutChar(number), rest))
         }
-        137 => {
+        opcodes::PUT_RULE => {
             let ((height, width), rest) = two(rest)?;
             Some((Op::PutRule { height, width }, rest))
         }
-        138 => Some((Op::Nop, rest)),
-        139 => bop(rest),
-        140 => Some((Op::Eop, rest)),
-        141 => Some((Op::Push, rest)),
+        opcodes::NOP => Some((Op::Nop, rest)),
+        opcodes::BOP => bop(rest),
+        opcodes::EOP => Some((Op::Eop, rest)),
+        opcodes::PUSH => Some((Op::Push, rest)),
         _ => Some((Op::Pop, rest)),
     }
 }
@@ -162,18 +175,18 @@ fn across(operation: u8, rest: &[u8]) -> Option<(Op<'_>, &[u8])>
     ensures { option_map (λ found. (view found.0, found.1.now)) result ≡ movement_at Across (operation - 142) rest.now }
 {
     match operation {
-        143..=146 => {
-            let (amount, rest) = signed_number(rest, usize::from(operation - 142))?;
+        opcodes::RIGHT1..=opcodes::RIGHT4 => {
+            let (amount, rest) = signed_number(rest, operand_size(operation, opcodes::RIGHT1))?;
             Some((Op::Right(amount), rest))
         }
-        147 => Some((Op::W0, rest)),
-        148..=151 => {
-            let (amount, rest) = signed_number(rest, usize::from(operation - 147))?;
+        opcodes::W0 => Some((Op::W0, rest)),
+        opcodes::W1..=opcodes::W4 => {
+            let (amount, rest) = signed_number(rest, operand_size(operation, opcodes::W1))?;
             Some((Op::W(amount), rest))
         }
-        152 => Some((Op::X0, rest)),
+        opcodes::X0 => Some((Op::X0, rest)),
         _ => {
-            let (amount, rest) = signed_number(rest, usize::from(operation - 152))?;
+            let (amount, rest) = signed_number(rest, operand_size(operation, opcodes::X1))?;
             Some((Op::X(amount), rest))
         }
     }
@@ -187,18 +200,18 @@ fn down(operation: u8, rest: &[u8]) -> Option<(Op<'_>, &[u8])>
     ensures { option_map (λ found. (view found.0, found.1.now)) result ≡ movement_at Downward (operation - 156) rest.now }
 {
     match operation {
-        157..=160 => {
-            let (amount, rest) = signed_number(rest, usize::from(operation - 156))?;
+        opcodes::DOWN1..=opcodes::DOWN4 => {
+            let (amount, rest) = signed_number(rest, operand_size(operation, opcodes::DOWN1))?;
             Some((Op::Down(amount), rest))
         }
-        161 => Some((Op::Y0, rest)),
-        162..=165 => {
-            let (amount, rest) = signed_number(rest, usize::from(operation - 161))?;
+        opcodes::Y0 => Some((Op::Y0, rest)),
+        opcodes::Y1..=opcodes::Y4 => {
+            let (amount, rest) = signed_number(rest, operand_size(operation, opcodes::Y1))?;
             Some((Op::Y(amount), rest))
         }
-        166 => Some((Op::Z0, rest)),
+        opcodes::Z0 => Some((Op::Z0, rest)),
         _ => {
-            let (amount, rest) = signed_number(rest, usize::from(operation - 166))?;
+            let (amount, rest) = signed_number(rest, operand_size(operation, opcodes::Z1))?;
             Some((Op::Z(amount), rest))
         }
     }
@@ -211,10 +224,10 @@ fn font(operation: u8, rest: &[u8]) -> Option<(Op<'_>, &[u8])>
     requires high { operation ≤ 238 }
     ensures { option_map (λ found. (view found.0, found.1.now)) result ≡ font_at operation rest.now }
 {
-    if operation < 235 {
-        return Some((Op::FontNum(i32::from(operation - 171)), rest));
+    if operation < opcodes::FNT1 {
+        return Some((Op::FontNum(i32::from(operation - opcodes::FNT_NUM_0)), rest));
     }
-    let (number, rest) = code_number(rest, usize::from(operation - 234))?;
+    let (number, rest) = code_number(rest, operand_size(operation, opcodes::FNT1))?;
     Some((Op::FontNum(number), rest))
 }
 
@@ -271,10 +284,10 @@ fn long(operation: u8, rest: &[u8]) -> Option<(Op<'_>, &[u8])>
     requires high { operation ≤ 246 }
     ensures { option_map (λ found. (view found.0, found.1.now)) result ≡ long_at operation rest.now }
 {
-    if operation < 243 {
-        return text(rest, usize::from(operation - 238));
+    if operation < opcodes::FNT_DEF1 {
+        return text(rest, operand_size(operation, opcodes::XXX1));
     }
-    let (font, rest) = definition(rest, usize::from(operation - 242))?;
+    let (font, rest) = definition(rest, operand_size(operation, opcodes::FNT_DEF1))?;
     Some((Op::FontDef(font), rest))
 }
 
@@ -345,9 +358,9 @@ fn frame(operation: u8, rest: &[u8]) -> Option<(Op<'_>, &[u8])>
     ensures { option_map (λ found. (view found.0, found.1.now)) result ≡ frame_at operation rest.now }
 {
     match operation {
-        247 => pre(rest),
-        248 => post(rest),
-        249 => post_post(rest),
+        opcodes::PRE => pre(rest),
+        opcodes::POST => post(rest),
+        opcodes::POST_POST => post_post(rest),
         _ => None,
     }
 }
@@ -359,13 +372,13 @@ fn front(bytes: &[u8]) -> Option<(Op<'_>, &[u8])>
 {
     let (operation, rest) = bytes.split_first()?;
     match *operation {
-        0..=131 => character(*operation, rest),
-        132..=142 => plain(*operation, rest),
-        143..=156 => across(*operation, rest),
-        157..=170 => down(*operation, rest),
-        171..=238 => font(*operation, rest),
-        239..=246 => long(*operation, rest),
-        247..=255 => frame(*operation, rest),
+        0..=opcodes::SET4 => character(*operation, rest),
+        opcodes::SET_RULE..=opcodes::POP => plain(*operation, rest),
+        opcodes::RIGHT1..=opcodes::X4 => across(*operation, rest),
+        opcodes::DOWN1..=opcodes::Z4 => down(*operation, rest),
+        opcodes::FNT_NUM_0..=opcodes::FNT4 => font(*operation, rest),
+        opcodes::XXX1..=opcodes::FNT_DEF4 => long(*operation, rest),
+        opcodes::PRE.. => frame(*operation, rest),
     }
 }
 
@@ -374,7 +387,7 @@ fn fault_of(bytes: &[u8]) -> OpFault
     ensures { (result ≡ OpFault.Opcode) ↔ (250 ≤ slice_index bytes.now 0) }
 {
     match bytes.first() {
-        Some(250..=255) => OpFault::Opcode,
+        Some(operation) if opcodes::POST_POST < *operation => OpFault::Opcode,
         _ => OpFault::Truncated,
     }
 }

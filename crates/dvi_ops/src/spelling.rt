@@ -1,6 +1,6 @@
 //! The one spelling of an instruction.
 
-ghost use Rattle.std.specs.Prelude.{◌≡◌, ◌≤◌, ◌<◌, ◌+◌, ◌++◌, ◌^◌, ◌∷◌, length, pos, OnOk, OnErr};
+ghost use Rattle.std.specs.Prelude.{◌≡◌, ◌≤◌, ◌<◌, ◌+◌, ◌-◌, ◌++◌, ◌^◌, ◌∷◌, length, pos, OnOk, OnErr};
 ghost use Rattle.std.specs.List.{AllByRecursion, flat_map};
 ghost use Rattle.dvi_ops.specs.Instruction.{FontDef, Post};
 ghost use Rattle.dvi_ops.specs.Spelling.{HasSpelling, LeafFits, NumberFits, NumbersFit, UnitsFit, char_spelling, code_size, coded, coded_signed, definition_spelling, font_spelling, leaf_spelling, operand, post_bytes, signed_size, spelling, text_spelling, units_bytes};
@@ -8,6 +8,7 @@ ghost use Rattle.dvi_ops.specs.Table.{Spells};
 ghost use Rattle.dvi_ops.specs.View.{definition, postamble, units as view_units, view};
 
 use crate::op::{FontDefinition, Op, Postamble, Units};
+use crate::opcodes;
 use byteorder::{BigEndian, ByteOrder};
 use std::alloc::AllocError;
 
@@ -66,16 +67,17 @@ fn size_of_code(value: i32) -> usize
     }
 }
 
-/// Appends the code that stands `size` above `base`, and the `size` lowest bytes of a number.
+/// Appends the code of that size, by the code of size 1, and the `size` lowest bytes of a number.
 #[tactic(auto, using(crate::proofs::Operands::operands))]
-fn append_coded(out: &mut Vec<u8>, base: u8, size: usize, value: i32) -> Result<(), AllocError>
+fn append_coded(out: &mut Vec<u8>, first: u8, size: usize, value: i32) -> Result<(), AllocError>
     requires low { 1 ≤ size }
     requires high { size ≤ 4 }
-    requires room { base + 4 < 256 }
-    ensures ok { OnOk result (out.new.items ≡ out.old.items ++ coded base size value) }
+    requires code { 1 ≤ first }
+    requires room { first + 3 < 256 }
+    ensures ok { OnOk result (out.new.items ≡ out.old.items ++ coded (first - 1) size value) }
     ensures err { OnErr result (out.new.items ≡ out.old.items) }
 {
-    append(out, &[&[base + size as u8], &word(value)[4 - size..]])
+    append(out, &[&[first - 1 + size as u8], &word(value)[4 - size..]])
 }
 
 /// Appends a character: set_char or set1 to set4.
@@ -86,7 +88,7 @@ fn append_char(out: &mut Vec<u8>, character: i32) -> Result<(), AllocError>
 {
     match character {
         0..=127 => append(out, &[&[character as u8]]),
-        _ => append_coded(out, 127, size_of_code(character), character),
+        _ => append_coded(out, opcodes::SET1, size_of_code(character), character),
     }
 }
 
@@ -97,18 +99,19 @@ fn append_font(out: &mut Vec<u8>, font: i32) -> Result<(), AllocError>
     ensures err { OnErr result (out.new.items ≡ out.old.items) }
 {
     match font {
-        0..=63 => append(out, &[&[171 + font as u8]]),
-        _ => append_coded(out, 234, size_of_code(font), font),
+        0..=63 => append(out, &[&[opcodes::FNT_NUM_0 + font as u8]]),
+        _ => append_coded(out, opcodes::FNT1, size_of_code(font), font),
     }
 }
 
-/// Appends a movement.
-fn append_signed(out: &mut Vec<u8>, base: u8, amount: i32) -> Result<(), AllocError>
-    requires { base + 4 < 256 }
-    ensures ok { OnOk result (out.new.items ≡ out.old.items ++ coded_signed base amount) }
+/// Appends a movement, by the code of its shortest form with an amount.
+fn append_signed(out: &mut Vec<u8>, first: u8, amount: i32) -> Result<(), AllocError>
+    requires code { 1 ≤ first }
+    requires room { first + 3 < 256 }
+    ensures ok { OnOk result (out.new.items ≡ out.old.items ++ coded_signed (first - 1) amount) }
     ensures err { OnErr result (out.new.items ≡ out.old.items) }
 {
-    append_coded(out, base, size_of_signed(amount), amount)
+    append_coded(out, first, size_of_signed(amount), amount)
 }
 
 /// Appends a rule, by its code.
@@ -138,9 +141,9 @@ fn append_text(out: &mut Vec<u8>, text: &[u8]) -> Result<(), AllocError>
     ensures err { OnErr result (out.new.items ≡ out.old.items) }
 {
     if text.len() < 256 {
-        return append(out, &[&[239, text.len() as u8], text]);
+        return append(out, &[&[opcodes::XXX1, text.len() as u8], text]);
     }
-    append(out, &[&[242], &length_of(text), text])
+    append(out, &[&[opcodes::XXX4], &length_of(text), text])
 }
 
 /// The twelve bytes of the units.
@@ -154,7 +157,7 @@ fn units_of(units: &Units) -> [u8; 12]
     bytes
 }
 
-/// Each count is in the range of its type. (The loop reads each; it does nothing else.)
+/// Each count is in the range of its type. The loop only reads each of them: so the prover learns its range.
 fn counts_fit(counts: &[i32; 10])
     ensures ten { length counts.now ≡ 10 }
     ensures fits { AllByRecursion NumberFits counts.now }
@@ -175,7 +178,7 @@ fn append_bop(out: &mut Vec<u8>, counts: &[i32; 10], pointer: i32) -> Result<(),
     counts_fit(counts);
     let mut bytes = [0; 40];
     BigEndian::write_i32_into(counts, &mut bytes);
-    append(out, &[&[139], &bytes, &word(pointer)])
+    append(out, &[&[opcodes::BOP], &bytes, &word(pointer)])
 }
 
 /// Appends a font definition.
@@ -192,7 +195,7 @@ fn append_definition(out: &mut Vec<u8>, font: &FontDefinition<'_>) -> Result<(),
     append(
         out,
         &[
-            &[242 + size as u8],
+            &[opcodes::FNT_DEF1 - 1 + size as u8],
             &word(font.number)[4 - size..],
             &word(font.check_sum),
             &word(font.size),
@@ -214,7 +217,7 @@ fn append_pre(out: &mut Vec<u8>, id: u8, units: &Units, comment: &[u8]) -> Resul
     append(
         out,
         &[
-            &[247, id],
+            &[opcodes::PRE, id],
             &units_of(units),
             &[comment.len() as u8],
             comment,
@@ -243,7 +246,7 @@ fn append_post(out: &mut Vec<u8>, post: &Postamble) -> Result<(), AllocError>
     append(
         out,
         &[
-            &[248],
+            &[opcodes::POST],
             &word(post.last_bop),
             &units_of(&post.units),
             &word(post.height_plus_depth),
@@ -266,29 +269,34 @@ pub fn spell(op: &Op<'_>, out: &mut Vec<u8>) -> Result<(), AllocError>
 {
     match op {
         Op::SetChar(character) => append_char(out, *character),
-        Op::PutChar(character) => append_coded(out, 132, size_of_code(*character), *character),
-        Op::SetRule { height, width } => append_rule(out, 132, *height, *width),
-        Op::PutRule { height, width } => append_rule(out, 137, *height, *width),
-        Op::Nop => append(out, &[&[138]]),
+        Op::PutChar(character) => append_coded(
+            out,
+            opcodes::PUT1,
+            size_of_code(*character),
+            *character,
+        ),
+        Op::SetRule { height, width } => append_rule(out, opcodes::SET_RULE, *height, *width),
+        Op::PutRule { height, width } => append_rule(out, opcodes::PUT_RULE, *height, *width),
+        Op::Nop => append(out, &[&[opcodes::NOP]]),
         Op::Bop { counts, pointer } => append_bop(out, counts, *pointer),
-        Op::Eop => append(out, &[&[140]]),
-        Op::Push => append(out, &[&[141]]),
-        Op::Pop => append(out, &[&[142]]),
-        Op::Right(amount) => append_signed(out, 142, *amount),
-        Op::W0 => append(out, &[&[147]]),
-        Op::W(amount) => append_signed(out, 147, *amount),
-        Op::X0 => append(out, &[&[152]]),
-        Op::X(amount) => append_signed(out, 152, *amount),
-        Op::Down(amount) => append_signed(out, 156, *amount),
-        Op::Y0 => append(out, &[&[161]]),
-        Op::Y(amount) => append_signed(out, 161, *amount),
-        Op::Z0 => append(out, &[&[166]]),
-        Op::Z(amount) => append_signed(out, 166, *amount),
+        Op::Eop => append(out, &[&[opcodes::EOP]]),
+        Op::Push => append(out, &[&[opcodes::PUSH]]),
+        Op::Pop => append(out, &[&[opcodes::POP]]),
+        Op::Right(amount) => append_signed(out, opcodes::RIGHT1, *amount),
+        Op::W0 => append(out, &[&[opcodes::W0]]),
+        Op::W(amount) => append_signed(out, opcodes::W1, *amount),
+        Op::X0 => append(out, &[&[opcodes::X0]]),
+        Op::X(amount) => append_signed(out, opcodes::X1, *amount),
+        Op::Down(amount) => append_signed(out, opcodes::DOWN1, *amount),
+        Op::Y0 => append(out, &[&[opcodes::Y0]]),
+        Op::Y(amount) => append_signed(out, opcodes::Y1, *amount),
+        Op::Z0 => append(out, &[&[opcodes::Z0]]),
+        Op::Z(amount) => append_signed(out, opcodes::Z1, *amount),
         Op::FontNum(font) => append_font(out, *font),
         Op::Xxx(text) => append_text(out, text),
         Op::FontDef(font) => append_definition(out, font),
         Op::Pre { id, units, comment } => append_pre(out, *id, units, comment),
         Op::Post(post) => append_post(out, post),
-        Op::PostPost { place, id } => append(out, &[&[249], &word(*place), &[*id]]),
+        Op::PostPost { place, id } => append(out, &[&[opcodes::POST_POST], &word(*place), &[*id]]),
     }
 }

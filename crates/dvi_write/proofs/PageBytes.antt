@@ -16,7 +16,8 @@ use Rattle.dvi_ops.proofs.Layouts.{length-bytes_of-append}
 use Rattle.dvi_ops.proofs.Spelled.{operand_length}
 use Rattle.dvi_write.specs.declared.fonts.LoadedFont.{LoadedFont}
 use Rattle.dvi_write.specs.Fonts.{Slots, font_in}
-use Rattle.dvi_write.specs.Draft.{page_of, definition_of, definition_by, definitions_of, fresh_slots, sheet_of}
+use Rattle.dvi_write.specs.Draft.{definition_of, definition_by, definitions_of, fresh_slots, sheet_of}
+use Rattle.ship_core.specs.Pages.{page_of}
 use Rattle.ship_core.specs.Drawing.{body_of}
 use Rattle.ship_core.specs.Shown.{HasWidth}
 use Rattle.ship_core.proofs.DrawnBytes.{body_bytes}

@@ -1,21 +1,17 @@
 -- What the writer keeps of the pages that were shipped, and the bytes that it writes (own).
-use Rattle.std.specs.Prelude.{◌+◌, ◌%◌, ◌++◌, ◌+ℤ◌, ◌==◌, ◌&&◌, not, max, [], ◌∷◌, ℕ, zero, suc, ℤ, pos, negsuc, Bool, false, List, Option, Some, None, is_some, filter, length, replicate}
+use Rattle.std.specs.Prelude.{◌+◌, ◌%◌, ◌++◌, ◌==◌, ◌&&◌, not, max, [], ◌∷◌, ℕ, zero, suc, ℤ, pos, negsuc, Bool, false, List, Option, Some, None, is_some, filter, length, replicate}
 use Rattle.std.specs.Int.{int_max}
 use Rattle.std.specs.Ordering.{int_eq}
 use Rattle.std.specs.List.{flat_map, list_any}
+use Rattle.dvi_ops.specs.declared.opcodes.TheConstants.{FORMAT, PADDING}
 use Rattle.dvi_ops.specs.Instruction.{Definition, FontNum, Instruction, Do, Post, PostPost, Postamble}
 use Rattle.dvi_ops.specs.Forest.{flat, nests}
 use Rattle.dvi_ops.specs.Layout.{Sheet, bytes_of, define, preamble, scaled_points, sheet_from, padding_after}
 use Rattle.dvi_write.specs.declared.fonts.LoadedFont.{LoadedFont}
 use Rattle.dvi_write.specs.Fonts.{Slots, font_in}
-use Rattle.node_core.specs.declared.tree.BoxNode.{BoxNode}
 use Rattle.ship_core.specs.Marks.{Page}
+use Rattle.ship_core.specs.Pages.{reach_down, reach_right}
 use Rattle.ship_core.specs.Drawing.{body_of}
-
--- The page that a box makes: all counts are 0, and the reference point is its height below the origin
--- (own; the place: TeX: The Program, part 32, §640).
-abbrev pub page_of : BoxNode → Page
-page_of b = record { counts = replicate 10 (pos 0); shown = b; h = pos 0; v = b.height }
 
 -- The definition of a font: its number is its slot, and its name has no area (DVItype, 18).
 abbrev pub definition_of : ℕ → LoadedFont → Definition
@@ -69,14 +65,6 @@ abbrev pub sheet_of : Slots → (defined : List ℕ) → Page → Sheet
 sheet_of fonts defined page =
     record { counts = page.counts; fresh = definitions_of fonts (fresh_slots fonts defined (flat (body_of page))); body = body_of page }
 
--- How far down a page reaches: to the bottom of its box (TeX: The Program, part 32, §641).
-abbrev pub reach_down : Page → ℤ
-reach_down page = page.v +ℤ page.shown.depth
-
--- How far to the right a page reaches: to the right edge of its box (TeX: The Program, part 32, §641).
-abbrev pub reach_right : Page → ℤ
-reach_right page = page.h +ℤ page.shown.width
-
 -- What the writer keeps: the bytes up to the last eop; the slots of the fonts that they define, in order; the place of the last bop, or -1; the
 -- greatest reaches of the pages, at least 0; and the most pushes that are open at once in a page.
 pub record Draft : Type 0 where
@@ -120,15 +108,15 @@ closing draft count =
 -- The instructions of the postamble: post, all font definitions in rising order, and post_post, which names post's place.
 abbrev pub closing_ops : Slots → Draft → ℕ → List Instruction
 closing_ops fonts draft count =
-    Post (closing draft count) ∷ (define (definitions_of fonts (in_rising_order draft.defined)) ++ PostPost (pos (length draft.bytes)) 2 ∷ [])
+    Post (closing draft count) ∷ (define (definitions_of fonts (in_rising_order draft.defined)) ++ PostPost (pos (length draft.bytes)) FORMAT ∷ [])
 
--- All bytes of a file but the bytes 223 at its end.
+-- All bytes of a file but the padding at its end.
 abbrev pub closed : Slots → Draft → ℕ → List ℕ
 closed fonts draft count = draft.bytes ++ bytes_of (closing_ops fonts draft count)
 
 -- The whole file of a number of pages that is not 0.
 unfoldable pub whole : Slots → Draft → ℕ → List ℕ
-whole fonts draft count = closed fonts draft count ++ replicate (padding_after (length (closed fonts draft count))) 223
+whole fonts draft count = closed fonts draft count ++ replicate (padding_after (length (closed fonts draft count))) PADDING
 
 -- The bytes of a job with these fonts and pages: none without pages.
 abbrev pub file_of : Slots → List Page → List ℕ

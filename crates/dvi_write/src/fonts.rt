@@ -7,6 +7,9 @@ use std::alloc::{AllocError, Global};
 use std::marker::Model;
 use tfm_core::{Font, FontName};
 
+/// How many slots there are for fonts.
+pub const FONT_SLOTS: usize = 256;
+
 /// A font that was read, with the name of its file.
 #[derive(Debug, Drop)]
 pub struct LoadedFont {
@@ -24,6 +27,7 @@ impl Model for Fonts {
     ghost use Rattle.std.specs.Prelude.{◌≡◌, List, Option, length};
     ghost use Rattle.std.specs.Coded.{coded_list, coded_option};
     ghost use Rattle.dvi_write.specs.declared.fonts.LoadedFont.{LoadedFont};
+    ghost use Rattle.dvi_write.specs.declared.fonts.TheConstants.{FONT_SLOTS};
     ghost use Rattle.dvi_write.specs.contracts.fonts.LoadedFont as loaded_font;
 
     ghost Value = { List (Option LoadedFont) };
@@ -32,16 +36,16 @@ impl Model for Fonts {
 
     ghost view = { λ fonts. fonts.slots.items };
 
-    ghost invariant = { λ fonts. length fonts.slots.items ≡ 256 };
+    ghost invariant = { λ fonts. length fonts.slots.items ≡ FONT_SLOTS };
 }
 
 impl Fonts {
     /// No slot has a font.
     pub fn new(alloc: Global) -> Result<Fonts, AllocError>
-        ensures { IfOk result (λ fonts. fonts ≡ replicate 256 None) }
+        ensures { IfOk result (λ fonts. fonts ≡ replicate FONT_SLOTS None) }
     {
-        let mut slots = Vec::with_capacity(alloc, 256)?;
-        for _ in 0..256usize {
+        let mut slots = Vec::with_capacity(alloc, FONT_SLOTS)?;
+        for _ in 0..FONT_SLOTS {
             slots.push(None)?;
         }
         Ok(Fonts { slots })

@@ -4,6 +4,7 @@ ghost use Rattle.std.specs.Prelude.{◌≡◌, ◌<◌, ◌+◌, ◌*◌, ◌^�
 ghost use Rattle.std.specs.Int.{int_max};
 ghost use Rattle.dvi_ops.specs.Instruction.{Bop, Do, Eop, FontDef, Post};
 ghost use Rattle.dvi_ops.specs.declared.op.Op.TheVariants as ops;
+ghost use Rattle.dvi_ops.specs.declared.opcodes.TheConstants.{PADDING};
 ghost use Rattle.dvi_ops.specs.Forest.{Forest, flat, nests};
 ghost use Rattle.dvi_ops.specs.Layout.{bytes_of, define, padding_after};
 ghost use Rattle.dvi_ops.specs.Spelling.{HasSpelling};
@@ -11,14 +12,15 @@ ghost use Rattle.dvi_ops.specs.View.{view};
 ghost use Rattle.std.specs.List.{AllByRecursion, list_any};
 ghost use Rattle.scaled_core.specs.Dimensions.{fits};
 ghost use Rattle.ship_core.specs.Marks.{is_huge};
-ghost use Rattle.dvi_write.specs.Draft.{page_of, Draft, closing, closing_ops, definition_of, definitions_of, first_draft, fresh_slots, is_among, is_fresh, reach_down, reach_right, in_rising_order, selects, whole, with_page};
+ghost use Rattle.ship_core.specs.Pages.{page_of, reach_down, reach_right};
+ghost use Rattle.dvi_write.specs.Draft.{Draft, closing, closing_ops, definition_of, definitions_of, first_draft, fresh_slots, is_among, is_fresh, in_rising_order, selects, whole, with_page};
 ghost use Rattle.ship_core.specs.Drawing.{body_of};
 
 use crate::fonts::{Fonts, LoadedFont};
-use dvi_ops::{FontDefinition, Op, Postamble, Units, spell};
+use dvi_ops::{FontDefinition, Op, Postamble, Units, opcodes, spell};
 use node_core::BoxNode;
 use scaled_core::Dimen;
-use ship_core::{ShipFault, plan, push_depth, sum};
+use ship_core::{PagePoint, draw_page, push_depth};
 use std::alloc::{AllocError, Global};
 use std::marker::Model;
 
@@ -203,41 +205,32 @@ fn append_both(
     Ok(place)
 }
 
-/// Appends four to seven bytes 223, so that the length is a multiple of 4, or nothing.
+/// Appends four to seven padding bytes, so that the length is a multiple of 4, or nothing.
 fn append_padding(bytes: &mut Vec<u8>) -> Result<(), AllocError>
-    ensures ok { OnOk result (bytes.new.items ≡ bytes.old.items ++ replicate (padding_after (length bytes.old.items)) 223) }
+    ensures ok { OnOk result (bytes.new.items ≡ bytes.old.items ++ replicate (padding_after (length bytes.old.items)) PADDING) }
     ensures err { OnErr result (bytes.new.items ≡ bytes.old.items) }
 {
     let padding = 7 - (bytes.len() + 3) % 4;
-    bytes.extend_from_slice(&[223; 7][..padding])
+    bytes.extend_from_slice(&[opcodes::PADDING; 7][..padding])
 }
 
 /// The instructions of the page of a box.
-fn page_body(alloc: Global, shown: &BoxNode) -> Result<Vec<Op<'static>>, AllocError>
-    requires { is_huge (page_of shown.now) ≡ false }
-    ensures { IfOk result (λ ops. map view ops.items ≡ flat (body_of (page_of shown.now))) }
+#[tactic(auto, unfolding(ship_core::specs::Marks::is_huge))]
+fn page_body(alloc: Global, box_node: &BoxNode) -> Result<Vec<Op<'static>>, AllocError>
+    requires { is_huge (page_of box_node.now) ≡ false }
+    ensures { IfOk result (λ ops. map view ops.items ≡ flat (body_of (page_of box_node.now))) }
 {
-    match plan(alloc, shown, Dimen::ZERO, shown.height) {
-        Ok(ops) => Ok(ops),
-        Err(ShipFault::OutOfMemory) => Err(AllocError),
-        Err(ShipFault::HugePage) => unreachable!(),
-    }
-}
-
-/// The greater of two dimensions.
-fn higher(a: Dimen, b: Dimen) -> Dimen
-    ensures { result ≡ int_max a b }
-{
-    if a.get() < b.get() { b } else { a }
+    draw_page(alloc, box_node, PagePoint::of_box(box_node))
 }
 
 /// The greater of a reach so far and that of a page, from its point and its size.
+#[tactic(auto, unfolding(scaled_core::specs::Dimensions::dimension_of))]
 fn farther(reach: Dimen, from: Dimen, size: Dimen) -> Dimen
     requires { fits (from +ℤ size) ≡ true }
     ensures { result ≡ int_max reach (from +ℤ size) }
 {
-    match sum(from, size) {
-        Some(farther) => higher(reach, farther),
+    match from.checked_add(size) {
+        Some(end) => reach.max(end),
         None => unreachable!(),
     }
 }
@@ -251,7 +244,7 @@ impl Writer {
         append_all(
             &mut bytes,
             &[Op::Pre {
-                id: 2,
+                id: opcodes::FORMAT,
                 units: SCALED_POINTS,
                 comment: &[],
             }],
@@ -286,14 +279,14 @@ impl Writer {
     }
 
     /// Keeps where the bop of a page stands, and how far the page reaches.
-    fn keep_reach(&mut self, place: usize, shown: &BoxNode)
-        requires huge { is_huge (page_of shown.now) ≡ false }
+    fn keep_reach(&mut self, place: usize, box_node: &BoxNode)
+        requires huge { is_huge (page_of box_node.now) ≡ false }
         requires room { place < 2 ^ 31 }
-        ensures { self.new ≡ record self.old { last = pos place; tall = int_max self.old.tall (reach_down (page_of shown.now)); wide = int_max self.old.wide (reach_right (page_of shown.now)) } }
+        ensures { self.new ≡ record self.old { last = pos place; tall = int_max self.old.tall (reach_down (page_of box_node.now)); wide = int_max self.old.wide (reach_right (page_of box_node.now)) } }
     {
         self.last = place as i32;
-        self.tall = farther(self.tall, shown.height, shown.depth);
-        self.wide = farther(self.wide, Dimen::ZERO, shown.width);
+        self.tall = farther(self.tall, box_node.height, box_node.depth);
+        self.wide = farther(self.wide, Dimen::ZERO, box_node.width);
     }
 
     /// Keeps how many pushes are open at once in a page with this body, where no page before it has more.
@@ -305,14 +298,14 @@ impl Writer {
 
     /// Adds the page of a box whose glyphs are in these fonts.
     #[tactic(auto, unfolding(crate::specs::Draft::with_page))]
-    pub fn add_page(&mut self, shown: &BoxNode, fonts: &Fonts) -> Result<(), AllocError>
-        requires huge { is_huge (page_of shown.now) ≡ false }
-        requires room { length (with_page fonts.now self.old (page_of shown.now)).bytes < 2 ^ 31 }
-        ensures ok { OnOk result (self.new ≡ with_page fonts.now self.old (page_of shown.now)) }
+    pub fn add_page(&mut self, box_node: &BoxNode, fonts: &Fonts) -> Result<(), AllocError>
+        requires huge { is_huge (page_of box_node.now) ≡ false }
+        requires room { length (with_page fonts.now self.old (page_of box_node.now)).bytes < 2 ^ 31 }
+        ensures ok { OnOk result (self.new ≡ with_page fonts.now self.old (page_of box_node.now)) }
         ensures err { OnErr result (self.new ≡ self.old) }
     {
         let alloc = *self.bytes.allocator();
-        let body = page_body(alloc, shown)?;
+        let body = page_body(alloc, box_node)?;
         let fresh = fresh_slots(alloc, fonts, &self.defined, &body)?;
         let held = self.defined.len();
         self.defined.extend_from_slice(&fresh)?;
@@ -320,7 +313,7 @@ impl Writer {
             self.defined.truncate(held);
             return Err(AllocError);
         };
-        self.keep_reach(place, shown);
+        self.keep_reach(place, box_node);
         self.keep_depth(&body);
         Ok(())
     }
@@ -354,7 +347,7 @@ impl Writer {
         append_definitions(fonts, &slots, &mut ops)?;
         ops.push(Op::PostPost {
             place: self.bytes.len() as i32,
-            id: 2,
+            id: opcodes::FORMAT,
         })?;
         Ok(ops)
     }

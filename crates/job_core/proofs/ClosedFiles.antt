@@ -19,8 +19,9 @@ use Rattle.dvi_ops.proofs.WholeFile.{frame_of, padding_low, padding_fills, size_
 use Rattle.dvi_write.specs.Fonts.{Slots}
 use Rattle.state_core.specs.Loaded.{AreLoaded}
 use Rattle.ship_core.specs.Marks.{Page}
+use Rattle.ship_core.specs.Pages.{reach_down, reach_right}
 use Rattle.ship_core.specs.Drawing.{body_of}
-use Rattle.dvi_write.specs.Draft.{first_draft, draft_of, definitions_of, fresh_slots, in_rising_order, sheet_of, reach_down, reach_right, closed, whole, file_of}
+use Rattle.dvi_write.specs.Draft.{first_draft, draft_of, definitions_of, fresh_slots, in_rising_order, sheet_of, closed, whole, file_of}
 use Rattle.job_core.specs.Jobs.{IsShipped}
 use Rattle.job_core.specs.Closing.{IsGreatestOf, IsOfJob, IsClosedFor}
 use Rattle.ship_core.proofs.DrawnPages.{definitions-page}

@@ -7,7 +7,9 @@ use Rattle.command_core.specs.declared.command.Summary.{Summary}
 use Rattle.job_core.specs.Told.{grown, GrowsByFront, IsFrontOf}
 use Rattle.dvi_write.specs.Fonts.{Slots}
 use Rattle.ship_core.specs.Marks.{Page}
-use Rattle.nest_core.specs.Machine.{State, Machine, first_of, stopped}
+use Rattle.nest_core.specs.State.{State}
+use Rattle.nest_core.specs.Checks.{first_of}
+use Rattle.nest_core.specs.Machine.{Machine, stopped_machine}
 use Rattle.dvi_write.specs.Draft.{draft_of, whole, file_of}
 use Rattle.nest_core.specs.Runs.{finish_checks, Finished, Refuses, WantsMemory, LostDevice}
 use Rattle.job_core.specs.Jobs.{Seen, Holds, FinishesTo}
@@ -20,7 +22,7 @@ pub may_finish : (s : State) → s.over ≡ false → not (length s.nest == 0) �
 may_finish s running closed = rw (running, closed) refl
 
 -- A job that is stopped stands for the stopped machine.
-pub stops : (old new : Seen) (m : Machine) → Holds old m → new.state ≡ record (old.state) { over = true } → Holds new (stopped m)
+pub stops : (old new : Seen) (m : Machine) → Holds old m → new.state ≡ record (old.state) { over = true } → Holds new (stopped_machine m)
 stops old new m holds goes =
     record {
       state = goes ∙ ap (λ (s : State). record s { over = true }) holds.state;
@@ -55,7 +57,7 @@ pub finished :
     → new.failed ≡ old.failed
     → FinishesTo old (Ok summary) new
 finished old new summary may goes counts fails m holds = (
-  stopped m,
+  stopped_machine m,
   Finished summary refl (accepted old m holds may) (counts ∙ (ap (λ (s : State). s.pages) holds.state ∙ holds.count)) refl fails,
   stops old new m holds goes,
 )
@@ -71,7 +73,7 @@ pub losing :
     → old.failed < new.failed
     → FinishesTo old (Err Device) new
 losing old new may some goes fails m holds =
-    (stopped m, LostDevice refl (accepted old m holds may) (some_pages old m holds some) refl fails, stops old new m holds goes)
+    (stopped_machine m, LostDevice refl (accepted old m holds may) (some_pages old m holds some) refl fails, stops old new m holds goes)
 
 -- The file of some pages is the whole of their draft.
 file-is : (fonts : Slots) (pages : List Page) → pages ≢ [] → file_of fonts pages ≡ whole fonts (draft_of fonts pages) (length pages)
@@ -94,7 +96,7 @@ told_all (Some told) new more file empty is same = rw is (ap (λ bytes. bytes ++
 empty_told : (old : Seen) (m : Machine) → Holds old m → old.state.over ≡ false → IfSome old.told (λ bytes. bytes ≡ [])
 empty_told old m holds running = holds.told (sym (ap (λ (s : State). s.over) holds.state) ∙ running)
 
--- What the device tells after the end, where it took all.
+-- What the device tells after the end is the file, where it took all of it.
 pub filed :
     (old new : Seen) (m : Machine) → Holds old m → old.state.over ≡ false → old.state.pages ≢ 0
     → new.told ≡ grown old.told (whole old.state.fonts old.draft old.state.pages) → IfSome new.told (λ bytes. bytes ≡ file_of m.state.fonts m.pages)
@@ -105,20 +107,20 @@ told_front : (old new : Option (List ℕ)) (n : ℕ) (more file : List ℕ) → 
 told_front None new n more file empty is same = rw is tt
 told_front (Some told) new n more file empty is same = rw is (n, ap (λ bytes. bytes ++ take n more) empty ∙ ap (take n) same)
 
--- And where it did not.
+-- What the device tells after the end is a beginning of the file, where it did not take all of it.
 pub fronted :
     (old new : Seen) (m : Machine) → Holds old m → old.state.over ≡ false → old.state.pages ≢ 0
     → GrowsByFront old.told new.told (whole old.state.fonts old.draft old.state.pages) → IfSome new.told (λ bytes. IsFrontOf bytes (file_of m.state.fonts m.pages))
 fronted old new m holds running some grows =
     told_front old.told new.told grows.0 (whole old.state.fonts old.draft old.state.pages) (file_of m.state.fonts m.pages) (empty_told old m holds running) grows.2 (whole-is old m holds running some)
 
--- What the device tells has grown by the file of the machine's pages, where it took all,
+-- What the device tells has grown by the file of the machine's pages, where it took all of it.
 pub sent_all :
     (old : Seen) (new : Option (List ℕ)) (m : Machine) → Holds old m → old.state.over ≡ false → old.state.pages ≢ 0
     → new ≡ grown old.told (whole old.state.fonts old.draft old.state.pages) → new ≡ grown old.told (file_of m.state.fonts m.pages)
 sent_all old new m holds running some told = told ∙ ap (grown old.told) (whole-is old m holds running some)
 
--- by a beginning of it, where it did not,
+-- What the device tells has grown by a beginning of that file, where it did not take all of it.
 pub sent_part :
     (old : Seen) (new : Option (List ℕ)) (m : Machine) → Holds old m → old.state.over ≡ false → old.state.pages ≢ 0
     → GrowsByFront old.told new (whole old.state.fonts old.draft old.state.pages) → GrowsByFront old.told new (file_of m.state.fonts m.pages)
@@ -128,7 +130,7 @@ grown_none : (told : Option (List ℕ)) → told ≡ grown told []
 grown_none None = refl
 grown_none (Some bytes) = ap Some (sym (append-nil bytes))
 
--- and by nothing without pages.
+-- What the device tells has grown by nothing where there are no pages.
 pub sent_none : (old : Seen) (m : Machine) → Holds old m → old.state.pages ≡ 0 → old.told ≡ grown old.told (file_of m.state.fonts m.pages)
 sent_none old m holds none =
     let no_pages : m.pages ≡ [] = nil_from_length m.pages (sym holds.count ∙ (sym (ap (λ (s : State). s.pages) holds.state) ∙ none)) in

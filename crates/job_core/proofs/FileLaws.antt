@@ -19,9 +19,10 @@ use Rattle.dvi_write.specs.Fonts.{Slots}
 use Rattle.state_core.specs.Loaded.{AreLoaded}
 use Rattle.state_core.specs.Sized.{IsSoundBox}
 use Rattle.ship_core.specs.Marks.{Page, marks_of_page, is_huge}
+use Rattle.ship_core.specs.Pages.{reach_down, reach_right}
 use Rattle.ship_core.specs.Drawing.{body_of}
-use Rattle.nest_core.specs.Machine.{most_deep}
-use Rattle.dvi_write.specs.Draft.{Draft, first_draft, with_page, with_pages, draft_of, definitions_of, fresh_slots, in_rising_order, selects, sheet_of, reach_down, reach_right, closing, closed, whole, file_of}
+use Rattle.command_core.specs.declared.limits.TheConstants.{MOST_DEEP}
+use Rattle.dvi_write.specs.Draft.{Draft, first_draft, with_page, with_pages, draft_of, definitions_of, fresh_slots, in_rising_order, selects, sheet_of, closing, closed, whole, file_of}
 use Rattle.job_core.specs.Jobs.{IsShipped}
 use Rattle.job_core.specs.Shown.{GivesFiles, shown_page, IsFileOf}
 use Rattle.scaled_core.proofs.Fitting.{fits_within}
@@ -41,9 +42,9 @@ zero_within = record { low = omega (arith, ints); high = omega (arith, ints) }
 module _ (metrics : Metrics) (files : List NamedBytes) (fonts : Slots) (gives : GivesFiles metrics files) (loaded : AreLoaded files fonts) where
   -- A page that is not huge can be written behind what is known, and shows its marks.
   page_good : (slots : List ℕ) (known : List Definition) (page : Page) → page.counts ≡ replicate 10 (pos 0) → AreKnown fonts slots known → is_huge page ≡ false
-      → IsSoundBox fonts page.shown → IsGood metrics (table_of fonts) known (sheet_of fonts slots page) (marks_of_page page)
+      → IsSoundBox fonts page.box_node → IsGood metrics (table_of fonts) known (sheet_of fonts slots page) (marks_of_page page)
   page_good slots known page zeros knows small sound =
-      let widths = have_widths files fonts loaded metrics gives page.shown.list sound.glyphs in
+      let widths = have_widths files fonts loaded metrics gives page.box_node.list sound.glyphs in
       let is = flat (body_of page) in
       let shown = drawn_page (table_widths metrics (table_of fonts)) start.place.held page small widths in
       record {
@@ -178,7 +179,7 @@ HasReach page = Within 1073741823 (reach_down page) × Within 1073741823 (reach_
 
 reaches : (fonts : Slots) (page : Page) → IsShipped fonts page → HasReach page
 reaches fonts page (is, small, sound) =
-    (fits_within (page.v +ℤ page.shown.depth) (fits_down page small), fits_within (page.h +ℤ page.shown.width) (fits_right page small))
+    (fits_within (page.v +ℤ page.box_node.depth) (fits_down page small), fits_within (page.h +ℤ page.box_node.width) (fits_right page small))
 
 farthest_within : (fonts : Slots) (size : Page → ℤ) (z : ℤ) (pages : List Page) → Within 1073741823 z → ((page : Page) → IsShipped fonts page → Within 1073741823 (size page))
     → AllByRecursion (IsShipped fonts) pages → Within 1073741823 (farthest size z pages)
@@ -197,8 +198,8 @@ wide_fits fonts pages all =
     number_within _ (subst (Within 1073741823) (sym (wide-is fonts first_draft pages)) (farthest_within fonts reach_right (pos 0) pages zero_within (λ page here. (reaches fonts page here).1) all))
 
 -- Few pushes are open at once in the pages.
-pub few_pushes : (fonts : Slots) (slots : List ℕ) (s : Written) (pages : List Page) → AllByRecursion (IsShipped fonts) pages → s.depth ≤ most_deep
-    → (after_all s (sheets_of fonts slots pages)).depth ≤ most_deep
+pub few_pushes : (fonts : Slots) (slots : List ℕ) (s : Written) (pages : List Page) → AllByRecursion (IsShipped fonts) pages → s.depth ≤ MOST_DEEP
+    → (after_all s (sheets_of fonts slots pages)).depth ≤ MOST_DEEP
 few_pushes fonts slots s [] all few = few
 few_pushes fonts slots s (page ∷ pages) ((is, small, sound), all) few =
     few_pushes fonts (slots ++ fresh_slots fonts slots (flat (body_of page))) (after s (sheet_of fonts slots page)) pages all

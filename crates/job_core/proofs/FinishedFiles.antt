@@ -4,7 +4,8 @@ use Rattle.std.specs.Prelude.{false, IfSome}
 use Rattle.std.proofs.lemmas.List.{nil_from_length}
 use Rattle.dvi_ops.specs.Fonts.{Metrics}
 use Rattle.job_core.specs.Told.{grown}
-use Rattle.nest_core.specs.Machine.{State, Machine}
+use Rattle.nest_core.specs.State.{State}
+use Rattle.nest_core.specs.Machine.{Machine}
 use Rattle.dvi_write.specs.Draft.{Draft, draft_of, file_of, whole}
 use Rattle.job_core.specs.Jobs.{Seen, Holds}
 use Rattle.job_core.specs.Room.{HasRoom}
@@ -30,7 +31,7 @@ short old m holds running room =
 loaded : (old : Seen) (m : Machine) → Holds old m → HasRoom old.state old.draft → AreLoaded m.state.files m.state.fonts
 loaded old m holds room = subst (λ (s : State). AreLoaded s.files s.fonts) holds.state room.fonts
 
--- Where all was taken, it is a DVI file of the pages.
+-- Where the device took all bytes, they are a DVI file of the pages.
 pub filed_pages :
     (old : Seen) (new : Option (List ℕ)) (m : Machine) (metrics : Metrics) → Holds old m → GivesFiles metrics m.state.files → old.state.over ≡ false → HasRoom old.state old.draft
     → old.state.pages ≢ 0 → new ≡ grown old.told (whole old.state.fonts old.draft old.state.pages) → IfSome new (λ bytes. IsFileOf metrics bytes m.pages)
@@ -44,7 +45,7 @@ pub filed_none :
 filed_none old m metrics holds gives running room none =
     told_is old.told (file_of m.state.fonts m.pages) (λ bytes. IsFileOf metrics bytes m.pages) (unfiled old m holds running none) (file_shows metrics m.state.files m.state.fonts m.pages gives (loaded old m holds room) holds.pages (short old m holds running room))
 
--- Where all was taken, it ends as the file of the pages does.
+-- Where the device took all bytes, they end as the file of the pages does.
 pub filed_end :
     (old : Seen) (new : Option (List ℕ)) (m : Machine) → Holds old m → old.state.over ≡ false → HasRoom old.state old.draft
     → old.state.pages ≢ 0 → new ≡ grown old.told (whole old.state.fonts old.draft old.state.pages) → m.pages ≢ [] → IfSome new (λ bytes. IsClosedFor m.state.fonts bytes m.pages)
@@ -52,6 +53,6 @@ filed_end old new m holds running room some told pages =
     told_is new (file_of m.state.fonts m.pages) (λ bytes. IsClosedFor m.state.fonts bytes m.pages) (filed old (record old { told = new }) m holds running some told)
     (file_closes m.state.files m.state.fonts m.pages (loaded old m holds room) pages holds.pages (short old m holds running room))
 
--- A machine without pages has none.
+-- Where the job has shipped no page, the machine has none.
 pub no_pages : (old : Seen) (m : Machine) → Holds old m → old.state.pages ≡ 0 → m.pages ≡ []
 no_pages old m holds none = nil_from_length m.pages (sym holds.count ∙ (sym (ap (λ (s : State). s.pages) holds.state) ∙ none))

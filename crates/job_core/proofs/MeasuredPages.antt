@@ -22,7 +22,10 @@ use Rattle.state_core.specs.Sized.{IsSizedLeaf, IsSoundBox, HasSizedGlyphs}
 use Rattle.state_core.proofs.Leaves.{each_leaf}
 use Rattle.state_core.proofs.KeptRest.{KeepsRest, end_keeps, append_keeps, unbox_keeps}
 use Rattle.ship_core.specs.Marks.{Page}
-use Rattle.nest_core.specs.Machine.{State, Machine, first_machine, checks, first_of, after, font_for, held_in, pages_of, new_pages, state_by}
+use Rattle.nest_core.specs.State.{State, font_for, held_in}
+use Rattle.nest_core.specs.Checks.{checks, first_of}
+use Rattle.nest_core.specs.Effects.{after, pages_of, new_pages}
+use Rattle.nest_core.specs.Machine.{Machine, first_machine, state_by}
 use Rattle.nest_core.specs.Runs.{Steps, Replies, LacksMemory, LosesDevice, Run}
 use Rattle.job_core.specs.GlyphWidths.{HasFileWidth, IsMeasured, IsMeasuredPage}
 use Rattle.state_core.proofs.EachOf.{each_set, each_copy, each_held}
@@ -40,7 +43,7 @@ AreRead s = AllByRecursion (λ slot. IfSome slot (IsRead s.files)) s.fonts
 record IsKnown (m : Machine) : Type 0 where
   read : AreRead m.state
   sized : HasSizedGlyphs m.state
-  pages : AllByRecursion (λ page. IsSoundBox m.state.fonts page.shown) m.pages
+  pages : AllByRecursion (λ page. IsSoundBox m.state.fonts page.box_node) m.pages
 
 read_with : (files : List NamedBytes) (fonts : Slots) (slot : ℕ) (name : List ℕ) (size : Option _) (read : Result SizedFont Refusal) → font_of (file_named name files) size ≡ read
     → AllByRecursion (λ slot. IfSome slot (IsRead files)) fonts → AllByRecursion (λ slot. IfSome slot (IsRead files)) (with_font fonts slot name read)
@@ -73,7 +76,7 @@ read_after s (Set parameter) all = all
 read_after s (Ship r) all = all
 
 abbrev IsSizedPage : Slots → Page → Type 0
-IsSizedPage fonts page = IsSoundBox fonts page.shown
+IsSizedPage fonts page = IsSoundBox fonts page.box_node
 
 sized_page : (s : State) (r : ℕ) (held : Option BoxNode) → held_in s.registers r ≡ held → HasSizedGlyphs s → AllByRecursion (IsSizedPage s.fonts) (pages_of held)
 sized_page s r None is sized = tt
@@ -107,7 +110,7 @@ known_step m command None is known =
       sized = sized_after m.state command is known.sized;
       pages =
           all_weaker (IsSizedPage m.state.fonts) (IsSizedPage (after m.state command).fonts) (m.pages ++ new_pages m.state command)
-          (λ page sized. stays_sized m.state command is page.shown sized)
+          (λ page sized. stays_sized m.state command is page.box_node sized)
           (all_append (IsSizedPage m.state.fonts) m.pages (new_pages m.state command) known.pages (new_sized m.state command known.sized));
     }
 
@@ -153,4 +156,4 @@ measured_pages files n commands replies m k run =
     let first : IsKnown (first_machine files) = record { read = each_copy (λ slot. IfSome slot (IsRead files)) 256 None tt; sized = sized_first files; pages = tt } in
     let known = known_run (first_machine files) n commands replies m k run first in
     all_weaker (IsSizedPage m.state.fonts) (IsMeasuredPage m.state) m.pages
-    (λ page sized. each_leaf (IsSizedLeaf m.state.fonts) (IsMeasured m.state) (measured m.state known.read) page.shown.list sized.glyphs) known.pages
+    (λ page sized. each_leaf (IsSizedLeaf m.state.fonts) (IsMeasured m.state) (measured m.state known.read) page.box_node.list sized.glyphs) known.pages

@@ -19,8 +19,14 @@ use Rattle.command_core.specs.Reply.{Reply}
 use Rattle.tfm_core.specs.NamedBytes.{NamedBytes}
 use Rattle.dvi_ops.specs.Spelling.{spelling, operand}
 use Rattle.ship_core.specs.Marks.{Page}
-use Rattle.dvi_write.specs.Draft.{page_of, Draft, definitions_of, fresh_slots, sheet_of, reach_down, reach_right, with_page, with_pages, first_draft, draft_of}
-use Rattle.nest_core.specs.Machine.{State, Machine, checks, own_checks, first_of, reply_by, reply_to, answer_of, after, state_by, state_after, new_pages, pages_of, held_in, count_in, is_huge_in, step, most_shipped, most_pages, first_state}
+use Rattle.ship_core.specs.Pages.{page_of, reach_down, reach_right}
+use Rattle.dvi_write.specs.Draft.{Draft, definitions_of, fresh_slots, sheet_of, with_page, with_pages, first_draft, draft_of}
+use Rattle.command_core.specs.declared.limits.TheConstants.{MOST_PAGES, MOST_SHIPPED}
+use Rattle.nest_core.specs.State.{State, held_in, count_in, first_state}
+use Rattle.nest_core.specs.Checks.{checks, own_checks, first_of, is_huge_in}
+use Rattle.nest_core.specs.Answers.{answer_of}
+use Rattle.nest_core.specs.Effects.{after, new_pages, pages_of}
+use Rattle.nest_core.specs.Machine.{Machine, reply_by, reply_to, state_by, state_after, step}
 use Rattle.ship_core.specs.Drawing.{body_of}
 use Rattle.nest_core.specs.Runs.{TakesMemory, early_checks, Steps, Replies, LacksMemory, Run}
 use Rattle.job_core.specs.Jobs.{draft_after, IsShipped, Seen, Holds, KeepsTo, RunsTo}
@@ -56,14 +62,14 @@ all_fail false false false false false p q r t u none = (refl, (refl, (refl, ref
 -- What holds where a ship is accepted.
 pub record Admits (s : State) (r : ℕ) : Type 0 where
   pub held : is_none (held_in s.registers r) ≡ false
-  pub pages : nat_le most_pages s.pages ≡ false
-  pub nodes : nat_lt most_shipped (s.shipped + count_in (held_in s.registers r)) ≡ false
+  pub pages : nat_le MOST_PAGES s.pages ≡ false
+  pub nodes : nat_lt MOST_SHIPPED (s.shipped + count_in (held_in s.registers r)) ≡ false
   pub small : is_huge_in (held_in s.registers r) ≡ false
 
 pub admitted : (s : State) (r : ℕ) → first_of (checks s (Ship r)) ≡ None → Admits s r
 admitted s r none =
-    let all = all_fail s.over (is_none (held_in s.registers r)) (nat_le most_pages s.pages)
-    (nat_lt most_shipped (s.shipped + count_in (held_in s.registers r))) (is_huge_in (held_in s.registers r))
+    let all = all_fail s.over (is_none (held_in s.registers r)) (nat_le MOST_PAGES s.pages)
+    (nat_lt MOST_SHIPPED (s.shipped + count_in (held_in s.registers r))) (is_huge_in (held_in s.registers r))
     JobOver VoidBox TooManyPages TooMuchShipped HugePage none in
     record { held = all.0; pages = all.1.0; nodes = all.1.1.0; small = all.1.1.1 }
 
@@ -119,7 +125,7 @@ pages-same files fonts more draft (page ∷ pages) loaded extends (here, all) =
     pages-same files fonts more (with_page fonts draft page) pages loaded extends all
     ∙ ap (λ d. with_pages more d pages) (sheet-same fonts more draft page extends (page_selects files fonts page loaded here))
 
--- The pages are those of the draft, and so are they behind a step.
+-- The pages of a machine are those of its draft, also after a step.
 drafted :
     (s : State) (command : Command) (pages : List Page) (refused : Option Refusal) → first_of (checks s command) ≡ refused → AreLoaded s.files s.fonts
     → AllByRecursion (IsShipped s.fonts) (pages ++ new_pages s command)
@@ -130,7 +136,7 @@ drafted s command pages None is loaded all =
     ∙ pages-same s.files s.fonts (after s command).fonts first_draft (pages ++ new_pages s command) loaded (stays_loaded s command is) all
 drafted s command pages (Some refusal) is loaded all = refl
 
--- And so many as the state counts.
+-- After a step there are as many pages as the state counts.
 pub counted :
     (s : State) (command : Command) (pages : List Page) (refused : Option Refusal) → first_of (checks s command) ≡ refused → s.pages ≡ length pages
     → (state_by refused s (after s command)).pages ≡ length (state_by refused pages (pages ++ new_pages s command))
@@ -181,7 +187,7 @@ pub record KnowsFonts (s : State) : Type 0 where
 
 stays_shipped : (s : State) (command : Command) (pages : List Page) → first_of (checks s command) ≡ None → AllByRecursion (IsShipped s.fonts) pages → AllByRecursion (IsShipped (after s command).fonts) pages
 stays_shipped s command pages none all =
-    all_weaker (IsShipped s.fonts) (IsShipped (after s command).fonts) pages (λ page of. (of.0, of.1, stays_sized s command none page.shown of.2)) all
+    all_weaker (IsShipped s.fonts) (IsShipped (after s command).fonts) pages (λ page of. (of.0, of.1, stays_sized s command none page.box_node of.2)) all
 
 all_shipped :
     (s : State) (command : Command) (pages : List Page) (refused : Option Refusal) → first_of (checks s command) ≡ refused → (s.over ≡ false → KnowsFonts s)
@@ -273,8 +279,8 @@ shipped_room s draft r None none is admits room = absurd (never (ap is_none is) 
     never t f = cc
 shipped_room s draft r (Some b) none is admits room =
     let count : count_in (held_in s.registers r) ≡ box_count b = ap count_in is in
-    let nodes = ltb-false most_shipped (s.shipped + count_in (held_in s.registers r)) admits.nodes in
-    let pages = leb-false most_pages s.pages admits.pages in
+    let nodes = ltb-false MOST_SHIPPED (s.shipped + count_in (held_in s.registers r)) admits.nodes in
+    let pages = leb-false MOST_PAGES s.pages admits.pages in
     let knows = knows_after s (Ship r) none tt room.fonts room.glyphs in
     let sound = sized_held s r b room.glyphs is in
     let widths = have_widths s.files s.fonts room.fonts (file_widths s.files) (λ name size widths e. e) b.list sound.glyphs in
@@ -297,7 +303,7 @@ shipped_room s draft r (Some b) none is admits room =
           );
     }
 
--- A command that is accepted gives its numbers.
+-- A command that is accepted asks for no font but one that can be defined in a file of pages.
 pub numbered : (s : State) (command : Command) (reply : Reply) → reply ≡ reply_to s command → IfOk reply (λ answer. GivesNumbersFor s command)
     → first_of (checks s command) ≡ None → GivesNumbersFor s command
 numbered s command reply says numbers none =
@@ -339,7 +345,7 @@ steady_bytes : (s : State) (draft : Draft) (command : Command) (refused : Option
 steady_bytes s draft command None none room = rw none (small_enough s draft room)
 steady_bytes s draft command (Some refusal) none room = small_enough s draft room
 
--- So it is behind a command, whether it loads a font or not.
+-- Every place in the draft is below 2^31 after a command too, whether it loads a font or not.
 pub small_after : (s : State) (draft : Draft) (command : Command) → HasRoom s draft → length (draft_after s draft command).bytes < 2 ^ 31
 small_after s draft (Ship r) room = small_enough (state_after s (Ship r)) (draft_after s draft (Ship r)) (roomy s draft (Ship r) (λ none. tt) room)
 small_after s draft (LoadFont load) room = steady_bytes s draft (LoadFont load) (first_of (checks s (LoadFont load))) refl room

@@ -54,7 +54,7 @@ tabled files fonts loaded s l has =
     size_fits (pos n) positive below = record { sfits = omega (arith, ints, below) }
     size_fits (negsuc n) positive below = record { sfits = omega (arith, ints, positive) }
 
--- A number is a slot with a font.
+-- A number that is that of a slot with a font.
 pub record IsSlot (fonts : Slots) (f : ℤ) : Type 0 where
   pub slot : ℕ
   pub loaded : LoadedFont
@@ -77,10 +77,10 @@ module _ (files : List NamedBytes) (fonts : Slots) (loaded : AreLoaded files fon
   has_font (rule sizes) sized = tt
 
   -- Each font that a page selects is one of the job.
-  pub selected_slots : (page : Page) → EachLeaf (IsSizedLeaf fonts) page.shown.list → AllByRecursion (IsSlot fonts) (selections (flat (body_of page)))
-  selected_slots page sized = selections_page (IsSlot fonts) page (each_leaf (IsSizedLeaf fonts) (HasFont (IsSlot fonts)) has_font page.shown.list sized)
+  pub selected_slots : (page : Page) → EachLeaf (IsSizedLeaf fonts) page.box_node.list → AllByRecursion (IsSlot fonts) (selections (flat (body_of page)))
+  selected_slots page sized = selections_page (IsSlot fonts) page (each_leaf (IsSizedLeaf fonts) (HasFont (IsSlot fonts)) has_font page.box_node.list sized)
 
-  pub has_selected : (page : Page) → EachLeaf (IsSizedLeaf fonts) page.shown.list → HasSelected fonts (flat (body_of page))
+  pub has_selected : (page : Page) → EachLeaf (IsSizedLeaf fonts) page.box_node.list → HasSelected fonts (flat (body_of page))
   has_selected page sized s selected =
       let of = holds_selected (IsSlot fonts) (flat (body_of page)) (selected_slots page sized) s selected in
       let same : s ≡ of.slot = cc (of.is) in

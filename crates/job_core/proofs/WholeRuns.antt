@@ -8,7 +8,8 @@ use Rattle.command_core.specs.Reply.{Reply}
 use Rattle.tfm_core.specs.NamedBytes.{NamedBytes}
 use Rattle.state_core.proofs.KeptRest.{job_kept}
 use Rattle.job_core.proofs.Moves.{counted}
-use Rattle.nest_core.specs.Machine.{Machine, first_machine, first_of, checks}
+use Rattle.nest_core.specs.Checks.{first_of, checks}
+use Rattle.nest_core.specs.Machine.{Machine, first_machine}
 use Rattle.nest_core.specs.Runs.{Steps, Replies, LacksMemory, LosesDevice, Run}
 use Rattle.job_core.specs.Jobs.{Seen, Holds, KeepsTo, RunsTo, FinishesTo}
 use Rattle.job_core.specs.Closing.{ClosesFile}
@@ -55,7 +56,7 @@ one_keeps m n command reply next k (Replies says goes counts) = ap files_of goes
 one_keeps m n command reply next k (LacksMemory says takes may goes counts) = ap files_of goes
 one_keeps m n command reply next k (LosesDevice says ships may goes counts) = ap files_of goes
 
--- So does a run.
+-- A run leaves the font files as they are.
 pub files_kept : (m : Machine) (n : ℕ) (commands : List Command) (replies : List Reply) (next : Machine) (k : ℕ) → Run m n commands replies next k → next.state.files ≡ m.state.files
 unfolding files_of
 files_kept m n [] [] next k run = ap files_of run.0
@@ -72,7 +73,7 @@ one_counts m n command reply next k (Replies says goes counts) count =
 one_counts m n command reply next k (LacksMemory says takes may goes counts) count = subst AreCounted (sym goes) count
 one_counts m n command reply next k (LosesDevice says ships may goes counts) count = subst AreCounted (sym goes) count
 
--- So does a run.
+-- A run leaves as many pages as the state of its machine counts.
 pub pages_counted :
     (m : Machine) (n : ℕ) (commands : List Command) (replies : List Reply) (next : Machine) (k : ℕ) → Run m n commands replies next k → AreCounted m → AreCounted next
 pages_counted m n [] [] next k run count = subst AreCounted (sym run.0) count

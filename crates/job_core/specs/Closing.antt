@@ -10,7 +10,8 @@ use Rattle.command_core.specs.declared.command.Summary.{Summary}
 use Rattle.dvi_write.specs.declared.fonts.LoadedFont.{LoadedFont}
 use Rattle.dvi_write.specs.Fonts.{Slots, font_in}
 use Rattle.ship_core.specs.Marks.{Page}
-use Rattle.dvi_write.specs.Draft.{definition_of, reach_down, reach_right}
+use Rattle.ship_core.specs.Pages.{reach_down, reach_right}
+use Rattle.dvi_write.specs.Draft.{definition_of}
 use Rattle.nest_core.specs.Machine.{Machine}
 use Rattle.job_core.specs.Jobs.{Seen, Holds}
 

@@ -2,11 +2,11 @@
 use Rattle.std.specs.Prelude.{◌≡◌, ℤ, pos, Option, Some}
 use Rattle.tfm_core.specs.FileWidths.{file_widths}
 use Rattle.node_core.specs.declared.tree.Glyph.{Glyph}
-use Rattle.node_core.specs.Items.{Leaf, glyph, font_kern, kern, glue, penalty, rule, EachLeaf}
+use Rattle.node_core.specs.Items.{Leaf, IfGlyph, EachLeaf}
 use Rattle.dvi_write.specs.declared.fonts.LoadedFont.{LoadedFont}
 use Rattle.dvi_write.specs.Fonts.{font_in}
 use Rattle.ship_core.specs.Marks.{Page}
-use Rattle.nest_core.specs.Machine.{State}
+use Rattle.nest_core.specs.State.{State}
 
 -- A glyph's slot has a font, whose name and size are those of widths that the font files give; and the glyph has its character's width.
 pub record HasFileWidth (s : State) (g : Glyph) : Type 0 where
@@ -18,13 +18,8 @@ pub record HasFileWidth (s : State) (g : Glyph) : Type 0 where
 
 -- A leaf that is a glyph has the width that the font files give its character.
 abbrev pub IsMeasured : State → Leaf → Type 0
-IsMeasured s (glyph g) = HasFileWidth s g
-IsMeasured s (font_kern width) = Unit {0}
-IsMeasured s (kern width) = Unit {0}
-IsMeasured s (glue g) = Unit {0}
-IsMeasured s (penalty p) = Unit {0}
-IsMeasured s (rule sizes) = Unit {0}
+IsMeasured s x = IfGlyph (HasFileWidth s) x
 
 -- Each glyph of a page, in its inner boxes too, has the width that the font files give its character.
 abbrev pub IsMeasuredPage : State → Page → Type 0
-IsMeasuredPage s page = EachLeaf (IsMeasured s) page.shown.list
+IsMeasuredPage s page = EachLeaf (IsMeasured s) page.box_node.list

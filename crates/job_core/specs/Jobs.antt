@@ -6,10 +6,14 @@ use Rattle.command_core.specs.declared.command.Refusal.{Refusal}
 use Rattle.command_core.specs.declared.command.Summary.{Summary}
 use Rattle.command_core.specs.Reply.{Reply}
 use Rattle.ship_core.specs.Marks.{Page, is_huge}
+use Rattle.ship_core.specs.Pages.{page_of}
 use Rattle.dvi_write.specs.Fonts.{Slots}
 use Rattle.state_core.specs.Sized.{IsSoundBox}
-use Rattle.dvi_write.specs.Draft.{Draft, draft_of, with_pages, page_of}
-use Rattle.nest_core.specs.Machine.{State, Machine, checks, first_of, state_by, new_pages}
+use Rattle.dvi_write.specs.Draft.{Draft, draft_of, with_pages}
+use Rattle.nest_core.specs.State.{State}
+use Rattle.nest_core.specs.Checks.{checks, first_of}
+use Rattle.nest_core.specs.Effects.{new_pages}
+use Rattle.nest_core.specs.Machine.{Machine, state_by}
 use Rattle.nest_core.specs.Runs.{Steps, Run, Finishes}
 
 -- What a job is seen as: its kept state, its draft of the file, and of its device the bytes that it tells and how often it failed.
@@ -25,7 +29,7 @@ draft_after s draft command = state_by (first_of (checks s command)) draft (with
 
 -- A page that a ship makes: it is that of its box, is not huge, and its glyphs, in inner boxes too, have the sizes that the fonts give.
 abbrev pub IsShipped : Slots → Page → Type 0
-IsShipped fonts page = (page ≡ page_of page.shown) × (is_huge page ≡ false) × IsSoundBox fonts page.shown
+IsShipped fonts page = (page ≡ page_of page.box_node) × (is_huge page ≡ false) × IsSoundBox fonts page.box_node
 
 -- A job stands for a machine: it keeps the machine's state, and until it is over the draft of its pages; no byte has gone out by then.
 pub record Holds (job : Seen) (m : Machine) : Type 0 where

@@ -1,7 +1,7 @@
 -- How the logic stores what a job is seen as (own; the model of `Job` alone, no public clause speaks of it).
 use Rattle.std.specs.Prelude.{ℕ, ℤ, List, Option, refl}
 use Rattle.std.specs.Coded.{Coded, code_by, coded×, coded_ℕ, coded_ℤ, coded_list, coded_option}
-use Rattle.nest_core.specs.Machine.{State}
+use Rattle.nest_core.specs.State.{State}
 use Rattle.dvi_write.specs.Draft.{Draft}
 use Rattle.state_core.specs.StateCode.{coded_state}
 use Rattle.job_core.specs.Jobs.{Seen}

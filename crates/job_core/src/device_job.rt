@@ -4,7 +4,8 @@ ghost use Rattle.std.specs.Prelude.{◌≡◌, ◌<◌, ◌+◌, ◌*◌, ◌^�
 ghost use Rattle.command_core.specs.declared.command.Command.TheVariants as commands;
 ghost use Rattle.command_core.specs.Reply.{Reply as AReply};
 ghost use Rattle.state_core.specs.Loaded.{GivesNumbersFor};
-ghost use Rattle.nest_core.specs.Machine.{Machine, first_machine, checks, first_of, reply_to, state_after};
+ghost use Rattle.nest_core.specs.Checks.{checks, first_of};
+ghost use Rattle.nest_core.specs.Machine.{Machine, first_machine, reply_to, state_after};
 ghost use Rattle.nest_core.specs.Runs.{TakesMemory, early_checks};
 ghost use Rattle.job_core.specs.Jobs.{draft_after, Holds, KeepsTo, RunsTo, FinishesTo};
 ghost use Rattle.job_core.specs.Shown.{FilesPages};
@@ -30,11 +31,14 @@ fn ship(kept: &mut Kept, writer: &mut Writer, register: Register) -> Result<Repl
     ensures err { OnErr result (kept.new ≡ kept.old) }
     ensures same { OnErr result (writer.new ≡ writer.old) }
 {
-    match kept.admitted(register) {
+    let nodes = match kept.box_to_ship(register) {
         Err(refusal) => return Ok(Err(refusal)),
-        Ok(shown) => writer.add_page(shown, kept.fonts())?,
-    }
-    let pages = kept.count_page(register);
+        Ok(found) => {
+            writer.add_page(found.box_node, kept.fonts())?;
+            found.nodes
+        }
+    };
+    let pages = kept.count_page(register, nodes);
     Ok(Ok(Answer::Shipped(pages)))
 }
 
@@ -64,7 +68,7 @@ fn obey(kept: &mut Kept, writer: &mut Writer, command: &Command) -> Result<Reply
         Command::Kern(width) => kept.append_item(Node::Kern(*width)),
         Command::Glue(glue) => kept.append_item(Node::Glue(*glue)),
         Command::Penalty(number) => kept.append_item(Node::Penalty(number.get())),
-        Command::Append(taken) => kept.append_box(taken),
+        Command::Append(taken) => kept.append_register_box(taken),
         Command::Unbox(taken) => kept.unbox(taken),
         Command::LastBox(register) => Ok(kept.last_box(*register)),
         Command::Measure(register) => Ok(kept.measure(*register)),

@@ -10,8 +10,11 @@ use Rattle.node_core.specs.declared.params.Params.{Params}
 use Rattle.command_core.specs.declared.command.Refusal.{Refusal}
 use Rattle.pack_core.specs.declared.pack.Packed as packs
 use Rattle.command_core.specs.declared.command.Command.TheVariants.{End}
-use Rattle.nest_core.specs.Machine.{State, checks, place_checks, packed_list, items_in, first_of, innermost, outer, held_in, list_with_box, with_box}
-use Rattle.nest_core.specs.EmptiedNest.{refilled, emptied}
+use Rattle.nest_core.specs.State.{State, innermost, outer, with_innermost, items_in, held_in}
+use Rattle.nest_core.specs.OpenLists.{register_of, packed_list}
+use Rattle.nest_core.specs.Checks.{checks, place_checks, first_of}
+use Rattle.nest_core.specs.Effects.{list_with_box, with_box}
+use Rattle.nest_core.specs.EmptiedNest.{refilled_nest, emptied_nest}
 
 module _ {A : Type 0} where
   some_same : (x y : A) → Some x ≡ Some y → x ≡ y
@@ -22,6 +25,11 @@ module _ {A : Type 0} where
   set_back [] i x y is = refl
   set_back (z ∷ xs) zero x y is = ap (λ first. first ∷ xs) (sym (some_same z x is))
   set_back (z ∷ xs) (suc i) x y is = ap (λ rest. z ∷ rest) (set_back xs i x y is)
+
+  pub set_same : (xs : List A) (i : ℕ) (x : A) → slice_get xs i ≡ Some x → set xs i x ≡ xs
+  set_same [] i x is = refl
+  set_same (y ∷ xs) zero x is = ap (λ first. first ∷ xs) (sym (some_same y x is))
+  set_same (y ∷ xs) (suc i) x is = ap (λ rest. y ∷ rest) (set_same xs i x is)
 
   pub get_set : (xs : List A) (i : ℕ) (x y : A) → slice_get xs i ≡ Some x → slice_get (set xs i y) i ≡ Some y
   get_set [] i x y is = cc
@@ -41,7 +49,7 @@ module _ {A : Type 0} where
   get_some (x ∷ xs) zero d below = refl
   get_some (x ∷ xs) (suc i) d below = get_some xs i d (omega (arith, below))
 
-  -- There is no last element: there is none.
+  -- A list without a last element is empty.
   pub none_last : (xs : List A) → slice_get xs (length xs - 1) ≡ None → (length xs == 0) ≡ true
   none_last [] is = refl
   none_last (x ∷ xs) is = absurd (no_end x xs (ap (slice_get (x ∷ xs)) (omega arith) ∙ is))
@@ -56,25 +64,29 @@ held_back [] r b is = refl
 held_back (held ∷ registers) zero b is = ap (λ first. first ∷ registers) (sym is)
 held_back (held ∷ registers) (suc r) b is = ap (λ rest. held ∷ rest) (held_back registers r b is)
 
--- A void register is void.
+-- A void register that is made void leaves the registers as they were.
 pub void_again : (registers : List (Option BoxNode)) (r : ℕ) → held_in registers r ≡ None → set registers r None ≡ registers
 void_again [] r is = refl
 void_again (held ∷ registers) zero is = ap (λ first. first ∷ registers) (sym is)
 void_again (held ∷ registers) (suc r) is = ap (λ rest. held ∷ rest) (void_again registers r is)
 
+-- The innermost list in its own place leaves the nest as it is.
+pub same_innermost : (nest : List OpenList) (l : OpenList) → innermost nest ≡ Some l → with_innermost nest l ≡ nest
+same_innermost nest l is = set_same nest (length nest - 1) l is
+
 -- The items of the innermost list are put back.
 pub refilled-emptied : (nest : List OpenList) (l : OpenList) → innermost nest ≡ Some l
-    → refilled (emptied nest (Some l)) l.list (innermost (emptied nest (Some l))) ≡ nest
+    → refilled_nest (emptied_nest nest (Some l)) l.list (innermost (emptied_nest nest (Some l))) ≡ nest
 refilled-emptied nest l is =
     let bare : OpenList = record l { list = none } in
     let last = length nest - 1 in
     let count : length (set nest last bare) ≡ length nest = length-set nest last bare in
-    let found : innermost (emptied nest (Some l)) ≡ Some bare = ap (λ n. slice_get (set nest last bare) (n - 1)) count ∙ get_set nest last l bare is in
-    ap (refilled (emptied nest (Some l)) l.list) found
+    let found : innermost (emptied_nest nest (Some l)) ≡ Some bare = ap (λ n. slice_get (set nest last bare) (n - 1)) count ∙ get_set nest last l bare is in
+    ap (refilled_nest (emptied_nest nest (Some l)) l.list) found
     ∙ (ap (λ n. set (set nest last bare) (n - 1) l) count ∙ set_back nest last l bare is)
 
 -- The lists around it stay as they are.
-pub outer-emptied : (nest : List OpenList) (l : OpenList) → outer (emptied nest (Some l)) ≡ outer nest
+pub outer-emptied : (nest : List OpenList) (l : OpenList) → outer (emptied_nest nest (Some l)) ≡ outer nest
 outer-emptied nest l =
     let bare : OpenList = record l { list = none } in
     let last = length nest - 1 in
@@ -93,7 +105,7 @@ closed_into params nest b l enough is =
     take-set-lt n nest (length nest - 2) changed (omega (arith, enough))
     ∙ (sym (ap (λ i. set (outer nest) i changed) place) ∙ sym (ap (with_box params (outer nest) (pos 0) b) found))
 
--- The same, as the steps of the code have it.
+-- The same of the steps by which `close_into` does it.
 pub closing_into : (params : Params) (nest : List OpenList) (b : BoxNode) (l changed : OpenList) (count : ℕ) (after : List OpenList)
     → count ≡ length nest → 2 ≤ length nest → l ≡ get_or nest (count - 2) l → changed ≡ list_with_box params (pos 0) b l
     → after ≡ take (length (set nest (count - 2) changed) - 1) (set nest (count - 2) changed)
@@ -104,7 +116,7 @@ closing_into params nest b l changed count after many enough is turned left =
     let same = length-set nest (length nest - 2) (list_with_box params (pos 0) b l) in
     cc (many, turned, left, closed, same)
 
--- A refusal that is found first is given, whatever checks follow.
+-- The first refusal of a job that is not over is also the first where more checks follow.
 pub first_refused : (over : Bool) (own more : List (Bool × Refusal)) (job refusal : Refusal) → over ≡ false → first_of own ≡ Some refusal
     → first_of ((over, job) ∷ (own ++ more)) ≡ Some refusal
 first_refused over own more job refusal running is = rw running (others own is)
@@ -115,21 +127,21 @@ first_refused over own more job refusal running is = rw running (others own is)
     others ((false, r) ∷ own) is = others own is
 
 -- The innermost list gets its own items back.
-pub put_back : (nest now : List OpenList) (items : Items) (l : OpenList) → innermost nest ≡ Some l → now ≡ emptied nest (innermost nest) → items ≡ items_in (innermost nest)
-    → refilled now items (innermost now) ≡ nest
+pub put_back : (nest now : List OpenList) (items : Items) (l : OpenList) → innermost nest ≡ Some l → now ≡ emptied_nest nest (innermost nest) → items ≡ items_in (innermost nest)
+    → refilled_nest now items (innermost now) ≡ nest
 put_back nest now items l is taken same =
-    let bare = taken ∙ ap (emptied nest) is in
+    let bare = taken ∙ ap (emptied_nest nest) is in
     let own = same ∙ ap items_in is in
-    ap (λ n. refilled n items (innermost n)) bare ∙ (ap (λ more. refilled (emptied nest (Some l)) more (innermost (emptied nest (Some l)))) own ∙ refilled-emptied nest l is)
+    ap (λ n. refilled_nest n items (innermost n)) bare ∙ (ap (λ more. refilled_nest (emptied_nest nest (Some l)) more (innermost (emptied_nest nest (Some l)))) own ∙ refilled-emptied nest l is)
 
 -- The end of a list is refused as its box is.
 pub end_refused : (s : State) (l : OpenList) (p : packs.Packed) (now : List OpenList) (found : Option Refusal) → s.over ≡ false → innermost s.nest ≡ Some l
-    → packed_list s.params (innermost s.nest) ≡ Some p → now ≡ emptied s.nest (innermost s.nest)
-    → found ≡ first_of (place_checks s.params (outer now) l.opening.into p.shown) → first_of (checks s End) ≡ found
+    → packed_list s.params (innermost s.nest) ≡ Some p → now ≡ emptied_nest s.nest (innermost s.nest)
+    → found ≡ first_of (place_checks s.params (outer now) (register_of l.purpose) p.box_node) → first_of (checks s End) ≡ found
 end_refused s l p now found running is packed taken asked =
-    let around = ap outer (taken ∙ ap (emptied s.nest) is) ∙ outer-emptied s.nest l in
+    let around = ap outer (taken ∙ ap (emptied_nest s.nest) is) ∙ outer-emptied s.nest l in
     let own = sym (ap (packed_list s.params) is) ∙ packed in
-    rw (running, is, own) (sym (asked ∙ ap (λ nest. first_of (place_checks s.params nest l.opening.into p.shown)) around))
+    rw (running, is, own) (sym (asked ∙ ap (λ nest. first_of (place_checks s.params nest (register_of l.purpose) p.box_node)) around))
 
 pub on_err : {A E : Type 0} {P : Type 0} (r : Result A E) → P → OnErr r P
 on_err (Ok x) p = tt

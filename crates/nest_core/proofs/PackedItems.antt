@@ -8,26 +8,31 @@ use Rattle.pack_core.specs.declared.pack.Packed as packs
 use Rattle.pack_core.specs.declared.pack.TooLarge.{TooLarge}
 use Rattle.pack_core.specs.Boxes.{hbox, hpacked, vbox, vpacked, vtop_box, vtopped}
 use Rattle.command_core.specs.declared.command.BoxForm.{BoxForm}
+use Rattle.nest_core.specs.declared.nest.ListPurpose.{ListPurpose}
+use Rattle.nest_core.specs.declared.nest.ListPurpose.TheVariants.{Box}
 use Rattle.command_core.specs.declared.command.BoxForm.TheVariants.{Hbox, Vbox, Vtop}
-use Rattle.nest_core.specs.Machine.{packed_as}
+use Rattle.nest_core.specs.OpenLists.{packed_as, packed_by}
 
 items_packed : (b : Bool) (p q : packs.Packed) (items : Items) → if◌then◌else◌ {A = Result packs.Packed TooLarge} b (Ok p) (Err (record { list = items })) ≡ Ok q → p ≡ q
 items_packed true p q items is = cc
 items_packed false p q items is = cc
 
-hpacked_items : (target : Target) (items : Items) (q : packs.Packed) → hpacked target items ≡ Ok q → items ≡ q.shown.list
+hpacked_items : (target : Target) (items : Items) (q : packs.Packed) → hpacked target items ≡ Ok q → items ≡ q.box_node.list
 unfolding hpacked hbox
-hpacked_items target items q is = ap (λ (p : packs.Packed). p.shown.list) (items_packed _ _ q items is)
+hpacked_items target items q is = ap (λ (p : packs.Packed). p.box_node.list) (items_packed _ _ q items is)
 
-vpacked_items : (target : Target) (limit : ℤ) (items : Items) (q : packs.Packed) → vpacked target limit items ≡ Ok q → items ≡ q.shown.list
+vpacked_items : (target : Target) (limit : ℤ) (items : Items) (q : packs.Packed) → vpacked target limit items ≡ Ok q → items ≡ q.box_node.list
 unfolding vpacked vbox
-vpacked_items target limit items q is = ap (λ (p : packs.Packed). p.shown.list) (items_packed _ _ q items is)
+vpacked_items target limit items q is = ap (λ (p : packs.Packed). p.box_node.list) (items_packed _ _ q items is)
 
-vtopped_items : (target : Target) (limit : ℤ) (items : Items) (q : packs.Packed) → vtopped target limit items ≡ Ok q → items ≡ q.shown.list
+vtopped_items : (target : Target) (limit : ℤ) (items : Items) (q : packs.Packed) → vtopped target limit items ≡ Ok q → items ≡ q.box_node.list
 unfolding vtopped vtop_box vbox
-vtopped_items target limit items q is = ap (λ (p : packs.Packed). p.shown.list) (items_packed _ _ q items is)
+vtopped_items target limit items q is = ap (λ (p : packs.Packed). p.box_node.list) (items_packed _ _ q items is)
 
-pub packed_items : (form : BoxForm) (params : Params) (target : Target) (items : Items) (q : packs.Packed) → packed_as form params target items ≡ Ok q → items ≡ q.shown.list
-packed_items Hbox params target items q is = hpacked_items target items q is
-packed_items Vbox params target items q is = vpacked_items target params.box_max_depth items q is
-packed_items Vtop params target items q is = vtopped_items target params.box_max_depth items q is
+packed_as_items : (form : BoxForm) (params : Params) (target : Target) (items : Items) (q : packs.Packed) → packed_as form params target items ≡ Ok q → items ≡ q.box_node.list
+packed_as_items Hbox params target items q is = hpacked_items target items q is
+packed_as_items Vbox params target items q is = vpacked_items target params.box_max_depth items q is
+packed_as_items Vtop params target items q is = vtopped_items target params.box_max_depth items q is
+
+pub packed_items : (purpose : ListPurpose) (params : Params) (items : Items) (q : packs.Packed) → packed_by purpose params items ≡ Ok q → items ≡ q.box_node.list
+packed_items (Box opening) params items q is = packed_as_items opening.form params opening.target items q is

@@ -1,4 +1,10 @@
+pub mod State
+pub mod OpenLists
+pub mod Checks
+pub mod Answers
+pub mod Effects
 pub mod Machine
 pub mod FontSlots
 pub mod Runs
 pub mod EmptiedNest
+pub mod Lending

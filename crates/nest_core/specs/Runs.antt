@@ -8,10 +8,13 @@ use Rattle.command_core.specs.declared.command.Summary.{Summary}
 use Rattle.command_core.specs.Reply.{Reply}
 use Rattle.tfm_core.specs.NamedBytes.{file_named}
 use Rattle.dvi_write.specs.Fonts.{font_in}
-use Rattle.nest_core.specs.Machine.{State, Machine, innermost, held_in, GoesIntoList, checks, character_checks, first_of, reply_to, step, stopped}
+use Rattle.nest_core.specs.State.{State, innermost, held_in}
+use Rattle.nest_core.specs.OpenLists.{GoesIntoList}
+use Rattle.nest_core.specs.Checks.{checks, character_checks, first_of}
+use Rattle.nest_core.specs.Machine.{Machine, reply_to, step, stopped_machine}
 
--- The commands for which memory may be wanted. The end of a list takes none where the box goes into a register, and what takes the box of a
--- register none where that is void.
+-- The commands for which memory may be wanted. The end of a list wants none where the box goes into a register; a command that takes the box
+-- of a register wants none where the register is void.
 abbrev pub TakesMemory : State → Command → Type 0
 TakesMemory m (LoadFont load) = Unit {0}
 TakesMemory m (UseFont slot) = ⊥
@@ -50,7 +53,7 @@ IsShip command = ⊥
 pub data Steps (m : Machine) (n : ℕ) (command : Command) (reply : Reply) (next : Machine) (k : ℕ) : Type 0 where
   Replies : reply ≡ reply_to m.state command → next ≡ step m command → k ≡ n → Steps m n command reply next k
   LacksMemory : reply ≡ Err OutOfMemory → TakesMemory m.state command → first_of (early_checks m.state command) ≡ None → next ≡ m → k ≡ n → Steps m n command reply next k
-  LosesDevice : reply ≡ Err Device → IsShip command → first_of (checks m.state command) ≡ None → next ≡ stopped m → n < k → Steps m n command reply next k
+  LosesDevice : reply ≡ Err Device → IsShip command → first_of (checks m.state command) ≡ None → next ≡ stopped_machine m → n < k → Steps m n command reply next k
 
 -- A machine takes the commands one after the other, one reply a command.
 abbrev pub Run : Machine → ℕ → List Command → List Reply → Machine → ℕ → Type 0
@@ -66,7 +69,7 @@ finish_checks m = (m.over, JobOver) ∷ (not (length m.nest == 0), ListsOpen) �
 
 -- The job is finished: with the number of pages; or refused; or memory was wanted, and it stays; or there are pages and the device failed.
 pub data Finishes (m : Machine) (n : ℕ) (result : Result Summary Refusal) (next : Machine) (k : ℕ) : Type 0 where
-  Finished : (summary : Summary) → result ≡ Ok summary → first_of (finish_checks m.state) ≡ None → summary.pages ≡ length m.pages → next ≡ stopped m → k ≡ n → Finishes m n result next k
+  Finished : (summary : Summary) → result ≡ Ok summary → first_of (finish_checks m.state) ≡ None → summary.pages ≡ length m.pages → next ≡ stopped_machine m → k ≡ n → Finishes m n result next k
   Refuses : (refusal : Refusal) → result ≡ Err refusal → first_of (finish_checks m.state) ≡ Some refusal → next ≡ m → k ≡ n → Finishes m n result next k
   WantsMemory : result ≡ Err OutOfMemory → first_of (finish_checks m.state) ≡ None → m.pages ≢ [] → next ≡ m → k ≡ n → Finishes m n result next k
-  LostDevice : result ≡ Err Device → first_of (finish_checks m.state) ≡ None → m.pages ≢ [] → next ≡ stopped m → n < k → Finishes m n result next k
+  LostDevice : result ≡ Err Device → first_of (finish_checks m.state) ≡ None → m.pages ≢ [] → next ≡ stopped_machine m → n < k → Finishes m n result next k

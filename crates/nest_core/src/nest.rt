@@ -4,10 +4,16 @@ ghost use Rattle.std.specs.Prelude.{◌≡◌, ◌<◌, ◌≤◌, ◌+◌, ◌-
 ghost use Rattle.node_core.specs.Items.{none};
 ghost use Rattle.node_core.specs.Nodes.{most_nodes, items_of, nodes_of, last_box};
 ghost use Rattle.vert_core.specs.Interline.{interline, glue_of, appended};
-ghost use Rattle.nest_core.specs.Machine.{opened, innermost, items_in, outer, with_nodes, with_rule, glue_in, box_items, list_with_box, with_box, without_last, packed_as, packed_list, box_checks, first_of};
-ghost use Rattle.nest_core.specs.EmptiedNest.{emptied, refilled};
+ghost use Rattle.nest_core.specs.State.{innermost, items_in, nodes_in, outer};
+ghost use Rattle.nest_core.specs.OpenLists.{kind_by, register_of, packed_by, opened_list, glue_in, box_items, packed_as, packed_list};
+ghost use Rattle.nest_core.specs.Checks.{box_checks, inner_checks, is_other, first_of};
+ghost use Rattle.nest_core.specs.Effects.{with_nodes, with_rule, list_with_box, with_box, without_last};
+ghost use Rattle.nest_core.specs.EmptiedNest.{emptied_nest, refilled_nest};
+ghost use Rattle.nest_core.specs.Lending.{LendsInnermost};
+ghost use Rattle.std.specs.Borrow.{sem};
 
-use command_core::{BoxForm, Opening, Refusal};
+use command_core::limits::{MOST_ITEMS, MOST_OPEN};
+use command_core::{BoxForm, Opening, Refusal, Register};
 use node_core::{BoxNode, Glue, Kind, Node, NodeList, Params, Rule};
 use pack_core::{Packed, Target, TooLarge, hpack, vpack, vtop};
 use scaled_core::Dimen;
@@ -16,12 +22,39 @@ use std::alloc::{AllocError, Global};
 use std::default::MadeWith;
 use std::marker::Model;
 use std::mem::replace;
-use vert_core::{DimensionTooLarge, append_box, interline_glue};
+use vert_core::{DimensionTooLarge, append_with_glue, interline_glue};
 
-/// An open list, how it was opened, and the depth of its last box: -1000pt or less where it counts as none.
+/// What a list was opened for.
+#[derive(Clone, Copy, Debug, PartialEq, Eq)]
+pub enum ListPurpose {
+    /// It becomes a box.
+    Box(Opening),
+}
+
+impl ListPurpose {
+    /// Which way the list goes.
+    pub fn kind(self) -> Kind
+        ensures { result ≡ kind_by self }
+    {
+        match self {
+            ListPurpose::Box(opening) => opening.form.kind(),
+        }
+    }
+
+    /// The register that the box of the list goes into; None where it goes into the enclosing list.
+    pub fn register(self) -> Option<Register>
+        ensures { result ≡ register_of self }
+    {
+        match self {
+            ListPurpose::Box(opening) => opening.into,
+        }
+    }
+}
+
+/// An open list, what it was opened for, and the depth of its last box: -1000pt or less where it counts as none.
 #[derive(Debug, Drop)]
 pub struct OpenList {
-    pub opening: Opening,
+    pub purpose: ListPurpose,
     pub list: NodeList,
     pub previous_depth: Dimen,
 }
@@ -29,27 +62,49 @@ pub struct OpenList {
 impl MadeWith<Global> for OpenList {
     fn made_with(alloc: Global) -> OpenList {
         OpenList {
-            opening: Opening {
+            purpose: ListPurpose::Box(Opening {
                 form: BoxForm::Hbox,
                 target: Target::Natural,
                 into: None,
-            },
+            }),
             list: NodeList::new(alloc),
             previous_depth: Dimen::IGNORE_DEPTH,
         }
     }
 }
 
-/// The box that a list becomes, or the list where a size does not fit.
-fn pack_as(opening: Opening, params: &Params, list: NodeList) -> Result<Packed, TooLarge>
-    ensures value { result ≡ packed_as opening.form params.now opening.target list }
+/// The box of that form and that size that a list becomes, or the list where a size does not fit.
+fn pack_as(
+    form: BoxForm,
+    target: Target,
+    params: &Params,
+    list: NodeList,
+) -> Result<Packed, TooLarge>
+    ensures value { result ≡ packed_as form params.now target list }
     ensures back { IfErr result (λ large. large.list ≡ list) }
 {
-    match opening.form {
-        BoxForm::Hbox => hpack(list, opening.target),
-        BoxForm::Vbox => vpack(list, opening.target, params.box_max_depth),
-        BoxForm::Vtop => vtop(list, opening.target, params.box_max_depth),
+    match form {
+        BoxForm::Hbox => hpack(list, target),
+        BoxForm::Vbox => vpack(list, target, params.box_max_depth),
+        BoxForm::Vtop => vtop(list, target, params.box_max_depth),
     }
+}
+
+/// The box that a list becomes, or the list where a size does not fit.
+fn pack_for(purpose: ListPurpose, params: &Params, list: NodeList) -> Result<Packed, TooLarge>
+    ensures value { result ≡ packed_by purpose params.now list }
+    ensures back { IfErr result (λ large. large.list ≡ list) }
+{
+    match purpose {
+        ListPurpose::Box(opening) => pack_as(opening.form, opening.target, params, list),
+    }
+}
+
+/// Whether two kinds are not the same.
+fn is_other(a: Kind, b: Kind) -> bool
+    ensures { result ≡ is_other a b }
+{
+    a != b
 }
 
 impl OpenList {
@@ -58,10 +113,10 @@ impl OpenList {
         ensures value { result ≡ packed_list params.now (Some self.old) }
         ensures some { IfSome result (λ packed. self.new ≡ record self.old { list = none }) }
         ensures none { result ≡ None → self.new ≡ self.old }
-        ensures list { IfSome result (λ packed. packed.shown.list ≡ self.old.list) }
+        ensures list { IfSome result (λ packed. packed.box_node.list ≡ self.old.list) }
     {
         let list = replace(&mut self.list, NodeList::new(alloc));
-        match pack_as(self.opening, params, list) {
+        match pack_for(self.purpose, params, list) {
             Ok(packed) => Some(packed),
             Err(large) => {
                 self.list = large.list;
@@ -74,38 +129,63 @@ impl OpenList {
     fn glue_before(&self, height: Dimen, params: &Params) -> Result<Option<Glue>, DimensionTooLarge>
         ensures { result ≡ glue_in params.now self.now height }
     {
-        match self.opening.form.kind() {
+        match self.purpose.kind() {
             Kind::Horizontal => Ok(None),
             Kind::Vertical => interline_glue(self.previous_depth, height, params),
         }
     }
 
     /// How many items a box brings to the list, or why it may not stand at its end.
-    pub fn room_for_box(&self, shown: &BoxNode, params: &Params) -> Result<usize, Refusal>
-        ensures ok { OnOk result (first_of (box_checks params.now (Some self.now) shown.now) ≡ None) }
-        ensures count { IfOk result (λ count. count ≡ length (box_items params.now self.now (pos 0) shown.now)) }
-        ensures err { IfErr result (λ refusal. first_of (box_checks params.now (Some self.now) shown.now) ≡ Some refusal) }
+    pub fn room_for_box(&self, box_node: &BoxNode, params: &Params) -> Result<usize, Refusal>
+        ensures ok { OnOk result (first_of (box_checks params.now (Some self.now) box_node.now) ≡ None) }
+        ensures count { IfOk result (λ count. count ≡ length (box_items params.now self.now (pos 0) box_node.now)) }
+        ensures err { IfErr result (λ refusal. first_of (box_checks params.now (Some self.now) box_node.now) ≡ Some refusal) }
     {
-        let count = match self.glue_before(shown.height, params) {
+        let count = match self.glue_before(box_node.height, params) {
             Err(_) => return Err(Refusal::DimensionTooLarge),
             Ok(None) => 1,
             Ok(Some(_)) => 2,
         };
-        if self.list.len() + count > 65536 {
+        if self.list.len() + count > MOST_ITEMS {
             return Err(Refusal::ListTooLong);
         }
         Ok(count)
     }
 
-    /// Puts a box at the end of a horizontal list.
-    fn append_across(&mut self, shown: BoxNode, shift: Dimen) -> Result<(), BoxNode>
-        requires { length (nodes_of self.old.list) < most_nodes }
-        ensures ok { OnOk result (self.new ≡ record self.old { list = items_of (nodes_of self.old.list ++ appended None shift shown); previous_depth = shown.depth }) }
-        ensures err { OnErr result (self.new ≡ self.old) }
-        ensures back { IfErr result (λ back. back ≡ shown) }
+    /// How many items the box of a register brings to the list without the box itself, or why they may not stand at its end. A void register
+    /// brings none.
+    pub fn room_for_items(&self, kind: Kind, held: Option<&BoxNode>) -> Result<usize, Refusal>
+        ensures ok { OnOk result (first_of (inner_checks kind (Some self.now) (option_copied held.entry)) ≡ None) }
+        ensures count { IfOk result (λ count. count ≡ length (nodes_in (option_copied held.entry))) }
+        ensures err { IfErr result (λ refusal. first_of (inner_checks kind (Some self.now) (option_copied held.entry)) ≡ Some refusal) }
+        ensures short { IfOk result (λ count. length (nodes_of self.now.list) + count ≤ most_nodes) }
     {
-        let depth = shown.depth;
-        self.list.push_box(shift, shown)?;
+        let length = self.list.len();
+        if is_other(kind, self.purpose.kind()) {
+            return Err(Refusal::WrongMode);
+        }
+        let Some(box_node) = held else {
+            return Ok(0);
+        };
+        if is_other(kind, box_node.kind) {
+            return Err(Refusal::WrongKind);
+        }
+        let items = box_node.list.len();
+        if length + items > MOST_ITEMS {
+            return Err(Refusal::ListTooLong);
+        }
+        Ok(items)
+    }
+
+    /// Puts a box at the end of a horizontal list.
+    fn append_across(&mut self, box_node: BoxNode, shift: Dimen) -> Result<(), BoxNode>
+        requires { length (nodes_of self.old.list) < most_nodes }
+        ensures ok { OnOk result (self.new ≡ record self.old { list = items_of (nodes_of self.old.list ++ appended None shift box_node); previous_depth = box_node.depth }) }
+        ensures err { OnErr result (self.new ≡ self.old) }
+        ensures back { IfErr result (λ back. back ≡ box_node) }
+    {
+        let depth = box_node.depth;
+        self.list.push_box(shift, box_node)?;
         self.previous_depth = depth;
         Ok(())
     }
@@ -113,50 +193,45 @@ impl OpenList {
     /// Puts a box at the end of a vertical list, with the glue in front of it.
     fn append_down(
         &mut self,
-        alloc: Global,
-        shown: BoxNode,
+        box_node: BoxNode,
         shift: Dimen,
         params: &Params,
     ) -> Result<(), BoxNode>
         requires short { length (nodes_of self.old.list) + 2 ≤ most_nodes }
-        requires fits { IsOk (interline params.now self.old.previous_depth shown.height) }
-        ensures ok { OnOk result (self.new ≡ record self.old { list = items_of (nodes_of self.old.list ++ appended (glue_of (interline params.now self.old.previous_depth shown.height)) shift shown); previous_depth = shown.depth }) }
+        requires fits { IsOk (interline params.now self.old.previous_depth box_node.height) }
+        ensures ok { OnOk result (self.new ≡ record self.old { list = items_of (nodes_of self.old.list ++ appended (glue_of (interline params.now self.old.previous_depth box_node.height)) shift box_node); previous_depth = box_node.depth }) }
         ensures err { OnErr result (self.new ≡ self.old) }
-        ensures back { IfErr result (λ back. back ≡ shown) }
+        ensures back { IfErr result (λ back. back ≡ box_node) }
     {
-        let mut nodes = replace(&mut self.list, NodeList::new(alloc)).into_vec();
-        let result = append_box(&mut nodes, shown, shift, self.previous_depth, params);
-        self.list = NodeList::from_vec(nodes);
-        match result {
-            Ok(depth) => {
-                self.previous_depth = depth;
-                Ok(())
-            }
-            Err(unappended) => Err(unappended.shown),
-        }
+        let depth = box_node.depth;
+        let Ok(glue) = interline_glue(self.previous_depth, box_node.height, params) else {
+            return Err(box_node);
+        };
+        append_with_glue(&mut self.list, glue, shift, box_node)?;
+        self.previous_depth = depth;
+        Ok(())
     }
 
-    /// Puts a box at the end of the list; where memory is refused, it comes back, and the list is as it was.
-    pub fn append_box(
+    /// Puts a box at the end of the list, with the glue in front of it; where memory is refused, it comes back, and the list is as it was.
+    pub fn append_with_glue(
         &mut self,
-        alloc: Global,
-        shown: BoxNode,
+        box_node: BoxNode,
         shift: Dimen,
         params: &Params,
     ) -> Result<(), BoxNode>
-        requires { first_of (box_checks params.now (Some self.old) shown) ≡ None }
-        ensures ok { OnOk result (self.new ≡ list_with_box params.now shift shown self.old) }
+        requires { first_of (box_checks params.now (Some self.old) box_node) ≡ None }
+        ensures ok { OnOk result (self.new ≡ list_with_box params.now shift box_node self.old) }
         ensures err { OnErr result (self.new ≡ self.old) }
-        ensures back { IfErr result (λ back. back ≡ shown) }
+        ensures back { IfErr result (λ back. back ≡ box_node) }
     {
-        match self.opening.form.kind() {
-            Kind::Horizontal => self.append_across(shown, shift),
-            Kind::Vertical => self.append_down(alloc, shown, shift, params),
+        match self.purpose.kind() {
+            Kind::Horizontal => self.append_across(box_node, shift),
+            Kind::Vertical => self.append_down(box_node, shift, params),
         }
     }
 }
 
-/// The open lists, the outermost first: at most 64.
+/// The open lists, the outermost first: at most `MOST_OPEN`.
 #[derive(Debug, Drop)]
 pub struct Nest {
     lists: SmallVec<OpenList, 4>,
@@ -167,6 +242,7 @@ impl Model for Nest {
     ghost use Rattle.std.specs.Coded.{coded_list};
     ghost use Rattle.nest_core.specs.declared.nest.OpenList.{OpenList};
     ghost use Rattle.nest_core.specs.contracts.nest.OpenList as open_list;
+    ghost use Rattle.command_core.specs.declared.limits.TheConstants.{MOST_OPEN};
 
     ghost Value = { List OpenList };
 
@@ -174,7 +250,7 @@ impl Model for Nest {
 
     ghost view = { λ nest. nest.lists.items };
 
-    ghost invariant = { λ nest. length nest.lists.items ≤ 64 };
+    ghost invariant = { λ nest. length nest.lists.items ≤ MOST_OPEN };
 }
 
 impl Nest {
@@ -190,7 +266,7 @@ impl Nest {
     /// How many lists are open.
     pub fn len(&self) -> usize
         ensures value { result ≡ length self.now }
-        ensures few { length self.now ≤ 64 }
+        ensures few { length self.now ≤ MOST_OPEN }
     {
         self.lists.len()
     }
@@ -200,6 +276,16 @@ impl Nest {
         ensures { option_copied result ≡ innermost self.now }
     {
         self.lists.last()
+    }
+
+    /// The innermost open list, to be changed.
+    fn innermost_mut(&mut self) -> Option<&mut OpenList>
+        ensures* writes_back { sem 𝓛 (LendsInnermost self.entry result) }
+        ensures some { IfSome result (λ lent. innermost self.old ≡ Some lent.now) }
+        ensures none { result ≡ None → innermost self.old ≡ None }
+    {
+        let last = self.lists.len().saturating_sub(1);
+        self.lists.get_mut(last)
     }
 
     /// How many items the innermost open list has: 0 where none is open.
@@ -214,13 +300,13 @@ impl Nest {
 
     /// Opens a list without nodes inside the others.
     pub fn begin(&mut self, opening: Opening) -> Result<(), AllocError>
-        requires { length self.old < 64 }
-        ensures ok { OnOk result (self.new ≡ self.old ++ opened opening ∷ []) }
+        requires { length self.old < MOST_OPEN }
+        ensures ok { OnOk result (self.new ≡ self.old ++ opened_list opening ∷ []) }
         ensures err { OnErr result (self.new ≡ self.old) }
     {
         let list = NodeList::new(*self.lists.allocator());
         self.lists.push(OpenList {
-            opening,
+            purpose: ListPurpose::Box(opening),
             list,
             previous_depth: Dimen::IGNORE_DEPTH,
         })?;
@@ -228,13 +314,13 @@ impl Nest {
     }
 
     /// Puts a node at the end of the innermost list.
+    #[tactic(auto, using(crate::proofs::Nests::same_innermost))]
     pub fn append(&mut self, node: Node) -> Result<(), AllocError>
         requires { length (nodes_of (items_in (innermost self.old))) < most_nodes }
         ensures ok { OnOk result (self.new ≡ with_nodes self.old (node ∷ []) (innermost self.old)) }
         ensures err { OnErr result (self.new ≡ self.old) }
     {
-        let last = self.lists.len().saturating_sub(1);
-        let Some(innermost) = self.lists.get_mut(last) else {
+        let Some(innermost) = self.innermost_mut() else {
             return Ok(());
         };
         match innermost.list.push(node) {
@@ -244,26 +330,26 @@ impl Nest {
     }
 
     /// Puts nodes at the end of the innermost list, in order.
+    #[tactic(auto, using(crate::proofs::Nests::same_innermost))]
     pub fn extend(&mut self, nodes: Vec<Node>) -> Result<(), AllocError>
         requires { length (nodes_of (items_in (innermost self.old))) + length nodes.items ≤ most_nodes }
         ensures ok { OnOk result (self.new ≡ with_nodes self.old nodes.items (innermost self.old)) }
         ensures err { OnErr result (self.new ≡ self.old) }
     {
-        let last = self.lists.len().saturating_sub(1);
-        let Some(innermost) = self.lists.get_mut(last) else {
+        let Some(innermost) = self.innermost_mut() else {
             return Ok(());
         };
         innermost.list.extend(nodes)
     }
 
     /// Puts a rule at the end of the innermost list, whose previous depth is then ignored.
+    #[tactic(auto, using(crate::proofs::Nests::same_innermost))]
     pub fn append_rule(&mut self, rule: Rule) -> Result<(), AllocError>
         requires { length (nodes_of (items_in (innermost self.old))) < most_nodes }
         ensures ok { OnOk result (self.new ≡ with_rule self.old rule (innermost self.old)) }
         ensures err { OnErr result (self.new ≡ self.old) }
     {
-        let last = self.lists.len().saturating_sub(1);
-        let Some(innermost) = self.lists.get_mut(last) else {
+        let Some(innermost) = self.innermost_mut() else {
             return Ok(());
         };
         match innermost.list.push(Node::Rule(rule)) {
@@ -277,37 +363,36 @@ impl Nest {
 
     /// Puts the nodes of another list, which is then empty, at the end of the innermost list, in order. Where memory is refused, both are as
     /// they were.
+    #[tactic(auto, using(crate::proofs::Nests::same_innermost))]
     pub fn append_list(&mut self, list: &mut NodeList) -> Result<(), AllocError>
         requires { length (nodes_of (items_in (innermost self.old))) + length (nodes_of list.old) ≤ most_nodes }
         ensures ok { OnOk result (self.new ≡ with_nodes self.old (nodes_of list.old) (innermost self.old)) }
         ensures err { OnErr result (self.new ≡ self.old) }
         ensures back { OnErr result (list.new ≡ list.old) }
     {
-        let last = self.lists.len().saturating_sub(1);
-        let Some(innermost) = self.lists.get_mut(last) else {
+        let Some(innermost) = self.innermost_mut() else {
             return Ok(());
         };
         innermost.list.append(list)
     }
 
     /// Puts a box at the end of the innermost list; where memory is refused, it comes back.
-    pub fn append_box(
+    #[tactic(auto, using(crate::proofs::Nests::same_innermost))]
+    pub fn append_to_innermost(
         &mut self,
-        shown: BoxNode,
+        box_node: BoxNode,
         shift: Dimen,
         params: &Params,
     ) -> Result<(), BoxNode>
-        requires { first_of (box_checks params.now (innermost self.old) shown) ≡ None }
-        ensures ok { OnOk result (self.new ≡ with_box params.now self.old shift shown (innermost self.old)) }
+        requires { first_of (box_checks params.now (innermost self.old) box_node) ≡ None }
+        ensures ok { OnOk result (self.new ≡ with_box params.now self.old shift box_node (innermost self.old)) }
         ensures err { OnErr result (self.new ≡ self.old) }
-        ensures back { IfErr result (λ back. back ≡ shown) }
+        ensures back { IfErr result (λ back. back ≡ box_node) }
     {
-        let alloc = *self.lists.allocator();
-        let last = self.lists.len().saturating_sub(1);
-        let Some(innermost) = self.lists.get_mut(last) else {
-            return Err(shown);
+        let Some(innermost) = self.innermost_mut() else {
+            return Err(box_node);
         };
-        innermost.append_box(alloc, shown, shift, params)
+        innermost.append_with_glue(box_node, shift, params)
     }
 
     /// Takes the last item of the innermost list away, if it is a box.
@@ -315,8 +400,7 @@ impl Nest {
         ensures value { result ≡ last_box (nodes_of (items_in (innermost self.old))) }
         ensures rest { self.new ≡ without_last self.old (innermost self.old) }
     {
-        let last = self.lists.len().saturating_sub(1);
-        let Some(innermost) = self.lists.get_mut(last) else {
+        let Some(innermost) = self.innermost_mut() else {
             return None;
         };
         innermost.list.pop_box()
@@ -324,15 +408,15 @@ impl Nest {
 
     /// The box of the innermost list, which is then empty; None where there is no list or a size does not fit, and the lists stay as they
     /// were.
+    #[tactic(auto, using(crate::proofs::Nests::same_innermost))]
     pub fn pack(&mut self, params: &Params) -> Option<Packed>
         ensures value { result ≡ packed_list params.now (innermost self.old) }
-        ensures some { IfSome result (λ packed. self.new ≡ emptied self.old (innermost self.old)) }
+        ensures some { IfSome result (λ packed. self.new ≡ emptied_nest self.old (innermost self.old)) }
         ensures none { result ≡ None → self.new ≡ self.old }
-        ensures list { IfSome result (λ packed. packed.shown.list ≡ items_in (innermost self.old)) }
+        ensures list { IfSome result (λ packed. packed.box_node.list ≡ items_in (innermost self.old)) }
     {
         let alloc = *self.lists.allocator();
-        let last = self.lists.len().saturating_sub(1);
-        let Some(innermost) = self.lists.get_mut(last) else {
+        let Some(innermost) = self.innermost_mut() else {
             return None;
         };
         innermost.pack(alloc, params)
@@ -340,10 +424,9 @@ impl Nest {
 
     /// Gives the innermost list these items.
     pub fn refill(&mut self, list: NodeList)
-        ensures { self.new ≡ refilled self.old list (innermost self.old) }
+        ensures { self.new ≡ refilled_nest self.old list (innermost self.old) }
     {
-        let last = self.lists.len().saturating_sub(1);
-        let Some(innermost) = self.lists.get_mut(last) else {
+        let Some(innermost) = self.innermost_mut() else {
             return;
         };
         innermost.list = list;
@@ -368,21 +451,20 @@ impl Nest {
     }
 
     /// Puts a box at the end of the list around the innermost one, and takes that one away; where memory is refused, the box comes back.
-    pub fn close_into(&mut self, shown: BoxNode, params: &Params) -> Result<(), BoxNode>
-        requires { first_of (box_checks params.now (innermost (outer self.old)) shown) ≡ None }
-        ensures ok { OnOk result (self.new ≡ with_box params.now (outer self.old) (pos 0) shown (innermost (outer self.old))) }
+    pub fn close_into(&mut self, box_node: BoxNode, params: &Params) -> Result<(), BoxNode>
+        requires { first_of (box_checks params.now (innermost (outer self.old)) box_node) ≡ None }
+        ensures ok { OnOk result (self.new ≡ with_box params.now (outer self.old) (pos 0) box_node (innermost (outer self.old))) }
         ensures err { OnErr result (self.new ≡ self.old) }
-        ensures back { IfErr result (λ back. back ≡ shown) }
+        ensures back { IfErr result (λ back. back ≡ box_node) }
     {
-        let alloc = *self.lists.allocator();
         let count = self.lists.len();
         if count < 2 {
-            return Err(shown);
+            return Err(box_node);
         }
         let Some(around) = self.lists.get_mut(count - 2) else {
-            return Err(shown);
+            return Err(box_node);
         };
-        around.append_box(alloc, shown, Dimen::ZERO, params)?;
+        around.append_with_glue(box_node, Dimen::ZERO, params)?;
         let _ = self.lists.pop();
         Ok(())
     }

@@ -1,9 +1,10 @@
 //! The box registers of a job.
 
 ghost use Rattle.std.specs.Prelude.{◌≡◌, ◌<◌, List, Option, None, IfOk, option_copied, replicate, slice_set};
-ghost use Rattle.nest_core.specs.Machine.{held_in};
+ghost use Rattle.nest_core.specs.State.{held_in};
 
 use command_core::Register;
+use command_core::limits::REGISTERS;
 use node_core::BoxNode;
 use std::alloc::{AllocError, Global};
 use std::marker::Model;
@@ -19,6 +20,7 @@ impl Model for Registers {
     ghost use Rattle.std.specs.Coded.{coded_list, coded_option};
     ghost use Rattle.node_core.specs.declared.tree.BoxNode.{BoxNode};
     ghost use Rattle.node_core.specs.contracts.tree.BoxNode as box_node;
+    ghost use Rattle.command_core.specs.declared.limits.TheConstants.{REGISTERS};
 
     ghost Value = { List (Option BoxNode) };
 
@@ -26,16 +28,16 @@ impl Model for Registers {
 
     ghost view = { λ registers. registers.boxes.items };
 
-    ghost invariant = { λ registers. length registers.boxes.items ≡ 256 };
+    ghost invariant = { λ registers. length registers.boxes.items ≡ REGISTERS };
 }
 
 impl Registers {
     /// All registers are void.
     pub fn new(alloc: Global) -> Result<Registers, AllocError>
-        ensures { IfOk result (λ registers. registers ≡ replicate 256 None) }
+        ensures { IfOk result (λ registers. registers ≡ replicate REGISTERS None) }
     {
-        let mut boxes = Vec::with_capacity(alloc, 256)?;
-        for _ in 0..256usize {
+        let mut boxes = Vec::with_capacity(alloc, REGISTERS)?;
+        for _ in 0..REGISTERS {
             boxes.push(None)?;
         }
         Ok(Registers { boxes })

@@ -46,3 +46,16 @@ abbrev pub EachLeaf : (Leaf → Type 0) → Items → Type 0
 EachLeaf P none = Unit {0}
 EachLeaf P (leaf x rest) = P x × EachLeaf P rest
 EachLeaf P (box shift frame inner rest) = EachLeaf P inner × EachLeaf P rest
+
+-- A leaf that is a glyph has a property (own).
+abbrev pub IfGlyph : (Glyph → Type 0) → Leaf → Type 0
+IfGlyph P (glyph g) = P g
+IfGlyph P (font_kern width) = Unit {0}
+IfGlyph P (kern width) = Unit {0}
+IfGlyph P (glue g) = Unit {0}
+IfGlyph P (penalty p) = Unit {0}
+IfGlyph P (rule sizes) = Unit {0}
+
+-- Each glyph of a list has a property, those of its boxes too (own).
+abbrev pub EachGlyph : (Glyph → Type 0) → Items → Type 0
+EachGlyph P items = EachLeaf (IfGlyph P) items

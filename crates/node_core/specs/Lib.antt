@@ -1,6 +1,7 @@
--- The trees that contracts see, how the logic stores them, and the nodes that they are.
+-- The trees that contracts see, how the logic stores them, the nodes that they are, and the classes of these.
 pub mod Items
 pub mod Codes
 pub mod Nodes
 pub mod Falls
+pub mod Classes
 pub mod Parameters

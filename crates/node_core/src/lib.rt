@@ -3,9 +3,11 @@
 //! A copy of a list or a box is an equal tree. Sizes are dimensions: whole numbers of scaled points.
 #![tactic(auto)]
 
+pub mod class;
 pub mod params;
 pub mod tree;
 
+pub use class::ItemClass;
 pub use params::{Number, Params};
 pub use tree::{
     BoxNode, Glue, Glyph, Kind, Node, NodeList, Order, Rule, RuleSize, Setting, push_box,

@@ -3,7 +3,7 @@
 //! A list is seen as its items, a tree without pointers and capacities; so two lists, nodes or boxes are equal in a clause exactly where they are
 //! the same tree. `nodes_of` gives the nodes of a list in order.
 
-ghost use Rattle.std.specs.Prelude.{◌≡◌, ◌==◌, ◌<◌, ◌≤◌, ◌+◌, [], ◌∷◌, ◌++◌, length, OnOk, OnErr, IfOk, IfErr, min, max};
+ghost use Rattle.std.specs.Prelude.{◌≡◌, ◌==◌, ◌<◌, ◌≤◌, ◌+◌, [], ◌∷◌, ◌++◌, length, take, OnOk, OnErr, IfOk, IfErr, min, max};
 ghost use Rattle.node_core.specs.Items.{Items, none, items_depth, items_count};
 ghost use Rattle.node_core.specs.Nodes.{most_nodes, items_of, nodes_of, box_depth, box_count, last_box, without};
 
@@ -217,13 +217,13 @@ impl NodeList {
 
     /// Puts a box behind the others, which are fewer than 131,072. A refused growth hands it back and leaves the list as it was.
     #[tactic(auto, using(crate::proofs::NodeLemmas::nodes))]
-    pub fn push_box(&mut self, shift: Dimen, shown: BoxNode) -> Result<(), BoxNode>
+    pub fn push_box(&mut self, shift: Dimen, box_node: BoxNode) -> Result<(), BoxNode>
         requires short { length (nodes_of self.old) < most_nodes }
-        ensures ok { OnOk result (self.new ≡ items_of (nodes_of self.old ++ Node.Box shift shown ∷ [])) }
+        ensures ok { OnOk result (self.new ≡ items_of (nodes_of self.old ++ Node.Box shift box_node ∷ [])) }
         ensures err { OnErr result (self.new ≡ self.old) }
-        ensures back { IfErr result (λ back. back ≡ shown) }
+        ensures back { IfErr result (λ back. back ≡ box_node) }
     {
-        push_box(&mut self.nodes, shift, shown)
+        push_box(&mut self.nodes, shift, box_node)
     }
 
     /// Puts nodes behind the others, in order; together they are at most 131,072. A refused growth leaves the list as it was.
@@ -250,6 +250,14 @@ impl NodeList {
         self.nodes.append(&mut other.nodes)
     }
 
+    /// Keeps the first nodes, at most so many, and drops the others.
+    #[tactic(auto, using(crate::proofs::NodeLemmas::nodes))]
+    pub fn truncate(&mut self, count: usize)
+        ensures { self.new ≡ items_of (take count (nodes_of self.old)) }
+    {
+        self.nodes.truncate(count);
+    }
+
     /// Takes the last node away, if it is a box; its shift is dropped.
     #[tactic(auto, using(crate::proofs::NodeLemmas::nodes))]
     pub fn pop_box(&mut self) -> Option<BoxNode>
@@ -259,7 +267,7 @@ impl NodeList {
     {
         match self.nodes.last() {
             Some(Node::Box(..)) => match self.nodes.pop() {
-                Some(Node::Box(_, shown)) => Some(shown),
+                Some(Node::Box(_, box_node)) => Some(box_node),
                 _ => unreachable!(),
             },
             _ => None,
@@ -310,15 +318,15 @@ impl NodeList {
 }
 
 /// Puts a box behind nodes. A refused growth hands it back and leaves the nodes as they were.
-pub fn push_box(nodes: &mut Vec<Node>, shift: Dimen, shown: BoxNode) -> Result<(), BoxNode>
-    ensures ok { OnOk result (nodes.new.items ≡ nodes.old.items ++ Node.Box shift shown ∷ []) }
+pub fn push_box(nodes: &mut Vec<Node>, shift: Dimen, box_node: BoxNode) -> Result<(), BoxNode>
+    ensures ok { OnOk result (nodes.new.items ≡ nodes.old.items ++ Node.Box shift box_node ∷ []) }
     ensures err { OnErr result (nodes.new.items ≡ nodes.old.items) }
-    ensures back { IfErr result (λ back. back ≡ shown) }
+    ensures back { IfErr result (λ back. back ≡ box_node) }
 {
-    match nodes.push(Node::Box(shift, shown)) {
+    match nodes.push(Node::Box(shift, box_node)) {
         Ok(()) => Ok(()),
         Err(failed) => match failed.value {
-            Node::Box(_, shown) => Err(shown),
+            Node::Box(_, box_node) => Err(box_node),
             _ => unreachable!(),
         },
     }
@@ -344,7 +352,7 @@ impl Node {
             Node::Glue(glue) => Node::Glue(*glue),
             Node::Penalty(penalty) => Node::Penalty(*penalty),
             Node::Rule(rule) => Node::Rule(*rule),
-            Node::Box(shift, shown) => Node::Box(*shift, shown.copy(alloc)?),
+            Node::Box(shift, box_node) => Node::Box(*shift, box_node.copy(alloc)?),
         })
     }
 }

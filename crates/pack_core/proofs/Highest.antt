@@ -3,8 +3,7 @@ use Rattle.std.proofs.Common.{◌≡◌, ◌≢◌, ◌↔◌, ℤ, pos, ◌<◌
 use Rattle.std.specs.Prelude.{Option, Some, None, if◌then◌else◌}
 use Rattle.node_core.specs.declared.tree.Order.{Order}
 use Rattle.node_core.specs.declared.tree.Order.TheVariants.{Normal, Fil, Fill, Filll}
-use Rattle.pack_core.specs.Glue.{is_zero, highest}
-use Rattle.pack_core.specs.Laws.{rank, IsHighest}
+use Rattle.pack_core.specs.Glue.{is_zero, rank, IsHighest, highest}
 use Rattle.pack_core.proofs.Edge.{is_zero-true, is_zero-false}
 
 at-filll : (totals : Order → ℤ) → totals Filll ≢ pos 0 → IsHighest totals Filll
@@ -54,7 +53,7 @@ at-normal totals filll fill fil h = record {
 pick : Bool → Bool → Bool → Bool → Option Order
 pick a b c d = if a then (if b then (if c then (if d then None else Some Normal) else Some Fil) else Some Fill) else Some Filll
 
--- What is picked is the highest.
+-- The order that the four tests pick out is the highest with a total.
 picked :
     (totals : Order → ℤ) (order : Order) (a b c d : Bool)
     → is_zero (totals Filll) ≡ a → is_zero (totals Fill) ≡ b → is_zero (totals Fil) ≡ c → is_zero (totals Normal) ≡ d
@@ -77,7 +76,7 @@ not-zero z h = elim (is_zero z) as (λ (b : Bool). is_zero z ≡ b → is_zero z
 zero-is : (z : ℤ) → z ≡ pos 0 → is_zero z ≡ true
 zero-is z h = rw h refl
 
--- The highest is picked.
+-- The four tests pick out the highest order with a total.
 found-at : (totals : Order → ℤ) (order : Order) → IsHighest totals order → highest totals ≡ Some order
 unfolding highest
 found-at totals Filll h = rw (not-zero (totals Filll) h.not_zero) refl

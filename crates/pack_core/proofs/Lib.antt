@@ -1,5 +1,6 @@
 -- Lemmas on sums, greatest sizes and the setting of glue.
 pub mod Sums
+pub mod Passing
 pub mod Steps
 pub mod Walks
 pub mod Edge

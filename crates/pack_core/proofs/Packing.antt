@@ -1,4 +1,4 @@
--- What a packed list is, by its equation.
+-- The clauses of a packed list follow from what it is packed to.
 use Rattle.std.proofs.Common.{◌≡◌, ◌≢◌, ℤ, length, take, Bool, true, false, refl, arith}
 use Rattle.std.specs.Prelude.{◌+ℤ◌, Ok, Err, IfOk, IfErr, if◌then◌else◌}
 use Rattle.std.specs.Result.{is_ok}
@@ -20,33 +20,33 @@ use Rattle.pack_core.specs.Totals.{total, first_height}
 use Rattle.pack_core.specs.Glue.{setting_of, setting_badness}
 use Rattle.pack_core.specs.Boxes.{hbox, hbox_excess, hbox_badness, hbox_numbers, hpacked, vbox, vbox_excess, vbox_badness, vbox_numbers, vpacked, vtop_box, vtop_numbers, vtopped}
 use Rattle.pack_core.specs.Places.{place, place_in}
-use Rattle.pack_core.specs.Steps.{given, glue_set, hbox_shell, vbox_shell, vtop_shell, packed_of, boxed}
+use Rattle.pack_core.specs.Steps.{some_if, glue_set, hbox_shell, vbox_shell, vtop_shell, packed_of, boxed_list}
 use Rattle.pack_core.proofs.Edge.{fills}
 
-boxed-given : (fit : Bool) (items : Items) (shell : Shell) → boxed items (given fit shell) ≡ (if fit then Ok (packed_of items shell) else Err (record { list = items }))
-unfolding boxed given
+boxed-given : (fit : Bool) (items : Items) (shell : Shell) → boxed_list items (some_if fit shell) ≡ (if fit then Ok (packed_of items shell) else Err (record { list = items }))
+unfolding boxed_list some_if
 boxed-given true items shell = refl
 boxed-given false items shell = refl
 
-pub boxed-hbox : (target : Target) (items : Items) → boxed items (given (list_all fits (hbox_numbers target (nodes_of items))) (hbox_shell target (nodes_of items))) ≡ hpacked target items
+pub boxed-hbox : (target : Target) (items : Items) → boxed_list items (some_if (list_all fits (hbox_numbers target (nodes_of items))) (hbox_shell target (nodes_of items))) ≡ hpacked target items
 unfolding hpacked hbox hbox_shell packed_of glue_set
 boxed-hbox target items = boxed-given (list_all fits (hbox_numbers target (nodes_of items))) items (hbox_shell target (nodes_of items))
 
 pub boxed-vbox :
     (target : Target) (limit : ℤ) (items : Items)
-    → boxed items (given (list_all fits (vbox_numbers target limit (nodes_of items))) (vbox_shell target limit (nodes_of items))) ≡ vpacked target limit items
+    → boxed_list items (some_if (list_all fits (vbox_numbers target limit (nodes_of items))) (vbox_shell target limit (nodes_of items))) ≡ vpacked target limit items
 unfolding vpacked vbox vbox_shell packed_of glue_set
 boxed-vbox target limit items = boxed-given (list_all fits (vbox_numbers target limit (nodes_of items))) items (vbox_shell target limit (nodes_of items))
 
 pub boxed-vtop :
     (target : Target) (limit : ℤ) (items : Items)
-    → boxed items (given (list_all fits (vtop_numbers target limit (nodes_of items))) (vtop_shell (vbox_shell target limit (nodes_of items)) (first_height (nodes_of items))))
+    → boxed_list items (some_if (list_all fits (vtop_numbers target limit (nodes_of items))) (vtop_shell (vbox_shell target limit (nodes_of items)) (first_height (nodes_of items))))
     ≡ vtopped target limit items
 unfolding vtopped vtop_box vbox vbox_shell vtop_shell packed_of glue_set
 boxed-vtop target limit items =
     boxed-given (list_all fits (vtop_numbers target limit (nodes_of items))) items (vtop_shell (vbox_shell target limit (nodes_of items)) (first_height (nodes_of items)))
 
--- What holds of the box holds of what is packed; and it is packed exactly where all numbers fit.
+-- A fact of the packed box holds wherever the list is packed; and the list is packed exactly where all its numbers fit.
 packed-ok :
     (fit : Bool) (packed : Packed) (items : Items) (P : Packed → Type 0)
     → P packed → IfOk {E = TooLarge} (if fit then Ok packed else Err (record { list = items })) P
@@ -73,9 +73,9 @@ filled :
 filled kind items excess set good = rw (whole items) (fills kind (nodes_of items) excess set good)
 
 -- An hbox.
-pub hpacked-ok : (target : Target) (items : Items) → IfOk (hpacked target items) (λ p. (p.shown ≡ hbox target items) × (p.badness ≡ hbox_badness target items))
-unfolding hpacked
-hpacked-ok target items = packed-ok _ _ items (λ p. (p.shown ≡ hbox target items) × (p.badness ≡ hbox_badness target items)) (refl, refl)
+pub hpacked-ok : (target : Target) (items : Items) → IfOk (hpacked target items) (λ p. (p.box_node ≡ hbox target items) × (p.badness ≡ hbox_badness target (nodes_of items)))
+unfolding hpacked hbox
+hpacked-ok target items = packed-ok _ _ items (λ p. (p.box_node ≡ hbox target items) × (p.badness ≡ hbox_badness target (nodes_of items))) (refl, refl)
 
 pub hpacked-fits : (target : Target) (items : Items) → is_ok (hpacked target items) ≡ list_all fits (hbox_numbers target (nodes_of items))
 unfolding hpacked
@@ -87,18 +87,18 @@ hpacked-back target items = packed-back _ _ items
 
 pub hpacked-edge :
     (target : Target) (items : Items)
-    → IfOk (hpacked target items) (λ p. p.shown.setting ≢ Natural → p.badness ≢ 1000000 → place_in p.shown (length (nodes_of p.shown.list)) ≡ p.shown.width)
+    → IfOk (hpacked target items) (λ p. p.box_node.setting ≢ Natural → p.badness ≢ 1000000 → place_in p.box_node (length (nodes_of p.box_node.list)) ≡ p.box_node.width)
 unfolding hpacked hbox
 hpacked-edge target items =
-    packed-ok _ _ items (λ p. p.shown.setting ≢ Natural → p.badness ≢ 1000000 → place_in p.shown (length (nodes_of p.shown.list)) ≡ p.shown.width)
+    packed-ok _ _ items (λ p. p.box_node.setting ≢ Natural → p.badness ≢ 1000000 → place_in p.box_node (length (nodes_of p.box_node.list)) ≡ p.box_node.width)
     (λ set good. omega (arith, ints, filled Horizontal items (hbox_excess target (nodes_of items)) set good))
 
 -- A vbox.
 pub vpacked-ok :
     (target : Target) (limit : ℤ) (items : Items)
-    → IfOk (vpacked target limit items) (λ p. (p.shown ≡ vbox target limit items) × (p.badness ≡ vbox_badness target limit items))
-unfolding vpacked
-vpacked-ok target limit items = packed-ok _ _ items (λ p. (p.shown ≡ vbox target limit items) × (p.badness ≡ vbox_badness target limit items)) (refl, refl)
+    → IfOk (vpacked target limit items) (λ p. (p.box_node ≡ vbox target limit items) × (p.badness ≡ vbox_badness target limit (nodes_of items)))
+unfolding vpacked vbox
+vpacked-ok target limit items = packed-ok _ _ items (λ p. (p.box_node ≡ vbox target limit items) × (p.badness ≡ vbox_badness target limit (nodes_of items))) (refl, refl)
 
 pub vpacked-fits : (target : Target) (limit : ℤ) (items : Items) → is_ok (vpacked target limit items) ≡ list_all fits (vbox_numbers target limit (nodes_of items))
 unfolding vpacked
@@ -111,19 +111,19 @@ vpacked-back target limit items = packed-back _ _ items
 pub vpacked-edge :
     (target : Target) (limit : ℤ) (items : Items)
     → IfOk (vpacked target limit items)
-    (λ p. p.shown.setting ≢ Natural → p.badness ≢ 1000000 → place_in p.shown (length (nodes_of p.shown.list)) ≡ p.shown.height +ℤ p.shown.depth)
+    (λ p. p.box_node.setting ≢ Natural → p.badness ≢ 1000000 → place_in p.box_node (length (nodes_of p.box_node.list)) ≡ p.box_node.height +ℤ p.box_node.depth)
 unfolding vpacked vbox
 vpacked-edge target limit items =
     packed-ok _ _ items
-    (λ p. p.shown.setting ≢ Natural → p.badness ≢ 1000000 → place_in p.shown (length (nodes_of p.shown.list)) ≡ p.shown.height +ℤ p.shown.depth)
+    (λ p. p.box_node.setting ≢ Natural → p.badness ≢ 1000000 → place_in p.box_node (length (nodes_of p.box_node.list)) ≡ p.box_node.height +ℤ p.box_node.depth)
     (λ set good. omega (arith, ints, filled Vertical items (vbox_excess target limit (nodes_of items)) set good))
 
 -- A vtop.
 pub vtopped-ok :
     (target : Target) (limit : ℤ) (items : Items)
-    → IfOk (vtopped target limit items) (λ p. (p.shown ≡ vtop_box target limit items) × (p.badness ≡ vbox_badness target limit items))
-unfolding vtopped
-vtopped-ok target limit items = packed-ok _ _ items (λ p. (p.shown ≡ vtop_box target limit items) × (p.badness ≡ vbox_badness target limit items)) (refl, refl)
+    → IfOk (vtopped target limit items) (λ p. (p.box_node ≡ vtop_box target limit items) × (p.badness ≡ vbox_badness target limit (nodes_of items)))
+unfolding vtopped vtop_box
+vtopped-ok target limit items = packed-ok _ _ items (λ p. (p.box_node ≡ vtop_box target limit items) × (p.badness ≡ vbox_badness target limit (nodes_of items))) (refl, refl)
 
 pub vtopped-fits : (target : Target) (limit : ℤ) (items : Items) → is_ok (vtopped target limit items) ≡ list_all fits (vtop_numbers target limit (nodes_of items))
 unfolding vtopped
@@ -136,11 +136,11 @@ vtopped-back target limit items = packed-back _ _ items
 pub vtopped-edge :
     (target : Target) (limit : ℤ) (items : Items)
     → IfOk (vtopped target limit items)
-    (λ p. p.shown.setting ≢ Natural → p.badness ≢ 1000000 → place_in p.shown (length (nodes_of p.shown.list)) ≡ p.shown.height +ℤ p.shown.depth)
+    (λ p. p.box_node.setting ≢ Natural → p.badness ≢ 1000000 → place_in p.box_node (length (nodes_of p.box_node.list)) ≡ p.box_node.height +ℤ p.box_node.depth)
 unfolding vtopped vtop_box vbox
 vtopped-edge target limit items =
     packed-ok _ _ items
-    (λ p. p.shown.setting ≢ Natural → p.badness ≢ 1000000 → place_in p.shown (length (nodes_of p.shown.list)) ≡ p.shown.height +ℤ p.shown.depth)
+    (λ p. p.box_node.setting ≢ Natural → p.badness ≢ 1000000 → place_in p.box_node (length (nodes_of p.box_node.list)) ≡ p.box_node.height +ℤ p.box_node.depth)
     (λ set good. omega (arith, ints, filled Vertical items (vbox_excess target limit (nodes_of items)) set good))
 
 pub ruleset packing = (boxed-hbox, boxed-vbox, boxed-vtop)

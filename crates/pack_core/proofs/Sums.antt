@@ -7,7 +7,7 @@ use Rattle.std.proofs.lemmas.List.{take_more}
 use Rattle.std.proofs.lemmas.List.Folds.{list_all-append}
 use Rattle.std.specs.List.{list_all}
 use Rattle.pack_core.specs.Items.{is_penalty, last_below}
-use Rattle.pack_core.specs.Measures.{pending_behind}
+use Rattle.pack_core.specs.ListTotals.{pending_behind}
 use Rattle.node_core.specs.declared.tree.Node.{Node}
 use Rattle.node_core.specs.declared.tree.Node.TheVariants as nodes
 use Rattle.std.proofs.Math.Bool.{and-true, and-false}
@@ -16,15 +16,6 @@ use Rattle.pack_core.specs.Totals.{total, greatest, pending_depth}
 pub total-append : (size : Node → ℤ) (xs ys : List Node) → total size (xs ++ ys) ≡ total size xs +ℤ total size ys
 total-append size [] ys = omega (arith, ints)
 total-append size (x ∷ xs) ys = omega (arith, ints, total-append size xs ys)
-
-pub total_more :
-    (size : Node → ℤ) (xs : List Node) (i : ℕ) (x : Node) → i < length xs → x ≡ get_or xs i x
-    → total size (take (i + 1) xs) ≡ total size (take i xs) +ℤ size x
-total_more size xs i x within is =
-    let all : total size (take (i + 1) xs) ≡ total size (take i xs ++ get_or xs i x ∷ []) = ap (total size) (take_more xs i x within) in
-    let parts = total-append size (take i xs) (get_or xs i x ∷ []) in
-    let same : size (get_or xs i x) ≡ size x = ap size (sym is) in
-    omega (arith, ints, all, parts, same)
 
 pub greatest_positive : (size : Node → ℤ) (xs : List Node) → pos 0 ≤ℤ greatest size xs
 greatest_positive size [] = omega (arith, ints)
@@ -64,12 +55,6 @@ pending-append [] (nodes.Rule sizes) = refl
 pending-append [] (nodes.Box shift b) = refl
 pending-append (y ∷ ys) x =
     rw (penalties-append ys x, pending-append ys x) (choice (list_all is_penalty ys) (is_penalty x) (last_below y) (pending_depth ys) (last_below x))
-
-pub pending_more :
-    (xs : List Node) (i : ℕ) (x : Node) → i < length xs → x ≡ get_or xs i x
-    → pending_depth (take (i + 1) xs) ≡ pending_behind (pending_depth (take i xs)) x
-pending_more xs i x within is =
-    ap pending_depth (take_more xs i x within) ∙ pending-append (take i xs) (get_or xs i x) ∙ ap (pending_behind (pending_depth (take i xs))) (sym is)
 
 -- Behind an item that is no penalty stand penalties alone.
 pub pending-last :

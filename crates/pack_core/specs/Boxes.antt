@@ -6,8 +6,8 @@ use Rattle.node_core.specs.declared.tree.Kind.TheVariants.{Horizontal, Vertical}
 use Rattle.node_core.specs.declared.tree.Order.TheVariants.{Normal, Fil, Fill, Filll}
 use Rattle.node_core.specs.declared.tree.Node.{Node}
 use Rattle.node_core.specs.declared.tree.BoxNode.{BoxNode}
-use Rattle.node_core.specs.Items.{Items}
-use Rattle.node_core.specs.Nodes.{nodes_of}
+use Rattle.node_core.specs.Items.{Frame, Items}
+use Rattle.node_core.specs.Nodes.{box_of, nodes_of}
 use Rattle.pack_core.specs.declared.pack.Target.{Target}
 use Rattle.pack_core.specs.declared.pack.Target.TheVariants.{Natural, To, Spread}
 use Rattle.pack_core.specs.declared.pack.Packed.{Packed}
@@ -23,9 +23,17 @@ wanted Natural natural = natural
 wanted (To size) natural = size
 wanted (Spread more) natural = natural +ℤ more
 
--- What is packed has this box and this badness; or, where one of the numbers does not fit, the list comes back (own).
-abbrev pub packed_if : List ℤ → Packed → Items → Result Packed TooLarge
-packed_if numbers packed items = if list_all fits numbers then Ok packed else Err (record { list = items })
+-- What a list is packed to, but for the list: the frame of its box, how bad the box is, and the numbers that have to fit (own).
+pub record Packing : Type 0 where
+  pub frame : Frame
+  pub badness : ℕ
+  pub numbers : List ℤ
+
+-- The list in its box, and how bad the box is; or the list comes back, where one of the numbers does not fit (own).
+abbrev pub packed_by : Packing → Items → Result Packed TooLarge
+packed_by packing items =
+    if list_all fits packing.numbers then Ok (record { box_node = box_of packing.frame items; badness = packing.badness })
+    else Err (record { list = items })
 
 -- The totals of stretch and of shrink of a list in each order, as numbers that have to fit (own).
 abbrev pub glue_totals : List Node → List ℤ
@@ -41,31 +49,37 @@ hbox_width target nodes = wanted target (total across nodes)
 abbrev pub hbox_excess : Target → List Node → ℤ
 hbox_excess target nodes = hbox_width target nodes -ℤ total across nodes
 
--- A horizontal list as a box: as wide as is wanted, as high and as deep as its highest and its deepest item (TeX: The Program, part 33, §649).
-unfoldable pub hbox : Target → Items → BoxNode
-hbox target items =
+-- The frame of an hbox: as wide as is wanted, as high and as deep as its highest and its deepest item (TeX: The Program, part 33, §649).
+abbrev pub hbox_frame : Target → List Node → Frame
+hbox_frame target nodes =
     record {
       kind = Horizontal;
-      width = hbox_width target (nodes_of items);
-      height = greatest above (nodes_of items);
-      depth = greatest below (nodes_of items);
-      setting = setting_of (hbox_excess target (nodes_of items)) (nodes_of items);
-      list = items;
+      width = hbox_width target nodes;
+      height = greatest above nodes;
+      depth = greatest below nodes;
+      setting = setting_of (hbox_excess target nodes) nodes;
     }
 
+-- A horizontal list as a box (TeX: The Program, part 33, §649).
+unfoldable pub hbox : Target → Items → BoxNode
+hbox target items = box_of (hbox_frame target (nodes_of items)) items
+
 -- How badly the glue of an hbox is stretched or shrunk (TeX: The Program, part 33, §658 to §667).
-abbrev pub hbox_badness : Target → Items → ℕ
-hbox_badness target items = setting_badness (hbox_excess target (nodes_of items)) (nodes_of items)
+abbrev pub hbox_badness : Target → List Node → ℕ
+hbox_badness target nodes = setting_badness (hbox_excess target nodes) nodes
 
 -- The numbers of a horizontal list that have to fit: its natural width, the totals of its glue, and the sizes of its box (own).
 abbrev pub hbox_numbers : Target → List Node → List ℤ
 hbox_numbers target nodes =
     total across nodes ∷ hbox_width target nodes ∷ greatest above nodes ∷ greatest below nodes ∷ glue_totals nodes
 
+-- What a horizontal list is packed to, but for the list.
+abbrev pub hbox_packing : Target → List Node → Packing
+hbox_packing target nodes = record { frame = hbox_frame target nodes; badness = hbox_badness target nodes; numbers = hbox_numbers target nodes }
+
 -- What a horizontal list is packed to: its box and its badness; or the list comes back, where one of its numbers does not fit (own).
 unfoldable pub hpacked : Target → Items → Result Packed TooLarge
-hpacked target items =
-    packed_if (hbox_numbers target (nodes_of items)) (record { shown = hbox target items; badness = hbox_badness target items }) items
+hpacked target items = packed_by (hbox_packing target (nodes_of items)) items
 
 -- The depth of a vbox: that of its last rule or box, but no more than the limit (TeX: The Program, part 33, §668).
 abbrev pub vbox_depth : (limit : ℤ) → List Node → ℤ
@@ -83,49 +97,61 @@ vbox_height target limit nodes = wanted target (natural_height limit nodes)
 abbrev pub vbox_excess : Target → (limit : ℤ) → List Node → ℤ
 vbox_excess target limit nodes = vbox_height target limit nodes -ℤ natural_height limit nodes
 
--- A vertical list as a box: as wide as its widest item, its baseline at the bottom (TeX: The Program, part 33, §668).
-unfoldable pub vbox : Target → (limit : ℤ) → Items → BoxNode
-vbox target limit items =
+-- The frame of a vbox: as wide as its widest item, its baseline at the bottom (TeX: The Program, part 33, §668).
+abbrev pub vbox_frame : Target → (limit : ℤ) → List Node → Frame
+vbox_frame target limit nodes =
     record {
       kind = Vertical;
-      width = greatest breadth (nodes_of items);
-      height = vbox_height target limit (nodes_of items);
-      depth = vbox_depth limit (nodes_of items);
-      setting = setting_of (vbox_excess target limit (nodes_of items)) (nodes_of items);
-      list = items;
+      width = greatest breadth nodes;
+      height = vbox_height target limit nodes;
+      depth = vbox_depth limit nodes;
+      setting = setting_of (vbox_excess target limit nodes) nodes;
     }
 
+-- A vertical list as a box (TeX: The Program, part 33, §668).
+unfoldable pub vbox : Target → (limit : ℤ) → Items → BoxNode
+vbox target limit items = box_of (vbox_frame target limit (nodes_of items)) items
+
 -- How badly the glue of a vbox is stretched or shrunk (TeX: The Program, part 33, §673 to §678).
-abbrev pub vbox_badness : Target → (limit : ℤ) → Items → ℕ
-vbox_badness target limit items = setting_badness (vbox_excess target limit (nodes_of items)) (nodes_of items)
+abbrev pub vbox_badness : Target → (limit : ℤ) → List Node → ℕ
+vbox_badness target limit nodes = setting_badness (vbox_excess target limit nodes) nodes
 
 -- The numbers of a vertical list that have to fit: its natural height, the totals of its glue, and the sizes of its box (own).
 abbrev pub vbox_numbers : Target → (limit : ℤ) → List Node → List ℤ
 vbox_numbers target limit nodes =
     natural_height limit nodes ∷ vbox_height target limit nodes ∷ vbox_depth limit nodes ∷ greatest breadth nodes ∷ glue_totals nodes
 
+-- What a vertical list is packed to as a vbox, but for the list.
+abbrev pub vbox_packing : Target → (limit : ℤ) → List Node → Packing
+vbox_packing target limit nodes =
+    record { frame = vbox_frame target limit nodes; badness = vbox_badness target limit nodes; numbers = vbox_numbers target limit nodes }
+
 -- What a vertical list is packed to as a vbox: its box and its badness; or the list comes back, where one of its numbers does not fit (own).
 unfoldable pub vpacked : Target → (limit : ℤ) → Items → Result Packed TooLarge
-vpacked target limit items =
-    packed_if (vbox_numbers target limit (nodes_of items))
-    (record { shown = vbox target limit items; badness = vbox_badness target limit items }) items
+vpacked target limit items = packed_by (vbox_packing target limit (nodes_of items)) items
 
 -- The depth of a vtop: its height and its depth are together those of the vbox (TeX: The Program, part 47, §1087).
 abbrev pub vtop_depth : Target → (limit : ℤ) → List Node → ℤ
 vtop_depth target limit nodes = (vbox_depth limit nodes +ℤ vbox_height target limit nodes) -ℤ first_height nodes
 
--- A vertical list as a box whose baseline is that of its first item: the same box with another border between height and depth
+-- The frame of a vtop: that of the vbox, but with its baseline at that of its first item, another border between height and depth
 -- (TeX: The Program, part 47, §1087).
+abbrev pub vtop_frame : Target → (limit : ℤ) → List Node → Frame
+vtop_frame target limit nodes = record (vbox_frame target limit nodes) { height = first_height nodes; depth = vtop_depth target limit nodes }
+
+-- A vertical list as a box whose baseline is that of its first item (TeX: The Program, part 47, §1087).
 unfoldable pub vtop_box : Target → (limit : ℤ) → Items → BoxNode
-vtop_box target limit items =
-    record (vbox target limit items) { height = first_height (nodes_of items); depth = vtop_depth target limit (nodes_of items) }
+vtop_box target limit items = box_of (vtop_frame target limit (nodes_of items)) items
 
 -- The numbers of a vertical list that have to fit for its vtop: those of the vbox, and the two new sizes (own).
 abbrev pub vtop_numbers : Target → (limit : ℤ) → List Node → List ℤ
 vtop_numbers target limit nodes = vbox_numbers target limit nodes ++ first_height nodes ∷ vtop_depth target limit nodes ∷ []
 
+-- What a vertical list is packed to as a vtop, but for the list.
+abbrev pub vtop_packing : Target → (limit : ℤ) → List Node → Packing
+vtop_packing target limit nodes =
+    record { frame = vtop_frame target limit nodes; badness = vbox_badness target limit nodes; numbers = vtop_numbers target limit nodes }
+
 -- What a vertical list is packed to as a vtop: its box and its badness; or the list comes back, where one of its numbers does not fit (own).
 unfoldable pub vtopped : Target → (limit : ℤ) → Items → Result Packed TooLarge
-vtopped target limit items =
-    packed_if (vtop_numbers target limit (nodes_of items))
-    (record { shown = vtop_box target limit items; badness = vbox_badness target limit items }) items
+vtopped target limit items = packed_by (vtop_packing target limit (nodes_of items)) items

@@ -1,5 +1,5 @@
 -- How the glue of a list is set, and how bad that is (TeX: The Program, part 33, §657 to §667 and §672 to §678).
-use Rattle.std.specs.Prelude.{ℕ, ℤ, pos, negsuc, zero, suc, neg_ℤ, Bool, true, false, int_lt, if◌then◌else◌, List, [], ◌∷◌, Option, Some, None}
+use Rattle.std.specs.Prelude.{◌≡◌, ◌≢◌, ◌<◌, ℕ, ℤ, pos, negsuc, zero, suc, neg_ℤ, Bool, true, false, int_lt, if◌then◌else◌, List, [], ◌∷◌, Option, Some, None}
 use Rattle.node_core.specs.declared.tree.Node.{Node}
 use Rattle.node_core.specs.declared.tree.Order.{Order}
 use Rattle.node_core.specs.declared.tree.Order.TheVariants.{Normal, Fil, Fill, Filll}
@@ -16,7 +16,19 @@ is_zero (pos zero) = true
 is_zero (pos (suc n)) = false
 is_zero (negsuc n) = false
 
--- The highest order whose total is not 0; none where all totals are 0 (TeX: The Program, part 33, §659 and §665).
+-- How high an order is (TeX: The Program, part 10).
+abbrev pub rank : Order → ℕ
+rank Normal = 0
+rank Fil = 1
+rank Fill = 2
+rank Filll = 3
+
+-- The order has a total that is not 0, and no higher order has one (TeX: The Program, part 33, §659 and §665).
+pub record IsHighest (totals : Order → ℤ) (order : Order) : Type 0 where
+  pub not_zero : totals order ≢ pos 0
+  pub alone : (other : Order) → rank order < rank other → totals other ≡ pos 0
+
+-- The highest order whose total is not 0, the one that `IsHighest` (law `highest_order_is_set`); none where all totals are 0.
 unfoldable pub highest : (Order → ℤ) → Option Order
 highest totals =
     if is_zero (totals Filll)

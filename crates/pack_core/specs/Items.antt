@@ -6,6 +6,8 @@ use Rattle.node_core.specs.declared.tree.Order.{Order}
 use Rattle.node_core.specs.declared.tree.Order.TheVariants.{Normal, Fil, Fill, Filll}
 use Rattle.node_core.specs.declared.tree.Node.{Node}
 use Rattle.node_core.specs.declared.tree.Node.TheVariants as nodes
+use Rattle.node_core.specs.Classes as classes
+use Rattle.node_core.specs.Classes.{class_of, is_box_or_rule}
 use Rattle.node_core.specs.declared.tree.RuleSize.{RuleSize}
 use Rattle.node_core.specs.declared.tree.RuleSize.TheVariants.{Running, Fixed}
 
@@ -99,31 +101,33 @@ shrink_in order (nodes.Box shift b) = pos 0
 
 -- Whether an item is a penalty (own).
 abbrev pub is_penalty : Node → Bool
-is_penalty (nodes.Penalty penalty) = true
-is_penalty (nodes.Glyph glyph) = false
-is_penalty (nodes.FontKern width) = false
-is_penalty (nodes.Kern width) = false
-is_penalty (nodes.Glue glue) = false
-is_penalty (nodes.Rule rule) = false
-is_penalty (nodes.Box shift b) = false
+is_penalty node = classes.is_penalty (class_of node)
+
+-- How high an item is by itself, not shifted.
+abbrev pub item_height : Node → ℤ
+item_height (nodes.Glyph glyph) = glyph.height
+item_height (nodes.FontKern width) = pos 0
+item_height (nodes.Kern width) = pos 0
+item_height (nodes.Glue glue) = pos 0
+item_height (nodes.Penalty penalty) = pos 0
+item_height (nodes.Rule rule) = own_size rule.height
+item_height (nodes.Box shift b) = b.height
+
+-- How deep an item is by itself, not shifted.
+abbrev pub item_depth : Node → ℤ
+item_depth (nodes.Glyph glyph) = glyph.depth
+item_depth (nodes.FontKern width) = pos 0
+item_depth (nodes.Kern width) = pos 0
+item_depth (nodes.Glue glue) = pos 0
+item_depth (nodes.Penalty penalty) = pos 0
+item_depth (nodes.Rule rule) = own_size rule.depth
+item_depth (nodes.Box shift b) = b.depth
 
 -- The height of an item that is a rule or a box, else 0: how far the first item of a vtop stands above its baseline
 -- (TeX: The Program, part 47, §1087).
 abbrev pub first_above : Node → ℤ
-first_above (nodes.Rule rule) = own_size rule.height
-first_above (nodes.Box shift b) = b.height
-first_above (nodes.Glyph glyph) = pos 0
-first_above (nodes.FontKern width) = pos 0
-first_above (nodes.Kern width) = pos 0
-first_above (nodes.Glue glue) = pos 0
-first_above (nodes.Penalty penalty) = pos 0
+first_above node = if is_box_or_rule (class_of node) then item_height node else pos 0
 
 -- The depth of an item that is a rule or a box, else 0: how far the last item of a vertical list hangs below its baseline.
 abbrev pub last_below : Node → ℤ
-last_below (nodes.Rule rule) = own_size rule.depth
-last_below (nodes.Box shift b) = b.depth
-last_below (nodes.Glyph glyph) = pos 0
-last_below (nodes.FontKern width) = pos 0
-last_below (nodes.Kern width) = pos 0
-last_below (nodes.Glue glue) = pos 0
-last_below (nodes.Penalty penalty) = pos 0
+last_below node = if is_box_or_rule (class_of node) then item_depth node else pos 0

@@ -1,21 +1,9 @@
--- Laws of the definitions, and boxes whose numbers are known (own).
-use Rattle.std.specs.Prelude.{◌≡◌, ◌≢◌, ◌<◌, ℕ, ℤ, pos}
+-- Lists whose packed boxes are known (own).
+use Rattle.std.specs.Prelude.{ℤ, pos}
 use Rattle.node_core.specs.declared.tree.Glue.{Glue}
 use Rattle.node_core.specs.declared.tree.Order.{Order}
-use Rattle.node_core.specs.declared.tree.Order.TheVariants.{Normal, Fil, Fill, Filll}
+use Rattle.node_core.specs.declared.tree.Order.TheVariants.{Normal, Fil}
 use Rattle.node_core.specs.Items.{Items, none, leaf, glue, kern}
-
--- How high an order is.
-abbrev pub rank : Order → ℕ
-rank Normal = 0
-rank Fil = 1
-rank Fill = 2
-rank Filll = 3
-
--- The order has a total that is not 0, and no higher order has one.
-pub record IsHighest (totals : Order → ℤ) (order : Order) : Type 0 where
-  pub not_zero : totals order ≢ pos 0
-  pub alone : (other : Order) → rank order < rank other → totals other ≡ pos 0
 
 -- Glue of no width that stretches by that much in that order, and does not shrink.
 abbrev pub stretching : ℤ → Order → Glue

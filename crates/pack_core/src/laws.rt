@@ -4,6 +4,7 @@ ghost use Rattle.std.specs.Prelude.{◌≡◌, ◌≢◌, ◌↔◌, ◌+ℤ◌,
 ghost use Rattle.std.specs.Int.{int_max};
 ghost use Rattle.std.specs.List.{list_all};
 ghost use Rattle.node_core.specs.Items.{Frame, Items, box};
+ghost use Rattle.node_core.specs.Nodes.{nodes_of};
 ghost use Rattle.node_core.specs.declared.tree.Kind.{Kind};
 ghost use Rattle.node_core.specs.declared.tree.Node.{Node};
 ghost use Rattle.node_core.specs.declared.tree.Order.{Order};
@@ -12,10 +13,10 @@ ghost use Rattle.pack_core.specs.declared.pack.Target.{Target};
 ghost use Rattle.pack_core.specs.declared.pack.Target.TheVariants as targets;
 ghost use Rattle.pack_core.specs.Items.{advance, is_penalty, last_below};
 ghost use Rattle.pack_core.specs.Totals.{total, pending_depth};
-ghost use Rattle.pack_core.specs.Glue.{highest, setting_of, setting_badness};
+ghost use Rattle.pack_core.specs.Glue.{highest, IsHighest, setting_of, setting_badness};
 ghost use Rattle.pack_core.specs.Boxes.{hbox, hbox_badness, vbox, vtop_box};
 ghost use Rattle.pack_core.specs.Places.{place, place_in};
-ghost use Rattle.pack_core.specs.Laws.{IsHighest, three_stretching, two_shrinking, kern_and_fil};
+ghost use Rattle.pack_core.specs.Laws.{three_stretching, two_shrinking, kern_and_fil};
 
 /// A list whose glue is set, and which is not overfull, ends exactly where its box does.
 pub fn list_fills_its_box()
@@ -72,5 +73,5 @@ pub fn one_taken_from_two()
 pub fn infinite_glue_takes_all()
     ensures normal { place_in (hbox (targets.To (pos 786432)) kern_and_fil) 2 ≡ pos 327680 }
     ensures fil { place_in (hbox (targets.To (pos 786432)) kern_and_fil) 3 ≡ pos 786432 }
-    ensures badness { hbox_badness (targets.To (pos 786432)) kern_and_fil ≡ 0 }
+    ensures badness { hbox_badness (targets.To (pos 786432)) (nodes_of kern_and_fil) ≡ 0 }
 {}

@@ -4,14 +4,17 @@
 //! fraction, and the places of the items are rounded once each, so that a box is filled exactly.
 #![tactic(auto)]
 
+mod extents;
 pub mod laws;
+mod orders;
 mod pack;
 mod places;
 mod setting;
 mod sizes;
 mod totals;
 
+pub use orders::{OrderAmounts, OrderDimens};
 pub use pack::{Packed, Target, TooLarge, hpack, vpack, vtop};
 pub use places::{Cursor, offset};
-pub use sizes::{advance_of, counted, difference, share_of};
-pub use totals::dimension;
+pub use sizes::{advance_of, own_size, share_of};
+pub use totals::Totals;

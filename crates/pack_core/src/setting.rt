@@ -1,35 +1,20 @@
 //! How the glue of a list is set (TeX: The Program, part 33, §657 to §667 and §672 to §678).
 
-ghost use Rattle.std.specs.Prelude.{◌≡◌, ◌≢◌, ◌-ℤ◌, ◌≤ℤ◌, ◌≤◌, ◌^◌, pos, length};
+ghost use Rattle.std.specs.Prelude.{◌≡◌, ◌≢◌, ◌-ℤ◌, ◌≤ℤ◌, ◌^◌, pos};
 ghost use Rattle.std.specs.Option.{IfSome};
 ghost use Rattle.std.specs.List.{list_all};
 ghost use Rattle.scaled_core.specs.Dimensions.{Within, fits};
-ghost use Rattle.node_core.specs.Nodes.{most_nodes};
 ghost use Rattle.pack_core.specs.Glue.{is_zero, highest, fraction, is_finite};
 ghost use Rattle.pack_core.specs.Boxes.{glue_totals};
-ghost use Rattle.pack_core.specs.Steps.{given, flow_totals, flow_quantity, by_order, order_totals, each_order, glue_set};
-ghost use Rattle.pack_core.specs.Steps.{shrink_ratio, stretch_setting, shrink_setting, set_to, stretch_bad, shrink_bad, bad_to, bad_of};
+ghost use Rattle.pack_core.specs.Orders.{by_order};
+ghost use Rattle.pack_core.specs.ListTotals.{totals_of};
+ghost use Rattle.pack_core.specs.Steps.{some_if, dimens_of, glue_set};
+ghost use Rattle.pack_core.specs.Steps.{shrink_ratio, stretch_setting, shrink_setting, set_to, stretching_badness, shrinking_badness, excess_badness, list_badness};
 
-use crate::sizes::difference;
-use crate::totals::{Quantity, dimension, total_of};
+use crate::orders::{OrderAmounts, OrderDimens};
+use crate::totals::Totals;
 use node_core::{Node, Order, Setting};
 use scaled_core::{Dimen, Ratio, badness};
-
-/// What glue can do.
-#[derive(Clone, Copy, Debug, PartialEq, Eq)]
-pub enum Flow {
-    Stretching,
-    Shrinking,
-}
-
-/// How much the glue of a list can stretch or shrink in each order.
-#[derive(Clone, Copy, Debug, PartialEq, Eq)]
-pub struct OrderTotals {
-    pub normal: Dimen,
-    pub fil: Dimen,
-    pub fill: Dimen,
-    pub filll: Dimen,
-}
 
 /// How glue is set, and how bad that is.
 #[derive(Clone, Copy, Debug, PartialEq, Eq)]
@@ -38,36 +23,16 @@ pub struct GlueSet {
     pub badness: u32,
 }
 
-/// What is summed for the total of an order.
-fn quantity(flow: Flow, order: Order) -> Quantity
-    ensures { result ≡ flow_quantity flow order }
-{
-    match flow {
-        Flow::Stretching => Quantity::Stretch(order),
-        Flow::Shrinking => Quantity::Shrink(order),
-    }
-}
-
-/// How much the glue of a list can stretch or shrink together in an order, where that fits.
+/// Totals as dimensions, where they fit.
 #[tactic(auto, using(crate::proofs::Steps::steps))]
-fn order_total(flow: Flow, order: Order, nodes: &[Node]) -> Option<Dimen>
-    requires { length nodes.now ≤ most_nodes }
-    ensures { result ≡ given (fits (flow_totals flow nodes.now order)) (flow_totals flow nodes.now order) }
+fn dimens_of(amounts: OrderAmounts) -> Option<OrderDimens>
+    ensures { result ≡ dimens_of amounts }
 {
-    dimension(i128::from(total_of(quantity(flow, order), nodes)))
-}
-
-/// How much the glue of a list can stretch or shrink together in each order, where the totals fit.
-#[tactic(auto, using(crate::proofs::Steps::steps))]
-fn totals_of(flow: Flow, nodes: &[Node]) -> Option<OrderTotals>
-    requires { length nodes.now ≤ most_nodes }
-    ensures { result ≡ given (list_all fits (each_order (flow_totals flow nodes.now))) (order_totals (flow_totals flow nodes.now)) }
-{
-    let normal = order_total(flow, Order::Normal, nodes)?;
-    let fil = order_total(flow, Order::Fil, nodes)?;
-    let fill = order_total(flow, Order::Fill, nodes)?;
-    let filll = order_total(flow, Order::Filll, nodes)?;
-    Some(OrderTotals {
+    let normal = Dimen::from_wide(amounts.normal)?;
+    let fil = Dimen::from_wide(amounts.fil)?;
+    let fill = Dimen::from_wide(amounts.fill)?;
+    let filll = Dimen::from_wide(amounts.filll)?;
+    Some(OrderDimens {
         normal,
         fil,
         fill,
@@ -76,7 +41,7 @@ fn totals_of(flow: Flow, nodes: &[Node]) -> Option<OrderTotals>
 }
 
 /// The total of an order, out of those of all orders.
-fn in_order(totals: &OrderTotals, order: Order) -> Dimen
+fn in_order(totals: &OrderDimens, order: Order) -> Dimen
     ensures { result ≡ by_order totals.now order }
 {
     match order {
@@ -96,7 +61,7 @@ fn is_zero(amount: Dimen) -> bool
 
 /// The highest order whose total is not 0.
 #[tactic(auto, unfolding(crate::specs::Glue::highest))]
-fn highest_order(totals: &OrderTotals) -> Option<Order>
+fn highest_order(totals: &OrderDimens) -> Option<Order>
     ensures value { result ≡ highest (by_order totals.now) }
     ensures not_zero { IfSome result (λ order. by_order totals.now order ≢ pos 0) }
 {
@@ -130,7 +95,7 @@ fn fraction(amount: i64, total: Dimen) -> Ratio
 
 /// How glue is stretched by an amount.
 #[tactic(auto, unfolding(crate::specs::Steps::stretch_setting))]
-fn stretch_setting(amount: i64, totals: &OrderTotals) -> Setting
+fn stretch_setting(amount: i64, totals: &OrderDimens) -> Setting
     requires { Within (2 ^ 31) amount }
     ensures { result ≡ stretch_setting amount totals.now }
 {
@@ -145,7 +110,7 @@ fn stretch_setting(amount: i64, totals: &OrderTotals) -> Setting
 
 /// The ratio by which glue of an order shrinks by an amount; glue of normal order by no more than it can.
 #[tactic(auto, unfolding(crate::specs::Steps::shrink_ratio))]
-fn shrink_ratio(amount: i64, totals: &OrderTotals, order: Order) -> Ratio
+fn shrink_ratio(amount: i64, totals: &OrderDimens, order: Order) -> Ratio
     requires amount { Within (2 ^ 31) amount }
     requires total { by_order totals.now order ≢ pos 0 }
     ensures { result ≡ shrink_ratio amount totals.now order }
@@ -166,7 +131,7 @@ fn shrink_ratio(amount: i64, totals: &OrderTotals, order: Order) -> Ratio
 
 /// How glue is shrunk by an amount.
 #[tactic(auto, using(crate::proofs::Steps::steps))]
-fn shrink_setting(amount: i64, totals: &OrderTotals) -> Setting
+fn shrink_setting(amount: i64, totals: &OrderDimens) -> Setting
     requires { Within (2 ^ 31) amount }
     ensures { result ≡ shrink_setting amount totals.now }
 {
@@ -181,7 +146,7 @@ fn shrink_setting(amount: i64, totals: &OrderTotals) -> Setting
 
 /// The setting for that much space too much (or, below 0, too little).
 #[tactic(auto, unfolding(crate::specs::Steps::set_to))]
-fn set_to(excess: i64, stretch: &OrderTotals, shrink: &OrderTotals) -> Setting
+fn set_to(excess: i64, stretch: &OrderDimens, shrink: &OrderDimens) -> Setting
     requires { Within (2 ^ 31) excess }
     ensures { result ≡ set_to excess stretch.now shrink.now }
 {
@@ -206,10 +171,10 @@ fn is_finite(order: Option<Order>) -> bool
 }
 
 /// How bad it is to stretch by an amount: not at all where glue of an infinite order is set.
-#[tactic(auto, unfolding(crate::specs::Steps::stretch_bad))]
-fn stretch_bad(amount: i64, totals: &OrderTotals) -> u32
+#[tactic(auto, unfolding(crate::specs::Steps::stretching_badness))]
+fn stretching_badness(amount: i64, totals: &OrderDimens) -> u32
     requires { pos 0 ≤ℤ amount }
-    ensures { result ≡ stretch_bad amount totals.now }
+    ensures { result ≡ stretching_badness amount totals.now }
 {
     if !is_finite(highest_order(totals)) {
         return 0;
@@ -218,10 +183,10 @@ fn stretch_bad(amount: i64, totals: &OrderTotals) -> u32
 }
 
 /// How bad it is to shrink by an amount: overfull where glue of normal order can't, and not at all where glue of an infinite order is set.
-#[tactic(auto, unfolding(crate::specs::Steps::shrink_bad))]
-fn shrink_bad(amount: i64, totals: &OrderTotals) -> u32
+#[tactic(auto, unfolding(crate::specs::Steps::shrinking_badness))]
+fn shrinking_badness(amount: i64, totals: &OrderDimens) -> u32
     requires { pos 0 ≤ℤ amount }
-    ensures { result ≡ shrink_bad amount totals.now }
+    ensures { result ≡ shrinking_badness amount totals.now }
 {
     let order = highest_order(totals);
     if !is_finite(order) {
@@ -234,44 +199,44 @@ fn shrink_bad(amount: i64, totals: &OrderTotals) -> u32
     badness(amount, most)
 }
 
-/// How bad that much space too much (or, below 0, too little) is.
-#[tactic(auto, unfolding(crate::specs::Steps::bad_to))]
-fn bad_to(excess: i64, stretch: &OrderTotals, shrink: &OrderTotals) -> u32
+/// How bad it is that a box has that much space too much (or, below 0, too little).
+#[tactic(auto, unfolding(crate::specs::Steps::excess_badness))]
+fn excess_badness(excess: i64, stretch: &OrderDimens, shrink: &OrderDimens) -> u32
     requires { Within (2 ^ 31) excess }
-    ensures { result ≡ bad_to excess stretch.now shrink.now }
+    ensures { result ≡ excess_badness excess stretch.now shrink.now }
 {
     if excess > 0 {
-        return stretch_bad(excess, stretch);
+        return stretching_badness(excess, stretch);
     }
     if excess < 0 {
-        return shrink_bad(-excess, shrink);
+        return shrinking_badness(-excess, shrink);
     }
     0
 }
 
 /// How bad a list is with that much space too much (or, below 0, too little): 0 where it is empty.
-#[tactic(auto, unfolding(crate::specs::Steps::bad_of))]
-fn bad_of(empty: bool, excess: i64, stretch: &OrderTotals, shrink: &OrderTotals) -> u32
+#[tactic(auto, unfolding(crate::specs::Steps::list_badness))]
+fn list_badness(empty: bool, excess: i64, stretch: &OrderDimens, shrink: &OrderDimens) -> u32
     requires { Within (2 ^ 31) excess }
-    ensures { result ≡ bad_of empty excess stretch.now shrink.now }
+    ensures { result ≡ list_badness empty excess stretch.now shrink.now }
 {
     if empty {
         return 0;
     }
-    bad_to(excess, stretch, shrink)
+    excess_badness(excess, stretch, shrink)
 }
 
-/// The setting of a list of that natural size for that size, where the totals of its glue fit.
+/// The setting of a list with these totals and that natural size for that size, where the totals of its glue fit.
 #[tactic(auto, using(crate::proofs::Steps::steps))]
-pub fn set_glue(size: Dimen, natural: Dimen, nodes: &[Node]) -> Option<GlueSet>
-    requires { length nodes.now ≤ most_nodes }
-    ensures { result ≡ given (list_all fits (glue_totals nodes.now)) (glue_set (size -ℤ natural) nodes.now) }
+pub fn set_glue(size: Dimen, natural: Dimen, nodes: &[Node], totals: &Totals) -> Option<GlueSet>
+    requires { totals.now ≡ totals_of totals.now.kind nodes.now }
+    ensures { result ≡ some_if (list_all fits (glue_totals nodes.now)) (glue_set (size -ℤ natural) nodes.now) }
 {
-    let stretch = totals_of(Flow::Stretching, nodes)?;
-    let shrink = totals_of(Flow::Shrinking, nodes)?;
-    let excess = difference(size, natural);
+    let stretch = dimens_of(totals.stretch())?;
+    let shrink = dimens_of(totals.shrink())?;
+    let excess = size.exact_sub(natural);
     Some(GlueSet {
         setting: set_to(excess, &stretch, &shrink),
-        badness: bad_of(nodes.is_empty(), excess, &stretch, &shrink),
+        badness: list_badness(nodes.is_empty(), excess, &stretch, &shrink),
     })
 }

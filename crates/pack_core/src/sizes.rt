@@ -1,38 +1,22 @@
 //! What an item adds to the list that it stands in (TeX: The Program, part 33, §651 to §656 and §669 to §671).
 
-ghost use Rattle.std.specs.Prelude.{◌≡◌, ◌+ℤ◌, ◌-ℤ◌, ◌^◌};
+ghost use Rattle.std.specs.Prelude.{◌≡◌, ◌^◌};
 ghost use Rattle.scaled_core.specs.Dimensions.{Within};
 ghost use Rattle.pack_core.specs.Items.{own_size, across, above, below, downward, breadth, advance, is_order, stretch_in, shrink_in};
-ghost use Rattle.pack_core.specs.Items.{is_penalty, first_above, last_below};
+ghost use Rattle.pack_core.specs.Items.{item_height, item_depth, first_above};
 ghost use Rattle.pack_core.specs.Places.{share};
 
 use node_core::{Kind, Node, Order, RuleSize, Setting};
 use scaled_core::Dimen;
 
 /// A size of a rule as it counts when its list is packed, in scaled points: a running one does not.
-pub fn counted(size: RuleSize) -> Dimen
+pub fn own_size(size: RuleSize) -> Dimen
     ensures { result ≡ own_size size }
 {
     match size {
         RuleSize::Running => Dimen::ZERO,
         RuleSize::Fixed(size) => size,
     }
-}
-
-/// The sum of two dimensions, in scaled points; it may be no dimension.
-pub fn sum(a: Dimen, b: Dimen) -> i64
-    ensures value { result ≡ a +ℤ b }
-    ensures small { Within (2 ^ 31) result }
-{
-    i64::from(a.get()) + i64::from(b.get())
-}
-
-/// How much more a dimension is than another, in scaled points; it may be no dimension.
-pub fn difference(a: Dimen, b: Dimen) -> i64
-    ensures value { result ≡ a -ℤ b }
-    ensures small { Within (2 ^ 31) result }
-{
-    i64::from(a.get()) - i64::from(b.get())
 }
 
 /// How wide an item is.
@@ -45,7 +29,7 @@ pub fn width_of(node: &Node) -> Dimen
         Node::Kern(width) => *width,
         Node::Glue(glue) => glue.width,
         Node::Penalty(_) => Dimen::ZERO,
-        Node::Rule(rule) => counted(rule.width),
+        Node::Rule(rule) => own_size(rule.width),
         Node::Box(_, inner) => inner.width,
     }
 }
@@ -57,8 +41,8 @@ pub fn height_of(node: &Node) -> i64
 {
     match node {
         Node::Glyph(glyph) => i64::from(glyph.height.get()),
-        Node::Rule(rule) => i64::from(counted(rule.height).get()),
-        Node::Box(shift, inner) => difference(inner.height, *shift),
+        Node::Rule(rule) => i64::from(own_size(rule.height).get()),
+        Node::Box(shift, inner) => inner.height.exact_sub(*shift),
         _ => 0,
     }
 }
@@ -70,8 +54,8 @@ pub fn depth_of(node: &Node) -> i64
 {
     match node {
         Node::Glyph(glyph) => i64::from(glyph.depth.get()),
-        Node::Rule(rule) => i64::from(counted(rule.depth).get()),
-        Node::Box(shift, inner) => sum(inner.depth, *shift),
+        Node::Rule(rule) => i64::from(own_size(rule.depth).get()),
+        Node::Box(shift, inner) => inner.depth.exact_add(*shift),
         _ => 0,
     }
 }
@@ -82,9 +66,33 @@ pub fn breadth_of(node: &Node) -> i64
     ensures small { Within (2 ^ 31) result }
 {
     match node {
-        Node::Rule(rule) => i64::from(counted(rule.width).get()),
-        Node::Box(shift, inner) => sum(inner.width, *shift),
+        Node::Rule(rule) => i64::from(own_size(rule.width).get()),
+        Node::Box(shift, inner) => inner.width.exact_add(*shift),
         _ => 0,
+    }
+}
+
+/// How high an item is by itself, not shifted.
+fn height_by_itself(node: &Node) -> Dimen
+    ensures { result ≡ item_height node.now }
+{
+    match node {
+        Node::Glyph(glyph) => glyph.height,
+        Node::Rule(rule) => own_size(rule.height),
+        Node::Box(_, inner) => inner.height,
+        _ => Dimen::ZERO,
+    }
+}
+
+/// How deep an item is by itself, not shifted.
+pub fn depth_by_itself(node: &Node) -> Dimen
+    ensures { result ≡ item_depth node.now }
+{
+    match node {
+        Node::Glyph(glyph) => glyph.depth,
+        Node::Rule(rule) => own_size(rule.depth),
+        Node::Box(_, inner) => inner.depth,
+        _ => Dimen::ZERO,
     }
 }
 
@@ -92,32 +100,10 @@ pub fn breadth_of(node: &Node) -> i64
 pub fn first_height_of(node: &Node) -> Dimen
     ensures { result ≡ first_above node.now }
 {
-    match node {
-        Node::Rule(rule) => counted(rule.height),
-        Node::Box(_, inner) => inner.height,
-        _ => Dimen::ZERO,
+    if node.class().is_box_or_rule() {
+        return height_by_itself(node);
     }
-}
-
-/// The depth of an item that is a rule or a box, else 0.
-pub fn last_depth_of(node: &Node) -> Dimen
-    ensures { result ≡ last_below node.now }
-{
-    match node {
-        Node::Rule(rule) => counted(rule.depth),
-        Node::Box(_, inner) => inner.depth,
-        _ => Dimen::ZERO,
-    }
-}
-
-/// Whether an item is a penalty.
-pub fn is_penalty(node: &Node) -> bool
-    ensures { result ≡ is_penalty node.now }
-{
-    match node {
-        Node::Penalty(_) => true,
-        _ => false,
-    }
+    Dimen::ZERO
 }
 
 /// How far an item of a horizontal list moves what follows it.
@@ -139,8 +125,8 @@ fn downward_of(node: &Node) -> i64
         Node::Kern(width) => i64::from(width.get()),
         Node::Glue(glue) => i64::from(glue.width.get()),
         Node::Penalty(_) => 0,
-        Node::Rule(rule) => sum(counted(rule.height), counted(rule.depth)),
-        Node::Box(_, inner) => sum(inner.height, inner.depth),
+        Node::Rule(rule) => own_size(rule.height).exact_add(own_size(rule.depth)),
+        Node::Box(_, inner) => inner.height.exact_add(inner.depth),
     }
 }
 

@@ -1,146 +1,129 @@
-//! Sums and greatest sizes of whole lists.
+//! The exact totals of lists.
 
-ghost use Rattle.std.specs.Prelude.{◌≡◌, ◌≤◌, ◌^◌, Some, None, if◌then◌else◌, length};
-ghost use Rattle.std.specs.Int.{int_max, int_min};
-ghost use Rattle.scaled_core.specs.Dimensions.{Fits, Within, fits};
-ghost use Rattle.node_core.specs.Nodes.{most_nodes};
-ghost use Rattle.pack_core.specs.Totals.{total, greatest, pending_depth, first_height};
-ghost use Rattle.pack_core.specs.Measures.{amount_in, extent_in, pending_behind};
+ghost use Rattle.std.specs.Prelude.{◌≡◌, ◌<◌, ◌+◌, ◌^◌, ◌++◌, ◌∷◌, [], List, pos, length};
+ghost use Rattle.scaled_core.specs.Dimensions.{Within};
+ghost use Rattle.node_core.specs.declared.tree.Node.{Node};
+ghost use Rattle.pack_core.specs.Items.{advance};
+ghost use Rattle.pack_core.specs.Totals.{total, pending_depth};
+ghost use Rattle.pack_core.specs.Glue.{stretch_totals, shrink_totals};
+ghost use Rattle.pack_core.specs.Orders.{order_amounts, AreWithin};
+ghost use Rattle.pack_core.specs.ListTotals.{totals_of, with_item, pending_behind};
 
-use crate::sizes::{
-    advance_of, breadth_of, depth_of, first_height_of, height_of, is_penalty, last_depth_of,
-    shrink_of, stretch_of,
-};
-use node_core::{Kind, Node, Order};
+use crate::orders::{OrderAmounts, no_amounts, plus, shrink_by_order, stretch_by_order};
+use crate::sizes::{advance_of, depth_by_itself};
+use node_core::{ItemClass, Kind, Node};
 use scaled_core::Dimen;
+use std::marker::Model;
 
-/// The dimension of a number of scaled points, or None exactly where it does not fit: where its absolute value is above 1073741823.
-pub fn dimension(value: i128) -> Option<Dimen>
-    ensures { result ≡ (if fits value then Some value else None) }
-{
-    if value < -1_073_741_823 {
-        return None;
+/// The exact totals of the items passed of a list: how far they move, how much their glue can stretch and shrink in each order, and the
+/// depth that is pending behind them. No total is refused.
+#[derive(Clone, Copy, Debug)]
+pub struct Totals {
+    kind: Kind,
+    advance: i128,
+    stretch: OrderAmounts,
+    shrink: OrderAmounts,
+    pending_depth: Dimen,
+    passed: u64,
+}
+
+impl Model for Totals {
+    ghost use Rattle.pack_core.specs.ListTotals.{ListTotals, AreSmall};
+
+    ghost Value = { ListTotals };
+
+    ghost view = { λ t. record { kind = t.kind; advance = t.advance; stretch = t.stretch; shrink = t.shrink; pending_depth = t.pending_depth; passed = t.passed } };
+
+    ghost invariant = { λ t. AreSmall t.passed t.advance t.stretch t.shrink };
+
+    ghost inverse = { λ t. record { kind = t.kind; advance = t.advance; stretch = t.stretch; shrink = t.shrink; pending_depth = t.pending_depth; passed = t.passed } };
+}
+
+impl Totals {
+    /// The totals of no items, in a list of that kind.
+    #[tactic(auto, unfolding(crate::specs::ListTotals::totals_of))]
+    pub fn new(kind: Kind) -> Totals
+        ensures { result ≡ totals_of kind [] }
+    {
+        Totals {
+            kind,
+            advance: 0,
+            stretch: no_amounts(),
+            shrink: no_amounts(),
+            pending_depth: Dimen::ZERO,
+            passed: 0,
+        }
     }
-    if value > 1_073_741_823 {
-        return None;
+
+    /// Passes one more item: each total is more by what the item has. There are fewer items before it than a list can hold.
+    pub fn pass(&mut self, node: &Node)
+        requires { self.old.passed < u64.MAX }
+        ensures value { self.new ≡ with_item self.old node.now }
+        ensures totals { (before : List Node) → self.old ≡ totals_of self.old.kind before → self.new ≡ totals_of self.old.kind (before ++ node.now ∷ []) }
+    {
+        self.advance += i128::from(advance_of(self.kind, node));
+        self.stretch = plus(&self.stretch, &stretch_by_order(node));
+        self.shrink = plus(&self.shrink, &shrink_by_order(node));
+        self.pending_depth = pending_behind(self.pending_depth, node);
+        self.passed += 1;
     }
-    Dimen::try_new(value as i64)
-}
 
-/// What is summed over a list.
-#[derive(Clone, Copy, Debug, PartialEq, Eq)]
-pub enum Quantity {
-    /// How far the items of a list of that kind move.
-    Advance(Kind),
-    /// How much glue can stretch in that order.
-    Stretch(Order),
-    /// How much glue can shrink in that order.
-    Shrink(Order),
-}
-
-/// How much an item has of a quantity.
-fn amount_of(what: Quantity, node: &Node) -> i64
-    ensures value { result ≡ amount_in what node.now }
-    ensures small { Within (2 ^ 31) result }
-{
-    match what {
-        Quantity::Advance(kind) => advance_of(kind, node),
-        Quantity::Stretch(order) => i64::from(stretch_of(order, node).get()),
-        Quantity::Shrink(order) => i64::from(shrink_of(order, node).get()),
+    /// The totals of these items, in a list of that kind.
+    #[tactic(auto, using(crate::proofs::Passing::passing))]
+    pub fn of(kind: Kind, nodes: &[Node]) -> Totals
+        ensures value { result ≡ totals_of kind nodes.now }
+        ensures kind { result.kind ≡ kind }
+        ensures advance { result.advance ≡ total (advance kind) nodes.now }
+        ensures stretch { result.stretch ≡ order_amounts (stretch_totals nodes.now) }
+        ensures shrink { result.shrink ≡ order_amounts (shrink_totals nodes.now) }
+        ensures pending_depth { result.pending_depth ≡ pending_depth nodes.now }
+    {
+        let mut totals = Totals::new(kind);
+        for node in nodes {
+            totals.pass(node);
+        }
+        totals
     }
-}
 
-/// The sum of a quantity over a list.
-pub fn total_of(what: Quantity, nodes: &[Node]) -> i64
-    requires { length nodes.now ≤ most_nodes }
-    ensures value { result ≡ total (amount_in what) nodes.now }
-    ensures small { Within (2 ^ 48) result }
-{
-    let mut sum = 0;
-    for node in nodes {
-        sum += amount_of(what, node);
+    /// How far the items move.
+    pub fn advance(&self) -> i128
+        ensures value { result ≡ self.now.advance }
+        ensures small { Within (2 ^ 95) result }
+    {
+        self.advance
     }
-    sum
-}
 
-/// Which way a size goes.
-#[derive(Clone, Copy, Debug, PartialEq, Eq)]
-pub enum Extent {
-    /// Above the baseline of a horizontal list.
-    Above,
-    /// Below the baseline of a horizontal list.
-    Below,
-    /// To the right in a vertical list.
-    Breadth,
-}
-
-/// How far an item goes that way.
-fn extent_of(way: Extent, node: &Node) -> i64
-    ensures value { result ≡ extent_in way node.now }
-    ensures small { Within (2 ^ 31) result }
-{
-    match way {
-        Extent::Above => height_of(node),
-        Extent::Below => depth_of(node),
-        Extent::Breadth => breadth_of(node),
+    /// How much the glue can stretch, in each order.
+    pub fn stretch(&self) -> OrderAmounts
+        ensures value { result ≡ self.now.stretch }
+        ensures small { AreWithin (2 ^ 95) result }
+    {
+        self.stretch
     }
-}
 
-/// The greatest size of the items of a list that way, at least 0.
-pub fn greatest_of(way: Extent, nodes: &[Node]) -> i64
-    ensures value { result ≡ greatest (extent_in way) nodes.now }
-    ensures small { Within (2 ^ 31) result }
-{
-    let mut most = 0;
-    for node in nodes {
-        most = greater(most, extent_of(way, node));
+    /// How much the glue can shrink, in each order.
+    pub fn shrink(&self) -> OrderAmounts
+        ensures value { result ≡ self.now.shrink }
+        ensures small { AreWithin (2 ^ 95) result }
+    {
+        self.shrink
     }
-    most
-}
 
-/// The greater of two numbers.
-fn greater(a: i64, b: i64) -> i64
-    ensures { result ≡ int_max a b }
-{
-    if a < b { b } else { a }
-}
-
-/// The smaller of two dimensions.
-pub fn smaller(a: Dimen, b: Dimen) -> Dimen
-    ensures value { result ≡ int_min a b }
-    ensures fits { Fits result }
-{
-    if b.get() < a.get() { b } else { a }
-}
-
-/// The depth of the last rule or box if only penalties follow it, else 0.
-pub fn pending_depth_of(nodes: &[Node]) -> Dimen
-    ensures { result ≡ pending_depth nodes.now }
-{
-    let mut depth = Dimen::ZERO;
-    for node in nodes {
-        depth = pending_behind(depth, node);
+    /// The depth of the last rule or box if only penalties follow it, else 0.
+    pub fn pending_depth(&self) -> Dimen
+        ensures { result ≡ self.now.pending_depth }
+    {
+        self.pending_depth
     }
-    depth
 }
 
 /// The pending depth behind one more item.
 fn pending_behind(before: Dimen, node: &Node) -> Dimen
     ensures { result ≡ pending_behind before node.now }
 {
-    if is_penalty(node) {
-        before
-    } else {
-        last_depth_of(node)
-    }
-}
-
-/// The height of the first item if that is a rule or a box, else 0.
-pub fn first_height(nodes: &[Node]) -> Dimen
-    ensures { result ≡ first_height nodes.now }
-{
-    match nodes {
-        [node, ..] => first_height_of(node),
-        [] => Dimen::ZERO,
+    match node.class() {
+        ItemClass::Penalty => before,
+        ItemClass::BoxOrRule => depth_by_itself(node),
+        _ => Dimen::ZERO,
     }
 }

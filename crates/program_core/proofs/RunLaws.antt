@@ -1,5 +1,5 @@
 -- A job that runs the commands of a script and is finished.
-use Rattle.std.proofs.Common.{◌≡◌, ◌⊎◌, inl, inr, ℕ, Bool, true, false, List, [], ◌++◌, length, Option, Some, None, IfSome, Result, Ok, Err, IfOk, OnOk, OnErr, is_err, refl, sym, ◌∙◌, ap, subst, ⊎_elim}
+use Rattle.std.proofs.Common.{◌≡◌, inl, inr, ℕ, Bool, true, false, List, [], ◌++◌, length, Option, Some, None, IfSome, Result, Ok, Err, IfOk, OnOk, OnErr, is_err, refl, sym, ◌∙◌, ap, subst, ⊎_elim}
 use Rattle.command_core.specs.declared.command.Command.{Command}
 use Rattle.command_core.specs.declared.command.Refusal.{Refusal}
 use Rattle.command_core.specs.declared.command.Refusal.TheVariants as refusals
@@ -17,7 +17,7 @@ use Rattle.job_core.proofs.WholeRuns.{files_kept}
 use Rattle.std.specs.Io.KnownBytes.{Keeps}
 use Rattle.std.proofs.lemmas.List.{append-nil}
 use Rattle.program_core.specs.Texts.{hexadecimal_text}
-use Rattle.program_core.specs.Runs.{commands_of, WasRun, IsUntouched, IsAnswered, RanScript, RefusedScript, RanInMemory, IsAnsweredInMemory, LacksMemory}
+use Rattle.program_core.specs.Runs.{commands_of, WasRun, IsUntouched, IsAnswered, RanScript, RefusedScript, IsAnsweredInMemory, LacksMemory}
 
 pub on_err : {A E : Type 0} {P : Type 0} (r : Result A E) → is_err r ≡ true → OnErr r P → P
 on_err (Ok x) e h = absurd (cc)
@@ -64,7 +64,7 @@ was_run files commands replies end job run done holds runs finishes dvi file siz
       silent = last.2.told;
     }
 
--- the same run by other names
+-- a run stays one where its numbers, lists and bytes are replaced by equal ones
 pub same_run : (files : List NamedBytes) (n n' : ℕ) (commands commands' : List Command) (replies replies' : List Reply) (end : Result Summary Refusal) (k k' : ℕ) (told told' : Option (List ℕ))
     → n' ≡ n → commands' ≡ commands → replies' ≡ replies → k' ≡ k → told' ≡ told → WasRun files n commands replies end k told → WasRun files n' commands' replies' end k' told'
 same_run files n n' commands commands' replies replies' end k k' told told' a b c d e h = rw (a, b, c, d, e) h

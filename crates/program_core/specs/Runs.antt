@@ -21,7 +21,7 @@ use Rattle.script_core.specs.declared.script.Line.{Line}
 use Rattle.program_core.specs.declared.run.RunFault.{RunFault}
 use Rattle.program_core.specs.declared.run.RunFault.TheVariants.{Memory, Answers}
 use Rattle.script_core.specs.Script.{IsScript, IsFirstBad}
-use Rattle.program_core.specs.Texts.{answers_text, bad_script_text, hexadecimal_text}
+use Rattle.program_core.specs.Texts.{answers_text, script_refusal_text, hexadecimal_text}
 
 -- the commands of some lines
 abbrev pub commands_of : List Line → List Command
@@ -67,7 +67,7 @@ pub record RefusedScript (text answer : List ℕ) (fine : Bool) : Type 0 where
   pub number : ℕ
   pub cause : Cause
   pub bad : IsFirstBad text number cause
-  pub answer_is : answer ≡ bad_script_text number cause
+  pub answer_is : answer ≡ script_refusal_text number cause
   pub fine_is : fine ≡ false
 
 -- what a script is answered with, and the device then: its answers, and the device on which it was run; or its one line, and the device as it was

@@ -16,54 +16,34 @@ use Rattle.script_core.specs.declared.cause.Cause.{Cause}
 use Rattle.script_core.specs.declared.cause.Cause.TheVariants as causes
 use Rattle.script_core.specs.declared.cause.Cause.TheVariants.{Byte, Word, Missing, Extra, Number, Dimension}
 
--- the number of a refusal
-abbrev pub refusal_number : Refusal → ℕ
-refusal_number OutOfMemory = 1
-refusal_number DimensionTooLarge = 3
-refusal_number NoFont = 4
-refusal_number (BadTfm cause) = 5
-refusal_number SlotTaken = 6
-refusal_number NoOpenList = 7
-refusal_number WrongMode = 8
-refusal_number WrongKind = 9
-refusal_number ListTooLong = 10
-refusal_number TooDeep = 11
-refusal_number HugePage = 14
-refusal_number TooManyPages = 15
-refusal_number TooMuchShipped = 16
-refusal_number ListsOpen = 17
-refusal_number Device = 18
-refusal_number JobOver = 19
-refusal_number VoidBox = 21
-
 -- the name of the refusal of a metric file, with its cause
-abbrev pub bad_file_name : TfmCause → List ℕ
-bad_file_name TooShort = codes "BadTfm TooShort"
-bad_file_name Counts = codes "BadTfm Counts"
-bad_file_name DesignSize = codes "BadTfm DesignSize"
-bad_file_name CharInfo = codes "BadTfm CharInfo"
-bad_file_name FixWord = codes "BadTfm FixWord"
-bad_file_name LigKern = codes "BadTfm LigKern"
+abbrev pub metric_refusal_name : TfmCause → List ℕ
+metric_refusal_name TooShort = codes "BadTfm TooShort"
+metric_refusal_name Counts = codes "BadTfm Counts"
+metric_refusal_name DesignSize = codes "BadTfm DesignSize"
+metric_refusal_name CharInfo = codes "BadTfm CharInfo"
+metric_refusal_name FixWord = codes "BadTfm FixWord"
+metric_refusal_name LigKern = codes "BadTfm LigKern"
 
--- the name of a refusal
-abbrev pub refusal_name : Refusal → List ℕ
-refusal_name OutOfMemory = codes "OutOfMemory"
-refusal_name DimensionTooLarge = codes "DimensionTooLarge"
-refusal_name NoFont = codes "NoFont"
-refusal_name (BadTfm cause) = bad_file_name cause
-refusal_name SlotTaken = codes "SlotTaken"
-refusal_name NoOpenList = codes "NoOpenList"
-refusal_name WrongMode = codes "WrongMode"
-refusal_name WrongKind = codes "WrongKind"
-refusal_name ListTooLong = codes "ListTooLong"
-refusal_name TooDeep = codes "TooDeep"
-refusal_name HugePage = codes "HugePage"
-refusal_name TooManyPages = codes "TooManyPages"
-refusal_name TooMuchShipped = codes "TooMuchShipped"
-refusal_name ListsOpen = codes "ListsOpen"
-refusal_name Device = codes "Device"
-refusal_name JobOver = codes "JobOver"
-refusal_name VoidBox = codes "VoidBox"
+-- the number and the name of a refusal
+abbrev pub refusal_row : Refusal → ℕ × List ℕ
+refusal_row OutOfMemory = (1, codes "OutOfMemory")
+refusal_row DimensionTooLarge = (3, codes "DimensionTooLarge")
+refusal_row NoFont = (4, codes "NoFont")
+refusal_row (BadTfm cause) = (5, metric_refusal_name cause)
+refusal_row SlotTaken = (6, codes "SlotTaken")
+refusal_row NoOpenList = (7, codes "NoOpenList")
+refusal_row WrongMode = (8, codes "WrongMode")
+refusal_row WrongKind = (9, codes "WrongKind")
+refusal_row ListTooLong = (10, codes "ListTooLong")
+refusal_row TooDeep = (11, codes "TooDeep")
+refusal_row HugePage = (14, codes "HugePage")
+refusal_row TooManyPages = (15, codes "TooManyPages")
+refusal_row TooMuchShipped = (16, codes "TooMuchShipped")
+refusal_row ListsOpen = (17, codes "ListsOpen")
+refusal_row Device = (18, codes "Device")
+refusal_row JobOver = (19, codes "JobOver")
+refusal_row VoidBox = (21, codes "VoidBox")
 
 -- the name of a cause why a script is bad
 abbrev pub cause_name : Cause → List ℕ
@@ -94,7 +74,7 @@ sizes_text sizes = points_text sizes.width ++ (codes " " ++ (points_text sizes.h
 
 -- a refusal with its number and its name
 unfoldable pub refusal_text : Refusal → List ℕ
-refusal_text refusal = codes "refused " ++ (decimal (refusal_number refusal) ++ (codes " " ++ refusal_name refusal))
+refusal_text refusal = codes "refused " ++ (decimal (refusal_row refusal).0 ++ (codes " " ++ (refusal_row refusal).1))
 
 -- an answer to a command
 unfoldable pub answer_text : Answer → List ℕ
@@ -133,8 +113,8 @@ unfoldable pub answers_text : List ℕ → List (Result Answer Refusal) → Resu
 answers_text numbers replies end = answer_lines numbers replies ++ end_line end
 
 -- the text for a bad script
-unfoldable pub bad_script_text : ℕ → Cause → List ℕ
-bad_script_text number cause = codes "refused 2 BadScript " ++ (decimal number ++ (codes " " ++ (cause_name cause ++ line_feed)))
+unfoldable pub script_refusal_text : ℕ → Cause → List ℕ
+script_refusal_text number cause = codes "refused 2 BadScript " ++ (decimal number ++ (codes " " ++ (cause_name cause ++ line_feed)))
 
 -- a lower case hexadecimal digit
 abbrev pub hexadecimal_digit : ℕ → ℕ

@@ -5,7 +5,7 @@ ghost use Rattle.std.specs.List.{list_all};
 ghost use Rattle.std.specs.Io.KnownBytes.{Appends};
 ghost use Rattle.program_core.specs.Runs.{commands_of, numbers_of, is_accepted, WasRun, IsAnswered, IsUntouched, WasRunWhole, IsLeft};
 
-use crate::texts::{answers_text, bad_script_text};
+use crate::texts::{answers_text, script_refusal_text};
 use crate::writing::{Unwritten, write_text};
 use job_core::{Command, Device, FontFile, Job, Refusal, Reply, Summary};
 use script_core::{Cause, Line, ScriptFault, read_script};
@@ -50,7 +50,7 @@ pub fn answer_script<D: Device>(
         Ok(lines) => lines,
         Err(ScriptFault::OutOfMemory) => return Err(device),
         Err(ScriptFault::BadScript { line, cause }) => {
-            return match bad_script_text(alloc, line, cause) {
+            return match script_refusal_text(alloc, line, cause) {
                 Ok(text) => Ok(Answered {
                     text,
                     accepted: false,
@@ -60,7 +60,7 @@ pub fn answer_script<D: Device>(
             };
         }
     };
-    let Ok((numbers, commands)) = parted(alloc, lines) else {
+    let Ok((numbers, commands)) = numbers_and_commands(alloc, lines) else {
         return Err(device);
     };
     let (replies, end, device) = run_commands(alloc, &commands, files, device)?;
@@ -127,7 +127,10 @@ fn run_commands<D: Device>(
 }
 
 /// The numbers and the commands of some lines.
-fn parted(alloc: Global, lines: Vec<Line>) -> Result<(Vec<usize>, Vec<Command>), AllocError>
+fn numbers_and_commands(
+    alloc: Global,
+    lines: Vec<Line>,
+) -> Result<(Vec<usize>, Vec<Command>), AllocError>
     ensures numbers { IfOk result (λ parts. parts.0.items ≡ numbers_of lines.items) }
     ensures commands { IfOk result (λ parts. parts.1.items ≡ commands_of lines.items) }
 {

@@ -1,7 +1,7 @@
 //! The texts of answers.
 
 ghost use Rattle.std.specs.Prelude.{◌≡◌, ◌++◌, ◌+◌, ◌*◌, ◌<◌, decimal, OnOk, OnErr, IfOk};
-ghost use Rattle.program_core.specs.Texts.{refusal_number, refusal_name, bad_file_name, cause_name, kind_name, points_text, sizes_text, refusal_text, answer_text, reply_text, answer_line, summary_text, end_line, answer_lines, answers_text, bad_script_text};
+ghost use Rattle.program_core.specs.Texts.{refusal_row, metric_refusal_name, cause_name, kind_name, points_text, sizes_text, refusal_text, answer_text, reply_text, answer_line, summary_text, end_line, answer_lines, answers_text, script_refusal_text};
 
 use itoa::Buffer;
 use job_core::{Answer, Refusal, Reply, Sizes, Summary, TfmCause};
@@ -10,34 +10,9 @@ use scaled_core::{Dimen, print_dimen};
 use script_core::Cause;
 use std::alloc::{AllocError, Global};
 
-/// The number of a refusal.
-fn refusal_number(refusal: Refusal) -> u32
-    ensures { result ≡ refusal_number refusal }
-{
-    match refusal {
-        Refusal::OutOfMemory => 1,
-        Refusal::DimensionTooLarge => 3,
-        Refusal::NoFont => 4,
-        Refusal::BadTfm(_) => 5,
-        Refusal::SlotTaken => 6,
-        Refusal::NoOpenList => 7,
-        Refusal::WrongMode => 8,
-        Refusal::WrongKind => 9,
-        Refusal::ListTooLong => 10,
-        Refusal::TooDeep => 11,
-        Refusal::HugePage => 14,
-        Refusal::TooManyPages => 15,
-        Refusal::TooMuchShipped => 16,
-        Refusal::ListsOpen => 17,
-        Refusal::Device => 18,
-        Refusal::JobOver => 19,
-        Refusal::VoidBox => 21,
-    }
-}
-
 /// The name of the refusal of a metric file, with its cause.
-fn bad_file_name(cause: TfmCause) -> &'static str
-    ensures { result.now ≡ bad_file_name cause }
+fn metric_refusal_name(cause: TfmCause) -> &'static str
+    ensures { result.now ≡ metric_refusal_name cause }
 {
     match cause {
         TfmCause::TooShort => "BadTfm TooShort",
@@ -49,28 +24,29 @@ fn bad_file_name(cause: TfmCause) -> &'static str
     }
 }
 
-/// The name of a refusal.
-fn refusal_name(refusal: Refusal) -> &'static str
-    ensures { result.now ≡ refusal_name refusal }
+/// The number and the name of a refusal.
+fn refusal_row(refusal: Refusal) -> (u32, &'static str)
+    ensures number { result.0 ≡ (refusal_row refusal).0 }
+    ensures name { result.1.now ≡ (refusal_row refusal).1 }
 {
     match refusal {
-        Refusal::OutOfMemory => "OutOfMemory",
-        Refusal::DimensionTooLarge => "DimensionTooLarge",
-        Refusal::NoFont => "NoFont",
-        Refusal::BadTfm(cause) => bad_file_name(cause),
-        Refusal::SlotTaken => "SlotTaken",
-        Refusal::NoOpenList => "NoOpenList",
-        Refusal::WrongMode => "WrongMode",
-        Refusal::WrongKind => "WrongKind",
-        Refusal::ListTooLong => "ListTooLong",
-        Refusal::TooDeep => "TooDeep",
-        Refusal::HugePage => "HugePage",
-        Refusal::TooManyPages => "TooManyPages",
-        Refusal::TooMuchShipped => "TooMuchShipped",
-        Refusal::ListsOpen => "ListsOpen",
-        Refusal::Device => "Device",
-        Refusal::JobOver => "JobOver",
-        Refusal::VoidBox => "VoidBox",
+        Refusal::OutOfMemory => (1, "OutOfMemory"),
+        Refusal::DimensionTooLarge => (3, "DimensionTooLarge"),
+        Refusal::NoFont => (4, "NoFont"),
+        Refusal::BadTfm(cause) => (5, metric_refusal_name(cause)),
+        Refusal::SlotTaken => (6, "SlotTaken"),
+        Refusal::NoOpenList => (7, "NoOpenList"),
+        Refusal::WrongMode => (8, "WrongMode"),
+        Refusal::WrongKind => (9, "WrongKind"),
+        Refusal::ListTooLong => (10, "ListTooLong"),
+        Refusal::TooDeep => (11, "TooDeep"),
+        Refusal::HugePage => (14, "HugePage"),
+        Refusal::TooManyPages => (15, "TooManyPages"),
+        Refusal::TooMuchShipped => (16, "TooMuchShipped"),
+        Refusal::ListsOpen => (17, "ListsOpen"),
+        Refusal::Device => (18, "Device"),
+        Refusal::JobOver => (19, "JobOver"),
+        Refusal::VoidBox => (21, "VoidBox"),
     }
 }
 
@@ -142,10 +118,11 @@ fn push_sizes(sizes: &Sizes, out: &mut Vec<u8>) -> Result<(), AllocError>
 fn push_refusal(refusal: Refusal, out: &mut Vec<u8>) -> Result<(), AllocError>
     ensures { OnOk result (out.new.items ≡ out.old.items ++ refusal_text refusal) }
 {
+    let (number, name) = refusal_row(refusal);
     push_text("refused ", out)?;
-    push_number(u64::from(refusal_number(refusal)), out)?;
+    push_number(u64::from(number), out)?;
     push_text(" ", out)?;
-    push_text(refusal_name(refusal), out)
+    push_text(name, out)
 }
 
 /// Appends what was packed: sizes and badness.
@@ -292,9 +269,13 @@ pub fn answers_text(
 }
 
 /// The text for a bad script: the number of its first bad line, and the cause.
-#[tactic(auto, unfolding(crate::specs::Texts::bad_script_text))]
-pub fn bad_script_text(alloc: Global, number: usize, cause: Cause) -> Result<Vec<u8>, AllocError>
-    ensures { IfOk result (λ text. text.items ≡ bad_script_text number cause) }
+#[tactic(auto, unfolding(crate::specs::Texts::script_refusal_text))]
+pub fn script_refusal_text(
+    alloc: Global,
+    number: usize,
+    cause: Cause,
+) -> Result<Vec<u8>, AllocError>
+    ensures { IfOk result (λ text. text.items ≡ script_refusal_text number cause) }
 {
     let mut text = Vec::new(alloc);
     push_text("refused 2 BadScript ", &mut text)?;

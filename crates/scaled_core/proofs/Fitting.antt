@@ -1,5 +1,6 @@
 -- What fits as a dimension, as a test and as a range.
 use Rattle.std.proofs.Common.{◌≡◌, ℤ, pos, negsuc, suc, true, Bool, false, Some, None, arith, refl}
+use Rattle.std.specs.Prelude.{if◌then◌else◌}
 use Rattle.std.proofs.lemmas.Bool.{leb-true, le-leb}
 use Rattle.std.proofs.lemmas.Int.{ints}
 use Rattle.scaled_core.specs.Dimensions.{Fits, fits, dimension_of}
@@ -26,5 +27,22 @@ no_dimension z misfit = here (fits z) refl
     here : (b : Bool) → fits z ≡ b → None ≡ dimension_of z
     here true e = absurd (misfit (fits_within z e))
     here false e = rw e refl
+
+-- the number of a dimension fits, and is the dimension; a number without one does not fit
+pub dimension_found : (z d : ℤ) → dimension_of z ≡ Some d → (fits z ≡ true) × (z ≡ d)
+unfolding dimension_of
+dimension_found z d found = here (fits z) found
+  where
+    here : (b : Bool) → (if b then Some z else None) ≡ Some d → (b ≡ true) × (z ≡ d)
+    here true e = (refl, cc)
+    here false e = absurd (cc)
+
+pub dimension_missing : (z : ℤ) → dimension_of z ≡ None → fits z ≡ false
+unfolding dimension_of
+dimension_missing z missing = here (fits z) missing
+  where
+    here : (b : Bool) → (if b then Some z else None) ≡ None → b ≡ false
+    here true e = absurd (cc)
+    here false e = refl
 
 pub ruleset dimensions = (some_dimension, no_dimension)

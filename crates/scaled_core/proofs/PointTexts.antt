@@ -7,7 +7,7 @@ use Rattle.std.specs.Str.{bytes_eq}
 use Rattle.std.proofs.Common.{length-append}
 use Rattle.std.proofs.Math.Numerals.{one-add}
 use Rattle.scaled_core.specs.declared.units.LengthUnit.TheVariants.{Point}
-use Rattle.scaled_core.specs.ParsedTexts.{unit_named, is_negative, behind_sign, front_digits, behind_digits, point_digits, behind_fraction, fitted, measured, dimension_value, read_dimension}
+use Rattle.scaled_core.specs.ParsedTexts.{unit_named, is_negative, behind_sign, front_digits, behind_digits, point_digits, behind_fraction, parsed_value, written_value, dimension_value, read_dimension}
 
 -- the unit that is left out
 abbrev pt : List ℕ
@@ -90,7 +90,7 @@ the_unit (c ∷ cs) none = absurd (omega (arith, none))
 
 -- the parts of such a text give its value
 pub read_dimension-points : (text : List ℕ) → read_dimension (text ++ codes "pt")
-    ≡ fitted (measured (is_negative text) (front_digits (behind_sign text)) (point_digits (behind_digits (behind_sign text))) (unit_named (behind_fraction (behind_digits (behind_sign text)) ++ codes "pt")))
+    ≡ parsed_value (written_value (is_negative text) (front_digits (behind_sign text)) (point_digits (behind_digits (behind_sign text))) (unit_named (behind_fraction (behind_digits (behind_sign text)) ++ codes "pt")))
 unfolding read_dimension dimension_value
 read_dimension-points text =
     rw (is_negative-points text, behind_sign-points text, front_digits-points (behind_sign text), behind_digits-points (behind_sign text), point_digits-points (behind_digits (behind_sign text)), behind_fraction-points (behind_digits (behind_sign text))) refl

@@ -12,14 +12,14 @@ use Rattle.std.proofs.lemmas.List.{take_all}
 use Rattle.std.proofs.Math.Nat.{le-div_iff_mul-le, pow-suc}
 use Rattle.scaled_core.specs.Dimensions.{Fits}
 use Rattle.scaled_core.specs.DimensionTexts.{Sign, unsigned, minus, DimensionParts, signed, parts_text, parts_value, decimal_fraction}
-use Rattle.scaled_core.specs.ParsedTexts.{dimension_value, fitted, read_dimension}
+use Rattle.scaled_core.specs.ParsedTexts.{dimension_value, parsed_value, read_dimension}
 use Rattle.scaled_core.specs.PrintedDimensions.{last_digits, nearest_decimal, reads_back, fraction_places, shortest_fraction, size_text, dimension_text}
 use Rattle.scaled_core.specs.Rounding.{nearest}
 use Rattle.scaled_core.specs.Units.{of_points}
 use Rattle.scaled_core.specs.declared.units.LengthUnit.TheVariants.{Point}
 use Rattle.scaled_core.proofs.DigitLemmas.{ten_power}
 use Rattle.scaled_core.proofs.PrintingLemmas.{NoneUpTo, none_more, places-1, places-2, places-3, places-4, places-5, reads_back-5}
-use Rattle.scaled_core.proofs.ReadingCases.{fitted-fits}
+use Rattle.scaled_core.proofs.ReadingCases.{parsed_value-fits}
 use Rattle.std.proofs.lemmas.Int.{ints}
 use Rattle.scaled_core.proofs.TextLaws.{dimension_value-parts}
 
@@ -171,7 +171,7 @@ dimension_value-printed (negsuc n) fits = ap (λ (xs : List ℕ). dimension_valu
 -- and reads back as itself
 pub read_dimension-printed : (d : ℤ) → Fits d → read_dimension (dimension_text d ++ codes "pt") ≡ Ok d
 unfolding read_dimension
-read_dimension-printed d fits = ap fitted (dimension_value-printed d fits) ∙ fitted-fits d fits
+read_dimension-printed d fits = ap parsed_value (dimension_value-printed d fits) ∙ parsed_value-fits d fits
 
 -- No fraction with fewer digits reads back.
 

@@ -7,7 +7,7 @@ use Rattle.scaled_core.specs.declared.fault.DimenFault.{DimenFault}
 use Rattle.scaled_core.specs.declared.fault.DimenFault.TheVariants.{TooLarge, NotADimension}
 use Rattle.scaled_core.specs.Dimensions.{Fits, fits}
 use Rattle.scaled_core.specs.DimensionTexts.{IsDimensionText, IsTooLargeText, IsNoDimension}
-use Rattle.scaled_core.specs.ParsedTexts.{dimension_value, fitted, read_dimension}
+use Rattle.scaled_core.specs.ParsedTexts.{dimension_value, parsed_value, read_dimension}
 use Rattle.scaled_core.proofs.Fitting.{dimension_fits, fits_within}
 use Rattle.scaled_core.proofs.TextLaws.{dimension_value-from_text, IsDimensionText-from_value}
 
@@ -29,32 +29,32 @@ pub record ReadsNothing (text : List ℕ) (r : Result ℤ DimenFault) : Type 0 w
 abbrev pub Reads : List ℕ → Result ℤ DimenFault → Type 0
 Reads text r = ReadsDimension text r ⊎ (ReadsTooLarge text r ⊎ ReadsNothing text r)
 
-fitted-yes : (z : ℤ) → fits z ≡ true → fitted (Some z) ≡ Ok z
-unfolding fitted
-fitted-yes z e = rw e refl
+parsed_value-yes : (z : ℤ) → fits z ≡ true → parsed_value (Some z) ≡ Ok z
+unfolding parsed_value
+parsed_value-yes z e = rw e refl
 
-fitted-no : (z : ℤ) → fits z ≡ false → fitted (Some z) ≡ Err TooLarge
-unfolding fitted
-fitted-no z e = rw e refl
+parsed_value-no : (z : ℤ) → fits z ≡ false → parsed_value (Some z) ≡ Err TooLarge
+unfolding parsed_value
+parsed_value-no z e = rw e refl
 
 -- a value that fits is read
-pub fitted-fits : (z : ℤ) → Fits z → fitted (Some z) ≡ Ok z
-fitted-fits z fit = fitted-yes z (dimension_fits z fit)
+pub parsed_value-fits : (z : ℤ) → Fits z → parsed_value (Some z) ≡ Ok z
+parsed_value-fits z fit = parsed_value-yes z (dimension_fits z fit)
 
-fitted-nothing : fitted None ≡ Err NotADimension
-unfolding fitted
-fitted-nothing = refl
+parsed_value-nothing : parsed_value None ≡ Err NotADimension
+unfolding parsed_value
+parsed_value-nothing = refl
 
 no_value : (text : List ℕ) → dimension_value text ≡ None → IsNoDimension text
 no_value text e value written = let f = dimension_value-from_text text value written in absurd (cc)
 
-reads_by : (text : List ℕ) (r : Result ℤ DimenFault) (v : Option ℤ) → dimension_value text ≡ v → r ≡ fitted v → Reads text r
-reads_by text r None e h = inr (inr (record { none = no_value text e; read = h ∙ fitted-nothing }))
+reads_by : (text : List ℕ) (r : Result ℤ DimenFault) (v : Option ℤ) → dimension_value text ≡ v → r ≡ parsed_value v → Reads text r
+reads_by text r None e h = inr (inr (record { none = no_value text e; read = h ∙ parsed_value-nothing }))
 reads_by text r (Some z) e h = ⊎_elim
-    (λ (yes : fits z ≡ true). inl (record { value = z; written = IsDimensionText-from_value text z e; fits = fits_within z yes; read = h ∙ fitted-yes z yes }))
+    (λ (yes : fits z ≡ true). inl (record { value = z; written = IsDimensionText-from_value text z e; fits = fits_within z yes; read = h ∙ parsed_value-yes z yes }))
     (λ (no : fits z ≡ false). inr (inl (record {
       large = record { value = z; written = IsDimensionText-from_value text z e; misfit = λ fit. let yes = dimension_fits z fit in absurd (cc) };
-      read = h ∙ fitted-no z no;
+      read = h ∙ parsed_value-no z no;
     })))
     (cases_Bool (fits z))
 

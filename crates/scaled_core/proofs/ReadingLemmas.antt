@@ -7,7 +7,7 @@ use Rattle.scaled_core.specs.declared.units.LengthUnit.{LengthUnit}
 use Rattle.scaled_core.specs.declared.units.LengthUnit.TheVariants.{Point, Inch, Pica, Centimeter, Millimeter, BigPoint, DidotPoint, Cicero, ScaledPoint}
 use Rattle.scaled_core.specs.declared.fault.DimenFault.TheVariants.{TooLarge, NotADimension}
 use Rattle.scaled_core.specs.Units.{of_points, scaled_points}
-use Rattle.scaled_core.specs.ParsedTexts.{fitted, with_minus}
+use Rattle.scaled_core.specs.ParsedTexts.{parsed_value, with_minus}
 
 -- the sign does not change the size
 pub unsigned_abs-with_minus : (negative : Bool) (size : ℕ) → unsigned_abs (with_minus negative size) ≡ size
@@ -15,26 +15,26 @@ unsigned_abs-with_minus true zero = refl
 unsigned_abs-with_minus true (suc n) = refl
 unsigned_abs-with_minus false n = refl
 
-fitted_large : (value : ℤ) (size : ℕ) → unsigned_abs value ≡ size → 2 ^ 30 ≤ size → fitted (Some value) ≡ Err TooLarge
-unfolding fitted
+fitted_large : (value : ℤ) (size : ℕ) → unsigned_abs value ≡ size → 2 ^ 30 ≤ size → parsed_value (Some value) ≡ Err TooLarge
+unfolding parsed_value
 fitted_large value size e h = grind (arith, nat_tests)
 
-fitted_small : (value : ℤ) (size : ℕ) → unsigned_abs value ≡ size → size ≤ 1073741823 → fitted (Some value) ≡ Ok value
-unfolding fitted
+fitted_small : (value : ℤ) (size : ℕ) → unsigned_abs value ≡ size → size ≤ 1073741823 → parsed_value (Some value) ≡ Ok value
+unfolding parsed_value
 fitted_small value size e h = grind (arith, nat_tests)
 
 -- a size from 2 ^ 30 on does not fit
-pub fitted-large : (negative : Bool) (size : ℕ) → 2 ^ 30 ≤ size → fitted (Some (with_minus negative size)) ≡ Err TooLarge
-fitted-large negative size h = fitted_large _ size (unsigned_abs-with_minus negative size) h
+pub parsed_value-large : (negative : Bool) (size : ℕ) → 2 ^ 30 ≤ size → parsed_value (Some (with_minus negative size)) ≡ Err TooLarge
+parsed_value-large negative size h = fitted_large _ size (unsigned_abs-with_minus negative size) h
 
 -- and one below fits
-pub fitted-small : (negative : Bool) (size : ℕ) → size ≤ 1073741823 → fitted (Some (with_minus negative size)) ≡ Ok (with_minus negative size)
-fitted-small negative size h = fitted_small _ size (unsigned_abs-with_minus negative size) h
+pub parsed_value-small : (negative : Bool) (size : ℕ) → size ≤ 1073741823 → parsed_value (Some (with_minus negative size)) ≡ Ok (with_minus negative size)
+parsed_value-small negative size h = fitted_small _ size (unsigned_abs-with_minus negative size) h
 
 -- what is no text of a dimension is refused as that
-pub fitted-none : fitted None ≡ Err NotADimension
-unfolding fitted
-fitted-none = refl
+pub parsed_value-none : parsed_value None ≡ Err NotADimension
+unfolding parsed_value
+parsed_value-none = refl
 
 -- a unit of a point or more: n of them are no less than n scaled points
 pub of_points-le : (n f num den : ℕ) → 0 < den → den ≤ num → n ≤ of_points n f num den
@@ -56,14 +56,14 @@ scaled_points-le Cicero n f = of_points-le n f 14856 1157 (omega arith) (omega a
 scaled_points-le ScaledPoint n f = omega arith
 
 -- so the whole part can be cut at 2 ^ 30
-pub fitted-capped : (negative : Bool) (unit : LengthUnit) (n f : ℕ) → fitted (Some (with_minus negative (scaled_points unit (min n (2 ^ 30)) f))) ≡ fitted (Some (with_minus negative (scaled_points unit n f)))
-fitted-capped negative unit n f = ⊎_elim
+pub parsed_value-capped : (negative : Bool) (unit : LengthUnit) (n f : ℕ) → parsed_value (Some (with_minus negative (scaled_points unit (min n (2 ^ 30)) f))) ≡ parsed_value (Some (with_minus negative (scaled_points unit n f)))
+parsed_value-capped negative unit n f = ⊎_elim
     (λ (low : n < 2 ^ 30). let e : min n (2 ^ 30) ≡ n = omega arith in rw e refl)
     (λ (high : 2 ^ 30 ≤ n).
     let e : min n (2 ^ 30) ≡ 2 ^ 30 = omega arith in
-    rw e (fitted-large negative _ (omega (arith, scaled_points-le unit (2 ^ 30) f)) ∙ sym (fitted-large negative _ (omega (arith, scaled_points-le unit n f)))))
+    rw e (parsed_value-large negative _ (omega (arith, scaled_points-le unit (2 ^ 30) f)) ∙ sym (parsed_value-large negative _ (omega (arith, scaled_points-le unit n f)))))
     (cases_lt n (2 ^ 30))
 
-pub ruleset measuring = (fitted-capped, fitted-none)
+pub ruleset measuring = (parsed_value-capped, parsed_value-none)
 
-pub ruleset fitting = (fitted-large, fitted-small)
+pub ruleset fitting = (parsed_value-large, parsed_value-small)

@@ -13,7 +13,7 @@ use Rattle.scaled_core.specs.declared.units.LengthUnit.{LengthUnit}
 use Rattle.scaled_core.specs.declared.units.LengthUnit.TheVariants.{Point, Inch, Pica, Centimeter, Millimeter, BigPoint, DidotPoint, Cicero, ScaledPoint}
 use Rattle.scaled_core.specs.DimensionTexts.{Sign, unsigned, plus, minus, sign_text, signed, DimensionParts, fraction_digits, fraction_text, parts_text, parts_value, IsDimensionText, decimal_fraction}
 use Rattle.scaled_core.specs.Units.{unit_text, scaled_points}
-use Rattle.scaled_core.specs.ParsedTexts.{behind_digits, behind_fraction, behind_sign, dimension_value, front_digits, is_negative, measured, point_digits, unit_named, with_minus}
+use Rattle.scaled_core.specs.ParsedTexts.{behind_digits, behind_fraction, behind_sign, dimension_value, front_digits, is_negative, written_value, point_digits, unit_named, with_minus}
 use Rattle.scaled_core.proofs.DigitLemmas.{digit_code, front_are_digits}
 
 -- Digits in front of what does not begin with one.
@@ -165,11 +165,11 @@ with_minus-sign minus n = refl
 
 -- The value of the parts.
 
-measured-some : (negative : Bool) (whole fraction : List ℕ) (u : LengthUnit) → 0 < length whole + length fraction → measured negative whole fraction (Some u) ≡ Some (with_minus negative (scaled_points u (digits_value 10 whole) (decimal_fraction fraction)))
-unfolding measured
-measured-some negative [] [] u h = absurd (omega arith)
-measured-some negative [] (d ∷ ds) u h = rw (ne_eqb (suc (length ds)) 0 (omega arith)) refl
-measured-some negative (c ∷ cs) fraction u h = rw (ne_eqb (suc (length cs)) 0 (omega arith)) refl
+written_value-some : (negative : Bool) (whole fraction : List ℕ) (u : LengthUnit) → 0 < length whole + length fraction → written_value negative whole fraction (Some u) ≡ Some (with_minus negative (scaled_points u (digits_value 10 whole) (decimal_fraction fraction)))
+unfolding written_value
+written_value-some negative [] [] u h = absurd (omega arith)
+written_value-some negative [] (d ∷ ds) u h = rw (ne_eqb (suc (length ds)) 0 (omega arith)) refl
+written_value-some negative (c ∷ cs) fraction u h = rw (ne_eqb (suc (length cs)) 0 (omega arith)) refl
 
 -- the text that parts write has their value
 pub dimension_value-parts : (p : DimensionParts) → all_ascii_digits p.whole ≡ true → all_ascii_digits (fraction_digits p.fraction) ≡ true → 0 < length p.whole + length (fraction_digits p.fraction) → dimension_value (parts_text p) ≡ Some (parts_value p)
@@ -184,7 +184,7 @@ dimension_value-parts p w f some =
     let behind : behind_digits (behind_sign (parts_text p)) ≡ rest = ap behind_digits number ∙ behind_digits-append p.whole rest w no_digit in
     let points : point_digits (behind_digits (behind_sign (parts_text p))) ≡ fraction_digits p.fraction = ap point_digits behind ∙ point_digits-text p.fraction p.unit f in
     let unit : unit_named (behind_fraction (behind_digits (behind_sign (parts_text p)))) ≡ Some p.unit = ap unit_named (ap behind_fraction behind ∙ behind_fraction-text p.fraction p.unit f) ∙ unit_named-text p.unit in
-    rw (is_negative-text p.sign body no_sign_first, front, points, unit) (measured-some (is_minus p.sign) p.whole (fraction_digits p.fraction) p.unit some ∙ ap Some (with_minus-sign p.sign (scaled_points p.unit (digits_value 10 p.whole) (decimal_fraction (fraction_digits p.fraction)))))
+    rw (is_negative-text p.sign body no_sign_first, front, points, unit) (written_value-some (is_minus p.sign) p.whole (fraction_digits p.fraction) p.unit some ∙ ap Some (with_minus-sign p.sign (scaled_points p.unit (digits_value 10 p.whole) (decimal_fraction (fraction_digits p.fraction)))))
 
 -- a dimension text has the value that the function gives
 pub dimension_value-from_text : (text : List ℕ) (value : ℤ) → IsDimensionText text value → dimension_value text ≡ Some value
@@ -274,24 +274,24 @@ pub record IsMeasured (negative : Bool) (whole fraction : List ℕ) (unit : Opti
   pub some_digit : 0 < length whole + length fraction
   pub value_is : value ≡ with_minus negative (scaled_points found (digits_value 10 whole) (decimal_fraction fraction))
 
-measured-no_unit : (negative : Bool) (whole fraction : List ℕ) → measured negative whole fraction None ≡ None
-unfolding measured
-measured-no_unit negative [] [] = refl
-measured-no_unit negative [] (d ∷ ds) = rw (ne_eqb (suc (length ds)) 0 (omega arith)) refl
-measured-no_unit negative (c ∷ cs) fraction = rw (ne_eqb (suc (length cs)) 0 (omega arith)) refl
+written_value-no_unit : (negative : Bool) (whole fraction : List ℕ) → written_value negative whole fraction None ≡ None
+unfolding written_value
+written_value-no_unit negative [] [] = refl
+written_value-no_unit negative [] (d ∷ ds) = rw (ne_eqb (suc (length ds)) 0 (omega arith)) refl
+written_value-no_unit negative (c ∷ cs) fraction = rw (ne_eqb (suc (length cs)) 0 (omega arith)) refl
 
-measured-no_digit : (negative : Bool) (unit : Option LengthUnit) → measured negative [] [] unit ≡ None
-unfolding measured
-measured-no_digit negative unit = refl
+written_value-no_digit : (negative : Bool) (unit : Option LengthUnit) → written_value negative [] [] unit ≡ None
+unfolding written_value
+written_value-no_digit negative unit = refl
 
-measured_value : (negative : Bool) (whole fraction : List ℕ) (u : LengthUnit) (value : ℤ) → 0 < length whole + length fraction → measured negative whole fraction (Some u) ≡ Some value → IsMeasured negative whole fraction (Some u) value
+measured_value : (negative : Bool) (whole fraction : List ℕ) (u : LengthUnit) (value : ℤ) → 0 < length whole + length fraction → written_value negative whole fraction (Some u) ≡ Some value → IsMeasured negative whole fraction (Some u) value
 measured_value negative whole fraction u value some h =
-    let e = measured-some negative whole fraction u some in
+    let e = written_value-some negative whole fraction u some in
     record { found = u; unit_is = refl; some_digit = some; value_is = cc }
 
-measured_parts : (negative : Bool) (whole fraction : List ℕ) (unit : Option LengthUnit) (value : ℤ) → measured negative whole fraction unit ≡ Some value → IsMeasured negative whole fraction unit value
-measured_parts negative whole fraction None value h = let e = measured-no_unit negative whole fraction in absurd (cc)
-measured_parts negative [] [] (Some u) value h = let e = measured-no_digit negative (Some u) in absurd (cc)
+measured_parts : (negative : Bool) (whole fraction : List ℕ) (unit : Option LengthUnit) (value : ℤ) → written_value negative whole fraction unit ≡ Some value → IsMeasured negative whole fraction unit value
+measured_parts negative whole fraction None value h = let e = written_value-no_unit negative whole fraction in absurd (cc)
+measured_parts negative [] [] (Some u) value h = let e = written_value-no_digit negative (Some u) in absurd (cc)
 measured_parts negative [] (d ∷ ds) (Some u) value h = measured_value negative [] (d ∷ ds) u value (omega arith) h
 measured_parts negative (c ∷ cs) fraction (Some u) value h = measured_value negative (c ∷ cs) fraction u value (omega arith) h
 

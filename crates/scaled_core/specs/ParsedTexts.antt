@@ -55,8 +55,8 @@ with_minus false n = pos n
 
 -- the value of a number of that sign, those digits before and behind the point, and that unit; none where there is no digit or no unit
 -- (TeX: The Program, part 26, §448)
-unfoldable pub measured : Bool → List ℕ → List ℕ → Option LengthUnit → Option ℤ
-measured negative whole fraction unit =
+unfoldable pub written_value : Bool → List ℕ → List ℕ → Option LengthUnit → Option ℤ
+written_value negative whole fraction unit =
     if (length whole == 0) && (length fraction == 0) then None
     else option_map (λ u. with_minus negative (scaled_points u (digits_value 10 whole) (decimal_fraction fraction))) unit
 
@@ -64,13 +64,13 @@ measured negative whole fraction unit =
 unfoldable pub dimension_value : List ℕ → Option ℤ
 dimension_value text =
     let number = behind_sign text in
-    measured (is_negative text) (front_digits number) (point_digits (behind_digits number)) (unit_named (behind_fraction (behind_digits number)))
+    written_value (is_negative text) (front_digits number) (point_digits (behind_digits number)) (unit_named (behind_fraction (behind_digits number)))
 
 -- the dimension of a value, or why there is none: no value, or one that does not fit (own)
-unfoldable pub fitted : Option ℤ → Result ℤ DimenFault
-fitted None = Err NotADimension
-fitted (Some value) = if fits value then Ok value else Err TooLarge
+unfoldable pub parsed_value : Option ℤ → Result ℤ DimenFault
+parsed_value None = Err NotADimension
+parsed_value (Some value) = if fits value then Ok value else Err TooLarge
 
 -- what reading a text gives: its dimension, or why there is none (own)
 unfoldable pub read_dimension : List ℕ → Result ℤ DimenFault
-read_dimension text = fitted (dimension_value text)
+read_dimension text = parsed_value (dimension_value text)

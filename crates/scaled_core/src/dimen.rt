@@ -1,8 +1,8 @@
 //! A dimension: a whole number of scaled points that fits.
 
-ghost use Rattle.std.specs.Prelude.{◌≡◌, ◌*◌, ◌+ℤ◌, ◌-ℤ◌, pos};
+ghost use Rattle.std.specs.Prelude.{◌≡◌, ◌*◌, ◌^◌, ◌+ℤ◌, ◌-ℤ◌, pos};
 ghost use Rattle.std.specs.Option.{SomeIff};
-ghost use Rattle.scaled_core.specs.Dimensions.{Fits, dimension_of};
+ghost use Rattle.scaled_core.specs.Dimensions.{Fits, Within, dimension_of};
 
 use std::marker::Model;
 
@@ -47,8 +47,16 @@ impl Dimen {
     }
 
     /// The dimension of that many scaled points, or None exactly where the number does not fit.
-    #[tactic(auto, using(crate::proofs::Fitting::dimensions))]
     pub fn try_new(value: i64) -> Option<Dimen>
+        ensures fits { SomeIff result (Fits value) value }
+        ensures value { result ≡ dimension_of value }
+    {
+        Dimen::from_wide(i128::from(value))
+    }
+
+    /// The dimension of a sum of scaled points, or None exactly where the sum does not fit.
+    #[tactic(auto, using(crate::proofs::Fitting::dimensions))]
+    pub fn from_wide(value: i128) -> Option<Dimen>
         ensures fits { SomeIff result (Fits value) value }
         ensures value { result ≡ dimension_of value }
     {
@@ -58,7 +66,9 @@ impl Dimen {
         if value > 1_073_741_823 {
             return None;
         }
-        Some(Dimen::new(value))
+        Some(Dimen {
+            value: value as i32,
+        })
     }
 
     /// The dimension of that many scaled points, which fit.
@@ -79,17 +89,41 @@ impl Dimen {
         self.value
     }
 
+    /// The dimension itself, of which it is then known that it fits: a clause sees the number of scaled points alone.
+    pub fn known_to_fit(self) -> Dimen
+        ensures value { result ≡ self }
+        ensures fits { Fits result }
+    {
+        Dimen { value: self.value }
+    }
+
+    /// The sum of two dimensions, in scaled points; it may be no dimension.
+    pub fn exact_add(self, other: Dimen) -> i64
+        ensures value { result ≡ self +ℤ other }
+        ensures small { Within (2 ^ 31) result }
+    {
+        i64::from(self.get()) + i64::from(other.get())
+    }
+
+    /// How much more a dimension is than another, in scaled points; it may be no dimension.
+    pub fn exact_sub(self, other: Dimen) -> i64
+        ensures value { result ≡ self -ℤ other }
+        ensures small { Within (2 ^ 31) result }
+    {
+        i64::from(self.get()) - i64::from(other.get())
+    }
+
     /// The sum of two dimensions, or None exactly where it does not fit.
     pub fn checked_add(self, other: Dimen) -> Option<Dimen>
         ensures { result ≡ dimension_of (self +ℤ other) }
     {
-        Dimen::try_new(i64::from(self.get()) + i64::from(other.get()))
+        Dimen::try_new(self.exact_add(other))
     }
 
     /// How much more a dimension is than another, or None exactly where that does not fit.
     pub fn checked_sub(self, other: Dimen) -> Option<Dimen>
         ensures { result ≡ dimension_of (self -ℤ other) }
     {
-        Dimen::try_new(i64::from(self.get()) - i64::from(other.get()))
+        Dimen::try_new(self.exact_sub(other))
     }
 }

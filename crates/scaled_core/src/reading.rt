@@ -8,7 +8,7 @@ ghost use Rattle.std.specs.Str.Parse.{digits_value};
 ghost use Rattle.scaled_core.specs.Dimensions.{Fits};
 ghost use Rattle.scaled_core.specs.DimensionTexts.{IsDimensionText, IsNoDimension, IsTooLargeText, decimal_fraction};
 ghost use Rattle.scaled_core.specs.Rounding.{nearest};
-ghost use Rattle.scaled_core.specs.ParsedTexts.{fitted, measured, behind_digits, behind_fraction, behind_sign, front_digits, is_negative, point_digits, read_dimension, unit_named, with_minus};
+ghost use Rattle.scaled_core.specs.ParsedTexts.{parsed_value, written_value, behind_digits, behind_fraction, behind_sign, front_digits, is_negative, point_digits, read_dimension, unit_named, with_minus};
 
 use crate::dimen::Dimen;
 use crate::fault::DimenFault;
@@ -28,7 +28,7 @@ pub fn parse_dimen(text: &[u8]) -> Result<Dimen, DimenFault>
     let (negative, number) = after_sign(text);
     let (whole, behind) = digits_first(number);
     let (fraction, name) = fraction_first(behind);
-    measured(negative, whole, fraction, LengthUnit::from_name(name))
+    written_value(negative, whole, fraction, LengthUnit::from_name(name))
 }
 
 /// The dimension that a text writes in points where it leaves their unit out: as `parse_dimen` reads the text with `pt` behind it. Takes no memory.
@@ -42,7 +42,7 @@ pub fn parse_points(text: &[u8]) -> Result<Dimen, DimenFault>
     let (negative, number) = after_sign(text);
     let (whole, behind) = digits_first(number);
     let (fraction, name) = fraction_first(behind);
-    measured(negative, whole, fraction, unit_of_points(name))
+    written_value(negative, whole, fraction, unit_of_points(name))
 }
 
 /// The unit of a number of points that stands without one: none where anything stands in its place.
@@ -57,8 +57,8 @@ fn unit_of_points(name: &[u8]) -> Option<LengthUnit>
 }
 
 /// The dimension of that sign, those digits before and behind the point, and that unit.
-#[tactic(auto, using(crate::proofs::ReadingLemmas::measuring), unfolding(crate::specs::ParsedTexts::measured))]
-fn measured(
+#[tactic(auto, using(crate::proofs::ReadingLemmas::measuring), unfolding(crate::specs::ParsedTexts::written_value))]
+fn written_value(
     negative: bool,
     whole: &[u8],
     fraction: &[u8],
@@ -66,7 +66,7 @@ fn measured(
 ) -> Result<Dimen, DimenFault>
     requires whole { IsTrue (all_ascii_digits whole.now) }
     requires fraction { IsTrue (all_ascii_digits fraction.now) }
-    ensures { result ≡ fitted (measured negative whole.now fraction.now unit) }
+    ensures { result ≡ parsed_value (written_value negative whole.now fraction.now unit) }
 {
     if whole.is_empty() && fraction.is_empty() {
         return Err(DimenFault::NotADimension);
@@ -164,7 +164,7 @@ fn short_fraction(digits: &[u8]) -> u64
 #[tactic(auto, using(crate::proofs::ReadingLemmas::fitting))]
 fn fitting(negative: bool, size: u64) -> Result<Dimen, DimenFault>
     requires { size < 2 ^ 62 }
-    ensures { result ≡ fitted (Some (with_minus negative size)) }
+    ensures { result ≡ parsed_value (Some (with_minus negative size)) }
 {
     let size = size as i64;
     Dimen::try_new(if negative { -size } else { size }).ok_or(DimenFault::TooLarge)

@@ -181,7 +181,7 @@ fault_by : (order : Order) (o : Option (List ℕ)) (other : Result Amount Cause)
 fault_by order None other cause more h = more h
 fault_by order (Some number) other cause more h = no_amount_in order (number ++ codes "pt") cause h
 
--- a field that writes none is bad for that
+-- where a field writes no amount, the cause is Dimension
 pub amount_fault : (field : List ℕ) (cause : Cause) → amount_of field ≡ Err cause → cause ≡ Dimension
 unfolding amount_of
 amount_fault field cause h =

@@ -1,5 +1,6 @@
 -- The forms of causes, and right fields of each kind.
-use Rattle.std.proofs.Common.{◌≡◌, inl, inr, ℕ, ℤ, pos, true, List, [], ◌∷◌, ◌++◌, Option, Some, None, Result, Ok, Err, codes, refl, ap, sym, ◌∙◌, subst, arith, append_assoc}
+use Rattle.std.proofs.Common.{◌≡◌, inl, inr, ℕ, ℤ, pos, ◌<◌, true, List, [], ◌∷◌, ◌++◌, Option, Some, None, Result, Ok, Err, codes, refl, ap, sym, ◌∙◌, subst, arith, append_assoc}
+use Rattle.std.proofs.lemmas.Bool.{lt-ltb}
 use Rattle.std.proofs.lemmas.List.{append-nil}
 use Rattle.node_core.specs.declared.tree.Order.TheVariants.{Normal}
 use Rattle.node_core.specs.declared.tree.RuleSize.TheVariants.{Running, Fixed}
@@ -7,14 +8,14 @@ use Rattle.command_core.specs.declared.command.Command.{Command}
 use Rattle.script_core.specs.declared.amounts.Amount.{Amount}
 use Rattle.script_core.specs.declared.cause.Cause.{Cause}
 use Rattle.script_core.specs.declared.cause.Cause.TheVariants.{Missing, Extra, Number, Dimension}
-use Rattle.script_core.specs.Grammar.{IsName}
+use Rattle.script_core.specs.Grammar.{register_count, IsName}
 use Rattle.script_core.specs.Causes.{SaysSome, Begins, IsWord, GivesNumber, GivesDimension, GivesSize, HasBad, LacksField, HasExtra, TakesNames, HasBadElsewhere, IsFieldCause}
-use Rattle.script_core.specs.Reading.{some_or, number_of, number_first, last_number, penalty_of, penalty_first, last_penalty, dimension_or, dimension_first, last_dimension, no_amount, before_unit, amount_in, amount_of, amount_first, last_amount, map_ok, ended, and_right, is_name, size_of, command_of}
+use Rattle.script_core.specs.Reading.{some_or, number_of, number_first, last_number, penalty_of, penalty_first, last_penalty, dimension_or, dimension_first, last_dimension, no_amount, before_unit, amount_in, amount_of, amount_first, last_amount, map_ok, no_field_left, and_right, is_name, size_of, command_of}
 use Rattle.scaled_core.specs.declared.fault.DimenFault.{DimenFault}
 use Rattle.scaled_core.specs.declared.fault.DimenFault.TheVariants.{NotADimension}
 use Rattle.scaled_core.specs.Rounding.{nearest}
 use Rattle.scaled_core.specs.DimensionTexts.{decimal_fraction}
-use Rattle.scaled_core.specs.ParsedTexts.{read_dimension, dimension_value, fitted, measured, unit_named, is_negative, behind_sign, front_digits, behind_digits, point_digits, behind_fraction}
+use Rattle.scaled_core.specs.ParsedTexts.{read_dimension, dimension_value, parsed_value, written_value, unit_named, is_negative, behind_sign, front_digits, behind_digits, point_digits, behind_fraction}
 use Rattle.script_core.proofs.FieldLaws.{writes_number, reads_dimension, dimension_read, size_given, names_font}
 use Rattle.script_core.proofs.AmountLaws.{amount_given, amount_fault}
 use Rattle.script_core.proofs.GivenCommands.{complete}
@@ -37,8 +38,8 @@ not_begun fields all (more, some) = silent (fields ++ more) (all more) some
 pub missing : (front more : List (List ℕ)) (command : Command) → Fails front → command_of (front ++ more) ≡ Ok command → LacksField front
 missing front more command fails whole = record { begins = (more, (command, sound (front ++ more) command whole)); incomplete = silent front fails }
 
-abbrev pub bad_field : (IsRight : List ℕ → Type 0) (front : List (List ℕ)) (field : List ℕ) (rest : List (List ℕ)) (right : List ℕ) (more : List (List ℕ)) (command : Command) → IsRight right → command_of ((front ++ right ∷ []) ++ more) ≡ Ok command → AllFail front field → HasBad IsRight (front ++ field ∷ rest)
-bad_field IsRight front field rest right more command is whole fails = record {
+abbrev pub has_bad : (IsRight : List ℕ → Type 0) (front : List (List ℕ)) (field : List ℕ) (rest : List (List ℕ)) (right : List ℕ) (more : List (List ℕ)) (command : Command) → IsRight right → command_of ((front ++ right ∷ []) ++ more) ≡ Ok command → AllFail front field → HasBad IsRight (front ++ field ∷ rest)
+has_bad IsRight front field rest right more command is whole fails = record {
   front = front;
   field = field;
   rest = rest;
@@ -59,16 +60,16 @@ letter_passes = refl
 pub letter_names : IsName letter
 letter_names = names_font letter letter_passes
 
-pub letter_no_number : number_of letter ≡ None
+pub letter_no_number : (count : ℕ) → number_of count letter ≡ None
 unfolding number_of
-letter_no_number = refl
+letter_no_number count = refl
 
 letter_no_penalty : penalty_of letter ≡ None
 unfolding penalty_of
 letter_no_penalty = refl
 
 pub letter_no_dimension : read_dimension letter ≡ Err NotADimension
-unfolding read_dimension dimension_value fitted measured unit_named is_negative behind_sign front_digits behind_digits point_digits behind_fraction
+unfolding read_dimension dimension_value parsed_value written_value unit_named is_negative behind_sign front_digits behind_digits point_digits behind_fraction
 letter_no_dimension = refl
 
 pub letter_no_size : size_of letter ≡ Err Dimension
@@ -83,9 +84,9 @@ letter_no_amount = rw letter_no_dimension refl
 pub takes_no_names : (front : List (List ℕ)) → AllFail front letter → TakesNames front → ⊥
 takes_no_names front fails takes = not_begun (front ++ letter ∷ []) fails (takes letter letter_names)
 
-abbrev pub bad_elsewhere : (IsRight : List ℕ → Type 0) (front : List (List ℕ)) (field : List ℕ) (rest : List (List ℕ)) (right : List ℕ) (more : List (List ℕ)) (command : Command) → IsRight right → command_of ((front ++ right ∷ []) ++ more) ≡ Ok command → AllFail front field → AllFail front letter → HasBadElsewhere IsRight (front ++ field ∷ rest)
-bad_elsewhere IsRight front field rest right more command is whole fails unnamed = record {
-  found = bad_field IsRight front field rest right more command is whole fails;
+abbrev pub has_bad_elsewhere : (IsRight : List ℕ → Type 0) (front : List (List ℕ)) (field : List ℕ) (rest : List (List ℕ)) (right : List ℕ) (more : List (List ℕ)) (command : Command) → IsRight right → command_of ((front ++ right ∷ []) ++ more) ≡ Ok command → AllFail front field → AllFail front letter → HasBadElsewhere IsRight (front ++ field ∷ rest)
+has_bad_elsewhere IsRight front field rest right more command is whole fails unnamed = record {
+  found = has_bad IsRight front field rest right more command is whole fails;
   elsewhere = takes_no_names front unnamed;
 }
 
@@ -115,12 +116,12 @@ twice make part (Ok x) = refl
 abbrev pub zero_text : List ℕ
 zero_text = codes "0"
 
-pub zero_names : number_of zero_text ≡ Some 0
+pub zero_names : (count : ℕ) → 0 < count → number_of count zero_text ≡ Some 0
 unfolding number_of
-zero_names = refl
+zero_names count some = rw (lt-ltb 0 count some) refl
 
 pub zero_number : GivesNumber zero_text
-zero_number = (0, writes_number zero_text 0 zero_names)
+zero_number = (0, inl (writes_number register_count zero_text 0 (zero_names register_count (omega arith))))
 
 pub star_given : size_of (codes "*") ≡ Ok Running
 unfolding size_of
@@ -130,7 +131,7 @@ pub star_size : GivesSize (codes "*")
 star_size = (Running, refl)
 
 pub zero_dimension : read_dimension (codes "0sp") ≡ Ok (pos 0)
-unfolding read_dimension dimension_value fitted measured unit_named is_negative behind_sign front_digits behind_digits point_digits behind_fraction decimal_fraction nearest
+unfolding read_dimension dimension_value parsed_value written_value unit_named is_negative behind_sign front_digits behind_digits point_digits behind_fraction decimal_fraction nearest
 zero_dimension = refl
 
 pub zero_size : GivesSize (codes "0sp")
@@ -177,38 +178,38 @@ abbrev pub Wanted : List (List ℕ) → List ℕ → List (List ℕ) → Command
 Wanted front right more command = command_of ((front ++ right ∷ []) ++ more) ≡ Ok command
 
 no_number_by : (front : List (List ℕ)) (field : List ℕ) (rest more : List (List ℕ)) (command : Command) (o : Option ℕ) (cause : Cause) → some_or Number o ≡ Err cause → Wanted front zero_text more command → AllFail front field → AllFail front letter → IsFieldCause cause (front ++ field ∷ rest)
-no_number_by front field rest more command None cause e wanted fails unnamed = as_cause _ Number cause (cc) (inl (bad_elsewhere GivesNumber front field rest zero_text more command zero_number wanted fails unnamed))
+no_number_by front field rest more command None cause e wanted fails unnamed = as_cause _ Number cause (cc) (inl (has_bad_elsewhere GivesNumber front field rest zero_text more command zero_number wanted fails unnamed))
 no_number_by front field rest more command (Some n) cause e wanted fails unnamed = absurd (cc)
 
 -- no number where one belongs
-pub bad_number : (front : List (List ℕ)) (field : List ℕ) (rest more : List (List ℕ)) (command : Command) (cause : Cause) → some_or Number (number_of field) ≡ Err cause → Wanted front zero_text more command → AllFail front field → AllFail front letter → IsFieldCause cause (front ++ field ∷ rest)
-bad_number front field rest more command cause e wanted fails unnamed = no_number_by front field rest more command (number_of field) cause e wanted fails unnamed
+pub no_number_cause : (count : ℕ) (front : List (List ℕ)) (field : List ℕ) (rest more : List (List ℕ)) (command : Command) (cause : Cause) → some_or Number (number_of count field) ≡ Err cause → Wanted front zero_text more command → AllFail front field → AllFail front letter → IsFieldCause cause (front ++ field ∷ rest)
+no_number_cause count front field rest more command cause e wanted fails unnamed = no_number_by front field rest more command (number_of count field) cause e wanted fails unnamed
 
 no_penalty_by : (front : List (List ℕ)) (field : List ℕ) (rest more : List (List ℕ)) (command : Command) (o : Option ℤ) (cause : Cause) → some_or Number o ≡ Err cause → Wanted front zero_text more command → AllFail front field → AllFail front letter → IsFieldCause cause (front ++ field ∷ rest)
-no_penalty_by front field rest more command None cause e wanted fails unnamed = as_cause _ Number cause (cc) (inl (bad_elsewhere GivesNumber front field rest zero_text more command zero_number wanted fails unnamed))
+no_penalty_by front field rest more command None cause e wanted fails unnamed = as_cause _ Number cause (cc) (inl (has_bad_elsewhere GivesNumber front field rest zero_text more command zero_number wanted fails unnamed))
 no_penalty_by front field rest more command (Some n) cause e wanted fails unnamed = absurd (cc)
 
 -- no number of a penalty where one belongs
-pub bad_penalty : (front : List (List ℕ)) (field : List ℕ) (rest more : List (List ℕ)) (command : Command) (cause : Cause) → some_or Number (penalty_of field) ≡ Err cause → Wanted front zero_text more command → AllFail front field → AllFail front letter → IsFieldCause cause (front ++ field ∷ rest)
-bad_penalty front field rest more command cause e wanted fails unnamed = no_penalty_by front field rest more command (penalty_of field) cause e wanted fails unnamed
+pub no_penalty_cause : (front : List (List ℕ)) (field : List ℕ) (rest more : List (List ℕ)) (command : Command) (cause : Cause) → some_or Number (penalty_of field) ≡ Err cause → Wanted front zero_text more command → AllFail front field → AllFail front letter → IsFieldCause cause (front ++ field ∷ rest)
+no_penalty_cause front field rest more command cause e wanted fails unnamed = no_penalty_by front field rest more command (penalty_of field) cause e wanted fails unnamed
 
 no_dimension_by : (front : List (List ℕ)) (field : List ℕ) (rest more : List (List ℕ)) (command : Command) (r : Result ℤ DimenFault) (cause : Cause) → read_dimension field ≡ r → dimension_or r ≡ Err cause → Wanted front (codes "0sp") more command → AllFail front field → AllFail front letter → IsFieldCause cause (front ++ field ∷ rest)
 no_dimension_by front field rest more command (Err fault) cause e h wanted fails unnamed =
-    as_cause _ Dimension cause (cc) (bad_elsewhere GivesSize front field rest (codes "0sp") more command zero_size wanted fails unnamed, no_dimension_given field fault e)
+    as_cause _ Dimension cause (cc) (has_bad_elsewhere GivesSize front field rest (codes "0sp") more command zero_size wanted fails unnamed, no_dimension_given field fault e)
 no_dimension_by front field rest more command (Ok z) cause e h wanted fails unnamed = absurd (cc)
 
 -- no dimension where one belongs
-pub bad_dimension : (front : List (List ℕ)) (field : List ℕ) (rest more : List (List ℕ)) (command : Command) (cause : Cause) → dimension_or (read_dimension field) ≡ Err cause → Wanted front (codes "0sp") more command → AllFail front field → AllFail front letter → IsFieldCause cause (front ++ field ∷ rest)
-bad_dimension front field rest more command cause e wanted fails unnamed = no_dimension_by front field rest more command (read_dimension field) cause refl e wanted fails unnamed
+pub no_dimension_cause : (front : List (List ℕ)) (field : List ℕ) (rest more : List (List ℕ)) (command : Command) (cause : Cause) → dimension_or (read_dimension field) ≡ Err cause → Wanted front (codes "0sp") more command → AllFail front field → AllFail front letter → IsFieldCause cause (front ++ field ∷ rest)
+no_dimension_cause front field rest more command cause e wanted fails unnamed = no_dimension_by front field rest more command (read_dimension field) cause refl e wanted fails unnamed
 
 -- no amount of stretch or shrink where one belongs
-pub bad_amount : (front : List (List ℕ)) (field : List ℕ) (rest more : List (List ℕ)) (command : Command) (cause : Cause) → amount_of field ≡ Err cause → Wanted front (codes "0sp") more command → AllFail front field → AllFail front letter → IsFieldCause cause (front ++ field ∷ rest)
-bad_amount front field rest more command cause e wanted fails unnamed =
-    as_cause _ Dimension cause (sym (amount_fault field cause e)) (bad_elsewhere GivesSize front field rest (codes "0sp") more command zero_size wanted fails unnamed, no_amount_given field cause e)
+pub no_amount_cause : (front : List (List ℕ)) (field : List ℕ) (rest more : List (List ℕ)) (command : Command) (cause : Cause) → amount_of field ≡ Err cause → Wanted front (codes "0sp") more command → AllFail front field → AllFail front letter → IsFieldCause cause (front ++ field ∷ rest)
+no_amount_cause front field rest more command cause e wanted fails unnamed =
+    as_cause _ Dimension cause (sym (amount_fault field cause e)) (has_bad_elsewhere GivesSize front field rest (codes "0sp") more command zero_size wanted fails unnamed, no_amount_given field cause e)
 
 -- where one field of a kind and nothing else belongs behind these fields
 module _ (A : Type 0) (front : List (List ℕ)) (make : A → Command) (last : List (List ℕ) → Result A Cause) (read : List ℕ → Result A Cause)
-    (none : last [] ≡ Err Missing) (some : (field : List ℕ) (rest : List (List ℕ)) → last (field ∷ rest) ≡ and_right (read field) (ended rest))
+    (none : last [] ≡ Err Missing) (some : (field : List ℕ) (rest : List (List ℕ)) → last (field ∷ rest) ≡ and_right (read field) (no_field_left rest))
     (reads : (rest : List (List ℕ)) → command_of (front ++ rest) ≡ map_ok make (last rest))
     (right : List ℕ) (x : A) (right_is : read right ≡ Ok x) (fault : Cause) (unread : read letter ≡ Err fault)
     (bad : (field : List ℕ) (rest : List (List ℕ)) (cause : Cause) → read field ≡ Err cause → Wanted front right [] (make x) → AllFail front field → AllFail front letter → IsFieldCause cause (front ++ field ∷ rest)) where
@@ -224,8 +225,8 @@ module _ (A : Type 0) (front : List (List ℕ)) (make : A → Command) (last : L
   fails_behind : (field : List ℕ) (cause : Cause) → read field ≡ Err cause → AllFail front field
   fails_behind field cause e later = (cause, behind _ (field ∷ later) (append_assoc front (field ∷ []) later) ∙ (rw (some field later, e) refl))
 
-  bad_last : (field : List ℕ) (rest : List (List ℕ)) (cause : Cause) → read field ≡ Err cause → IsFieldCause cause (front ++ field ∷ rest)
-  bad_last field rest cause e =
+  last_field_cause : (field : List ℕ) (rest : List (List ℕ)) (cause : Cause) → read field ≡ Err cause → IsFieldCause cause (front ++ field ∷ rest)
+  last_field_cause field rest cause e =
       bad field rest cause e (behind _ (right ∷ []) (append-nil (front ++ right ∷ [])) ∙ alone right x right_is) (fails_behind field cause e) (fails_behind letter fault unread)
 
   extra_behind : (field : List ℕ) (y : A) (f : List ℕ) (rest : List (List ℕ)) → read field ≡ Ok y → HasExtra ((front ++ field ∷ []) ++ f ∷ rest)
@@ -233,8 +234,8 @@ module _ (A : Type 0) (front : List (List ℕ)) (make : A → Command) (last : L
       extra (front ++ field ∷ []) f rest (make y) (reads (field ∷ []) ∙ alone field y e)
       (λ other later. (Extra, behind _ (field ∷ other ∷ later) (append_assoc (front ++ field ∷ []) (other ∷ []) later ∙ append_assoc front (field ∷ []) (other ∷ later)) ∙ (rw (some field (other ∷ later), e) refl)))
 
-  by_last : (field : List ℕ) (rest : List (List ℕ)) (r : Result A Cause) (cause : Cause) → read field ≡ r → and_right r (ended rest) ≡ Err cause → IsFieldCause cause (front ++ field ∷ rest)
-  by_last field rest (Err other) cause e h = bad_last field rest cause (e ∙ h)
+  by_last : (field : List ℕ) (rest : List (List ℕ)) (r : Result A Cause) (cause : Cause) → read field ≡ r → and_right r (no_field_left rest) ≡ Err cause → IsFieldCause cause (front ++ field ∷ rest)
+  by_last field rest (Err other) cause e h = last_field_cause field rest cause (e ∙ h)
   by_last field [] (Ok y) cause e h = absurd (cc)
   by_last field (f ∷ rest) (Ok y) cause e h =
       let P : List (List ℕ) → Type 0 = λ fields. IsFieldCause cause fields in
@@ -244,30 +245,30 @@ module _ (A : Type 0) (front : List (List ℕ)) (make : A → Command) (last : L
   last_cause [] cause h = as_cause _ Missing cause (cc) lacks_last
   last_cause (field ∷ rest) cause h = by_last field rest (read field) cause refl (sym (some field rest) ∙ h)
 
--- one number and nothing else
-pub number_cause : (front : List (List ℕ)) (make : ℕ → Command) → ((rest : List (List ℕ)) → command_of (front ++ rest) ≡ map_ok make (last_number rest)) → (rest : List (List ℕ)) (cause : Cause) → last_number rest ≡ Err cause → IsFieldCause cause (front ++ rest)
+-- the cause where one number and nothing else belongs
+pub number_cause : (count : ℕ) → 0 < count → (front : List (List ℕ)) (make : ℕ → Command) → ((rest : List (List ℕ)) → command_of (front ++ rest) ≡ map_ok make (last_number count rest)) → (rest : List (List ℕ)) (cause : Cause) → last_number count rest ≡ Err cause → IsFieldCause cause (front ++ rest)
 unfolding last_number number_first
-number_cause front make reads rest cause h =
-    last_cause ℕ front make last_number (λ field. some_or Number (number_of field)) refl (λ field rest. refl) reads zero_text 0 (rw zero_names refl) Number (rw letter_no_number refl)
-    (λ field rest cause e wanted fails unnamed. bad_number front field rest [] (make 0) cause e wanted fails unnamed) rest cause h
+number_cause count some front make reads rest cause h =
+    last_cause ℕ front make (last_number count) (λ field. some_or Number (number_of count field)) refl (λ field rest. refl) reads zero_text 0 (rw (zero_names count some) refl) Number (rw (letter_no_number count) refl)
+    (λ field rest cause e wanted fails unnamed. no_number_cause count front field rest [] (make 0) cause e wanted fails unnamed) rest cause h
 
--- one number of a penalty
+-- the cause where one number of a penalty and nothing else belongs
 pub penalty_cause : (front : List (List ℕ)) (make : ℤ → Command) → ((rest : List (List ℕ)) → command_of (front ++ rest) ≡ map_ok make (last_penalty rest)) → (rest : List (List ℕ)) (cause : Cause) → last_penalty rest ≡ Err cause → IsFieldCause cause (front ++ rest)
 unfolding last_penalty penalty_first
 penalty_cause front make reads rest cause h =
     last_cause ℤ front make last_penalty (λ field. some_or Number (penalty_of field)) refl (λ field rest. refl) reads zero_text (pos 0) (rw zero_penalty refl) Number (rw letter_no_penalty refl)
-    (λ field rest cause e wanted fails unnamed. bad_penalty front field rest [] (make (pos 0)) cause e wanted fails unnamed) rest cause h
+    (λ field rest cause e wanted fails unnamed. no_penalty_cause front field rest [] (make (pos 0)) cause e wanted fails unnamed) rest cause h
 
--- one dimension
+-- the cause where one dimension and nothing else belongs
 pub dimension_cause : (front : List (List ℕ)) (make : ℤ → Command) → ((rest : List (List ℕ)) → command_of (front ++ rest) ≡ map_ok make (last_dimension rest)) → (rest : List (List ℕ)) (cause : Cause) → last_dimension rest ≡ Err cause → IsFieldCause cause (front ++ rest)
 unfolding last_dimension dimension_first
 dimension_cause front make reads rest cause h =
     last_cause ℤ front make last_dimension (λ field. dimension_or (read_dimension field)) refl (λ field rest. refl) reads (codes "0sp") (pos 0) (rw zero_dimension refl) Dimension (rw letter_no_dimension refl)
-    (λ field rest cause e wanted fails unnamed. bad_dimension front field rest [] (make (pos 0)) cause e wanted fails unnamed) rest cause h
+    (λ field rest cause e wanted fails unnamed. no_dimension_cause front field rest [] (make (pos 0)) cause e wanted fails unnamed) rest cause h
 
--- one amount of stretch or shrink
+-- the cause where one amount of stretch or shrink and nothing else belongs
 pub amount_cause : (front : List (List ℕ)) (make : Amount → Command) → ((rest : List (List ℕ)) → command_of (front ++ rest) ≡ map_ok make (last_amount rest)) → (rest : List (List ℕ)) (cause : Cause) → last_amount rest ≡ Err cause → IsFieldCause cause (front ++ rest)
 unfolding last_amount amount_first
 amount_cause front make reads rest cause h =
     last_cause Amount front make last_amount amount_of refl (λ field rest. refl) reads (codes "0sp") no_amount zero_amount Dimension letter_no_amount
-    (λ field rest cause e wanted fails unnamed. bad_amount front field rest [] (make no_amount) cause e wanted fails unnamed) rest cause h
+    (λ field rest cause e wanted fails unnamed. no_amount_cause front field rest [] (make no_amount) cause e wanted fails unnamed) rest cause h

@@ -14,8 +14,8 @@ use Rattle.script_core.specs.declared.cause.Cause.TheVariants.{Word}
 use Rattle.script_core.specs.declared.name.Name.{Name}
 use Rattle.script_core.specs.declared.name.Name.TheVariants as names
 use Rattle.script_core.specs.Names.{name_of}
-use Rattle.script_core.specs.Grammar.{IsNumber, IsDimension, form_text, IsTarget, taking_text, unboxing_text, IsGlue, Says}
-use Rattle.script_core.specs.Reading.{rest_of, number_first, dimension_first, map_ok, ended, last_number, last_dimension, right_and, font_of, rule_of, last_penalty, opening, opened, opened_into, opened_sized, opening_of, append, shift_of, append_of, unboxing, glue_of, parameter_of, command_named, named_by, command_of}
+use Rattle.script_core.specs.Grammar.{register_count, slot_count, character_count, IsNumberAmong, IsDimension, form_text, IsTarget, taking_text, unboxing_text, IsGlue, Says}
+use Rattle.script_core.specs.Reading.{rest_of, number_first, dimension_first, map_ok, no_field_left, last_number, last_dimension, right_and, font_of, rule_of, last_penalty, opening, opening_with_register, opening_into, opening_with_size, opening_of, append, shift_of, append_of, unboxing, glue_of, parameter_of, command_named, named_by, command_of}
 use Rattle.script_core.proofs.FieldLaws.{same_bytes}
 use Rattle.script_core.proofs.NameLaws.{name_text, name_written}
 use Rattle.script_core.proofs.ReadFields.{number_last, dimension_last, number_read, font_name_read, two_fields, chosen_size_read, size_read, nothing_left, rule_read, font_read, made, then_read, dimension_first_read, shift_read, glue_read, penalty_last}
@@ -23,31 +23,31 @@ use Rattle.script_core.proofs.ReadFields.{number_last, dimension_last, number_re
 along : (fields : List (List ℕ)) (c d : Command) → c ≡ d → Says fields c → Says fields d
 along fields c d e h = let P : Command → Type 0 = λ x. Says fields x in subst P e h
 
-says_open : (form : BoxForm) (target : Target) (size : List (List ℕ)) (rest : List (List ℕ)) (command : Command) → IsTarget size target → opened form target rest ≡ Ok command → Says (form_text form ∷ (size ++ codes "into" ∷ rest)) command
-unfolding opened
+says_open : (form : BoxForm) (target : Target) (size : List (List ℕ)) (rest : List (List ℕ)) (command : Command) → IsTarget size target → opening_with_register form target rest ≡ Ok command → Says (form_text form ∷ (size ++ codes "into" ∷ rest)) command
+unfolding opening_with_register
 says_open form target size rest command is h =
-    let make = made (λ register. opening form target (Some register)) (last_number rest) command h in
-    let last = number_last rest make.0 make.1 in
+    let make = made (λ register. opening form target (Some register)) (last_number register_count rest) command h in
+    let last = number_last register_count rest make.0 make.1 in
     along _ _ _ make.2 (size, codes "into" ∷ last.0 ∷ [], ap (λ (xs : List (List ℕ)). form_text form ∷ (size ++ codes "into" ∷ xs)) last.1, is, (last.0, refl, last.2))
 
-into_by : (form : BoxForm) (target : Target) (size : List (List ℕ)) (w : List ℕ) (rest : List (List ℕ)) (command : Command) (b : Bool) → bytes_eq w (codes "into") ≡ b → IsTarget size target → opened_into form target (w ∷ rest) ≡ Ok command → Says (form_text form ∷ (size ++ w ∷ rest)) command
-unfolding opened_into
+into_by : (form : BoxForm) (target : Target) (size : List (List ℕ)) (w : List ℕ) (rest : List (List ℕ)) (command : Command) (b : Bool) → bytes_eq w (codes "into") ≡ b → IsTarget size target → opening_into form target (w ∷ rest) ≡ Ok command → Says (form_text form ∷ (size ++ w ∷ rest)) command
+unfolding opening_into
 into_by form target size w rest command true e is h =
     let P : List ℕ → Type 0 = λ x. Says (form_text form ∷ (size ++ x ∷ rest)) command in
     subst P (sym (same_bytes w (codes "into") e)) (says_open form target size rest command is (rw e at h))
 into_by form target size w rest command false e is h = let s : Err Word ≡ Ok command = rw e at h in absurd (cc)
 
-says_into : (form : BoxForm) (target : Target) (size : List (List ℕ)) (rest : List (List ℕ)) (command : Command) → IsTarget size target → opened_into form target rest ≡ Ok command → Says (form_text form ∷ (size ++ rest)) command
-unfolding opened_into
+says_into : (form : BoxForm) (target : Target) (size : List (List ℕ)) (rest : List (List ℕ)) (command : Command) → IsTarget size target → opening_into form target rest ≡ Ok command → Says (form_text form ∷ (size ++ rest)) command
+unfolding opening_into
 says_into form target size [] command is h =
     let e : opening form target None ≡ command = cc in
     along _ _ _ e (size, [], refl, is, refl)
 says_into form target size (w ∷ rest) command is h = into_by form target size w rest command (bytes_eq w (codes "into")) refl is h
 
-says_sized : (form : BoxForm) (word : List ℕ) (sized : ℤ → Target) (rest : List (List ℕ)) (command : Command) → ((d : List ℕ) (z : ℤ) → IsDimension d z → IsTarget (word ∷ d ∷ []) (sized z)) → opened_sized form sized rest ≡ Ok command → Says (form_text form ∷ word ∷ rest) command
-unfolding opened_sized
+says_sized : (form : BoxForm) (word : List ℕ) (sized : ℤ → Target) (rest : List (List ℕ)) (command : Command) → ((d : List ℕ) (z : ℤ) → IsDimension d z → IsTarget (word ∷ d ∷ []) (sized z)) → opening_with_size form sized rest ≡ Ok command → Says (form_text form ∷ word ∷ rest) command
+unfolding opening_with_size
 says_sized form word sized rest command is h =
-    let read = then_read (dimension_first rest) (λ z. opened_into form (sized z) (rest_of rest)) command h in
+    let read = then_read (dimension_first rest) (λ z. opening_into form (sized z) (rest_of rest)) command h in
     let d = dimension_first_read rest read.0 read.1 in
     let P : List (List ℕ) → Type 0 = λ xs. Says (form_text form ∷ word ∷ xs) command in
     subst P (sym d.1) (says_into form (sized read.0) (word ∷ d.0 ∷ []) (rest_of rest) command (is d.0 read.0 d.2) read.2)
@@ -55,15 +55,15 @@ says_sized form word sized rest command is h =
 says_word : (form : BoxForm) (w word : List ℕ) (rest : List (List ℕ)) (command : Command) → bytes_eq w word ≡ true → Says (form_text form ∷ word ∷ rest) command → Says (form_text form ∷ w ∷ rest) command
 says_word form w word rest command e h = let P : List ℕ → Type 0 = λ x. Says (form_text form ∷ x ∷ rest) command in subst P (sym (same_bytes w word e)) h
 
-by_spread : (form : BoxForm) (w : List ℕ) (rest : List (List ℕ)) (command : Command) (b : Bool) → bytes_eq w (codes "spread") ≡ b → (if b then opened_sized form Spread rest else Err Word) ≡ Ok command → Says (form_text form ∷ w ∷ rest) command
+by_spread : (form : BoxForm) (w : List ℕ) (rest : List (List ℕ)) (command : Command) (b : Bool) → bytes_eq w (codes "spread") ≡ b → (if b then opening_with_size form Spread rest else Err Word) ≡ Ok command → Says (form_text form ∷ w ∷ rest) command
 by_spread form w rest command true e h = says_word form w (codes "spread") rest command e (says_sized form (codes "spread") Spread rest command (λ d z is. (d, refl, is)) h)
 by_spread form w rest command false e h = absurd (cc)
 
-by_to : (form : BoxForm) (w : List ℕ) (rest : List (List ℕ)) (command : Command) (b : Bool) → bytes_eq w (codes "to") ≡ b → (if b then opened_sized form To rest else (if bytes_eq w (codes "spread") then opened_sized form Spread rest else Err Word)) ≡ Ok command → Says (form_text form ∷ w ∷ rest) command
+by_to : (form : BoxForm) (w : List ℕ) (rest : List (List ℕ)) (command : Command) (b : Bool) → bytes_eq w (codes "to") ≡ b → (if b then opening_with_size form To rest else (if bytes_eq w (codes "spread") then opening_with_size form Spread rest else Err Word)) ≡ Ok command → Says (form_text form ∷ w ∷ rest) command
 by_to form w rest command true e h = says_word form w (codes "to") rest command e (says_sized form (codes "to") To rest command (λ d z is. (d, refl, is)) h)
 by_to form w rest command false e h = by_spread form w rest command (bytes_eq w (codes "spread")) refl h
 
-by_into : (form : BoxForm) (w : List ℕ) (rest : List (List ℕ)) (command : Command) (b : Bool) → bytes_eq w (codes "into") ≡ b → (if b then opened form Natural rest else (if bytes_eq w (codes "to") then opened_sized form To rest else (if bytes_eq w (codes "spread") then opened_sized form Spread rest else Err Word))) ≡ Ok command → Says (form_text form ∷ w ∷ rest) command
+by_into : (form : BoxForm) (w : List ℕ) (rest : List (List ℕ)) (command : Command) (b : Bool) → bytes_eq w (codes "into") ≡ b → (if b then opening_with_register form Natural rest else (if bytes_eq w (codes "to") then opening_with_size form To rest else (if bytes_eq w (codes "spread") then opening_with_size form Spread rest else Err Word))) ≡ Ok command → Says (form_text form ∷ w ∷ rest) command
 by_into form w rest command true e h = says_word form w (codes "into") rest command e (says_open form Natural [] rest command refl h)
 by_into form w rest command false e h = by_to form w rest command (bytes_eq w (codes "to")) refl h
 
@@ -77,8 +77,8 @@ says_opening form (w ∷ rest) command h = by_into form w rest command (bytes_eq
 says_append : (taking : Taking) (rest : List (List ℕ)) (command : Command) → append_of taking rest ≡ Ok command → Says (taking_text taking ∷ rest) command
 unfolding append_of
 says_append taking rest command h =
-    let read = then_read (number_first rest) (λ register. map_ok (append taking register) (shift_of (rest_of rest))) command h in
-    let r = number_read rest read.0 read.1 in
+    let read = then_read (number_first register_count rest) (λ register. map_ok (append taking register) (shift_of (rest_of rest))) command h in
+    let r = number_read register_count rest read.0 read.1 in
     let m = made (append taking read.0) (shift_of (rest_of rest)) command read.2 in
     along _ _ _ m.2 (r.0, rest_of rest, ap (λ (xs : List (List ℕ)). taking_text taking ∷ xs) r.1, r.2, shift_read (rest_of rest) m.0 m.1)
 
@@ -142,13 +142,13 @@ says_set rest command h =
     let m = made Set (parameter_of rest) command h in
     along (codes "set" ∷ rest) (Set m.0) command m.2 (says_parameter rest m.0 m.1)
 
-says_alone : (name : List ℕ) (rest : List (List ℕ)) (make : ℕ → Command) (command : Command) → ((r : List ℕ) (n : ℕ) → IsNumber r n → Says (name ∷ r ∷ []) (make n)) → map_ok make (last_number rest) ≡ Ok command → Says (name ∷ rest) command
-says_alone name rest make command says h =
-    let m = made make (last_number rest) command h in
-    let last = number_last rest m.0 m.1 in
+says_alone : (count : ℕ) (name : List ℕ) (rest : List (List ℕ)) (make : ℕ → Command) (command : Command) → ((r : List ℕ) (n : ℕ) → IsNumberAmong count r n → Says (name ∷ r ∷ []) (make n)) → map_ok make (last_number count rest) ≡ Ok command → Says (name ∷ rest) command
+says_alone count name rest make command says h =
+    let m = made make (last_number count rest) command h in
+    let last = number_last count rest m.0 m.1 in
     along _ _ _ m.2 (let P : List (List ℕ) → Type 0 = λ xs. Says (name ∷ xs) (make m.0) in subst P (sym last.1) (says last.0 m.0 last.2))
 
-says_end : (rest : List (List ℕ)) (command : Command) → right_and (ended rest) (Ok End) ≡ Ok command → Says (codes "end" ∷ rest) command
+says_end : (rest : List (List ℕ)) (command : Command) → right_and (no_field_left rest) (Ok End) ≡ Ok command → Says (codes "end" ∷ rest) command
 says_end [] command h = let e : End ≡ command = cc in along _ _ _ e refl
 says_end (field ∷ rest) command h = absurd (cc)
 
@@ -173,7 +173,7 @@ says_font : (rest : List (List ℕ)) (command : Command) → font_of rest ≡ Ok
 unfolding font_of
 says_font rest command h =
     let r = font_read _ _ _ command h in
-    let slot = number_read rest r.slot r.slot_is in
+    let slot = number_read slot_count rest r.slot r.slot_is in
     let name = font_name_read (rest_of rest) r.name r.name_is in
     let all : rest ≡ slot.0 ∷ r.name ∷ rest_of (rest_of rest) = cc in
     along _ _ _ (sym r.command_is)
@@ -182,21 +182,21 @@ says_font rest command h =
 says_named : (name : Name) (rest : List (List ℕ)) (command : Command) → command_named name rest ≡ Ok command → Says (name_text name ∷ rest) command
 unfolding command_named
 says_named names.Font rest command h = says_font rest command h
-says_named names.Use rest command h = says_alone (codes "use") rest UseFont command (λ r n is. (r, refl, is)) h
+says_named names.Use rest command h = says_alone slot_count (codes "use") rest UseFont command (λ r n is. (r, refl, is)) h
 says_named (names.Open form) rest command h = says_opening form rest command h
 says_named names.End rest command h = says_end rest command h
-says_named names.Character rest command h = says_alone (codes "char") rest Character command (λ r n is. (r, refl, is)) h
+says_named names.Character rest command h = says_alone character_count (codes "char") rest Character command (λ r n is. (r, refl, is)) h
 says_named names.Rule rest command h = says_rule rest command h
 says_named names.Kern rest command h = says_kern rest command h
 says_named names.Glue rest command h = says_glue rest command h
 says_named names.Penalty rest command h = says_penalty rest command h
 says_named (names.Append taking) rest command h = says_append taking rest command h
-says_named (names.Unbox kind taking) rest command h = says_alone (unboxing_text kind taking) rest (unboxing kind taking) command (λ r n is. (r, refl, is)) h
-says_named names.LastBox rest command h = says_alone (codes "lastbox") rest LastBox command (λ r n is. (r, refl, is)) h
-says_named names.Measure rest command h = says_alone (codes "measure") rest Measure command (λ r n is. (r, refl, is)) h
-says_named names.Void rest command h = says_alone (codes "void") rest Void command (λ r n is. (r, refl, is)) h
+says_named (names.Unbox kind taking) rest command h = says_alone register_count (unboxing_text kind taking) rest (unboxing kind taking) command (λ r n is. (r, refl, is)) h
+says_named names.LastBox rest command h = says_alone register_count (codes "lastbox") rest LastBox command (λ r n is. (r, refl, is)) h
+says_named names.Measure rest command h = says_alone register_count (codes "measure") rest Measure command (λ r n is. (r, refl, is)) h
+says_named names.Void rest command h = says_alone register_count (codes "void") rest Void command (λ r n is. (r, refl, is)) h
 says_named names.Set rest command h = says_set rest command h
-says_named names.Ship rest command h = says_alone (codes "ship") rest Ship command (λ r n is. (r, refl, is)) h
+says_named names.Ship rest command h = says_alone register_count (codes "ship") rest Ship command (λ r n is. (r, refl, is)) h
 
 says_by : (word : List ℕ) (rest : List (List ℕ)) (command : Command) (o : Option Name) → name_of word ≡ o → named_by o rest ≡ Ok command → Says (word ∷ rest) command
 says_by word rest command None e h = absurd (cc)

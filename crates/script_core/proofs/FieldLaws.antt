@@ -9,14 +9,14 @@ use Rattle.std.proofs.lemmas.Slice.Eq.{bytes_eq-Decides}
 use Rattle.tfm_core.specs.Scaling.{IsFontSize}
 use Rattle.scaled_core.specs.Dimensions.{Within}
 use Rattle.scaled_core.specs.declared.fault.DimenFault.{DimenFault}
-use Rattle.scaled_core.specs.ParsedTexts.{read_dimension, dimension_value, fitted, measured, unit_named, is_negative, behind_sign, front_digits, behind_digits, point_digits, behind_fraction}
+use Rattle.scaled_core.specs.ParsedTexts.{read_dimension, dimension_value, parsed_value, written_value, unit_named, is_negative, behind_sign, front_digits, behind_digits, point_digits, behind_fraction}
 use Rattle.scaled_core.proofs.Fitting.{dimension_fits}
 use Rattle.scaled_core.proofs.ReadingCases.{reads-ok, reads-fits}
 use Rattle.scaled_core.proofs.TextLaws.{dimension_value-from_text}
 use Rattle.node_core.specs.declared.tree.RuleSize.{RuleSize}
 use Rattle.node_core.specs.declared.tree.RuleSize.TheVariants.{Running, Fixed}
-use Rattle.script_core.specs.Grammar.{IsNumber, IsPenalty, IsDimension, IsSize, IsName, is_name_byte}
-use Rattle.script_core.specs.Reading.{number_of, small_number, penalty_of, penalty_number, size_of_font, is_short, is_name, is_numeral, size_of, map_ok, dimension_or}
+use Rattle.script_core.specs.Grammar.{IsNumberAmong, IsPenalty, IsDimension, IsSize, IsName, is_name_byte}
+use Rattle.script_core.specs.Reading.{number_of, number_among, penalty_of, penalty_number, size_of_font, is_short, is_name, is_numeral, size_of, map_ok, dimension_or}
 use Rattle.script_core.proofs.Numbers.{and_parts, numeral, number_names, within_penalties, penalty_names, penalty_in}
 
 -- the bytes are those of the text
@@ -26,29 +26,29 @@ same_bytes xs ys h = (bytes_eq-Decides xs ys).0 h
 pub bytes_same : (xs : List ℕ) → bytes_eq xs xs ≡ true
 bytes_same xs = (bytes_eq-Decides xs xs).1 refl
 
-one_small : (m n : ℕ) (b : Bool) → nat_lt m 256 ≡ b → small_number (pos m) ≡ Some n → (pos m ≡ pos n) × (n < 256)
-one_small m n true e h =
+one_small : (count m n : ℕ) (b : Bool) → nat_lt m count ≡ b → number_among count (pos m) ≡ Some n → (pos m ≡ pos n) × (n < count)
+one_small count m n true e h =
     let s : Some m ≡ Some n = sym (rw e refl) ∙ h in
     let same : m ≡ n = cc in
-    (ap pos same, omega (arith, ltb-true m 256 e))
-one_small m n false e h = let s : None ≡ Some n = rw e at h in absurd (cc)
+    (ap pos same, omega (arith, ltb-true m count e))
+one_small count m n false e h = let s : None ≡ Some n = rw e at h in absurd (cc)
 
-number_by : (z : ℤ) (n : ℕ) → small_number z ≡ Some n → (z ≡ pos n) × (n < 256)
-number_by (pos m) n h = one_small m n (nat_lt m 256) refl h
-number_by (negsuc m) n h = absurd (cc)
+number_by : (count : ℕ) (z : ℤ) (n : ℕ) → number_among count z ≡ Some n → (z ≡ pos n) × (n < count)
+number_by count (pos m) n h = one_small count m n (nat_lt m count) refl h
+number_by count (negsuc m) n h = absurd (cc)
 
-by_numeral : (field : List ℕ) (n : ℕ) (b : Bool) → is_numeral (without_leading_sign field) ≡ b → number_of field ≡ Some n → IsNumber field n
+by_numeral : (count : ℕ) (field : List ℕ) (n : ℕ) (b : Bool) → is_numeral (without_leading_sign field) ≡ b → number_of count field ≡ Some n → IsNumberAmong count field n
 unfolding number_of
-by_numeral field n true e h =
-    let number = number_by (signed_digits_value 10 field) n (rw e at h) in
+by_numeral count field n true e h =
+    let number = number_by count (signed_digits_value 10 field) n (rw e at h) in
     record { written = record { digits = numeral (without_leading_sign field) e; value = number.0 }; small = number.1 }
-by_numeral field n false e h = let s : None ≡ Some n = rw e at h in absurd (cc)
+by_numeral count field n false e h = let s : None ≡ Some n = rw e at h in absurd (cc)
 
-pub writes_number : (field : List ℕ) (n : ℕ) → number_of field ≡ Some n → IsNumber field n
-writes_number field n h = by_numeral field n _ refl h
+pub writes_number : (count : ℕ) (field : List ℕ) (n : ℕ) → number_of count field ≡ Some n → IsNumberAmong count field n
+writes_number count field n h = by_numeral count field n _ refl h
 
-pub number_written : (field : List ℕ) (n : ℕ) → IsNumber field n → number_of field ≡ Some n
-number_written field n h = number_names field (pos n) h.written ∙ (rw (lt-ltb n 256 h.small) refl)
+pub number_written : (count : ℕ) (field : List ℕ) (n : ℕ) → IsNumberAmong count field n → number_of count field ≡ Some n
+number_written count field n h = number_names count field (pos n) h.written ∙ (rw (lt-ltb n count h.small) refl)
 
 one_penalty : (y z : ℤ) (b : Bool) → nat_le (unsigned_abs y) 500000000 ≡ b → penalty_number y ≡ Some z → (y ≡ z) × Within 500000000 z
 one_penalty y z true e h =
@@ -74,12 +74,12 @@ pub reads_dimension : (field : List ℕ) (z : ℤ) → read_dimension field ≡ 
 reads_dimension field z h = record { text = reads-ok field (Ok z) (sym h); fits = reads-fits field (Ok z) (sym h) }
 
 pub dimension_read : (field : List ℕ) (z : ℤ) → IsDimension field z → read_dimension field ≡ Ok z
-unfolding read_dimension fitted
+unfolding read_dimension parsed_value
 dimension_read field z h = rw (dimension_value-from_text field z h.text, dimension_fits z h.fits) refl
 
 -- `*` is no dimension
 star_is_none : (z : ℤ) → read_dimension (codes "*") ≡ Ok z → ⊥
-unfolding read_dimension dimension_value fitted measured unit_named is_negative behind_sign front_digits behind_digits point_digits behind_fraction
+unfolding read_dimension dimension_value parsed_value written_value unit_named is_negative behind_sign front_digits behind_digits point_digits behind_fraction
 star_is_none z h = cc
 
 fixed_of : (r : Result ℤ DimenFault) (size : RuleSize) → map_ok Fixed (dimension_or r) ≡ Ok size → (z : ℤ) × (r ≡ Ok z) × (size ≡ Fixed z)

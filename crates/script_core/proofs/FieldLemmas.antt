@@ -18,7 +18,7 @@ fields-without_one : (byte : ℕ) (line : List ℕ) (b : Bool) → is_space byte
 fields-without_one byte line true e more = fields-space byte line e ∙ more ∙ (rw (e, one-add) refl)
 fields-without_one byte line false e more = rw e refl
 
--- nor do several
+-- several spaces in front of a line say nothing
 fields-without_spaces : (line : List ℕ) → fields_of line ≡ fields_of (without_spaces line)
 fields-without_spaces [] = refl
 fields-without_spaces (byte ∷ line) = fields-without_one byte line (is_space byte) refl (fields-without_spaces line)

@@ -1,5 +1,5 @@
 -- The cause that the function names holds of the fields behind `font`.
-use Rattle.std.proofs.Common.{◌≡◌, inl, inr, ℕ, ℤ, pos, Bool, true, false, List, [], ◌∷◌, Option, Some, None, Result, Ok, Err, codes, refl, sym, ◌∙◌, subst}
+use Rattle.std.proofs.Common.{◌≡◌, inl, inr, ℕ, ℤ, pos, Bool, true, false, List, [], ◌∷◌, Option, Some, None, Result, Ok, Err, codes, refl, sym, ◌∙◌, subst, arith}
 use Rattle.std.specs.Str.{bytes_eq}
 use Rattle.node_core.specs.declared.tree.RuleSize.TheVariants.{Fixed}
 use Rattle.command_core.specs.declared.command.Command.{Command}
@@ -8,18 +8,18 @@ use Rattle.scaled_core.specs.declared.fault.DimenFault.{DimenFault}
 use Rattle.scaled_core.specs.declared.fault.DimenFault.TheVariants.{NotADimension}
 use Rattle.scaled_core.specs.Rounding.{nearest}
 use Rattle.scaled_core.specs.DimensionTexts.{decimal_fraction}
-use Rattle.scaled_core.specs.ParsedTexts.{read_dimension, dimension_value, fitted, measured, unit_named, is_negative, behind_sign, front_digits, behind_digits, point_digits, behind_fraction}
+use Rattle.scaled_core.specs.ParsedTexts.{read_dimension, dimension_value, parsed_value, written_value, unit_named, is_negative, behind_sign, front_digits, behind_digits, point_digits, behind_fraction}
 use Rattle.script_core.specs.declared.cause.Cause.{Cause}
 use Rattle.script_core.specs.declared.cause.Cause.TheVariants as causes
 use Rattle.script_core.specs.declared.cause.Cause.TheVariants.{Word, Missing, Extra, Number, Dimension}
 use Rattle.script_core.specs.declared.name.Name.TheVariants as names
-use Rattle.script_core.specs.Grammar.{IsName}
+use Rattle.script_core.specs.Grammar.{slot_count, IsName}
 use Rattle.script_core.specs.Causes.{IsWord, GivesNumber, GivesSizeOfFont, GivesSize, IsFieldCause}
 use Rattle.script_core.specs.Reading.{number_of, number_first, size_of_font, size_of_font_first, dimension_first, is_name, name_first, chosen_size_of, font_by, font_of, map_ok, command_named, command_of}
 use Rattle.script_core.proofs.FieldLaws.{same_bytes, reads_dimension, font_named, is_size_of_font}
 use Rattle.script_core.proofs.NameLaws.{named}
 use Rattle.script_core.proofs.CommandLaws.{sound}
-use Rattle.script_core.proofs.CauseForms.{Fails, AllFail, missing, bad_field, bad_elsewhere, extra, as_cause, not_made, zero_text, zero_names, zero_number, no_dimension_given, at_is_word, letter, letter_passes, letter_names, letter_no_number, letter_no_dimension}
+use Rattle.script_core.proofs.CauseForms.{Fails, AllFail, missing, has_bad, has_bad_elsewhere, extra, as_cause, not_made, zero_text, zero_names, zero_number, no_dimension_given, at_is_word, letter, letter_passes, letter_names, letter_no_number, letter_no_dimension}
 
 abbrev load : ℕ → List ℕ → Option ℤ → Command
 load slot name size = LoadFont (record { slot = slot; name = name; size = size })
@@ -33,7 +33,7 @@ abbrev one : List ℕ
 one = codes "1sp"
 
 one_dimension : read_dimension one ≡ Ok (pos 1)
-unfolding read_dimension dimension_value fitted measured unit_named is_negative behind_sign front_digits behind_digits point_digits behind_fraction decimal_fraction nearest
+unfolding read_dimension dimension_value parsed_value written_value unit_named is_negative behind_sign front_digits behind_digits point_digits behind_fraction decimal_fraction nearest
 one_dimension = refl
 
 one_size : GivesSize one
@@ -49,15 +49,15 @@ slot_lacks : command_of (codes "font" ∷ []) ≡ Err Missing
 unfolding font_of number_first
 slot_lacks = font_reads []
 
-no_slot : (s : List ℕ) (rest : List (List ℕ)) → number_of s ≡ None → command_of (codes "font" ∷ s ∷ rest) ≡ Err Number
+no_slot : (s : List ℕ) (rest : List (List ℕ)) → number_of slot_count s ≡ None → command_of (codes "font" ∷ s ∷ rest) ≡ Err Number
 unfolding font_of number_first
 no_slot s rest e = font_reads (s ∷ rest) ∙ (rw e refl)
 
-name_lacks : (s : List ℕ) (n : ℕ) → number_of s ≡ Some n → command_of (codes "font" ∷ s ∷ []) ≡ Err Missing
+name_lacks : (s : List ℕ) (n : ℕ) → number_of slot_count s ≡ Some n → command_of (codes "font" ∷ s ∷ []) ≡ Err Missing
 unfolding font_of number_first name_first
 name_lacks s n e = font_reads (s ∷ []) ∙ (rw e refl)
 
-no_name : (s : List ℕ) (n : ℕ) (name : List ℕ) (rest : List (List ℕ)) → number_of s ≡ Some n → is_name name ≡ false → command_of (codes "font" ∷ s ∷ name ∷ rest) ≡ Err causes.Name
+no_name : (s : List ℕ) (n : ℕ) (name : List ℕ) (rest : List (List ℕ)) → number_of slot_count s ≡ Some n → is_name name ≡ false → command_of (codes "font" ∷ s ∷ name ∷ rest) ≡ Err causes.Name
 unfolding font_of number_first name_first
 no_name s n name rest e f = font_reads (s ∷ name ∷ rest) ∙ (rw (e, f) refl)
 
@@ -65,7 +65,7 @@ sized : (slot : ℕ) (name : List ℕ) (r : Result (Option ℤ) Cause) → font_
 sized slot name (Err cause) = refl
 sized slot name (Ok size) = refl
 
-behind_name : (s : List ℕ) (n : ℕ) (name : List ℕ) (rest : List (List ℕ)) → number_of s ≡ Some n → is_name name ≡ true → command_of (codes "font" ∷ s ∷ name ∷ rest) ≡ map_ok (load n name) (chosen_size_of rest)
+behind_name : (s : List ℕ) (n : ℕ) (name : List ℕ) (rest : List (List ℕ)) → number_of slot_count s ≡ Some n → is_name name ≡ true → command_of (codes "font" ∷ s ∷ name ∷ rest) ≡ map_ok (load n name) (chosen_size_of rest)
 unfolding font_of number_first name_first
 behind_name s n name rest e f = font_reads (s ∷ name ∷ rest) ∙ (rw (e, f) (sized n name (chosen_size_of rest)))
 
@@ -103,7 +103,7 @@ unfolding chosen_size_of size_of_font_first dimension_first
 at_more d f rest z y e g = rw (e, g) refl
 
 -- behind a slot and a name
-module _ (s : List ℕ) (n : ℕ) (name : List ℕ) (is_slot : number_of s ≡ Some n) (named : is_name name ≡ true) where
+module _ (s : List ℕ) (n : ℕ) (name : List ℕ) (is_slot : number_of slot_count s ≡ Some n) (named : is_name name ≡ true) where
   fails : (rest : List (List ℕ)) (cause : Cause) → chosen_size_of rest ≡ Err cause → Fails (codes "font" ∷ s ∷ name ∷ rest)
   fails rest cause h = (cause, behind_name s n name rest is_slot named ∙ (rw h refl))
 
@@ -117,7 +117,7 @@ module _ (s : List ℕ) (n : ℕ) (name : List ℕ) (is_slot : number_of s ≡ S
   by_size d rest z None cause e f h =
       as_cause _ Number cause (let no = no_size d rest z e f in cc)
       (inr (
-        bad_elsewhere GivesSizeOfFont (codes "font" ∷ s ∷ name ∷ codes "at" ∷ []) d rest one [] (load n name (Some (pos 1))) one_size_of_font (loads (codes "at" ∷ one ∷ []) (Some (pos 1)) at_given)
+        has_bad_elsewhere GivesSizeOfFont (codes "font" ∷ s ∷ name ∷ codes "at" ∷ []) d rest one [] (load n name (Some (pos 1))) one_size_of_font (loads (codes "at" ∷ one ∷ []) (Some (pos 1)) at_given)
             (λ later. fails (codes "at" ∷ d ∷ later) Number (no_size d later z e f)) fails_at,
         (z, reads_dimension d z e),
       ))
@@ -130,7 +130,7 @@ module _ (s : List ℕ) (n : ℕ) (name : List ℕ) (is_slot : number_of s ≡ S
   by_dimension : (d : List ℕ) (rest : List (List ℕ)) (o : Result ℤ DimenFault) (cause : Cause) → read_dimension d ≡ o → chosen_size_of (codes "at" ∷ d ∷ rest) ≡ Err cause → IsFieldCause cause (codes "font" ∷ s ∷ name ∷ codes "at" ∷ d ∷ rest)
   by_dimension d rest (Err fault) cause e h =
       as_cause _ Dimension cause (let no = no_dimension d rest fault e in cc) (
-        bad_elsewhere GivesSize (codes "font" ∷ s ∷ name ∷ codes "at" ∷ []) d rest one [] (load n name (Some (pos 1))) one_size (loads (codes "at" ∷ one ∷ []) (Some (pos 1)) at_given)
+        has_bad_elsewhere GivesSize (codes "font" ∷ s ∷ name ∷ codes "at" ∷ []) d rest one [] (load n name (Some (pos 1))) one_size (loads (codes "at" ∷ one ∷ []) (Some (pos 1)) at_given)
             (λ later. fails (codes "at" ∷ d ∷ later) Dimension (no_dimension d later fault e)) fails_at,
         no_dimension_given d fault e,
       )
@@ -150,30 +150,30 @@ module _ (s : List ℕ) (n : ℕ) (name : List ℕ) (is_slot : number_of s ≡ S
       subst P (sym at) (behind_at rest cause (subst Q at h))
   by_word w rest false cause e h =
       as_cause _ Word cause (let no = no_at w rest e in cc)
-      (bad_elsewhere IsWord (codes "font" ∷ s ∷ name ∷ []) w rest (codes "at") (one ∷ []) (load n name (Some (pos 1))) at_is_word (loads (codes "at" ∷ one ∷ []) (Some (pos 1)) at_given)
+      (has_bad_elsewhere IsWord (codes "font" ∷ s ∷ name ∷ []) w rest (codes "at") (one ∷ []) (load n name (Some (pos 1))) at_is_word (loads (codes "at" ∷ one ∷ []) (Some (pos 1)) at_given)
       (λ later. fails (w ∷ later) Word (no_at w later e)) (λ later. fails (letter ∷ later) Word (no_at letter later refl)))
 
   pub size_cause : (rest : List (List ℕ)) (cause : Cause) → chosen_size_of rest ≡ Err cause → IsFieldCause cause (codes "font" ∷ s ∷ name ∷ rest)
   size_cause [] cause h = absurd (let right = nothing_given in cc)
   size_cause (w ∷ rest) cause h = by_word w rest (bytes_eq w (codes "at")) cause refl h
 
-with_letter : (s : List ℕ) (n : ℕ) → number_of s ≡ Some n → command_of (codes "font" ∷ s ∷ letter ∷ []) ≡ Ok (load n letter None)
+with_letter : (s : List ℕ) (n : ℕ) → number_of slot_count s ≡ Some n → command_of (codes "font" ∷ s ∷ letter ∷ []) ≡ Ok (load n letter None)
 with_letter s n e = loads s n letter e letter_passes [] None nothing_given
 
-name_by : (s : List ℕ) (n : ℕ) (name : List ℕ) (rest : List (List ℕ)) (b : Bool) (cause : Cause) → number_of s ≡ Some n → is_name name ≡ b → command_of (codes "font" ∷ s ∷ name ∷ rest) ≡ Err cause → IsFieldCause cause (codes "font" ∷ s ∷ name ∷ rest)
+name_by : (s : List ℕ) (n : ℕ) (name : List ℕ) (rest : List (List ℕ)) (b : Bool) (cause : Cause) → number_of slot_count s ≡ Some n → is_name name ≡ b → command_of (codes "font" ∷ s ∷ name ∷ rest) ≡ Err cause → IsFieldCause cause (codes "font" ∷ s ∷ name ∷ rest)
 name_by s n name rest false cause e f h =
     as_cause _ causes.Name cause (let no = no_name s n name rest e f in cc) (
-      bad_field IsName (codes "font" ∷ s ∷ []) name rest letter [] (load n letter None) letter_names (with_letter s n e) (λ later. (causes.Name, no_name s n name later e f)),
+      has_bad IsName (codes "font" ∷ s ∷ []) name rest letter [] (load n letter None) letter_names (with_letter s n e) (λ later. (causes.Name, no_name s n name later e f)),
       λ other is. ([], (load n other None, sound (codes "font" ∷ s ∷ other ∷ []) (load n other None) (loads s n other e (font_named other is) [] None nothing_given))),
     )
 name_by s n name rest true cause e f h =
     size_cause s n name e f rest cause (not_made (load n name) (chosen_size_of rest) cause (sym (behind_name s n name rest e f) ∙ h))
 
-slot_by : (s : List ℕ) (rest : List (List ℕ)) (o : Option ℕ) (cause : Cause) → number_of s ≡ o → command_of (codes "font" ∷ s ∷ rest) ≡ Err cause → IsFieldCause cause (codes "font" ∷ s ∷ rest)
+slot_by : (s : List ℕ) (rest : List (List ℕ)) (o : Option ℕ) (cause : Cause) → number_of slot_count s ≡ o → command_of (codes "font" ∷ s ∷ rest) ≡ Err cause → IsFieldCause cause (codes "font" ∷ s ∷ rest)
 slot_by s rest None cause e h =
     as_cause _ Number cause (let no = no_slot s rest e in cc)
-    (inl (bad_elsewhere GivesNumber (codes "font" ∷ []) s rest zero_text (letter ∷ []) (load 0 letter None) zero_number (with_letter zero_text 0 zero_names)
-    (λ later. (Number, no_slot s later e)) (λ later. (Number, no_slot letter later letter_no_number))))
+    (inl (has_bad_elsewhere GivesNumber (codes "font" ∷ []) s rest zero_text (letter ∷ []) (load 0 letter None) zero_number (with_letter zero_text 0 (zero_names slot_count (omega arith)))
+    (λ later. (Number, no_slot s later e)) (λ later. (Number, no_slot letter later (letter_no_number slot_count)))))
 slot_by s [] (Some n) cause e h =
     as_cause _ Missing cause (let lacks = name_lacks s n e in cc)
     (missing (codes "font" ∷ s ∷ []) (letter ∷ []) (load n letter None) (Missing, name_lacks s n e) (with_letter s n e))
@@ -182,5 +182,5 @@ slot_by s (name ∷ rest) (Some n) cause e h = name_by s n name rest (is_name na
 pub font_cause : (rest : List (List ℕ)) (cause : Cause) → command_of (codes "font" ∷ rest) ≡ Err cause → IsFieldCause cause (codes "font" ∷ rest)
 font_cause [] cause h =
     as_cause _ Missing cause (let lacks = slot_lacks in cc)
-    (missing (codes "font" ∷ []) (zero_text ∷ letter ∷ []) (load 0 letter None) (Missing, slot_lacks) (with_letter zero_text 0 zero_names))
-font_cause (s ∷ rest) cause h = slot_by s rest (number_of s) cause refl h
+    (missing (codes "font" ∷ []) (zero_text ∷ letter ∷ []) (load 0 letter None) (Missing, slot_lacks) (with_letter zero_text 0 (zero_names slot_count (omega arith))))
+font_cause (s ∷ rest) cause h = slot_by s rest (number_of slot_count s) cause refl h

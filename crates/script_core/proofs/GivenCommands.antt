@@ -11,16 +11,16 @@ use Rattle.command_core.specs.declared.command.Command.{Command}
 use Rattle.command_core.specs.declared.command.Command.TheVariants.{LoadFont, UseFont, Open, End, Text, Character, Rule, Kern, Glue, Penalty, Append, Unbox, LastBox, Measure, Void, Set, Ship}
 use Rattle.script_core.specs.declared.name.Name.TheVariants as names
 use Rattle.script_core.specs.declared.amounts.Amount.{Amount}
-use Rattle.script_core.specs.Grammar.{IsNumber, IsChosenSize, IsTarget, IsDestination, IsShift, IsAmount, IsPart, IsGlue, Says}
-use Rattle.script_core.specs.Reading.{number_first, dimension_first, size_of_font_first, name_first, map_ok, size_first, last_number, last_dimension, chosen_size_of, font_of, rule_of, penalty_first, last_penalty, amount, amount_first, last_amount, opening, opened, opened_into, opened_sized, opening_of, append, shift_of, append_of, unboxing, no_amount, glue, last_shrink_of, shrink_of, parts_of, glue_of, parameter_of, command_named, command_of}
+use Rattle.script_core.specs.Grammar.{register_count, slot_count, character_count, IsNumberAmong, IsRegister, IsChosenSize, IsTarget, IsDestination, IsShift, IsAmount, IsPart, IsGlue, Says}
+use Rattle.script_core.specs.Reading.{number_first, dimension_first, size_of_font_first, name_first, map_ok, size_first, last_number, last_dimension, chosen_size_of, font_of, rule_of, penalty_first, last_penalty, amount, amount_first, last_amount, opening, opening_with_register, opening_into, opening_with_size, opening_of, append, shift_of, append_of, unboxing, no_amount, glue, last_shrink_of, shrink_of, parts_of, glue_of, parameter_of, command_named, command_of}
 use Rattle.script_core.proofs.AmountLaws.{amount_given}
 use Rattle.script_core.proofs.FieldLaws.{number_written, penalty_written, dimension_read, size_given, font_named, size_of_font_is}
 use Rattle.script_core.proofs.NameLaws.{named}
 
--- a last number
-pub number_alone : (make : ℕ → Command) (r : List ℕ) (n : ℕ) → IsNumber r n → map_ok make (last_number (r ∷ [])) ≡ Ok (make n)
+-- a number that is the last field
+pub number_alone : (count : ℕ) (make : ℕ → Command) (r : List ℕ) (n : ℕ) → IsNumberAmong count r n → map_ok make (last_number count (r ∷ [])) ≡ Ok (make n)
 unfolding last_number number_first
-number_alone make r n h = rw (number_written r n h) refl
+number_alone count make r n h = rw (number_written count r n h) refl
 
 -- the size behind the name of a font
 pub chosen_size_given : (fields : List (List ℕ)) (size : Option ℤ) → IsChosenSize fields size → chosen_size_of fields ≡ Ok size
@@ -29,19 +29,19 @@ chosen_size_given fields None h = rw h refl
 chosen_size_given fields (Some z) (d, e, h) = rw (e, dimension_read d z h.dimension, size_of_font_is z h.size) refl
 
 -- what stands behind a size
-destination_given : (form : BoxForm) (target : Target) (fields : List (List ℕ)) (into : Option ℕ) → IsDestination fields into → opened_into form target fields ≡ Ok (opening form target into)
-unfolding opened_into opened
+destination_given : (form : BoxForm) (target : Target) (fields : List (List ℕ)) (into : Option ℕ) → IsDestination fields into → opening_into form target fields ≡ Ok (opening form target into)
+unfolding opening_into opening_with_register
 destination_given form target fields None h = rw h refl
-destination_given form target fields (Some n) (r, e, h) = rw e (number_alone (λ register. opening form target (Some register)) r n h)
+destination_given form target fields (Some n) (r, e, h) = rw e (number_alone register_count (λ register. opening form target (Some register)) r n h)
 
 natural_given : (form : BoxForm) (fields : List (List ℕ)) (into : Option ℕ) → IsDestination fields into → opening_of form fields ≡ Ok (opening form Natural into)
-unfolding opening_of opened
+unfolding opening_of opening_with_register
 natural_given form fields None h = rw h refl
-natural_given form fields (Some n) (r, e, h) = rw e (number_alone (λ register. opening form Natural (Some register)) r n h)
+natural_given form fields (Some n) (r, e, h) = rw e (number_alone register_count (λ register. opening form Natural (Some register)) r n h)
 
 -- a size and what stands behind it
 opening_given : (form : BoxForm) (size : List (List ℕ)) (target : Target) (fields : List (List ℕ)) (into : Option ℕ) → IsTarget size target → IsDestination fields into → opening_of form (size ++ fields) ≡ Ok (opening form target into)
-unfolding opening_of opened_sized dimension_first
+unfolding opening_of opening_with_size dimension_first
 opening_given form size Natural fields into e h = rw e (natural_given form fields into h)
 opening_given form size (To z) fields into (d, e, is) h = rw (e, dimension_read d z is) (destination_given form (To z) fields into h)
 opening_given form size (Spread z) fields into (d, e, is) h = rw (e, dimension_read d z is) (destination_given form (Spread z) fields into h)
@@ -51,9 +51,9 @@ unfolding shift_of last_dimension dimension_first
 shift_given fields z (inl h) = rw (h.0, h.1) refl
 shift_given fields z (inr (d, e, h)) = rw (e, dimension_read d z h) refl
 
-append_given : (taking : Taking) (r : List ℕ) (n : ℕ) (fields : List (List ℕ)) (z : ℤ) → IsNumber r n → IsShift fields z → append_of taking (r ∷ fields) ≡ Ok (append taking n z)
+append_given : (taking : Taking) (r : List ℕ) (n : ℕ) (fields : List (List ℕ)) (z : ℤ) → IsRegister r n → IsShift fields z → append_of taking (r ∷ fields) ≡ Ok (append taking n z)
 unfolding append_of number_first
-append_given taking r n fields z h is = rw (number_written r n h, shift_given fields z is) refl
+append_given taking r n fields z h is = rw (number_written register_count r n h, shift_given fields z is) refl
 
 last_amount_given : (make : Amount → glues.Glue) (x : List ℕ) (order : Order) (z : ℤ) → IsAmount x order z → map_ok make (last_amount (x ∷ [])) ≡ Ok (make (amount order z))
 unfolding last_amount amount_first
@@ -87,25 +87,25 @@ glue_given fields g (d, plus, minus, e, width, stretch, shrink) =
 pub complete : (fields : List (List ℕ)) (command : Command) → Says fields command → command_of fields ≡ Ok command
 unfolding command_named font_of number_first name_first rule_of parameter_of size_first last_dimension dimension_first last_penalty penalty_first
 complete fields (LoadFont load) (s, more, e, slot, name, size) =
-    rw e (named names.Font (s ∷ load.name ∷ more) ∙ (rw (number_written s load.slot slot, font_named load.name name, chosen_size_given more load.size size) refl))
-complete fields (UseFont n) (s, e, h) = rw e (named names.Use (s ∷ []) ∙ number_alone UseFont s n h)
+    rw e (named names.Font (s ∷ load.name ∷ more) ∙ (rw (number_written slot_count s load.slot slot, font_named load.name name, chosen_size_given more load.size size) refl))
+complete fields (UseFont n) (s, e, h) = rw e (named names.Use (s ∷ []) ∙ number_alone slot_count UseFont s n h)
 complete fields (Open opened) (size, more, e, target, into) =
     rw e (named (names.Open opened.form) (size ++ more) ∙ opening_given opened.form size opened.target more opened.into target into)
 complete fields End e = rw e (named names.End [])
 complete fields (Text text) h = absurd h
-complete fields (Character n) (c, e, h) = rw e (named names.Character (c ∷ []) ∙ number_alone Character c n h)
+complete fields (Character n) (c, e, h) = rw e (named names.Character (c ∷ []) ∙ number_alone character_count Character c n h)
 complete fields (Rule sizes) (w, h, d, e, width, height, depth) =
     rw e (named names.Rule (w ∷ h ∷ d ∷ []) ∙ (rw (size_given w sizes.width width, size_given h sizes.height height, size_given d sizes.depth depth) refl))
 complete fields (Kern z) (d, e, h) = rw e (named names.Kern (d ∷ []) ∙ (rw (dimension_read d z h) refl))
 complete fields (Glue g) (more, e, h) = rw e (named names.Glue more ∙ (rw (glue_given more g h) refl))
 complete fields (Penalty z) (p, e, h) = rw e (named names.Penalty (p ∷ []) ∙ (rw (penalty_written p z h) refl))
 complete fields (Append taken) (r, more, e, h, is) = rw e (named (names.Append taken.taking) (r ∷ more) ∙ append_given taken.taking r taken.register more taken.shift h is)
-complete fields (Unbox unboxed) (r, e, h) = rw e (named (names.Unbox unboxed.kind unboxed.taking) (r ∷ []) ∙ number_alone (unboxing unboxed.kind unboxed.taking) r unboxed.register h)
-complete fields (LastBox n) (r, e, h) = rw e (named names.LastBox (r ∷ []) ∙ number_alone LastBox r n h)
-complete fields (Measure n) (r, e, h) = rw e (named names.Measure (r ∷ []) ∙ number_alone Measure r n h)
-complete fields (Void n) (r, e, h) = rw e (named names.Void (r ∷ []) ∙ number_alone Void r n h)
+complete fields (Unbox unboxed) (r, e, h) = rw e (named (names.Unbox unboxed.kind unboxed.taking) (r ∷ []) ∙ number_alone register_count (unboxing unboxed.kind unboxed.taking) r unboxed.register h)
+complete fields (LastBox n) (r, e, h) = rw e (named names.LastBox (r ∷ []) ∙ number_alone register_count LastBox r n h)
+complete fields (Measure n) (r, e, h) = rw e (named names.Measure (r ∷ []) ∙ number_alone register_count Measure r n h)
+complete fields (Void n) (r, e, h) = rw e (named names.Void (r ∷ []) ∙ number_alone register_count Void r n h)
 complete fields (Set (BoxMaxDepth z)) (d, e, h) = rw e (named names.Set (codes "boxmaxdepth" ∷ d ∷ []) ∙ (rw (dimension_read d z h) refl))
 complete fields (Set (BaselineSkip g)) (more, e, h) = rw e (named names.Set (codes "baselineskip" ∷ more) ∙ (rw (glue_given more g h) refl))
 complete fields (Set (LineSkip g)) (more, e, h) = rw e (named names.Set (codes "lineskip" ∷ more) ∙ (rw (glue_given more g h) refl))
 complete fields (Set (LineSkipLimit z)) (d, e, h) = rw e (named names.Set (codes "lineskiplimit" ∷ d ∷ []) ∙ (rw (dimension_read d z h) refl))
-complete fields (Ship n) (r, e, h) = rw e (named names.Ship (r ∷ []) ∙ number_alone Ship r n h)
+complete fields (Ship n) (r, e, h) = rw e (named names.Ship (r ∷ []) ∙ number_alone register_count Ship r n h)

@@ -14,7 +14,7 @@ use Rattle.script_core.specs.Causes.{IsWord, IsFieldCause}
 use Rattle.script_core.specs.Reading.{dimension_first, amount_of, amount_first, last_amount, map_ok, no_amount, glue, last_shrink_of, shrink_of, parts_of, glue_of, command_named, command_of}
 use Rattle.script_core.proofs.FieldLaws.{same_bytes}
 use Rattle.script_core.proofs.NameLaws.{named}
-use Rattle.script_core.proofs.CauseForms.{missing, bad_elsewhere, as_cause, not_made, twice, zero_dimension, zero_amount, plus_is_word, minus_is_word, letter, letter_no_dimension, letter_no_amount, bad_dimension, bad_amount, amount_cause}
+use Rattle.script_core.proofs.CauseForms.{missing, has_bad_elsewhere, as_cause, not_made, twice, zero_dimension, zero_amount, plus_is_word, minus_is_word, letter, letter_no_dimension, letter_no_amount, no_dimension_cause, no_amount_cause, amount_cause}
 
 abbrev zero : List ℕ
 zero = codes "0sp"
@@ -92,7 +92,7 @@ module _ (d : List ℕ) (z : ℤ) (is : read_dimension d ≡ Ok z) where
       (not_made (said z a) (last_amount rest) cause (sym (behind_both x a rest e) ∙ subst Q minus h)))
   by_minus x a w rest false cause e f h =
       as_cause _ Word cause (let no = no_minus x a w rest e f in cc)
-      (bad_elsewhere IsWord (codes "glue" ∷ d ∷ codes "plus" ∷ x ∷ []) w rest (codes "minus") (zero ∷ []) (said z a no_amount) minus_is_word (behind_both x a (zero ∷ []) e ∙ last_read (said z a))
+      (has_bad_elsewhere IsWord (codes "glue" ∷ d ∷ codes "plus" ∷ x ∷ []) w rest (codes "minus") (zero ∷ []) (said z a no_amount) minus_is_word (behind_both x a (zero ∷ []) e ∙ last_read (said z a))
       (λ later. (Word, no_minus x a w later e f)) (λ later. (Word, no_minus x a letter later e refl)))
 
   shrink_cause : (x : List ℕ) (a : Amount) (rest : List (List ℕ)) (cause : Cause) → amount_of x ≡ Ok a → command_of (codes "glue" ∷ d ∷ codes "plus" ∷ x ∷ rest) ≡ Err cause → IsFieldCause cause (codes "glue" ∷ d ∷ codes "plus" ∷ x ∷ rest)
@@ -102,7 +102,7 @@ module _ (d : List ℕ) (z : ℤ) (is : read_dimension d ≡ Ok z) where
   by_stretch : (x : List ℕ) (rest : List (List ℕ)) (r : Result Amount Cause) (cause : Cause) → amount_of x ≡ r → command_of (codes "glue" ∷ d ∷ codes "plus" ∷ x ∷ rest) ≡ Err cause → IsFieldCause cause (codes "glue" ∷ d ∷ codes "plus" ∷ x ∷ rest)
   by_stretch x rest (Err other) cause e h =
       let is : other ≡ cause = let no = no_stretch x rest other e in cc in
-      bad_amount (codes "glue" ∷ d ∷ codes "plus" ∷ []) x rest [] (said z no_amount no_amount) cause (e ∙ ap (λ (c : Cause). Err c) is) (stretch_alone zero no_amount zero_amount)
+      no_amount_cause (codes "glue" ∷ d ∷ codes "plus" ∷ []) x rest [] (said z no_amount no_amount) cause (e ∙ ap (λ (c : Cause). Err c) is) (stretch_alone zero no_amount zero_amount)
       (λ later. (other, no_stretch x later other e)) (λ later. (Dimension, no_stretch letter later Dimension letter_no_amount))
   by_stretch x rest (Ok a) cause e h = shrink_cause x a rest cause e h
 
@@ -128,7 +128,7 @@ module _ (d : List ℕ) (z : ℤ) (is : read_dimension d ≡ Ok z) where
   by_word w rest false true cause e f h = along_word w (codes "minus") rest cause f (minus_cause rest cause) h
   by_word w rest false false cause e f h =
       as_cause _ Word cause (let no = no_part w rest e f in cc)
-      (bad_elsewhere IsWord (codes "glue" ∷ d ∷ []) w rest (codes "plus") (zero ∷ []) (said z no_amount no_amount) plus_is_word (stretch_alone zero no_amount zero_amount)
+      (has_bad_elsewhere IsWord (codes "glue" ∷ d ∷ []) w rest (codes "plus") (zero ∷ []) (said z no_amount no_amount) plus_is_word (stretch_alone zero no_amount zero_amount)
       (λ later. (Word, no_part w later e f)) (λ later. (Word, no_part letter later refl refl)))
 
   parts_cause : (rest : List (List ℕ)) (cause : Cause) → command_of (codes "glue" ∷ d ∷ rest) ≡ Err cause → IsFieldCause cause (codes "glue" ∷ d ∷ rest)
@@ -138,7 +138,7 @@ module _ (d : List ℕ) (z : ℤ) (is : read_dimension d ≡ Ok z) where
 by_width : (d : List ℕ) (rest : List (List ℕ)) (r : Result ℤ DimenFault) (cause : Cause) → read_dimension d ≡ r → command_of (codes "glue" ∷ d ∷ rest) ≡ Err cause → IsFieldCause cause (codes "glue" ∷ d ∷ rest)
 by_width d rest (Err fault) cause e h =
     let is : Dimension ≡ cause = let no = no_width d rest fault e in cc in
-    bad_dimension (codes "glue" ∷ []) d rest [] (said (pos 0) no_amount no_amount) cause (rw e (ap (λ (c : Cause). Err c) is)) (width_alone zero (pos 0) zero_dimension)
+    no_dimension_cause (codes "glue" ∷ []) d rest [] (said (pos 0) no_amount no_amount) cause (rw e (ap (λ (c : Cause). Err c) is)) (width_alone zero (pos 0) zero_dimension)
     (λ later. (Dimension, no_width d later fault e)) (λ later. (Dimension, no_width letter later NotADimension letter_no_dimension))
 by_width d rest (Ok z) cause e h = parts_cause d z e rest cause h
 

@@ -12,7 +12,7 @@ use Rattle.std.proofs.lemmas.Bool.{ltb-true, lt-ltb, le-ltb, le-leb, lt-leb, eqb
 use Rattle.std.proofs.lemmas.Int.{ints, fits_signed_from_abs}
 use Rattle.scaled_core.specs.Dimensions.{Within}
 use Rattle.script_core.specs.Grammar.{IsInteger}
-use Rattle.script_core.specs.Reading.{number_of, small_number, penalty_of, penalty_number, is_numeral}
+use Rattle.script_core.specs.Reading.{number_of, number_among, penalty_of, penalty_number, is_numeral}
 
 abbrev is_decimal : ℕ → Bool
 is_decimal c = nat_lt (digit_value c) 10
@@ -71,7 +71,7 @@ not_text field h z is fits = h (IsUtf8-from_ascii field (number_ascii field is.d
 same_fits : (y z : ℤ) → y ≡ z → FitsSigned w64 z → FitsSigned w64 y
 same_fits y z e h = subst (FitsSigned w64) (sym e) h
 
--- nor does what is no number of 64 bits
+-- what is no number of 64 bits writes none of them
 pub not_number : (field : List ℕ) → (IsNumeral 10 (without_leading_sign field) × FitsSigned w64 (signed_digits_value 10 field) → ⊥) → (z : ℤ) → IsInteger field z → FitsSigned w64 z → ⊥
 not_number field h z is fits = h (is.digits, same_fits (signed_digits_value 10 field) z is.value fits)
 
@@ -81,30 +81,30 @@ integer_named field z n e = record { digits = n; value = sym e }
 
 pub ruleset integers = (not_text, not_number, integer_named)
 
-by_test : (field : List ℕ) (b : Bool) → is_numeral (without_leading_sign field) ≡ b → (IsInteger field (signed_digits_value 10 field) → small_number (signed_digits_value 10 field) ≡ None) → number_of field ≡ None
+by_test : (count : ℕ) (field : List ℕ) (b : Bool) → is_numeral (without_leading_sign field) ≡ b → (IsInteger field (signed_digits_value 10 field) → number_among count (signed_digits_value 10 field) ≡ None) → number_of count field ≡ None
 unfolding number_of
-by_test field true e h = rw e (h (record { digits = numeral (without_leading_sign field) e; value = refl }))
-by_test field false e h = rw e refl
+by_test count field true e h = rw e (h (record { digits = numeral (without_leading_sign field) e; value = refl }))
+by_test count field false e h = rw e refl
 
-fits_small : (n : ℕ) → n < 256 → FitsSigned w64 (pos n)
+fits_small : (n : ℕ) → n < 65536 → FitsSigned w64 (pos n)
 fits_small n h = search rules
 
-too_large : (z : ℤ) → (FitsSigned w64 z → ⊥) → small_number z ≡ None
-too_large (negsuc n) h = refl
-too_large (pos n) h = ⊎_elim (λ (small : n < 256). absurd (h (fits_small n small))) (λ (large : 256 ≤ n). rw (le-ltb n 256 large) refl) (cases_lt n 256)
+too_large : (count : ℕ) (z : ℤ) → count ≤ 65536 → (FitsSigned w64 z → ⊥) → number_among count z ≡ None
+too_large count (negsuc n) few h = refl
+too_large count (pos n) few h = ⊎_elim (λ (small : n < count). absurd (h (fits_small n (omega arith)))) (λ (large : count ≤ n). rw (le-ltb n count large) refl) (cases_lt n count)
 
--- what writes no number of 64 bits writes none from 0 to 255
-pub no_integer : (field : List ℕ) → ((z : ℤ) → IsInteger field z → FitsSigned w64 z → ⊥) → number_of field ≡ None
-no_integer field h = by_test field _ refl (λ is. too_large (signed_digits_value 10 field) (λ fits. h (signed_digits_value 10 field) is fits))
+-- what writes no number of 64 bits writes none of at most 65536
+pub no_integer : (count : ℕ) (field : List ℕ) → count ≤ 65536 → ((z : ℤ) → IsInteger field z → FitsSigned w64 z → ⊥) → number_of count field ≡ None
+no_integer count field few h = by_test count field _ refl (λ is. too_large count (signed_digits_value 10 field) few (λ fits. h (signed_digits_value 10 field) is fits))
 
 -- a field writes its number, where that is small
-pub number_names : (field : List ℕ) (z : ℤ) → IsInteger field z → number_of field ≡ small_number z
+pub number_names : (count : ℕ) (field : List ℕ) (z : ℤ) → IsInteger field z → number_of count field ≡ number_among count z
 unfolding number_of
-number_names field z is = rw (numeral_passes (without_leading_sign field) is.digits, is.value) refl
+number_names count field z is = rw (numeral_passes (without_leading_sign field) is.digits, is.value) refl
 
 -- the small number of a field
-pub small_tried : (field : List ℕ) (z : ℤ) (o : Option ℕ) → IsInteger field z → o ≡ small_number z → o ≡ number_of field
-small_tried field z o is h = h ∙ sym (number_names field z is)
+pub small_tried : (count : ℕ) (field : List ℕ) (z : ℤ) (o : Option ℕ) → IsInteger field z → o ≡ number_among count z → o ≡ number_of count field
+small_tried count field z o is h = h ∙ sym (number_names count field z is)
 
 pub ruleset numbers = (no_integer, number_names)
 

@@ -12,7 +12,7 @@ use Rattle.script_core.specs.Causes.{IsWord, IsFieldCause}
 use Rattle.script_core.specs.Reading.{dimension_first, last_dimension, map_ok, no_amount, glue, parts_of, glue_of, parameter_of, command_named, command_of}
 use Rattle.script_core.proofs.FieldLaws.{same_bytes}
 use Rattle.script_core.proofs.NameLaws.{named}
-use Rattle.script_core.proofs.CauseForms.{missing, bad_elsewhere, as_cause, not_made, twice, zero_dimension, depth_is_word, letter, dimension_cause}
+use Rattle.script_core.proofs.CauseForms.{missing, has_bad_elsewhere, as_cause, not_made, twice, zero_dimension, depth_is_word, letter, dimension_cause}
 use Rattle.script_core.proofs.GlueCauses.{glue_reads, glue_cause}
 use Rattle.script_core.proofs.SharedCauses.{shared_cause}
 
@@ -75,7 +75,7 @@ zero_glue : glue_of (codes "0sp" ∷ []) ≡ Ok (glue (pos 0) no_amount no_amoun
 unfolding glue_of dimension_first parts_of
 zero_glue = rw zero_dimension refl
 
--- the cause of the same fields behind `glue`
+-- a cause why some fields are no glue holds of them behind `glue`
 of_glue : (rest : List (List ℕ)) (make : glues.Glue → Command) (cause : Cause) → map_ok make (glue_of rest) ≡ Err cause → IsFieldCause cause (codes "glue" ∷ rest)
 of_glue rest make cause h =
     let fault = not_made make (glue_of rest) cause h in
@@ -91,7 +91,7 @@ line_skip_cause rest cause h =
     shared_cause glues.Glue glue_of (codes "glue") (codes "set") (codes "lineskip") Glue line_skip glue_reads line_skip_reads (codes "0sp" ∷ []) _ zero_glue cause rest
     (of_glue rest line_skip cause (sym (line_skip_reads rest) ∙ h))
 
--- the cause behind a word that is this one
+-- what holds behind a word holds behind its bytes
 along_word : (w word : List ℕ) (rest : List (List ℕ)) (cause : Cause) → bytes_eq w word ≡ true → (command_of (codes "set" ∷ word ∷ rest) ≡ Err cause → IsFieldCause cause (codes "set" ∷ word ∷ rest)) → command_of (codes "set" ∷ w ∷ rest) ≡ Err cause → IsFieldCause cause (codes "set" ∷ w ∷ rest)
 along_word w word rest cause e there h =
     let is : w ≡ word = same_bytes w word e in
@@ -107,7 +107,7 @@ by_word w rest false false true most cause a b c d h = along_word w (codes "line
 by_word w rest false false false true cause a b c d h = along_word w (codes "lineskiplimit") rest cause d (limit_cause rest cause) h
 by_word w rest false false false false cause a b c d h =
     as_cause _ Word cause (let no = no_parameter w rest a b c d in cc)
-    (bad_elsewhere IsWord (codes "set" ∷ []) w rest (codes "boxmaxdepth") (codes "0sp" ∷ []) (depth (pos 0)) depth_is_word depth_zero
+    (has_bad_elsewhere IsWord (codes "set" ∷ []) w rest (codes "boxmaxdepth") (codes "0sp" ∷ []) (depth (pos 0)) depth_is_word depth_zero
     (λ later. (Word, no_parameter w later a b c d)) (λ later. (Word, no_parameter letter later refl refl refl refl)))
 
 pub set_cause : (rest : List (List ℕ)) (cause : Cause) → command_of (codes "set" ∷ rest) ≡ Err cause → IsFieldCause cause (codes "set" ∷ rest)

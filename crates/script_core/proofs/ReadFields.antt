@@ -9,30 +9,30 @@ use Rattle.script_core.specs.declared.cause.Cause.{Cause}
 use Rattle.script_core.specs.declared.cause.Cause.TheVariants as causes
 use Rattle.script_core.specs.declared.cause.Cause.TheVariants.{Word, Number}
 use Rattle.script_core.specs.declared.amounts.Amount.{Amount}
-use Rattle.script_core.specs.Grammar.{IsNumber, IsPenalty, IsDimension, IsSize, IsName, IsSizeOfFont, IsChosenSize, IsShift, IsAmount, IsPart, IsGlue}
-use Rattle.script_core.specs.Reading.{rest_of, some_or, number_of, number_first, dimension_or, dimension_first, size_of_font, as_size_of_font, size_of_font_first, is_name, as_name, name_first, map_ok, size_first, ended, and_right, last_number, last_dimension, chosen_size_of, font_by, rule_by, penalty_of, penalty_first, last_penalty, amount_of, amount_first, last_amount, and_then, shift_of, no_amount, glue, last_shrink_of, shrink_of, parts_of, glue_of}
+use Rattle.script_core.specs.Grammar.{IsNumberAmong, IsPenalty, IsDimension, IsSize, IsName, IsSizeOfFont, IsChosenSize, IsShift, IsAmount, IsPart, IsGlue}
+use Rattle.script_core.specs.Reading.{rest_of, some_or, number_of, number_first, dimension_or, dimension_first, size_of_font, as_size_of_font, size_of_font_first, is_name, as_name, name_first, map_ok, size_first, no_field_left, and_right, last_number, last_dimension, chosen_size_of, font_by, rule_by, penalty_of, penalty_first, last_penalty, amount_of, amount_first, last_amount, and_then, shift_of, no_amount, glue, last_shrink_of, shrink_of, parts_of, glue_of}
 use Rattle.scaled_core.specs.declared.fault.DimenFault.{DimenFault}
 use Rattle.scaled_core.specs.ParsedTexts.{read_dimension}
 use Rattle.script_core.proofs.AmountLaws.{gives_amount}
 use Rattle.script_core.proofs.FieldLaws.{same_bytes, writes_number, writes_penalty, reads_dimension, gives_size, names_font, is_size_of_font}
 
 -- no field is left where the end was read
-pub nothing_after : {A : Type 0} (r : Result A Cause) (rest : List (List ℕ)) (x : A) → and_right r (ended rest) ≡ Ok x → (rest ≡ []) × (r ≡ Ok x)
+pub nothing_after : {A : Type 0} (r : Result A Cause) (rest : List (List ℕ)) (x : A) → and_right r (no_field_left rest) ≡ Ok x → (rest ≡ []) × (r ≡ Ok x)
 nothing_after (Err cause) rest x h = absurd (cc)
 nothing_after (Ok y) [] x h = (refl, h)
 nothing_after (Ok y) (field ∷ rest) x h = absurd (cc)
 
-number_in : (r : List ℕ) (o : Option ℕ) (n : ℕ) → number_of r ≡ o → some_or Number o ≡ Ok n → IsNumber r n
-number_in r None n e h = absurd (cc)
-number_in r (Some m) n e h = writes_number r n (cc)
+number_in : (count : ℕ) (r : List ℕ) (o : Option ℕ) (n : ℕ) → number_of count r ≡ o → some_or Number o ≡ Ok n → IsNumberAmong count r n
+number_in count r None n e h = absurd (cc)
+number_in count r (Some m) n e h = writes_number count r n (cc)
 
 -- one number and nothing else was read
-pub number_last : (rest : List (List ℕ)) (n : ℕ) → last_number rest ≡ Ok n → (r : List ℕ) × (rest ≡ r ∷ []) × IsNumber r n
+pub number_last : (count : ℕ) (rest : List (List ℕ)) (n : ℕ) → last_number count rest ≡ Ok n → (r : List ℕ) × (rest ≡ r ∷ []) × IsNumberAmong count r n
 unfolding last_number number_first
-number_last [] n h = absurd (cc)
-number_last (r ∷ rest) n h =
-    let after = nothing_after (some_or Number (number_of r)) rest n h in
-    (r, ap (λ (xs : List (List ℕ)). r ∷ xs) after.0, number_in r (number_of r) n refl after.1)
+number_last count [] n h = absurd (cc)
+number_last count (r ∷ rest) n h =
+    let after = nothing_after (some_or Number (number_of count r)) rest n h in
+    (r, ap (λ (xs : List (List ℕ)). r ∷ xs) after.0, number_in count r (number_of count r) n refl after.1)
 
 dimension_in : (d : List ℕ) (o : Result ℤ DimenFault) (z : ℤ) → read_dimension d ≡ o → dimension_or o ≡ Ok z → IsDimension d z
 dimension_in d (Err fault) z e h = absurd (cc)
@@ -47,10 +47,10 @@ dimension_last (d ∷ rest) z h =
     (d, ap (λ (xs : List (List ℕ)). d ∷ xs) after.0, dimension_in d (read_dimension d) z refl after.1)
 
 -- a number was read
-pub number_read : (fields : List (List ℕ)) (n : ℕ) → number_first fields ≡ Ok n → (s : List ℕ) × (fields ≡ s ∷ rest_of fields) × IsNumber s n
+pub number_read : (count : ℕ) (fields : List (List ℕ)) (n : ℕ) → number_first count fields ≡ Ok n → (s : List ℕ) × (fields ≡ s ∷ rest_of fields) × IsNumberAmong count s n
 unfolding number_first
-number_read [] n h = absurd (cc)
-number_read (s ∷ rest) n h = (s, refl, number_in s (number_of s) n refl h)
+number_read count [] n h = absurd (cc)
+number_read count (s ∷ rest) n h = (s, refl, number_in count s (number_of count s) n refl h)
 
 name_by : (field name : List ℕ) (b : Bool) → is_name field ≡ b → as_name (Ok field) ≡ Ok name → (field ≡ name) × IsName name
 name_by field name true e h =
@@ -80,7 +80,7 @@ size_of_dimension d z (Err fault) e h = absurd (cc)
 size_of_dimension d z (Ok y) e h = size_in d y z (size_of_font y) e refl h
 
 -- the size of a font and nothing else was read
-size_of_font_last : (fields : List (List ℕ)) (z : ℤ) → and_right (size_of_font_first fields) (ended (rest_of fields)) ≡ Ok z → (d : List ℕ) × (fields ≡ d ∷ []) × IsSizeOfFont d z
+size_of_font_last : (fields : List (List ℕ)) (z : ℤ) → and_right (size_of_font_first fields) (no_field_left (rest_of fields)) ≡ Ok z → (d : List ℕ) × (fields ≡ d ∷ []) × IsSizeOfFont d z
 unfolding size_of_font_first dimension_first
 size_of_font_last [] z h = absurd (cc)
 size_of_font_last (d ∷ rest) z h =
@@ -100,7 +100,7 @@ two_words field word rest more e f = rw (e, f) refl
 at_by : (word : List ℕ) (rest : List (List ℕ)) (size : Option ℤ) (b : Bool) → bytes_eq word (codes "at") ≡ b → chosen_size_of (word ∷ rest) ≡ Ok size → IsChosenSize (word ∷ rest) size
 unfolding chosen_size_of
 at_by word rest size true e h =
-    let some = some_size (and_right (size_of_font_first rest) (ended (rest_of rest))) size (rw e at h) in
+    let some = some_size (and_right (size_of_font_first rest) (no_field_left (rest_of rest))) size (rw e at h) in
     let last = size_of_font_last rest some.0 some.1 in
     let all : word ∷ rest ≡ codes "at" ∷ last.0 ∷ [] = two_fields word (codes "at") rest last.0 (same_bytes word (codes "at") e) last.1 in
     let P : Option ℤ → Type 0 = λ o. IsChosenSize (word ∷ rest) o in
@@ -122,7 +122,7 @@ unfolding size_first
 size_read [] size h = absurd (cc)
 size_read (field ∷ rest) size h = (field, refl, gives_size field size h)
 
-pub nothing_left : (fields : List (List ℕ)) (u : Unit {0}) → ended fields ≡ Ok u → fields ≡ []
+pub nothing_left : (fields : List (List ℕ)) (u : Unit {0}) → no_field_left fields ≡ Ok u → fields ≡ []
 nothing_left [] u h = refl
 nothing_left (field ∷ rest) u h = absurd (cc)
 

@@ -15,7 +15,7 @@ use Rattle.script_core.specs.Names.{box_name, register_name, item_name, name_of}
 use Rattle.script_core.specs.Grammar.{Says}
 use Rattle.script_core.specs.Causes.{IsPrintable, IsFieldCause, IsCause}
 use Rattle.script_core.specs.Script.{IsPassedOver, Gives, SaysLine, SayFrom, IsScript, IsRightLine, IsFirstBad, Explains}
-use Rattle.script_core.specs.Reading.{command_of, text_of, given_by, line_of, Found, prefixed, reads_by, reads}
+use Rattle.script_core.specs.Reading.{command_of, text_of, given_by, line_of, Found, lines_then, reads_by, reads}
 use Rattle.script_core.proofs.GivenCommands.{complete}
 use Rattle.script_core.proofs.CommandLaws.{sound}
 use Rattle.script_core.proofs.CauseLaws.{cause_holds}
@@ -79,7 +79,7 @@ abbrev read_lines : List Line → Found
 read_lines found = Ok found
 
 -- what is found in front of more
-behind_one : (line : Line) (more : Found) (found : List Line) → prefixed (line ∷ []) more ≡ Ok found → (rest : List Line) × (more ≡ Ok rest) × (found ≡ line ∷ rest)
+behind_one : (line : Line) (more : Found) (found : List Line) → lines_then (line ∷ []) more ≡ Ok found → (rest : List Line) × (more ≡ Ok rest) × (found ≡ line ∷ rest)
 behind_one line (Err fault) found h = absurd (cc)
 behind_one line (Ok rest) found h = (rest, refl, cc)
 
@@ -121,9 +121,9 @@ pub record BadFrom (number : ℕ) (all : List (List ℕ)) (fault : ScriptFault) 
   pub counted : is_passed_over line ≡ false
   pub holds : IsCause cause line
 
--- a right line in front
-bad_behind : (number : ℕ) (line : List ℕ) (rest : List (List ℕ)) (fault : ScriptFault) → IsRightLine line → BadFrom (number + 1) rest fault → BadFrom number (line ∷ rest) fault
-bad_behind number line rest fault right bad = record {
+-- the first bad line of some lines with a right line in front of them
+first_bad_behind : (number : ℕ) (line : List ℕ) (rest : List (List ℕ)) (fault : ScriptFault) → IsRightLine line → BadFrom (number + 1) rest fault → BadFrom number (line ∷ rest) fault
+first_bad_behind number line rest fault right bad = record {
   front = line ∷ bad.front;
   line = bad.line;
   rest = bad.rest;
@@ -135,8 +135,8 @@ bad_behind number line rest fault right bad = record {
   holds = bad.holds;
 }
 
-bad_here : (number : ℕ) (line : List ℕ) (rest : List (List ℕ)) (cause : Cause) → is_passed_over line ≡ false → line_of line ≡ Err cause → BadFrom number (line ∷ rest) (BadScript number cause)
-bad_here number line rest cause counted h = record {
+first_bad_here : (number : ℕ) (line : List ℕ) (rest : List (List ℕ)) (cause : Cause) → is_passed_over line ≡ false → line_of line ≡ Err cause → BadFrom number (line ∷ rest) (BadScript number cause)
+first_bad_here number line rest cause counted h = record {
   front = [];
   line = line;
   rest = rest;
@@ -148,25 +148,25 @@ bad_here number line rest cause counted h = record {
   holds = line_fault line cause _ refl h;
 }
 
-bad_more : (line : Line) (more : Found) (fault : ScriptFault) → prefixed (line ∷ []) more ≡ Err fault → more ≡ Err fault
-bad_more line (Err other) fault h = cc
-bad_more line (Ok rest) fault h = absurd (cc)
+fault_behind : (line : Line) (more : Found) (fault : ScriptFault) → lines_then (line ∷ []) more ≡ Err fault → more ≡ Err fault
+fault_behind line (Err other) fault h = cc
+fault_behind line (Ok rest) fault h = absurd (cc)
 
-bad_by : (number : ℕ) (line : List ℕ) (rest : List (List ℕ)) (fault : ScriptFault) (r : Result Command Cause) → is_passed_over line ≡ false → line_of line ≡ r → (reads (number + 1) rest ≡ Err fault → BadFrom (number + 1) rest fault) → reads_by number r (reads (number + 1) rest) ≡ Err fault → BadFrom number (line ∷ rest) fault
-bad_by number line rest fault (Err cause) counted e more h =
+first_bad_by : (number : ℕ) (line : List ℕ) (rest : List (List ℕ)) (fault : ScriptFault) (r : Result Command Cause) → is_passed_over line ≡ false → line_of line ≡ r → (reads (number + 1) rest ≡ Err fault → BadFrom (number + 1) rest fault) → reads_by number r (reads (number + 1) rest) ≡ Err fault → BadFrom number (line ∷ rest) fault
+first_bad_by number line rest fault (Err cause) counted e more h =
     let here : BadScript number cause ≡ fault = cc in
     let P : ScriptFault → Type 0 = λ f. BadFrom number (line ∷ rest) f in
-    subst P here (bad_here number line rest cause counted e)
-bad_by number line rest fault (Ok command) counted e more h =
-    bad_behind number line rest fault (inr (command, line_said line command counted e)) (more (bad_more _ (reads (number + 1) rest) fault h))
+    subst P here (first_bad_here number line rest cause counted e)
+first_bad_by number line rest fault (Ok command) counted e more h =
+    first_bad_behind number line rest fault (inr (command, line_said line command counted e)) (more (fault_behind _ (reads (number + 1) rest) fault h))
 
-bad_line : (number : ℕ) (line : List ℕ) (rest : List (List ℕ)) (fault : ScriptFault) (b : Bool) → is_passed_over line ≡ b → (reads (number + 1) rest ≡ Err fault → BadFrom (number + 1) rest fault) → reads number (line ∷ rest) ≡ Err fault → BadFrom number (line ∷ rest) fault
-bad_line number line rest fault true e more h = bad_behind number line rest fault (inl e) (more (rw e at h))
-bad_line number line rest fault false e more h = bad_by number line rest fault (line_of line) e refl more (rw e at h)
+first_bad_at_line : (number : ℕ) (line : List ℕ) (rest : List (List ℕ)) (fault : ScriptFault) (b : Bool) → is_passed_over line ≡ b → (reads (number + 1) rest ≡ Err fault → BadFrom (number + 1) rest fault) → reads number (line ∷ rest) ≡ Err fault → BadFrom number (line ∷ rest) fault
+first_bad_at_line number line rest fault true e more h = first_bad_behind number line rest fault (inl e) (more (rw e at h))
+first_bad_at_line number line rest fault false e more h = first_bad_by number line rest fault (line_of line) e refl more (rw e at h)
 
-pub bad_from : (number : ℕ) (all : List (List ℕ)) (fault : ScriptFault) → reads number all ≡ Err fault → BadFrom number all fault
-bad_from number [] fault h = absurd (cc)
-bad_from number (line ∷ rest) fault h = bad_line number line rest fault _ refl (λ e. bad_from (number + 1) rest fault e) h
+pub first_bad_from : (number : ℕ) (all : List (List ℕ)) (fault : ScriptFault) → reads number all ≡ Err fault → BadFrom number all fault
+first_bad_from number [] fault h = absurd (cc)
+first_bad_from number (line ∷ rest) fault h = first_bad_at_line number line rest fault _ refl (λ e. first_bad_from (number + 1) rest fault e) h
 
 same_fault : (m n : ℕ) (c d : Cause) → BadScript m c ≡ BadScript n d → (m ≡ n) × (c ≡ d)
 same_fault m n c d e = (cc, cc)
@@ -190,19 +190,19 @@ explained text number cause bad =
 pub script_read : (text : List ℕ) (found : List Line) → reads 1 (lines text) ≡ Ok found → IsScript text found
 script_read text found h = said_from 1 (lines text) found h
 
--- one that is not is none, and its first bad line is named
+-- a text that is not read is no script, and its first bad line is named
 pub script_refused : (text : List ℕ) (fault : ScriptFault) → reads 1 (lines text) ≡ Err fault → Explains text fault
 script_refused text OutOfMemory h = tt
 script_refused text (BadScript number cause) h =
-    let bad = bad_from 1 (lines text) (BadScript number cause) h in
+    let bad = first_bad_from 1 (lines text) (BadScript number cause) h in
     (explained text number cause bad, λ found said. let o = read_from 1 (lines text) found said in cc)
 
--- and has no other lines
+-- a script has no other lines than those that are read
 pub script_one : (text : List ℕ) (found : List Line) → reads 1 (lines text) ≡ Ok found → (others : List Line) → IsScript text others → others ≡ found
 script_one text found h others said = let o = read_from 1 (lines text) others said in cc
 
 -- the end of a text
-pub read_whole : (number : ℕ) (text rest : List ℕ) (found : List Line) → length rest ≡ 0 → prefixed found (reads number (lines rest)) ≡ reads 1 (lines text) → reads 1 (lines text) ≡ Ok found
+pub read_whole : (number : ℕ) (text rest : List ℕ) (found : List Line) → length rest ≡ 0 → lines_then found (reads number (lines rest)) ≡ reads 1 (lines text) → reads 1 (lines text) ≡ Ok found
 read_whole number text [] found empty h = sym h ∙ ap (λ (xs : List Line). read_lines xs) (append-nil found)
 read_whole number text (byte ∷ rest) found empty h = absurd (omega arith)
 

@@ -44,11 +44,11 @@ module _ (A : Type 0) (read : List (List ℕ) → Result A Cause) (word first se
   behind_word : (w : List ℕ) (rest front : List (List ℕ)) (field : List ℕ) (behind : List (List ℕ)) → word ∷ rest ≡ w ∷ (front ++ field ∷ behind) → (w ≡ word) × (rest ≡ front ++ field ∷ behind)
   behind_word w rest front field behind split = (cc, cc)
 
-  bad_by : (IsRight : List ℕ → Type 0) (rest front : List (List ℕ)) (field : List ℕ) (behind : List (List ℕ)) (r : List ℕ) → word ∷ rest ≡ front ++ field ∷ behind → IsRight r → Begins (front ++ r ∷ []) → (Begins (front ++ field ∷ []) → ⊥)
+  has_bad_by : (IsRight : List ℕ → Type 0) (rest front : List (List ℕ)) (field : List ℕ) (behind : List (List ℕ)) (r : List ℕ) → word ∷ rest ≡ front ++ field ∷ behind → IsRight r → Begins (front ++ r ∷ []) → (Begins (front ++ field ∷ []) → ⊥)
       → (bad : HasBad IsRight (first ∷ second ∷ rest)) × (bad.field ≡ field)
       × ((name : List ℕ) → Begins (front ++ name ∷ []) → Begins (bad.front ++ name ∷ [])) × ((name : List ℕ) → Begins (bad.front ++ name ∷ []) → Begins (front ++ name ∷ []))
-  bad_by IsRight rest [] field behind r split is wanted bad = absurd (not_first field rest behind split bad)
-  bad_by IsRight rest (w ∷ front) field behind r split is wanted bad =
+  has_bad_by IsRight rest [] field behind r split is wanted bad = absurd (not_first field rest behind split bad)
+  has_bad_by IsRight rest (w ∷ front) field behind r split is wanted bad =
       let parts = behind_word w rest front field behind split in
       let P : List ℕ → Type 0 = λ y. Begins (y ∷ (front ++ r ∷ [])) in
       let Q : List ℕ → Type 0 = λ y. Begins (y ∷ (front ++ field ∷ [])) in (
@@ -67,15 +67,15 @@ module _ (A : Type 0) (read : List (List ℕ) → Result A Cause) (word first se
         λ name begins. let N : List ℕ → Type 0 = λ y. Begins (y ∷ (front ++ name ∷ [])) in subst N (sym parts.0) (begun_back (front ++ name ∷ []) begins),
       )
 
-  bad_shared : (IsRight : List ℕ → Type 0) (rest : List (List ℕ)) (bad : HasBad IsRight (word ∷ rest))
+  has_bad_shared : (IsRight : List ℕ → Type 0) (rest : List (List ℕ)) (bad : HasBad IsRight (word ∷ rest))
       → (new : HasBad IsRight (first ∷ second ∷ rest)) × (new.field ≡ bad.field)
       × ((name : List ℕ) → Begins (bad.front ++ name ∷ []) → Begins (new.front ++ name ∷ [])) × ((name : List ℕ) → Begins (new.front ++ name ∷ []) → Begins (bad.front ++ name ∷ []))
-  bad_shared IsRight rest bad = bad_by IsRight rest bad.front bad.field bad.rest bad.right bad.split bad.is_right bad.wanted bad.bad
+  has_bad_shared IsRight rest bad = has_bad_by IsRight rest bad.front bad.field bad.rest bad.right bad.split bad.is_right bad.wanted bad.bad
 
-  -- elsewhere too
+  -- a bad field that stands where not each name may, behind the other two words
   elsewhere_shared : (IsRight : List ℕ → Type 0) (rest : List (List ℕ)) (bad : HasBadElsewhere IsRight (word ∷ rest)) → (new : HasBadElsewhere IsRight (first ∷ second ∷ rest)) × (new.found.field ≡ bad.found.field)
   elsewhere_shared IsRight rest bad =
-      let new = bad_shared IsRight rest bad.found in
+      let new = has_bad_shared IsRight rest bad.found in
       (record { found = new.0; elsewhere = λ takes. bad.elsewhere (λ name is. new.3 name (takes name is)) }, new.1)
 
   extra_by : (rest front : List (List ℕ)) (field : List ℕ) (behind : List (List ℕ)) → word ∷ rest ≡ front ++ field ∷ behind → SaysSome front → ((other : List ℕ) → Begins (front ++ other ∷ []) → ⊥) → HasExtra (first ∷ second ∷ rest)
@@ -107,5 +107,5 @@ module _ (A : Type 0) (read : List (List ℕ) → Result A Cause) (word first se
       let new = elsewhere_shared GivesSize rest h in
       (new.0, λ given. none (subst GivesDimension new.1 given))
   shared_cause causes.Name rest (h, takes) =
-      let new = bad_shared IsName rest h in
+      let new = has_bad_shared IsName rest h in
       (new.0, λ name is. new.2 name (takes name is))

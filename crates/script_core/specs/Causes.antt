@@ -7,7 +7,7 @@ use Rattle.script_core.specs.declared.cause.Cause.{Cause}
 use Rattle.script_core.specs.declared.cause.Cause.TheVariants as causes
 use Rattle.script_core.specs.declared.cause.Cause.TheVariants.{Byte, Word, Missing, Extra, Number, Dimension}
 use Rattle.script_core.specs.ScriptLines.{is_printable, fields_of, IsTextLine}
-use Rattle.script_core.specs.Grammar.{IsNumber, IsDimension, IsSize, IsName, IsSizeOfFont, Says}
+use Rattle.script_core.specs.Grammar.{IsRegister, IsSlot, IsCharacterCode, IsDimension, IsSize, IsName, IsSizeOfFont, Says}
 
 -- the fields say some command
 abbrev pub SaysSome : List (List ℕ) → Type 0
@@ -27,9 +27,9 @@ IsInnerWord field =
 abbrev pub IsWord : List ℕ → Type 0
 IsWord field = Begins (field ∷ []) ⊎ IsInnerWord field
 
--- a field that writes some number from 0 to 255
+-- a field that writes the number of some register, of some slot or of some character
 abbrev pub GivesNumber : List ℕ → Type 0
-GivesNumber field = (n : ℕ) × IsNumber field n
+GivesNumber field = (n : ℕ) × (IsRegister field n ⊎ (IsSlot field n ⊎ IsCharacterCode field n))
 
 -- a field that writes some dimension that fits
 abbrev pub GivesDimension : List ℕ → Type 0
@@ -78,8 +78,8 @@ pub record HasBadElsewhere (IsRight : List ℕ → Type 0) (fields : List (List 
   pub elsewhere : TakesNames found.front → ⊥
 
 -- the cause holds of the fields. Name: the bad field stands where each name of a font may, and has no other cause. Dimension: it is no dimension
--- that fits. Number: it stands where a number belongs, 0 to 255 or that of a penalty, and is none; or, where the size of a font belongs, it is a
--- dimension that is no such size
+-- that fits. Number: it stands where the number of a register, a slot, a character or a penalty belongs, and is none; or, where the size of a font
+-- belongs, it is a dimension that is no such size
 abbrev pub IsFieldCause : Cause → List (List ℕ) → Type 0
 IsFieldCause Byte fields = ⊥
 IsFieldCause Word fields = HasBadElsewhere IsWord fields

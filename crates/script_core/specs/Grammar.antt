@@ -27,10 +27,34 @@ pub record IsInteger (field : List ℕ) (z : ℤ) : Type 0 where
   pub digits : IsNumeral 10 (without_leading_sign field)
   pub value : signed_digits_value 10 field ≡ z
 
--- a field that writes this whole number, from 0 to 255: that of a register, of a font's slot or of a character
-pub record IsNumber (field : List ℕ) (n : ℕ) : Type 0 where
+-- how many box registers there are, by their numbers from 0 (own)
+abbrev pub register_count : ℕ
+register_count = 256
+
+-- how many slots for fonts there are, by their numbers from 0 (own)
+abbrev pub slot_count : ℕ
+slot_count = 256
+
+-- how many characters a font may have, by their codes from 0 (TFtoPL, 11)
+abbrev pub character_count : ℕ
+character_count = 256
+
+-- a field that writes this whole number, which is one of so many from 0
+pub record IsNumberAmong (count : ℕ) (field : List ℕ) (n : ℕ) : Type 0 where
   pub written : IsInteger field (pos n)
-  pub small : n < 256
+  pub small : n < count
+
+-- a field that writes the number of this box register
+abbrev pub IsRegister : List ℕ → ℕ → Type 0
+IsRegister field n = IsNumberAmong register_count field n
+
+-- a field that writes the number of this slot for a font
+abbrev pub IsSlot : List ℕ → ℕ → Type 0
+IsSlot field n = IsNumberAmong slot_count field n
+
+-- a field that writes the code of this character
+abbrev pub IsCharacterCode : List ℕ → ℕ → Type 0
+IsCharacterCode field n = IsNumberAmong character_count field n
 
 -- a field that writes this whole number, of absolute value at most 500,000,000: that of a penalty
 pub record IsPenalty (field : List ℕ) (z : ℤ) : Type 0 where
@@ -86,7 +110,7 @@ IsTarget fields (Spread z) = (d : List ℕ) × (fields ≡ codes "spread" ∷ d 
 -- where the box of a list goes: nothing for the enclosing list, or `into` and a register
 abbrev pub IsDestination : List (List ℕ) → Option ℕ → Type 0
 IsDestination fields None = fields ≡ []
-IsDestination fields (Some n) = (r : List ℕ) × (fields ≡ codes "into" ∷ r ∷ []) × IsNumber r n
+IsDestination fields (Some n) = (r : List ℕ) × (fields ≡ codes "into" ∷ r ∷ []) × IsRegister r n
 
 -- how the command is called that appends the box of a register, moved or copied
 abbrev pub taking_text : Taking → List ℕ
@@ -133,14 +157,14 @@ IsGlue fields glue =
 abbrev pub Says : List (List ℕ) → Command → Type 0
 Says fields (LoadFont load) =
     (s : List ℕ) × (more : List (List ℕ)) × (fields ≡ codes "font" ∷ s ∷ load.name ∷ more)
-    × IsNumber s load.slot × IsName load.name × IsChosenSize more load.size
-Says fields (UseFont n) = (s : List ℕ) × (fields ≡ codes "use" ∷ s ∷ []) × IsNumber s n
+    × IsSlot s load.slot × IsName load.name × IsChosenSize more load.size
+Says fields (UseFont n) = (s : List ℕ) × (fields ≡ codes "use" ∷ s ∷ []) × IsSlot s n
 Says fields (Open opening) =
     (size : List (List ℕ)) × (into : List (List ℕ)) × (fields ≡ form_text opening.form ∷ (size ++ into))
     × IsTarget size opening.target × IsDestination into opening.into
 Says fields End = fields ≡ codes "end" ∷ []
 Says fields (Text text) = ⊥
-Says fields (Character n) = (c : List ℕ) × (fields ≡ codes "char" ∷ c ∷ []) × IsNumber c n
+Says fields (Character n) = (c : List ℕ) × (fields ≡ codes "char" ∷ c ∷ []) × IsCharacterCode c n
 Says fields (Rule sizes) =
     (w : List ℕ) × (h : List ℕ) × (d : List ℕ) × (fields ≡ codes "rule" ∷ w ∷ h ∷ d ∷ [])
     × IsSize w sizes.width × IsSize h sizes.height × IsSize d sizes.depth
@@ -148,13 +172,13 @@ Says fields (Kern z) = (d : List ℕ) × (fields ≡ codes "kern" ∷ d ∷ []) 
 Says fields (Glue glue) = (more : List (List ℕ)) × (fields ≡ codes "glue" ∷ more) × IsGlue more glue
 Says fields (Penalty z) = (p : List ℕ) × (fields ≡ codes "penalty" ∷ p ∷ []) × IsPenalty p z
 Says fields (Append box_use) =
-    (r : List ℕ) × (shift : List (List ℕ)) × (fields ≡ taking_text box_use.taking ∷ r ∷ shift) × IsNumber r box_use.register × IsShift shift box_use.shift
-Says fields (Unbox unboxing) = (r : List ℕ) × (fields ≡ unboxing_text unboxing.kind unboxing.taking ∷ r ∷ []) × IsNumber r unboxing.register
-Says fields (LastBox n) = (r : List ℕ) × (fields ≡ codes "lastbox" ∷ r ∷ []) × IsNumber r n
-Says fields (Measure n) = (r : List ℕ) × (fields ≡ codes "measure" ∷ r ∷ []) × IsNumber r n
-Says fields (Void n) = (r : List ℕ) × (fields ≡ codes "void" ∷ r ∷ []) × IsNumber r n
+    (r : List ℕ) × (shift : List (List ℕ)) × (fields ≡ taking_text box_use.taking ∷ r ∷ shift) × IsRegister r box_use.register × IsShift shift box_use.shift
+Says fields (Unbox unboxing) = (r : List ℕ) × (fields ≡ unboxing_text unboxing.kind unboxing.taking ∷ r ∷ []) × IsRegister r unboxing.register
+Says fields (LastBox n) = (r : List ℕ) × (fields ≡ codes "lastbox" ∷ r ∷ []) × IsRegister r n
+Says fields (Measure n) = (r : List ℕ) × (fields ≡ codes "measure" ∷ r ∷ []) × IsRegister r n
+Says fields (Void n) = (r : List ℕ) × (fields ≡ codes "void" ∷ r ∷ []) × IsRegister r n
 Says fields (Set (BoxMaxDepth z)) = (d : List ℕ) × (fields ≡ codes "set" ∷ codes "boxmaxdepth" ∷ d ∷ []) × IsDimension d z
 Says fields (Set (BaselineSkip glue)) = (more : List (List ℕ)) × (fields ≡ codes "set" ∷ codes "baselineskip" ∷ more) × IsGlue more glue
 Says fields (Set (LineSkip glue)) = (more : List (List ℕ)) × (fields ≡ codes "set" ∷ codes "lineskip" ∷ more) × IsGlue more glue
 Says fields (Set (LineSkipLimit z)) = (d : List ℕ) × (fields ≡ codes "set" ∷ codes "lineskiplimit" ∷ d ∷ []) × IsDimension d z
-Says fields (Ship n) = (r : List ℕ) × (fields ≡ codes "ship" ∷ r ∷ []) × IsNumber r n
+Says fields (Ship n) = (r : List ℕ) × (fields ≡ codes "ship" ∷ r ∷ []) × IsRegister r n

@@ -31,7 +31,7 @@ use Rattle.script_core.specs.declared.name.Name.{Name}
 use Rattle.script_core.specs.declared.name.Name.TheVariants as names
 use Rattle.script_core.specs.Names.{name_of}
 use Rattle.script_core.specs.ScriptLines.{is_space, is_printable, is_passed_over, fields_of}
-use Rattle.script_core.specs.Grammar.{is_name_byte}
+use Rattle.script_core.specs.Grammar.{register_count, slot_count, character_count, is_name_byte}
 
 -- a byte before the end of a line: any but a line feed
 abbrev pub in_line : ℕ → Bool
@@ -72,14 +72,14 @@ some_or cause (Some x) = Ok x
 abbrev pub is_numeral : List ℕ → Bool
 is_numeral digits = nat_lt 0 (length digits) && list_all (λ c. nat_lt (digit_value c) 10) digits
 
--- a number that a register, a slot or a character has
-abbrev pub small_number : ℤ → Option ℕ
-small_number (pos n) = if nat_lt n 256 then Some n else None
-small_number (negsuc n) = None
+-- a number that is one of so many from 0
+abbrev pub number_among : ℕ → ℤ → Option ℕ
+number_among count (pos n) = if nat_lt n count then Some n else None
+number_among count (negsuc n) = None
 
--- the number that a field writes
-unfoldable pub number_of : List ℕ → Option ℕ
-number_of field = if is_numeral (without_leading_sign field) then small_number (signed_digits_value 10 field) else None
+-- the number that a field writes, which is one of so many from 0
+unfoldable pub number_of : ℕ → List ℕ → Option ℕ
+number_of count field = if is_numeral (without_leading_sign field) then number_among count (signed_digits_value 10 field) else None
 
 -- a number that a penalty has
 abbrev pub penalty_number : ℤ → Option ℤ
@@ -89,14 +89,14 @@ penalty_number z = if nat_le (unsigned_abs z) 500000000 then Some z else None
 unfoldable pub penalty_of : List ℕ → Option ℤ
 penalty_of field = if is_numeral (without_leading_sign field) then penalty_number (signed_digits_value 10 field) else None
 
--- a field as a number from 0 to 255; the cause is Number where it is none, and stays where there is no field
-abbrev pub as_number : Result (List ℕ) Cause → Result ℕ Cause
-as_number (Err cause) = Err cause
-as_number (Ok field) = some_or Number (number_of field)
+-- a field as one of so many numbers from 0; the cause is Number where it is none, and stays where there is no field
+abbrev pub as_number : ℕ → Result (List ℕ) Cause → Result ℕ Cause
+as_number count (Err cause) = Err cause
+as_number count (Ok field) = some_or Number (number_of count field)
 
--- the first of some fields as a number from 0 to 255
-unfoldable pub number_first : List (List ℕ) → Result ℕ Cause
-number_first fields = as_number (first_of fields)
+-- the first of some fields as one of so many numbers from 0
+unfoldable pub number_first : ℕ → List (List ℕ) → Result ℕ Cause
+number_first count fields = as_number count (first_of fields)
 
 -- a field as the number of a penalty; the cause is Number where it is none, and stays where there is no field
 abbrev pub as_penalty : Result (List ℕ) Cause → Result ℤ Cause
@@ -209,9 +209,9 @@ unfoldable pub amount_first : List (List ℕ) → Result Amount Cause
 amount_first fields = as_amount (first_of fields)
 
 -- no field is left
-abbrev pub ended : List (List ℕ) → Result (Unit {0}) Cause
-ended [] = Ok tt
-ended (field ∷ rest) = Err Extra
+abbrev pub no_field_left : List (List ℕ) → Result (Unit {0}) Cause
+no_field_left [] = Ok tt
+no_field_left (field ∷ rest) = Err Extra
 
 -- what was read, if what follows it is right too
 abbrev pub and_right : {A : Type 0} → Result A Cause → Result (Unit {0}) Cause → Result A Cause
@@ -219,13 +219,13 @@ and_right (Err cause) after = Err cause
 and_right (Ok x) (Err cause) = Err cause
 and_right (Ok x) (Ok u) = Ok x
 
--- the first of some fields, which is the last one too, as a number from 0 to 255
-unfoldable pub last_number : List (List ℕ) → Result ℕ Cause
-last_number fields = and_right (number_first fields) (ended (rest_of fields))
+-- the first of some fields, which is the last one too, as one of so many numbers from 0
+unfoldable pub last_number : ℕ → List (List ℕ) → Result ℕ Cause
+last_number count fields = and_right (number_first count fields) (no_field_left (rest_of fields))
 
 -- the first of some fields, which is the last one too, as a dimension
 unfoldable pub last_dimension : List (List ℕ) → Result ℤ Cause
-last_dimension fields = and_right (dimension_first fields) (ended (rest_of fields))
+last_dimension fields = and_right (dimension_first fields) (no_field_left (rest_of fields))
 
 -- what follows, if what stands before it is right
 abbrev pub right_and : {A : Type 0} → Result (Unit {0}) Cause → Result A Cause → Result A Cause
@@ -239,36 +239,36 @@ and_then (Ok x) more = more x
 
 -- the first of some fields, which is the last one too, as the number of a penalty
 unfoldable pub last_penalty : List (List ℕ) → Result ℤ Cause
-last_penalty fields = and_right (penalty_first fields) (ended (rest_of fields))
+last_penalty fields = and_right (penalty_first fields) (no_field_left (rest_of fields))
 
 -- the first of some fields, which is the last one too, as an amount of stretch or shrink
 unfoldable pub last_amount : List (List ℕ) → Result Amount Cause
-last_amount fields = and_right (amount_first fields) (ended (rest_of fields))
+last_amount fields = and_right (amount_first fields) (no_field_left (rest_of fields))
 
 -- the command that opens a list of that form and target, whose box goes into that register or into the enclosing list
 abbrev pub opening : BoxForm → Target → Option ℕ → Command
 opening form target into = Open (record { form = form; target = target; into = into })
 
 -- the opening of a list with this register as the last field
-unfoldable pub opened : BoxForm → Target → List (List ℕ) → Result Command Cause
-opened form target fields = map_ok (λ register. opening form target (Some register)) (last_number fields)
+unfoldable pub opening_with_register : BoxForm → Target → List (List ℕ) → Result Command Cause
+opening_with_register form target fields = map_ok (λ register. opening form target (Some register)) (last_number register_count fields)
 
 -- the opening of a list by what stands behind its size: nothing, or `into` and a register
-unfoldable pub opened_into : BoxForm → Target → List (List ℕ) → Result Command Cause
-opened_into form target [] = Ok (opening form target None)
-opened_into form target (word ∷ rest) = if bytes_eq word (codes "into") then opened form target rest else Err Word
+unfoldable pub opening_into : BoxForm → Target → List (List ℕ) → Result Command Cause
+opening_into form target [] = Ok (opening form target None)
+opening_into form target (word ∷ rest) = if bytes_eq word (codes "into") then opening_with_register form target rest else Err Word
 
 -- the opening of a list by the dimension of its size and what stands behind that
-unfoldable pub opened_sized : BoxForm → (ℤ → Target) → List (List ℕ) → Result Command Cause
-opened_sized form sized fields = and_then (dimension_first fields) (λ z. opened_into form (sized z) (rest_of fields))
+unfoldable pub opening_with_size : BoxForm → (ℤ → Target) → List (List ℕ) → Result Command Cause
+opening_with_size form sized fields = and_then (dimension_first fields) (λ z. opening_into form (sized z) (rest_of fields))
 
 -- what the fields behind `hbox`, `vbox` or `vtop` say
 unfoldable pub opening_of : BoxForm → List (List ℕ) → Result Command Cause
 opening_of form [] = Ok (opening form Natural None)
 opening_of form (word ∷ rest) =
-    if bytes_eq word (codes "into") then opened form Natural rest
-    else (if bytes_eq word (codes "to") then opened_sized form To rest
-    else (if bytes_eq word (codes "spread") then opened_sized form Spread rest
+    if bytes_eq word (codes "into") then opening_with_register form Natural rest
+    else (if bytes_eq word (codes "to") then opening_with_size form To rest
+    else (if bytes_eq word (codes "spread") then opening_with_size form Spread rest
     else Err Word))
 
 -- the command that appends the box of a register, moved or copied, with that shift
@@ -282,7 +282,7 @@ shift_of (word ∷ rest) = if bytes_eq word (codes "shift") then last_dimension 
 
 -- what the fields behind `box` or `copy` say
 unfoldable pub append_of : Taking → List (List ℕ) → Result Command Cause
-append_of taking fields = and_then (number_first fields) (λ register. map_ok (append taking register) (shift_of (rest_of fields)))
+append_of taking fields = and_then (number_first register_count fields) (λ register. map_ok (append taking register) (shift_of (rest_of fields)))
 
 -- the command that appends the items of the box of a register, which is of that kind, moved or copied
 abbrev pub unboxing : Kind → Taking → ℕ → Command
@@ -332,7 +332,7 @@ parameter_of (word ∷ rest) =
 unfoldable pub chosen_size_of : List (List ℕ) → Result (Option ℤ) Cause
 chosen_size_of [] = Ok None
 chosen_size_of (word ∷ rest) =
-    if bytes_eq word (codes "at") then map_ok Some (and_right (size_of_font_first rest) (ended (rest_of rest))) else Err Word
+    if bytes_eq word (codes "at") then map_ok Some (and_right (size_of_font_first rest) (no_field_left (rest_of rest))) else Err Word
 
 -- the command that loads a font by its slot, its name and its size, or the first cause among them
 abbrev pub font_by : Result ℕ Cause → Result (List ℕ) Cause → Result (Option ℤ) Cause → Result Command Cause
@@ -343,7 +343,7 @@ font_by (Ok slot) (Ok name) (Ok size) = Ok (LoadFont (record { slot = slot; name
 
 -- what the fields behind `font` say
 unfoldable pub font_of : List (List ℕ) → Result Command Cause
-font_of fields = font_by (number_first fields) (name_first (rest_of fields)) (chosen_size_of (rest_of (rest_of fields)))
+font_of fields = font_by (number_first slot_count fields) (name_first (rest_of fields)) (chosen_size_of (rest_of (rest_of fields)))
 
 -- the command that appends a rule by its width, its height and its depth, with no field behind them, or the first cause among them
 abbrev pub rule_by : Result RuleSize Cause → Result RuleSize Cause → Result RuleSize Cause → Result (Unit {0}) Cause → Result Command Cause
@@ -355,26 +355,26 @@ rule_by (Ok width) (Ok height) (Ok depth) (Ok u) = Ok (Rule (record { width = wi
 
 -- what the fields behind `rule` say
 unfoldable pub rule_of : List (List ℕ) → Result Command Cause
-rule_of fields = rule_by (size_first fields) (size_first (rest_of fields)) (size_first (rest_of (rest_of fields))) (ended (rest_of (rest_of (rest_of fields))))
+rule_of fields = rule_by (size_first fields) (size_first (rest_of fields)) (size_first (rest_of (rest_of fields))) (no_field_left (rest_of (rest_of (rest_of fields))))
 
 -- the command of that name with these fields behind it
 unfoldable pub command_named : Name → List (List ℕ) → Result Command Cause
 command_named names.Font fields = font_of fields
-command_named names.Use fields = map_ok UseFont (last_number fields)
+command_named names.Use fields = map_ok UseFont (last_number slot_count fields)
 command_named (names.Open form) fields = opening_of form fields
-command_named names.End fields = right_and (ended fields) (Ok End)
-command_named names.Character fields = map_ok Character (last_number fields)
+command_named names.End fields = right_and (no_field_left fields) (Ok End)
+command_named names.Character fields = map_ok Character (last_number character_count fields)
 command_named names.Rule fields = rule_of fields
 command_named names.Kern fields = map_ok Kern (last_dimension fields)
 command_named names.Glue fields = map_ok Glue (glue_of fields)
 command_named names.Penalty fields = map_ok Penalty (last_penalty fields)
 command_named (names.Append taking) fields = append_of taking fields
-command_named (names.Unbox kind taking) fields = map_ok (unboxing kind taking) (last_number fields)
-command_named names.LastBox fields = map_ok LastBox (last_number fields)
-command_named names.Measure fields = map_ok Measure (last_number fields)
-command_named names.Void fields = map_ok Void (last_number fields)
+command_named (names.Unbox kind taking) fields = map_ok (unboxing kind taking) (last_number register_count fields)
+command_named names.LastBox fields = map_ok LastBox (last_number register_count fields)
+command_named names.Measure fields = map_ok Measure (last_number register_count fields)
+command_named names.Void fields = map_ok Void (last_number register_count fields)
 command_named names.Set fields = map_ok Set (parameter_of fields)
-command_named names.Ship fields = map_ok Ship (last_number fields)
+command_named names.Ship fields = map_ok Ship (last_number register_count fields)
 
 -- the command of that name with these fields behind it; the cause is Word where there is no name
 abbrev pub named_by : Option Name → List (List ℕ) → Result Command Cause
@@ -412,14 +412,14 @@ abbrev pub Found : Type 0
 Found = Result (List Line) ScriptFault
 
 -- lines that were found, in front of what is found behind them; a fault stays
-abbrev pub prefixed : List Line → Found → Found
-prefixed found (Err fault) = Err fault
-prefixed found (Ok more) = Ok (found ++ more)
+abbrev pub lines_then : List Line → Found → Found
+lines_then found (Err fault) = Err fault
+lines_then found (Ok more) = Ok (found ++ more)
 
 -- what a line of that number says, and what is found behind it; or the fault where the line says no command
 abbrev pub reads_by : ℕ → Result Command Cause → Found → Found
 reads_by number (Err cause) more = Err (BadScript number cause)
-reads_by number (Ok command) more = prefixed (record { number = number; command = command } ∷ []) more
+reads_by number (Ok command) more = lines_then (record { number = number; command = command } ∷ []) more
 
 -- what the lines from that number on say
 abbrev pub reads : ℕ → List (List ℕ) → Found
@@ -428,8 +428,8 @@ reads number (line ∷ rest) = if is_passed_over line then reads (number + 1) re
 
 -- reading goes on behind a line: `old` are the lines found in front of it, `new` those found when it is read too
 abbrev pub ReadsOn : ℕ → List ℕ → List Line → List Line → Type 0
-ReadsOn number line old new = (rest : List (List ℕ)) → prefixed old (reads number (line ∷ rest)) ≡ prefixed new (reads (number + 1) rest)
+ReadsOn number line old new = (rest : List (List ℕ)) → lines_then old (reads number (line ∷ rest)) ≡ lines_then new (reads (number + 1) rest)
 
 -- reading ends at a line with that fault, whatever stands behind the line
 abbrev pub StopsAt : ℕ → List ℕ → List Line → ScriptFault → Type 0
-StopsAt number line old fault = (rest : List (List ℕ)) → prefixed old (reads number (line ∷ rest)) ≡ Err fault
+StopsAt number line old fault = (rest : List (List ℕ)) → lines_then old (reads number (line ∷ rest)) ≡ Err fault

@@ -25,8 +25,8 @@ abbrev pub OneRuleScript : Type 0
 OneRuleScript = IsScript (codes "hbox into 0\nrule 1pt 1pt 0pt\nend\nship 0\n") one_rule_lines
 
 -- a dimension without its unit in the second line: that line is the first bad one, for its dimension
-abbrev pub BadRow : Type 0
-BadRow = IsFirstBad (codes "end\nkern 1\n") 2 Dimension
+abbrev pub UnitlessRow : Type 0
+UnitlessRow = IsFirstBad (codes "end\nkern 1\n") 2 Dimension
 
 -- the lines of a script with a font and a text
 abbrev pub text_lines : List Line
@@ -42,12 +42,12 @@ abbrev pub TextScript : Type 0
 TextScript = IsScript (codes "font 0 tiny at 10pt\nuse +0\n% text\n  text  a \nchar 99\n") text_lines
 
 -- a font of no size is bad for its number
-abbrev pub BadSizeRow : Type 0
-BadSizeRow = IsFirstBad (codes "font 0 tiny at 0pt") 1 Number
+abbrev pub NoSizeRow : Type 0
+NoSizeRow = IsFirstBad (codes "font 0 tiny at 0pt") 1 Number
 
 -- a name of a font with a stroke in it is bad for its name
-abbrev pub BadNameRow : Type 0
-BadNameRow = IsFirstBad (codes "font 0 a/b at 0pt") 1 causes.Name
+abbrev pub StrokeInNameRow : Type 0
+StrokeInNameRow = IsFirstBad (codes "font 0 a/b at 0pt") 1 causes.Name
 
 -- the lines of a script of a vertical box of a given size
 abbrev pub tall_box_lines : List Line

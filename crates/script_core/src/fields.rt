@@ -5,9 +5,9 @@ ghost use Rattle.std.specs.Int.{w64};
 ghost use Rattle.std.specs.List.{list_all};
 ghost use Rattle.tfm_core.specs.NamedBytes.{IsFontName};
 ghost use Rattle.command_core.specs.declared.command.Command.TheVariants as commands;
-ghost use Rattle.script_core.specs.Grammar.{IsInteger, is_name_byte};
+ghost use Rattle.script_core.specs.Grammar.{register_count, slot_count, character_count, IsInteger, is_name_byte};
 ghost use Rattle.script_core.specs.ScriptLines.{fields_of};
-ghost use Rattle.script_core.specs.Reading.{first_of, rest_of, small_number, number_of, number_first, dimension_first, size_of_font, size_of_font_first, is_short, is_name, name_first, size_of, size_first, ended, last_number, last_dimension, map_ok, chosen_size_of, font_of, penalty_of, penalty_first, last_penalty, amount_first, last_amount, opening, opened, opened_into, opening_of, shift_of, append_of, unboxing, glue, shrink_of, last_shrink_of, parts_of, glue_of, parameter_of, rule_of, command_named, command_of};
+ghost use Rattle.script_core.specs.Reading.{first_of, rest_of, number_among, number_of, number_first, dimension_first, size_of_font, size_of_font_first, is_short, is_name, name_first, size_of, size_first, no_field_left, last_number, last_dimension, map_ok, chosen_size_of, font_of, penalty_of, penalty_first, last_penalty, amount_first, last_amount, opening, opening_with_register, opening_into, opening_of, shift_of, append_of, unboxing, glue, shrink_of, last_shrink_of, parts_of, glue_of, parameter_of, rule_of, command_named, command_of};
 
 use crate::amounts::{Amount, amount_of};
 use crate::cause::Cause;
@@ -52,7 +52,7 @@ impl<'a> Fields<'a> {
 
     /// No field is left.
     fn end(&mut self) -> Result<(), Cause>
-        ensures { result ≡ ended (fields_of self.old.rest.now) }
+        ensures { result ≡ no_field_left (fields_of self.old.rest.now) }
     {
         match self.field() {
             Ok(_) => Err(Cause::Extra),
@@ -60,21 +60,31 @@ impl<'a> Fields<'a> {
         }
     }
 
-    /// The next field as a number from 0 to 255.
+    /// The next field as the number of a box register.
     #[tactic(auto, unfolding(crate::specs::Reading::number_first))]
-    fn number(&mut self) -> Result<u8, Cause>
-        ensures value { result ≡ number_first (fields_of self.old.rest.now) }
+    fn register(&mut self) -> Result<Register, Cause>
+        ensures value { result ≡ number_first register_count (fields_of self.old.rest.now) }
         ensures rest { fields_of self.new.rest.now ≡ rest_of (fields_of self.old.rest.now) }
     {
-        number_of(self.field()?).ok_or(Cause::Number)
+        register_of(self.field()?).ok_or(Cause::Number)
     }
 
-    /// The next field as a register.
-    fn register(&mut self) -> Result<Register, Cause>
-        ensures value { result ≡ number_first (fields_of self.old.rest.now) }
+    /// The next field as the number of a slot for a font.
+    #[tactic(auto, unfolding(crate::specs::Reading::number_first))]
+    fn slot(&mut self) -> Result<u8, Cause>
+        ensures value { result ≡ number_first slot_count (fields_of self.old.rest.now) }
         ensures rest { fields_of self.new.rest.now ≡ rest_of (fields_of self.old.rest.now) }
     {
-        Register::try_new(u64::from(self.number()?)).ok_or(Cause::Number)
+        slot_of(self.field()?).ok_or(Cause::Number)
+    }
+
+    /// The next field as the code of a character.
+    #[tactic(auto, unfolding(crate::specs::Reading::number_first))]
+    fn character(&mut self) -> Result<u8, Cause>
+        ensures value { result ≡ number_first character_count (fields_of self.old.rest.now) }
+        ensures rest { fields_of self.new.rest.now ≡ rest_of (fields_of self.old.rest.now) }
+    {
+        character_of(self.field()?).ok_or(Cause::Number)
     }
 
     /// The next field as the number of a penalty.
@@ -138,21 +148,34 @@ impl<'a> Fields<'a> {
         amount_of(self.field()?)
     }
 
-    /// The next field, which is the last, as a number from 0 to 255.
+    /// The next field, which is the last, as the number of a box register.
     #[tactic(auto, unfolding(crate::specs::Reading::last_number))]
-    fn last_number(&mut self) -> Result<u8, Cause>
-        ensures { result ≡ last_number (fields_of self.old.rest.now) }
+    fn last_register(&mut self) -> Result<Register, Cause>
+        ensures { result ≡ last_number register_count (fields_of self.old.rest.now) }
     {
-        let number = self.number()?;
+        let register = self.register()?;
         self.end()?;
-        Ok(number)
+        Ok(register)
     }
 
-    /// The next field, which is the last, as a register.
-    fn last_register(&mut self) -> Result<Register, Cause>
-        ensures { result ≡ last_number (fields_of self.old.rest.now) }
+    /// The next field, which is the last, as the number of a slot for a font.
+    #[tactic(auto, unfolding(crate::specs::Reading::last_number))]
+    fn last_slot(&mut self) -> Result<u8, Cause>
+        ensures { result ≡ last_number slot_count (fields_of self.old.rest.now) }
     {
-        Register::try_new(u64::from(self.last_number()?)).ok_or(Cause::Number)
+        let slot = self.slot()?;
+        self.end()?;
+        Ok(slot)
+    }
+
+    /// The next field, which is the last, as the code of a character.
+    #[tactic(auto, unfolding(crate::specs::Reading::last_number))]
+    fn last_character(&mut self) -> Result<u8, Cause>
+        ensures { result ≡ last_number character_count (fields_of self.old.rest.now) }
+    {
+        let code = self.character()?;
+        self.end()?;
+        Ok(code)
     }
 
     /// The next field, which is the last, as a dimension.
@@ -208,7 +231,7 @@ impl<'a> Fields<'a> {
         ensures some { IfOk result (λ words. IsFontName words.name.now) }
         ensures err { IfErr result (λ cause. font_of (fields_of self.old.rest.now) ≡ Err cause) }
     {
-        let slot = self.number()?;
+        let slot = self.slot()?;
         let name = self.name()?;
         let size = self.chosen_size()?;
         Ok(FontWords { slot, name, size })
@@ -225,19 +248,19 @@ impl<'a> Fields<'a> {
     }
 
     /// What stands behind `hbox`, `vbox` or `vtop`: a size or none, and a register or none.
-    #[tactic(auto, unfolding(crate::specs::Reading::opening_of, crate::specs::Reading::opened_sized))]
+    #[tactic(auto, unfolding(crate::specs::Reading::opening_of, crate::specs::Reading::opening_with_size))]
     fn opening(&mut self, form: BoxForm) -> Result<Command, Cause>
         ensures { result ≡ opening_of form (fields_of self.old.rest.now) }
     {
         match self.field() {
-            Ok(b"into") => self.opened(form, Target::Natural),
+            Ok(b"into") => self.opening_with_register(form, Target::Natural),
             Ok(b"to") => {
                 let size = self.dimen()?;
-                self.opened_into(form, Target::To(size))
+                self.opening_into(form, Target::To(size))
             }
             Ok(b"spread") => {
                 let more = self.dimen()?;
-                self.opened_into(form, Target::Spread(more))
+                self.opening_into(form, Target::Spread(more))
             }
             Ok(_) => Err(Cause::Word),
             Err(_) => Ok(opening(form, Target::Natural, None)),
@@ -245,21 +268,21 @@ impl<'a> Fields<'a> {
     }
 
     /// The opening of a list, with nothing behind its size, or with `into` and a register.
-    #[tactic(auto, unfolding(crate::specs::Reading::opened_into))]
-    fn opened_into(&mut self, form: BoxForm, target: Target) -> Result<Command, Cause>
-        ensures { result ≡ opened_into form target (fields_of self.old.rest.now) }
+    #[tactic(auto, unfolding(crate::specs::Reading::opening_into))]
+    fn opening_into(&mut self, form: BoxForm, target: Target) -> Result<Command, Cause>
+        ensures { result ≡ opening_into form target (fields_of self.old.rest.now) }
     {
         match self.field() {
-            Ok(b"into") => self.opened(form, target),
+            Ok(b"into") => self.opening_with_register(form, target),
             Ok(_) => Err(Cause::Word),
             Err(_) => Ok(opening(form, target, None)),
         }
     }
 
     /// The opening of a list, with a register as the last field.
-    #[tactic(auto, unfolding(crate::specs::Reading::opened))]
-    fn opened(&mut self, form: BoxForm, target: Target) -> Result<Command, Cause>
-        ensures { result ≡ opened form target (fields_of self.old.rest.now) }
+    #[tactic(auto, unfolding(crate::specs::Reading::opening_with_register))]
+    fn opening_with_register(&mut self, form: BoxForm, target: Target) -> Result<Command, Cause>
+        ensures { result ≡ opening_with_register form target (fields_of self.old.rest.now) }
     {
         let register = self.last_register()?;
         Ok(opening(form, target, Some(register)))
@@ -293,7 +316,7 @@ impl<'a> Fields<'a> {
 
     /// What stands behind `unhbox`, `unhcopy`, `unvbox` or `unvcopy`: a register.
     fn unboxing(&mut self, kind: Kind, taking: Taking) -> Result<Command, Cause>
-        ensures { result ≡ map_ok (unboxing kind taking) (last_number (fields_of self.old.rest.now)) }
+        ensures { result ≡ map_ok (unboxing kind taking) (last_number register_count (fields_of self.old.rest.now)) }
     {
         let register = self.last_register()?;
         Ok(Command::Unbox(Unboxing {
@@ -388,15 +411,19 @@ impl<'a> Fields<'a> {
 
     /// The command of that name with the fields behind it.
     #[tactic(auto, unfolding(crate::specs::Reading::command_named))]
-    fn named(&mut self, alloc: Global, name: Name) -> Result<Result<Command, Cause>, AllocError>
+    fn command_named(
+        &mut self,
+        alloc: Global,
+        name: Name,
+    ) -> Result<Result<Command, Cause>, AllocError>
         ensures { IfOk result (λ read. read ≡ command_named name (fields_of self.old.rest.now)) }
     {
         match name {
             Name::Font => self.font(alloc),
-            Name::Use => Ok(self.last_number().map(Command::UseFont)),
+            Name::Use => Ok(self.last_slot().map(Command::UseFont)),
             Name::Open(form) => Ok(self.opening(form)),
             Name::End => Ok(self.end().map(|()| Command::End)),
-            Name::Character => Ok(self.last_number().map(Command::Character)),
+            Name::Character => Ok(self.last_character().map(Command::Character)),
             Name::Rule => Ok(self.rule()),
             Name::Kern => Ok(self.last_dimen().map(Command::Kern)),
             Name::Glue => Ok(self.glue().map(Command::Glue)),
@@ -421,7 +448,7 @@ impl<'a> Fields<'a> {
             Err(cause) => return Ok(Err(cause)),
         };
         match Name::of(word) {
-            Some(name) => self.named(alloc, name),
+            Some(name) => self.command_named(alloc, name),
             None => Ok(Err(Cause::Word)),
         }
     }
@@ -523,28 +550,54 @@ fn glue(width: Dimen, stretch: Amount, shrink: Amount) -> Glue
     }
 }
 
-/// The number from 0 to 255 that a field writes.
+/// The box register whose number a field writes.
 #[tactic(auto, using(crate::proofs::Numbers::numbers))]
-fn number_of(field: &[u8]) -> Option<u8>
-    ensures { result ≡ number_of field.now }
+fn register_of(field: &[u8]) -> Option<Register>
+    ensures { result ≡ number_of register_count field.now }
 {
     match integer_of(field) {
-        Some(number) => small_number(number),
+        Some(number) => register_numbered(number),
         None => None,
     }
 }
 
-/// A number from 0 to 255.
-fn small_number(number: i64) -> Option<u8>
-    ensures { result ≡ small_number number }
+/// The box register of that number.
+fn register_numbered(number: i64) -> Option<Register>
+    ensures { result ≡ number_among register_count number }
 {
     if number < 0 {
         return None;
     }
-    if number > 255 {
-        return None;
+    Register::try_new(number as u64)
+}
+
+/// The slot for a font whose number a field writes.
+#[tactic(auto, using(crate::proofs::Numbers::numbers))]
+fn slot_of(field: &[u8]) -> Option<u8>
+    ensures { result ≡ number_of slot_count field.now }
+{
+    match integer_of(field) {
+        Some(number) => byte_of(number),
+        None => None,
     }
-    Some(number as u8)
+}
+
+/// The character whose code a field writes.
+#[tactic(auto, using(crate::proofs::Numbers::numbers))]
+fn character_of(field: &[u8]) -> Option<u8>
+    ensures { result ≡ number_of character_count field.now }
+{
+    match integer_of(field) {
+        Some(number) => byte_of(number),
+        None => None,
+    }
+}
+
+/// A number as a byte, where it is one.
+fn byte_of(number: i64) -> Option<u8>
+    ensures { result ≡ number_among 256 number }
+{
+    u8::try_from(number).ok()
 }
 
 /// The number of a penalty that a field writes.

@@ -72,14 +72,14 @@ impl<'a> Case<'a> {
     pub fn run<W: Write>(&self, alloc: Global, output: &mut W) -> Result<()> {
         writeln!(output, "== {}", self.name)?;
         if !self.each {
-            let script = joined(alloc, &self.pieces)?;
+            let script = script_of(alloc, &self.pieces)?;
             return self.run_one(alloc, &script, output);
         }
         for piece in &self.pieces {
             output.write_all(if piece.ends { b"|" } else { b"\\" })?;
             output.write_all(piece.text)?;
             output.write_all(b"\n")?;
-            let script = joined(alloc, &[*piece])?;
+            let script = script_of(alloc, &[*piece])?;
             self.run_one(alloc, &script, output)?;
         }
         Ok(())
@@ -89,7 +89,7 @@ impl<'a> Case<'a> {
     fn run_one<W: Write>(&self, alloc: Global, script: &[u8], output: &mut W) -> Result<()> {
         let mut written = Vec::new(alloc);
         let accepted = self
-            .written(alloc, script, &mut written)
+            .append_answers(alloc, script, &mut written)
             .context("memory was refused")?;
         self.print_last_lines(alloc, &written, output)?;
         let verdict = if accepted { "accepted" } else { "refused" };
@@ -98,7 +98,7 @@ impl<'a> Case<'a> {
     }
 
     /// Appends what is written for a script, and tells whether all was accepted; none where memory is refused.
-    fn written(&self, alloc: Global, script: &[u8], written: &mut Vec<u8>) -> Option<bool> {
+    fn append_answers(&self, alloc: Global, script: &[u8], written: &mut Vec<u8>) -> Option<bool> {
         match self.device {
             DeviceKind::Memory => run_memory(alloc, script, &self.fonts, written).ok(),
             DeviceKind::Broken => {
@@ -132,7 +132,7 @@ impl<'a> Case<'a> {
 }
 
 /// The script of some pieces.
-fn joined(alloc: Global, pieces: &[Piece]) -> Result<Vec<u8>, AllocError> {
+fn script_of(alloc: Global, pieces: &[Piece]) -> Result<Vec<u8>, AllocError> {
     let mut script = Vec::new(alloc);
     for piece in pieces {
         script.extend_from_slice(piece.text)?;

@@ -29,7 +29,7 @@ module _ (slot : ℕ) (sizes : ℕ → Option GlyphSize) (steps : ℕ → ℕ �
       (outcome_glyphs slot sizes c (sizes c) (step_to sizes steps c (Some d)) refl)
       (items_from-glyphs (outcome_next d (outcome_at sizes steps c (Some d))) text)
 
-  -- those of a word
+  -- the glyphs of a word
   pub shaped_items-glyphs : (text : List ℕ) → AllByRecursion (IsGlyphOf slot sizes) (shaped_items slot sizes steps text)
   shaped_items-glyphs [] = tt
   shaped_items-glyphs (c ∷ text) = items_from-glyphs c text
@@ -41,7 +41,7 @@ module _ (slot : ℕ) (sizes : ℕ → Option GlyphSize) (steps : ℕ → ℕ �
       each_append (IsGlyphOf slot sizes) (shaped_items slot sizes steps w) (flat_map (part_items slot sizes steps blank) parts) (shaped_items-glyphs w)
       (parts-glyphs blank parts)
 
-  -- those of a text
+  -- the glyphs of a text
   pub text_items-glyphs : (blank : Glue) (text : List ℕ) → AllByRecursion (IsGlyphOf slot sizes) (text_items slot sizes steps blank text)
   unfolding text_items
   text_items-glyphs blank text = parts-glyphs blank (parts_of text)

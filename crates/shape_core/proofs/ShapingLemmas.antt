@@ -70,7 +70,7 @@ shaped-ligature : (slot : ℕ) (sizes : ℕ → Option GlyphSize) (steps : ℕ �
 unfolding outcome_at
 shaped-ligature slot sizes steps c d e size word at behind = (rw (at, behind) refl, rw (at, behind) (omega arith))
 
--- and the only one
+-- a word has no other shaping
 pub shaped-unique : (slot : ℕ) (sizes : ℕ → Option GlyphSize) (steps : ℕ → ℕ → Option Step) {word : List ℕ} {items : List Node} {n : ℕ} → Shaping slot sizes steps word items n → (items ≡ shaped_items slot sizes steps word) × (n ≡ shaped_missing sizes steps word)
 shaped-unique slot sizes steps empty = (refl, refl)
 shaped-unique slot sizes steps (missing {c = c} {word = word} at rest) =

@@ -9,7 +9,7 @@ use Rattle.node_core.specs.declared.tree.Glue.{Glue}
 use Rattle.node_core.specs.declared.tree.Node.{Node}
 use Rattle.tfm_core.specs.declared.font.GlyphSize.{GlyphSize}
 use Rattle.tfm_core.specs.declared.font.Step.{Step}
-use Rattle.shape_core.specs.Texts.{Part, spaces, word, is_other, is_space, joined, part_items, part_length, part_missing, part_of, parts_of, text_items, text_missing}
+use Rattle.shape_core.specs.Texts.{Part, spaces, word, is_other, is_space, parts_with, part_items, part_length, part_missing, part_of, parts_of, text_items, text_missing}
 
 pub drop_next : {X : Type 0} (n : ℕ) (x : X) (xs : List X) → drop (1 + n) (x ∷ xs) ≡ drop n xs
 drop_next n x xs = let e : 1 + n ≡ suc n = omega arith in rw e refl
@@ -24,52 +24,52 @@ pub stops : (p : ℕ → Bool) (c : ℕ) (text : List ℕ) → p c ≡ false →
 stops p c text e = ap (λ b. cond b (1 + prefix_len p text) 0) e
 
 -- a space before a word
-before_word : (c d : ℕ) (parts : List Part) → joined c true (joined d false parts) ≡ spaces ∷ joined d false parts
+before_word : (c d : ℕ) (parts : List Part) → parts_with c true (parts_with d false parts) ≡ spaces ∷ parts_with d false parts
 before_word c d [] = refl
 before_word c d (spaces ∷ parts) = refl
 before_word c d ((word w) ∷ parts) = refl
 
 -- a character before spaces
-before_spaces : (c d : ℕ) (parts : List Part) → joined c false (joined d true parts) ≡ word (c ∷ []) ∷ joined d true parts
+before_spaces : (c d : ℕ) (parts : List Part) → parts_with c false (parts_with d true parts) ≡ word (c ∷ []) ∷ parts_with d true parts
 before_spaces c d [] = refl
 before_spaces c d (spaces ∷ parts) = refl
 before_spaces c d ((word w) ∷ parts) = refl
 
-next_space : (c d : ℕ) (text : List ℕ) (b : Bool) → is_space d ≡ b → (is_space d ≡ true → parts_of (d ∷ text) ≡ spaces ∷ parts_of (drop (prefix_len is_space text) text)) → joined c true (parts_of (d ∷ text)) ≡ spaces ∷ parts_of (drop (prefix_len is_space (d ∷ text)) (d ∷ text))
+next_space : (c d : ℕ) (text : List ℕ) (b : Bool) → is_space d ≡ b → (is_space d ≡ true → parts_of (d ∷ text) ≡ spaces ∷ parts_of (drop (prefix_len is_space text) text)) → parts_with c true (parts_of (d ∷ text)) ≡ spaces ∷ parts_of (drop (prefix_len is_space (d ∷ text)) (d ∷ text))
 next_space c d text true h later =
     let front : drop (prefix_len is_space (d ∷ text)) (d ∷ text) ≡ drop (prefix_len is_space text) text =
     ap (λ n. drop n (d ∷ text)) (passes is_space d text h) ∙ drop_next (prefix_len is_space text) d text in
-    ap (joined c true) (later h) ∙ ap (λ t. spaces ∷ parts_of t) (sym front)
+    ap (parts_with c true) (later h) ∙ ap (λ t. spaces ∷ parts_of t) (sym front)
 next_space c d text false h later =
     let front : drop (prefix_len is_space (d ∷ text)) (d ∷ text) ≡ d ∷ text = ap (λ n. drop n (d ∷ text)) (stops is_space d text h) in
-    let parts : parts_of (d ∷ text) ≡ joined d false (parts_of text) = ap (λ b. joined d b (parts_of text)) h in
-    ap (joined c true) parts ∙ before_word c d (parts_of text) ∙ ap (λ p. spaces ∷ p) (sym parts) ∙ ap (λ t. spaces ∷ parts_of t) (sym front)
+    let parts : parts_of (d ∷ text) ≡ parts_with d false (parts_of text) = ap (λ b. parts_with d b (parts_of text)) h in
+    ap (parts_with c true) parts ∙ before_word c d (parts_of text) ∙ ap (λ p. spaces ∷ p) (sym parts) ∙ ap (λ t. spaces ∷ parts_of t) (sym front)
 
 -- a space begins a run of spaces
 pub parts_of-space : (c : ℕ) (text : List ℕ) → is_space c ≡ true → parts_of (c ∷ text) ≡ spaces ∷ parts_of (drop (prefix_len is_space text) text)
-parts_of-space c [] e = ap (λ b. joined c b []) e
+parts_of-space c [] e = ap (λ b. parts_with c b []) e
 parts_of-space c (d ∷ text) e =
-    ap (λ b. joined c b (parts_of (d ∷ text))) e ∙ next_space c d text (is_space d) refl (parts_of-space d text)
+    ap (λ b. parts_with c b (parts_of (d ∷ text))) e ∙ next_space c d text (is_space d) refl (parts_of-space d text)
 
-next_other : (c d : ℕ) (text : List ℕ) (b : Bool) → is_space d ≡ b → (is_space d ≡ false → parts_of (d ∷ text) ≡ word (d ∷ take (prefix_len is_other text) text) ∷ parts_of (drop (prefix_len is_other text) text)) → joined c false (parts_of (d ∷ text)) ≡ word (c ∷ take (prefix_len is_other (d ∷ text)) (d ∷ text)) ∷ parts_of (drop (prefix_len is_other (d ∷ text)) (d ∷ text))
+next_other : (c d : ℕ) (text : List ℕ) (b : Bool) → is_space d ≡ b → (is_space d ≡ false → parts_of (d ∷ text) ≡ word (d ∷ take (prefix_len is_other text) text) ∷ parts_of (drop (prefix_len is_other text) text)) → parts_with c false (parts_of (d ∷ text)) ≡ word (c ∷ take (prefix_len is_other (d ∷ text)) (d ∷ text)) ∷ parts_of (drop (prefix_len is_other (d ∷ text)) (d ∷ text))
 next_other c d text true h later =
     let length_is : prefix_len is_other (d ∷ text) ≡ 0 = stops is_other d text (ap not h) in
-    let parts : parts_of (d ∷ text) ≡ joined d true (parts_of text) = ap (λ b. joined d b (parts_of text)) h in
-    ap (joined c false) parts ∙ before_spaces c d (parts_of text) ∙ ap (λ p. word (c ∷ []) ∷ p) (sym parts)
+    let parts : parts_of (d ∷ text) ≡ parts_with d true (parts_of text) = ap (λ b. parts_with d b (parts_of text)) h in
+    ap (parts_with c false) parts ∙ before_spaces c d (parts_of text) ∙ ap (λ p. word (c ∷ []) ∷ p) (sym parts)
     ∙ ap (λ n. word (c ∷ take n (d ∷ text)) ∷ parts_of (drop n (d ∷ text))) (sym length_is)
 next_other c d text false h later =
     let n : ℕ = prefix_len is_other text in
     let length_is : prefix_len is_other (d ∷ text) ≡ 1 + n = passes is_other d text (ap not h) in
-    ap (joined c false) (later h)
+    ap (parts_with c false) (later h)
     ∙ ap (λ w. word (c ∷ w) ∷ parts_of (drop n text)) (sym (take_next n d text))
     ∙ ap (λ t. word (c ∷ take (1 + n) (d ∷ text)) ∷ parts_of t) (sym (drop_next n d text))
     ∙ ap (λ n. word (c ∷ take n (d ∷ text)) ∷ parts_of (drop n (d ∷ text))) (sym length_is)
 
 -- another character begins a word
 pub parts_of-word : (c : ℕ) (text : List ℕ) → is_space c ≡ false → parts_of (c ∷ text) ≡ word (c ∷ take (prefix_len is_other text) text) ∷ parts_of (drop (prefix_len is_other text) text)
-parts_of-word c [] e = ap (λ b. joined c b []) e
+parts_of-word c [] e = ap (λ b. parts_with c b []) e
 parts_of-word c (d ∷ text) e =
-    ap (λ b. joined c b (parts_of (d ∷ text))) e ∙ next_other c d text (is_space d) refl (parts_of-word d text)
+    ap (λ b. parts_with c b (parts_of (d ∷ text))) e ∙ next_other c d text (is_space d) refl (parts_of-word d text)
 
 length-by : (c : ℕ) (text : List ℕ) (b : Bool) → is_space c ≡ b → part_length (c ∷ text) ≡ cond b (1 + prefix_len is_space text) (1 + prefix_len is_other text)
 length-by c text true e = ap (λ b. cond b (prefix_len is_space (c ∷ text)) (prefix_len is_other (c ∷ text))) e ∙ passes is_space c text e

@@ -32,18 +32,18 @@ pub data IsCut : List ℕ → List Part → Type 0 where
       → IsCut rest parts → IsCut text (word w ∷ parts)
 
 -- the parts with a character before them: a space joins a run of spaces, and another character a word (own)
-abbrev pub joined : ℕ → Bool → List Part → List Part
-joined c true [] = spaces ∷ []
-joined c true (spaces ∷ parts) = spaces ∷ parts
-joined c true ((word w) ∷ parts) = spaces ∷ word w ∷ parts
-joined c false [] = word (c ∷ []) ∷ []
-joined c false (spaces ∷ parts) = word (c ∷ []) ∷ spaces ∷ parts
-joined c false ((word w) ∷ parts) = word (c ∷ w) ∷ parts
+abbrev pub parts_with : ℕ → Bool → List Part → List Part
+parts_with c true [] = spaces ∷ []
+parts_with c true (spaces ∷ parts) = spaces ∷ parts
+parts_with c true ((word w) ∷ parts) = spaces ∷ word w ∷ parts
+parts_with c false [] = word (c ∷ []) ∷ []
+parts_with c false (spaces ∷ parts) = word (c ∷ []) ∷ spaces ∷ parts
+parts_with c false ((word w) ∷ parts) = word (c ∷ w) ∷ parts
 
 -- the parts of a text (own)
 abbrev pub parts_of : List ℕ → List Part
 parts_of [] = []
-parts_of (c ∷ text) = joined c (is_space c) (parts_of text)
+parts_of (c ∷ text) = parts_with c (is_space c) (parts_of text)
 
 -- the items of a part: a run of spaces is one glue (own)
 abbrev pub part_items : ℕ → (ℕ → Option GlyphSize) → (ℕ → ℕ → Option Step) → Glue → Part → List Node

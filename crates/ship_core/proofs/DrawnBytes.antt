@@ -125,11 +125,11 @@ leaf_bytes widths b h v (rule r) wide =
 
 -- The body of a page takes at most 19 bytes for each item of its box, those of inner boxes included.
 pub body_bytes :
-    (widths : Widths) (page : Page) → EachLeaf (HasWidth widths) page.shown.list
-    → length (bytes_of (flat (body_of page))) ≤ 19 * items_count page.shown.list
+    (widths : Widths) (page : Page) → EachLeaf (HasWidth widths) page.box_node.list
+    → length (bytes_of (flat (body_of page))) ≤ 19 * items_count page.box_node.list
 unfolding body_of
 body_bytes widths page all =
-    let b = page.shown in
+    let b = page.box_node in
     omega (
       arith,
       drawing_bytes b.kind (pos 0) (pos 0) None (picture_of_page page) (each_behind IsOfBytes (HasWidth widths) (leaf_bytes widths) b page.h (page_v page) [] b.list all),

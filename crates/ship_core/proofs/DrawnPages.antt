@@ -24,34 +24,34 @@ use Rattle.ship_core.proofs.DrawnMarks.{EachStroke, IsDrawn, IsInked, HoldsOfAll
 use Rattle.ship_core.proofs.Pictures.{marks-picture, each_rule, each_glyph, each_behind, strokes_drawn, few_groups}
 
 -- How far a page that is not huge reaches down and to the right fits.
-pub fits_down : (page : Page) → is_huge page ≡ false → fits (page.v +ℤ page.shown.depth) ≡ true
+pub fits_down : (page : Page) → is_huge page ≡ false → fits (page.v +ℤ page.box_node.depth) ≡ true
 unfolding is_huge
 fits_down page small =
-    first_of_three (fits (page.v +ℤ page.shown.depth)) (fits (page.h +ℤ page.shown.width))
-    (list_all fits (numbers_behind page.shown page.h (page_v page) [] page.shown.list)) small
+    first_of_three (fits (page.v +ℤ page.box_node.depth)) (fits (page.h +ℤ page.box_node.width))
+    (list_all fits (numbers_behind page.box_node page.h (page_v page) [] page.box_node.list)) small
 
-pub fits_right : (page : Page) → is_huge page ≡ false → fits (page.h +ℤ page.shown.width) ≡ true
+pub fits_right : (page : Page) → is_huge page ≡ false → fits (page.h +ℤ page.box_node.width) ≡ true
 unfolding is_huge
 fits_right page small =
-    second_of_three (fits (page.v +ℤ page.shown.depth)) (fits (page.h +ℤ page.shown.width))
-    (list_all fits (numbers_behind page.shown page.h (page_v page) [] page.shown.list)) small
+    second_of_three (fits (page.v +ℤ page.box_node.depth)) (fits (page.h +ℤ page.box_node.width))
+    (list_all fits (numbers_behind page.box_node page.h (page_v page) [] page.box_node.list)) small
 
 -- The strokes of a page that is not huge can be drawn.
 page_drawn :
-    (widths : Widths) (page : Page) → is_huge page ≡ false → EachLeaf (HasWidth widths) page.shown.list
-    → EachStroke (IsDrawn widths) page.shown.kind (picture_of_page page)
+    (widths : Widths) (page : Page) → is_huge page ≡ false → EachLeaf (HasWidth widths) page.box_node.list
+    → EachStroke (IsDrawn widths) page.box_node.kind (picture_of_page page)
 page_drawn widths page small wide =
-    strokes_drawn widths page.shown page.h (page_v page) [] page.shown.list wide
-    (all_within (numbers_behind page.shown page.h (page_v page) [] page.shown.list) (items_fit page small))
+    strokes_drawn widths page.box_node page.h (page_v page) [] page.box_node.list wide
+    (all_within (numbers_behind page.box_node page.h (page_v page) [] page.box_node.list) (items_fit page small))
 
 -- What is drawn shows the marks of the page, whatever w, x, y and z hold at its start.
 pub drawn_page :
-    (widths : Widths) (held : Registers) (page : Page) → is_huge page ≡ false → EachLeaf (HasWidth widths) page.shown.list
+    (widths : Widths) (held : Registers) (page : Page) → is_huge page ≡ false → EachLeaf (HasWidth widths) page.box_node.list
     → (last : State) × (meaning (kept (acts widths)) (body_of page) (at (pos 0) (pos 0) held None) ≡ Some (marks_of_page page, last))
 unfolding body_of marks_of_box
 drawn_page widths held page small wide =
-    let shown = drawn_marks widths held page.shown.kind (pos 0) (pos 0) None (picture_of_page page) refl (page_drawn widths page small wide) in
-    (shown.last, shown.shows ∙ ap (λ marks. Some (marks, shown.last)) (marks-picture page.shown page.h (page_v page) [] page.shown.list))
+    let shown = drawn_marks widths held page.box_node.kind (pos 0) (pos 0) None (picture_of_page page) refl (page_drawn widths page small wide) in
+    (shown.last, shown.shows ∙ ap (λ marks. Some (marks, shown.last)) (marks-picture page.box_node page.h (page_v page) [] page.box_node.list))
 
 -- 0 is a dimension.
 zero_within : Within 1073741823 (pos 0)
@@ -59,16 +59,16 @@ zero_within = record { low = omega (arith, ints); high = omega (arith, ints) }
 
 -- It can be written.
 pub writable_page :
-    (widths : Widths) (page : Page) → is_huge page ≡ false → EachLeaf (HasWidth widths) page.shown.list
+    (widths : Widths) (page : Page) → is_huge page ≡ false → EachLeaf (HasWidth widths) page.box_node.list
     → AllByRecursion IsWritable (flat (body_of page))
 unfolding body_of
 writable_page widths page small wide =
-    drawn_writable widths page.shown.kind (pos 0) (pos 0) None (picture_of_page page) zero_within zero_within (page_drawn widths page small wide)
+    drawn_writable widths page.box_node.kind (pos 0) (pos 0) None (picture_of_page page) zero_within zero_within (page_drawn widths page small wide)
 
 -- What holds of all that is made for pages holds of each instruction of a body.
 pub each_page : (P : Instruction → Type 0) → HoldsOfAll P → (page : Page) → AllByRecursion P (flat (body_of page))
 unfolding body_of
-each_page P holds page = all_drawn P holds page.shown.kind (pos 0) (pos 0) None (picture_of_page page)
+each_page P holds page = all_drawn P holds page.box_node.kind (pos 0) (pos 0) None (picture_of_page page)
 
 -- None names w, x, y or z.
 pub no_register_page : (page : Page) → AllByRecursion NamesNoRegister (flat (body_of page))
@@ -116,13 +116,13 @@ definitions-page page =
     )
 
 -- Its groups nest less deep than the box.
-pub nests_page : (page : Page) → nests (body_of page) ≤ items_depth page.shown.list
+pub nests_page : (page : Page) → nests (body_of page) ≤ items_depth page.box_node.list
 unfolding body_of
 nests_page page =
     omega (
       arith,
-      nests-drawn page.shown.kind (pos 0) (pos 0) None (picture_of_page page),
-      few_groups page.shown page.h (page_v page) [] page.shown.list,
+      nests-drawn page.box_node.kind (pos 0) (pos 0) None (picture_of_page page),
+      few_groups page.box_node page.h (page_v page) [] page.box_node.list,
     )
 
 -- A property of a glyph's font.
@@ -158,11 +158,11 @@ leaf_selects P b h v (rule r) here =
 
 -- Each selected font is that of a glyph of the box.
 pub selections_page :
-    (P : ℤ → Type 0) (page : Page) → EachLeaf (HasFont P) page.shown.list
+    (P : ℤ → Type 0) (page : Page) → EachLeaf (HasFont P) page.box_node.list
     → AllByRecursion P (selections (flat (body_of page)))
 unfolding body_of
 selections_page P page all =
     all_selections P (flat (body_of page)) (
-    each_drawn (Selects P) (record { moves = λ axis z. tt; push = tt; pop = tt }) page.shown.kind (pos 0) (pos 0) None (picture_of_page page)
-    (each_behind (IsInked (Selects P)) (HasFont P) (leaf_selects P) page.shown page.h (page_v page) [] page.shown.list all)
+    each_drawn (Selects P) (record { moves = λ axis z. tt; push = tt; pop = tt }) page.box_node.kind (pos 0) (pos 0) None (picture_of_page page)
+    (each_behind (IsInked (Selects P)) (HasFont P) (leaf_selects P) page.box_node page.h (page_v page) [] page.box_node.list all)
     )

@@ -275,6 +275,6 @@ inner_depth items xs i x shift inner within at all is =
     omega (arith, left_depth i xs, ap (λ nodes. items_depth (items_of nodes)) left, ap items_depth whole)
 
 -- The numbers of the items of a page that is not huge fit.
-pub items_fit : (page : Page) → is_huge page ≡ false → list_all fits (numbers_behind page.shown page.h (page_v page) [] page.shown.list) ≡ true
+pub items_fit : (page : Page) → is_huge page ≡ false → list_all fits (numbers_behind page.box_node page.h (page_v page) [] page.box_node.list) ≡ true
 unfolding is_huge
 items_fit page small = last_of_three _ _ _ small

@@ -95,8 +95,8 @@ drawn kind h v current (group own inner rest) =
 
 -- The picture of a page.
 abbrev pub picture_of_page : Page → Picture
-picture_of_page page = picture_behind page.shown page.h (page_v page) [] page.shown.list
+picture_of_page page = picture_behind page.box_node page.h (page_v page) [] page.box_node.list
 
 -- The body of a page, from its origin and without a font.
 unfoldable pub body_of : Page → Forest
-body_of page = drawn page.shown.kind (pos 0) (pos 0) None (picture_of_page page)
+body_of page = drawn page.box_node.kind (pos 0) (pos 0) None (picture_of_page page)

@@ -1,5 +1,6 @@
 -- The marks of a page, and what draws them.
 pub mod Marks
+pub mod Pages
 pub mod Drawing
 pub mod Placing
 pub mod Shown

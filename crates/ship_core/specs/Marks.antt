@@ -136,22 +136,22 @@ numbers_behind b h v before (box shift frame inner after) =
 -- A page: its ten counts, and a box with its reference point.
 pub record Page : Type 0 where
   pub counts : List ℤ
-  pub shown : BoxNode
+  pub box_node : BoxNode
   pub h : ℤ
   pub v : ℤ
 
 -- The marks of a page.
 abbrev pub marks_of_page : Page → List Mark
-marks_of_page page = marks_of_box page.shown page.h page.v
+marks_of_page page = marks_of_box page.box_node page.h page.v
 
 -- How far down the list of the box of a page begins.
 abbrev pub page_v : Page → ℤ
-page_v page = list_v page.shown.kind page.shown.height page.v
+page_v page = list_v page.box_node.kind page.box_node.height page.v
 
 -- The numbers of a page that have to fit: how far it reaches down and to the right, and those of its items, in inner boxes too (own).
 abbrev pub numbers_of_page : Page → List ℤ
 numbers_of_page page =
-    (page.v +ℤ page.shown.depth) ∷ (page.h +ℤ page.shown.width) ∷ numbers_behind page.shown page.h (page_v page) [] page.shown.list
+    (page.v +ℤ page.box_node.depth) ∷ (page.h +ℤ page.box_node.width) ∷ numbers_behind page.box_node page.h (page_v page) [] page.box_node.list
 
 -- Whether a page is huge: one of those numbers does not fit (own).
 unfoldable pub is_huge : Page → Bool

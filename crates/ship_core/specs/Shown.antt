@@ -26,7 +26,7 @@ at h v held font = record { place = record { h = h; v = v; held = held }; font =
 -- stay within signed 32 bits.
 abbrev pub ShowsItsMarks : Type 0
 ShowsItsMarks =
-    (widths : Widths) (held : Registers) (page : Page) → is_huge page ≡ false → EachLeaf (HasWidth widths) page.shown.list
+    (widths : Widths) (held : Registers) (page : Page) → is_huge page ≡ false → EachLeaf (HasWidth widths) page.box_node.list
     → (last : State) × (meaning (kept (acts widths)) (body_of page) (at (pos 0) (pos 0) held None) ≡ Some (marks_of_page page, last))
 
 -- An instruction that neither sets nor reads w, x, y and z.
@@ -38,6 +38,6 @@ NamesNoRegister other = Unit {0}
 -- Each instruction of the body of a page can be written, none names w, x, y or z, and its groups nest less deep than the box.
 abbrev pub CanBeWritten : Type 0
 CanBeWritten =
-    (widths : Widths) (page : Page) → is_huge page ≡ false → EachLeaf (HasWidth widths) page.shown.list
+    (widths : Widths) (page : Page) → is_huge page ≡ false → EachLeaf (HasWidth widths) page.box_node.list
     → AllByRecursion IsWritable (flat (body_of page)) × AllByRecursion NamesNoRegister (flat (body_of page))
-    × (nests (body_of page) ≤ items_depth page.shown.list)
+    × (nests (body_of page) ≤ items_depth page.box_node.list)

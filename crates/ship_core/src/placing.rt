@@ -1,6 +1,6 @@
 //! Where the items of a box stand on a page, and their marks.
 
-ghost use Rattle.std.specs.Prelude.{◌≡◌, ◌+ℤ◌, ◌+◌, ◌^◌, [], ◌∷◌, true, None, is_some, IfSome};
+ghost use Rattle.std.specs.Prelude.{◌≡◌, ◌+ℤ◌, ◌+◌, ◌^◌, [], ◌∷◌, pos, true, None, is_some, IfSome};
 ghost use Rattle.std.specs.List.{list_all};
 ghost use Rattle.scaled_core.specs.Dimensions.{Within, fits};
 ghost use Rattle.ship_core.specs.Marks.{size_in, right_at, down_at, rule_below, rule_tall, rule_wide, rule_mark, box_h, box_v, numbers_of};
@@ -9,10 +9,29 @@ ghost use Rattle.ship_core.specs.Placing.{point, Reaches, Ends, strokes_in, stro
 ghost use Rattle.node_core.specs.declared.tree.Node.TheVariants as nodes;
 
 use node_core::{BoxNode, Glyph, Kind, Node, Rule, RuleSize};
-use pack_core::{counted, dimension};
+use pack_core::own_size;
 use scaled_core::Dimen;
 
-/// A position on a page, in scaled points to the right of its origin and below it.
+/// A point of a page, in scaled points to the right of its origin and below it. Each number is a dimension or the sum of two, and need not fit.
+#[derive(Clone, Copy, Debug, PartialEq, Eq)]
+pub struct PagePoint {
+    pub h: i32,
+    pub v: i32,
+}
+
+impl PagePoint {
+    /// The reference point of the page that a box makes: its height below the origin.
+    pub fn of_box(box_node: &BoxNode) -> PagePoint
+        ensures { result ≡ record { h = pos 0; v = box_node.now.height } }
+    {
+        PagePoint {
+            h: 0,
+            v: box_node.height.get(),
+        }
+    }
+}
+
+/// A position on a page that fits, in scaled points to the right of its origin and below it.
 #[derive(Clone, Copy, Debug, PartialEq, Eq)]
 pub struct Position {
     pub h: Dimen,
@@ -20,9 +39,20 @@ pub struct Position {
 }
 
 impl Position {
+    /// The point of the page at a position.
+    pub fn point(self) -> PagePoint
+        ensures h { result.h ≡ self.h }
+        ensures v { result.v ≡ self.v }
+    {
+        PagePoint {
+            h: self.h.get(),
+            v: self.v.get(),
+        }
+    }
+
     /// Both numbers of a position fit: dimensions always do. It does nothing.
     #[tactic(auto, using(scaled_core::proofs::Fitting::dimension_fits))]
-    fn known(&self)
+    fn numbers_fit(&self)
         ensures h { fits self.now.h ≡ true }
         ensures v { fits self.now.v ≡ true }
     {
@@ -59,13 +89,13 @@ pub struct PlacedItem {
 fn point(h: i128, v: i128) -> Option<Position>
     ensures { result ≡ point h v }
 {
-    let h = dimension(h)?;
-    let v = dimension(v)?;
+    let h = Dimen::from_wide(h)?;
+    let v = Dimen::from_wide(v)?;
     Some(Position { h, v })
 }
 
-/// A number that is a distance more than another.
-fn moved(from: i64, distance: i128) -> i128
+/// The number behind another at a distance.
+fn number_behind(from: i64, distance: i128) -> i128
     requires { Within (2 ^ 126 + 2 ^ 63) distance }
     ensures { result ≡ from +ℤ distance }
 {
@@ -73,32 +103,14 @@ fn moved(from: i64, distance: i128) -> i128
 }
 
 /// The position at a distance from where a list begins that goes that way.
-pub fn point_at(kind: Kind, h: Dimen, v: i64, distance: i128) -> Option<Position>
+pub fn point_at(kind: Kind, h: i64, v: i64, distance: i128) -> Option<Position>
     requires { Within (2 ^ 126 + 2 ^ 63) distance }
     ensures { result ≡ point (right_at kind h distance) (down_at kind v distance) }
 {
     match kind {
-        Kind::Horizontal => point(moved(i64::from(h.get()), distance), i128::from(v)),
-        Kind::Vertical => point(i128::from(h.get()), moved(v, distance)),
+        Kind::Horizontal => point(number_behind(h, distance), i128::from(v)),
+        Kind::Vertical => point(i128::from(h), number_behind(v, distance)),
     }
-}
-
-/// The sum of two dimensions, whether it fits or not.
-fn added(a: Dimen, b: Dimen) -> i128
-    ensures { result ≡ a +ℤ b }
-{
-    i128::from(a.get()) + i128::from(b.get())
-}
-
-/// The sum of two dimensions, in scaled points; None exactly where it does not fit. (That the two themselves fit is said too: dimensions always do.)
-#[tactic(auto, using(scaled_core::proofs::Fitting::dimension_fits))]
-pub fn sum(a: Dimen, b: Dimen) -> Option<Dimen>
-    ensures value { IfSome result (λ sum. sum ≡ a +ℤ b) }
-    ensures fits { is_some result ≡ fits (a +ℤ b) }
-    ensures first { fits a ≡ true }
-    ensures second { fits b ≡ true }
-{
-    dimension(added(a, b))
 }
 
 /// A size of a rule where it stands in a box.
@@ -120,22 +132,23 @@ struct RuleSizes {
 }
 
 /// The sizes of a rule in the list of a box; None exactly where its height plus depth does not fit.
-fn sizes_of(shown: &BoxNode, rule: Rule) -> Option<RuleSizes>
-    ensures fits { is_some result ≡ fits (rule_tall shown.now.kind shown.now rule) }
-    ensures below { IfSome result (λ s. s.below ≡ rule_below shown.now.kind shown.now rule) }
-    ensures tall { IfSome result (λ s. s.tall ≡ rule_tall shown.now.kind shown.now rule) }
-    ensures wide { IfSome result (λ s. s.wide ≡ rule_wide shown.now.kind shown.now rule) }
+#[tactic(auto, unfolding(scaled_core::specs::Dimensions::dimension_of))]
+fn sizes_of(box_node: &BoxNode, rule: Rule) -> Option<RuleSizes>
+    ensures fits { is_some result ≡ fits (rule_tall box_node.now.kind box_node.now rule) }
+    ensures below { IfSome result (λ s. s.below ≡ rule_below box_node.now.kind box_node.now rule) }
+    ensures tall { IfSome result (λ s. s.tall ≡ rule_tall box_node.now.kind box_node.now rule) }
+    ensures wide { IfSome result (λ s. s.wide ≡ rule_wide box_node.now.kind box_node.now rule) }
 {
-    match shown.kind {
+    match box_node.kind {
         Kind::Horizontal => {
-            let below = size_where(shown.depth, rule.depth);
-            let tall = sum(size_where(shown.height, rule.height), below)?;
-            let wide = counted(rule.width);
+            let below = size_where(box_node.depth, rule.depth);
+            let tall = size_where(box_node.height, rule.height).checked_add(below)?;
+            let wide = own_size(rule.width);
             Some(RuleSizes { below, tall, wide })
         }
         Kind::Vertical => {
-            let tall = sum(counted(rule.height), counted(rule.depth))?;
-            let wide = size_where(shown.width, rule.width);
+            let tall = own_size(rule.height).checked_add(own_size(rule.depth))?;
+            let wide = size_where(box_node.width, rule.width);
             Some(RuleSizes {
                 below: tall,
                 tall,
@@ -146,7 +159,7 @@ fn sizes_of(shown: &BoxNode, rule: Rule) -> Option<RuleSizes>
 }
 
 /// A rule of that height that is seen; None exactly where its height or its width is not positive.
-fn visible(height: Dimen, h: Dimen, v: Dimen, width: Dimen, end: Dimen) -> Option<MarkAt>
+fn visible_rule(height: Dimen, h: Dimen, v: Dimen, width: Dimen, end: Dimen) -> Option<MarkAt>
     ensures mark { (rest : Picture) → strokes_in result rest ≡ in_front (rule_mark h v height width) width rest }
     ensures end { IfSome result (λ m. m ≡ record { h = h; v = v; width = width; end = end; ink = Ink.Rule height }) }
 {
@@ -166,13 +179,15 @@ fn visible(height: Dimen, h: Dimen, v: Dimen, width: Dimen, end: Dimen) -> Optio
 }
 
 /// The reference point of a box that stands at a place of a list of that kind, where it fits.
+#[tactic(auto, using(scaled_core::proofs::Fitting::dimension_fits), unfolding(scaled_core::specs::Dimensions::dimension_of))]
 fn reference_of(kind: Kind, at: Position, shift: Dimen, height: Dimen) -> Option<Position>
     ensures { result ≡ point (box_h kind at.h shift) (box_v kind at.v shift height) }
 {
-    match kind {
-        Kind::Horizontal => point(i128::from(at.h.get()), added(at.v, shift)),
-        Kind::Vertical => point(added(at.h, shift), added(at.v, height)),
-    }
+    let (h, v) = match kind {
+        Kind::Horizontal => (Some(at.h), at.v.checked_add(shift)),
+        Kind::Vertical => (at.h.checked_add(shift), at.v.checked_add(height)),
+    };
+    Some(Position { h: h?, v: v? })
 }
 
 /// A box at a place of the list of another; None exactly where its reference point does not fit.
@@ -188,8 +203,6 @@ fn place_box(
     ensures h { IfSome result (λ s. s.at.h ≡ box_h kind at.h shift) }
     ensures v { IfSome result (λ s. s.at.v ≡ box_v kind at.v shift inner.now.height) }
 {
-    at.known();
-    next.known();
     let reference = reference_of(kind, at, shift, inner.height)?;
     Some(PlacedItem {
         mark: None,
@@ -198,30 +211,29 @@ fn place_box(
 }
 
 /// A rule at a place of the list of a box; None exactly where one of its numbers does not fit.
-fn place_rule(shown: &BoxNode, at: Position, next: Position, rule: Rule) -> Option<PlacedItem>
-    requires { Reaches shown.now.kind at.h next.h (nodes.Rule rule) }
-    ensures fits { is_some result ≡ list_all fits (numbers_of shown.now at.h at.v next.h next.v (nodes.Rule rule)) }
-    ensures mark { IfSome result (λ s. (rest : Picture) → strokes_in s.mark rest ≡ strokes_of shown.now at.h at.v (nodes.Rule rule) rest) }
-    ensures end { IfSome result (λ s. IfSome s.mark (Ends shown.now.kind)) }
+#[tactic(auto, unfolding(scaled_core::specs::Dimensions::dimension_of))]
+fn place_rule(box_node: &BoxNode, at: Position, next: Position, rule: Rule) -> Option<PlacedItem>
+    requires { Reaches box_node.now.kind at.h next.h (nodes.Rule rule) }
+    ensures fits { is_some result ≡ list_all fits (numbers_of box_node.now at.h at.v next.h next.v (nodes.Rule rule)) }
+    ensures mark { IfSome result (λ s. (rest : Picture) → strokes_in s.mark rest ≡ strokes_of box_node.now at.h at.v (nodes.Rule rule) rest) }
+    ensures end { IfSome result (λ s. IfSome s.mark (Ends box_node.now.kind)) }
     ensures at { IfSome result (λ s. s.at ≡ at) }
 {
-    at.known();
-    next.known();
-    let sizes = sizes_of(shown, rule)?;
-    let v = sum(at.v, sizes.below)?;
+    let sizes = sizes_of(box_node, rule)?;
+    let v = at.v.checked_add(sizes.below)?;
     Some(PlacedItem {
-        mark: visible(sizes.tall, at.h, v, sizes.wide, next.h),
+        mark: visible_rule(sizes.tall, at.h, v, sizes.wide, next.h),
         at,
     })
 }
 
 /// The mark of a glyph at a place of the list of a box.
-fn place_glyph(shown: &BoxNode, at: Position, next: Position, glyph: Glyph) -> Option<MarkAt>
-    requires { Reaches shown.now.kind at.h next.h (nodes.Glyph glyph) }
-    ensures mark { (rest : Picture) → strokes_in result rest ≡ strokes_of shown.now at.h at.v (nodes.Glyph glyph) rest }
-    ensures end { IfSome result (Ends shown.now.kind) }
+fn place_glyph(box_node: &BoxNode, at: Position, next: Position, glyph: Glyph) -> Option<MarkAt>
+    requires { Reaches box_node.now.kind at.h next.h (nodes.Glyph glyph) }
+    ensures mark { (rest : Picture) → strokes_in result rest ≡ strokes_of box_node.now at.h at.v (nodes.Glyph glyph) rest }
+    ensures end { IfSome result (Ends box_node.now.kind) }
 {
-    match shown.kind {
+    match box_node.kind {
         Kind::Vertical => None,
         Kind::Horizontal => Some(MarkAt {
             h: at.h,
@@ -237,21 +249,26 @@ fn place_glyph(shown: &BoxNode, at: Position, next: Position, glyph: Glyph) -> O
 }
 
 /// An item at a place of the list of a box; None exactly where one of its numbers does not fit. Those of its own items are not looked at.
-pub fn place_item(shown: &BoxNode, at: Position, next: Position, node: &Node) -> Option<PlacedItem>
-    requires { Reaches shown.now.kind at.h next.h node.now }
-    ensures fits { is_some result ≡ list_all fits (numbers_of shown.now at.h at.v next.h next.v node.now) }
-    ensures mark { IfSome result (λ s. (rest : Picture) → strokes_in s.mark rest ≡ strokes_of shown.now at.h at.v node.now rest) }
-    ensures end { IfSome result (λ s. IfSome s.mark (Ends shown.now.kind)) }
-    ensures h { IfSome result (λ s. s.at.h ≡ reference_h shown.now.kind at.h node.now) }
-    ensures v { IfSome result (λ s. s.at.v ≡ reference_v shown.now.kind at.v node.now) }
+pub fn place_item(
+    box_node: &BoxNode,
+    at: Position,
+    next: Position,
+    node: &Node,
+) -> Option<PlacedItem>
+    requires { Reaches box_node.now.kind at.h next.h node.now }
+    ensures fits { is_some result ≡ list_all fits (numbers_of box_node.now at.h at.v next.h next.v node.now) }
+    ensures mark { IfSome result (λ s. (rest : Picture) → strokes_in s.mark rest ≡ strokes_of box_node.now at.h at.v node.now rest) }
+    ensures end { IfSome result (λ s. IfSome s.mark (Ends box_node.now.kind)) }
+    ensures h { IfSome result (λ s. s.at.h ≡ reference_h box_node.now.kind at.h node.now) }
+    ensures v { IfSome result (λ s. s.at.v ≡ reference_v box_node.now.kind at.v node.now) }
 {
-    at.known();
-    next.known();
+    at.numbers_fit();
+    next.numbers_fit();
     match node {
-        Node::Box(shift, inner) => place_box(shown.kind, at, next, *shift, inner),
-        Node::Rule(rule) => place_rule(shown, at, next, *rule),
+        Node::Box(shift, inner) => place_box(box_node.kind, at, next, *shift, inner),
+        Node::Rule(rule) => place_rule(box_node, at, next, *rule),
         Node::Glyph(glyph) => Some(PlacedItem {
-            mark: place_glyph(shown, at, next, *glyph),
+            mark: place_glyph(box_node, at, next, *glyph),
             at,
         }),
         _ => Some(PlacedItem { mark: None, at }),

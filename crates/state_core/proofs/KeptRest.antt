@@ -1,11 +1,15 @@
--- What commands leave alone: those on boxes all but the open lists and the registers, and all of them the font files and whether the job is over.
+-- What commands leave as it is. Those on boxes change the open lists and the registers alone; none changes the font files or whether the job is over.
 use Rattle.std.proofs.Common.{◌≡◌, ℕ, List, Option, Some, None, refl}
 use Rattle.std.specs.Prelude.{ℤ}
 use Rattle.node_core.specs.declared.tree.BoxNode.{BoxNode}
 use Rattle.pack_core.specs.declared.pack.Packed as packs
 use Rattle.nest_core.specs.declared.nest.OpenList.{OpenList}
 use Rattle.command_core.specs.declared.command.Taking.{Taking}
-use Rattle.nest_core.specs.Machine.{State, innermost, outer, packed_list, held_in, with_home, with_closed, with_used, with_unboxed, checks, first_of, state_by, after, state_after}
+use Rattle.nest_core.specs.State.{State, innermost, outer, held_in}
+use Rattle.nest_core.specs.OpenLists.{register_of, packed_list}
+use Rattle.nest_core.specs.Checks.{checks, first_of}
+use Rattle.nest_core.specs.Effects.{with_home, with_closed, with_used, with_unboxed, after}
+use Rattle.nest_core.specs.Machine.{state_by, state_after}
 use Rattle.command_core.specs.declared.command.BoxUse.{BoxUse}
 use Rattle.command_core.specs.declared.command.Unboxing.{Unboxing}
 use Rattle.command_core.specs.declared.command.Refusal.{Refusal}
@@ -29,7 +33,7 @@ home_rest s around (Some r) b = record { files = refl; fonts = refl; over = refl
 closed_rest : (s : State) (l : Option OpenList) (packed : Option packs.Packed) → KeepsRest s (with_closed s l packed)
 closed_rest s None packed = same_rest s
 closed_rest s (Some l) None = same_rest s
-closed_rest s (Some l) (Some packed) = home_rest s (outer s.nest) l.opening.into packed.shown
+closed_rest s (Some l) (Some packed) = home_rest s (outer s.nest) (register_of l.purpose) packed.box_node
 
 used_rest : (s : State) (taking : Taking) (r : ℕ) (shift : ℤ) (held : Option BoxNode) → KeepsRest s (with_used s taking r shift held)
 used_rest s taking r shift None = same_rest s

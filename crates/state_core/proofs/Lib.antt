@@ -4,3 +4,4 @@ pub mod KeptRest
 pub mod Refusals
 pub mod SizedGlyphs
 pub mod LoadedFonts
+pub mod TakenBoxes

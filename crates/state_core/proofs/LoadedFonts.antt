@@ -20,7 +20,9 @@ use Rattle.dvi_write.specs.Fonts.{Slots, font_in}
 use Rattle.nest_core.specs.FontSlots.{sized_font, font_of, with_font}
 use Rattle.state_core.proofs.KeptRest.{KeepsRest, end_keeps, append_keeps, unbox_keeps}
 use Rattle.state_core.specs.Loaded.{IsLoaded, AreLoaded, GivesNumbersFor}
-use Rattle.nest_core.specs.Machine.{State, checks, first_of, font_for, after}
+use Rattle.nest_core.specs.State.{State, font_for}
+use Rattle.nest_core.specs.Checks.{checks, first_of}
+use Rattle.nest_core.specs.Effects.{after}
 use Rattle.state_core.proofs.EachOf.{each_set, each_copy, each_held, held_within}
 
 -- What a metric file gives: a font of its sizes, which fit.
@@ -59,7 +61,7 @@ still_loaded : (s t : State) → KeepsRest s t → AreLoaded s.files s.fonts →
 still_loaded s t keeps loaded =
     subst (λ (files : List NamedBytes). AreLoaded files t.fonts) (sym keeps.files) (subst (λ (fonts : Slots). AreLoaded s.files fonts) (sym keeps.fonts) loaded)
 
--- A command that is accepted leaves them so.
+-- After a command that is accepted the fonts of the slots still are what the font files give.
 pub loaded_after : (s : State) (command : Command) → first_of (checks s command) ≡ None → GivesNumbersFor s command → AreLoaded s.files s.fonts
     → AreLoaded (after s command).files (after s command).fonts
 loaded_after s (LoadFont load) may gives loaded = with_font_loaded s.files s.fonts load.slot load.name load.size (font_for s load) refl gives.0 gives.1 loaded

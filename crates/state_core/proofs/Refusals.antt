@@ -19,7 +19,11 @@ use Rattle.node_core.specs.declared.tree.Kind.{Kind}
 use Rattle.node_core.specs.declared.tree.BoxNode.{BoxNode}
 use Rattle.pack_core.specs.declared.pack.Packed as packs
 use Rattle.nest_core.specs.declared.nest.OpenList.{OpenList}
-use Rattle.nest_core.specs.Machine.{State, Machine, innermost, outer, open_count, held_in, packed_list, box_checks, held_checks, home_checks, packed_checks, close_checks, items_checks, checks, first_of, refusal_in, reply_by, reply_to, answer_of, step}
+use Rattle.nest_core.specs.State.{State, innermost, outer, open_count, held_in}
+use Rattle.nest_core.specs.OpenLists.{register_of, packed_list}
+use Rattle.nest_core.specs.Checks.{box_checks, held_checks, home_checks, packed_checks, close_checks, items_checks, checks, first_of, refusal_in}
+use Rattle.nest_core.specs.Answers.{answer_of}
+use Rattle.nest_core.specs.Machine.{Machine, reply_by, reply_to, step}
 use Rattle.nest_core.specs.Runs.{early_checks, finish_checks, Finishes, Finished, Refuses, WantsMemory, LostDevice, TakesMemory, Steps, Replies, LacksMemory, LosesDevice, Run}
 
 -- A refusal that the machine gives: any but want of memory and a device's failure.
@@ -39,7 +43,7 @@ first_chosen [] r all is = cc
 first_chosen ((true, s) ∷ rest) r all is = subst IsChosen (some_same is) all.0
 first_chosen ((false, s) ∷ rest) r all is = first_chosen rest r all.1 is
 
--- Those in the place of a font.
+-- The refusals in the place of a font are such.
 chosen_by_size : (b : Bool) (font : SizedFont) → AreChosen (refusal_in (cond b (Ok font) (Err DimensionTooLarge)))
 chosen_by_size true font = tt
 chosen_by_size false font = (tt, tt)
@@ -52,7 +56,7 @@ chosen_by_font : (file : Option NamedBytes) (size : Option ℤ) → AreChosen (r
 chosen_by_font None size = (tt, tt)
 chosen_by_font (Some file) size = chosen_by_read (metric_file file.bytes) size
 
--- Those of a box or of items at the end of a list.
+-- So are those of a box, or of items, at the end of a list.
 chosen_by_box : (params : Params) (l : Option OpenList) (b : BoxNode) → AreChosen (box_checks params l b)
 chosen_by_box params None b = (tt, tt)
 chosen_by_box params (Some l) b = (tt, (tt, tt))
@@ -67,11 +71,11 @@ chosen_by_home params around (Some register) b = tt
 
 chosen_by_packed : (params : Params) (around : List OpenList) (into : Option ℕ) (packed : Option packs.Packed) → AreChosen (packed_checks params around into packed)
 chosen_by_packed params around into None = (tt, tt)
-chosen_by_packed params around into (Some packed) = (tt, chosen_by_home params around into packed.shown)
+chosen_by_packed params around into (Some packed) = (tt, chosen_by_home params around into packed.box_node)
 
 chosen_by_end : (params : Params) (around : List OpenList) (l : Option OpenList) → AreChosen (close_checks params around l)
 chosen_by_end params around None = (tt, tt)
-chosen_by_end params around (Some l) = chosen_by_packed params around l.opening.into (packed_list params (Some l))
+chosen_by_end params around (Some l) = chosen_by_packed params around (register_of l.purpose) (packed_list params (Some l))
 
 chosen_by_items : (kind : Kind) (count : ℕ) (held : Option BoxNode) → AreChosen (items_checks kind count held)
 chosen_by_items kind count None = tt
@@ -131,7 +135,7 @@ none_is_some e = cc
 over_first : (s : State) (command : Command) → s.over ≡ true → first_of (checks s command) ≡ Some JobOver
 over_first s command over = rw over refl
 
--- So does the first early one.
+-- Where the job is over, the first early check of each command holds.
 over_early : (s : State) (command : Command) → s.over ≡ true → first_of (early_checks s command) ≡ Some JobOver
 over_early s (LoadFont load) over = rw over refl
 over_early s (UseFont slot) over = rw over refl

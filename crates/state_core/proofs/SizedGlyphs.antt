@@ -39,7 +39,11 @@ use Rattle.nest_core.proofs.PackedItems.{packed_items}
 use Rattle.state_core.specs.Sized.{HasSizes, IsSizedLeaf, IsSoundBox, IsSized, AreSized, IsSizedList, IsSizedHeld, HasSizedGlyphs}
 use Rattle.command_core.specs.declared.command.Taking.{Taking}
 use Rattle.command_core.specs.declared.command.Taking.TheVariants.{Moved, Copied}
-use Rattle.nest_core.specs.Machine.{State, most_deep, first_state, innermost, outer, items_in, with_nodes, with_rule, with_items, glue_in, box_items, with_box, without_last, held_in, with_taken, if_packed, packed_as, packed_list, home_checks, packed_checks, close_checks, with_home, with_closed, with_used, with_unboxed, checks, first_of, font_for, refusal_in, after}
+use Rattle.command_core.specs.declared.limits.TheConstants.{REGISTERS, MOST_DEEP}
+use Rattle.nest_core.specs.State.{State, first_state, innermost, outer, items_in, held_in, font_for}
+use Rattle.nest_core.specs.OpenLists.{glue_in, box_items, register_of, if_packed, packed_by, packed_list}
+use Rattle.nest_core.specs.Checks.{home_checks, packed_checks, close_checks, checks, first_of, refusal_in}
+use Rattle.nest_core.specs.Effects.{with_nodes, with_rule, with_items, with_box, without_last, with_taken, with_home, with_closed, with_used, with_unboxed, after}
 
 -- A slot that has a font keeps it where another one is given a font.
 font_kept : (fonts : Slots) (other : ℕ) (font : LoadedFont) (slot : ℕ) (loaded : LoadedFont) → font_in fonts other ≡ None
@@ -61,8 +65,8 @@ second_fails true second r t rest may = cc
 second_fails false true r t rest may = cc
 second_fails false false r t rest may = refl
 
-not_deeper : (depth : ℕ) → nat_lt most_deep depth ≡ false → depth ≤ most_deep
-not_deeper depth is = ltb-false most_deep depth is
+not_deeper : (depth : ℕ) → nat_lt MOST_DEEP depth ≡ false → depth ≤ MOST_DEEP
+not_deeper depth is = ltb-false MOST_DEEP depth is
 
 none_by : {A : Type 0} (o : Option A) → is_some o ≡ false → o ≡ None
 none_by None h = refl
@@ -133,7 +137,7 @@ node_kept old new keeps (nodes.Box shift b) is = box_kept old new keeps b is
 pub stays_sized : (s : State) (command : Command) → first_of (checks s command) ≡ None → (b : BoxNode) → IsSoundBox s.fonts b → IsSoundBox (after s command).fonts b
 stays_sized s command may b is = box_kept s.fonts (after s command).fonts (stays_loaded s command may) b is
 
--- Lists and their leaves.
+-- Items are sized as nodes exactly where they are as leaves, if no box among them is too deep.
 leaf_sized : (fonts : Slots) (x : Leaf) → IsSized fonts (node_of x) → IsSizedLeaf fonts x
 leaf_sized fonts (leaves.glyph g) is = is
 leaf_sized fonts (leaves.font_kern width) is = tt
@@ -155,7 +159,7 @@ sized_leaves fonts leaves.none all = tt
 sized_leaves fonts (leaves.leaf x rest) all = (leaf_sized fonts x all.0, sized_leaves fonts rest all.1)
 sized_leaves fonts (leaves.box shift frame inner rest) all = (all.0.glyphs, sized_leaves fonts rest all.1)
 
-sized_nodes : (fonts : Slots) (items : Items) → EachLeaf (IsSizedLeaf fonts) items → items_depth items ≤ most_deep → AreSized fonts (nodes_of items)
+sized_nodes : (fonts : Slots) (items : Items) → EachLeaf (IsSizedLeaf fonts) items → items_depth items ≤ MOST_DEEP → AreSized fonts (nodes_of items)
 sized_nodes fonts leaves.none all shallow = tt
 sized_nodes fonts (leaves.leaf x rest) all shallow = (sized_leaf fonts x all.0, sized_nodes fonts rest all.1 shallow)
 sized_nodes fonts (leaves.box shift frame inner rest) all shallow =
@@ -308,26 +312,26 @@ home_sized s (Some r) b sized sound =
       registers = each_set (IsSizedHeld s.fonts) s.registers r (Some b) sized.registers sound;
     }
 
-packed_sized : (s : State) (l : OpenList) (found : Result packs.Packed TooLarge) → ((q : packs.Packed) → found ≡ Ok q → l.list ≡ q.shown.list)
-    → first_of ((s.over, JobOver) ∷ packed_checks s.params (outer s.nest) l.opening.into (if_packed found)) ≡ None
+packed_sized : (s : State) (l : OpenList) (found : Result packs.Packed TooLarge) → ((q : packs.Packed) → found ≡ Ok q → l.list ≡ q.box_node.list)
+    → first_of ((s.over, JobOver) ∷ packed_checks s.params (outer s.nest) (register_of l.purpose) (if_packed found)) ≡ None
     → HasSizedGlyphs s → IsSizedList s.fonts l → HasSizedGlyphs (with_closed s (Some l) (if_packed found))
 packed_sized s l (Err large) own may sized list = sized
 packed_sized s l (Ok q) own may sized list =
     let glyphs = subst (EachLeaf (IsSizedLeaf s.fonts)) (own q refl) (sized_leaves s.fonts l.list list) in
     let shallow =
-    second_fails s.over (nat_lt most_deep (box_depth q.shown)) JobOver TooDeep (home_checks s.params (outer s.nest) l.opening.into q.shown) may in
-    home_sized s l.opening.into q.shown sized (record { glyphs = glyphs; depth = not_deeper (box_depth q.shown) shallow })
+    second_fails s.over (nat_lt MOST_DEEP (box_depth q.box_node)) JobOver TooDeep (home_checks s.params (outer s.nest) (register_of l.purpose) q.box_node) may in
+    home_sized s (register_of l.purpose) q.box_node sized (record { glyphs = glyphs; depth = not_deeper (box_depth q.box_node) shallow })
 
 closed_sized : (s : State) (l : Option OpenList) → innermost s.nest ≡ l → first_of ((s.over, JobOver) ∷ close_checks s.params (outer s.nest) l) ≡ None
     → HasSizedGlyphs s → HasSizedGlyphs (with_closed s l (packed_list s.params l))
 closed_sized s None is may sized = sized
 closed_sized s (Some l) is may sized =
-    packed_sized s l (packed_as l.opening.form s.params l.opening.target l.list) (packed_items l.opening.form s.params l.opening.target l.list) may sized
+    packed_sized s l (packed_by l.purpose s.params l.list) (packed_items l.purpose s.params l.list) may sized
     (each_at (IsSizedList s.fonts) s.nest (length s.nest - 1) l sized.nest is)
 
 -- A new job has no glyph.
 pub sized_first : (files : List NamedBytes) → HasSizedGlyphs (first_state files)
-sized_first files = record { nest = tt; registers = each_copy (IsSizedHeld (first_state files).fonts) 256 None tt }
+sized_first files = record { nest = tt; registers = each_copy (IsSizedHeld (first_state files).fonts) REGISTERS None tt }
 
 -- A command that is accepted leaves all glyphs sized.
 pub sized_after : (s : State) (command : Command) → first_of (checks s command) ≡ None → HasSizedGlyphs s → HasSizedGlyphs (after s command)

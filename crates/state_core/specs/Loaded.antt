@@ -8,8 +8,9 @@ use Rattle.command_core.specs.declared.command.FontLoad.{FontLoad}
 use Rattle.command_core.specs.declared.command.Command.{Command}
 use Rattle.command_core.specs.declared.command.Command.TheVariants.{LoadFont}
 use Rattle.dvi_write.specs.Fonts.{Slots}
+use Rattle.dvi_write.specs.declared.fonts.TheConstants.{FONT_SLOTS}
 use Rattle.nest_core.specs.FontSlots.{font_of}
-use Rattle.nest_core.specs.Machine.{State, font_for}
+use Rattle.nest_core.specs.State.{State, font_for}
 
 -- A font is what the first file of its name gives at its size.
 pub record IsLoaded (files : List NamedBytes) (loaded : LoadedFont) : Type 0 where
@@ -17,9 +18,9 @@ pub record IsLoaded (files : List NamedBytes) (loaded : LoadedFont) : Type 0 whe
   pub name : IsFontName loaded.name
   pub numbers : HasNumbers loaded.font
 
--- There are 256 slots, and each font in them is what the first file of its name gives at its size.
+-- There are `FONT_SLOTS` slots, and each font in them is what the first file of its name gives at its size.
 pub record AreLoaded (files : List NamedBytes) (fonts : Slots) : Type 0 where
-  pub slots : length fonts ≡ 256
+  pub slots : length fonts ≡ FONT_SLOTS
   pub each : AllByRecursion (λ slot. IfSome slot (IsLoaded files)) fonts
 
 -- A font that a command asks for, and that the files give, can be defined in a file of pages.

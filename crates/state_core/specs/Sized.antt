@@ -5,12 +5,13 @@ use Rattle.node_core.specs.declared.tree.Glyph as glyphs
 use Rattle.node_core.specs.declared.tree.Node.{Node}
 use Rattle.node_core.specs.declared.tree.Node.TheVariants.{Glyph, FontKern, Kern, Glue, Penalty, Rule, Box}
 use Rattle.node_core.specs.declared.tree.BoxNode.{BoxNode}
-use Rattle.node_core.specs.Items.{Leaf, glyph, font_kern, kern, glue, penalty, rule, EachLeaf}
+use Rattle.node_core.specs.Items.{Leaf, IfGlyph, EachLeaf}
 use Rattle.node_core.specs.Nodes.{nodes_of, box_depth}
 use Rattle.nest_core.specs.declared.nest.OpenList.{OpenList}
 use Rattle.dvi_write.specs.Fonts.{Slots, font_in}
 use Rattle.nest_core.specs.FontSlots.{glyph_by}
-use Rattle.nest_core.specs.Machine.{State, most_deep}
+use Rattle.command_core.specs.declared.limits.TheConstants.{MOST_DEEP}
+use Rattle.nest_core.specs.State.{State}
 
 -- A glyph has the sizes of its character in the font of its slot.
 abbrev pub HasSizes : Slots → glyphs.Glyph → Type 0
@@ -18,17 +19,12 @@ HasSizes fonts g = glyph_by (font_in fonts g.slot) g.code ≡ Some (record { wid
 
 -- A leaf that is a glyph has the sizes of its character in the font of its slot.
 abbrev pub IsSizedLeaf : Slots → Leaf → Type 0
-IsSizedLeaf fonts (glyph g) = HasSizes fonts g
-IsSizedLeaf fonts (font_kern width) = Unit {0}
-IsSizedLeaf fonts (kern width) = Unit {0}
-IsSizedLeaf fonts (glue g) = Unit {0}
-IsSizedLeaf fonts (penalty p) = Unit {0}
-IsSizedLeaf fonts (rule sizes) = Unit {0}
+IsSizedLeaf fonts x = IfGlyph (HasSizes fonts) x
 
--- The glyphs of a box have the sizes that their fonts give, in its inner boxes too, and it is at most 200 deep.
+-- The glyphs of a box have the sizes that their fonts give, in its inner boxes too, and it is at most `MOST_DEEP` deep.
 pub record IsSoundBox (fonts : Slots) (b : BoxNode) : Type 0 where
   pub glyphs : EachLeaf (IsSizedLeaf fonts) b.list
-  pub depth : box_depth b ≤ most_deep
+  pub depth : box_depth b ≤ MOST_DEEP
 
 -- A glyph among the items of a list has the sizes that its font gives, and a box among them is sound: `IsSoundBox`.
 abbrev pub IsSized : Slots → Node → Type 0
@@ -44,7 +40,7 @@ IsSized fonts (Box shift b) = IsSoundBox fonts b
 abbrev pub AreSized : Slots → List Node → Type 0
 AreSized fonts nodes = AllByRecursion (IsSized fonts) nodes
 
--- The items of an open list are such: glyphs with the sizes of their fonts, and sound boxes.
+-- The glyphs among the items of an open list have the sizes that their fonts give, and the boxes among them are sound.
 abbrev pub IsSizedList : Slots → OpenList → Type 0
 IsSizedList fonts open_list = AreSized fonts (nodes_of open_list.list)
 

@@ -10,7 +10,7 @@ use Rattle.nest_core.specs.contracts.nest.OpenList as open_list
 use Rattle.tfm_core.specs.NamedBytes.{NamedBytes}
 use Rattle.dvi_write.specs.declared.fonts.LoadedFont.{LoadedFont}
 use Rattle.dvi_write.specs.contracts.fonts.LoadedFont as loaded_font
-use Rattle.nest_core.specs.Machine.{State}
+use Rattle.nest_core.specs.State.{State}
 
 -- How a font file is stored: its name and its bytes.
 abbrev pub coded_named : Coded NamedBytes

@@ -5,10 +5,16 @@ ghost use Rattle.command_core.specs.declared.command.Command.TheVariants as comm
 ghost use Rattle.dvi_write.specs.Fonts.{font_in};
 ghost use Rattle.state_core.specs.Loaded.{GivesNumbers};
 ghost use Rattle.node_core.specs.Nodes.{most_nodes, nodes_of};
-ghost use Rattle.nest_core.specs.EmptiedNest.{refilled};
-ghost use Rattle.nest_core.specs.Machine.{first_state, innermost, outer, items_in, held_in, nodes_in, checks, first_of, reply_by, reply_to, state_by, state_after, after, sizes_of, character_checks, item_checks, length_checks, held_checks, home_checks, place_checks, shaped_answer, with_items, with_used, with_unboxed, with_home, GoesIntoList, is_other, is_running, is_misplaced};
+ghost use Rattle.nest_core.specs.EmptiedNest.{refilled_nest};
+ghost use Rattle.nest_core.specs.State.{first_state, innermost, outer, items_in, held_in, count_in, nodes_in};
+ghost use Rattle.nest_core.specs.OpenLists.{GoesIntoList};
+ghost use Rattle.nest_core.specs.Checks.{checks, first_of, character_checks, item_checks, length_checks, held_checks, home_checks, place_checks, is_running, is_misplaced};
+ghost use Rattle.nest_core.specs.Answers.{sizes_of, shaped_answer};
+ghost use Rattle.nest_core.specs.Effects.{after, with_items, with_used, with_unboxed, with_home};
+ghost use Rattle.nest_core.specs.Machine.{reply_by, reply_to, state_by, state_after};
 ghost use Rattle.nest_core.specs.Runs.{early_checks};
 
+use command_core::limits::{MOST_DEEP, MOST_ITEMS, MOST_OPEN, MOST_PAGES, MOST_SHIPPED};
 use command_core::{
     Answer, BoxUse, Characters, FontLoad, Opening, Parameter, Refusal, Register, Reply, Sizes,
     Taking, Unboxing,
@@ -21,7 +27,7 @@ use node_core::{BoxNode, Kind, Node, Params, Rule, RuleSize};
 use pack_core::Packed;
 use scaled_core::Dimen;
 use shape_core::{Missing, shape_character, shape_text};
-use ship_core::is_huge;
+use ship_core::{PagePoint, is_huge};
 use std::alloc::{AllocError, Global};
 use std::marker::Model;
 use tfm_core::{FontFile, file_named};
@@ -42,7 +48,8 @@ pub struct Kept {
 
 impl Model for Kept {
     ghost use Rattle.std.specs.Prelude.{◌≤◌};
-    ghost use Rattle.nest_core.specs.Machine.{State, most_shipped, most_pages};
+    ghost use Rattle.nest_core.specs.State.{State};
+    ghost use Rattle.command_core.specs.declared.limits.TheConstants.{MOST_PAGES, MOST_SHIPPED};
     ghost use Rattle.state_core.specs.StateCode.{coded_state};
 
     ghost Value = { State };
@@ -51,7 +58,14 @@ impl Model for Kept {
 
     ghost view = { λ kept. record { files = kept.files.items; fonts = kept.fonts; current = kept.current; params = kept.params; nest = kept.nest; registers = kept.registers; shipped = kept.shipped; pages = kept.pages; over = kept.over } };
 
-    ghost invariant = { λ kept. (kept.shipped ≤ most_shipped) × (kept.pages ≤ most_pages) };
+    ghost invariant = { λ kept. (kept.shipped ≤ MOST_SHIPPED) × (kept.pages ≤ MOST_PAGES) };
+}
+
+/// The box in a register that may be shipped now, and the number of its nodes.
+#[derive(Clone, Copy, Debug)]
+pub struct BoxToShip<'a> {
+    pub box_node: &'a BoxNode,
+    pub nodes: u64,
 }
 
 /// Copies of the files.
@@ -165,7 +179,7 @@ impl Kept {
         ensures state { OnOk result (self.new ≡ state_by (first_of (length_checks self.old items.items)) self.old (with_items self.old items.items)) }
         ensures err { OnErr result (self.new ≡ self.old) }
     {
-        if self.nest.item_count().saturating_add(items.len()) > 65536 {
+        if self.nest.item_count().saturating_add(items.len()) > MOST_ITEMS {
             return Ok(Err(Refusal::ListTooLong));
         }
         let count = items.len();
@@ -186,7 +200,7 @@ impl Kept {
         let Some(innermost) = self.nest.innermost() else {
             return Err(Refusal::NoOpenList);
         };
-        if innermost.opening.form.kind() == Kind::Vertical {
+        if innermost.purpose.kind() == Kind::Vertical {
             return Err(Refusal::WrongMode);
         }
         let Some(slot) = self.current else {
@@ -244,7 +258,7 @@ impl Kept {
         if opening.into.is_none() && count == 0 {
             return Ok(Err(Refusal::NoOpenList));
         }
-        if count >= 64 {
+        if count >= MOST_OPEN {
             return Ok(Err(Refusal::TooDeep));
         }
         self.nest.begin(opening)?;
@@ -261,7 +275,7 @@ impl Kept {
         let Some(innermost) = self.nest.innermost() else {
             return Ok(Err(Refusal::NoOpenList));
         };
-        if innermost.list.len() >= 65536 {
+        if innermost.list.len() >= MOST_ITEMS {
             return Ok(Err(Refusal::ListTooLong));
         }
         self.nest.append(item)?;
@@ -279,10 +293,10 @@ impl Kept {
         let Some(innermost) = self.nest.innermost() else {
             return Ok(Err(Refusal::NoOpenList));
         };
-        if is_misplaced(innermost.opening.form.kind(), &rule) {
+        if is_misplaced(innermost.purpose.kind(), &rule) {
             return Ok(Err(Refusal::WrongMode));
         }
-        if innermost.list.len() >= 65536 {
+        if innermost.list.len() >= MOST_ITEMS {
             return Ok(Err(Refusal::ListTooLong));
         }
         self.nest.append_rule(rule)?;
@@ -290,7 +304,7 @@ impl Kept {
     }
 
     /// Appends the box of a register.
-    pub fn append_box(&mut self, taken: &BoxUse) -> Result<Reply, AllocError>
+    pub fn append_register_box(&mut self, taken: &BoxUse) -> Result<Reply, AllocError>
         requires { self.old.over ≡ false }
         ensures reply { IfOk result (λ reply. reply ≡ reply_to self.old (commands.Append taken.now)) }
         ensures state { OnOk result (self.new ≡ state_after self.old (commands.Append taken.now)) }
@@ -301,10 +315,10 @@ impl Kept {
         let Some(innermost) = self.nest.innermost() else {
             return Ok(Err(Refusal::NoOpenList));
         };
-        let Some(shown) = self.registers.get(taken.register) else {
+        let Some(box_node) = self.registers.get(taken.register) else {
             return Ok(Ok(Answer::Added(0)));
         };
-        let count = match innermost.room_for_box(shown, &self.params) {
+        let count = match innermost.room_for_box(box_node, &self.params) {
             Ok(count) => count,
             Err(refusal) => return Ok(Err(refusal)),
         };
@@ -321,13 +335,13 @@ impl Kept {
         ensures ok { OnOk result (self.new ≡ with_used self.old Taking.Moved register shift (held_in self.old.registers register)) }
         ensures err { OnErr result (self.new ≡ self.old) }
     {
-        let Some(shown) = self.registers.take(register) else {
+        let Some(box_node) = self.registers.take(register) else {
             return Ok(());
         };
-        match self.nest.append_box(shown, shift, &self.params) {
+        match self.nest.append_to_innermost(box_node, shift, &self.params) {
             Ok(()) => Ok(()),
-            Err(shown) => {
-                self.registers.put(register, Some(shown));
+            Err(box_node) => {
+                self.registers.put(register, Some(box_node));
                 Err(AllocError)
             }
         }
@@ -339,11 +353,11 @@ impl Kept {
         ensures ok { OnOk result (self.new ≡ with_used self.old Taking.Copied register shift (held_in self.old.registers register)) }
         ensures err { OnErr result (self.new ≡ self.old) }
     {
-        let Some(shown) = self.registers.get(register) else {
+        let Some(box_node) = self.registers.get(register) else {
             return Ok(());
         };
-        let copy = shown.copy(*self.files.allocator())?;
-        match self.nest.append_box(copy, shift, &self.params) {
+        let copy = box_node.copy(*self.files.allocator())?;
+        match self.nest.append_to_innermost(copy, shift, &self.params) {
             Ok(()) => Ok(()),
             Err(_) => Err(AllocError),
         }
@@ -361,19 +375,11 @@ impl Kept {
         let Some(innermost) = self.nest.innermost() else {
             return Ok(Err(Refusal::NoOpenList));
         };
-        if is_other(taken.kind, innermost.opening.form.kind()) {
-            return Ok(Err(Refusal::WrongMode));
-        }
-        let Some(shown) = self.registers.get(taken.register) else {
-            return Ok(Ok(Answer::Added(0)));
+        let held = self.registers.get(taken.register);
+        let count = match innermost.room_for_items(taken.kind, held) {
+            Ok(count) => count,
+            Err(refusal) => return Ok(Err(refusal)),
         };
-        if is_other(taken.kind, shown.kind) {
-            return Ok(Err(Refusal::WrongKind));
-        }
-        let count = shown.list.len();
-        if innermost.list.len() + count > 65536 {
-            return Ok(Err(Refusal::ListTooLong));
-        }
         match taken.taking {
             Taking::Moved => self.move_items(taken.register)?,
             Taking::Copied => self.copy_items(taken.register)?,
@@ -386,14 +392,15 @@ impl Kept {
         requires { length (nodes_of (items_in (innermost self.old.nest))) + length (nodes_in (held_in self.old.registers register)) ≤ most_nodes }
         ensures ok { OnOk result (self.new ≡ with_unboxed self.old Taking.Moved register (held_in self.old.registers register)) }
         ensures err { OnErr result (self.new ≡ self.old) }
+        ensures takes { OnErr result (IsSome (held_in self.old.registers register)) }
     {
-        let Some(mut shown) = self.registers.take(register) else {
+        let Some(mut box_node) = self.registers.take(register) else {
             return Ok(());
         };
-        match self.nest.append_list(&mut shown.list) {
+        match self.nest.append_list(&mut box_node.list) {
             Ok(()) => Ok(()),
             Err(AllocError) => {
-                self.registers.put(register, Some(shown));
+                self.registers.put(register, Some(box_node));
                 Err(AllocError)
             }
         }
@@ -404,11 +411,12 @@ impl Kept {
         requires { length (nodes_of (items_in (innermost self.old.nest))) + length (nodes_in (held_in self.old.registers register)) ≤ most_nodes }
         ensures ok { OnOk result (self.new ≡ with_unboxed self.old Taking.Copied register (held_in self.old.registers register)) }
         ensures err { OnErr result (self.new ≡ self.old) }
+        ensures takes { OnErr result (IsSome (held_in self.old.registers register)) }
     {
-        let Some(shown) = self.registers.get(register) else {
+        let Some(box_node) = self.registers.get(register) else {
             return Ok(());
         };
-        let mut copy = shown.list.copy(*self.files.allocator())?;
+        let mut copy = box_node.list.copy(*self.files.allocator())?;
         self.nest.append_list(&mut copy)
     }
 
@@ -438,24 +446,25 @@ impl Kept {
         let Some(innermost) = self.nest.innermost() else {
             return Ok(Err(Refusal::NoOpenList));
         };
-        let into = innermost.opening.into;
-        let Some(Packed { shown, badness }) = self.nest.pack(&self.params) else {
+        let into = innermost.purpose.register();
+        let Some(packed) = self.nest.pack(&self.params) else {
             return Ok(Err(Refusal::DimensionTooLarge));
         };
-        if let Some(refusal) = self.refusal_of(&into, &shown) {
-            self.nest.refill(shown.list);
+        let Packed { box_node, badness } = packed;
+        if let Some(refusal) = self.refusal_of(&into, &box_node) {
+            self.nest.refill(box_node.list);
             return Ok(Err(refusal));
         }
-        let sizes = sizes_of(&shown);
-        self.settle(into, shown)?;
+        let sizes = sizes_of(&box_node);
+        self.put_closed_box(into, box_node)?;
         Ok(Ok(Answer::Packed(sizes, badness)))
     }
 
     /// Why the box of the innermost list may not go into its register or behind the list around it, if it may not.
-    fn refusal_of(&self, into: &Option<Register>, shown: &BoxNode) -> Option<Refusal>
-        ensures { result ≡ first_of (place_checks self.now.params (outer self.now.nest) into.now shown.now) }
+    fn refusal_of(&self, into: &Option<Register>, box_node: &BoxNode) -> Option<Refusal>
+        ensures { result ≡ first_of (place_checks self.now.params (outer self.now.nest) into.now box_node.now) }
     {
-        if shown.depth() > 200 {
+        if box_node.depth() > MOST_DEEP {
             return Some(Refusal::TooDeep);
         }
         if into.is_some() {
@@ -464,28 +473,32 @@ impl Kept {
         let Some(around) = self.nest.around() else {
             return Some(Refusal::NoOpenList);
         };
-        around.room_for_box(shown, &self.params).err()
+        around.room_for_box(box_node, &self.params).err()
     }
 
     /// Takes the innermost list away, and puts its box into a register or behind the list around it. Where memory is refused, the list gets the
     /// items of the box.
-    fn settle(&mut self, into: Option<Register>, shown: BoxNode) -> Result<(), AllocError>
-        requires { first_of (home_checks self.old.params (outer self.old.nest) into shown) ≡ None }
-        ensures ok { OnOk result (self.new ≡ with_home self.old (outer self.old.nest) into shown) }
-        ensures err { OnErr result (self.new ≡ record self.old { nest = refilled self.old.nest shown.list (innermost self.old.nest) }) }
+    fn put_closed_box(
+        &mut self,
+        into: Option<Register>,
+        box_node: BoxNode,
+    ) -> Result<(), AllocError>
+        requires { first_of (home_checks self.old.params (outer self.old.nest) into box_node) ≡ None }
+        ensures ok { OnOk result (self.new ≡ with_home self.old (outer self.old.nest) into box_node) }
+        ensures err { OnErr result (self.new ≡ record self.old { nest = refilled_nest self.old.nest box_node.list (innermost self.old.nest) }) }
         ensures takes { OnErr result (into ≡ None) }
     {
         let Some(register) = into else {
-            return match self.nest.close_into(shown, &self.params) {
+            return match self.nest.close_into(box_node, &self.params) {
                 Ok(()) => Ok(()),
-                Err(shown) => {
-                    self.nest.refill(shown.list);
+                Err(box_node) => {
+                    self.nest.refill(box_node.list);
                     Err(AllocError)
                 }
             };
         };
         self.nest.leave();
-        self.registers.put(register, Some(shown));
+        self.registers.put(register, Some(box_node));
         Ok(())
     }
 
@@ -527,36 +540,37 @@ impl Kept {
     }
 
     /// The box in a register that may be shipped now, or why it may not.
-    pub fn admitted(&self, register: Register) -> Result<&BoxNode, Refusal>
+    pub fn box_to_ship(&self, register: Register) -> Result<BoxToShip<'_>, Refusal>
         requires { self.now.over ≡ false }
-        ensures shown { IfOk result (λ shown. held_in self.now.registers register ≡ Some shown.now) }
+        ensures held { IfOk result (λ found. held_in self.now.registers register ≡ Some found.box_node.now) }
+        ensures nodes { IfOk result (λ found. found.nodes ≡ count_in (held_in self.now.registers register)) }
         ensures ok { OnOk result (first_of (checks self.now (commands.Ship register)) ≡ None) }
         ensures err { IfErr result (λ refusal. first_of (checks self.now (commands.Ship register)) ≡ Some refusal) }
     {
-        let Some(shown) = self.registers.get(register) else {
+        let Some(box_node) = self.registers.get(register) else {
             return Err(Refusal::VoidBox);
         };
-        if self.pages >= 1 {
+        if self.pages >= MOST_PAGES {
             return Err(Refusal::TooManyPages);
         }
-        if self.shipped.saturating_add(shown.count()) > 16_777_216 {
+        let nodes = box_node.count();
+        if self.shipped.saturating_add(nodes) > MOST_SHIPPED {
             return Err(Refusal::TooMuchShipped);
         }
-        if is_huge(shown, Dimen::ZERO, shown.height) {
+        if is_huge(box_node, PagePoint::of_box(box_node)) {
             return Err(Refusal::HugePage);
         }
-        Ok(shown)
+        Ok(BoxToShip { box_node, nodes })
     }
 
-    /// Counts the page of the box in a register, and makes it void. It answers the number of pages.
-    pub fn count_page(&mut self, register: Register) -> u32
-        requires { first_of (checks self.old (commands.Ship register)) ≡ None }
+    /// Counts the page of the box in a register, which has that many nodes, and makes it void. It answers the number of pages.
+    pub fn count_page(&mut self, register: Register, nodes: u64) -> u32
+        requires accepted { first_of (checks self.old (commands.Ship register)) ≡ None }
+        requires nodes { nodes ≡ count_in (held_in self.old.registers register) }
         ensures number { result ≡ self.old.pages + 1 }
         ensures state { self.new ≡ after self.old (commands.Ship register) }
     {
-        if let Some(shown) = self.registers.get(register) {
-            self.shipped += shown.count();
-        }
+        self.shipped += nodes;
         self.pages += 1;
         self.registers.put(register, None);
         self.pages
@@ -564,21 +578,14 @@ impl Kept {
 }
 
 /// The sizes of a box.
-fn sizes_of(shown: &BoxNode) -> Sizes
-    ensures { result ≡ sizes_of shown.now }
+fn sizes_of(box_node: &BoxNode) -> Sizes
+    ensures { result ≡ sizes_of box_node.now }
 {
     Sizes {
-        width: shown.width,
-        height: shown.height,
-        depth: shown.depth,
+        width: box_node.width,
+        height: box_node.height,
+        depth: box_node.depth,
     }
-}
-
-/// Whether two kinds are not the same.
-fn is_other(a: Kind, b: Kind) -> bool
-    ensures { result ≡ is_other a b }
-{
-    a != b
 }
 
 /// Whether a size of a rule is running.

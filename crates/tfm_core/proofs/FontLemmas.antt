@@ -10,7 +10,7 @@ use Rattle.tfm_core.specs.Fonts.{HasAction, IsInTables, IsWhole, SizedFont, acti
 use Rattle.tfm_core.specs.Program.{first_for, info_program, is_for, is_step_for}
 use Rattle.tfm_core.proofs.ProgramLemmas.{first_for-none}
 use Rattle.tfm_core.specs.declared.font.Step.TheVariants.{Kern, Ligature}
-use Rattle.tfm_core.specs.Rules.{character_at, names_past, with_width}
+use Rattle.tfm_core.specs.Rules.{character_at, names_absent_kern_or_character, with_width}
 
 pub and_true : (a b : Bool) → (a && b) ≡ true → (a ≡ true) × (b ≡ true)
 and_true true b h = (refl, h)
@@ -51,7 +51,7 @@ IsInTables-from_test font c h =
       depth = ltb-true _ _ p.1;
     }
 
--- and it has its sizes
+-- a character that is there has its sizes in the tables
 pub IsInTables-from_character : (font : SizedFont) (code : ℕ) (found : Option CharInfo) → IsWhole font → found ≡ character_at font.first font.characters code → IfSome found (IsInTables font)
 IsInTables-from_character font code None w e = tt
 IsInTables-from_character font code (Some c) w e =
@@ -80,9 +80,9 @@ given_by false true kerns i None r h e = absurd (cc)
 given_by false true kerns i (Some c) r h e = refl
 given_by false false kerns i char r h e = absurd (cc)
 
--- it gives something
-action-given : (font : SizedFont) (s : LigKernStep) → names_past font.first font.characters (length font.kerns) s ≡ false → (eqb s.op 0 || leb 128 s.op) ≡ true → IsSome (action_of font s)
-unfolding action_of names_past
+-- a step that names what is there gives a kern or a ligature
+action-given : (font : SizedFont) (s : LigKernStep) → names_absent_kern_or_character font.first font.characters (length font.kerns) s ≡ false → (eqb s.op 0 || leb 128 s.op) ≡ true → IsSome (action_of font s)
+unfolding action_of names_absent_kern_or_character
 action-given font s h e =
     given_by (leb 128 s.op) (eqb s.op 0) font.kerns (256 * (s.op - 128) + s.remainder) (character_at font.first font.characters s.remainder) s.remainder h e
 

@@ -3,45 +3,45 @@ use Rattle.std.proofs.Common.{◌≡◌, ℕ, zero, suc, ◌+◌, ◌<◌, ◌�
 use Rattle.std.specs.List.{slice_get}
 use Rattle.std.proofs.lemmas.Bool.{cases_lt, lt-ltb, le-ltb}
 use Rattle.tfm_core.specs.declared.record.LigKernStep.{LigKernStep}
-use Rattle.tfm_core.specs.Program.{first_for, is_for, taken, taken_from}
+use Rattle.tfm_core.specs.Program.{first_for, is_for, taken_steps, taken_steps_from}
 
 -- past the steps nothing is taken
-taken_from-past : (j k : ℕ) (steps : List LigKernStep) → slice_get steps k ≡ None → taken_from j k steps ≡ []
-taken_from-past j k [] h = refl
-taken_from-past j zero (s ∷ rest) h = absurd (cc)
-taken_from-past j (suc k) (s ∷ rest) h = taken_from-past (j + 1) k rest h
+taken_steps_from-past : (j k : ℕ) (steps : List LigKernStep) → slice_get steps k ≡ None → taken_steps_from j k steps ≡ []
+taken_steps_from-past j k [] h = refl
+taken_steps_from-past j zero (s ∷ rest) h = absurd (cc)
+taken_steps_from-past j (suc k) (s ∷ rest) h = taken_steps_from-past (j + 1) k rest h
 
 -- a step, and what is taken behind it
-taken_from-step : (j k : ℕ) (steps : List LigKernStep) (s : LigKernStep) → slice_get steps k ≡ Some s → taken_from j k steps ≡ (j + k) ∷ cond (ltb s.skip 128) (taken_from j (k + (s.skip + 1)) steps) []
-taken_from-step j k [] s h = absurd (cc)
-taken_from-step j zero (t ∷ rest) s h =
+taken_steps_from-step : (j k : ℕ) (steps : List LigKernStep) (s : LigKernStep) → slice_get steps k ≡ Some s → taken_steps_from j k steps ≡ (j + k) ∷ cond (ltb s.skip 128) (taken_steps_from j (k + (s.skip + 1)) steps) []
+taken_steps_from-step j k [] s h = absurd (cc)
+taken_steps_from-step j zero (t ∷ rest) s h =
     let same : t ≡ s = cc in
     let here : j + 0 ≡ j = omega arith in
     let behind : 0 + (s.skip + 1) ≡ suc s.skip = omega arith in
-    rw (here, behind) (ap (λ (u : LigKernStep). j ∷ cond (ltb u.skip 128) (taken_from (j + 1) u.skip rest) []) same)
-taken_from-step j (suc k) (t ∷ rest) s h =
-    let later = taken_from-step (j + 1) k rest s h in
+    rw (here, behind) (ap (λ (u : LigKernStep). j ∷ cond (ltb u.skip 128) (taken_steps_from (j + 1) u.skip rest) []) same)
+taken_steps_from-step j (suc k) (t ∷ rest) s h =
+    let later = taken_steps_from-step (j + 1) k rest s h in
     let here : j + suc k ≡ j + 1 + k = omega arith in
     let behind : suc k + (s.skip + 1) ≡ suc (k + (s.skip + 1)) = omega arith in
     rw (here, behind) later
 
--- the same of `taken`
-pub taken-past : (steps : List LigKernStep) (k : ℕ) → slice_get steps k ≡ None → taken steps k ≡ []
-unfolding taken
-taken-past steps k h = taken_from-past 0 k steps h
+-- the steps that are taken from step k on, by the step that stands there
+pub taken_steps-past : (steps : List LigKernStep) (k : ℕ) → slice_get steps k ≡ None → taken_steps steps k ≡ []
+unfolding taken_steps
+taken_steps-past steps k h = taken_steps_from-past 0 k steps h
 
-pub taken-last : (steps : List LigKernStep) (k : ℕ) (s : LigKernStep) → slice_get steps k ≡ Some s → 128 ≤ s.skip → taken steps k ≡ k ∷ []
-unfolding taken
-taken-last steps k s h l =
-    let whole = taken_from-step 0 k steps s h in
+pub taken_steps-last : (steps : List LigKernStep) (k : ℕ) (s : LigKernStep) → slice_get steps k ≡ Some s → 128 ≤ s.skip → taken_steps steps k ≡ k ∷ []
+unfolding taken_steps
+taken_steps-last steps k s h l =
+    let whole = taken_steps_from-step 0 k steps s h in
     let here : 0 + k ≡ k = omega arith in
     let test = le-ltb s.skip 128 l in
     rw (here, test) at whole
 
-pub taken-next : (steps : List LigKernStep) (k : ℕ) (s : LigKernStep) → slice_get steps k ≡ Some s → s.skip < 128 → taken steps k ≡ k ∷ taken steps (k + (s.skip + 1))
-unfolding taken
-taken-next steps k s h l =
-    let whole = taken_from-step 0 k steps s h in
+pub taken_steps-next : (steps : List LigKernStep) (k : ℕ) (s : LigKernStep) → slice_get steps k ≡ Some s → s.skip < 128 → taken_steps steps k ≡ k ∷ taken_steps steps (k + (s.skip + 1))
+unfolding taken_steps
+taken_steps-next steps k s h l =
+    let whole = taken_steps_from-step 0 k steps s h in
     let here : 0 + k ≡ k = omega arith in
     let test = lt-ltb s.skip 128 l in
     rw (here, test) at whole
@@ -49,9 +49,9 @@ taken-next steps k s h l =
 -- What is found among them.
 
 -- nothing past the steps
-pub first_for-past : (steps : List LigKernStep) (following k : ℕ) → slice_get steps k ≡ None → first_for steps following (taken steps k) ≡ None
+pub first_for-past : (steps : List LigKernStep) (following k : ℕ) → slice_get steps k ≡ None → first_for steps following (taken_steps steps k) ≡ None
 unfolding first_for
-first_for-past steps following k h = rw (taken-past steps k h) refl
+first_for-past steps following k h = rw (taken_steps-past steps k h) refl
 
 first_for-cons : (steps : List LigKernStep) (following k : ℕ) (later : List ℕ) (s : LigKernStep) (b : Bool) → slice_get steps k ≡ Some s → is_for following s ≡ b → first_for steps following (k ∷ later) ≡ cond b (Some s) (first_for steps following later)
 unfolding first_for
@@ -59,11 +59,11 @@ first_for-cons steps following k later s true h e = rw h (rw e (rw h refl))
 first_for-cons steps following k later s false h e = rw h (rw e refl)
 
 -- the step itself, where it is for the following character
-pub first_for-here : (steps : List LigKernStep) (following k : ℕ) (s : LigKernStep) → slice_get steps k ≡ Some s → is_for following s ≡ true → first_for steps following (taken steps k) ≡ Some s
+pub first_for-here : (steps : List LigKernStep) (following k : ℕ) (s : LigKernStep) → slice_get steps k ≡ Some s → is_for following s ≡ true → first_for steps following (taken_steps steps k) ≡ Some s
 first_for-here steps following k s h e =
     ⊎_elim
-    (λ (l : s.skip < 128). rw (taken-next steps k s h l) (first_for-cons steps following k _ s true h e))
-    (λ (l : 128 ≤ s.skip). rw (taken-last steps k s h l) (first_for-cons steps following k _ s true h e))
+    (λ (l : s.skip < 128). rw (taken_steps-next steps k s h l) (first_for-cons steps following k _ s true h e))
+    (λ (l : 128 ≤ s.skip). rw (taken_steps-last steps k s h l) (first_for-cons steps following k _ s true h e))
     (cases_lt s.skip 128)
 
 pub first_for-none : (steps : List LigKernStep) (following : ℕ) → first_for steps following [] ≡ None
@@ -71,13 +71,13 @@ unfolding first_for
 first_for-none steps following = refl
 
 -- nothing, where it is the last and not for it
-pub first_for-last : (steps : List LigKernStep) (following k : ℕ) (s : LigKernStep) → slice_get steps k ≡ Some s → is_for following s ≡ false → 128 ≤ s.skip → first_for steps following (taken steps k) ≡ None
+pub first_for-last : (steps : List LigKernStep) (following k : ℕ) (s : LigKernStep) → slice_get steps k ≡ Some s → is_for following s ≡ false → 128 ≤ s.skip → first_for steps following (taken_steps steps k) ≡ None
 first_for-last steps following k s h e l =
-    rw (taken-last steps k s h l) (first_for-cons steps following k [] s false h e ∙ first_for-none steps following)
+    rw (taken_steps-last steps k s h l) (first_for-cons steps following k [] s false h e ∙ first_for-none steps following)
 
 -- and else what is found later
-pub first_for-later : (steps : List LigKernStep) (following k : ℕ) (s : LigKernStep) → slice_get steps k ≡ Some s → is_for following s ≡ false → s.skip < 128 → first_for steps following (taken steps k) ≡ first_for steps following (taken steps (k + (s.skip + 1)))
+pub first_for-later : (steps : List LigKernStep) (following k : ℕ) (s : LigKernStep) → slice_get steps k ≡ Some s → is_for following s ≡ false → s.skip < 128 → first_for steps following (taken_steps steps k) ≡ first_for steps following (taken_steps steps (k + (s.skip + 1)))
 first_for-later steps following k s h e l =
-    rw (taken-next steps k s h l) (first_for-cons steps following k (taken steps (k + (s.skip + 1))) s false h e)
+    rw (taken_steps-next steps k s h l) (first_for-cons steps following k (taken_steps steps (k + (s.skip + 1))) s false h e)
 
 pub ruleset programs = (first_for-none, first_for-past, first_for-here, first_for-last, first_for-later)

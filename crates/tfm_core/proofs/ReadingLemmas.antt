@@ -15,11 +15,11 @@ abbrev chosen : Bool → Bool → Bool → Bool → Bool → Bool → Option Tfm
 chosen a b c d e f =
     cond a (Some TooShort) (cond b (Some Counts) (cond c (Some DesignSize) (cond d (Some CharInfo) (cond e (Some FixWord) (cond f (Some LigKern) None)))))
 
--- of the first three
+-- the first three tests in their order
 abbrev front : Bool → Bool → Bool → Option TfmCause
 front a b c = cond a (Some TooShort) (cond b (Some Counts) (cond c (Some DesignSize) None))
 
--- of the last three
+-- the last three tests in their order
 abbrev back : Bool → Bool → Bool → Option TfmCause
 back d e f = cond d (Some CharInfo) (cond e (Some FixWord) (cond f (Some LigKern) None))
 
@@ -90,7 +90,7 @@ same_file a b e0 e1 e2 e3 e4 e5 e6 e7 e8 e9 e10 =
     let q = made-whole b in
     cc
 
--- and no other one does
+-- no other record stands in the bytes
 pub record_in-unique : (bytes : List ℕ) (file : MetricFile) → StandsIn bytes file → file ≡ record_in bytes
 unfolding record_with
 record_in-unique bytes file h =
@@ -122,7 +122,7 @@ kept-from_none bytes h =
     let f = none_split _ _ _ e.1 in
     λ cause. elim cause as (λ x. is_broken bytes x ≡ false) [ TooShort ↦ a.0 | Counts ↦ b.0 | DesignSize ↦ c.0 | CharInfo ↦ d.0 | FixWord ↦ e.0 | LigKern ↦ f.0 ]
 
--- and the other way round
+-- where each rule is kept, there is no first broken one
 pub none-from_kept : (bytes : List ℕ) → ((cause : TfmCause) → is_broken bytes cause ≡ false) → first_broken bytes ≡ None
 unfolding first_broken
 none-from_kept bytes h =
@@ -173,7 +173,7 @@ held_tables bytes counts file found e r h t =
     let P : MetricFile → Option TfmCause → Result MetricFile TfmCause = record_unless in
     ap (λ f. P f found) same ∙ ap (P (record_in bytes)) first
 
--- and it keeps the rules
+-- a record that was read keeps the rules, where none of them is broken
 pub KeepsRules-from_none : (bytes : List ℕ) (counts : Numbers) (file : MetricFile) → counts ≡ counts_in bytes → file ≡ record_with counts bytes → None ≡ broken_in_front bytes → None ≡ broken_in_tables file → KeepsRules file
 unfolding broken_in_front broken_in_tables record_with
 KeepsRules-from_none bytes counts file e r h t =

@@ -58,7 +58,7 @@ IsScaled-scaled fix size cleared = record {
   high = floor_high (fix *ℤ pos (kept_size size));
 }
 
--- the same of a number that a call gave
+-- a number of 64 bits that is the floor is the word at that size
 pub IsScaled-from_floor : (fix size q : ℤ) → SFits w64 q → q ≡ int_div_euclid (fix *ℤ pos (kept_size size)) (pos (2 ^ 20)) → IsCleared (unsigned_abs size) (cleared_bits (unsigned_abs size)) → IsScaled fix size (to_z w64 (of_z w64 q))
 unfolding scaled
 IsScaled-from_floor fix size q fits e cleared = rw (to_z-of_z w64 q fits) (rw e (IsScaled-scaled fix size cleared))
@@ -95,7 +95,7 @@ IsScaled-only fix size q font s =
     (subst (λ z. (fix *ℤ z) <ℤ ((q +ℤ pos 1) *ℤ pos (2 ^ 20))) kept s.high)
     (floor_low (fix *ℤ pos (kept_size size))) (floor_high (fix *ℤ pos (kept_size size)))
 
--- and back
+-- `IsScaled` holds of one number alone: the one that `scaled` computes
 pub IsScaled-is : (fix size q : ℤ) → IsFontSize size → (IsScaled fix size q ↔ (q ≡ scaled size fix))
 IsScaled-is fix size q font =
     (λ s. IsScaled-only fix size q font s, λ e. rw e (IsScaled-scaled fix size (IsCleared-from_font_size size font)))

@@ -1,6 +1,7 @@
 -- Sizes of a font that fit.
-use Rattle.std.proofs.Common.{◌≡◌, ◌↔◌, ℕ, ℤ, ◌<◌, true, List, length, get_or}
-use Rattle.std.proofs.lemmas.Int.{to_z-of_z}
+use Rattle.std.proofs.Common.{◌≡◌, ◌↔◌, ℕ, ℤ, pos, negsuc, ◌<◌, true, List, length, get_or, FitsSigned, to_z, of_z, arith, subst, sym}
+use Rattle.std.specs.Int.{w64}
+use Rattle.std.proofs.lemmas.Int.{to_z-of_z, ints, fits_signed_from_abs}
 use Rattle.std.proofs.lemmas.Option.{slice_get-get_or}
 use Rattle.scaled_core.specs.Dimensions.{Fits}
 use Rattle.scaled_core.proofs.Fitting.{dimension_fits, fits_within}
@@ -16,7 +17,15 @@ is_dimen_at-fits size word = (fits_within (scaled size word), dimension_fits (sc
 pub Fits-from_test : (size word : ℤ) → is_dimen_at size word ≡ true → Fits (scaled size word)
 Fits-from_test size word h = (is_dimen_at-fits size word).0 h
 
--- each of the words does
+-- a dimension is the same number in 64 bits
+dimension_in_64 : (z : ℤ) → Fits z → FitsSigned w64 z
+dimension_in_64 (pos n) h = fits_signed_from_abs w64 (pos n) (omega (arith, ints, h.high))
+dimension_in_64 (negsuc n) h = fits_signed_from_abs w64 (negsuc n) (omega (arith, ints, h.low))
+
+pub Fits-in_64 : (z : ℤ) → Fits z → Fits (to_z w64 (of_z w64 z))
+Fits-in_64 z h = subst Fits (sym (to_z-of_z w64 z (dimension_in_64 z h))) h
+
+-- where the test of some words holds, it holds of each of them
 pub dimen-at : (size : ℤ) (words : List ℤ) (i : ℕ) (d : ℤ) → are_dimens_at size words ≡ true → i < length words → is_dimen_at size (get_or words i d) ≡ true
 unfolding are_dimens_at
 dimen-at size words i d h l =

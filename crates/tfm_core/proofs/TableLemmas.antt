@@ -9,12 +9,12 @@ use Rattle.tfm_core.specs.declared.record.CharInfo.{CharInfo}
 use Rattle.tfm_core.specs.declared.record.Counts.{Counts}
 use Rattle.tfm_core.specs.declared.record.LigKernStep.{LigKernStep}
 
--- no entries
+-- a table of no entries
 pub table-none : {X : Type 0} (entry : List ℕ → X) (bytes : List ℕ) (place : ℕ) → table entry bytes place 0 ≡ []
 unfolding table
 table-none entry bytes place = refl
 
--- one entry more
+-- a table of one entry more
 pub table_more : {X : Type 0} (entry : List ℕ → X) (bytes : List ℕ) (place k : ℕ) → table entry bytes place (k + 1) ≡ table entry bytes place k ++ entry (drop (4 * (place + k)) bytes) ∷ []
 unfolding table
 table_more entry bytes place k = map-range_with_len_more (λ i. entry (from_word bytes i)) place k (place + k) refl
@@ -29,7 +29,7 @@ IsTable-table entry bytes place count = record {
   each = λ k past h. get_or-map-range_with_len (λ i. entry (from_word bytes i)) place count k (place + k) past h refl;
 }
 
--- and no others
+-- a list with the entries of these words is their table
 pub table-unique : {X : Type 0} (entry : List ℕ → X) (bytes : List ℕ) (place count : ℕ) (entries : List X) → IsTable entry bytes place count entries → entries ≡ table entry bytes place count
 table-unique entry bytes place count entries h =
     let t = IsTable-table entry bytes place count in

@@ -10,7 +10,7 @@ use Rattle.tfm_core.proofs.FontLemmas.{and_true}
 use Rattle.std.proofs.lemmas.List.{length-map}
 use Rattle.std.proofs.lemmas.Bool.{leb-false, lt-ltb}
 use Rattle.tfm_core.specs.MetricFile.{MetricFile}
-use Rattle.tfm_core.specs.Rules.{KeepsRules, breaks_char_info, breaks_character, breaks_lig_kern, breaks_step, names_past}
+use Rattle.tfm_core.specs.Rules.{KeepsRules, breaks_char_info, breaks_character, breaks_lig_kern, breaks_step, names_absent_kern_or_character}
 
 all_from_none : {X : Type 0} (p q : X → Bool) → ((x : X) → p x ≡ false → q x ≡ true) → (xs : List X) → list_any p xs ≡ false → list_all q xs ≡ true
 all_from_none p q step [] h = refl
@@ -52,7 +52,7 @@ action_kept : (file : MetricFile) (size : ℤ) (k : ℕ) (s : LigKernStep) → b
 unfolding breaks_step has_action font_at
 action_kept file size k s h =
     let restart = ltb 128 s.skip in
-    let past = names_past file.counts.first file.characters (length file.kerns) s in
+    let past = names_absent_kern_or_character file.counts.first file.characters (length file.kerns) s in
     let far = leb (length file.steps) (256 * s.op + s.remainder) in
     rw (length-map file.kerns (scaled size)) (action_by restart past far (first_part restart past far (ltb s.skip 128 && leb (length file.steps) (k + s.skip + 1)) h))
 

@@ -13,7 +13,7 @@ use Rattle.tfm_core.specs.declared.record.CharInfo.{CharInfo}
 use Rattle.tfm_core.specs.declared.record.LigKernStep.{LigKernStep}
 use Rattle.tfm_core.specs.MetricFile.{MetricFile}
 use Rattle.tfm_core.specs.Program.{first_for, info_program}
-use Rattle.tfm_core.specs.Rules.{character_at, names_past}
+use Rattle.tfm_core.specs.Rules.{character_at, names_absent_kern_or_character}
 use Rattle.tfm_core.specs.Scaling.{IsFontSize, design_size_of, scaled}
 
 -- the size that is asked for, or the design size (TeX: The Program, part 30, §568)
@@ -136,7 +136,7 @@ pub record IsInTables (font : SizedFont) (c : CharInfo) : Type 0 where
 
 -- a step that may be for a character names a kern or a character that is there (own)
 unfoldable pub has_action : SizedFont → LigKernStep → Bool
-has_action font s = nat_lt 128 s.skip || not (names_past font.first font.characters (length font.kerns) s)
+has_action font s = nat_lt 128 s.skip || not (names_absent_kern_or_character font.first font.characters (length font.kerns) s)
 
 -- a step gives a kern or a ligature (own)
 pub record HasAction (font : SizedFont) (s : LigKernStep) : Type 0 where

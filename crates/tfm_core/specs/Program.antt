@@ -16,14 +16,14 @@ pub data Takes (steps : List LigKernStep) : ℕ → List ℕ → Type 0 where
       → Takes steps (k + (s.skip + 1)) later → Takes steps k (k ∷ later)
 
 -- the numbers of the steps that are taken, where `pass` steps are passed over first and the steps in hand count from k (own)
-abbrev pub taken_from : ℕ → ℕ → List LigKernStep → List ℕ
-taken_from k pass [] = []
-taken_from k zero (s ∷ rest) = k ∷ (if nat_lt s.skip 128 then taken_from (k + 1) s.skip rest else [])
-taken_from k (suc pass) (s ∷ rest) = taken_from (k + 1) pass rest
+abbrev pub taken_steps_from : ℕ → ℕ → List LigKernStep → List ℕ
+taken_steps_from k pass [] = []
+taken_steps_from k zero (s ∷ rest) = k ∷ (if nat_lt s.skip 128 then taken_steps_from (k + 1) s.skip rest else [])
+taken_steps_from k (suc pass) (s ∷ rest) = taken_steps_from (k + 1) pass rest
 
 -- the numbers of the steps that are taken from step k on (own)
-unfoldable pub taken : List LigKernStep → ℕ → List ℕ
-taken steps k = taken_from 0 k steps
+unfoldable pub taken_steps : List LigKernStep → ℕ → List ℕ
+taken_steps steps k = taken_steps_from 0 k steps
 
 -- the step from which the program is taken: a first step whose skip is above 128 names another one (TFtoPL, 13)
 abbrev pub restart : ℕ → Option LigKernStep → ℕ
@@ -36,7 +36,7 @@ first_step steps k = restart k (slice_get steps k)
 
 -- the numbers of the steps of a tag's program, rising (TFtoPL, 11 and 13)
 abbrev pub tag_program : List LigKernStep → Tag → List ℕ
-tag_program steps (Program k) = taken steps (first_step steps k)
+tag_program steps (Program k) = taken_steps steps (first_step steps k)
 tag_program steps Plain = []
 tag_program steps (Larger c) = []
 tag_program steps (Recipe r) = []

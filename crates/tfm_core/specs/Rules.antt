@@ -44,11 +44,11 @@ unfoldable pub breaks_design_size : ℤ → Bool
 breaks_design_size word = int_lt word (pos 0) || nat_lt (unsigned_abs word / 16) 65536
 
 -- a program begins past the steps (TFtoPL, 11)
-abbrev pub begins_past : ℕ → Tag → Bool
-begins_past steps (Program start) = nat_le steps start
-begins_past steps Plain = false
-begins_past steps (Larger c) = false
-begins_past steps (Recipe r) = false
+abbrev pub begins_past_steps : ℕ → Tag → Bool
+begins_past_steps steps (Program start) = nat_le steps start
+begins_past_steps steps Plain = false
+begins_past_steps steps (Larger c) = false
+begins_past_steps steps (Recipe r) = false
 
 -- an index of a character is past its table, or its program begins past the steps (TeX: The Program, part 30, §569)
 unfoldable pub breaks_character : MetricFile → Info → Bool
@@ -57,41 +57,41 @@ breaks_character file c =
     || nat_le (length file.heights) c.height
     || nat_le (length file.depths) c.depth
     || nat_le (length file.italics) c.italic
-    || begins_past (length file.steps) c.tag
+    || begins_past_steps (length file.steps) c.tag
 
 -- CharInfo: some character breaks its rule, also one that is not there (TeX: The Program, part 30, §569)
 unfoldable pub breaks_char_info : MetricFile → Bool
 breaks_char_info file = list_any (breaks_character file) file.characters
 
 -- some word is no fix word (own)
-unfoldable pub has_other_word : List ℤ → Bool
-has_other_word words = list_any (λ word. not (is_fix_word word)) words
+unfoldable pub some_is_no_fix_word : List ℤ → Bool
+some_is_no_fix_word words = list_any (λ word. not (is_fix_word word)) words
 
 -- the first word is not 0 (own)
-abbrev pub begins_otherwise : List ℤ → Bool
-begins_otherwise [] = false
-begins_otherwise (word ∷ words) = not (int_eq word (pos 0))
+abbrev pub begins_nonzero : List ℤ → Bool
+begins_nonzero [] = false
+begins_nonzero (word ∷ words) = not (int_eq word (pos 0))
 
 -- the parameters 2, 3 and 4, as far as there are any: space, stretch and shrink; parameters count from 1 (TFtoPL, 15)
 abbrev pub space_words : List ℤ → List ℤ
 space_words parameters = take 3 (drop 1 parameters)
 
 -- a width, height, depth or italic is no fix word (TeX: The Program, part 30, §571)
-unfoldable pub has_other_size : MetricFile → Bool
-has_other_size file = has_other_word file.widths || has_other_word file.heights || has_other_word file.depths || has_other_word file.italics
+unfoldable pub some_size_is_no_fix_word : MetricFile → Bool
+some_size_is_no_fix_word file = some_is_no_fix_word file.widths || some_is_no_fix_word file.heights || some_is_no_fix_word file.depths || some_is_no_fix_word file.italics
 
 -- a kern or a parameter 2, 3, 4 is no fix word; the others are not used (own)
-unfoldable pub has_other_distance : MetricFile → Bool
-has_other_distance file = has_other_word file.kerns || has_other_word (space_words file.parameters)
+unfoldable pub some_distance_is_no_fix_word : MetricFile → Bool
+some_distance_is_no_fix_word file = some_is_no_fix_word file.kerns || some_is_no_fix_word (space_words file.parameters)
 
 -- entry 0 of the widths, heights, depths or italics is not 0 (TeX: The Program, part 30, §571)
-unfoldable pub begins_wrong : MetricFile → Bool
-begins_wrong file =
-    begins_otherwise file.widths || begins_otherwise file.heights || begins_otherwise file.depths || begins_otherwise file.italics
+unfoldable pub some_table_begins_nonzero : MetricFile → Bool
+some_table_begins_nonzero file =
+    begins_nonzero file.widths || begins_nonzero file.heights || begins_nonzero file.depths || begins_nonzero file.italics
 
 -- FixWord: a size or a distance is no fix word, or a table of sizes does not begin with 0 (TeX: The Program, part 30, §571)
 unfoldable pub breaks_fix_word : MetricFile → Bool
-breaks_fix_word file = has_other_size file || has_other_distance file || begins_wrong file
+breaks_fix_word file = some_size_is_no_fix_word file || some_distance_is_no_fix_word file || some_table_begins_nonzero file
 
 -- the character is there where its width index is not 0 (TFtoPL, 11)
 abbrev pub with_width : Option Info → Option Info
@@ -103,8 +103,8 @@ unfoldable pub character_at : ℕ → List Info → ℕ → Option Info
 character_at first characters code = if nat_lt code first then None else with_width (slice_get characters (code - first))
 
 -- a step gives a kern past that many kerns, or a ligature with a character that is not there; operations of 1 to 127 give nothing (own)
-unfoldable pub names_past : ℕ → List Info → ℕ → LigKernStep → Bool
-names_past first characters kerns s =
+unfoldable pub names_absent_kern_or_character : ℕ → List Info → ℕ → LigKernStep → Bool
+names_absent_kern_or_character first characters kerns s =
     if nat_le 128 s.op then nat_le kerns (256 * (s.op - 128) + s.remainder)
     else ((s.op == 0) && is_none (character_at first characters s.remainder))
 
@@ -113,7 +113,7 @@ names_past first characters kerns s =
 unfoldable pub breaks_step : MetricFile → ℕ × LigKernStep → Bool
 breaks_step file (k, s) =
     if nat_lt 128 s.skip then nat_le (length file.steps) (256 * s.op + s.remainder)
-    else (names_past file.counts.first file.characters (length file.kerns) s
+    else (names_absent_kern_or_character file.counts.first file.characters (length file.kerns) s
     || (nat_lt s.skip 128 && nat_le (length file.steps) (k + s.skip + 1)))
 
 -- LigKern: some step breaks its rule (TeX: The Program, part 30, §573)

@@ -9,7 +9,7 @@ ghost use Rattle.tfm_core.specs.Scaling.{scaled as scaled_by};
 use crate::entries::Entries;
 use crate::fault::FontFault;
 use crate::program::first_for;
-use crate::record::{CharInfo, LigKernStep};
+use crate::record::{CharInfo, KERN_FLAG, LigKernStep};
 use crate::rules::character_at;
 use crate::scaling::{FontSize, scaled_fix};
 use crate::tfm::Tfm;
@@ -126,19 +126,16 @@ fn fits_at(file: &Entries, size: FontSize) -> bool
         && is_space_at(size, &file.parameters)
 }
 
-/// A word at a size.
+/// A word at a size, at which it fits.
 #[tactic(auto, using(crate::proofs::SizeLemmas::dimensions))]
 fn dimension(size: FontSize, word: i32) -> Dimen
     requires { is_dimen_at size word ≡ true }
     ensures { result ≡ scaled_by size word }
 {
-    match Dimen::try_new(scaled_fix(word, size)) {
-        Some(dimension) => dimension,
-        None => unreachable!(),
-    }
+    Dimen::new(scaled_fix(word, size))
 }
 
-/// Words at a size.
+/// Words at a size, at which each of them fits.
 #[tactic(auto, using(crate::proofs::SizeLemmas::tables))]
 fn dimensions(alloc: Global, size: FontSize, words: &[i32]) -> Result<Vec<Dimen>, AllocError>
     requires { are_dimens_at size words.now ≡ true }
@@ -151,7 +148,7 @@ fn dimensions(alloc: Global, size: FontSize, words: &[i32]) -> Result<Vec<Dimen>
     Ok(dimensions)
 }
 
-/// Parameter n at a size.
+/// Parameter n at a size, at which it fits.
 #[tactic(auto, using(crate::proofs::SizeLemmas::tables))]
 fn parameter_at(size: FontSize, n: usize, parameters: &[i32]) -> Dimen
     requires number { 1 ≤ n }
@@ -161,7 +158,7 @@ fn parameter_at(size: FontSize, n: usize, parameters: &[i32]) -> Dimen
     dimension(size, parameter(n, parameters))
 }
 
-/// The space at a size.
+/// The space at a size, at which its sizes fit.
 #[tactic(auto, using(crate::proofs::SizeLemmas::spaces), unfolding(crate::specs::Fonts::space_at))]
 fn space_at(size: FontSize, parameters: &[i32]) -> Space
     requires { is_space_at size parameters.now ≡ true }
@@ -304,8 +301,8 @@ impl Font {
     fn action(&self, step: LigKernStep) -> Option<Step>
         ensures { result ≡ action_of self.now step }
     {
-        if 128 <= step.op {
-            let kern = 256 * usize::from(step.op - 128) + usize::from(step.remainder);
+        if KERN_FLAG <= step.op {
+            let kern = 256 * usize::from(step.op - KERN_FLAG) + usize::from(step.remainder);
             return Some(Step::Kern(*self.kerns.get(kern)?));
         }
         if character_at(self.first, &self.characters, step.remainder).is_none() {

@@ -10,7 +10,7 @@ ghost use Rattle.tfm_core.specs.declared.font.Step.TheVariants.{Ligature};
 ghost use Rattle.tfm_core.specs.declared.record.LigKernStep.{LigKernStep};
 ghost use Rattle.tfm_core.specs.Fonts.{SizedFont, font_at, glyph_of, is_dimen_at, sizes_in, step_of};
 ghost use Rattle.tfm_core.specs.MetricFile.{MetricFile};
-ghost use Rattle.tfm_core.specs.Program.{Takes, taken};
+ghost use Rattle.tfm_core.specs.Program.{Takes, taken_steps};
 ghost use Rattle.tfm_core.specs.Rules.{IsFirstBroken, IsMetricFile, character_at, metric_file};
 ghost use Rattle.tfm_core.specs.Scaling.{IsFontSize, IsScaled, scaled};
 
@@ -20,10 +20,10 @@ pub fn what_bytes_hold()
     ensures cause { (bytes : List ℕ) (cause : TfmCause) → (metric_file bytes ≡ Err cause ↔ IsFirstBroken bytes cause) }
 {}
 
-/// `taken` gives the one list of the steps that are taken, and their numbers rise.
+/// `taken_steps` gives the one list of the steps that are taken, and their numbers rise.
 pub fn steps_that_are_taken()
-    ensures list { (steps : List LigKernStep) (k : ℕ) (ks : List ℕ) → (Takes steps k ks ↔ (ks ≡ taken steps k)) }
-    ensures rising { (steps : List LigKernStep) (k : ℕ) → IsStrictlyIncreasing (taken steps k) }
+    ensures list { (steps : List LigKernStep) (k : ℕ) (ks : List ℕ) → (Takes steps k ks ↔ (ks ≡ taken_steps steps k)) }
+    ensures rising { (steps : List LigKernStep) (k : ℕ) → IsStrictlyIncreasing (taken_steps steps k) }
 {}
 
 /// A ligature's character is there.

@@ -1,9 +1,9 @@
 //! The ligature/kern program of a character (TFtoPL, 13; TeX: The Program, part 30, §545).
 
 ghost use Rattle.std.specs.Prelude.{◌≡◌, slice_get};
-ghost use Rattle.tfm_core.specs.Program.{first_for, first_step, is_for, tag_program, taken};
+ghost use Rattle.tfm_core.specs.Program.{first_for, first_step, is_for, tag_program, taken_steps};
 
-use crate::record::{LigKernStep, Tag};
+use crate::record::{KERN_FLAG, LigKernStep, STOP_FLAG, Tag};
 
 /// The step of that number.
 fn step_at(steps: &[LigKernStep], k: usize) -> Option<LigKernStep>
@@ -20,7 +20,7 @@ fn first_step(steps: &[LigKernStep], k: usize) -> usize
     let Some(step) = step_at(steps, k) else {
         return k;
     };
-    if 128 < step.skip {
+    if STOP_FLAG < step.skip {
         return 256 * usize::from(step.op) + usize::from(step.remainder);
     }
     k
@@ -31,19 +31,19 @@ fn first_step(steps: &[LigKernStep], k: usize) -> usize
 fn is_for(following: u8, step: LigKernStep) -> bool
     ensures { result ≡ is_for following step }
 {
-    step.next == following && step.skip <= 128 && (step.op == 0 || 128 <= step.op)
+    step.next == following && step.skip <= STOP_FLAG && (step.op == 0 || KERN_FLAG <= step.op)
 }
 
 /// The first step for the following character, of those that are taken from step k on.
 #[tactic(auto, using(crate::proofs::ProgramLemmas::programs))]
 fn first_from(steps: &[LigKernStep], mut k: usize, following: u8) -> Option<LigKernStep>
-    ensures { result ≡ first_for steps.now following (taken steps.now k) }
+    ensures { result ≡ first_for steps.now following (taken_steps steps.now k) }
 {
     while let Some(step) = step_at(steps, k) {
         if is_for(following, step) {
             return Some(step);
         }
-        if 128 <= step.skip {
+        if STOP_FLAG <= step.skip {
             return None;
         }
         k += usize::from(step.skip) + 1;

@@ -52,15 +52,22 @@ pub struct CharInfo {
     pub tag: Tag,
 }
 
+/// The last step of a program has this skip; a step with a higher one is no more than a place to go on from (TFtoPL, 13; TeX: The Program, part 30, §545,
+/// `stop_flag`).
+pub const STOP_FLAG: u8 = 128;
+
+/// A step with this operation or a higher one gives a kern (TFtoPL, 13; TeX: The Program, part 30, §545, `kern_flag`).
+pub const KERN_FLAG: u8 = 128;
+
 /// A step of the ligature/kern program (TFtoPL, 13).
 #[derive(Clone, Copy, Debug, PartialEq, Eq)]
 pub struct LigKernStep {
-    /// How many steps are passed over to the next one; the program ends where it is 128 or more, and above 128 the step is no
-    /// more than a place to go on from.
+    /// How many steps are passed over to the next one; the program ends where it is `STOP_FLAG` or more, and above that the step
+    /// is no more than a place to go on from.
     pub skip: u8,
     /// The character that has to follow.
     pub next: u8,
-    /// 0 for a ligature, 128 and more for a kern; nothing else is used.
+    /// 0 for a ligature, `KERN_FLAG` and more for a kern; nothing else is used.
     pub op: u8,
     /// The ligature's character, or the lower part of the kern's number.
     pub remainder: u8,

@@ -1,11 +1,11 @@
 //! The rules of a metric file (TeX: The Program, part 30, §560 to §576).
 
 ghost use Rattle.std.specs.Prelude.{◌≡◌, ◌<◌, length};
-ghost use Rattle.tfm_core.specs.Rules.{begins_otherwise, begins_past, begins_wrong, breaks_char_info, breaks_character, breaks_counts, breaks_design_size, breaks_fix_word, breaks_lig_kern, breaks_step, character_at, has_large_number, has_other_distance, has_other_size, has_other_word, has_wrong_codes, is_too_short, lacks_a_table, names_past, space_words};
+ghost use Rattle.tfm_core.specs.Rules.{begins_nonzero, begins_past_steps, some_table_begins_nonzero, breaks_char_info, breaks_character, breaks_counts, breaks_design_size, breaks_fix_word, breaks_lig_kern, breaks_step, character_at, has_large_number, some_distance_is_no_fix_word, some_size_is_no_fix_word, some_is_no_fix_word, has_wrong_codes, is_too_short, lacks_a_table, names_absent_kern_or_character, space_words};
 
 use crate::entries::{Entries, counts};
 use crate::places::places_of;
-use crate::record::{CharInfo, Counts, LigKernStep, Tag};
+use crate::record::{CharInfo, Counts, KERN_FLAG, LigKernStep, STOP_FLAG, Tag};
 use crate::scaling::is_fix_word;
 
 /// Whether there are fewer bytes than the file says, or than its twelve numbers take.
@@ -77,8 +77,8 @@ pub fn breaks_design_size(word: i32) -> bool
 }
 
 /// Whether a program begins past the steps.
-fn begins_past(steps: usize, tag: Tag) -> bool
-    ensures { result ≡ begins_past steps tag }
+fn begins_past_steps(steps: usize, tag: Tag) -> bool
+    ensures { result ≡ begins_past_steps steps tag }
 {
     match tag {
         Tag::Program(start) => steps <= usize::from(start),
@@ -87,16 +87,16 @@ fn begins_past(steps: usize, tag: Tag) -> bool
 }
 
 /// Whether some word is no fix word.
-#[tactic(auto, unfolding(crate::specs::Rules::has_other_word))]
-fn has_other_word(words: &[i32]) -> bool
-    ensures { result ≡ has_other_word words.now }
+#[tactic(auto, unfolding(crate::specs::Rules::some_is_no_fix_word))]
+fn some_is_no_fix_word(words: &[i32]) -> bool
+    ensures { result ≡ some_is_no_fix_word words.now }
 {
     words.iter().any(|word| !is_fix_word(*word))
 }
 
 /// Whether the first word is not 0.
-fn begins_otherwise(words: &[i32]) -> bool
-    ensures { result ≡ begins_otherwise words.now }
+fn begins_nonzero(words: &[i32]) -> bool
+    ensures { result ≡ begins_nonzero words.now }
 {
     match words {
         [word, ..] => *word != 0,
@@ -136,7 +136,7 @@ fn breaks_character(file: &Entries, c: CharInfo) -> bool
         || file.heights.len() <= usize::from(c.height)
         || file.depths.len() <= usize::from(c.depth)
         || file.italics.len() <= usize::from(c.italic)
-        || begins_past(file.steps.len(), c.tag)
+        || begins_past_steps(file.steps.len(), c.tag)
 }
 
 /// Whether some character names an entry that is not in its table.
@@ -152,37 +152,39 @@ pub fn breaks_char_info(file: &Entries) -> bool
 pub fn breaks_fix_word(file: &Entries) -> bool
     ensures { result ≡ breaks_fix_word file.now }
 {
-    has_other_size(file) || has_other_distance(file) || begins_wrong(file)
+    some_size_is_no_fix_word(file)
+        || some_distance_is_no_fix_word(file)
+        || some_table_begins_nonzero(file)
 }
 
 /// Whether a width, height, depth or italic is no fix word.
-#[tactic(auto, unfolding(crate::specs::Rules::has_other_size))]
-fn has_other_size(file: &Entries) -> bool
-    ensures { result ≡ has_other_size file.now }
+#[tactic(auto, unfolding(crate::specs::Rules::some_size_is_no_fix_word))]
+fn some_size_is_no_fix_word(file: &Entries) -> bool
+    ensures { result ≡ some_size_is_no_fix_word file.now }
 {
-    has_other_word(&file.widths)
-        || has_other_word(&file.heights)
-        || has_other_word(&file.depths)
-        || has_other_word(&file.italics)
+    some_is_no_fix_word(&file.widths)
+        || some_is_no_fix_word(&file.heights)
+        || some_is_no_fix_word(&file.depths)
+        || some_is_no_fix_word(&file.italics)
 }
 
 /// Whether a kern or a size of the space is no fix word.
-#[tactic(auto, unfolding(crate::specs::Rules::has_other_distance))]
-fn has_other_distance(file: &Entries) -> bool
-    ensures { result ≡ has_other_distance file.now }
+#[tactic(auto, unfolding(crate::specs::Rules::some_distance_is_no_fix_word))]
+fn some_distance_is_no_fix_word(file: &Entries) -> bool
+    ensures { result ≡ some_distance_is_no_fix_word file.now }
 {
-    has_other_word(&file.kerns) || has_other_word(space_words(&file.parameters))
+    some_is_no_fix_word(&file.kerns) || some_is_no_fix_word(space_words(&file.parameters))
 }
 
 /// Whether one of the first four tables does not begin with 0.
-#[tactic(auto, unfolding(crate::specs::Rules::begins_wrong))]
-fn begins_wrong(file: &Entries) -> bool
-    ensures { result ≡ begins_wrong file.now }
+#[tactic(auto, unfolding(crate::specs::Rules::some_table_begins_nonzero))]
+fn some_table_begins_nonzero(file: &Entries) -> bool
+    ensures { result ≡ some_table_begins_nonzero file.now }
 {
-    begins_otherwise(&file.widths)
-        || begins_otherwise(&file.heights)
-        || begins_otherwise(&file.depths)
-        || begins_otherwise(&file.italics)
+    begins_nonzero(&file.widths)
+        || begins_nonzero(&file.heights)
+        || begins_nonzero(&file.depths)
+        || begins_nonzero(&file.italics)
 }
 
 /// Whether step k names a step, a kern or a character that is not there.
@@ -191,20 +193,25 @@ fn breaks_step(file: &Entries, k: usize, s: LigKernStep) -> bool
     requires { k < length file.now.steps }
     ensures { result ≡ breaks_step file.now (k, s) }
 {
-    if 128 < s.skip {
+    if STOP_FLAG < s.skip {
         return file.steps.len() <= 256 * usize::from(s.op) + usize::from(s.remainder);
     }
-    names_past(file.counts.first, &file.characters, file.kerns.len(), s)
-        || s.skip < 128 && file.steps.len() <= k + usize::from(s.skip) + 1
+    names_absent_kern_or_character(file.counts.first, &file.characters, file.kerns.len(), s)
+        || s.skip < STOP_FLAG && file.steps.len() <= k + usize::from(s.skip) + 1
 }
 
 /// Whether a step gives a kern past that many, or a ligature with a character that is not there.
-#[tactic(auto, unfolding(crate::specs::Rules::names_past))]
-fn names_past(first: u16, characters: &[CharInfo], kerns: usize, s: LigKernStep) -> bool
-    ensures { result ≡ names_past first characters.now kerns s }
+#[tactic(auto, unfolding(crate::specs::Rules::names_absent_kern_or_character))]
+fn names_absent_kern_or_character(
+    first: u16,
+    characters: &[CharInfo],
+    kerns: usize,
+    s: LigKernStep,
+) -> bool
+    ensures { result ≡ names_absent_kern_or_character first characters.now kerns s }
 {
-    if 128 <= s.op {
-        return kerns <= 256 * usize::from(s.op - 128) + usize::from(s.remainder);
+    if KERN_FLAG <= s.op {
+        return kerns <= 256 * usize::from(s.op - KERN_FLAG) + usize::from(s.remainder);
     }
     s.op == 0 && character_at(first, characters, s.remainder).is_none()
 }

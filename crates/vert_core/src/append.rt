@@ -1,10 +1,11 @@
 //! Boxes are put behind a vertical list.
 
-ghost use Rattle.std.specs.Prelude.{◌≡◌, ◌++◌, [], ◌∷◌, is_ok, if◌then◌else◌, IsOk, OnOk, OnErr, IfOk, IfErr};
+ghost use Rattle.std.specs.Prelude.{◌≡◌, ◌≤◌, ◌+◌, ◌++◌, [], ◌∷◌, is_ok, if◌then◌else◌, IsOk, OnOk, OnErr, IfOk, IfErr, length};
+ghost use Rattle.node_core.specs.Nodes.{most_nodes, items_of, nodes_of};
 ghost use Rattle.vert_core.specs.Interline.{interline, glue_of, appended};
 
 use crate::interline::{DimensionTooLarge, interline_glue};
-use node_core::{BoxNode, Glue, Node, Params, push_box};
+use node_core::{BoxNode, Glue, Node, NodeList, Params, push_box};
 use scaled_core::Dimen;
 use thiserror::Error;
 
@@ -23,7 +24,7 @@ pub enum AppendFault {
 #[derive(Debug, Drop, Error)]
 #[error("the box was not appended: {fault}")]
 pub struct Unappended {
-    pub shown: BoxNode,
+    pub box_node: BoxNode,
     pub fault: AppendFault,
 }
 
@@ -31,34 +32,64 @@ pub struct Unappended {
 /// previous one. Where the glue does not fit or memory is refused, the box comes back and the list is as it was.
 pub fn append_box(
     nodes: &mut Vec<Node>,
-    shown: BoxNode,
+    box_node: BoxNode,
     shift: Dimen,
     previous_depth: Dimen,
     params: &Params,
 ) -> Result<Dimen, Unappended>
     ensures ok { OnOk result (nodes.new.items ≡
-        nodes.old.items ++ appended (glue_of (interline params.now previous_depth shown.height)) shift shown) }
-    ensures depth { IfOk result (λ depth. depth ≡ shown.depth) }
+        nodes.old.items ++ appended (glue_of (interline params.now previous_depth box_node.height)) shift box_node) }
+    ensures depth { IfOk result (λ depth. depth ≡ box_node.depth) }
     // The glue fits, and else this is the fault, even where memory would be refused too.
-    ensures fits { OnOk result (IsOk (interline params.now previous_depth shown.height)) }
+    ensures fits { OnOk result (IsOk (interline params.now previous_depth box_node.height)) }
     ensures fault { IfErr result (λ e. e.fault ≡
-        (if is_ok (interline params.now previous_depth shown.height) then AppendFault.OutOfMemory else AppendFault.DimensionTooLarge)) }
+        (if is_ok (interline params.now previous_depth box_node.height) then AppendFault.OutOfMemory else AppendFault.DimensionTooLarge)) }
     ensures err { OnErr result (nodes.new.items ≡ nodes.old.items) }
-    ensures back { IfErr result (λ e. e.shown ≡ shown) }
+    ensures back { IfErr result (λ e. e.box_node ≡ box_node) }
 {
-    let depth = shown.depth;
-    match interline_glue(previous_depth, shown.height, params) {
+    let depth = box_node.depth;
+    match interline_glue(previous_depth, box_node.height, params) {
         Err(DimensionTooLarge) => Err(Unappended {
-            shown,
+            box_node,
             fault: AppendFault::DimensionTooLarge,
         }),
-        Ok(glue) => match push_with_glue(nodes, glue, shift, shown) {
+        Ok(glue) => match push_with_glue(nodes, glue, shift, box_node) {
             Ok(()) => Ok(depth),
-            Err(shown) => Err(Unappended {
-                shown,
+            Err(box_node) => Err(Unappended {
+                box_node,
                 fault: AppendFault::OutOfMemory,
             }),
         },
+    }
+}
+
+/// Puts glue, if there is some, and a box behind a list, which has room for two more nodes. Where a growth is refused, the box comes back
+/// and the list is as it was.
+#[tactic(auto, using(node_core::proofs::NodeLemmas::nodes))]
+pub fn append_with_glue(
+    list: &mut NodeList,
+    glue: Option<Glue>,
+    shift: Dimen,
+    box_node: BoxNode,
+) -> Result<(), BoxNode>
+    requires short { length (nodes_of list.old) + 2 ≤ most_nodes }
+    ensures ok { OnOk result (list.new ≡ items_of (nodes_of list.old ++ appended glue shift box_node)) }
+    ensures err { OnErr result (list.new ≡ list.old) }
+    ensures back { IfErr result (λ back. back ≡ box_node) }
+{
+    let Some(glue) = glue else {
+        return list.push_box(shift, box_node);
+    };
+    let count = list.len();
+    if list.push(Node::Glue(glue)).is_err() {
+        return Err(box_node);
+    }
+    match list.push_box(shift, box_node) {
+        Ok(()) => Ok(()),
+        Err(box_node) => {
+            list.truncate(count);
+            Err(box_node)
+        }
     }
 }
 
@@ -67,23 +98,23 @@ fn push_with_glue(
     nodes: &mut Vec<Node>,
     glue: Option<Glue>,
     shift: Dimen,
-    shown: BoxNode,
+    box_node: BoxNode,
 ) -> Result<(), BoxNode>
-    ensures ok { OnOk result (nodes.new.items ≡ nodes.old.items ++ appended glue shift shown) }
+    ensures ok { OnOk result (nodes.new.items ≡ nodes.old.items ++ appended glue shift box_node) }
     ensures err { OnErr result (nodes.new.items ≡ nodes.old.items) }
-    ensures back { IfErr result (λ back. back ≡ shown) }
+    ensures back { IfErr result (λ back. back ≡ box_node) }
 {
     let Some(glue) = glue else {
-        return push_box(nodes, shift, shown);
+        return push_box(nodes, shift, box_node);
     };
     if nodes.push(Node::Glue(glue)).is_err() {
-        return Err(shown);
+        return Err(box_node);
     }
-    match push_box(nodes, shift, shown) {
+    match push_box(nodes, shift, box_node) {
         Ok(()) => Ok(()),
-        Err(shown) => {
+        Err(box_node) => {
             nodes.pop();
-            Err(shown)
+            Err(box_node)
         }
     }
 }

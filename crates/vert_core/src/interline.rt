@@ -1,10 +1,9 @@
 //! The glue between two boxes of a vertical list (TeX: The Program, part 33, §679, append_to_vlist).
 
-ghost use Rattle.std.specs.Prelude.{◌≡◌};
-ghost use Rattle.vert_core.specs.Interline.{distance, baseline_glue, interline};
+ghost use Rattle.std.specs.Prelude.{◌≡◌, int_le};
+ghost use Rattle.vert_core.specs.Interline.{ignored_depth, distance, baseline_glue, interline};
 
 use node_core::{Glue, Params};
-use pack_core::{difference, dimension};
 use scaled_core::Dimen;
 use thiserror::Error;
 
@@ -23,7 +22,7 @@ pub fn interline_glue(
 ) -> Result<Option<Glue>, DimensionTooLarge>
     ensures { result ≡ interline params.now previous_depth height }
 {
-    if previous_depth.get() <= Dimen::IGNORE_DEPTH.get() {
+    if is_ignored(previous_depth) {
         return Ok(None);
     }
     let apart = distance(previous_depth, height, params);
@@ -33,11 +32,18 @@ pub fn interline_glue(
     baseline_glue(apart, params)
 }
 
+/// Whether a depth counts as none: -1000pt or less.
+fn is_ignored(depth: Dimen) -> bool
+    ensures { result ≡ int_le depth ignored_depth }
+{
+    depth <= Dimen::IGNORE_DEPTH
+}
+
 /// Glue of that width, which stretches and shrinks as baselineskip does, where the width fits.
 fn baseline_glue(width: i64, params: &Params) -> Result<Option<Glue>, DimensionTooLarge>
     ensures { result ≡ baseline_glue params.now width }
 {
-    match dimension(i128::from(width)) {
+    match Dimen::try_new(width) {
         None => Err(DimensionTooLarge),
         Some(width) => Ok(Some(Glue {
             width,
@@ -50,5 +56,5 @@ fn baseline_glue(width: i64, params: &Params) -> Result<Option<Glue>, DimensionT
 fn distance(previous_depth: Dimen, height: Dimen, params: &Params) -> i64
     ensures { result ≡ distance params.now previous_depth height }
 {
-    difference(params.baseline_skip.width, previous_depth) - i64::from(height.get())
+    params.baseline_skip.width.exact_sub(previous_depth) - i64::from(height.get())
 }

@@ -7,5 +7,5 @@ mod append;
 mod interline;
 pub mod laws;
 
-pub use append::{AppendFault, Unappended, append_box};
+pub use append::{AppendFault, Unappended, append_box, append_with_glue};
 pub use interline::{DimensionTooLarge, interline_glue};

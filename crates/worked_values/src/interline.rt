@@ -45,12 +45,12 @@ fn baselines(rt: &impl Abort, width: i64) -> Params {
 
 /// Asserts that a node is a box of that height and depth, shifted by so much.
 fn expect_box(rt: &impl Abort, node: &Node, shift: i64, height: i64, depth: i64) {
-    let Node::Box(by, shown) = node else {
+    let Node::Box(by, box_node) = node else {
         panic!(rt; "not a box");
     };
     assert_eq!(rt; *by, sp(rt, shift));
-    assert_eq!(rt; shown.height, sp(rt, height));
-    assert_eq!(rt; shown.depth, sp(rt, depth));
+    assert_eq!(rt; box_node.height, sp(rt, height));
+    assert_eq!(rt; box_node.depth, sp(rt, depth));
 }
 
 #[test]

@@ -74,7 +74,7 @@ fn ship_a_rule(job: &mut Job<Dripping>, point: Dimen) -> Result<Answer, Refusal>
 }
 
 /// A job with that page on a device that fails at one call: how it ended, and how many bytes went out.
-fn dripped(alloc: Global, fails_at: u64) -> Option<(Result<Summary, Refusal>, usize)> {
+fn end_and_bytes(alloc: Global, fails_at: u64) -> Option<(Result<Summary, Refusal>, usize)> {
     let point = Dimen::try_new(65_536)?;
     let mut job = job(alloc, &[], fails_at)?;
     ship_a_rule(&mut job, point).ok()?;
@@ -88,6 +88,9 @@ fn a_device_takes_one_byte_a_call_and_may_fail(rt: HostRuntime) {
         pages: 1,
         bytes: 116,
     };
-    assert_eq!(rt; dripped(rt.alloc(), 0), Some((Ok(summary), 116)));
-    assert_eq!(rt; dripped(rt.alloc(), 75), Some((Err(Refusal::Device), 74)));
+    assert_eq!(rt; end_and_bytes(rt.alloc(), 0), Some((Ok(summary), 116)));
+    assert_eq!(rt;
+        end_and_bytes(rt.alloc(), 75),
+        Some((Err(Refusal::Device), 74))
+    );
 }

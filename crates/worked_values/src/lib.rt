@@ -15,6 +15,8 @@ mod nodes;
 #[cfg(test)]
 mod packing;
 #[cfg(test)]
+mod pages;
+#[cfg(test)]
 mod reused_bodies;
 #[cfg(test)]
 mod samples;

@@ -62,7 +62,7 @@ fn three_glues_share_ten(rt: HostRuntime) -> Result<(), Fail> {
     let (second, third) = (glue.copy(rt.alloc())?, glue.copy(rt.alloc())?);
     let list = three(rt.alloc(), glue, second, third)?;
     let packed = fitting(&rt, hpack(list, Target::To(sp(&rt, 10))));
-    assert_places(&rt, &packed.shown, &[0, 3, 7, 10]);
+    assert_places(&rt, &packed.box_node, &[0, 3, 7, 10]);
     Ok(())
 }
 
@@ -72,11 +72,11 @@ fn halves_go_away_from_zero(rt: HostRuntime) -> Result<(), Fail> {
     let second = glue.copy(rt.alloc())?;
     let list = two(rt.alloc(), glue, second)?;
     let packed = fitting(&rt, hpack(list, Target::Spread(sp(&rt, 1))));
-    assert_places(&rt, &packed.shown, &[0, 1, 1]);
+    assert_places(&rt, &packed.box_node, &[0, 1, 1]);
     let glue = shrinking(&rt, 0, 1);
     let second = glue.copy(rt.alloc())?;
     let list = two(rt.alloc(), glue, second)?;
     let packed = fitting(&rt, hpack(list, Target::Spread(sp(&rt, -1))));
-    assert_places(&rt, &packed.shown, &[0, -1, -1]);
+    assert_places(&rt, &packed.box_node, &[0, -1, -1]);
     Ok(())
 }

@@ -5,7 +5,7 @@ use std::alloc::Global;
 use std::io;
 use std::io::{Cursor, Write};
 
-/// Scripts of one command; the number of its line, and how the command is shown.
+/// Scripts of one command; the number of its line, and the text of the command.
 const COMMANDS: [(&str, &str); 41] = [
     (
         "% a comment\r\n\nhbox  into +007\n",
@@ -138,7 +138,7 @@ const COMMANDS: [(&str, &str); 41] = [
 ];
 
 /// The number of the line of a script's one command, and the command.
-fn shown(alloc: Global, script: &str) -> Option<String> {
+fn command_text(alloc: Global, script: &str) -> Option<String> {
     let lines = read_script(alloc, script.as_bytes()).ok()?;
     match lines.as_slice() {
         [line] => format!(in alloc; "{} {:?}", line.number, line.command).ok(),
@@ -149,8 +149,8 @@ fn shown(alloc: Global, script: &str) -> Option<String> {
 #[test]
 fn reads_each_command(rt: HostRuntime) {
     for (script, expected) in COMMANDS {
-        let shown = shown(rt.alloc(), script).expect(&rt, "it is read");
-        assert_eq!(rt; shown.as_str(), expected, "at {script}");
+        let command = command_text(rt.alloc(), script).expect(&rt, "it is read");
+        assert_eq!(rt; command.as_str(), expected, "at {script}");
     }
 }
 

@@ -7,7 +7,7 @@ use std::alloc::Global;
 use std::process::Abort;
 
 /// The nodes of a text in `TINY`, and how many of its characters are missing.
-fn shaped(alloc: Global, text: &[u8]) -> Option<(Vec<Node>, usize)> {
+fn shaped_text(alloc: Global, text: &[u8]) -> Option<(Vec<Node>, usize)> {
     let font = font_of(alloc, &TINY)?;
     let mut nodes = Vec::new(alloc);
     let missing = shape_text(&font, 3, text, &mut nodes).ok()?;
@@ -15,7 +15,7 @@ fn shaped(alloc: Global, text: &[u8]) -> Option<(Vec<Node>, usize)> {
 }
 
 /// An item in short: a glyph `c` with its code, a kern of the font `k` or glue `g` with its width.
-fn told(node: &Node) -> (char, i32) {
+fn item_in_short(node: &Node) -> (char, i32) {
     match node {
         Node::Glyph(glyph) => ('c', i32::from(glyph.code)),
         Node::FontKern(width) => ('k', width.get()),
@@ -26,16 +26,16 @@ fn told(node: &Node) -> (char, i32) {
 
 /// Asserts that a text has those items, and so many missing characters.
 fn expect_text(rt: &impl Abort, alloc: Global, text: &[u8], items: &[(char, i32)], missing: usize) {
-    let (nodes, count) = shaped(alloc, text).expect(rt, "there is memory");
+    let (nodes, count) = shaped_text(alloc, text).expect(rt, "there is memory");
     assert_eq!(rt; nodes.len(), items.len());
     for (node, item) in nodes.iter().zip(items) {
-        assert_eq!(rt; told(node), *item);
+        assert_eq!(rt; item_in_short(node), *item);
     }
     assert_eq!(rt; count, missing);
 }
 
 #[test]
-fn texts(rt: HostRuntime) {
+fn words_have_kerns_and_ligatures(rt: HostRuntime) {
     let alloc = rt.alloc();
     expect_text(&rt, alloc, b"aab", &[('c', 101)], 0);
     expect_text(
@@ -48,6 +48,12 @@ fn texts(rt: HostRuntime) {
     expect_text(&rt, alloc, b"azc", &[('c', 97), ('c', 99)], 1);
     expect_text(&rt, alloc, b"aaab", &[('c', 100), ('c', 97), ('c', 98)], 0);
     expect_text(&rt, alloc, b"zz", &[], 2);
+    expect_text(&rt, alloc, b"", &[], 0);
+}
+
+#[test]
+fn spaces_between_words_are_glue(rt: HostRuntime) {
+    let alloc = rt.alloc();
     expect_text(
         &rt,
         alloc,
@@ -76,7 +82,6 @@ fn texts(rt: HostRuntime) {
         &[('c', 97), ('g', 204_800), ('c', 97), ('c', 98)],
         0,
     );
-    expect_text(&rt, alloc, b"", &[], 0);
 }
 
 #[test]

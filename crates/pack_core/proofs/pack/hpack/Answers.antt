@@ -5,7 +5,7 @@ use Rattle.pack_core.proofs.pack.hpack.Goals as goal
 
 pub returns : goal.returns
 returns c =
-    let e : c.boxed.result ≡ hpacked c.args.target c.args.list = cc (c.boxed.ensures, boxed-hbox c.args.target c.args.list, c.hbox_shell-shell.ensures, c.as_slice.ensures.nodes) in
+    let e : c.boxed_list.result ≡ hpacked c.args.target c.args.list = cc (c.boxed_list.ensures, boxed-hbox c.args.target c.args.list, c.hbox_shell-shell.ensures, c.as_slice.ensures.nodes) in
     record {
       value = e;
       ok = rw e (hpacked-ok c.args.target c.args.list);

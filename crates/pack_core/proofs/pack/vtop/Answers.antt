@@ -5,7 +5,7 @@ use Rattle.pack_core.proofs.pack.vtop.Goals as goal
 
 pub returns : goal.returns
 returns c =
-    let e : c.boxed.result ≡ vtopped c.args.target c.args.depth_limit c.args.list = cc (c.boxed.ensures, boxed-vtop c.args.target c.args.depth_limit c.args.list, c.vtop_shell_of-shell.ensures, c.as_slice.ensures.nodes) in
+    let e : c.boxed_list.result ≡ vtopped c.args.target c.args.depth_limit c.args.list = cc (c.boxed_list.ensures, boxed-vtop c.args.target c.args.depth_limit c.args.list, c.vtop_shell_of-shell.ensures, c.as_slice.ensures.nodes) in
     record {
       value = e;
       ok = rw e (vtopped-ok c.args.target c.args.depth_limit c.args.list);

@@ -1,6 +1,6 @@
-use Rattle.std.proofs.Common.{arith, drop, length-drop}
+use Rattle.std.proofs.Common.{arith, length-drop}
 use Rattle.std.proofs.lemmas.List.{take_rest}
-use Rattle.program_core.proofs.WritingLemmas.{appends_more, appends_no_more}
+use Rattle.program_core.proofs.WritingLemmas.{appends_more}
 use Rattle.program_core.proofs.writing.write_text.Goals as goal
 
 pub loop-preserved : goal.loop-preserved

@@ -10,13 +10,13 @@ pub returns-clause-value : goal.returns-clause-value
 returns-clause-value c = rw (read_dimension-points c.args.text.now) (grind (arith, common_steps))
 
 pub returns-clause-ok : goal.returns-clause-ok
-returns-clause-ok c = reads-ok (c.args.text.now ++ codes "pt") c.measured.result (returns-clause-value c)
+returns-clause-ok c = reads-ok (c.args.text.now ++ codes "pt") c.written_value.result (returns-clause-value c)
 
 pub returns-clause-fits : goal.returns-clause-fits
-returns-clause-fits c = reads-fits (c.args.text.now ++ codes "pt") c.measured.result (returns-clause-value c)
+returns-clause-fits c = reads-fits (c.args.text.now ++ codes "pt") c.written_value.result (returns-clause-value c)
 
 pub returns-clause-too_large : goal.returns-clause-too_large
-returns-clause-too_large c = reads-too_large (c.args.text.now ++ codes "pt") c.measured.result (returns-clause-value c)
+returns-clause-too_large c = reads-too_large (c.args.text.now ++ codes "pt") c.written_value.result (returns-clause-value c)
 
 pub returns-clause-not_a_dimension : goal.returns-clause-not_a_dimension
-returns-clause-not_a_dimension c = reads-not_a_dimension (c.args.text.now ++ codes "pt") c.measured.result (returns-clause-value c)
+returns-clause-not_a_dimension c = reads-not_a_dimension (c.args.text.now ++ codes "pt") c.written_value.result (returns-clause-value c)

@@ -1,12 +1,12 @@
 -- What was found, and what the rest of the text says.
 use Rattle.std.proofs.Common.{◌≡◌, ◌+◌, ◌≤◌, length}
 use Rattle.std.specs.Str.Lines.{lines}
-use Rattle.script_core.specs.Reading.{reads, prefixed}
+use Rattle.script_core.specs.Reading.{reads, lines_then}
 use Rattle.script_core.proofs.script.read_script.Given as goal
 
 abbrev pub invariant-loop-rest : goal.invariant-loop-rest
 invariant-loop-rest l = record {
-  reading : prefixed l.found.items (reads (l.number + 1) (lines l.rest)) ≡ reads 1 (lines l.text);
+  reading : lines_then l.found.items (reads (l.number + 1) (lines l.rest)) ≡ reads 1 (lines l.text);
   counted : l.number + length l.rest ≤ length l.text;
 }
 

@@ -7,32 +7,32 @@ use Rattle.node_core.proofs.NodeLemmas.{items_of-nodes_of}
 use Rattle.scaled_core.specs.Dimensions.{fits}
 use Rattle.pack_core.specs.Cursors.{one_more}
 use Rattle.pack_core.proofs.Walks.{reached-more}
-use Rattle.ship_core.specs.Marks.{item_h, item_v, numbers_behind}
+use Rattle.ship_core.specs.Marks.{item_h, item_v, list_v, numbers_behind}
 use Rattle.ship_core.proofs.Places.{numbers_inside, fits_more, item_fits, inner_begin, inner_numbers, inner_depth, leaf_numbers, rest_of_and, first_false, second_false, few_passed, reached-none}
 use Rattle.ship_core.proofs.page_plan.+all_fit.Goals as goal
 use Rattle.ship_core.proofs.page_plan.+all_fit.Goals.{in-Box+else-not-all_fit, in_default-node}
 
 pub all_fit-requires : goal.all_fit-requires
 all_fit-requires t c =
-    let deep = inner_depth c.args.shown.now.list c.as_slice-node-items.result.now c.loop-node.node-index c.node-item.result c.in-Box.field-0 c.in-Box.inner
+    let deep = inner_depth c.args.box_node.now.list c.as_slice-node-items.result.now c.loop-node.node-index c.node-item.result c.in-Box.field-0 c.in-Box.inner
     c.loop-node-test.true c.node-item.is c.as_slice-node-items.ensures.nodes c.in-Box.is in
     (omega (arith, deep, c.decreases), tt)
 
 pub loop-node-init : goal.loop-node-init
 loop-node-init t c = record {
-  cursor = c.new-walk.ensures.cursor ∙ reached-none c.args.shown.now.kind c.args.shown.now.setting;
+  cursor = c.new-walk.ensures.cursor ∙ reached-none c.args.box_node.now.kind c.args.box_node.now.setting;
   here = c.new-walk.ensures.here;
   left = refl;
 }
 
 pub step-requires-clause-few : goal.step-requires-clause-few
 step-requires-clause-few t c =
-    few_passed c.args.shown.now.kind c.args.shown.now.setting c.as_slice-node-items.result.now c.loop-node.node-index c.loop-node.walk.cursor
+    few_passed c.args.box_node.now.kind c.args.box_node.now.setting c.as_slice-node-items.result.now c.loop-node.node-index c.loop-node.walk.cursor
     c.loop-node.invariant.cursor c.loop-node-test.true (rw c.as_slice-node-items.ensures.nodes c.as_slice-node-items.ensures.short)
 
 pub returns-in_default : goal.returns-in_default
 returns-in_default t c =
-    let b = c.args.shown.now in
+    let b = c.args.box_node.now in
     let h = c.args.begin.now.h in
     let v = c.args.begin.now.v in
     let xs = c.as_slice-node-items.result.now in
@@ -46,7 +46,7 @@ returns-in_default t c =
 
 pub returns-then-not-all_fit : goal.returns-then-not-all_fit
 returns-then-not-all_fit t c =
-    let b = c.args.shown.now in
+    let b = c.args.box_node.now in
     let h = c.args.begin.now.h in
     let v = c.args.begin.now.v in
     let xs = c.as_slice-node-items.result.now in
@@ -54,7 +54,7 @@ returns-then-not-all_fit t c =
     let x = c.node-item.result in
     let here = item_fits b h v (take i xs) x c.loop-node.walk.cursor _ c.loop-node.invariant.cursor c.in-Some.ensures.fits in
     let begin = inner_begin b c.in-Box.inner h v (take i xs) x c.in-Box.field-0 c.loop-node.walk.cursor c.in-Some.seen.at.h c.in-Some.seen.at.v c.begin_of.result.h c.begin_of.result.v
-    c.loop-node.invariant.cursor c.in-Box.is c.in-Some.ensures.h c.in-Some.ensures.v c.begin_of.ensures.h c.begin_of.ensures.v in
+    c.loop-node.invariant.cursor c.in-Box.is c.in-Some.ensures.h c.in-Some.ensures.v (c.begin_of.ensures.h ∙ c.point.ensures.h) (c.begin_of.ensures.v ∙ ap (list_v c.in-Box.inner.kind c.in-Box.inner.height) c.point.ensures.v) in
     let inner = inner_numbers b c.in-Box.inner (item_h b h (take i xs)) (item_v b v (take i xs)) c.in-Box.field-0 c.begin_of.result.h c.begin_of.result.v x c.in-Box.is begin in
     let none : false ≡ list_all fits (numbers_inside b (item_h b h (take i xs)) (item_v b v (take i xs)) x) =
     sym c.if-not-all_fit.true ∙ (c.all_fit.ensures ∙ sym (ap (list_all fits) inner)) in
@@ -65,7 +65,7 @@ returns-then-not-all_fit t c =
 
 pub loop-node-preserved : goal.loop-node-preserved
 loop-node-preserved t c =
-    let b = c.args.shown.now in
+    let b = c.args.box_node.now in
     let h = c.args.begin.now.h in
     let v = c.args.begin.now.v in
     let xs = c.as_slice-node-items.result.now in
@@ -75,7 +75,7 @@ loop-node-preserved t c =
     let inside : true ≡ list_all fits (numbers_inside b (item_h b h (take i xs)) (item_v b v (take i xs)) x) = elim c.match-node.branch [
       | in-Box+else-not-all_fit w ↦
           let begin = inner_begin b w.in-Box.inner h v (take i xs) x w.in-Box.field-0 c.loop-node.walk.cursor c.in-Some.seen.at.h c.in-Some.seen.at.v w.begin_of.result.h w.begin_of.result.v
-          c.loop-node.invariant.cursor w.in-Box.is c.in-Some.ensures.h c.in-Some.ensures.v w.begin_of.ensures.h w.begin_of.ensures.v in
+          c.loop-node.invariant.cursor w.in-Box.is c.in-Some.ensures.h c.in-Some.ensures.v (w.begin_of.ensures.h ∙ w.point.ensures.h) (w.begin_of.ensures.v ∙ ap (list_v w.in-Box.inner.kind w.in-Box.inner.height) w.point.ensures.v) in
           let inner = inner_numbers b w.in-Box.inner (item_h b h (take i xs)) (item_v b v (take i xs)) w.in-Box.field-0 w.begin_of.result.h w.begin_of.result.v x w.in-Box.is begin in
           sym w.if-not-all_fit.false ∙ (w.all_fit.ensures ∙ sym (ap (list_all fits) inner))
       | in_default-node w ↦ sym (ap (list_all fits) (leaf_numbers b (item_h b h (take i xs)) (item_v b v (take i xs)) x w.in_default-node.not-Box))
@@ -91,7 +91,7 @@ loop-node-preserved t c =
 
 pub returns : goal.returns
 returns t c =
-    let b = c.args.shown.now in
+    let b = c.args.box_node.now in
     let h = c.args.begin.now.h in
     let v = c.args.begin.now.v in
     let xs = c.as_slice-node-items.result.now in

@@ -18,7 +18,7 @@ use Rattle.ship_core.proofs.page_plan.+draw_list.Goals.{in-Box+then-not-is_empty
 
 pub loop-node-init : goal.loop-node-init
 loop-node-init t c =
-    let b = c.args.shown.now in
+    let b = c.args.box_node.now in
     let h = c.args.begin.now.h in
     let v = c.args.begin.now.v in
     let items = items_of c.as_slice-node-items.result.now in
@@ -33,12 +33,12 @@ loop-node-init t c =
 
 pub step-requires-clause-few : goal.step-requires-clause-few
 step-requires-clause-few t c =
-    few_passed c.args.shown.now.kind c.args.shown.now.setting c.as_slice-node-items.result.now c.loop-node.node-index c.loop-node.walk.cursor
+    few_passed c.args.box_node.now.kind c.args.box_node.now.setting c.as_slice-node-items.result.now c.loop-node.node-index c.loop-node.walk.cursor
     c.loop-node.invariant.cursor c.loop-node-test.true (rw c.as_slice-node-items.ensures.nodes c.as_slice-node-items.ensures.short)
 
 pub unreachable-requires : goal.unreachable-requires
 unreachable-requires t c =
-    let b = c.args.shown.now in
+    let b = c.args.box_node.now in
     let h = c.args.begin.now.h in
     let v = c.args.begin.now.v in
     let xs = c.as_slice-node-items.result.now in
@@ -49,7 +49,7 @@ unreachable-requires t c =
 
 pub draw_list-requires : goal.draw_list-requires
 draw_list-requires t c =
-    let b = c.args.shown.now in
+    let b = c.args.box_node.now in
     let h = c.args.begin.now.h in
     let v = c.args.begin.now.v in
     let xs = c.as_slice-node-items.result.now in
@@ -58,14 +58,14 @@ draw_list-requires t c =
     let deep = inner_depth b.list xs i x c.in-Box.field-0 c.in-Box.inner c.loop-node-test.true c.node-item.is c.as_slice-node-items.ensures.nodes c.in-Box.is in
     let here = item_fits b h v (take i xs) x c.loop-node.walk.cursor _ c.loop-node.invariant.cursor c.in-Some.ensures.fits in
     let begin = inner_begin b c.in-Box.inner h v (take i xs) x c.in-Box.field-0 c.loop-node.walk.cursor c.in-Some.seen.at.h c.in-Some.seen.at.v c.begin_of.result.h c.begin_of.result.v
-    c.loop-node.invariant.cursor c.in-Box.is c.in-Some.ensures.h c.in-Some.ensures.v c.begin_of.ensures.h c.begin_of.ensures.v in
+    c.loop-node.invariant.cursor c.in-Box.is c.in-Some.ensures.h c.in-Some.ensures.v (c.begin_of.ensures.h ∙ c.point.ensures.h) (c.begin_of.ensures.v ∙ ap (list_v c.in-Box.inner.kind c.in-Box.inner.height) c.point.ensures.v) in
     let inner = inner_numbers b c.in-Box.inner (item_h b h (take i xs)) (item_v b v (take i xs)) c.in-Box.field-0 c.begin_of.result.h c.begin_of.result.v x c.in-Box.is begin in
     let left = rest_of_and _ _ _ here (sym (fits_more b h v xs i x c.loop-node-test.true c.node-item.is) ∙ c.loop-node.invariant.left) in
     (omega (arith, deep, c.decreases), sym (ap (list_all fits) inner) ∙ first_of_and _ _ left)
 
 pub loop-node-preserved : goal.loop-node-preserved
 loop-node-preserved t c =
-    let b = c.args.shown.now in
+    let b = c.args.box_node.now in
     let h = c.args.begin.now.h in
     let v = c.args.begin.now.v in
     let xs = c.as_slice-node-items.result.now in
@@ -89,7 +89,7 @@ loop-node-preserved t c =
           let box = w.in-Box.inner in
           let start = w.begin_of.result in
           let begin = inner_begin b box h v (take i xs) x w.in-Box.field-0 c.loop-node.walk.cursor c.in-Some.seen.at.h c.in-Some.seen.at.v start.h start.v
-          c.loop-node.invariant.cursor w.in-Box.is c.in-Some.ensures.h c.in-Some.ensures.v w.begin_of.ensures.h w.begin_of.ensures.v in
+          c.loop-node.invariant.cursor w.in-Box.is c.in-Some.ensures.h c.in-Some.ensures.v (w.begin_of.ensures.h ∙ w.point.ensures.h) (w.begin_of.ensures.v ∙ ap (list_v w.in-Box.inner.kind w.in-Box.inner.height) w.point.ensures.v) in
           let picture = picture_behind box start.h start.v [] box.list in
           let grouped = inner_picture b box x_h x_v w.in-Box.field-0 start.h start.v x later w.in-Box.is begin
           ∙ grouped-some box.list box.kind picture later (sym w.is_empty.ensures ∙ w.if-not-is_empty.true) in
@@ -128,7 +128,7 @@ loop-node-preserved t c =
 
 pub returns-clause-ops : goal.returns-clause-ops
 returns-clause-ops t c =
-    let b = c.args.shown.now in
+    let b = c.args.box_node.now in
     let h = c.args.begin.now.h in
     let v = c.args.begin.now.v in
     let xs = c.as_slice-node-items.result.now in
@@ -140,7 +140,7 @@ returns-clause-ops t c =
 
 pub returns-clause-font : goal.returns-clause-font
 returns-clause-font t c =
-    let b = c.args.shown.now in
+    let b = c.args.box_node.now in
     let h = c.args.begin.now.h in
     let v = c.args.begin.now.v in
     let xs = c.as_slice-node-items.result.now in

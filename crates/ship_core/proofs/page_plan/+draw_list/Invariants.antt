@@ -14,9 +14,9 @@ decreases-draw_list l = goal.size-draw_list l
 
 abbrev pub invariant-loop-node : goal.invariant-loop-node
 invariant-loop-node l = record {
-  cursor : l.walk.cursor ≡ reached l.shown.kind l.shown.setting (take l.node-index l.node-items);
-  here : l.walk.here ≡ point_in l.shown l.begin.h l.begin.v (place_at l.shown.setting l.walk.cursor);
-  left : list_all fits (numbers_behind l.shown l.begin.h l.begin.v (take l.node-index l.node-items) (items_of (drop l.node-index l.node-items))) ≡ true;
-  makes : makes l.shown.kind l.drawing (picture_behind l.shown l.begin.h l.begin.v (take l.node-index l.node-items) (items_of (drop l.node-index l.node-items))) ≡ makes l.shown.kind l.initial.drawing (picture_behind l.shown l.begin.h l.begin.v [] (items_of l.node-items));
-  leaves : leaves l.drawing (picture_behind l.shown l.begin.h l.begin.v (take l.node-index l.node-items) (items_of (drop l.node-index l.node-items))) ≡ leaves l.initial.drawing (picture_behind l.shown l.begin.h l.begin.v [] (items_of l.node-items));
+  cursor : l.walk.cursor ≡ reached l.box_node.kind l.box_node.setting (take l.node-index l.node-items);
+  here : l.walk.here ≡ point_in l.box_node l.begin.h l.begin.v (place_at l.box_node.setting l.walk.cursor);
+  left : list_all fits (numbers_behind l.box_node l.begin.h l.begin.v (take l.node-index l.node-items) (items_of (drop l.node-index l.node-items))) ≡ true;
+  makes : makes l.box_node.kind l.drawing (picture_behind l.box_node l.begin.h l.begin.v (take l.node-index l.node-items) (items_of (drop l.node-index l.node-items))) ≡ makes l.box_node.kind l.initial.drawing (picture_behind l.box_node l.begin.h l.begin.v [] (items_of l.node-items));
+  leaves : leaves l.drawing (picture_behind l.box_node l.begin.h l.begin.v (take l.node-index l.node-items) (items_of (drop l.node-index l.node-items))) ≡ leaves l.initial.drawing (picture_behind l.box_node l.begin.h l.begin.v [] (items_of l.node-items));
 }

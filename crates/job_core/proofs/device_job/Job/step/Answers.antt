@@ -1,5 +1,5 @@
 use Rattle.std.proofs.Common.{◌≡◌, refl, ap, sym, ◌∙◌}
-use Rattle.nest_core.specs.Machine.{State}
+use Rattle.nest_core.specs.State.{State}
 use Rattle.state_core.proofs.KeptRest.{job_kept}
 use Rattle.job_core.proofs.Moves.{roomy, replied, small_after, numbered}
 use Rattle.job_core.proofs.device_job.Job.step.Goals as goal

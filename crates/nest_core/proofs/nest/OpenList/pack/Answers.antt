@@ -4,5 +4,5 @@ use Rattle.nest_core.proofs.nest.OpenList.pack.Goals as goal
 
 pub returns-in-Ok-clause-list : goal.returns-in-Ok-clause-list
 returns-in-Ok-clause-list c =
-    sym (packed_items c.args.self.now.opening.form c.args.params.now c.args.self.now.opening.target c.replace-list.result c.in-Ok.packed (sym c.pack_as.ensures.value ∙ c.in-Ok.is))
+    sym (packed_items c.args.self.now.purpose c.args.params.now c.replace-list.result c.in-Ok.packed (sym c.pack_for.ensures.value ∙ c.in-Ok.is))
     ∙ c.replace-list.ensures.value

@@ -11,7 +11,7 @@ use Rattle.ship_core.proofs.page_plan.Walk.step.Goals as goal
 
 pub place_item-requires : goal.place_item-requires
 place_item-requires c =
-    let b = c.args.shown.now in
+    let b = c.args.box_node.now in
     let here = sym c.requires.here ∙ c.in_ok-at.was in
     let passed = ap (λ r. point_in b c.args.begin.now.h c.args.begin.now.v (place_at b.setting r)) c.pass.ensures.value in
     let there = sym passed ∙ (sym c.place_of-self.ensures ∙ c.in_ok-next.was) in
@@ -19,7 +19,7 @@ place_item-requires c =
 
 pub returns-in_err-next-clause-fits : goal.returns-in_err-next-clause-fits
 returns-in_err-next-clause-fits c =
-    let b = c.args.shown.now in
+    let b = c.args.box_node.now in
     let from = c.args.self.now.cursor in
     let passed = ap (λ r. point_in b c.args.begin.now.h c.args.begin.now.v (place_at b.setting r)) c.pass.ensures.value in
     let there = sym passed ∙ (sym c.place_of-self.ensures ∙ c.in_err-next.was) in
@@ -28,7 +28,7 @@ returns-in_err-next-clause-fits c =
 
 pub returns-clause-fits : goal.returns-clause-fits
 returns-clause-fits c =
-    let b = c.args.shown.now in
+    let b = c.args.box_node.now in
     let from = c.args.self.now.cursor in
     let here = sym c.requires.here ∙ c.in_ok-at.was in
     let passed = ap (λ r. point_in b c.args.begin.now.h c.args.begin.now.v (place_at b.setting r)) c.pass.ensures.value in
@@ -38,7 +38,7 @@ returns-clause-fits c =
 
 pub returns-clause-mark : goal.returns-clause-mark
 returns-clause-mark c =
-    let b = c.args.shown.now in
+    let b = c.args.box_node.now in
     let h = c.args.begin.now.h in
     let v = c.args.begin.now.v in
     let from = place_at b.setting c.args.self.now.cursor in
@@ -50,7 +50,7 @@ returns-clause-mark c =
 
 pub returns-clause-h : goal.returns-clause-h
 returns-clause-h c =
-    let b = c.args.shown.now in
+    let b = c.args.box_node.now in
     let h = c.args.begin.now.h in
     let v = c.args.begin.now.v in
     let from = place_at b.setting c.args.self.now.cursor in
@@ -62,7 +62,7 @@ returns-clause-h c =
 
 pub returns-clause-v : goal.returns-clause-v
 returns-clause-v c =
-    let b = c.args.shown.now in
+    let b = c.args.box_node.now in
     let h = c.args.begin.now.h in
     let v = c.args.begin.now.v in
     let from = place_at b.setting c.args.self.now.cursor in

@@ -1,6 +1,6 @@
 use Rattle.std.proofs.Common.{◌∙◌, ap, sym, refl}
 use Rattle.std.specs.Option.{option_copied}
-use Rattle.nest_core.specs.Machine.{State, innermost}
+use Rattle.nest_core.specs.State.{State, innermost}
 use Rattle.nest_core.proofs.Nests.{none_last}
 use Rattle.state_core.proofs.kept.Kept.append_item.Goals as goal
 

@@ -2,7 +2,10 @@ use Rattle.std.proofs.Common.{ap, sym}
 use Rattle.command_core.specs.declared.command.Command.TheVariants.{Text}
 use Rattle.command_core.specs.declared.command.Refusal.TheVariants.{JobOver}
 use Rattle.nest_core.specs.FontSlots.{text_shaped}
-use Rattle.nest_core.specs.Machine.{character_checks, length_checks, reply_by, state_by, answer_of, after}
+use Rattle.nest_core.specs.Checks.{character_checks, length_checks}
+use Rattle.nest_core.specs.Answers.{answer_of}
+use Rattle.nest_core.specs.Effects.{after}
+use Rattle.nest_core.specs.Machine.{reply_by, state_by}
 use Rattle.nest_core.proofs.Nests.{first_refused}
 use Rattle.state_core.proofs.kept.Kept.append_text.Goals as goal
 

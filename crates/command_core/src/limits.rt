@@ -1,0 +1,19 @@
+//! The limits of a job.
+
+/// How many box registers there are.
+pub const REGISTERS: usize = 256;
+
+/// How many lists may be open at once.
+pub const MOST_OPEN: usize = 64;
+
+/// How many items an open list may have.
+pub const MOST_ITEMS: usize = 65_536;
+
+/// How deep boxes may nest in a box, that box counted.
+pub const MOST_DEEP: u64 = 200;
+
+/// How many pages a job may ship.
+pub const MOST_PAGES: u32 = 1;
+
+/// How many nodes a job may ship, on all its pages together.
+pub const MOST_SHIPPED: u64 = 16_777_216;

@@ -1,0 +1,58 @@
+-- What a command that is accepted answers: a row a command (own).
+use Rattle.std.specs.Prelude.{◌+◌, ℕ, pos, length, Option, Some, None}
+use Rattle.node_core.specs.declared.tree.BoxNode.{BoxNode}
+use Rattle.node_core.specs.declared.params.Params.{Params}
+use Rattle.nest_core.specs.declared.nest.OpenList.{OpenList}
+use Rattle.command_core.specs.declared.command.Sizes.{Sizes}
+use Rattle.command_core.specs.declared.command.Command.{Command}
+use Rattle.command_core.specs.declared.command.Command.TheVariants.{LoadFont, UseFont, Open, End, Text, Character, Rule, Kern, Glue, Penalty, Append, Unbox, LastBox, Measure, Void, Set, Ship}
+use Rattle.command_core.specs.declared.command.Answer.{Answer}
+use Rattle.command_core.specs.declared.command.Answer.TheVariants.{Done, Packed, Measured, MeasuredVoid, Shaped, Added, Shipped}
+use Rattle.pack_core.specs.declared.pack.Packed as packs
+use Rattle.nest_core.specs.FontSlots.{CharacterItems, text_shaped, character_shaped}
+use Rattle.nest_core.specs.State.{State, innermost, held_in, nodes_in}
+use Rattle.nest_core.specs.OpenLists.{box_items, packed_list}
+
+-- The sizes of a box, as answers have them.
+abbrev pub sizes_of : BoxNode → Sizes
+sizes_of b = record { width = b.width; height = b.height; depth = b.depth }
+
+-- The answer to the end of a list. Where there is no box, it is refused and this answer is not given.
+abbrev pub packed_answer : Option packs.Packed → Answer
+packed_answer None = Done
+packed_answer (Some packed) = Packed (sizes_of packed.box_node) packed.badness
+
+-- What a register is measured as.
+abbrev pub measured_answer : Option BoxNode → Answer
+measured_answer None = MeasuredVoid
+measured_answer (Some b) = Measured b.kind (sizes_of b)
+
+-- The answer to characters that come to these items.
+abbrev pub shaped_answer : CharacterItems → Answer
+shaped_answer shaped = Shaped (length shaped.items) shaped.missing
+
+-- How many items the box of a register brings to the innermost list.
+abbrev pub box_count_in : Params → Option OpenList → Option BoxNode → ℕ
+box_count_in params None held = 0
+box_count_in params (Some open_list) None = 0
+box_count_in params (Some open_list) (Some b) = length (box_items params open_list (pos 0) b)
+
+-- The answer to a command that is accepted.
+abbrev pub answer_of : State → Command → Answer
+answer_of m (LoadFont load) = Done
+answer_of m (UseFont slot) = Done
+answer_of m (Text text) = shaped_answer (text_shaped m.fonts m.current text)
+answer_of m (Character code) = shaped_answer (character_shaped m.fonts m.current code)
+answer_of m (Open opening) = Done
+answer_of m End = packed_answer (packed_list m.params (innermost m.nest))
+answer_of m (Rule rule) = Done
+answer_of m (Kern width) = Done
+answer_of m (Glue glue) = Done
+answer_of m (Penalty n) = Done
+answer_of m (Append taken) = Added (box_count_in m.params (innermost m.nest) (held_in m.registers taken.register))
+answer_of m (Unbox taken) = Added (length (nodes_in (held_in m.registers taken.register)))
+answer_of m (LastBox r) = Done
+answer_of m (Measure r) = measured_answer (held_in m.registers r)
+answer_of m (Void r) = Done
+answer_of m (Set parameter) = Done
+answer_of m (Ship r) = Shipped (m.pages + 1)

@@ -1,0 +1,162 @@
+-- When a command is refused, and with which refusal: a row a command (own; after TeX: The Program, parts 16, 32, 33 and 47).
+use Rattle.std.specs.Prelude.{◌+◌, ◌==◌, ◌++◌, ◌∷◌, ◌&&◌, ◌||◌, [], ℕ, pos, Bool, true, false, not, nat_le, nat_lt, if◌then◌else◌, List, length, Option, Some, None, is_none, is_some, Result, Ok, Err, is_ok}
+use Rattle.node_core.specs.declared.tree.Node.{Node}
+use Rattle.node_core.specs.declared.tree.Kind.{Kind}
+use Rattle.node_core.specs.declared.tree.Kind.TheVariants.{Horizontal, Vertical}
+use Rattle.node_core.specs.declared.tree.Rule as rules
+use Rattle.node_core.specs.declared.tree.RuleSize.{RuleSize}
+use Rattle.node_core.specs.declared.tree.RuleSize.TheVariants.{Running, Fixed}
+use Rattle.node_core.specs.declared.tree.BoxNode.{BoxNode}
+use Rattle.node_core.specs.declared.params.Params.{Params}
+use Rattle.node_core.specs.Nodes.{nodes_of, box_depth}
+use Rattle.nest_core.specs.declared.nest.OpenList.{OpenList}
+use Rattle.ship_core.specs.Pages.{page_of}
+use Rattle.command_core.specs.declared.command.Command.{Command}
+use Rattle.command_core.specs.declared.command.Command.TheVariants.{LoadFont, UseFont, Open, End, Text, Character, Rule, Kern, Glue, Penalty, Append, Unbox, LastBox, Measure, Void, Set, Ship}
+use Rattle.command_core.specs.declared.command.Refusal.{Refusal}
+use Rattle.command_core.specs.declared.command.Refusal.TheVariants.{DimensionTooLarge, NoFont, SlotTaken, NoOpenList, WrongMode, WrongKind, ListTooLong, TooDeep, HugePage, TooManyPages, TooMuchShipped, JobOver, VoidBox}
+use Rattle.command_core.specs.declared.limits.TheConstants.{MOST_OPEN, MOST_ITEMS, MOST_DEEP, MOST_PAGES, MOST_SHIPPED}
+use Rattle.pack_core.specs.declared.pack.Packed as packs
+use Rattle.ship_core.specs.Marks.{is_huge}
+use Rattle.tfm_core.specs.Fonts.{SizedFont}
+use Rattle.dvi_write.specs.Fonts.{font_in}
+use Rattle.nest_core.specs.FontSlots.{current_font, CharacterItems, text_shaped, character_shaped}
+use Rattle.nest_core.specs.State.{State, innermost, outer, items_in, open_count, held_in, count_in, font_for}
+use Rattle.nest_core.specs.OpenLists.{kind_in, is_vertical, register_of, glue_in, box_items, packed_list}
+
+-- The first refusal whose condition holds.
+abbrev pub first_of : List (Bool × Refusal) → Option Refusal
+first_of [] = None
+first_of ((holds, refusal) ∷ rest) = if holds then Some refusal else first_of rest
+
+-- The refusal of items that are too many for the innermost list.
+abbrev pub length_checks : State → List Node → List (Bool × Refusal)
+length_checks m items = (nat_lt MOST_ITEMS (open_count m + length items), ListTooLong) ∷ []
+
+-- The refusals of one more item.
+abbrev pub item_checks : State → List (Bool × Refusal)
+item_checks m = (length m.nest == 0, NoOpenList) ∷ (nat_le MOST_ITEMS (open_count m), ListTooLong) ∷ []
+
+-- The refusals of characters, whatever they come to: they belong in a horizontal list.
+abbrev pub character_checks : State → List (Bool × Refusal)
+character_checks m =
+    (length m.nest == 0, NoOpenList) ∷ (is_vertical (kind_in (innermost m.nest)), WrongMode) ∷ (is_none (current_font m.fonts m.current), NoFont) ∷ []
+
+-- The refusals of characters that come to these items: those of any characters, and that the items are too many.
+abbrev pub shape_checks : State → CharacterItems → List (Bool × Refusal)
+shape_checks m shaped = character_checks m ++ length_checks m shaped.items
+
+-- The refusal in the place of a font, if there is one.
+abbrev pub refusal_in : Result SizedFont Refusal → List (Bool × Refusal)
+refusal_in (Ok font) = []
+refusal_in (Err refusal) = (true, refusal) ∷ []
+
+-- The refusals of a list that is opened: a box without a register goes into the enclosing list.
+abbrev pub open_checks : List OpenList → Option ℕ → List (Bool × Refusal)
+open_checks nest into = (is_none into && (length nest == 0), NoOpenList) ∷ (nat_le MOST_OPEN (length nest), TooDeep) ∷ []
+
+-- The refusals of a box at the end of an open list: the glue in front of it does not fit, or the list would be too long.
+abbrev pub box_checks : Params → Option OpenList → BoxNode → List (Bool × Refusal)
+box_checks params None b = (true, NoOpenList) ∷ []
+box_checks params (Some open_list) b =
+    (not (is_ok (glue_in params open_list b.height)), DimensionTooLarge)
+    ∷ (nat_lt MOST_ITEMS (length (nodes_of open_list.list) + length (box_items params open_list (pos 0) b)), ListTooLong) ∷ []
+
+-- The refusals of the place where the box of a closed list goes: a register takes any box.
+abbrev pub home_checks : Params → (around : List OpenList) → (into : Option ℕ) → BoxNode → List (Bool × Refusal)
+home_checks params around None b = box_checks params (innermost around) b
+home_checks params around (Some r) b = []
+
+-- The refusals of the box of a closed list: that it is too deep, and then those of the place where it goes.
+abbrev pub place_checks : Params → (around : List OpenList) → (into : Option ℕ) → BoxNode → List (Bool × Refusal)
+place_checks params around into b = (nat_lt MOST_DEEP (box_depth b), TooDeep) ∷ home_checks params around into b
+
+-- The refusals of what an open list was packed to: that a size does not fit where there is no box, else those of the box.
+abbrev pub packed_checks : Params → (around : List OpenList) → (into : Option ℕ) → Option packs.Packed → List (Bool × Refusal)
+packed_checks params around into None = (true, DimensionTooLarge) ∷ []
+packed_checks params around into (Some packed) = place_checks params around into packed.box_node
+
+-- The refusals of the end of an open list that has these lists around.
+abbrev pub close_checks : Params → (around : List OpenList) → Option OpenList → List (Bool × Refusal)
+close_checks params around None = (true, NoOpenList) ∷ []
+close_checks params around (Some open_list) = packed_checks params around (register_of open_list.purpose) (packed_list params (Some open_list))
+
+-- The refusals of the end of the innermost list.
+abbrev pub end_checks : Params → List OpenList → List (Bool × Refusal)
+end_checks params nest = close_checks params (outer nest) (innermost nest)
+
+-- The refusals of the box of a register at the end of the innermost list; a void register adds nothing.
+abbrev pub held_checks : Params → Option OpenList → Option BoxNode → List (Bool × Refusal)
+held_checks params open_list None = []
+held_checks params open_list (Some b) = box_checks params open_list b
+
+-- The refusals of `box` and of `copy`: that no list is open, and then those of the box of the register.
+abbrev pub append_checks : State → (register : ℕ) → List (Bool × Refusal)
+append_checks m r = (length m.nest == 0, NoOpenList) ∷ held_checks m.params (innermost m.nest) (held_in m.registers r)
+
+-- Whether two kinds are not the same.
+abbrev pub is_other : Kind → Kind → Bool
+is_other Horizontal Horizontal = false
+is_other Vertical Vertical = false
+is_other Horizontal Vertical = true
+is_other Vertical Horizontal = true
+
+-- The refusals of the items of a box at the end of a list of that kind that has so many.
+abbrev pub items_checks : Kind → (count : ℕ) → Option BoxNode → List (Bool × Refusal)
+items_checks kind count None = []
+items_checks kind count (Some b) =
+    (is_other kind b.kind, WrongKind) ∷ (nat_lt MOST_ITEMS (count + length (nodes_of b.list)), ListTooLong) ∷ []
+
+-- The refusals of the items of the box of a register at the end of an open list: that the list is not of the kind of the command, and then
+-- those of the items.
+abbrev pub inner_checks : Kind → Option OpenList → Option BoxNode → List (Bool × Refusal)
+inner_checks kind open_list held =
+    (is_other kind (kind_in open_list), WrongMode) ∷ items_checks kind (length (nodes_of (items_in open_list))) held
+
+-- The refusals of the four commands that unbox: that no list is open, and then those of the items of the register's box.
+abbrev pub unbox_checks : State → Kind → (register : ℕ) → List (Bool × Refusal)
+unbox_checks m kind r = (length m.nest == 0, NoOpenList) ∷ inner_checks kind (innermost m.nest) (held_in m.registers r)
+
+-- Whether a size of a rule is running.
+abbrev pub is_running : RuleSize → Bool
+is_running Running = true
+is_running (Fixed size) = false
+
+-- Whether a rule does not belong in a list of that kind: in a horizontal one its width is its own, in a vertical one its height and its depth.
+abbrev pub is_misplaced : Kind → rules.Rule → Bool
+is_misplaced Horizontal rule = is_running rule.width
+is_misplaced Vertical rule = is_running rule.height || is_running rule.depth
+
+-- Whether the page of the box of a register is huge, if there is one.
+abbrev pub is_huge_in : Option BoxNode → Bool
+is_huge_in None = false
+is_huge_in (Some b) = is_huge (page_of b)
+
+-- The refusals of each command in their order, each with the condition under which it is given.
+abbrev pub own_checks : State → Command → List (Bool × Refusal)
+own_checks m (LoadFont load) = (is_some (font_in m.fonts load.slot), SlotTaken) ∷ refusal_in (font_for m load)
+own_checks m (UseFont slot) = (is_none (font_in m.fonts slot), NoFont) ∷ []
+own_checks m (Text text) = shape_checks m (text_shaped m.fonts m.current text)
+own_checks m (Character code) = shape_checks m (character_shaped m.fonts m.current code)
+own_checks m (Open opening) = open_checks m.nest opening.into
+own_checks m End = end_checks m.params m.nest
+own_checks m (Rule rule) =
+    (length m.nest == 0, NoOpenList) ∷ (is_misplaced (kind_in (innermost m.nest)) rule, WrongMode)
+    ∷ (nat_le MOST_ITEMS (open_count m), ListTooLong) ∷ []
+own_checks m (Kern width) = item_checks m
+own_checks m (Glue glue) = item_checks m
+own_checks m (Penalty n) = item_checks m
+own_checks m (Append taken) = append_checks m taken.register
+own_checks m (Unbox taken) = unbox_checks m taken.kind taken.register
+own_checks m (LastBox r) = (length m.nest == 0, NoOpenList) ∷ []
+own_checks m (Measure r) = []
+own_checks m (Void r) = []
+own_checks m (Set parameter) = []
+own_checks m (Ship r) =
+    (is_none (held_in m.registers r), VoidBox) ∷ (nat_le MOST_PAGES m.pages, TooManyPages)
+    ∷ (nat_lt MOST_SHIPPED (m.shipped + count_in (held_in m.registers r)), TooMuchShipped)
+    ∷ (is_huge_in (held_in m.registers r), HugePage) ∷ []
+
+-- A job that is over refuses each command for that.
+abbrev pub checks : State → Command → List (Bool × Refusal)
+checks m command = (m.over, JobOver) ∷ own_checks m command

@@ -1,0 +1,130 @@
+-- What a command that is accepted changes, and the pages that it adds: a row a command (own; after TeX: The Program, parts 16, 32, 33 and 47).
+use Rattle.std.specs.Prelude.{◌+◌, ◌++◌, ◌∷◌, [], ℕ, ℤ, pos, List, slice_set, Option, Some, None}
+use Rattle.node_core.specs.declared.tree.Node.{Node}
+use Rattle.node_core.specs.declared.tree.Node.TheVariants as nodes
+use Rattle.node_core.specs.declared.tree.Rule as rules
+use Rattle.node_core.specs.declared.tree.BoxNode.{BoxNode}
+use Rattle.node_core.specs.declared.params.Params.{Params}
+use Rattle.node_core.specs.Nodes.{items_of, nodes_of, last_box, without}
+use Rattle.vert_core.specs.Interline.{ignored_depth}
+use Rattle.nest_core.specs.declared.nest.OpenList.{OpenList}
+use Rattle.ship_core.specs.Pages.{page_of}
+use Rattle.command_core.specs.declared.command.Parameter.{Parameter}
+use Rattle.command_core.specs.declared.command.Parameter.TheVariants.{BoxMaxDepth, BaselineSkip, LineSkip, LineSkipLimit}
+use Rattle.command_core.specs.declared.command.Taking.{Taking}
+use Rattle.command_core.specs.declared.command.Taking.TheVariants.{Moved, Copied}
+use Rattle.command_core.specs.declared.command.Command.{Command}
+use Rattle.command_core.specs.declared.command.Command.TheVariants.{LoadFont, UseFont, Open, End, Text, Character, Rule, Kern, Glue, Penalty, Append, Unbox, LastBox, Measure, Void, Set, Ship}
+use Rattle.pack_core.specs.declared.pack.Packed as packs
+use Rattle.ship_core.specs.Marks.{Page}
+use Rattle.nest_core.specs.FontSlots.{with_font, text_shaped, character_shaped}
+use Rattle.nest_core.specs.State.{State, innermost, outer, with_innermost, items_in, held_in, count_in, font_for}
+use Rattle.nest_core.specs.OpenLists.{opened_list, register_of, box_items, packed_list}
+
+-- The nest with more nodes at the end of its innermost list.
+abbrev pub with_nodes : List OpenList → List Node → Option OpenList → List OpenList
+with_nodes nest nodes None = nest
+with_nodes nest nodes (Some open_list) =
+    with_innermost nest (record open_list { list = items_of (nodes_of open_list.list ++ nodes) })
+
+-- The state with items behind the innermost list.
+abbrev pub with_items : State → List Node → State
+with_items m items = record m { nest = with_nodes m.nest items (innermost m.nest) }
+
+-- The nest with a rule at the end of its innermost list, whose previous depth is then ignored (TeX: The Program, part 47, §1056).
+abbrev pub with_rule : List OpenList → rules.Rule → Option OpenList → List OpenList
+with_rule nest rule None = nest
+with_rule nest rule (Some open_list) =
+    with_innermost nest
+    (record open_list { list = items_of (nodes_of open_list.list ++ nodes.Rule rule ∷ []); previous_depth = ignored_depth })
+
+-- The list with a box at its end: the previous depth is then that of the box (TeX: The Program, part 33, §679).
+abbrev pub list_with_box : Params → (shift : ℤ) → BoxNode → OpenList → OpenList
+list_with_box params shift b open_list =
+    record open_list { list = items_of (nodes_of open_list.list ++ box_items params open_list shift b); previous_depth = b.depth }
+
+-- The nest with a box at the end of its innermost list.
+abbrev pub with_box : Params → List OpenList → (shift : ℤ) → BoxNode → Option OpenList → List OpenList
+with_box params nest shift b None = nest
+with_box params nest shift b (Some open_list) = with_innermost nest (list_with_box params shift b open_list)
+
+-- The nest without a box at the end of its innermost list (TeX: The Program, part 47, §1080 and §1081).
+abbrev pub without_last : List OpenList → Option OpenList → List OpenList
+without_last nest None = nest
+without_last nest (Some open_list) =
+    with_innermost nest
+    (record open_list { list = items_of (without (last_box (nodes_of open_list.list)) (nodes_of open_list.list)) })
+
+-- The registers when the box of one was taken from it.
+abbrev pub with_taken : Taking → List (Option BoxNode) → ℕ → List (Option BoxNode)
+with_taken Moved registers r = slice_set registers r None
+with_taken Copied registers r = registers
+
+-- The parameters with one of them changed.
+abbrev pub with_parameter : Params → Parameter → Params
+with_parameter params (BoxMaxDepth depth) = record params { box_max_depth = depth }
+with_parameter params (BaselineSkip glue) = record params { baseline_skip = glue }
+with_parameter params (LineSkip glue) = record params { line_skip = glue }
+with_parameter params (LineSkipLimit limit) = record params { line_skip_limit = limit }
+
+-- The state when the box of a closed list went into its register, or behind the innermost of the lists around.
+abbrev pub with_home : State → (around : List OpenList) → (into : Option ℕ) → BoxNode → State
+with_home m around None b = record m { nest = with_box m.params around (pos 0) b (innermost around) }
+with_home m around (Some r) b = record m { nest = around; registers = slice_set m.registers r (Some b) }
+
+-- The state when the innermost list was packed into a box, which goes where the list says.
+abbrev pub with_closed : State → Option OpenList → Option packs.Packed → State
+with_closed m None packed = m
+with_closed m (Some open_list) None = m
+with_closed m (Some open_list) (Some packed) = with_home m (outer m.nest) (register_of open_list.purpose) packed.box_node
+
+-- The state with the box of a register at the end of the innermost list.
+abbrev pub with_used : State → Taking → (register : ℕ) → (shift : ℤ) → Option BoxNode → State
+with_used m taking r shift None = m
+with_used m taking r shift (Some b) =
+    record m { nest = with_box m.params m.nest shift b (innermost m.nest); registers = with_taken taking m.registers r }
+
+-- The state with the items of the box of a register at the end of the innermost list (TeX: The Program, part 47, §1110).
+abbrev pub with_unboxed : State → Taking → (register : ℕ) → Option BoxNode → State
+with_unboxed m taking r None = m
+with_unboxed m taking r (Some b) =
+    record m { nest = with_nodes m.nest (nodes_of b.list) (innermost m.nest); registers = with_taken taking m.registers r }
+
+-- The state after a command that is accepted.
+abbrev pub after : State → Command → State
+after m (LoadFont load) = record m { fonts = with_font m.fonts load.slot load.name (font_for m load) }
+after m (UseFont slot) = record m { current = Some slot }
+after m (Text text) = with_items m (text_shaped m.fonts m.current text).items
+after m (Character code) = with_items m (character_shaped m.fonts m.current code).items
+after m (Open opening) = record m { nest = m.nest ++ opened_list opening ∷ [] }
+after m End = with_closed m (innermost m.nest) (packed_list m.params (innermost m.nest))
+after m (Rule rule) = record m { nest = with_rule m.nest rule (innermost m.nest) }
+after m (Kern width) = with_items m (nodes.Kern width ∷ [])
+after m (Glue glue) = with_items m (nodes.Glue glue ∷ [])
+after m (Penalty n) = with_items m (nodes.Penalty n ∷ [])
+after m (Append taken) = with_used m taken.taking taken.register taken.shift (held_in m.registers taken.register)
+after m (Unbox taken) = with_unboxed m taken.taking taken.register (held_in m.registers taken.register)
+after m (LastBox r) =
+    record m {
+      nest = without_last m.nest (innermost m.nest);
+      registers = slice_set m.registers r (last_box (nodes_of (items_in (innermost m.nest))));
+    }
+after m (Measure r) = m
+after m (Void r) = record m { registers = slice_set m.registers r None }
+after m (Set parameter) = record m { params = with_parameter m.params parameter }
+after m (Ship r) =
+    record m {
+      registers = slice_set m.registers r None;
+      shipped = m.shipped + count_in (held_in m.registers r);
+      pages = m.pages + 1;
+    }
+
+-- The page of the box of a register, if there is one (TeX: The Program, part 32).
+abbrev pub pages_of : Option BoxNode → List Page
+pages_of None = []
+pages_of (Some b) = page_of b ∷ []
+
+-- The pages that an accepted command adds.
+abbrev pub new_pages : State → Command → List Page
+new_pages m (Ship r) = pages_of (held_in m.registers r)
+new_pages m command = []

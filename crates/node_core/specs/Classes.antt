@@ -1,0 +1,52 @@
+-- What an item is to the breaking and the packing of lists (TeX: The Program, part 10, §148: precedes_break and non_discardable; kerns of a
+-- font: part 39, §866 and §879).
+use Rattle.std.specs.Prelude.{Bool, true, false}
+use Rattle.node_core.specs.declared.tree.Kind.{Kind}
+use Rattle.node_core.specs.declared.tree.Kind.TheVariants.{Horizontal, Vertical}
+use Rattle.node_core.specs.declared.tree.Node.{Node}
+use Rattle.node_core.specs.declared.tree.Node.TheVariants as nodes
+use Rattle.node_core.specs.declared.class.ItemClass.{ItemClass}
+use Rattle.node_core.specs.declared.class.ItemClass.TheVariants.{BoxOrRule, GlyphOrFontKern, Glue, Kern, Penalty}
+
+-- The class of an item.
+abbrev pub class_of : Node → ItemClass
+class_of (nodes.Glyph glyph) = GlyphOrFontKern
+class_of (nodes.FontKern width) = GlyphOrFontKern
+class_of (nodes.Kern width) = Kern
+class_of (nodes.Glue glue) = Glue
+class_of (nodes.Penalty penalty) = Penalty
+class_of (nodes.Rule rule) = BoxOrRule
+class_of (nodes.Box shift b) = BoxOrRule
+
+-- Items that are dropped at the start of a line and at the top of a page: glue, explicit kerns and penalties.
+abbrev pub is_discardable : ItemClass → Bool
+is_discardable BoxOrRule = false
+is_discardable GlyphOrFontKern = false
+is_discardable Glue = true
+is_discardable Kern = true
+is_discardable Penalty = true
+
+-- Items behind which glue is a legal break: a box or a rule; in a horizontal list a character or a kern of a font too.
+abbrev pub precedes_break : Kind → ItemClass → Bool
+precedes_break kind BoxOrRule = true
+precedes_break Horizontal GlyphOrFontKern = true
+precedes_break Vertical GlyphOrFontKern = false
+precedes_break kind Glue = false
+precedes_break kind Kern = false
+precedes_break kind Penalty = false
+
+-- Whether an item is a box or a rule.
+abbrev pub is_box_or_rule : ItemClass → Bool
+is_box_or_rule BoxOrRule = true
+is_box_or_rule GlyphOrFontKern = false
+is_box_or_rule Glue = false
+is_box_or_rule Kern = false
+is_box_or_rule Penalty = false
+
+-- Whether an item is a penalty.
+abbrev pub is_penalty : ItemClass → Bool
+is_penalty BoxOrRule = false
+is_penalty GlyphOrFontKern = false
+is_penalty Glue = false
+is_penalty Kern = false
+is_penalty Penalty = true

@@ -1,0 +1,79 @@
+//! What an item is to the breaking and the packing of lists.
+
+ghost use Rattle.std.specs.Prelude.{◌≡◌};
+ghost use Rattle.node_core.specs.Classes.{class_of, is_discardable, precedes_break, is_box_or_rule, is_penalty};
+
+use crate::tree::{Kind, Node};
+
+/// What an item is to the breaking and the packing of lists (TeX: The Program, part 10).
+#[derive(Clone, Copy, Debug, PartialEq, Eq)]
+pub enum ItemClass {
+    /// A box or a rule.
+    BoxOrRule,
+    /// A character of a font, or a kern between two of them.
+    GlyphOrFontKern,
+    /// Glue.
+    Glue,
+    /// An explicit kern.
+    Kern,
+    /// A penalty.
+    Penalty,
+}
+
+impl ItemClass {
+    /// Whether items of the class are dropped at the start of a line and at the top of a page.
+    pub fn is_discardable(self) -> bool
+        ensures { result ≡ is_discardable self }
+    {
+        match self {
+            ItemClass::BoxOrRule | ItemClass::GlyphOrFontKern => false,
+            ItemClass::Glue | ItemClass::Kern | ItemClass::Penalty => true,
+        }
+    }
+
+    /// Whether glue behind an item of the class is a legal break, in a list of that kind.
+    pub fn precedes_break(self, kind: Kind) -> bool
+        ensures { result ≡ precedes_break kind self }
+    {
+        match self {
+            ItemClass::BoxOrRule => true,
+            ItemClass::GlyphOrFontKern => kind == Kind::Horizontal,
+            ItemClass::Glue | ItemClass::Kern | ItemClass::Penalty => false,
+        }
+    }
+
+    /// Whether items of the class are boxes or rules.
+    pub fn is_box_or_rule(self) -> bool
+        ensures { result ≡ is_box_or_rule self }
+    {
+        match self {
+            ItemClass::BoxOrRule => true,
+            _ => false,
+        }
+    }
+
+    /// Whether items of the class are penalties.
+    pub fn is_penalty(self) -> bool
+        ensures { result ≡ is_penalty self }
+    {
+        match self {
+            ItemClass::Penalty => true,
+            _ => false,
+        }
+    }
+}
+
+impl Node {
+    /// The class of an item.
+    pub fn class(&self) -> ItemClass
+        ensures { result ≡ class_of self.now }
+    {
+        match self {
+            Node::Glyph(_) | Node::FontKern(_) => ItemClass::GlyphOrFontKern,
+            Node::Kern(_) => ItemClass::Kern,
+            Node::Glue(_) => ItemClass::Glue,
+            Node::Penalty(_) => ItemClass::Penalty,
+            Node::Rule(_) | Node::Box(..) => ItemClass::BoxOrRule,
+        }
+    }
+}

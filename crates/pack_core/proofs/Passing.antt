@@ -1,0 +1,76 @@
+-- The totals of a list, item by item.
+use Rattle.std.proofs.Common.{◌≡◌, ◌∙◌, ℕ, ◌+◌, ◌<◌, ◌≤◌, List, [], ◌∷◌, ◌++◌, length, take, get_or, length-append, refl, ap, arith, sym}
+use Rattle.std.specs.Prelude.{ℤ, ◌+ℤ◌}
+use Rattle.std.proofs.lemmas.Int.{ints}
+use Rattle.std.proofs.lemmas.List.{take_more}
+use Rattle.node_core.specs.declared.tree.Kind.{Kind}
+use Rattle.node_core.specs.declared.tree.Node.{Node}
+use Rattle.node_core.specs.declared.tree.Order.{Order}
+use Rattle.node_core.specs.declared.tree.Order.TheVariants.{Normal, Fil, Fill, Filll}
+use Rattle.pack_core.specs.Items.{advance, stretch_in, shrink_in}
+use Rattle.pack_core.specs.Totals.{total, pending_depth}
+use Rattle.pack_core.specs.Glue.{stretch_totals, shrink_totals}
+use Rattle.pack_core.specs.Orders.{order_amounts, plus, AreWithin}
+use Rattle.pack_core.specs.declared.orders.OrderAmounts.{OrderAmounts}
+use Rattle.pack_core.specs.ListTotals.{totals_of, with_item}
+use Rattle.pack_core.proofs.Sums.{total-append, pending-append}
+
+total-one : (size : Node → ℤ) (xs : List Node) (x : Node) → total size xs +ℤ size x ≡ total size (xs ++ x ∷ [])
+total-one size xs x = omega (arith, ints, total-append size xs (x ∷ []))
+
+plus-one :
+    (amount : Order → Node → ℤ) (xs : List Node) (x : Node)
+    → plus (order_amounts (λ order. total (amount order) xs)) (λ order. amount order x) ≡ order_amounts (λ order. total (amount order) (xs ++ x ∷ []))
+plus-one amount xs x = rw (total-one (amount Normal) xs x, total-one (amount Fil) xs x, total-one (amount Fill) xs x, total-one (amount Filll) xs x) refl
+
+-- One more item behind those that were passed.
+pub with_item-totals :
+    (kind : Kind) (before : List Node) (node : Node) → with_item (totals_of kind before) node ≡ totals_of kind (before ++ node ∷ [])
+unfolding totals_of
+with_item-totals kind before node =
+    let n : length before + 1 ≡ length (before ++ node ∷ []) = omega (arith, length-append before (node ∷ [])) in
+    rw (total-one (advance kind) before node, plus-one stretch_in before node, plus-one shrink_in before node, pending-append before node, n) refl
+
+pub totals-more :
+    (kind : Kind) (nodes : List Node) (i : ℕ) (node : Node) → i < length nodes → node ≡ get_or nodes i node
+    → with_item (totals_of kind (take i nodes)) node ≡ totals_of kind (take (i + 1) nodes)
+totals-more kind nodes i node within is =
+    with_item-totals kind (take i nodes) node
+    ∙ ap (λ (x : Node). totals_of kind (take i nodes ++ x ∷ [])) is
+    ∙ sym (ap (totals_of kind) (take_more nodes i node within))
+
+-- Amounts within a bound are within a greater one.
+pub within-more : (m n : ℕ) (amounts : OrderAmounts) → m ≤ n → AreWithin m amounts → AreWithin n amounts
+within-more m n amounts less small = record {
+  normal = record { low = omega (arith, ints, small.normal.low); high = omega (arith, ints, small.normal.high) };
+  fil = record { low = omega (arith, ints, small.fil.low); high = omega (arith, ints, small.fil.high) };
+  fill = record { low = omega (arith, ints, small.fill.low); high = omega (arith, ints, small.fill.high) };
+  filll = record { low = omega (arith, ints, small.filll.low); high = omega (arith, ints, small.filll.high) };
+}
+
+-- Each total of a list.
+pub totals-kind : (kind : Kind) (nodes : List Node) → (totals_of kind nodes).kind ≡ kind
+unfolding totals_of
+totals-kind kind nodes = refl
+
+pub totals-advance : (kind : Kind) (nodes : List Node) → (totals_of kind nodes).advance ≡ total (advance kind) nodes
+unfolding totals_of
+totals-advance kind nodes = refl
+
+pub totals-stretch : (kind : Kind) (nodes : List Node) → (totals_of kind nodes).stretch ≡ order_amounts (stretch_totals nodes)
+unfolding totals_of
+totals-stretch kind nodes = refl
+
+pub totals-shrink : (kind : Kind) (nodes : List Node) → (totals_of kind nodes).shrink ≡ order_amounts (shrink_totals nodes)
+unfolding totals_of
+totals-shrink kind nodes = refl
+
+pub totals-pending : (kind : Kind) (nodes : List Node) → (totals_of kind nodes).pending_depth ≡ pending_depth nodes
+unfolding totals_of
+totals-pending kind nodes = refl
+
+pub totals-passed : (kind : Kind) (nodes : List Node) → (totals_of kind nodes).passed ≡ length nodes
+unfolding totals_of
+totals-passed kind nodes = refl
+
+pub ruleset passing = (with_item-totals, totals-kind, totals-advance, totals-stretch, totals-shrink, totals-pending, totals-passed)

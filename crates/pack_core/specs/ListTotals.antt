@@ -1,0 +1,55 @@
+-- The exact totals of a list, gathered item by item (TeX: The Program, part 33, §649 to §656 and §669 to §671; own: of any size).
+use Rattle.std.specs.Prelude.{◌+ℤ◌, ◌+◌, ◌*◌, ◌^◌, ◌<◌, ℕ, ℤ, if◌then◌else◌, List, length}
+use Rattle.node_core.specs.declared.tree.Kind.{Kind}
+use Rattle.node_core.specs.declared.tree.Node.{Node}
+use Rattle.scaled_core.specs.Dimensions.{Within}
+use Rattle.pack_core.specs.Items.{advance, stretch_in, shrink_in, is_penalty, last_below}
+use Rattle.pack_core.specs.Totals.{total, pending_depth}
+use Rattle.pack_core.specs.Glue.{stretch_totals, shrink_totals}
+use Rattle.pack_core.specs.Orders.{order_amounts, plus, AreWithin}
+use Rattle.pack_core.specs.declared.orders.OrderAmounts.{OrderAmounts}
+
+-- The totals of a list of a kind: how far its items move, how much its glue can stretch and shrink in each order, the depth that is pending
+-- at its end, and how many items it has.
+pub record ListTotals : Type 0 where
+  pub kind : Kind
+  pub advance : ℤ
+  pub stretch : OrderAmounts
+  pub shrink : OrderAmounts
+  pub pending_depth : ℤ
+  pub passed : ℕ
+
+-- The totals of these items.
+unfoldable pub totals_of : Kind → List Node → ListTotals
+totals_of kind nodes =
+    record {
+      kind = kind;
+      advance = total (advance kind) nodes;
+      stretch = order_amounts (stretch_totals nodes);
+      shrink = order_amounts (shrink_totals nodes);
+      pending_depth = pending_depth nodes;
+      passed = length nodes;
+    }
+
+-- The depth that is pending behind one more item: a penalty leaves it, every other item has one of its own.
+abbrev pub pending_behind : ℤ → Node → ℤ
+pending_behind before node = if is_penalty node then before else last_below node
+
+-- The totals with one more item: each is more by what the item has.
+abbrev pub with_item : ListTotals → Node → ListTotals
+with_item totals node =
+    record {
+      kind = totals.kind;
+      advance = totals.advance +ℤ advance totals.kind node;
+      stretch = plus totals.stretch (λ order. stretch_in order node);
+      shrink = plus totals.shrink (λ order. shrink_in order node);
+      pending_depth = pending_behind totals.pending_depth node;
+      passed = totals.passed + 1;
+    }
+
+-- Sums of so many items are small.
+pub record AreSmall (passed : ℕ) (advance : ℤ) (stretch shrink : OrderAmounts) : Type 0 where
+  pub moves : Within (2 ^ 31 * passed) advance
+  pub stretches : AreWithin (2 ^ 31 * passed) stretch
+  pub shrinks : AreWithin (2 ^ 31 * passed) shrink
+  pub few : passed < 2 ^ 64

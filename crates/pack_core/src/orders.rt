@@ -1,0 +1,112 @@
+//! Amounts of the four orders of glue.
+
+ghost use Rattle.std.specs.Prelude.{◌≡◌, ◌+◌, ◌+ℤ◌, ◌^◌, ℕ, pos, if◌then◌else◌};
+ghost use Rattle.scaled_core.specs.Dimensions.{Fits, Within};
+ghost use Rattle.pack_core.specs.Items.{is_order, stretch_in, shrink_in};
+ghost use Rattle.pack_core.specs.Orders.{by_order, order_dimens, order_amounts, plus, AreWithin};
+
+use node_core::{Node, Order};
+use scaled_core::Dimen;
+
+/// An amount of each order, in scaled points: an exact sum, which may be no dimension.
+#[derive(Clone, Copy, Debug, PartialEq, Eq)]
+pub struct OrderAmounts {
+    pub normal: i128,
+    pub fil: i128,
+    pub fill: i128,
+    pub filll: i128,
+}
+
+/// A dimension of each order.
+#[derive(Clone, Copy, Debug, PartialEq, Eq)]
+pub struct OrderDimens {
+    pub normal: Dimen,
+    pub fil: Dimen,
+    pub fill: Dimen,
+    pub filll: Dimen,
+}
+
+/// No amount in any order.
+pub fn no_amounts() -> OrderAmounts
+    ensures { result ≡ order_amounts (λ _. pos 0) }
+{
+    OrderAmounts {
+        normal: 0,
+        fil: 0,
+        fill: 0,
+        filll: 0,
+    }
+}
+
+/// An amount that is more by a dimension.
+fn increased(amount: i128, by: Dimen) -> i128
+    requires { Within (2 ^ 100) amount }
+    ensures value { result ≡ amount +ℤ by }
+    ensures part { Fits by }
+{
+    amount + i128::from(by.get())
+}
+
+/// Each amount, more by the dimension of its order.
+pub fn plus(amounts: &OrderAmounts, more: &OrderDimens) -> OrderAmounts
+    requires { AreWithin (2 ^ 100) amounts.now }
+    ensures value { result ≡ plus amounts.now (by_order more.now) }
+    ensures bound { (n : ℕ) → AreWithin n amounts.now → AreWithin (n + 2 ^ 31) result }
+{
+    OrderAmounts {
+        normal: increased(amounts.normal, more.normal),
+        fil: increased(amounts.fil, more.fil),
+        fill: increased(amounts.fill, more.fill),
+        filll: increased(amounts.filll, more.filll),
+    }
+}
+
+/// A dimension in an order, and none in the others.
+fn in_one_order(order: Order, amount: Dimen) -> OrderDimens
+    ensures { result ≡ order_dimens (λ other. if is_order other order then amount else pos 0) }
+{
+    let none = OrderDimens {
+        normal: Dimen::ZERO,
+        fil: Dimen::ZERO,
+        fill: Dimen::ZERO,
+        filll: Dimen::ZERO,
+    };
+    match order {
+        Order::Normal => OrderDimens {
+            normal: amount,
+            ..none
+        },
+        Order::Fil => OrderDimens {
+            fil: amount,
+            ..none
+        },
+        Order::Fill => OrderDimens {
+            fill: amount,
+            ..none
+        },
+        Order::Filll => OrderDimens {
+            filll: amount,
+            ..none
+        },
+    }
+}
+
+/// How much an item can stretch, in each order.
+pub fn stretch_by_order(node: &Node) -> OrderDimens
+    ensures { result ≡ order_dimens (λ order. stretch_in order node.now) }
+{
+    match node {
+        Node::Glue(glue) => in_one_order(glue.stretch_order, glue.stretch),
+        _ => in_one_order(Order::Normal, Dimen::ZERO),
+    }
+}
+
+/// How much an item can shrink, in each order.
+pub fn shrink_by_order(node: &Node) -> OrderDimens
+    ensures { result ≡ order_dimens (λ order. shrink_in order node.now) }
+{
+    match node {
+        Node::Glue(glue) => in_one_order(glue.shrink_order, glue.shrink),
+        _ => in_one_order(Order::Normal, Dimen::ZERO),
+    }
+}

@@ -1,0 +1,2 @@
+-- Lemmas on lists that are shortened again.
+pub mod Shortened
