@@ -5,6 +5,7 @@ pub mod Spelling
 pub mod Reading
 pub mod Body
 pub mod Forest
+pub mod Plain
 pub mod Walk
 pub mod Tokens
 pub mod Fonts

@@ -1,0 +1,12 @@
+-- Lemmas on what is written for the body of a page.
+pub mod Choices
+pub mod Meanings
+pub mod Pruned
+pub mod Tidy
+pub mod Kept
+pub mod Laters
+pub mod Flags
+pub mod Passing
+pub mod SameBody
+pub mod PlainBodies
+pub mod Sheets

@@ -1,0 +1,96 @@
+-- The reused body beside the body: all that `reuse` promises.
+use Rattle.std.proofs.Common.{◌≡◌, ◌≤◌, [], ◌∷◌, List, ℤ, Result, Ok, Err, length, sym, ◌∙◌, ap, subst, arith, Contains}
+use Rattle.std.specs.Result.{IfOk}
+use Rattle.std.specs.List.{AllByRecursion}
+use Rattle.dvi_ops.specs.Instruction.{Axis, Across, Downward, Instruction, Pop}
+use Rattle.dvi_ops.specs.Body.{acts}
+use Rattle.dvi_ops.specs.Forest.{Forest, Empty, Then, Group, flat, meaning}
+use Rattle.dvi_ops.specs.Layout.{bytes_of, IsWritable}
+use Rattle.dvi_ops.specs.Plain.{NamesNoRegister}
+use Rattle.dvi_ops.proofs.Appends.{all_front, all_back}
+use Rattle.move_core.specs.Registers.{nothing_known}
+use Rattle.move_core.specs.Reused.{reused_from, pruned, reused}
+use Rattle.move_core.specs.SamePage.{IsPlainBody, AreBodies, shown, MeansTheSame, PassesThroughNoOther, NestsNoDeeper, HasNoHollow, unset, UsesStored, SetsAhead, still}
+use Rattle.move_core.specs.Passes.{trimmed, rewritten, at_first}
+use Rattle.move_core.proofs.Choices.{nothing_agrees}
+use Rattle.move_core.proofs.Meanings.{IsPlain, shown_follows, reused_follows, reused_points}
+use Rattle.move_core.proofs.Pruned.{meaning-pruned, points-pruned, nests-pruned, plain-pruned, no_hollow-pruned}
+use Rattle.move_core.proofs.Tidy.{uses_stored, sets_ahead, no_hollow-reused, nests-reused}
+use Rattle.move_core.proofs.Passing.{passes_body}
+use Rattle.move_core.proofs.Kept.{reused_shorter, pruned_shorter, reused_still, pruned_still, reused_writable, pruned_writable}
+
+-- A body whose instructions name no register.
+pub plain_forest : (f : Forest) → AllByRecursion NamesNoRegister (flat f) → IsPlain f
+plain_forest Empty all = tt
+plain_forest (Then leaf rest) (here, all) = (here, plain_forest rest all)
+plain_forest (Group inner rest) (push, all) = (
+  plain_forest inner (all_front NamesNoRegister (flat inner) (Pop ∷ flat rest) all),
+  plain_forest rest (all_back NamesNoRegister (flat inner) (Pop ∷ flat rest) all).1,
+)
+
+pub reused_meaning : (f : Forest) → IsPlain f → MeansTheSame f (reused f)
+unfolding reused
+reused_meaning f plain widths s =
+    shown_follows (meaning (acts widths) (pruned f) s) (meaning (acts widths) (reused_from nothing_known (pruned f)) s)
+    (reused_follows widths nothing_known (pruned f) s.place.held s (plain-pruned f plain) (nothing_agrees s.place.held))
+    ∙ ap shown (meaning-pruned (acts widths) f s)
+
+pub reused_places : (f : Forest) → IsPlain f → PassesThroughNoOther f (reused f)
+unfolding reused
+reused_places f plain widths s p there =
+    points-pruned (acts widths) f s p
+    (subst (λ (ps : List (ℤ × ℤ)). Contains ps p)
+    (reused_points widths nothing_known (pruned f) s.place.held s (plain-pruned f plain) (nothing_agrees s.place.held)) there)
+
+pub reused_nests : (f : Forest) → NestsNoDeeper f (reused f)
+unfolding reused
+reused_nests f = omega (arith, nests-reused nothing_known (pruned f), nests-pruned f)
+
+pub reused_full : (f : Forest) → HasNoHollow (reused f)
+unfolding reused
+reused_full f = no_hollow-reused nothing_known (pruned f) (no_hollow-pruned f)
+
+pub reused_uses : (axis : Axis) (f : Forest) → IsPlain f → UsesStored axis unset (reused f)
+unfolding reused
+reused_uses Across f plain = uses_stored Across nothing_known (pruned f) (plain-pruned f plain)
+reused_uses Downward f plain = uses_stored Downward nothing_known (pruned f) (plain-pruned f plain)
+
+pub reused_ahead : (axis : Axis) (f : Forest) → IsPlain f → SetsAhead axis unset (reused f)
+unfolding reused
+reused_ahead Across f plain = sets_ahead Across nothing_known (pruned f) (plain-pruned f plain)
+reused_ahead Downward f plain = sets_ahead Downward nothing_known (pruned f) (plain-pruned f plain)
+
+pub reused_length : (f : Forest) → length (bytes_of (flat (reused f))) ≤ length (bytes_of (flat f))
+unfolding reused
+reused_length f = omega (arith, reused_shorter nothing_known (pruned f), pruned_shorter f)
+
+pub reused_order : (f : Forest) → still (flat (reused f)) ≡ still (flat f)
+unfolding reused
+reused_order f = reused_still nothing_known (pruned f) ∙ pruned_still f
+
+pub reused_fits : (f : Forest) → AllByRecursion IsWritable (flat f) → AllByRecursion IsWritable (flat (reused f))
+unfolding reused
+reused_fits f all = reused_writable nothing_known (pruned f) (pruned_writable f all)
+
+-- What is known of a result holds of what follows from it.
+pub if_ok : {T E : Type 0} (P Q : T → Type 0) (result : Result T E) → ((x : T) → P x → Q x) → IfOk result P → IfOk result Q
+if_ok P Q (Ok x) next p = next x p
+if_ok P Q (Err e) next p = tt
+
+-- What the passes give for a body is the reused body.
+pub gives_reused : (is kept js : List Instruction) (f : Forest) → kept ≡ trimmed is [] → js ≡ rewritten kept at_first → is ≡ flat f → js ≡ flat (reused f)
+gives_reused is kept js f trims writes body =
+    writes ∙ (ap (λ (is : List Instruction). rewritten is at_first) (trims ∙ ap (λ (is : List Instruction). trimmed is []) body) ∙ passes_body f)
+
+-- What holds of each body that names no register, and of its reused body, holds of what the passes are given and of what they give.
+pub are_bodies : (Related : Forest → Forest → Type 0) (is kept js : List Instruction) → ((f : Forest) → IsPlain f → Related f (reused f)) →
+    IsPlainBody is → kept ≡ trimmed is [] → js ≡ rewritten kept at_first → AreBodies Related is js
+are_bodies Related is kept js holds (body, same, plain) trims writes f e =
+    (reused f, gives_reused is kept js f trims writes e, holds f (plain_forest f (subst (AllByRecursion NamesNoRegister) e plain)))
+
+-- The same of what is said of the two lists.
+pub are_lists : (Related : List Instruction → List Instruction → Type 0) (is kept js : List Instruction) → ((f : Forest) → Related (flat f) (flat (reused f))) →
+    IsPlainBody is → kept ≡ trimmed is [] → js ≡ rewritten kept at_first → Related is js
+are_lists Related is kept js holds (body, same, plain) trims writes =
+    subst (λ (js : List Instruction). Related is js) (sym (gives_reused is kept js body trims writes same))
+    (subst (λ (is : List Instruction). Related is (flat (reused body))) (sym same) (holds body))

@@ -1,0 +1,6 @@
+-- Movements written by registers.
+pub mod Registers
+pub mod Reused
+pub mod SamePage
+pub mod Passes
+pub mod Examples

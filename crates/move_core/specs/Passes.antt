@@ -1,0 +1,141 @@
+-- What the passes over a list of instructions give (own; that they give what `reused` says is the clause `reused` of `reuse`).
+use Rattle.std.specs.Prelude.{◌≡◌, ◌++◌, [], ◌∷◌, List, map, reverse, ℕ, ℤ, zero, suc, Bool, true, false, Option, Some, None, ◌||◌}
+use Rattle.std.specs.Ordering.{int_cmp}
+use Rattle.std.specs.BTreeSet.{contains}
+use Rattle.dvi_ops.specs.Instruction.{Axis, Across, Downward, Step, By, Set, Again, Leaf, Move, Instruction, Do, Push, Pop}
+use Rattle.dvi_ops.specs.Instruction as instructions
+use Rattle.dvi_ops.specs.View.{view}
+use Rattle.move_core.specs.declared.registers.Register.{Register}
+use Rattle.move_core.specs.declared.registers.Register.TheVariants as registers
+use Rattle.move_core.specs.declared.registers.Step.{Step as WrittenStep}
+use Rattle.move_core.specs.declared.registers.Step.TheVariants as steps
+use Rattle.move_core.specs.declared.registers.Held.{Held as HeldNow}
+use Rattle.move_core.specs.declared.registers.Known.{Known as KnownNow}
+use Rattle.move_core.specs.declared.later.Amounts.{Amounts}
+use Rattle.move_core.specs.declared.later.Later.{Later}
+use Rattle.move_core.specs.declared.passes.Pass.{Pass}
+use Rattle.move_core.specs.Registers.{Held, Known, nothing_known, is_amount, written}
+use Rattle.move_core.specs.Reused.{along, plain_amount, comes_again}
+
+-- The register, the step and what is known, from the values of the code.
+abbrev pub register_view : Register → instructions.Register
+register_view registers.First = instructions.First
+register_view registers.Second = instructions.Second
+
+abbrev pub step_view : WrittenStep → Step
+step_view (steps.By n) = By n
+step_view (steps.Set register n) = Set (register_view register) n
+step_view (steps.Again register) = Again (register_view register)
+
+abbrev pub held_view : HeldNow → Held
+held_view k = record { first = k.first; second = k.second; last = register_view k.last }
+
+abbrev pub known_view : KnownNow → Known
+known_view k = record { across = held_view k.across; down = held_view k.down }
+
+-- How many groups are open behind an instruction in a body; none, where it pops what is not open, names a register, or stands in no body.
+abbrev pub depth_after : (depth : ℕ) → Instruction → Option ℕ
+depth_after depth Push = Some (suc depth)
+depth_after zero Pop = None
+depth_after (suc depth) Pop = Some depth
+depth_after depth (Do (Move axis (Set register n))) = None
+depth_after depth (Do (Move axis (Again register))) = None
+depth_after depth (Do leaf) = Some depth
+depth_after depth i = None
+
+-- Whether instructions stand in a body and close all groups, those that are open in front of them too.
+abbrev pub closes_all : List Instruction → (depth : Option ℕ) → Bool
+closes_all [] (Some zero) = true
+closes_all [] depth = false
+closes_all (i ∷ rest) None = false
+closes_all (i ∷ rest) (Some depth) = closes_all rest (depth_after depth i)
+
+-- What is left when each push with a pop directly behind it goes, over and over; `out` is what was kept so far, the last first.
+abbrev pub trimmed : List Instruction → (out : List Instruction) → List Instruction
+trimmed [] out = reverse out
+trimmed (Pop ∷ rest) (Push ∷ out) = trimmed rest out
+trimmed (i ∷ rest) out = trimmed rest (i ∷ out)
+
+-- Whether a plain movement by that amount comes, before its end, in the group that is open behind so many more pops, and not in a group of it.
+abbrev pub comes : List Instruction → (pops : ℕ) → Axis → ℤ → Bool
+comes [] pops axis n = false
+comes (Push ∷ rest) pops axis n = comes rest (suc pops) axis n
+comes (Pop ∷ rest) zero axis n = false
+comes (Pop ∷ rest) (suc pops) axis n = comes rest pops axis n
+comes (Do leaf ∷ rest) zero axis n = is_amount (plain_amount (along axis leaf)) n || comes rest zero axis n
+comes (Do leaf ∷ rest) (suc pops) axis n = comes rest (suc pops) axis n
+comes (i ∷ rest) pops axis n = comes rest pops axis n
+
+-- Whether an instruction is a plain movement whose amount comes again.
+abbrev pub again_in : Instruction → (rest : List Instruction) → Bool
+again_in (Do leaf) rest = comes_again leaf (comes rest 0)
+again_in i rest = false
+
+-- The same for each of the instructions.
+abbrev pub flags_of : List Instruction → List Bool
+flags_of [] = []
+flags_of (i ∷ rest) = again_in i rest ∷ flags_of rest
+
+-- What is known of the registers, and what was known of them in front of each open group, the innermost first.
+pub record Groups : Type 0 where
+  pub known : Known
+  pub outer : List Known
+
+-- Outside all groups, with nothing known.
+abbrev pub at_first : Groups
+at_first = record { known = nothing_known; outer = [] }
+
+-- Behind the innermost open group; where none is open, nothing is known.
+abbrev pub left : (outer : List Known) → Groups
+left [] = at_first
+left (known ∷ outer) = record { known = known; outer = outer }
+
+-- A push keeps what is known, a pop brings it back.
+abbrev pub entered : Instruction → Groups → Groups
+entered Push g = record { known = g.known; outer = g.known ∷ g.outer }
+entered Pop g = left g.outer
+entered i g = g
+
+-- An instruction as it is written.
+abbrev pub op_written : Known → Instruction → (again : Bool) → Instruction
+op_written k (Do leaf) again = Do (written k leaf again).leaf
+op_written k i again = i
+
+-- What is known behind it.
+abbrev pub known_behind : Known → Instruction → (again : Bool) → Known
+known_behind k (Do leaf) again = (written k leaf again).known
+known_behind k i again = k
+
+-- Instructions written by registers.
+abbrev pub rewritten : List Instruction → Groups → List Instruction
+rewritten [] g = []
+rewritten (i ∷ rest) g =
+    op_written (entered i g).known i (again_in i rest)
+    ∷ rewritten rest (record { known = known_behind (entered i g).known i (again_in i rest); outer = (entered i g).outer })
+
+-- The set of amounts in a direction, and whether it has an amount.
+abbrev pub has : Amounts → Axis → ℤ → Bool
+has amounts Across n = contains int_cmp amounts.across n
+has amounts Downward n = contains int_cmp amounts.down n
+
+-- Whether the amounts of the group that is open behind so many more pops have that one.
+abbrev pub held_at : List Amounts → (pops : ℕ) → Axis → ℤ → Bool
+held_at [] pops axis n = false
+held_at (amounts ∷ outer) zero axis n = has amounts axis n
+held_at (amounts ∷ outer) (suc pops) axis n = held_at outer pops axis n
+
+-- The amounts that were met are those that come in these instructions.
+abbrev pub Knows : Later → (rest : List Instruction) → Type 0
+Knows m rest = (pops : ℕ) → (axis : Axis) → (n : ℤ) → held_at (m.here ∷ reverse m.outer.items) pops axis n ≡ comes rest pops axis n
+
+-- What is known in a pass.
+abbrev pub groups_of : Pass → Groups
+groups_of p = record { known = known_view p.known; outer = reverse (map known_view p.outer.items) }
+
+-- What a pass has written, and what it will write for these instructions.
+abbrev pub makes : Pass → (rest : List Instruction) → List Instruction
+makes p rest = map view p.out.items ++ rewritten rest (groups_of p)
+
+-- A pass that has met one more instruction, with its flag, makes the same.
+abbrev pub GoesOn : Pass → Instruction → (again : Bool) → Pass → Type 0
+GoesOn before i again after = (rest : List Instruction) → again ≡ again_in i rest → makes before (i ∷ rest) ≡ makes after rest

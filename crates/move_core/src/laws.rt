@@ -1,0 +1,21 @@
+//! What is written for known bodies, as the contract of a function that does nothing.
+
+ghost use Rattle.std.specs.Prelude.{◌≡◌, length};
+ghost use Rattle.dvi_ops.specs.Forest.{flat};
+ghost use Rattle.dvi_ops.specs.Layout.{bytes_of};
+ghost use Rattle.move_core.specs.Reused.{reused};
+ghost use Rattle.move_core.specs.Examples.{apart, empty_groups, empty_groups_reused, fonts_in_nested_boxes, kerned_rules, kerned_rules_reused, nested, nested_reused, set_in_a_group, set_in_a_group_reused, three_amounts, three_amounts_reused, three_depths, three_depths_reused, two_directions};
+
+/// What is written for known bodies.
+#[tactic(auto, unfolding(crate::specs::Reused::reused))]
+pub fn known_bodies()
+    ensures nested { reused nested ≡ nested_reused }
+    ensures three_amounts { reused three_amounts ≡ three_amounts_reused }
+    ensures three_depths { reused three_depths ≡ three_depths_reused }
+    ensures two_directions { reused two_directions ≡ two_directions }
+    ensures empty_groups { reused empty_groups ≡ empty_groups_reused }
+    ensures set_in_a_group { reused set_in_a_group ≡ set_in_a_group_reused }
+    ensures apart { reused apart ≡ apart }
+    ensures fonts { reused fonts_in_nested_boxes ≡ fonts_in_nested_boxes }
+    ensures kerned_rules { reused kerned_rules ≡ kerned_rules_reused }
+{}
