@@ -1,12 +1,12 @@
 -- The pass over parts gives their pages, and what the pass goes over are parts.
-use Rattle.std.proofs.Common.{◌≡◌, ◌≤◌, ◌<◌, ◌+◌, ◌++◌, [], ◌∷◌, List, length, max, ℕ, ℤ, Bool, true, false, cond, nat_lt, Option, Some, None, refl, sym, ◌∙◌, ap, ap₂, subst, append_assoc, append-nil, arith, inl, inr}
+use Rattle.std.proofs.Common.{◌≡◌, ◌≤◌, ◌<◌, ◌+◌, ◌++◌, [], ◌∷◌, List, length, ℕ, ℤ, Bool, true, false, cond, nat_lt, Option, Some, None, refl, sym, ◌∙◌, ap, ap₂, subst, append_assoc, append-nil, arith}
 use Rattle.std.proofs.lemmas.Bool.{lt-ltb, ltb-true}
 use Rattle.std.specs.List.{AllByRecursion, flat_map}
-use Rattle.dvi_ops.specs.Instruction.{Leaf, SetChar, PutChar, SetRule, PutRule, Nop, Move, FontNum, FontDef, Xxx, Instruction, Do, Push, Pop, Bop, Eop, Pre, Post, PostPost}
+use Rattle.dvi_ops.specs.Instruction.{Leaf, Nop, FontDef, Instruction, Do, Push, Pop, Bop, Eop}
 use Rattle.dvi_ops.specs.Body.{Mark, Place, State, Meaning, Acts, start}
 use Rattle.dvi_ops.specs.Forest.{Forest, Empty, Then, Group, flat, meaning, nests, and_then, ahead, restored}
 use Rattle.dvi_ops.specs.File.{Part, Idle, Defines, Shows, instructions, MarkedPage, page_then, pages_of, depth_of}
-use Rattle.dvi_pass.specs.Pass.{Pass, Between, Inside, drawn, popped, ended, turn, goes, passes}
+use Rattle.dvi_pass.specs.Pass.{Pass, Between, Inside, drawn, turn, goes, passes}
 
 -- The pass over two lists.
 pub passes-append : (does : Acts) (most : ℕ) (is js : List Instruction) (p q : Pass) → passes does most is p ≡ Some q → passes does most (is ++ js) p ≡ passes does most js q
@@ -59,7 +59,7 @@ passes-flat does most (Group inner f) rest pages counts marks more stack s t e d
     rw wide
     (ap (λ is. passes does most is (Inside pages counts marks (s.place ∷ stack) s)) (append_assoc (flat inner) (Pop ∷ flat f) rest)
     ∙ within (λ here u is. passes-flat does most inner (Pop ∷ (flat f ++ rest)) pages counts marks here (s.place ∷ stack) s u is (omega arith))
-      (λ front later u w is. passes-flat does most f rest pages counts front later stack u w is (omega arith)) (meaning does inner s) refl e)
+    (λ front later u w is. passes-flat does most f rest pages counts front later stack u w is (omega arith)) (meaning does inner s) refl e)
   where
     within : ((here : List Mark) (u : State) → meaning does inner s ≡ Some (here, u)
         → passes does most (flat inner ++ (Pop ∷ (flat f ++ rest))) (Inside pages counts marks (s.place ∷ stack) s) ≡ passes does most (Pop ∷ (flat f ++ rest)) (Inside pages counts (marks ++ here) (s.place ∷ stack) u))
@@ -135,27 +135,51 @@ page_with counts marks = record { counts = counts; marks = marks }
 then_closes : (does : Acts) (most : ℕ) (i : Leaf) (is : List Instruction) (before all : List MarkedPage) (counts : List ℤ) (marks here : List Mark) (stack : List Place) (s u : State)
     → does i s ≡ Some (here, u) → Closes does most is before all counts (marks ++ here) stack u → Closes does most (Do i ∷ is) before all counts marks stack s
 unfolding Closes page_with
-then_closes does most i is before all counts marks here [] s u act (f, rest, more, t, whole, means, deep, found) =
-    (Then i f, rest, here ++ more, t, ap (λ is. Do i ∷ is) whole, then_means does i f s u here more t act means, deep,
-     subst (λ (m : List Mark). Found does most rest (before ++ page_with counts m ∷ []) all) (append_assoc marks here more) found)
-then_closes does most i is before all counts marks here (p ∷ stack) s u act (f, rest, more, t, whole, means, deep, found) =
-    (Then i f, rest, here ++ more, t, ap (λ is. Do i ∷ is) whole, then_means does i f s u here more t act means, deep,
-     subst (λ (m : List Mark). Closes does most rest before all counts m stack (record { place = p; font = t.font })) (append_assoc marks here more) found)
+then_closes does most i is before all counts marks here [] s u act (f, rest, more, t, whole, means, deep, found) = (
+  Then i f,
+  rest,
+  here ++ more,
+  t,
+  ap (λ is. Do i ∷ is) whole,
+  then_means does i f s u here more t act means,
+  deep,
+  subst (λ (m : List Mark). Found does most rest (before ++ page_with counts m ∷ []) all) (append_assoc marks here more) found,
+)
+then_closes does most i is before all counts marks here (p ∷ stack) s u act (f, rest, more, t, whole, means, deep, found) = (
+  Then i f,
+  rest,
+  here ++ more,
+  t,
+  ap (λ is. Do i ∷ is) whole,
+  then_means does i f s u here more t act means,
+  deep,
+  subst (λ (m : List Mark). Closes does most rest before all counts m stack (record { place = p; font = t.font })) (append_assoc marks here more) found,
+)
 
 -- A group before what ends a page.
 group_closes : (does : Acts) (most : ℕ) (is : List Instruction) (before all : List MarkedPage) (counts : List ℤ) (marks : List Mark) (stack : List Place) (s : State)
     → Closes does most is before all counts marks (s.place ∷ stack) s → Closes does most (Push ∷ is) before all counts marks stack s
 unfolding Closes page_with
-group_closes does most is before all counts marks [] s (inner, rest, here, u, whole, means, deep, (f, rest', more, t, whole', means', deep', found)) =
-    (Group inner f, rest', here ++ more, t,
-     ap (λ is. Push ∷ is) (whole ∙ (ap (λ is. flat inner ++ (Pop ∷ is)) whole' ∙ sym (append_assoc (flat inner) (Pop ∷ flat f) (Eop ∷ rest')))),
-     group_means does inner f s u here more t means means', omega arith,
-     subst (λ (m : List Mark). Found does most rest' (before ++ page_with counts m ∷ []) all) (append_assoc marks here more) found)
-group_closes does most is before all counts marks (p ∷ stack) s (inner, rest, here, u, whole, means, deep, (f, rest', more, t, whole', means', deep', found)) =
-    (Group inner f, rest', here ++ more, t,
-     ap (λ is. Push ∷ is) (whole ∙ (ap (λ is. flat inner ++ (Pop ∷ is)) whole' ∙ sym (append_assoc (flat inner) (Pop ∷ flat f) (Pop ∷ rest')))),
-     group_means does inner f s u here more t means means', omega arith,
-     subst (λ (m : List Mark). Closes does most rest' before all counts m stack (record { place = p; font = t.font })) (append_assoc marks here more) found)
+group_closes does most is before all counts marks [] s (inner, rest, here, u, whole, means, deep, (f, rest', more, t, whole', means', deep', found)) = (
+  Group inner f,
+  rest',
+  here ++ more,
+  t,
+  ap (λ is. Push ∷ is) (whole ∙ (ap (λ is. flat inner ++ (Pop ∷ is)) whole' ∙ sym (append_assoc (flat inner) (Pop ∷ flat f) (Eop ∷ rest')))),
+  group_means does inner f s u here more t means means',
+  omega arith,
+  subst (λ (m : List Mark). Found does most rest' (before ++ page_with counts m ∷ []) all) (append_assoc marks here more) found,
+)
+group_closes does most is before all counts marks (p ∷ stack) s (inner, rest, here, u, whole, means, deep, (f, rest', more, t, whole', means', deep', found)) = (
+  Group inner f,
+  rest',
+  here ++ more,
+  t,
+  ap (λ is. Push ∷ is) (whole ∙ (ap (λ is. flat inner ++ (Pop ∷ is)) whole' ∙ sym (append_assoc (flat inner) (Pop ∷ flat f) (Pop ∷ rest')))),
+  group_means does inner f s u here more t means means',
+  omega arith,
+  subst (λ (m : List Mark). Closes does most rest' before all counts m stack (record { place = p; font = t.font })) (append_assoc marks here more) found,
+)
 
 -- What is left where the pass stands.
 Rests : Acts → (most : ℕ) → List Instruction → Pass → (all : List MarkedPage) → Type 0

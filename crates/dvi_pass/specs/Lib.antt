@@ -1,1 +1,4 @@
 pub mod Pass
+pub mod View
+pub mod Drawing
+pub mod Turning

@@ -2,10 +2,12 @@
 
 ghost use Rattle.std.specs.Prelude.{◌≡◌, ◌≤◌, ◌++◌, [], List, Some, None, ℕ};
 ghost use Rattle.std.specs.List.{AllByRecursion, flat_map};
-ghost use Rattle.dvi_ops.specs.Body.{Acts};
+ghost use Rattle.dvi_ops.specs.Body.{Acts, kept};
 ghost use Rattle.dvi_ops.specs.File.{MarkedPage, Part, depth_of, instructions, pages_of};
 ghost use Rattle.dvi_ops.specs.Instruction.{Instruction};
-ghost use Rattle.dvi_pass.specs.Pass.{Between, Pass, passes};
+ghost use Rattle.dvi_pass.specs.Pass.{Between, Pass, passes, turn};
+ghost use Rattle.dvi_pass.specs.Turning.{BreaksTurn};
+ghost use Rattle.dvi_frame.specs.declared.fault.DviCause.{DviCause};
 
 /// The pass goes over all parts of a file whose pages have a meaning and are not too deep, and gives their pages.
 pub fn parts_are_passed()
@@ -27,4 +29,9 @@ pub fn one_after_the_other()
         → passes does most is p ≡ Some q → passes does most (is ++ js) p ≡ passes does most js q }
     ensures none { (does : Acts) (most : ℕ) (is js : List Instruction) (p : Pass)
         → passes does most is p ≡ None → passes does most (is ++ js) p ≡ None }
+{}
+
+/// Where an instruction breaks a rule, the pass does not go on.
+pub fn broken_rules_stop_the_pass()
+    ensures { (does : Acts) (most : ℕ) (i : Instruction) (p : Pass) (cause : DviCause) → BreaksTurn does most i p cause → turn (kept does) most i p ≡ None }
 {}

@@ -3,4 +3,10 @@
 //! One instruction at a time: `turn` takes one where the pass stands, or says which rule it breaks. The loop over the bytes of a file stands above it.
 #![tactic(auto)]
 
+mod drawing;
 pub mod laws;
+mod page;
+mod turning;
+
+pub use page::{Mark, Page, Place, State};
+pub use turning::{OpenPage, PassFault, Stand, turn};
