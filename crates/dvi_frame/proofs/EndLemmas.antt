@@ -126,3 +126,8 @@ frame_ends all f =
       subst (λ (x : List ℕ). Ends x (length (written f.front)) last f.stop) (sym same)
           (ends (written f.front) f.post (written f.tail) operand f.padding f.stop f.padded f.post_spelled says),
     )
+
+-- Where the version of a frame stands.
+pub frame_last : (bytes : List ℕ) (f : Frame bytes) → (frame_ends bytes f).0 ≡ length (written f.front) + (length f.post + length (written f.tail)) + 5
+unfolding frame_ends e before
+frame_last bytes f = let size = length-append (written f.front) (f.post ++ written f.tail) in let rest = length-append f.post (written f.tail) in omega arith

@@ -1,3 +1,5 @@
 pub mod PartLemmas
 pub mod DrawLemmas
 pub mod TurnLemmas
+pub mod PassedLemmas
+pub mod ReachedLemmas

@@ -4,8 +4,10 @@
 #![tactic(auto)]
 
 mod drawing;
+pub mod files;
 pub mod laws;
 mod page;
+pub mod steps;
 mod turning;
 
 pub use page::{Mark, Page, Place, State};
