@@ -1,7 +1,8 @@
 -- What an op stands for, where it is one or none of those that are looked for.
-use Rattle.std.proofs.Common.{◌≡◌, List, ℤ, refl, sym, ap, ◌∙◌}
-use Rattle.dvi_ops.specs.Instruction.{Post, Bop, Postamble}
-use Rattle.dvi_ops.specs.View.{view}
+use Rattle.std.proofs.Common.{◌≡◌, List, ℕ, ℤ, refl, sym, ap, ◌∙◌}
+use Rattle.dvi_ops.specs.Instruction.{Post, Bop, Pre, Postamble, Units}
+use Rattle.dvi_ops.specs.View.{units, view}
+use Rattle.dvi_ops.specs.declared.op.Units.{Units as Measures}
 use Rattle.dvi_ops.specs.declared.op.Op.{Op}
 use Rattle.dvi_ops.specs.declared.op.Op.TheVariants as ops
 
@@ -19,3 +20,12 @@ no_bop op not counts pointer e = absurd cc
 pub same_pointer : (op : Op) (counts others : List ℤ) (pointer other : ℤ) → op ≡ ops.Bop counts pointer → view op ≡ Bop others other → pointer ≡ other
 same_pointer op counts others pointer other is e =
     let whole : Bop counts pointer ≡ Bop others other = sym (ap view is) ∙ e in cc
+
+-- What is no preamble stands for none; and the parts of one.
+pub no_pre : (op : Op) → ((id : ℕ) (u : _) (comment : _) → op ≡ ops.Pre id u comment → ⊥) → (id : ℕ) (u : Units) (comment : List ℕ) → view op ≡ Pre id u comment → ⊥
+no_pre (ops.Pre id u comment) not other others text e = not id u comment refl
+no_pre op not id u comment e = absurd cc
+
+pub same_pre : (op : Op) (id other : ℕ) (u : Measures) (v : Units) (comment : _) (text : List ℕ) → op ≡ ops.Pre id u comment → view op ≡ Pre other v text → (id ≡ other) × (units u ≡ v)
+same_pre op id other u v comment text is e =
+    let whole : Pre id (units u) comment.now ≡ Pre other v text = sym (ap view is) ∙ e in (cc, cc)
