@@ -3,3 +3,4 @@ pub mod DrawLemmas
 pub mod TurnLemmas
 pub mod PassedLemmas
 pub mod ReachedLemmas
+pub mod WidthLemmas

@@ -1,7 +1,7 @@
 -- One instruction where the pass stands, and the rule that it breaks (DVItype, 15).
-use Rattle.std.specs.Prelude.{◌≡◌, ◌≢◌, ◌≤◌, [], List, length, map, reverse, ℕ, Some, None, Result, Ok, Err, IsSome}
-use Rattle.dvi_ops.specs.Instruction.{Nop, FontDef, Instruction, Do, Push, Pop, Bop, Eop}
-use Rattle.dvi_ops.specs.Body.{Acts, kept, kept_in}
+use Rattle.std.specs.Prelude.{◌≡◌, ◌≢◌, ◌≤◌, [], List, length, map, reverse, ℕ, ℤ, Option, Some, None, Result, Ok, Err, IsSome}
+use Rattle.dvi_ops.specs.Instruction.{SetChar, PutChar, Nop, FontDef, Instruction, Do, Push, Pop, Bop, Eop}
+use Rattle.dvi_ops.specs.Body.{Acts, Widths, kept, kept_in}
 use Rattle.dvi_ops.specs.File.{MarkedPage}
 use Rattle.dvi_frame.specs.declared.fault.DviCause.{DviCause}
 use Rattle.dvi_frame.specs.declared.fault.DviCause.TheVariants.{Opcode, Stack, Glyph, Range}
@@ -59,3 +59,9 @@ TurnsPage does most i pages page (Err fault) = IsTurnFault does most i (inside_o
 abbrev pub Turns : Acts → (most : ℕ) → Instruction → Pass → (now : List MarkedPage) → Result Stand PassFault → Type 0
 Turns does most i p now (Ok next) = turn (kept does) most i p ≡ Some (pass_at now next)
 Turns does most i p now (Err fault) = IsTurnFault does most i p fault
+
+-- The width that is asked for where the pass stands: that of the character which an instruction sets or puts, in the current font, if one is selected.
+abbrev pub IsAsked : Widths → Instruction → Pass → Option ℤ → Type 0
+IsAsked widths (Do (SetChar c)) (Inside pages counts marks stack s) width = (f : ℤ) → s.font ≡ Some f → width ≡ widths f c
+IsAsked widths (Do (PutChar c)) (Inside pages counts marks stack s) width = (f : ℤ) → s.font ≡ Some f → width ≡ widths f c
+IsAsked widths i p width = Unit {0}

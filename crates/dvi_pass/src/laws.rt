@@ -1,12 +1,13 @@
 //! What the pass has to do with the pages of a file, as the contracts of functions that do nothing.
 
-ghost use Rattle.std.specs.Prelude.{◌≡◌, ◌≤◌, ◌++◌, [], List, Some, None, ℕ};
+ghost use Rattle.std.specs.Prelude.{◌≡◌, ◌≤◌, ◌++◌, [], List, Option, Some, None, ℕ, ℤ};
 ghost use Rattle.std.specs.List.{AllByRecursion, flat_map};
-ghost use Rattle.dvi_ops.specs.Body.{Acts, kept};
+ghost use Rattle.dvi_ops.specs.Body.{Acts, Widths, acts, kept};
 ghost use Rattle.dvi_ops.specs.File.{MarkedPage, Part, depth_of, instructions, pages_of};
 ghost use Rattle.dvi_ops.specs.Instruction.{Instruction};
 ghost use Rattle.dvi_pass.specs.Pass.{Between, Pass, passes, turn};
-ghost use Rattle.dvi_pass.specs.Turning.{BreaksTurn};
+ghost use Rattle.dvi_pass.specs.Turning.{BreaksTurn, IsAsked};
+ghost use Rattle.dvi_pass.specs.Drawing.{always};
 ghost use Rattle.dvi_frame.specs.declared.fault.DviCause.{DviCause};
 
 /// The pass goes over all parts of a file whose pages have a meaning and are not too deep, and gives their pages.
@@ -34,4 +35,10 @@ pub fn one_after_the_other()
 /// Where an instruction breaks a rule, the pass does not go on.
 pub fn broken_rules_stop_the_pass()
     ensures { (does : Acts) (most : ℕ) (i : Instruction) (p : Pass) (cause : DviCause) → BreaksTurn does most i p cause → turn (kept does) most i p ≡ None }
+{}
+
+/// The pass asks for one width at most: that of the character in the current font.
+pub fn one_width_is_asked()
+    ensures { (widths : Widths) (width : Option ℤ) (most : ℕ) (i : Instruction) (p : Pass) → IsAsked widths i p width
+        → turn (kept (acts (always width))) most i p ≡ turn (kept (acts widths)) most i p }
 {}
