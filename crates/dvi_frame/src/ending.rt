@@ -1,7 +1,6 @@
 //! Post and post_post, from the end of a file (DVItype, 19 and 20).
 
-ghost use Rattle.std.specs.Prelude.{◌≡◌, ◌≢◌, ◌≤◌, ◌<◌, ◌+◌, ◌-◌, None, length, drop, slice_index, take, ℕ, pos, IfOk, IfErr, OnErr, IfSome, ◌↔◌};
-ghost use Rattle.dvi_ops.specs.File.{Frame};
+ghost use Rattle.std.specs.Prelude.{◌≡◌, ◌≢◌, ◌≤◌, ◌<◌, ◌+◌, ◌-◌, None, length, drop, slice_index, take, ℕ, pos, IfOk, IfErr, IfSome};
 ghost use Rattle.dvi_ops.specs.Instruction.{Post, Postamble};
 ghost use Rattle.dvi_ops.specs.Table.{Spells, signed};
 ghost use Rattle.dvi_ops.specs.View.{postamble};

@@ -1,6 +1,6 @@
 //! The places of the pages, from the last one back (DVItype, 15 and 19).
 
-ghost use Rattle.std.specs.Prelude.{◌≡◌, ◌≢◌, ◌≤◌, ◌<◌, ◌+◌, ◌%◌, List, length, drop, ℕ, ℤ, false, true, negsuc, IfOk, IfErr};
+ghost use Rattle.std.specs.Prelude.{◌≡◌, ◌≢◌, ◌≤◌, ◌<◌, ◌+◌, ◌%◌, List, length, drop, ℤ, false, true, negsuc, IfOk, IfErr};
 ghost use Rattle.dvi_ops.specs.Instruction.{Bop};
 ghost use Rattle.dvi_ops.specs.Table.{signed};
 ghost use Rattle.dvi_ops.specs.View.{postamble};

@@ -1,6 +1,6 @@
 //! One instruction, where the pass stands (DVItype, 15).
 
-ghost use Rattle.std.specs.Prelude.{◌≡◌, List, Option, map, IfOk, IfErr, OnErr, ℕ, ℤ};
+ghost use Rattle.std.specs.Prelude.{List, Option, map, ℕ};
 ghost use Rattle.dvi_ops.specs.Body.{Acts, acts};
 ghost use Rattle.dvi_ops.specs.File.{MarkedPage};
 ghost use Rattle.dvi_ops.specs.Instruction.{Eop, Pop, Push};
