@@ -1,0 +1,2 @@
+pub mod FontLemmas
+pub mod RefusalLemmas

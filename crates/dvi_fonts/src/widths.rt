@@ -1,0 +1,88 @@
+//! The widths of a font's characters, from the metric file of its name (DVItype, 18; TFtoPL, 11).
+
+ghost use Rattle.std.specs.Prelude.{◌≡◌, Ok, Some, IfOk, IfErr};
+ghost use Rattle.dvi_ops.specs.Fonts.{IsSize};
+ghost use Rattle.dvi_ops.specs.View.{definition};
+ghost use Rattle.dvi_fonts.specs.Widths.{HasBytes, IsFontRefusal, IsSizedRefusal, IsTfmRefusal};
+ghost use Rattle.tfm_core.specs.FileWidths.{file_widths, width_at, widths_by};
+ghost use Rattle.tfm_core.specs.Rules.{metric_file};
+
+use dvi_ops::FontDefinition;
+use std::alloc::Global;
+use tfm_core::{Font, FontFault, FontFile, FontSize, Tfm, TfmCause, TfmFault, file_named};
+use thiserror::Error;
+
+/// Why a font has no widths.
+#[derive(Clone, Copy, Debug, PartialEq, Eq, Error)]
+pub enum FontRefusal {
+    /// A growth was refused.
+    #[error("out of memory")]
+    OutOfMemory,
+    /// No file of its name was handed in.
+    #[error("there is no file of this font")]
+    NoFont,
+    /// Its metric file breaks that rule.
+    #[error("{0}")]
+    BadTfm(TfmCause),
+    /// One of its dimensions at that size does not fit.
+    #[error("a dimension of the font is too large")]
+    DimensionTooLarge,
+}
+
+/// The metric file that some bytes hold.
+fn metric_file(alloc: Global, bytes: &[u8]) -> Result<Tfm, FontRefusal>
+    ensures ok { IfOk result (λ tfm. metric_file bytes.now ≡ Ok tfm) }
+    ensures bad { IfErr result (IsTfmRefusal bytes.now) }
+{
+    match Tfm::read(alloc, bytes) {
+        Ok(tfm) => Ok(tfm),
+        Err(TfmFault::OutOfMemory) => Err(FontRefusal::OutOfMemory),
+        Err(TfmFault::Bad(cause)) => Err(FontRefusal::BadTfm(cause)),
+    }
+}
+
+/// The size of a definition.
+fn size_of(font: &FontDefinition<'_>) -> Option<FontSize>
+    requires { IsSize font.now.size }
+    ensures { result ≡ Some font.now.size }
+{
+    FontSize::try_new(i64::from(font.size))
+}
+
+/// The font that some bytes hold, at the size of a definition.
+fn sized_font(alloc: Global, bytes: &[u8], font: &FontDefinition<'_>) -> Result<Font, FontRefusal>
+    requires { IsSize font.now.size }
+    ensures ok { IfOk result (λ read. widths_by (metric_file bytes.now) font.now.size ≡ Some (width_at read)) }
+    ensures bytes { IfOk result HasBytes }
+    ensures bad { IfErr result (IsSizedRefusal bytes.now font.now.size) }
+{
+    let tfm = match metric_file(alloc, bytes) {
+        Ok(tfm) => tfm,
+        Err(refusal) => return Err(refusal),
+    };
+    match Font::at_size(alloc, &tfm, size_of(font)) {
+        Ok(read) => Ok(read),
+        Err(FontFault::DimensionTooLarge) => Err(FontRefusal::DimensionTooLarge),
+        Err(FontFault::OutOfMemory) => Err(FontRefusal::OutOfMemory),
+    }
+}
+
+/// The font that a definition means: the first file of its name, at its size. The area is not looked at (own). It takes memory for the font.
+pub fn read_font(
+    alloc: Global,
+    files: &[FontFile],
+    font: &FontDefinition<'_>,
+) -> Result<Font, FontRefusal>
+    requires { IsSize font.now.size }
+    // The characters of the font have the widths that the files give.
+    ensures ok { IfOk result (λ read. file_widths files.now font.now.name.now font.now.size ≡ Some (width_at read)) }
+    // Its characters are bytes.
+    ensures bytes { IfOk result HasBytes }
+    // What a refusal says of the files is so.
+    ensures bad { IfErr result (IsFontRefusal files.now (definition font.now)) }
+{
+    match file_named(files, font.name) {
+        Some(file) => sized_font(alloc, file.bytes(), font),
+        None => Err(FontRefusal::NoFont),
+    }
+}

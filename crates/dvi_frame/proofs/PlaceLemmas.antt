@@ -1,0 +1,54 @@
+-- What stands at a place, and what is read from the bytes between a place and a bound.
+use Rattle.std.proofs.Common.{◌≡◌, ◌≤◌, ◌<◌, ◌+◌, ◌-◌, List, length, take, drop, ℕ, zero, suc, sym, ◌∙◌, subst, arith}
+use Rattle.std.proofs.lemmas.List.{take-take, take-append-drop, length-drop, length-take-le}
+use Rattle.dvi_ops.specs.Instruction.{Instruction}
+use Rattle.dvi_ops.specs.Table.{Spells}
+use Rattle.dvi_ops.proofs.FrontLaws.{one_reading}
+use Rattle.dvi_ops.proofs.Frames.{not_empty}
+use Rattle.dvi_frame.specs.Ends.{StandsAt}
+
+-- The bytes from a place up to a bound.
+abbrev pub between : List ℕ → (place bound : ℕ) → List ℕ
+between bytes place bound = take (bound - place) (drop place bytes)
+
+-- Two spellings at the front of the same bytes are one.
+pub same_front : (i j : Instruction) (n m : ℕ) (bytes : List ℕ) → Spells i (take n bytes) → Spells j (take m bytes) → (i ≡ j) × (take n bytes ≡ take m bytes)
+same_front i j n m bytes one other =
+    one_reading i j (take n bytes) (take m bytes) (drop n bytes) (drop m bytes) one other (take-append-drop n bytes ∙ sym (take-append-drop m bytes))
+
+-- What stands at a place is spelled at the front of the bytes from there on.
+pub stands_front : (bytes : List ℕ) (place bound : ℕ) (i : Instruction) → StandsAt bytes place bound i → (size : ℕ) × Spells i (take size (between bytes place bound))
+stands_front bytes place bound i (size, room, spelled) =
+    (size, subst (λ (x : List ℕ). Spells i x) (sym (take-take size (bound - place) (drop place bytes) (omega arith))) spelled)
+
+-- And the other way round.
+pub front_stands : (bytes : List ℕ) (place bound : ℕ) (i : Instruction) (size : ℕ) → place ≤ bound → bound ≤ length bytes → size ≤ length (between bytes place bound)
+    → Spells i (take size (between bytes place bound)) → (place + size ≤ bound) × Spells i (take size (drop place bytes))
+front_stands bytes place bound i size low high fits spelled =
+    let whole : length (between bytes place bound) ≡ bound - place = length-take-le (bound - place) (drop place bytes) (omega (arith, length-drop place bytes)) in
+    (omega arith, subst (λ (x : List ℕ). Spells i x) (take-take size (bound - place) (drop place bytes) (omega arith)) spelled)
+
+-- At a place stands one instruction, of one size.
+pub one_stands : (bytes : List ℕ) (place bound bound' : ℕ) (i j : Instruction) → StandsAt bytes place bound i → StandsAt bytes place bound' j → i ≡ j
+one_stands bytes place bound bound' i j (n, room, one) (m, room', other) = (same_front i j n m (drop place bytes) one other).0
+
+-- Nothing stands where nothing is read.
+pub nothing_stands : (bytes : List ℕ) (place bound : ℕ) → ((i : Instruction) (size : ℕ) → Spells i (take size (between bytes place bound)) → ⊥) → (i : Instruction) → StandsAt bytes place bound i → ⊥
+nothing_stands bytes place bound none i stands = let front = stands_front bytes place bound i stands in none i front.0 front.1
+
+-- Only what was read stands there.
+pub read_stands : (bytes : List ℕ) (place bound : ℕ) (i j : Instruction) (size : ℕ) → Spells i (take size (between bytes place bound)) → StandsAt bytes place bound j → i ≡ j
+read_stands bytes place bound i j size read stands = let front = stands_front bytes place bound j stands in (same_front i j size front.0 (between bytes place bound) read front.1).0
+
+-- What was read is not empty.
+pub some_size : (i : Instruction) (size : ℕ) (bytes : List ℕ) → Spells i (take size bytes) → 0 < size
+some_size i zero bytes spelled = absurd (not_empty i spelled)
+some_size i (suc size) bytes spelled = omega arith
+
+-- Only what is spelled at a place stands there.
+pub one_spelled : (bytes : List ℕ) (place bound : ℕ) (i j : Instruction) (size : ℕ) → Spells i (take size (drop place bytes)) → StandsAt bytes place bound j → i ≡ j
+one_spelled bytes place bound i j size read (n, room, spelled) = (same_front i j size n (drop place bytes) read spelled).0
+
+-- What ends before a bound ends before a larger one.
+pub stands_wider : (bytes : List ℕ) (place bound wider : ℕ) (i : Instruction) → bound ≤ wider → StandsAt bytes place bound i → StandsAt bytes place wider i
+stands_wider bytes place bound wider i more (size, room, spelled) = (size, omega arith, spelled)

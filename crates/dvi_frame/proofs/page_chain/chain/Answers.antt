@@ -1,0 +1,48 @@
+use Rattle.std.proofs.Common.{rules, ◌≡◌, ◌+◌, ◌-◌, ◌%◌, List, ℕ, ℤ, drop, length, refl, sym, ap, ◌∙◌, subst, arith}
+use Rattle.dvi_ops.specs.Instruction.{Postamble}
+use Rattle.dvi_ops.specs.Table.{signed}
+use Rattle.dvi_ops.specs.View.{postamble}
+use Rattle.dvi_frame.specs.Ends.{Ends}
+use Rattle.dvi_frame.specs.Chain.{Links, IsBrokenFrom, IsChainRefusal}
+use Rattle.dvi_frame.specs.declared.fault.FrameFault.{FrameFault}
+use Rattle.dvi_frame.specs.declared.fault.FrameFault.TheVariants.{OutOfMemory, Bad}
+use Rattle.dvi_frame.specs.declared.fault.DviCause.{DviCause}
+use Rattle.dvi_frame.specs.Chain.{BreaksChain}
+use Rattle.dvi_frame.proofs.ChainLemmas.{post_pointer}
+use Rattle.dvi_frame.proofs.page_chain.chain.Goals as goal
+
+-- the pointer of post
+first_pointer : (bytes : List ℕ) (post e : ℕ) (stop : Postamble) → Ends bytes post e stop → signed 4 (drop (post + 1) bytes) ≡ stop.last_bop
+first_pointer bytes post e stop ends =
+    let padded = ends.closed.trailed.padded in (post_pointer bytes post (e - 5) stop (omega arith) ends.stands).0
+
+-- a fault of the walk is one of the chain
+refusal : (bytes : List ℕ) (post : ℕ) (stop : Postamble) (fault : FrameFault) → IsBrokenFrom bytes (post + 1) post stop.last_bop fault → IsChainRefusal bytes post stop fault
+refusal bytes post stop OutOfMemory b = tt
+refusal bytes post stop (Bad fault) b =
+    subst (λ (cause : DviCause). BreaksChain bytes post stop fault.place cause) (sym b.0) b.1
+
+pub returns-in-Err-clause-bad : goal.returns-in-Err-clause-bad
+returns-in-Err-clause-bad c =
+    let bytes = c.args.bytes.now in
+    let stop = postamble c.args.ending.now.stop in
+    let post = c.args.ending.now.post in
+    let e = first_pointer bytes post c.args.ending.now.last stop c.requires in
+    refusal bytes post stop c.in-Err.fault (subst (λ (z : ℤ). IsBrokenFrom bytes (post + 1) post z c.in-Err.fault) e c.in-Err.ensures.bad)
+
+pub returns-clause-found : goal.returns-clause-found
+returns-clause-found c =
+    let bytes = c.args.bytes.now in
+    let stop = postamble c.args.ending.now.stop in
+    let post = c.args.ending.now.post in
+    subst (λ (z : ℤ). Links bytes post z c.in-Ok.places.items) (first_pointer bytes post c.args.ending.now.last stop c.requires) c.in-Ok.ensures.found
+
+pub returns-then-len-from-clause-bad : goal.returns-then-len-from-clause-bad
+returns-then-len-from-clause-bad c =
+    let bytes = c.args.bytes.now in
+    let stop = postamble c.args.ending.now.stop in
+    let post = c.args.ending.now.post in
+    let links = subst (λ (z : ℤ). Links bytes post z c.in-Ok.places.items) (first_pointer bytes post c.args.ending.now.last stop c.requires) c.in-Ok.ensures.found in
+    let len : c.len.result ≡ length c.in-Ok.places.items = search rules in
+    let differs = c.if-len-from.true in
+    (refl, c.in-Ok.places.items, links, λ same. differs (ap (λ n. n % 65536) len ∙ (sym same ∙ sym c.from.ensures)))

@@ -1,0 +1,118 @@
+//! The places of the pages, from the last one back (DVItype, 15 and 19).
+
+ghost use Rattle.std.specs.Prelude.{◌≡◌, ◌≢◌, ◌≤◌, ◌<◌, ◌+◌, ◌%◌, List, length, drop, ℤ, false, true, negsuc, IfOk, IfErr};
+ghost use Rattle.dvi_ops.specs.Instruction.{Bop};
+ghost use Rattle.dvi_ops.specs.Table.{signed};
+ghost use Rattle.dvi_ops.specs.View.{postamble};
+ghost use Rattle.dvi_frame.specs.Chain.{IsBrokenFrom, IsChainRefusal, Links, Names};
+ghost use Rattle.dvi_frame.specs.Ends.{Ends, StandsAt};
+
+use crate::at_place::read_at;
+use crate::ending::{Ending, place_at};
+use crate::fault::{BadDvi, DviCause, FrameFault};
+use byteorder::{BigEndian, ByteOrder};
+use dvi_ops::Op;
+use std::alloc::Global;
+
+/// What a pointer names: nothing before the first page, a bop, or neither, with the pointer's own place.
+#[derive(Clone, Copy, Debug, PartialEq)]
+enum Named {
+    Start,
+    Page(usize),
+    Nothing(usize),
+}
+
+/// Whether a bop stands at a place and ends at or before a bound.
+fn is_page(bytes: &[u8], place: usize, bound: usize) -> bool
+    requires { bound ≤ length bytes.now }
+    ensures some { result ≡ true → (counts : List ℤ) × (before : ℤ) × StandsAt bytes.now place bound (Bop counts before) }
+    ensures low { result ≡ true → place < bound }
+    ensures none { result ≡ false → (counts : List ℤ) (before : ℤ) → StandsAt bytes.now place bound (Bop counts before) → ⊥ }
+{
+    if bound < place {
+        return false;
+    }
+    let Ok((op, _)) = read_at(bytes, place, bound) else {
+        return false;
+    };
+    let Op::Bop { .. } = op else {
+        return false;
+    };
+    true
+}
+
+/// Whether the pointer at a place is that of the first page.
+fn is_start(bytes: &[u8], at: usize) -> bool
+    requires { at + 4 ≤ length bytes.now }
+    ensures yes { result ≡ true → signed 4 (drop at bytes.now) ≡ negsuc 0 }
+    ensures no { result ≡ false → signed 4 (drop at bytes.now) ≢ negsuc 0 }
+{
+    BigEndian::read_i32(&bytes[at..]) == -1
+}
+
+/// What the pointer at a place names before a bound.
+fn what_it_names(bytes: &[u8], at: usize, bound: usize) -> Named
+    requires room { at + 4 ≤ length bytes.now }
+    requires high { bound ≤ length bytes.now }
+    ensures { Names bytes.now at bound (signed 4 (drop at bytes.now)) result }
+{
+    if is_start(bytes, at) {
+        return Named::Start;
+    }
+    let Some(place) = place_at(bytes, at) else {
+        return Named::Nothing(at);
+    };
+    if is_page(bytes, place, bound) {
+        return Named::Page(place);
+    }
+    Named::Nothing(at)
+}
+
+/// The places that a pointer leads to, the last one first.
+fn walk(alloc: Global, bytes: &[u8], at: usize, bound: usize) -> Result<Vec<usize>, FrameFault>
+    requires room { at + 4 ≤ length bytes.now }
+    requires high { bound ≤ length bytes.now }
+    ensures found { IfOk result (λ places. Links bytes.now bound (signed 4 (drop at bytes.now)) places.items) }
+    ensures bad { IfErr result (IsBrokenFrom bytes.now at bound (signed 4 (drop at bytes.now))) }
+{
+    let mut places = Vec::new(alloc);
+    let mut named = what_it_names(bytes, at, bound);
+    while let Named::Page(place) = named {
+        if places.push(place).is_err() {
+            return Err(FrameFault::OutOfMemory);
+        }
+        named = what_it_names(bytes, place + 41, place);
+    }
+    match named {
+        Named::Nothing(place) => Err(FrameFault::Bad(BadDvi {
+            place,
+            cause: DviCause::Pointer,
+        })),
+        _ => Ok(places),
+    }
+}
+
+/// Finds the places of the pages from the last one back, the last one first (DVItype, 15 and 19). It takes memory for them.
+///
+/// `Pointer` names the place of a pointer that names no page before it; then `Count` comes at post's place where it gives another number of pages.
+pub fn chain(alloc: Global, bytes: &[u8], ending: &Ending) -> Result<Vec<usize>, FrameFault>
+    requires { Ends bytes.now ending.now.post ending.now.last (postamble ending.now.stop) }
+    // These are the pages that post leads to.
+    ensures found { IfOk result (λ places. Links bytes.now ending.now.post ending.now.stop.last_bop places.items) }
+    // They are as many as post says, modulo 65536.
+    ensures count { IfOk result (λ places. ending.now.stop.pages ≡ length places.items % 65536) }
+    // The rule that a fault names is broken at its place, and those before it hold.
+    ensures bad { IfErr result (IsChainRefusal bytes.now ending.now.post (postamble ending.now.stop)) }
+{
+    let places = match walk(alloc, bytes, ending.post + 1, ending.post) {
+        Ok(places) => places,
+        Err(fault) => return Err(fault),
+    };
+    if places.len() % 65536 != usize::from(ending.stop.pages) {
+        return Err(FrameFault::Bad(BadDvi {
+            place: ending.post,
+            cause: DviCause::Count,
+        }));
+    }
+    Ok(places)
+}

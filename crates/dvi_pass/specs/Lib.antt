@@ -1,0 +1,6 @@
+pub mod Pass
+pub mod View
+pub mod Drawing
+pub mod Turning
+pub mod Passed
+pub mod Reached

@@ -1,0 +1,67 @@
+-- One instruction where the pass stands, and the rule that it breaks (DVItype, 15).
+use Rattle.std.specs.Prelude.{◌≡◌, ◌≢◌, ◌≤◌, [], List, length, map, reverse, ℕ, ℤ, Option, Some, None, Result, Ok, Err, IsSome}
+use Rattle.dvi_ops.specs.Instruction.{SetChar, PutChar, Nop, FontDef, Instruction, Do, Push, Pop, Bop, Eop}
+use Rattle.dvi_ops.specs.Body.{Acts, Widths, kept, kept_in}
+use Rattle.dvi_ops.specs.File.{MarkedPage}
+use Rattle.dvi_frame.specs.declared.fault.DviCause.{DviCause}
+use Rattle.dvi_frame.specs.declared.fault.DviCause.TheVariants.{Opcode, Stack, Glyph, Range}
+use Rattle.dvi_pass.specs.Pass.{Pass, Between, Inside, turn}
+use Rattle.dvi_pass.specs.View.{mark_of, placed, stated}
+use Rattle.dvi_pass.specs.declared.turning.OpenPage.{OpenPage}
+use Rattle.dvi_pass.specs.declared.turning.Stand.{Stand}
+use Rattle.dvi_pass.specs.declared.turning.Stand.TheVariants as stands
+use Rattle.dvi_pass.specs.declared.turning.PassFault.{PassFault}
+use Rattle.dvi_pass.specs.declared.turning.PassFault.TheVariants.{OutOfMemory, Broken}
+
+-- An instruction is allowed where the pass stands: between pages a nop, a font definition and a bop, inside a page all but bop, pre, post and post_post.
+abbrev pub IsAllowed : Pass → Instruction → Type 0
+IsAllowed (Between pages) (Do Nop) = Unit {0}
+IsAllowed (Between pages) (Do (FontDef d)) = Unit {0}
+IsAllowed (Between pages) (Bop counts pointer) = Unit {0}
+IsAllowed (Between pages) i = ⊥
+IsAllowed (Inside pages counts marks stack s) (Do leaf) = Unit {0}
+IsAllowed (Inside pages counts marks stack s) Push = Unit {0}
+IsAllowed (Inside pages counts marks stack s) Pop = Unit {0}
+IsAllowed (Inside pages counts marks stack s) Eop = Unit {0}
+IsAllowed (Inside pages counts marks stack s) i = ⊥
+
+-- A rule that an instruction breaks where the pass stands: it is not allowed; push, pop or eop meets the wrong number of open pushes;
+-- a character is not there, or no font is selected; h or v leaves signed 32 bits.
+abbrev pub BreaksTurn : Acts → (most : ℕ) → Instruction → Pass → DviCause → Type 0
+BreaksTurn does most i p Opcode = IsAllowed p i → ⊥
+BreaksTurn does most Push (Inside pages counts marks stack s) Stack = most ≤ length stack
+BreaksTurn does most Pop (Inside pages counts marks stack s) Stack = stack ≡ []
+BreaksTurn does most Eop (Inside pages counts marks stack s) Stack = stack ≢ []
+BreaksTurn does most (Do leaf) (Inside pages counts marks stack s) Glyph = does leaf s ≡ None
+BreaksTurn does most (Do leaf) (Inside pages counts marks stack s) Range = IsSome (does leaf s) × (kept_in (does leaf s) ≡ None)
+BreaksTurn does most i p cause = ⊥
+
+-- Where the pass stands in an open page, behind these pages.
+abbrev pub inside_of : List MarkedPage → OpenPage → Pass
+inside_of pages p = Inside pages p.counts (map mark_of p.marks.items) (reverse (map placed p.stack.items)) (stated p.state)
+
+-- Where the pass stands, behind these pages.
+abbrev pub pass_at : List MarkedPage → Stand → Pass
+pass_at pages stands.Between = Between pages
+pass_at pages (stands.Inside p) = inside_of pages p
+
+-- A fault is want of memory, or names a rule that is broken.
+abbrev pub IsTurnFault : Acts → (most : ℕ) → Instruction → Pass → PassFault → Type 0
+IsTurnFault does most i p OutOfMemory = Unit {0}
+IsTurnFault does most i p (Broken cause) = BreaksTurn does most i p cause
+
+-- What was found for an instruction in an open page that stays open.
+abbrev pub TurnsPage : Acts → (most : ℕ) → Instruction → List MarkedPage → OpenPage → Result OpenPage PassFault → Type 0
+TurnsPage does most i pages page (Ok next) = turn (kept does) most i (inside_of pages page) ≡ Some (inside_of pages next)
+TurnsPage does most i pages page (Err fault) = IsTurnFault does most i (inside_of pages page) fault
+
+-- What was found for an instruction, with the pages behind it.
+abbrev pub Turns : Acts → (most : ℕ) → Instruction → Pass → (now : List MarkedPage) → Result Stand PassFault → Type 0
+Turns does most i p now (Ok next) = turn (kept does) most i p ≡ Some (pass_at now next)
+Turns does most i p now (Err fault) = IsTurnFault does most i p fault
+
+-- The width that is asked for where the pass stands: that of the character which an instruction sets or puts, in the current font, if one is selected.
+abbrev pub IsAsked : Widths → Instruction → Pass → Option ℤ → Type 0
+IsAsked widths (Do (SetChar c)) (Inside pages counts marks stack s) width = (f : ℤ) → s.font ≡ Some f → width ≡ widths f c
+IsAsked widths (Do (PutChar c)) (Inside pages counts marks stack s) width = (f : ℤ) → s.font ≡ Some f → width ≡ widths f c
+IsAsked widths i p width = Unit {0}

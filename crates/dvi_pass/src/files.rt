@@ -1,0 +1,21 @@
+//! The pass over a whole file, as the contracts of functions that do nothing: it is the definition of a file of these pages, read from front to back.
+
+ghost use Rattle.std.specs.Prelude.{◌≡◌, ◌%◌, List, length, ℕ};
+ghost use Rattle.dvi_ops.specs.File.{IsFile, MarkedPage};
+ghost use Rattle.dvi_ops.specs.Fonts.{Metrics};
+ghost use Rattle.dvi_ops.specs.Instruction.{Postamble};
+ghost use Rattle.dvi_pass.specs.Passed.{IsFramed, IsPassed};
+
+/// What the pass goes over is a file of its pages.
+pub fn passed_is_file()
+    ensures { (metrics : Metrics) (bytes : List ℕ) (post behind last : ℕ) (stop : Postamble) (chain : List ℕ) (pages : List MarkedPage)
+        → IsFramed bytes post behind last stop chain → stop.pages ≡ length chain % 65536
+        → IsPassed metrics bytes post behind last stop chain pages → IsFile metrics bytes pages }
+{}
+
+/// The pass goes over each file, and gives its pages.
+pub fn file_is_passed()
+    ensures { (metrics : Metrics) (bytes : List ℕ) (post behind last : ℕ) (stop : Postamble) (chain : List ℕ) (pages : List MarkedPage)
+        → IsFramed bytes post behind last stop chain
+        → IsFile metrics bytes pages → IsPassed metrics bytes post behind last stop chain pages }
+{}
