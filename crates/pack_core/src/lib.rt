@@ -13,5 +13,5 @@ mod totals;
 
 pub use pack::{Packed, Target, TooLarge, hpack, vpack, vtop};
 pub use places::{Cursor, offset};
-pub use sizes::{advance_of, counted, difference, share_of};
+pub use sizes::{advance_of, counted, difference, share_of, shrink_of, stretch_of};
 pub use totals::dimension;
