@@ -1,8 +1,11 @@
 -- Legal places, counted from the start of a list.
-use Rattle.std.proofs.Common.{◌≡◌, ◌∙◌, ℕ, zero, suc, ◌+◌, ◌<◌, ◌≤◌, Bool, true, false, cond, List, [], ◌∷◌, ◌++◌, length, length-append, refl, ap, sym, subst, arith}
+use Rattle.std.proofs.Common.{◌≡◌, ◌∙◌, ℕ, zero, suc, ◌+◌, ◌<◌, ◌≤◌, Bool, true, false, cond, List, [], ◌∷◌, ◌++◌, length, length-append, drop, get_or, drop-cons, drop_of_length-le, refl, ap, sym, subst, arith}
 use Rattle.std.specs.List.{filter}
 use Rattle.std.proofs.lemmas.List.Elements.{filter-append}
-use Rattle.break_core.specs.Legal.{up_to}
+use Rattle.std.proofs.lemmas.Bool.{cond-true, cond-false}
+use Rattle.node_core.specs.declared.tree.Node.{Node}
+use Rattle.break_core.specs.Legal.{is_dropped, up_to}
+use Rattle.break_core.specs.Kept.{lead}
 
 -- One more number, if it passes.
 pub filter_up : (test : ℕ → Bool) (n : ℕ) → filter test (up_to (n + 1)) ≡ filter test (up_to n) ++ cond (test n) (n ∷ []) []
@@ -25,3 +28,20 @@ count_passed test n is = ap length (filter_passed test n is) ∙ length-append (
 
 pub count_refused : (test : ℕ → Bool) (n : ℕ) → test n ≡ false → length (filter test (up_to (n + 1))) ≡ length (filter test (up_to n))
 count_refused test n is = ap length (filter_refused test n is)
+
+-- An item that is dropped, or not, where lines begin.
+pub lead_dropped : (list : List Node) (i : ℕ) (x : Node) → i < length list → x ≡ get_or list i x → is_dropped x ≡ true → lead (drop i list) ≡ lead (drop (i + 1) list) + 1
+lead_dropped list i x within is dropped =
+    let one : i + 1 ≡ suc i = omega arith in
+    let rest : drop i list ≡ get_or list i x ∷ drop (suc i) list = drop-cons list i x within in
+    let same : drop i list ≡ x ∷ drop (i + 1) list = rest ∙ ap (λ y. y ∷ drop (suc i) list) (sym is) ∙ ap (λ n. x ∷ drop n list) (sym one) in
+    ap lead same ∙ cond-true (is_dropped x) (lead (drop (i + 1) list) + 1) 0 dropped
+
+pub lead_kept : (list : List Node) (i : ℕ) (x : Node) → i < length list → x ≡ get_or list i x → is_dropped x ≡ false → lead (drop i list) ≡ 0
+lead_kept list i x within is kept =
+    let rest : drop i list ≡ get_or list i x ∷ drop (suc i) list = drop-cons list i x within in
+    let same : drop i list ≡ x ∷ drop (suc i) list = rest ∙ ap (λ y. y ∷ drop (suc i) list) (sym is) in
+    ap lead same ∙ cond-false (is_dropped x) (lead (drop (suc i) list) + 1) 0 kept
+
+pub lead_end : (list : List Node) (i : ℕ) → length list ≤ i → lead (drop i list) ≡ 0
+lead_end list i past = ap lead (drop_of_length-le list past)

@@ -8,7 +8,7 @@ mod broken;
 mod cost;
 mod fault;
 mod filling;
-mod list;
+pub mod list;
 mod meter;
 mod passes;
 pub mod sums;
