@@ -12,7 +12,7 @@ use Rattle.pack_core.specs.Totals.{total}
 use Rattle.pack_core.proofs.Sums.{total-append, total_more}
 use Rattle.break_core.specs.declared.sums.Sums.{Sums}
 use Rattle.break_core.specs.Legal.{is_dropped, up_to}
-use Rattle.break_core.specs.Kept.{at_break, without_first, kept, sums_of, lead, amounts_of, plus, minus}
+use Rattle.break_core.specs.Kept.{at_break, without_first, kept, sums_of, lead, first_kept, amounts_of, plus, minus}
 
 take_none : (n : ℕ) → take {A = Node} n [] ≡ []
 take_none zero = refl
@@ -67,12 +67,8 @@ behind_dropped f (x ∷ list) (suc c) (suc b) low =
 abbrev pub IsNothingAtBreaks : (Node → ℤ) → Type 0
 IsNothingAtBreaks f = (node : Option Node) → total f (at_break node) ≡ pos 0
 
--- Where the items of a line begin that are not dropped.
-abbrev pub first_kept : List Node → Option ℕ → ℕ
-first_kept list None = 0
-first_kept list (Some a) = (a + 1) + lead (drop (a + 1) list)
-
-abbrev IsBefore : Option ℕ → ℕ → Type 0
+-- A line begins before its end.
+abbrev pub IsBefore : Option ℕ → ℕ → Type 0
 IsBefore None b = Unit {0}
 IsBefore (Some a) b = a < b
 
@@ -89,3 +85,52 @@ kept_total f list (Some a) b none before =
     let end = none (slice_get list b) in
     let parts = total-append f (without_first (drop (a + 1) (take b list))) (at_break (slice_get list b)) in
     omega (arith, ints, end, parts, behind_dropped f list (a + 1) b (omega arith))
+
+nothing : (f : Node → ℤ) → f (nodes.Kern (pos 0)) ≡ pos 0 → ((penalty : ℤ) → f (nodes.Penalty penalty) ≡ pos 0) → IsNothingAtBreaks f
+nothing f kern penalty None = refl
+nothing f kern penalty (Some (nodes.Kern width)) = omega (arith, ints, kern)
+nothing f kern penalty (Some (nodes.Penalty p)) = omega (arith, ints, penalty p)
+nothing f kern penalty (Some (nodes.Glyph g)) = refl
+nothing f kern penalty (Some (nodes.FontKern width)) = refl
+nothing f kern penalty (Some (nodes.Glue g)) = refl
+nothing f kern penalty (Some (nodes.Rule sizes)) = refl
+nothing f kern penalty (Some (nodes.Box shift b)) = refl
+
+-- The sums over what a line keeps are a difference of sums over first items.
+pub kept_sums :
+    (list : List Node) (from : Option ℕ) (b : ℕ) → IsBefore from b
+    → sums_of (kept list from b) ≡ minus (sums_of (take b list)) (sums_of (take (min b (first_kept list from)) list))
+unfolding sums_of
+kept_sums list from b before =
+    let width = kept_total across list from b (nothing across refl (λ p. refl)) before in
+    let stretch = kept_total (stretch_in Normal) list from b (nothing (stretch_in Normal) refl (λ p. refl)) before in
+    let fil = kept_total (stretch_in Fil) list from b (nothing (stretch_in Fil) refl (λ p. refl)) before in
+    let fill = kept_total (stretch_in Fill) list from b (nothing (stretch_in Fill) refl (λ p. refl)) before in
+    let filll = kept_total (stretch_in Filll) list from b (nothing (stretch_in Filll) refl (λ p. refl)) before in
+    let shrink = kept_total (shrink_in Normal) list from b (nothing (shrink_in Normal) refl (λ p. refl)) before in
+    cc (width, stretch, fil, fill, filll, shrink)
+
+-- Where all is dropped, nothing is left.
+pub kept_nothing :
+    (list : List Node) (from : Option ℕ) (b : ℕ) → IsBefore from b → b ≤ first_kept list from
+    → sums_of (kept list from b) ≡ record { width = pos 0; stretch = pos 0; fil = pos 0; fill = pos 0; filll = pos 0; shrink = pos 0 }
+kept_nothing list from b before all =
+    let n : min b (first_kept list from) ≡ b = omega arith in
+    kept_sums list from b before ∙ ap (λ k. minus (sums_of (take b list)) (sums_of (take k list))) n ∙ none (sums_of (take b list))
+  where
+    none : (s : Sums) → minus s s ≡ record { width = pos 0; stretch = pos 0; fil = pos 0; fill = pos 0; filll = pos 0; shrink = pos 0 }
+    none s =
+        let width : s.width -ℤ s.width ≡ pos 0 = omega (arith, ints) in
+        let stretch : s.stretch -ℤ s.stretch ≡ pos 0 = omega (arith, ints) in
+        let fil : s.fil -ℤ s.fil ≡ pos 0 = omega (arith, ints) in
+        let fill : s.fill -ℤ s.fill ≡ pos 0 = omega (arith, ints) in
+        let filll : s.filll -ℤ s.filll ≡ pos 0 = omega (arith, ints) in
+        let shrink : s.shrink -ℤ s.shrink ≡ pos 0 = omega (arith, ints) in
+        cc (width, stretch, fil, fill, filll, shrink)
+
+pub kept_some :
+    (list : List Node) (from : Option ℕ) (b : ℕ) → IsBefore from b → first_kept list from ≤ b
+    → sums_of (kept list from b) ≡ minus (sums_of (take b list)) (sums_of (take (first_kept list from) list))
+kept_some list from b before some =
+    let n : min b (first_kept list from) ≡ first_kept list from = omega arith in
+    kept_sums list from b before ∙ ap (λ k. minus (sums_of (take b list)) (sums_of (take k list))) n

@@ -1,8 +1,12 @@
 -- Legal places, counted from the start of a list.
-use Rattle.std.proofs.Common.{◌≡◌, ◌∙◌, ℕ, zero, suc, ◌+◌, ◌<◌, ◌≤◌, Bool, true, false, cond, List, [], ◌∷◌, ◌++◌, length, length-append, drop, get_or, drop-cons, drop_of_length-le, refl, ap, sym, subst, arith}
+use Rattle.std.proofs.Common.{◌≡◌, ◌∙◌, ℕ, zero, suc, ◌+◌, ◌<◌, ◌≤◌, Bool, true, false, cond, List, [], ◌∷◌, ◌++◌, length, length-append, drop, get_or, drop-cons, drop_of_length-le, refl, ap, sym, subst, arith, Some}
+use Rattle.std.specs.Prelude.{slice_get}
+use Rattle.std.proofs.Math.Logic.{◌⊎◌, inl, inr}
+use Rattle.std.proofs.lemmas.Option.{same_Some}
+use Rattle.break_table.proofs.Entries.{get_cases}
 use Rattle.std.specs.List.{filter}
 use Rattle.std.proofs.lemmas.List.Elements.{filter-append}
-use Rattle.std.proofs.lemmas.Bool.{cond-true, cond-false}
+use Rattle.std.proofs.lemmas.Bool.{cases_Bool, cond-true, cond-false}
 use Rattle.node_core.specs.declared.tree.Node.{Node}
 use Rattle.break_core.specs.Legal.{is_dropped, up_to}
 use Rattle.break_core.specs.Kept.{lead}
@@ -45,3 +49,35 @@ lead_kept list i x within is kept =
 
 pub lead_end : (list : List Node) (i : ℕ) → length list ≤ i → lead (drop i list) ≡ 0
 lead_end list i past = ap lead (drop_of_length-le list past)
+
+-- The places that pass are below the end, and each is before those behind it.
+pub passed_below : (test : ℕ → Bool) (n k x : ℕ) → slice_get (filter test (up_to n)) k ≡ Some x → (x < n) × (test x ≡ true)
+passed_below test zero k x at = absurd (cc)
+passed_below test (suc n) k x at = cases (λ j here. passed_below test n j x here) (cases_Bool (test n))
+  where
+    one : n + 1 ≡ suc n
+    one = omega arith
+
+    there : (y : ℕ) (j : ℕ) → slice_get (y ∷ []) j ≡ Some x → y ≡ x
+    there y zero is = same_Some y x is
+    there y (suc j) is = absurd (cc)
+
+    last :
+        ((j : ℕ) → slice_get (filter test (up_to n)) j ≡ Some x → (x < n) × (test x ≡ true)) → test n ≡ true
+        → (slice_get (filter test (up_to n)) k ≡ Some x) ⊎ ((j : ℕ) × (k ≡ length (filter test (up_to n)) + j) × (slice_get (n ∷ []) j ≡ Some x))
+        → (x < suc n) × (test x ≡ true)
+    last before passes (inl here) = let old = before k here in (omega (arith, old.0), old.1)
+    last before passes (inr behind) =
+        let same : n ≡ x = there n behind.0 behind.2 in
+        (omega (arith, same), ap test (sym same) ∙ passes)
+
+    cases :
+        ((j : ℕ) → slice_get (filter test (up_to n)) j ≡ Some x → (x < n) × (test x ≡ true)) → (test n ≡ true) ⊎ (test n ≡ false)
+        → (x < suc n) × (test x ≡ true)
+    cases before (inl passes) =
+        let all : filter test (up_to (suc n)) ≡ filter test (up_to n) ++ n ∷ [] = ap (λ m. filter test (up_to m)) (sym one) ∙ filter_passed test n passes in
+        last before passes (get_cases (filter test (up_to n)) (n ∷ []) k x (ap (λ xs. slice_get xs k) (sym all) ∙ at))
+    cases before (inr fails) =
+        let all : filter test (up_to (suc n)) ≡ filter test (up_to n) = ap (λ m. filter test (up_to m)) (sym one) ∙ filter_refused test n fails in
+        let old = before k (ap (λ xs. slice_get xs k) (sym all) ∙ at) in
+        (omega (arith, old.0), old.1)

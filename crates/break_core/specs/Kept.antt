@@ -80,3 +80,8 @@ minus a b =
 -- The sums over the items in front of each place, the end too.
 abbrev pub prefix_sums : List Node → List Sums
 prefix_sums list = map (λ n. sums_of (take n list)) (up_to (length list + 1))
+
+-- Where the items of a line begin that are not dropped first.
+abbrev pub first_kept : List Node → Option ℕ → ℕ
+first_kept list None = 0
+first_kept list (Some a) = (a + 1) + lead (drop (a + 1) list)
