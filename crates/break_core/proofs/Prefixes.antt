@@ -3,7 +3,7 @@ use Rattle.std.proofs.Common.{◌≡◌, ◌∙◌, ℕ, zero, suc, ◌+◌, ◌
 use Rattle.std.specs.Prelude.{ℤ, pos, ◌+ℤ◌, ◌-ℤ◌, slice_get}
 use Rattle.std.proofs.Math.Logic.{◌⊎◌, inl, inr}
 use Rattle.std.proofs.lemmas.Int.{ints}
-use Rattle.std.proofs.lemmas.Option.{same_Some}
+use Rattle.std.proofs.lemmas.Option.{same_Some, slice_get_read}
 use Rattle.std.proofs.lemmas.Bool.{cases_lt}
 use Rattle.scaled_core.specs.Dimensions.{Within}
 use Rattle.node_core.specs.declared.tree.Node.{Node}
@@ -15,7 +15,7 @@ use Rattle.pack_core.proofs.Sums.{total_more}
 use Rattle.break_table.proofs.Entries.{get_left, get_right, get_cases}
 use Rattle.break_core.specs.declared.sums.Sums.{Sums}
 use Rattle.break_core.specs.Legal.{up_to}
-use Rattle.break_core.specs.Kept.{sums_of, amounts_of, plus, minus}
+use Rattle.break_core.specs.Kept.{sums_of, amounts_of, plus, minus, prefix_sums}
 use Rattle.break_core.specs.Small.{IsPrefix, ArePrefixes}
 
 map-append : {A B : Type 0} (f : A → B) (xs ys : List A) → map f (xs ++ ys) ≡ map f xs ++ map f ys
@@ -104,3 +104,17 @@ pub cast_minus :
     (n : ℕ) (x y : ℤ) → n ≤ 2 ^ 48 → Within n x → Within n y
     → to_z w64 (of_z w64 (to_z w64 (of_z w64 x) -ℤ to_z w64 (of_z w64 y))) ≡ x -ℤ y
 cast_minus n x y few a b = omega (arith, ints)
+
+-- What stands in a list of all sums over first items.
+pub prefix_at :
+    (list : List Node) (sums : List Sums) (k : ℕ) (x : Sums)
+    → sums ≡ prefix_sums list → k ≤ length list → x ≡ get_or sums k x → (slice_get sums k ≡ Some x) × (x ≡ sums_of (take k list))
+prefix_at list sums k x is within read =
+    let f = λ (n : ℕ). sums_of (take n list) in
+    let long : length sums ≡ length list + 1 = ap length is ∙ length-mapped f (length list + 1) in
+    let at = slice_get_read sums (length sums) k x refl (omega (arith, long)) read in
+    let there : slice_get sums k ≡ Some (sums_of (take k list)) = ap (λ xs. slice_get xs k) is ∙ mapped_at f (length list + 1) k (omega arith) in
+    (at, same_Some x (sums_of (take k list)) (sym at ∙ there))
+
+pub prefix_count : (list : List Node) (sums : List Sums) → sums ≡ prefix_sums list → length sums ≡ length list + 1
+prefix_count list sums is = ap length is ∙ length-mapped (λ n. sums_of (take n list)) (length list + 1)

@@ -4,18 +4,22 @@
 //! list of breaks that is chosen is the least of all that the first pass admits which admits any. `vert_core` stands above it, with the boxes of the lines.
 #![tactic(auto)]
 
+mod breaking;
 mod broken;
 mod cost;
 mod fault;
 mod filling;
-pub mod list;
+mod list;
+mod list_meter;
 mod meter;
 mod passes;
-pub mod sums;
+mod sums;
 
 pub use break_table::Class;
+pub use breaking::breaks;
 pub use broken::{Breaks, LineEnd, Pass};
 pub use fault::BreakFault;
+pub use list_meter::ListMeter;
 pub use meter::{Meter, Place};
 pub use passes::breaks_of;
 pub use sums::Sums;
