@@ -35,11 +35,13 @@ first_table p =
     none : (k : ℕ) (e : Entry) → 0 < k → slice_get (first_entry ∷ []) k ≡ Some e → ⊥
     none zero e some is = omega arith
     none (suc k) e some is = cc
+
     at : (k : ℕ) (e : Entry) → slice_get (first_entry ∷ []) k ≡ Some e → (e.end.place < 1) × (e.end.lines ≤ p.cut)
     at zero e is =
         let same : first_entry ≡ e = same_Some first_entry e is in
         (omega (arith, ap (λ x. x.end.place) same), omega (arith, ap (λ x. x.end.lines) same))
     at (suc k) e is = absurd (cc)
+
     whole : (w : Path) → Way p w → w.last.place < 1 → (k : ℕ) × (e : Entry) × (slice_get (first_entry ∷ []) k ≡ Some e) × (e.end ≡ w.last)
     whole _ starts below = (0, first_entry, refl, refl)
     whole _ (goes q b l way later since_b is) below = absurd (omega arith)
@@ -70,12 +72,16 @@ row_best p b table row k s e is full some at behind =
   where
     h : IsHeld p table b (length table) s e
     h = full.held s e at
+
     reached : IsReached p e
     reached = offered_reached p b table (full.held s e at).k e is (full.held s e at).offered
+
     ext : IsExtended p (full.held s e at).offered.by (full.held s e at).k b e
     ext = extended_is p (full.held s e at).offered.by (full.held s e at).k b e (full.held s e at).offered.offers
+
     index : e.index ≡ (full.held s e at).k
     index = ap (λ x. x.index) (extended_is p (full.held s e at).offered.by (full.held s e at).k b e (full.held s e at).offered.offers).is
+
     best : (j : ℕ) (f : Entry) → IsOffered p table b j f → f.end ≡ e.end → NotAfter (short e) (short f)
     best j f offered ends =
         let m = full.met j f (slice_get_within table j offered.by offered.stands) offered in
@@ -103,6 +109,7 @@ next_table p b table row some is full =
     best k e after (inr there) =
         let at = held_from row there.0 e there.2 in
         row_best p b table row k at.0 e is full some at.1 (omega (arith, there.1))
+
     below :
         (k : ℕ) (e : Entry) → (slice_get table k ≡ Some e) ⊎ ((j : ℕ) × (k ≡ length table + j) × (slice_get (held_in row) j ≡ Some e))
         → (e.end.place < b + 1) × (e.end.lines ≤ p.cut)
@@ -112,6 +119,7 @@ next_table p b table row some is full =
         let h = full.held at.0 e at.1 in
         let new = offered_at p table b h.k e h.offered in
         (omega (arith, new.0), new.1)
+
     whole :
         (w : Path) → Way p w → (w.last.place < b) ⊎ (b ≤ w.last.place) → w.last.place < b + 1
         → (k : ℕ) × (e : Entry) × (slice_get (table ++ held_in row) k ≡ Some e) × (e.end ≡ w.last)
@@ -156,7 +164,7 @@ chosen p places table (suc k) same_places some is best w least =
             let one = least_once p best.entry.end best.entry.end w (way_to p best.entry mine.reached) refl least mine.least in
             let first = short_decides p best.entry f mine.reached other.reached h in
             let all = not_after_trans (key (way_to p best.entry mine.reached)) (key (way_to p f other.reached)) (key u) first
-                (other.least.least u way (sym ends)) in
+            (other.least.least u way (sym ends)) in
             subst (λ x. NotAfter (key x) (key u)) (sym one) all
 
 -- What is read of the best entry of the last place is the list that is chosen.
@@ -201,9 +209,9 @@ read_more table whole k e read after stands is p b table_is top before at there 
     let behind : v ≡ best.reached.before = least_once p before.end e.from v best.reached.before from least_v best.reached.least in
     let so_far : ends_of w ≡ read ++ ends_of way = is p b table_is top e at stands w way least_w best.least in
     let last : ends_of way ≡ e.end ∷ ends_of best.reached.before =
-        ap (λ s. s ∷ ends_of best.reached.before) (way_ends p e best.reached) in
+    ap (λ s. s ∷ ends_of best.reached.before) (way_ends p e best.reached) in
     let same : ends_of w ≡ read ++ (e.end ∷ ends_of v) =
-        so_far ∙ ap (λ xs. read ++ xs) (last ∙ ap (λ u. e.end ∷ ends_of u) (sym behind)) in
+    so_far ∙ ap (λ xs. read ++ xs) (last ∙ ap (λ u. e.end ∷ ends_of u) (sym behind)) in
     same ∙ sym (append_assoc read (e.end ∷ []) (ends_of v))
 
 pub read_all : (table : List Entry) (whole : ℕ) (read : List State) → IsReading table whole 0 read → IsRead table whole read

@@ -65,6 +65,7 @@ pub best_taken :
     (table : List Entry) (place n k : ℕ) (e : Entry) (best : IsBestEnd table place n k)
     → slice_get table n ≡ Some e → e.end.place ≡ place → NotAfter (short e) (short best.entry) → IsBestEnd table place (n + 1) n
 best_taken table place n k e best stands here h =
-    best_of table place n n e e stands stands here
-    ((λ j f below at of_place. not_after_trans (short e) (short best.entry) (short f) h (best.best j f below at of_place)),
-    λ _. not_after_refl (short e))
+    best_of table place n n e e stands stands here (
+      (λ j f below at of_place. not_after_trans (short e) (short best.entry) (short f) h (best.best j f below at of_place)),
+      λ _. not_after_refl (short e),
+    )

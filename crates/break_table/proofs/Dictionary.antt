@@ -63,13 +63,13 @@ pub longer_not_after :
     → q.last ≡ r.last → NotAfter (key q) (key r) → NotAfter (key (with_line p q b l)) (key (with_line p r b l))
 longer_not_after p q r b l same h =
     let ends : numbers_of (state_after p.cut q.last b l ∷ []) ≡ numbers_of (state_after p.cut r.last b l ∷ []) =
-        ap (λ s. numbers_of (state_after p.cut s b l ∷ [])) same in
+    ap (λ s. numbers_of (state_after p.cut s b l ∷ [])) same in
     subst
-        (λ front. NotAfter (key (with_line p q b l))
-            ((r.overhang +ℤ l.overhang) ∷ (r.demerits +ℤ l.demerits) ∷ (front ++ numbers_of (r.last ∷ r.before))))
-        ends
-        (longer q.overhang q.demerits r.overhang r.demerits l.overhang l.demerits (numbers_of (state_after p.cut q.last b l ∷ []))
-            (numbers_of (q.last ∷ q.before)) (numbers_of (r.last ∷ r.before)) h)
+    (λ front. NotAfter (key (with_line p q b l))
+    ((r.overhang +ℤ l.overhang) ∷ (r.demerits +ℤ l.demerits) ∷ (front ++ numbers_of (r.last ∷ r.before))))
+    ends
+    (longer q.overhang q.demerits r.overhang r.demerits l.overhang l.demerits (numbers_of (state_after p.cut q.last b l ∷ []))
+    (numbers_of (q.last ∷ q.before)) (numbers_of (r.last ∷ r.before)) h)
 
 -- The number of a class tells the class.
 abbrev class_of : ℕ → Class

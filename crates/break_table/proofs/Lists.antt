@@ -21,6 +21,7 @@ contains_rest b rest x h below = cases (Contains-append_cases (b ∷ []) rest x 
     head : Contains [] x ⊎ (b ≡ x) → Contains rest x
     head (inl none) = absurd (contains_none x none)
     head (inr same) = absurd (omega (arith, same))
+
     cases : Contains (b ∷ []) x ⊎ Contains rest x → Contains rest x
     cases (inl here) = head (Contains-push_cases [] b x here)
     cases (inr there) = there
@@ -33,6 +34,7 @@ contained_top (b ∷ rest) x falls h = cases (λ there. contained_top rest x fal
     head : Contains [] x ⊎ (b ≡ x) → x ≤ b
     head (inl none) = absurd (contains_none x none)
     head (inr same) = omega (arith, same)
+
     cases : (Contains rest x → x ≤ top rest) → Contains (b ∷ []) x ⊎ Contains rest x → x ≤ b
     cases before (inl here) = head (Contains-push_cases [] b x here)
     cases before (inr there) = omega (arith, before there, falls.0)
@@ -53,12 +55,14 @@ way_of p (b ∷ rest) q falls forced is =
   where
     fewer : HasForced p (top rest) rest
     fewer f some within here = contains_rest b rest f (forced f some (omega (arith, falls.0)) here) (omega (arith, falls.0))
+
     late : (x : ℕ) → x ≡ top rest → (0 < since p b) ⊎ (since p b ≤ 0) → since p b ≤ x
     late x is_top (inr none) = omega arith
     late x is_top (inl above) =
         let at = since_forced p b above in
         let has = forced (since p b) above (omega (arith, at.1)) at.0 in
         omega (arith, contained_top rest (since p b) falls.1 (contains_rest b rest (since p b) has at.1))
+
     lines :
         (r : Path) (l : Option Line) → Way p r × (r.last.place ≡ top rest) → p.line r.last b ≡ l → with_line_if p r b l ≡ Some q
         → Way p q × (q.last.place ≡ b)
@@ -67,6 +71,7 @@ way_of p (b ∷ rest) q falls forced is =
         let same : with_line p r b l ≡ q = same_Some (with_line p r b l) q gives in
         let goes_on = goes r b l way.0 (omega (arith, way.1, falls.0)) (late r.last.place way.1 (cases_lt 0 (since p b))) at in
         (subst (λ s. Way p s) same goes_on, sym (ap (λ s. s.last.place) same))
+
     cases :
         ((r : Path) → HasForced p (top rest) rest → path_of p rest ≡ Some r → Way p r × (r.last.place ≡ top rest))
         → (r : Option Path) → path_of p rest ≡ r → lengthened p r b ≡ Some q → Way p q × (q.last.place ≡ b)
@@ -117,6 +122,7 @@ pub break_list_of_way :
     → IsBreakList p (places_of (ends_of q)) × (path_of p (places_of (ends_of q)) ≡ Some q)
 break_list_of_way p q way at =
     let list = list_of p q way in
-    subst (λ places. IsBreakList p places × (path_of p places ≡ Some q)) list.same
-    (record { falls = list.falls; ends = list.ends ∙ at; forced = λ f some within here. list.forced f some (omega (arith, at)) here },
-    list.admitted)
+    subst (λ places. IsBreakList p places × (path_of p places ≡ Some q)) list.same (
+      record { falls = list.falls; ends = list.ends ∙ at; forced = λ f some within here. list.forced f some (omega (arith, at)) here },
+      list.admitted,
+    )

@@ -40,23 +40,25 @@ pub live_more :
     → p.forced b ≡ false → IsLive p table b at groups
     → g.start ≡ length table → IsGroup p (table ++ more) (b + 1) g → g.end ≡ length (table ++ more)
     → IsLive p (table ++ more) (b + 1) at (groups ++ g ∷ [])
-live_more p table more b at [] g free is start group end =
-    (omega (arith, is.0),
-    subst (λ n. IsSilent p (table ++ more) (b + 1) at n) (sym start) (silent_longer p table more b (b + 1) at (length table) (omega arith) (omega arith) is.1),
-    group,
-    (omega (arith, end), λ k e low high there l behind. absurd (omega (arith, end))))
+live_more p table more b at [] g free is start group end = (
+  omega (arith, is.0),
+  subst (λ n. IsSilent p (table ++ more) (b + 1) at n) (sym start) (silent_longer p table more b (b + 1) at (length table) (omega arith) (omega arith) is.1),
+  group,
+  (omega (arith, end), λ k e low high there l behind. absurd (omega (arith, end))),
+)
 live_more p table more b at (h ∷ groups) g free is start group end =
-    let old = is.2 in
-    (is.0,
-    silent_longer p table more b (b + 1) at h.start (omega arith) (omega (arith, old.rises, old.within)) is.1,
-    record {
-      rises = old.rises;
-      within = omega (arith, old.within, length-append table more);
-      since = omega (arith, old.since, since_free p b free);
-      earlier = omega (arith, old.earlier);
-      entries = λ k e low high there. old.entries k e low high (shorter table more k e (omega (arith, old.within)) there);
-    },
-    live_more p table more b h.end groups g free is.3 start group end)
+    let old = is.2 in (
+      is.0,
+      silent_longer p table more b (b + 1) at h.start (omega arith) (omega (arith, old.rises, old.within)) is.1,
+      record {
+        rises = old.rises;
+        within = omega (arith, old.within, length-append table more);
+        since = omega (arith, old.since, since_free p b free);
+        earlier = omega (arith, old.earlier);
+        entries = λ k e low high there. old.entries k e low high (shorter table more k e (omega (arith, old.within)) there);
+      },
+      live_more p table more b h.end groups g free is.3 start group end,
+    )
 
 -- Where the next place must be taken, no other group stays.
 pub live_forced :
@@ -98,17 +100,18 @@ new_group p table row b g full some place start end =
 
 -- Before any place there is the group of the start.
 pub first_live : (p : Problem) (g : Group) → g.place ≡ 0 → g.start ≡ 0 → g.end ≡ 1 → IsLive p (first_entry ∷ []) 1 0 (g ∷ [])
-first_live p g place start end =
-    (omega arith,
-    (λ k e low high at l behind. absurd (omega (arith, start))),
-    record {
-      rises = omega (arith, start, end);
-      within = omega (arith, end);
-      since = omega (arith, since_below p 1 (omega arith));
-      earlier = omega (arith, place);
-      entries = λ k e low high at. entry k e (omega (arith, end)) at;
-    },
-    (omega (arith, end), λ k e low high at l behind. absurd (omega (arith, end))))
+first_live p g place start end = (
+  omega arith,
+  (λ k e low high at l behind. absurd (omega (arith, start))),
+  record {
+    rises = omega (arith, start, end);
+    within = omega (arith, end);
+    since = omega (arith, since_below p 1 (omega arith));
+    earlier = omega (arith, place);
+    entries = λ k e low high at. entry k e (omega (arith, end)) at;
+  },
+  (omega (arith, end), λ k e low high at l behind. absurd (omega (arith, end))),
+)
   where
     entry : (k : ℕ) (e : Entry) → k < 1 → slice_get (first_entry ∷ []) k ≡ Some e → e.end.place ≡ g.place
     entry zero e low at = sym (ap (λ x. x.end.place) (same_Some first_entry e at)) ∙ sym place

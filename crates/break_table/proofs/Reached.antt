@@ -36,7 +36,7 @@ way_is p e r =
     let from : r.before.last ≡ e.from = r.least.ends in
     let place : r.before.last.place ≡ e.from.place = ap (λ s. s.place) from in
     goes r.before e.end.place r.line r.least.way (omega (arith, place, r.later)) (omega (arith, place, r.since))
-        (ap (λ s. p.line s e.end.place) from ∙ r.admitted)
+    (ap (λ s. p.line s e.end.place) from ∙ r.admitted)
 
 -- The numbers of an entry are the front of those of its way.
 key_short : (p : Problem) (e : Entry) (r : IsReached p e) → key (way_to p e r) ≡ short e ++ numbers_of r.before.before
@@ -54,7 +54,7 @@ pub short_decides :
 short_decides p e f left right h =
     subst (λ xs. NotAfter xs (key (way_to p f right))) (sym (key_short p e left))
     (subst (λ ys. NotAfter (short e ++ numbers_of left.before.before) ys) (sym (key_short p f right))
-        (not_after_front (short e) (short f) (numbers_of left.before.before) (numbers_of right.before.before) refl h behind))
+    (not_after_front (short e) (short f) (numbers_of left.before.before) (numbers_of right.before.before) refl h behind))
   where
     behind : short e ≡ short f → NotAfter (numbers_of left.before.before) (numbers_of right.before.before)
     behind same =
@@ -78,6 +78,7 @@ extended_is p e k b o is = cases (cases_Bool (nat_le (since p b) e.end.place))
     lines None late at gives = absurd (cc)
     lines (Some l) late at gives =
         record { since = late; line = l; admitted = at; is = sym (same_Some (extended p.cut e k b l) o gives) }
+
     cases : (nat_le (since p b) e.end.place ≡ true) ⊎ (nat_le (since p b) e.end.place ≡ false) → IsExtended p e k b o
     cases (inl late) =
         lines (p.line e.end b) (leb-true (since p b) e.end.place late) refl

@@ -94,28 +94,33 @@ row_step p table b n e o r old row stands offers was kept is =
   where
     offered_o : IsOffered p table b n o
     offered_o = record { by = e; stands = stands; offers = offers }
+
     written : slice_get (set row (slot o.end) (Some r)) (slot o.end) ≡ Some (Some r)
     written = get-set_same row (slot o.end) (Some r) old was
+
     -- What the slot holds now.
     now : (r ≡ o) ⊎ (old ≡ Some r) → IsHeld p table b (n + 1) (slot o.end) r
     now (inl same) = subst (λ x. IsHeld p table b (n + 1) (slot o.end) x) (sym same) (record { k = n; below = omega arith; offered = offered_o; here = refl })
     now (inr same) = held_more p table b n (n + 1) (slot o.end) r (omega arith) (is.held (slot o.end) r (was ∙ ap Some same))
+
     held :
         (s : ℕ) (f : Entry) → slice_get (set row (slot o.end) (Some r)) s ≡ Some (Some f) → (s ≡ slot o.end) ⊎ (s ≡ slot o.end → ⊥)
         → IsHeld p table b (n + 1) s f
     held s f at (inl same) =
         let there : slice_get (set row (slot o.end) (Some r)) (slot o.end) ≡ Some (Some f) =
-            ap (slice_get (set row (slot o.end) (Some r))) (sym same) ∙ at in
+        ap (slice_get (set row (slot o.end) (Some r))) (sym same) ∙ at in
         let one : r ≡ f = cc (written, there) in
         subst (λ x. IsHeld p table b (n + 1) x f) (sym same) (subst (λ x. IsHeld p table b (n + 1) (slot o.end) x) one (now kept.is))
     held s f at (inr other) =
         held_more p table b n (n + 1) s f (omega arith) (is.held s f (sym (get-set_other row (slot o.end) s (Some r) other) ∙ at))
+
     end_of_r : r.end ≡ o.end
     end_of_r =
         let h = now kept.is in
         let place : r.end.place ≡ b = (offered_at p table b h.k r h.offered).0 in
         let place_o : o.end.place ≡ b = (offered_at p table b n o offered_o).0 in
         slot_apart r.end o.end (place ∙ sym place_o) h.here
+
     -- An offer in another slot is met by what stood there, one in this slot by what stands there now.
     spread : (f : Entry) → f.end.place ≡ b → IsMet row f → (slot f.end ≡ slot o.end) ⊎ (slot f.end ≡ slot o.end → ⊥) → IsMet (set row (slot o.end) (Some r)) f
     spread f at m (inl same) =
@@ -136,6 +141,7 @@ row_step p table b n e o r old row stands offers was kept is =
           same = m.same;
           before = m.before;
         }
+
     met : (k : ℕ) (f : Entry) → k < n + 1 → IsOffered p table b k f → (k < n) ⊎ (n ≤ k) → IsMet (set row (slot o.end) (Some r)) f
     met k f below offered (inl before) =
         spread f (offered_at p table b k f offered).0 (is.met k f before offered) (cases_eq (slot f.end) (slot o.end))

@@ -29,6 +29,7 @@ forced_within p f (suc b) below is = cases (λ under. forced_within p f b under 
     lower : (f < b → f ≤ since p b) → p.forced b ≡ false → (f ≡ b) ⊎ (f ≡ b → ⊥) → f ≤ since p b
     lower before not_b (inl same) = let here : p.forced b ≡ true = sym (ap p.forced same) ∙ is in absurd (cc)
     lower before not_b (inr other) = before (omega (arith, other))
+
     cases : (f < b → f ≤ since p b) → (p.forced b ≡ true) ⊎ (p.forced b ≡ false) → f ≤ since p (suc b)
     cases before (inl at_b) =
         let same : since p (suc b) ≡ b = cond-true (p.forced b) b (since p b) at_b in

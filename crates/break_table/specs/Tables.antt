@@ -19,14 +19,18 @@ pub record Entry : Type 0 where
   pub from : State
   pub index : ℕ
 
--- Each line adds so little that a total of so many lines is below 2 ^ 62.
+-- A line hangs over by at most so much.
+abbrev pub most_overhang : ℕ
+most_overhang = 3 * 2 ^ 48 + 2 ^ 31
+
+-- Each line adds so little that a total of so many lines is below 2 ^ 63.
 pub record IsSmall (e : Entry) : Type 0 where
   pub places : e.end.place ≤ most_places
-  pub overhang : Within (2 ^ 49 * e.end.place) e.overhang
+  pub overhang : Within (most_overhang * e.end.place) e.overhang
   pub demerits : Within (2 ^ 30 * e.end.place) e.demerits
 
 pub record IsSmallLine (line : Line) : Type 0 where
-  pub overhang : Within (2 ^ 49) line.overhang
+  pub overhang : Within most_overhang line.overhang
   pub demerits : Within (2 ^ 30) line.demerits
 
 -- The entry of the start.

@@ -65,7 +65,11 @@ fn read_back(alloc: Global, table: &[Best], at: usize) -> Result<Vec<State>, All
 }
 
 /// The list of breaks that is chosen, out of a table for all places, or None where no list is admitted.
-pub fn chosen_list(alloc: Global, table: &[Best], places: usize) -> Result<Option<Least>, AllocError>
+pub fn chosen_list(
+    alloc: Global,
+    table: &[Best],
+    places: usize,
+) -> Result<Option<Least>, AllocError>
     requires some { 0 < places }
     requires table { IsSomeTable table.now }
     ensures { (p : Problem) → p.places ≡ places → IsTable p (places + 1) table.now →

@@ -64,7 +64,11 @@ impl State {
         requires counted { self.lines ≤ cut }
         ensures { result ≡ state_after cut self place line }
     {
-        let lines = if self.lines < cut { self.lines + 1 } else { cut };
+        let lines = if self.lines < cut {
+            self.lines + 1
+        } else {
+            cut
+        };
         State {
             place,
             lines,

@@ -17,6 +17,15 @@ pub total-append : (size : Node → ℤ) (xs ys : List Node) → total size (xs 
 total-append size [] ys = omega (arith, ints)
 total-append size (x ∷ xs) ys = omega (arith, ints, total-append size xs ys)
 
+pub total_more :
+    (size : Node → ℤ) (xs : List Node) (i : ℕ) (x : Node) → i < length xs → x ≡ get_or xs i x
+    → total size (take (i + 1) xs) ≡ total size (take i xs) +ℤ size x
+total_more size xs i x within is =
+    let all : total size (take (i + 1) xs) ≡ total size (take i xs ++ get_or xs i x ∷ []) = ap (total size) (take_more xs i x within) in
+    let parts = total-append size (take i xs) (get_or xs i x ∷ []) in
+    let same : size (get_or xs i x) ≡ size x = ap size (sym is) in
+    omega (arith, ints, all, parts, same)
+
 pub greatest_positive : (size : Node → ℤ) (xs : List Node) → pos 0 ≤ℤ greatest size xs
 greatest_positive size [] = omega (arith, ints)
 greatest_positive size (x ∷ xs) = omega (arith, ints, clamps, greatest_positive size xs)

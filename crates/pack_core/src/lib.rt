@@ -16,5 +16,5 @@ mod totals;
 pub use orders::{OrderAmounts, OrderDimens};
 pub use pack::{Packed, Target, TooLarge, hpack, vpack, vtop};
 pub use places::{Cursor, offset};
-pub use sizes::{advance_of, own_size, share_of};
+pub use sizes::{advance_of, own_size, share_of, shrink_of, stretch_of};
 pub use totals::Totals;

@@ -11,7 +11,7 @@ returns-then-end-place c =
     let table = c.args.table.now in
     let stands = slice_get_read table (length table) c.args.index c.index-table-index.result refl c.requires.within c.index-table-index.is in
     best_other table c.args.place c.args.index c.index-table-index.result c.args.best stands
-        (λ here. c.if-end-place.true (ap (λ s. s.place) c.end.ensures.end ∙ here)) c.requires.best
+    (λ here. c.if-end-place.true (ap (λ s. s.place) c.end.ensures.end ∙ here)) c.requires.best
 
 pub returns-in_default : goal.returns-in_default
 returns-in_default c =
@@ -19,7 +19,7 @@ returns-in_default c =
     let stands = slice_get_read table (length table) c.args.index c.index-table-index.result refl c.requires.within c.index-table-index.is in
     let none = MatchOption-at_none (HasNoEnd table c.args.place c.args.index) (IsBestEnd table c.args.place c.args.index) c.in_default.is c.requires.best in
     best_first table c.args.place c.args.index c.index-table-index.result stands
-        (sym (ap (λ s. s.place) c.end.ensures.end) ∙ c.if-end-place.false) none
+    (sym (ap (λ s. s.place) c.end.ensures.end) ∙ c.if-end-place.false) none
 
 pub bounds-table-old : goal.bounds-table-old
 bounds-table-old c =
@@ -42,7 +42,7 @@ returns-then-is_not_after c =
     let old = slice_get_read table (length table) c.in-Some.old c.index-table-old.result refl (slice_get_within table c.in-Some.old best.entry best.stands) c.index-table-old.is in
     let same = same_Some c.index-table-old.result best.entry (sym old ∙ best.stands) in
     best_stays table c.args.place c.args.index c.in-Some.old c.index-table-index.result best stands
-        (subst (λ x. NotAfter (short x) (short c.index-table-index.result)) same (c.is_not_after.ensures.not_after c.if-is_not_after.true))
+    (subst (λ x. NotAfter (short x) (short c.index-table-index.result)) same (c.is_not_after.ensures.not_after c.if-is_not_after.true))
 
 pub returns : goal.returns
 returns c =
@@ -52,5 +52,5 @@ returns c =
     let old = slice_get_read table (length table) c.in-Some.old c.index-table-old.result refl (slice_get_within table c.in-Some.old best.entry best.stands) c.index-table-old.is in
     let same = same_Some c.index-table-old.result best.entry (sym old ∙ best.stands) in
     best_taken table c.args.place c.args.index c.in-Some.old c.index-table-index.result best stands
-        (sym (ap (λ s. s.place) c.end.ensures.end) ∙ c.if-end-place.false)
-        (subst (λ x. NotAfter (short c.index-table-index.result) (short x)) same (c.is_not_after.ensures.after c.if-is_not_after.false))
+    (sym (ap (λ s. s.place) c.end.ensures.end) ∙ c.if-end-place.false)
+    (subst (λ x. NotAfter (short c.index-table-index.result) (short x)) same (c.is_not_after.ensures.after c.if-is_not_after.false))

@@ -13,12 +13,12 @@ pub returns-in_default : goal.returns-in_default
 returns-in_default c = λ p same is.
     let table = c.args.table.now in
     admits_none p table (subst (λ n. IsTable p (n + 1) table) (sym same) is)
-        (subst (λ n. HasNoEnd table n (length table)) (sym same) c.in_default.ensures)
+    (subst (λ n. HasNoEnd table n (length table)) (sym same) c.in_default.ensures)
 
 pub offset_bounds-table-index : goal.offset_bounds-table-index
 offset_bounds-table-index c =
     let within : c.in-Some.index < length c.args.table.now =
-        slice_get_within c.args.table.now c.in-Some.index c.in-Some.ensures.entry c.in-Some.ensures.stands in
+    slice_get_within c.args.table.now c.in-Some.index c.in-Some.ensures.entry c.in-Some.ensures.stands in
     search rules
 
 pub bounds-table-index : goal.bounds-table-index
@@ -34,9 +34,9 @@ returns c = λ p same is.
     let best = c.in-Some.ensures in
     let stands = slice_get_read table (length table) c.in-Some.index e refl (slice_get_within table c.in-Some.index best.entry best.stands) c.index-table-index.is in
     answered p c.args.places table c.in-Some.index e
-        (record {
-          ends = c.in_ok-ends.ends;
-          overhang = to_z w64 (of_z w64 c.overhang.result);
-          demerits = to_z w64 (of_z w64 c.demerits.result);
-        })
-        same c.requires.some is best stands c.in_ok-ends.ensures (omega (arith, ints)) (omega (arith, ints))
+    (record {
+      ends = c.in_ok-ends.ends;
+      overhang = to_z w64 (of_z w64 c.overhang.result);
+      demerits = to_z w64 (of_z w64 c.demerits.result);
+    })
+    same c.requires.some is best stands c.in_ok-ends.ensures (omega (arith, ints)) (omega (arith, ints))

@@ -28,7 +28,7 @@ loop-index-preserved c =
     let best = c.requires.table.2.best c.loop-index.index e (omega (arith, c.loop-index-test.true)) stands in
     let more = read_more table c.args.at c.loop-index.index e c.loop-index.ends.items (omega (arith, c.loop-index-test.true)) stands c.loop-index.invariant.read in
     let items : c.push.new.self.items ≡ c.loop-index.ends.items ++ e.end ∷ [] =
-        c.in_ok-push.ensures.items ∙ ap (λ s. c.loop-index.ends.items ++ s ∷ []) c.end.ensures.end in
+    c.in_ok-push.ensures.items ∙ ap (λ s. c.loop-index.ends.items ++ s ∷ []) c.end.ensures.end in
     record {
       within = omega (arith, best.earlier, c.index-index.ensures, c.loop-index.invariant.within);
       read = subst (λ k. IsReading table c.args.at k c.push.new.self.items) (sym c.index-index.ensures)

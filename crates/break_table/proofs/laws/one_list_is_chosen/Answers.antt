@@ -6,4 +6,4 @@ pub returns : goal.returns
 returns c = λ p q r left right.
     key_apart q r
     (not_after_antisym (key q) (key r) (left.least (places_of (ends_of r)) r right.is_list right.admitted)
-        (right.least (places_of (ends_of q)) q left.is_list left.admitted))
+    (right.least (places_of (ends_of q)) q left.is_list left.admitted))

@@ -9,7 +9,7 @@ use Rattle.break_table.proofs.row.improve.Goals as goal
 pub returns-in_default-clause-row : goal.returns-in_default-clause-row
 returns-in_default-clause-row c = λ p table cut stands late line is.
     row_none p table c.args.place c.args.index c.args.entry c.args.row.now.items stands
-        (offer_is p c.args.entry c.args.index c.args.place None late (line ∙ c.in_default.is)) is
+    (offer_is p c.args.entry c.args.index c.args.place None late (line ∙ c.in_default.is)) is
 
 pub returns-clause-row : goal.returns-clause-row
 returns-clause-row c = λ p table cut stands late line is.
@@ -17,10 +17,10 @@ returns-clause-row c = λ p table cut stands late line is.
     let e = c.args.entry in
     let row = c.args.row.now.items in
     let offers : offer p e c.args.index c.args.place ≡ Some o =
-        offer_is p e c.args.index c.args.place (Some c.in-Some.line) late (line ∙ c.in-Some.is)
-        ∙ ap Some (ap (λ n. extended n e c.args.index c.args.place c.in-Some.line) cut ∙ sym c.extended-offered.ensures) in
+    offer_is p e c.args.index c.args.place (Some c.in-Some.line) late (line ∙ c.in-Some.is)
+    ∙ ap Some (ap (λ n. extended n e c.args.index c.args.place c.in-Some.line) cut ∙ sym c.extended-offered.ensures) in
     let here : c.slot-slot.result ≡ slot o.end = c.slot-slot.ensures.slot ∙ ap slot c.end.ensures.end in
     let was = slice_get_read row (length row) c.slot-slot.result c.index.result.now refl (omega (arith, c.slot-slot.ensures.within, c.requires.wide)) c.index.ensures in
     subst (λ s. IsRow p table c.args.place (c.args.index + 1) (set row s (Some c.kept.result))) (sym here)
-        (row_step p table c.args.place c.args.index e o c.kept.result c.index.result.now row stands offers
-            (ap (slice_get row) (sym here) ∙ was) c.kept.ensures is)
+    (row_step p table c.args.place c.args.index e o c.kept.result c.index.result.now row stands offers
+    (ap (slice_get row) (sym here) ∙ was) c.kept.ensures is)

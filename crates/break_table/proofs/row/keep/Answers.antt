@@ -26,12 +26,12 @@ loop-slot-preserved c =
     let more = held_in_more c.args.row.now c.loop-slot.slot-index c.slot-item.result c.loop-slot-test.true c.slot-item.is in
     let held = held_in (take c.loop-slot.slot-index c.args.row.now) in
     elim c.match-slot.branch [
-      in-Some+in_ok-push w ↦
-        one_more c.match-slot.table.items c.loop-slot.table.items c.args.table.now.items held w.in-Some.entry c.slot-item.result
+      | in-Some+in_ok-push w ↦
+          one_more c.match-slot.table.items c.loop-slot.table.items c.args.table.now.items held w.in-Some.entry c.slot-item.result
           (ap (λ v. v.items) w.table-is ∙ w.in_ok-push.ensures.items) c.loop-slot.invariant w.in-Some.is
-        ∙ ap (λ xs. c.args.table.now.items ++ xs) (sym more)
-    | in_default w ↦
-        no_more c.match-slot.table.items c.loop-slot.table.items c.args.table.now.items held c.slot-item.result
+          ∙ ap (λ xs. c.args.table.now.items ++ xs) (sym more)
+      | in_default w ↦
+          no_more c.match-slot.table.items c.loop-slot.table.items c.args.table.now.items held c.slot-item.result
           (ap (λ v. v.items) w.table-is) c.loop-slot.invariant w.in_default.is
-        ∙ ap (λ xs. c.args.table.now.items ++ xs) (sym more)
+          ∙ ap (λ xs. c.args.table.now.items ++ xs) (sym more)
     ]

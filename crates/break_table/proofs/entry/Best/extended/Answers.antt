@@ -25,15 +25,15 @@ returns c =
     let overhang : c.self.inside.overhang ≡ c.args.self.overhang = ap (λ e. e.overhang) c.self.view_is in
     let demerits : c.self.inside.demerits ≡ c.args.self.demerits = ap (λ e. e.demerits) c.self.view_is in
     let end : c.after.result ≡ state_after c.args.cut c.args.self.end c.args.place c.args.line =
-        c.after.ensures ∙ ap (λ s. state_after c.args.cut s c.args.place c.args.line) from in
+    c.after.ensures ∙ ap (λ s. state_after c.args.cut s c.args.place c.args.line) from in
     let o : to_z w64 (of_z w64 (to_z w64 (of_z w64 c.self.inside.overhang) +ℤ to_z w64 (of_z w64 c.args.line.overhang))) ≡ c.args.self.overhang +ℤ c.args.line.overhang =
-        omega (arith, ints) in
+    omega (arith, ints) in
     let d : to_z w64 (of_z w64 (to_z w64 (of_z w64 c.self.inside.demerits) +ℤ to_z w64 (of_z w64 c.args.line.demerits))) ≡ c.args.self.demerits +ℤ c.args.line.demerits =
-        omega (arith, ints) in
+    omega (arith, ints) in
     ap (λ x. entry x (to_z w64 (of_z w64 (to_z w64 (of_z w64 c.self.inside.overhang) +ℤ to_z w64 (of_z w64 c.args.line.overhang))))
-        (to_z w64 (of_z w64 (to_z w64 (of_z w64 c.self.inside.demerits) +ℤ to_z w64 (of_z w64 c.args.line.demerits)))) c.self.inside.end c.args.index) end
+    (to_z w64 (of_z w64 (to_z w64 (of_z w64 c.self.inside.demerits) +ℤ to_z w64 (of_z w64 c.args.line.demerits)))) c.self.inside.end c.args.index) end
     ∙ ap (λ x. entry (state_after c.args.cut c.args.self.end c.args.place c.args.line) x
-        (to_z w64 (of_z w64 (to_z w64 (of_z w64 c.self.inside.demerits) +ℤ to_z w64 (of_z w64 c.args.line.demerits)))) c.self.inside.end c.args.index) o
+    (to_z w64 (of_z w64 (to_z w64 (of_z w64 c.self.inside.demerits) +ℤ to_z w64 (of_z w64 c.args.line.demerits)))) c.self.inside.end c.args.index) o
     ∙ ap (λ x. entry (state_after c.args.cut c.args.self.end c.args.place c.args.line) (c.args.self.overhang +ℤ c.args.line.overhang) x c.self.inside.end c.args.index) d
     ∙ ap (λ x. entry (state_after c.args.cut c.args.self.end c.args.place c.args.line) (c.args.self.overhang +ℤ c.args.line.overhang)
-        (c.args.self.demerits +ℤ c.args.line.demerits) x c.args.index) from
+    (c.args.self.demerits +ℤ c.args.line.demerits) x c.args.index) from

@@ -46,7 +46,7 @@ returns-in-Less-order-clause-not_after c = λ _.
     let sf = ap (λ e. e.from) c.self.view_is in
     let of = ap (λ e. e.from) c.other.view_is in
     first_from c.args.self c.args.other c.self.inside.from c.other.inside.from (omega (arith, ints)) (omega (arith, ints)) (sym se ∙ c.in-Equal.ensures.equal refl ∙ oe) sf of
-        (c.in-Less-order.ensures.less refl)
+    (c.in-Less-order.ensures.less refl)
 
 pub returns-in-Greater-order-clause-after : goal.returns-in-Greater-order-clause-after
 returns-in-Greater-order-clause-after c = λ _.
@@ -59,7 +59,7 @@ returns-in-Greater-order-clause-after c = λ _.
     let sf = ap (λ e. e.from) c.self.view_is in
     let of = ap (λ e. e.from) c.other.view_is in
     first_from c.args.other c.args.self c.other.inside.from c.self.inside.from (omega (arith, ints)) (omega (arith, ints)) (sym oe ∙ sym (c.in-Equal.ensures.equal refl) ∙ se) of sf
-        (c.in-Greater-order.ensures.greater refl)
+    (c.in-Greater-order.ensures.greater refl)
 
 pub returns-in-Equal-order-clause-not_after : goal.returns-in-Equal-order-clause-not_after
 returns-in-Equal-order-clause-not_after c = λ _.

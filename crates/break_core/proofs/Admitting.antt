@@ -1,0 +1,133 @@
+-- Which passes admit lists of breaks.
+use Rattle.std.proofs.Common.{◌≡◌, ◌∙◌, ℕ, zero, suc, ◌+◌, ◌<◌, ◌≤◌, Bool, true, false, not, cond, ◌&&◌, List, [], ◌∷◌, ◌++◌, ◌-◌, length, get_or, reverse, refl, ap, sym, subst, arith, MatchOption, Option, Some, None}
+use Rattle.std.specs.Prelude.{ℤ, pos, negsuc, ◌<ℤ◌, ◌≤ℤ◌, int_le, slice_get}
+use Rattle.std.proofs.lemmas.Int.{ints}
+use Rattle.std.proofs.lemmas.Option.{same_Some, slice_get_within, slice_get-get_or, get_or_from_slice_get, MatchOption-at_none, MatchOption-at_some}
+use Rattle.std.proofs.lemmas.List.{get_or-reverse, length-reverse}
+use Rattle.node_core.specs.declared.params.Params.{Params}
+use Rattle.break_table.specs.declared.state.Class.{Class}
+use Rattle.break_table.specs.declared.state.State.{State}
+use Rattle.break_table.specs.declared.state.Line.{Line}
+use Rattle.break_table.specs.declared.answer.Least.{Least}
+use Rattle.break_table.specs.Problems.{Problem, Path, start, first_path, with_line, path_of, ends_of, places_of}
+use Rattle.break_table.specs.Chosen.{top, IsFalling, IsBreakList, AdmitsNone, IsAnswer}
+use Rattle.break_table.specs.Ways.{since, Way, starts, goes}
+use Rattle.break_table.proofs.Since.{since_below}
+use Rattle.break_table.proofs.Lists.{way_of_break_list, break_list_of_way}
+use Rattle.break_core.specs.declared.cost.Judged.{Judged}
+use Rattle.break_core.specs.declared.cost.Bound.{Bound}
+use Rattle.break_core.specs.declared.cost.Bound.TheVariants.{Any, AtMost}
+use Rattle.break_core.specs.Costs.{judged, admits, line_of, demerits_of}
+use Rattle.break_core.specs.declared.broken.Pass.{Pass}
+use Rattle.break_core.specs.declared.broken.Pass.TheVariants.{First, Second, Third}
+use Rattle.break_core.specs.Passes.{Facts, problem_of, bound_of, IsBefore}
+use Rattle.break_core.specs.Filling.{AreWithin, IsDecided}
+
+-- A bound below 0 admits no line.
+none_below : (params : Params) (most penalty : ℤ) (before : Class) (line : Judged) → most <ℤ pos 0 → line_of params (AtMost most) penalty before line ≡ None
+unfolding line_of admits
+none_below params (pos n) penalty before line below = absurd (omega (arith, ints))
+none_below params (negsuc n) penalty before line below = refused (not line.overfull)
+  where
+    refused :
+        (b : Bool)
+        → cond {A = Option Line} (b && false)
+        (Some (record { class = line.class; overhang = line.overhang; demerits = demerits_of params penalty before line })) None ≡ None
+    refused true = refl
+    refused false = refl
+
+-- A line is admitted where each is.
+some_line : (params : Params) (penalty : ℤ) (before : Class) (line : Judged) → (l : Line) × (line_of params Any penalty before line ≡ Some l)
+unfolding line_of admits
+some_line params penalty before line = (record { class = line.class; overhang = line.overhang; demerits = demerits_of params penalty before line }, refl)
+
+no_way : (p : Problem) (q : Path) → Way p q → ((s : State) (b : ℕ) → p.line s b ≡ None) → 0 < q.last.place → ⊥
+no_way p _ starts none some = omega arith
+no_way p _ (goes q b l way later since_b is) none some = let no = none q.last b in cc
+
+-- A pass with a bound below 0 admits no list.
+pub negative_admits_none :
+    (facts : Facts) (params : Params) (most : ℤ) → most <ℤ pos 0 → 0 < facts.places → AdmitsNone (problem_of facts params (AtMost most))
+negative_admits_none facts params most below some places q is_list admitted =
+    let p = problem_of facts params (AtMost most) in
+    let way = way_of_break_list p places q is_list admitted in
+    no_way p q way.0 (λ s b. none_below params most (facts.penalty b) s.class (judged (facts.sums s.place b) params.hsize) below) (omega (arith, way.1))
+
+-- Each place can be reached from the one before it.
+reached : (p : Problem) → ((s : State) (b : ℕ) → (l : Line) × (p.line s b ≡ Some l)) → (n : ℕ) → (q : Path) × Way p q × (q.last.place ≡ n)
+reached p line zero = (first_path, starts, refl)
+reached p line (suc n) = more (reached p line n)
+  where
+    more : (q : Path) × Way p q × (q.last.place ≡ n) → (q : Path) × Way p q × (q.last.place ≡ suc n)
+    more before =
+        let l = line before.0.last (suc n) in
+        let below = since_below p (suc n) (omega arith) in
+        (with_line p before.0 (suc n) l.0, goes before.0 (suc n) l.0 before.1 (omega (arith, before.2)) (omega (arith, below, before.2)) l.1, refl)
+
+-- The last pass admits a list.
+pub last_admits : (facts : Facts) (params : Params) → AdmitsNone (problem_of facts params Any) → ⊥
+last_admits facts params none =
+    let p = problem_of facts params Any in
+    let way = reached p (λ s b. some_line params (facts.penalty b) s.class (judged (facts.sums s.place b) params.hsize)) facts.places in
+    let list = break_list_of_way p way.0 way.1 way.2 in
+    none _ way.0 list.0 list.1
+
+-- The places of a falling list of ends lie within it.
+places_in :
+    (ends : List State) (j : ℕ) (s : State)
+    → IsFalling (places_of ends) → slice_get ends j ≡ Some s → (0 < s.place) × (s.place ≤ top (places_of ends))
+places_in [] j s falls at = absurd (cc)
+places_in (x ∷ ends) zero s falls at = let same = ap (λ t. t.place) (same_Some x s at) in (omega (arith, falls.0, same), omega (arith, same))
+places_in (x ∷ ends) (suc j) s falls at =
+    let rest = places_in ends j s falls.1 at in
+    (rest.0, omega (arith, rest.1, falls.0))
+
+-- The ends of an answer are places of the paragraph.
+pub answer_within : (facts : Facts) (params : Params) (bound : Bound) (least : Least) → IsAnswer (problem_of facts params bound) least → AreWithin facts least.ends.items
+answer_within facts params bound least is k s at =
+    let xs = ends_of is.path in
+    let back : slice_get (reverse xs) k ≡ Some s = ap (λ ys. slice_get ys k) (sym is.ends) ∙ at in
+    let within : k < length xs = omega (arith, slice_get_within (reverse xs) k s back, length-reverse xs) in
+    let there : get_or xs (length xs - 1 - k) s ≡ s = sym (get_or-reverse xs k s within) ∙ get_or_from_slice_get (reverse xs) k s s back in
+    let stands = slice_get-get_or xs (length xs - 1 - k) s (omega (arith, within)) ∙ ap Some there in
+    let places = places_in xs (length xs - 1 - k) s is.chosen.is_list.falls stands in
+    (places.0, omega (arith, places.1, is.chosen.is_list.ends))
+
+-- Where the first pass admits none, the second one decides, and else the last one.
+pub second_decides :
+    (facts : Facts) (params : Params) (least : Least)
+    → AdmitsNone (problem_of facts params (bound_of params First)) → IsAnswer (problem_of facts params (bound_of params Second)) least
+    → IsDecided facts params Second least
+second_decides facts params least none is = record { answer = is; earlier = earlier }
+  where
+    earlier : (other : Pass) → IsBefore other Second → AdmitsNone (problem_of facts params (bound_of params other))
+    earlier First h = none
+    earlier Second h = absurd h
+    earlier Third h = absurd h
+
+pub third_decides :
+    (facts : Facts) (params : Params) (least : Least)
+    → AdmitsNone (problem_of facts params (bound_of params First)) → AdmitsNone (problem_of facts params (bound_of params Second))
+    → IsAnswer (problem_of facts params (bound_of params Third)) least → IsDecided facts params Third least
+third_decides facts params least first second is = record { answer = is; earlier = earlier }
+  where
+    earlier : (other : Pass) → IsBefore other Third → AdmitsNone (problem_of facts params (bound_of params other))
+    earlier First h = first
+    earlier Second h = second
+    earlier Third h = absurd h
+
+-- What a pass found holds of the same facts under another name.
+abbrev pub Found : Facts → Params → Bound → Option Least → Type 0
+Found facts params bound found = MatchOption found (AdmitsNone (problem_of facts params bound)) (IsAnswer (problem_of facts params bound))
+
+pub found_none : (facts other : Facts) (params : Params) (bound : Bound) (found : Option Least) → other ≡ facts → found ≡ None → Found other params bound found → AdmitsNone (problem_of facts params bound)
+found_none facts other params bound found same none is =
+    MatchOption-at_none (AdmitsNone (problem_of facts params bound)) (IsAnswer (problem_of facts params bound)) none
+    (subst (λ f. Found f params bound found) same is)
+
+pub found_some :
+    (facts other : Facts) (params : Params) (bound : Bound) (found : Option Least) (least : Least)
+    → other ≡ facts → found ≡ Some least → Found other params bound found → IsAnswer (problem_of facts params bound) least
+found_some facts other params bound found least same some is =
+    MatchOption-at_some (AdmitsNone (problem_of facts params bound)) (IsAnswer (problem_of facts params bound)) least some
+    (subst (λ f. Found f params bound found) same is)

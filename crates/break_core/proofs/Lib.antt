@@ -1,0 +1,7 @@
+-- Lemmas on lines of nodes.
+pub mod Costs
+pub mod Filled
+pub mod Admitting
+pub mod Places
+pub mod KeptSums
+pub mod Prefixes

@@ -1,0 +1,54 @@
+use Rattle.std.proofs.Common.{◌≡◌, ◌∙◌, ◌≤◌, to_z, of_z, w32, length, refl, ap, sym, subst, arith}
+use Rattle.std.proofs.lemmas.Int.{ints}
+use Rattle.std.proofs.lemmas.Option.{slice_get_read}
+use Rattle.break_table.specs.Ways.{since}
+use Rattle.break_core.specs.Costs.{line_of}
+use Rattle.break_core.specs.Filling.{IsOffering}
+use Rattle.break_core.proofs.filling.offer_group.Goals as goal
+
+pub loop-index-init : goal.loop-index-init
+loop-index-init c = record { low = omega arith; wide = c.requires.wide; row = λ p cut late judged is. is }
+
+pub improve-requires-clause-wide : goal.improve-requires-clause-wide
+improve-requires-clause-wide c = c.loop-index.invariant.wide
+
+pub improve-requires-clause-counted : goal.improve-requires-clause-counted
+improve-requires-clause-counted c =
+    let table = c.args.table.now in
+    let e = c.index-table-index.result in
+    let stands = slice_get_read table (length table) c.loop-index.index e refl (omega (arith, c.requires.within)) c.index-table-index.is in
+    (c.requires.entries c.loop-index.index e c.loop-index.invariant.low c.loop-index-test.true stands).1
+
+pub improve-requires-clause-later : goal.improve-requires-clause-later
+improve-requires-clause-later c =
+    let table = c.args.table.now in
+    let e = c.index-table-index.result in
+    let stands = slice_get_read table (length table) c.loop-index.index e refl (omega (arith, c.requires.within)) c.index-table-index.is in
+    omega (arith, (c.requires.entries c.loop-index.index e c.loop-index.invariant.low c.loop-index-test.true stands).0, c.requires.earlier)
+
+pub loop-index-preserved : goal.loop-index-preserved
+loop-index-preserved c =
+    let table = c.args.table.now in
+    let e = c.index-table-index.result in
+    let stands = slice_get_read table (length table) c.loop-index.index e refl (omega (arith, c.requires.within)) c.index-table-index.is in
+    let place = (c.requires.entries c.loop-index.index e c.loop-index.invariant.low c.loop-index-test.true stands).0 in
+    let penalty : to_z w32 (of_z w32 c.args.at.now.penalty) ≡ c.args.at.now.penalty = omega (arith, ints) in
+    let line = c.line_from-offered.ensures.value
+    ∙ ap (λ s. line_of c.args.params.now c.args.bound.now (to_z w32 (of_z w32 c.args.at.now.penalty)) s.class c.args.line.now) c.end.ensures.end
+    ∙ ap (λ x. line_of c.args.params.now c.args.bound.now x e.end.class c.args.line.now) penalty in
+    record {
+      low = omega (arith, c.loop-index.invariant.low);
+      wide = c.improve.ensures.wide;
+      row = λ p cut late judged is.
+          c.improve.ensures.row p table cut stands (subst (λ x. since p c.args.place ≤ x) (sym place) late) (judged e.end place ∙ sym line)
+          (c.loop-index.invariant.row p cut late judged is);
+    }
+
+pub returns-clause-row : goal.returns-clause-row
+returns-clause-row c =
+    let end : c.loop-index.index ≡ c.args.group.end = omega (arith, c.loop-index-test.false, c.requires.rises, c.loop-index.auto) in
+    subst (λ n. IsOffering c.args.table.now c.args.params.now c.args.bound.now c.args.group c.args.place c.args.at.now.penalty c.args.line.now c.args.group.start n c.args.row.now.items c.loop-index.row.items)
+    end c.loop-index.invariant.row
+
+pub returns-clause-wide : goal.returns-clause-wide
+returns-clause-wide c = c.loop-index.invariant.wide

@@ -1,0 +1,67 @@
+-- The table of a paragraph as it is filled, place by place (own; no public clause speaks of it).
+use Rattle.std.specs.Prelude.{◌≡◌, ◌<◌, ◌≤◌, ◌+◌, ◌^◌, ℕ, ℤ, List, [], ◌∷◌, slice_get, Option, Some}
+use Rattle.node_core.specs.declared.params.Params.{Params}
+use Rattle.break_table.specs.declared.group.Group.{Group}
+use Rattle.break_table.specs.declared.state.State.{State}
+use Rattle.break_table.specs.Problems.{Problem}
+use Rattle.break_table.specs.Ways.{since}
+use Rattle.break_table.specs.Tables.{Entry, IsTable, IsRow}
+use Rattle.break_table.specs.Live.{IsLive}
+use Rattle.break_table.specs.declared.answer.Least.{Least}
+use Rattle.break_table.specs.Chosen.{AdmitsNone, IsAnswer}
+use Rattle.break_core.specs.declared.broken.Pass.{Pass}
+use Rattle.break_core.specs.declared.cost.Judged.{Judged}
+use Rattle.break_core.specs.declared.cost.Bound.{Bound}
+use Rattle.break_core.specs.Costs.{line_of}
+use Rattle.break_core.specs.Passes.{Facts, problem_of, bound_of, IsBefore}
+
+-- The entries of a group are of its place, and no lines are counted.
+abbrev pub IsOf : (table : List Entry) → Group → Type 0
+IsOf table group =
+    (k : ℕ) (e : Entry) → group.start ≤ k → k < group.end → slice_get table k ≡ Some e → (e.end.place ≡ group.place) × (e.end.lines ≤ 0)
+
+-- The lines of a problem from the place of a group to another place are those that are judged so.
+abbrev pub IsJudged : Problem → Params → Bound → Group → (place : ℕ) → (penalty : ℤ) → Judged → Type 0
+IsJudged p params bound group place penalty line =
+    (s : State) → s.place ≡ group.place → p.line s place ≡ line_of params bound penalty s.class line
+
+-- Between two rows the entries from one number up to another were offered, by lines that are judged so.
+abbrev pub IsOffering :
+    (table : List Entry) → Params → Bound → Group → (place : ℕ) → (penalty : ℤ) → Judged → (from to : ℕ) → (old new : List (Option Entry)) → Type 0
+IsOffering table params bound group place penalty line from to old new =
+    (p : Problem) → p.cut ≡ 0 → since p place ≤ group.place → IsJudged p params bound group place penalty line
+    → IsRow p table place from old → IsRow p table place to new
+
+-- Each group is of an earlier place than those behind it.
+abbrev pub AreRising : List Group → Type 0
+AreRising groups =
+    (i k : ℕ) (g h : Group) → i < k → slice_get groups i ≡ Some g → slice_get groups k ≡ Some h → g.place < h.place
+
+-- The table is filled up to a place.
+pub record IsFilled (p : Problem) (b : ℕ) (table : List Entry) (live : List Group) : Type 0 where
+  pub is_table : IsTable p b table
+  pub is_live : IsLive p table b 0 live
+  pub rising : AreRising live
+  pub below : (k : ℕ) (g : Group) → slice_get live k ≡ Some g → g.place < b
+
+-- Each count has grown by at most n.
+abbrev pub IsGrown : (n : ℕ) → (before now : ℕ → ℕ) → Type 0
+IsGrown n before now = (place : ℕ) → now place ≤ before place + n
+
+-- Each count may grow by n.
+abbrev pub AreFew : (n : ℕ) → (counts : ℕ → ℕ) → Type 0
+AreFew n counts = (place : ℕ) → counts place + n ≤ 2 ^ 40
+
+-- Lines from the first groups were tried once each, and from the others not yet.
+pub record AreTried (live : List Group) (index : ℕ) (before now : ℕ → ℕ) : Type 0 where
+  pub grown : IsGrown 1 before now
+  pub fresh : (k : ℕ) (g : Group) → index ≤ k → slice_get live k ≡ Some g → now g.place ≤ before g.place
+
+-- These are ends at places of the paragraph.
+abbrev pub AreWithin : Facts → List State → Type 0
+AreWithin facts ends = (k : ℕ) (s : State) → slice_get ends k ≡ Some s → (0 < s.place) × (s.place ≤ facts.places)
+
+-- A pass is the first that admits any list, and this one is chosen in it.
+pub record IsDecided (facts : Facts) (params : Params) (pass : Pass) (least : Least) : Type 0 where
+  pub answer : IsAnswer (problem_of facts params (bound_of params pass)) least
+  pub earlier : (other : Pass) → IsBefore other pass → AdmitsNone (problem_of facts params (bound_of params other))

@@ -1,0 +1,79 @@
+-- The legal places of a finished horizontal list (TeX: The Program, part 38, §816 and §866 to §869).
+use Rattle.std.specs.Prelude.{◌≡◌, ◌+◌, ◌-◌, ◌<◌, ◌++◌, ℕ, zero, suc, ℤ, pos, negsuc, Bool, true, false, not, int_lt, int_le, nat_lt, List, [], ◌∷◌, length, slice_get, Option, Some, None, filter, if◌then◌else◌}
+use Rattle.node_core.specs.declared.tree.Node.{Node}
+use Rattle.node_core.specs.declared.tree.Node.TheVariants as nodes
+use Rattle.node_core.specs.declared.tree.Order.TheVariants.{Normal}
+use Rattle.node_core.specs.declared.tree.Glue.{Glue}
+use Rattle.pack_core.specs.Items.{is_order}
+use Rattle.pack_core.specs.Glue.{is_zero}
+
+-- Glue, explicit kerns and penalties are dropped at the beginning of a line (TeX: The Program, part 10, §148).
+unfoldable pub is_dropped : Node → Bool
+is_dropped (nodes.Glue glue) = true
+is_dropped (nodes.Kern width) = true
+is_dropped (nodes.Penalty penalty) = true
+is_dropped (nodes.Glyph glyph) = false
+is_dropped (nodes.FontKern width) = false
+is_dropped (nodes.Rule rule) = false
+is_dropped (nodes.Box shift b) = false
+
+-- There is an item, and it is none of these.
+abbrev pub is_kept : Option Node → Bool
+is_kept None = false
+is_kept (Some node) = not (is_dropped node)
+
+-- There is an item, and it is glue.
+unfoldable pub is_glue : Option Node → Bool
+is_glue None = false
+is_glue (Some (nodes.Glue glue)) = true
+is_glue (Some node) = false
+
+-- Whether a line may end at an item, by the items before and behind it: at glue behind what is not dropped, at a kern before glue, at a penalty below
+-- 10000, and at the end of the list.
+unfoldable pub is_break : (before here behind : Option Node) → Bool
+is_break before None behind = true
+is_break before (Some (nodes.Glue glue)) behind = is_kept before
+is_break before (Some (nodes.Kern width)) behind = is_glue behind
+is_break before (Some (nodes.Penalty penalty)) behind = int_lt penalty (pos 10000)
+is_break before (Some (nodes.Glyph glyph)) behind = false
+is_break before (Some (nodes.FontKern width)) behind = false
+is_break before (Some (nodes.Rule rule)) behind = false
+is_break before (Some (nodes.Box shift b)) behind = false
+
+-- The item in front of a place.
+abbrev pub node_before : List Node → ℕ → Option Node
+node_before list zero = None
+node_before list (suc i) = slice_get list i
+
+-- Whether a place of a list is legal; the places are the numbers of its items, and its length, which is its end.
+unfoldable pub is_legal : List Node → ℕ → Bool
+is_legal list i = is_break (node_before list i) (slice_get list i) (slice_get list (i + 1))
+
+-- The numbers below n, in order (own).
+abbrev pub up_to : ℕ → List ℕ
+up_to zero = []
+up_to (suc n) = up_to n ++ n ∷ []
+
+-- The legal places of a list, in order.
+abbrev pub legal_places : List Node → List ℕ
+legal_places list = filter (is_legal list) (up_to (length list + 1))
+
+-- The penalty of a break: that of a penalty, at the end -10000, and 0 at glue and kerns.
+unfoldable pub penalty_of : Option Node → ℤ
+penalty_of None = negsuc 9999
+penalty_of (Some (nodes.Penalty penalty)) = penalty
+penalty_of (Some node) = pos 0
+
+-- A break is forced by a penalty of -10000 or less.
+abbrev pub is_forced : (penalty : ℤ) → Bool
+is_forced penalty = int_le penalty (negsuc 9999)
+
+-- Glue that shrinks without end (TeX: The Program, part 38, §825: such glue is an error).
+abbrev pub shrinks_forever : Node → Bool
+shrinks_forever (nodes.Glue glue) = if is_order Normal glue.shrink_order then false else not (is_zero glue.shrink)
+shrinks_forever (nodes.Glyph glyph) = false
+shrinks_forever (nodes.FontKern width) = false
+shrinks_forever (nodes.Kern width) = false
+shrinks_forever (nodes.Penalty penalty) = false
+shrinks_forever (nodes.Rule rule) = false
+shrinks_forever (nodes.Box shift b) = false

@@ -1,0 +1,118 @@
+//! The meter of a list of nodes.
+
+ghost use Rattle.std.specs.Prelude.{◌≡◌, ◌+◌, ◌<◌, ◌≤◌, length, replicate, IfOk};
+ghost use Rattle.break_core.specs.Passes.{position_of, begins_at};
+ghost use Rattle.node_core.specs.Nodes.{most_nodes};
+ghost use Rattle.break_table.specs.Tables.{most_places};
+ghost use Rattle.break_core.specs.Legal.{legal_places};
+ghost use Rattle.break_core.specs.Kept.{prefix_sums, first_kept, kept, sums_of};
+ghost use Rattle.break_core.specs.Small.{ArePrefixes, IsSmallSums};
+
+use crate::list::{first_kept, legal_places, no_trials, penalty_at};
+use crate::meter::{Meter, Place};
+use crate::sums::{Sums, minus, prefix_sums};
+use node_core::Node;
+use std::alloc::{AllocError, Global};
+
+/// A list of at most 131,072 nodes with at most 8,192 legal places, measured: where its places are, the sums over the items in front of each item, and how
+/// many lines were tried from each place.
+#[derive(Drop)]
+pub struct ListMeter<'a> {
+    pub(crate) nodes: &'a [Node],
+    pub(crate) places: Vec<usize>,
+    pub(crate) sums: Vec<Sums>,
+    pub(crate) trials: Vec<u64>,
+    ghost short: { length nodes.now ≤ most_nodes },
+    ghost legal: { places.items ≡ legal_places nodes.now },
+    ghost few: { length places.items ≤ most_places },
+    ghost prefixes: { sums.items ≡ prefix_sums nodes.now },
+    ghost small: { ArePrefixes sums.items },
+    ghost counted: { length trials.items ≡ length places.items + 1 },
+}
+
+impl<'a> ListMeter<'a> {
+    /// The meter of a list of nodes that is not too long and has few legal places, without trials.
+    pub fn new(alloc: Global, nodes: &'a [Node]) -> Result<ListMeter<'a>, AllocError>
+        requires short { length nodes.now ≤ most_nodes }
+        requires few { length (legal_places nodes.now) ≤ most_places }
+        ensures nodes { IfOk result (λ meter. meter.nodes.now ≡ nodes.now) }
+        ensures trials { IfOk result (λ meter. meter.trials.items ≡ replicate (length (legal_places nodes.now) + 1) 0) }
+    {
+        let places = legal_places(alloc, nodes)?;
+        let sums = prefix_sums(alloc, nodes)?;
+        let trials = no_trials(alloc, places.len() + 1)?;
+        Ok(ListMeter {
+            nodes,
+            places,
+            sums,
+            trials,
+        })
+    }
+
+    /// The legal place of a number.
+    fn position(&self, number: usize) -> usize
+        requires first { 0 < number }
+        requires last { number ≤ length (legal_places self.now.nodes.now) }
+        ensures position { result ≡ position_of self.now.nodes.now number }
+        ensures within { result ≤ length self.now.nodes.now }
+    {
+        self.places[number - 1]
+    }
+
+    /// Where the line from a place, or from 0, the start, to a later one begins: at its first item that is not dropped.
+    fn begin(&self, from: usize, to: usize) -> usize
+        requires later { from < to }
+        requires last { to ≤ length (legal_places self.now.nodes.now) }
+        ensures value { result ≡ first_kept self.now.nodes.now (begins_at self.now.nodes.now from) }
+        ensures within { result ≤ length self.now.nodes.now }
+    {
+        if from == 0 {
+            return 0;
+        }
+        first_kept(self.nodes, self.position(from) + 1)
+    }
+
+    /// The sums over the items of a line.
+    fn line(&self, from: usize, to: usize) -> Sums
+        requires later { from < to }
+        requires last { to ≤ length (legal_places self.now.nodes.now) }
+        ensures value { result ≡ sums_of (kept self.now.nodes.now (begins_at self.now.nodes.now from) (position_of self.now.nodes.now to)) }
+        ensures small { IsSmallSums result }
+    {
+        let begin = self.begin(from, to);
+        let end = self.position(to);
+        if begin >= end {
+            return Sums::ZERO;
+        }
+        minus(&self.sums[end], &self.sums[begin])
+    }
+}
+
+impl<'a> Meter for ListMeter<'a> {
+    ghost use Rattle.std.specs.Prelude.{get_or};
+    ghost use Rattle.break_core.specs.Passes.{facts_of};
+    ghost use Rattle.break_core.specs.Ends.{some_place};
+
+    ghost facts = { λ m. facts_of m.nodes.now };
+
+    ghost trials = { λ m from. get_or m.trials.items from 0 };
+
+    fn places(&self) -> usize {
+        self.places.len()
+    }
+
+    fn place(&self, number: usize) -> Place {
+        let position = self.position(number);
+        Place {
+            position,
+            penalty: penalty_at(self.nodes, position),
+        }
+    }
+
+    fn try_line(&mut self, from: usize, to: usize) -> Sums {
+        self.trials[from] += 1;
+        self.line(from, to)
+    }
+
+    ghost has_places = { λ m. some_place m.nodes.now };
+}
