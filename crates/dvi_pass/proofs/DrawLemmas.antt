@@ -2,7 +2,7 @@
 use Rattle.std.specs.Option.{option_map}
 use Rattle.std.proofs.Common.{◌≡◌, List, [], ◌∷◌, ℤ, Option, Some, None, Result, Ok, Err, refl, sym, ap, subst}
 use Rattle.dvi_ops.specs.Instruction.{Across, By, Move, SetChar, SetRule, Instruction, Do}
-use Rattle.dvi_ops.specs.Body.{Mark, Glyph, Place, State, Meaning, acts, glyph, moved, rule_at}
+use Rattle.dvi_ops.specs.Body.{Mark, Glyph, Place, State, Meaning, acts, glyph, place_after, rule_at}
 use Rattle.dvi_ops.specs.View.{view}
 use Rattle.dvi_ops.specs.declared.op.Op.{Op}
 use Rattle.dvi_ops.specs.declared.op.Op.TheVariants as ops
@@ -27,12 +27,12 @@ of_op op known m result is d = subst (λ (o : Op). Draws (view o) (m (view o)) r
 -- A movement.
 pub moves_so : (i : Instruction) (width : Option ℤ) (s : State) (place : Option Spot) (result : Result Drawn DviCause) → IsMovement i → option_map placed place ≡ step_of i s.place
     → ((to : Place) → option_map placed place ≡ reached to → Moves [] to s.font result) → Draws i (does_of (acts (always width)) i s) result
-moves_so (Do (Move axis step)) width s place result is e arrives = drawn_so (Do (Move axis step)) [] (moved axis step s.place) s.font result (arrives (moved axis step s.place) e)
+moves_so (Do (Move axis step)) width s place result is e arrives = drawn_so (Do (Move axis step)) [] (place_after axis step s.place) s.font result (arrives (place_after axis step s.place) e)
 moves_so i width s place result is e arrives = absurd is
 
 -- A character that is set.
 pub set_so : (c : ℤ) (width font : Option ℤ) (p : Place) (mark : Seen) (by : ℤ) (place : Option Spot) (result : Result Drawn DviCause) → Some (mark_of mark, by) ≡ glyph (always width) c p font
-    → ((by : ℤ) → width ≡ Some by → option_map placed place ≡ reached (moved Across (By by) p))
+    → ((by : ℤ) → width ≡ Some by → option_map placed place ≡ reached (place_after Across (By by) p))
     → ((to : Place) → option_map placed place ≡ reached to → Moves (mark_of mark ∷ []) to font result)
     → Draws (Do (SetChar c)) (does_of (acts (always width)) (Do (SetChar c)) (record { place = p; font = font })) result
 set_so c width None p mark by place result e shift arrives = absurd cc
@@ -40,17 +40,17 @@ set_so c None (Some f) p mark by place result e shift arrives = absurd cc
 set_so c (Some w) (Some f) p mark by place result e shift arrives =
     let pair : ◌≡◌ {A = Mark × ℤ} (mark_of mark, by) (Glyph f c p.h p.v, w) = cc in
     let same : mark_of mark ≡ Glyph f c p.h p.v = ap (λ (g : Mark × ℤ). g.0) pair in
-    drawn_so (Do (SetChar c)) (Glyph f c p.h p.v ∷ []) (moved Across (By w) p) (Some f) result
-    (subst (λ (m : Mark). Moves (m ∷ []) (moved Across (By w) p) (Some f) result) same (arrives (moved Across (By w) p) (shift w refl)))
+    drawn_so (Do (SetChar c)) (Glyph f c p.h p.v ∷ []) (place_after Across (By w) p) (Some f) result
+    (subst (λ (m : Mark). Moves (m ∷ []) (place_after Across (By w) p) (Some f) result) same (arrives (place_after Across (By w) p) (shift w refl)))
 
 -- A rule that is set.
 pub rule_so : (height wide : ℤ) (width : Option ℤ) (s : State) (mark : Option Seen) (place : Option Spot) (result : Result Drawn DviCause) → marks_in mark ≡ rule_at height wide s.place
-    → option_map placed place ≡ reached (moved Across (By wide) s.place)
+    → option_map placed place ≡ reached (place_after Across (By wide) s.place)
     → ((to : Place) → option_map placed place ≡ reached to → Moves (marks_in mark) to s.font result)
     → Draws (Do (SetRule height wide)) (does_of (acts (always width)) (Do (SetRule height wide)) s) result
 rule_so height wide width s mark place result same shift arrives =
-    drawn_so (Do (SetRule height wide)) (rule_at height wide s.place) (moved Across (By wide) s.place) s.font result
-    (subst (λ (marks : List Mark). Moves marks (moved Across (By wide) s.place) s.font result) same (arrives (moved Across (By wide) s.place) shift))
+    drawn_so (Do (SetRule height wide)) (rule_at height wide s.place) (place_after Across (By wide) s.place) s.font result
+    (subst (λ (marks : List Mark). Moves marks (place_after Across (By wide) s.place) s.font result) same (arrives (place_after Across (By wide) s.place) shift))
 
 -- What is found for an instruction is found for one that is equal.
 pub of_instruction : (i j : Instruction) (m : Instruction → Meaning) (result : Result Drawn DviCause) → i ≡ j → Draws j (m j) result → Draws i (m i) result

@@ -1,7 +1,7 @@
 -- One instruction of a body, where the width of its character is known (DVItype, 15).
 use Rattle.std.specs.Prelude.{◌≡◌, ◌&&◌, if◌then◌else◌, List, ℤ, Option, Some, None, Result, Ok, Err, IsSome}
 use Rattle.dvi_ops.specs.Instruction.{Downward, Leaf, PutChar, PutRule, Nop, Move, FontNum, FontDef, Xxx, Instruction, Do, Push, Pop}
-use Rattle.dvi_ops.specs.Body.{Mark, Place, State, Meaning, Widths, Acts, in_range, kept_in, moved}
+use Rattle.dvi_ops.specs.Body.{Mark, Place, State, Meaning, Widths, Acts, in_range, kept_in, place_after}
 use Rattle.dvi_frame.specs.declared.fault.DviCause.{DviCause}
 use Rattle.dvi_frame.specs.declared.fault.DviCause.TheVariants.{Opcode, Glyph, Range}
 use Rattle.dvi_pass.specs.declared.drawing.Drawn.{Drawn}
@@ -49,7 +49,7 @@ IsDownward i = ⊥
 
 -- The place behind a movement, where h and v are in range.
 abbrev pub step_of : Instruction → Place → Option Place
-step_of (Do (Move axis step)) p = reached (moved axis step p)
+step_of (Do (Move axis step)) p = reached (place_after axis step p)
 step_of i p = None
 
 -- put and put_rule (DVItype, 15).

@@ -1,7 +1,7 @@
 //! What an instruction of a body does to the place and the font, and which mark it makes (DVItype, 14 and 15).
 
 ghost use Rattle.std.specs.Prelude.{◌≡◌, Option, Some, option_map, ℤ};
-ghost use Rattle.dvi_ops.specs.Body.{Place as Spot, acts, moved, rule_at, glyph as seen_glyph};
+ghost use Rattle.dvi_ops.specs.Body.{Place as Spot, acts, place_after, rule_at, glyph as seen_glyph};
 ghost use Rattle.dvi_ops.specs.Instruction.{Across, By, Do, SetChar, SetRule};
 ghost use Rattle.dvi_ops.specs.View.{view};
 ghost use Rattle.dvi_pass.specs.Drawing.{Draws, IsDownward, IsLeaf, IsMovement, IsOther, IsPut, Moves, always, does_of, reached, step_of};
@@ -49,7 +49,7 @@ fn lowered(place: Place, op: &Op<'_>) -> Option<Place>
 
 /// The place to the right by a width, where there is one; None where h leaves its range.
 fn shifted(place: Place, width: Option<i32>) -> Option<Place>
-    ensures { (by : ℤ) → width ≡ Some by → option_map placed result ≡ reached (moved Across (By by) (placed place)) }
+    ensures { (by : ℤ) → width ≡ Some by → option_map placed result ≡ reached (place_after Across (By by) (placed place)) }
 {
     let h = place.h.checked_add(width?)?;
     Some(Place { h, ..place })
@@ -57,7 +57,7 @@ fn shifted(place: Place, width: Option<i32>) -> Option<Place>
 
 /// The place behind a rule; None where h leaves its range.
 fn behind_rule(place: Place, op: &Op<'_>) -> Option<Place>
-    ensures { (height width : ℤ) → view op.now ≡ Do (SetRule height width) → option_map placed result ≡ reached (moved Across (By width) (placed place)) }
+    ensures { (height width : ℤ) → view op.now ≡ Do (SetRule height width) → option_map placed result ≡ reached (place_after Across (By width) (placed place)) }
 {
     match *op {
         Op::SetRule { width, .. } => {
