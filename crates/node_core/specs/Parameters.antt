@@ -8,7 +8,15 @@ use Rattle.node_core.specs.declared.params.Params.{Params}
 abbrev pub rigid : (width : ℤ) → Glue
 rigid width = record { width = width; stretch = pos 0; stretch_order = Normal; shrink = pos 0; shrink_order = Normal }
 
--- boxmaxdepth is the greatest dimension, baselineskip 12pt, lineskip 1pt, and lineskiplimit 0pt.
+-- boxmaxdepth is the greatest dimension, baselineskip 12pt, lineskip 1pt, lineskiplimit 0pt, splitmaxdepth the greatest dimension, and splittopskip
+-- 10pt.
 abbrev pub first_params : Params
 first_params =
-    record { box_max_depth = pos 1073741823; baseline_skip = rigid (pos 786432); line_skip = rigid (pos 65536); line_skip_limit = pos 0 }
+    record {
+      box_max_depth = pos 1073741823;
+      baseline_skip = rigid (pos 786432);
+      line_skip = rigid (pos 65536);
+      line_skip_limit = pos 0;
+      split_max_depth = pos 1073741823;
+      split_top_skip = rigid (pos 655360);
+    }

@@ -64,6 +64,10 @@ pub struct Params {
     pub line_skip: Glue,
     /// How near boxes may come, in scaled points: lineskiplimit.
     pub line_skip_limit: Dimen,
+    /// How deep the front of a list that is split may be, in scaled points: splitmaxdepth.
+    pub split_max_depth: Dimen,
+    /// The glue at the top of the rest of a list that is split: splittopskip.
+    pub split_top_skip: Glue,
 }
 
 /// Glue of a width that neither stretches nor shrinks.
@@ -80,8 +84,8 @@ fn rigid(width: Dimen) -> Glue
 }
 
 impl Params {
-    /// The parameters of a new job: a vbox may be as deep as a dimension can be, baselines are 12pt apart, and boxes that would come nearer
-    /// than 0pt are 1pt apart.
+    /// The parameters of a new job: a vbox and the front of a split may be as deep as a dimension can be, baselines are 12pt apart, boxes that
+    /// would come nearer than 0pt are 1pt apart, and the first baseline of the rest of a split is 10pt below its top.
     pub fn first() -> Params
         ensures { result ≡ first_params }
     {
@@ -90,6 +94,8 @@ impl Params {
             baseline_skip: rigid(Dimen::points(12)),
             line_skip: rigid(Dimen::points(1)),
             line_skip_limit: Dimen::ZERO,
+            split_max_depth: Dimen::MAX,
+            split_top_skip: rigid(Dimen::points(10)),
         }
     }
 }

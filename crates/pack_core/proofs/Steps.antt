@@ -2,6 +2,7 @@
 use Rattle.std.proofs.Common.{◌≡◌, ◌∙◌, ℕ, ◌==◌, length, List, [], ◌∷◌, Bool, true, false, refl, sym, ap, arith}
 use Rattle.std.specs.Prelude.{◌-ℤ◌, ℤ, pos, negsuc, zero, suc, Option, Some, None, if◌then◌else◌}
 use Rattle.std.specs.List.{list_all}
+use Rattle.std.specs.Option.{is_some}
 use Rattle.std.proofs.Math.Path.{fun_ext}
 use Rattle.std.proofs.lemmas.Bool.Decides.{nat_tests}
 use Rattle.node_core.specs.declared.tree.Kind.TheVariants.{Horizontal, Vertical}
@@ -51,6 +52,11 @@ pub given-none : {A : Type 0} (b : Bool) (x : A) → given b x ≡ None → b �
 unfolding given
 given-none true x e = absurd (cc)
 given-none false x e = refl
+
+pub given-is_some : {A : Type 0} (b : Bool) (x : A) → is_some (given b x) ≡ b
+unfolding given
+given-is_some true x = refl
+given-is_some false x = refl
 
 -- One word for the totals of glue.
 pub total-flow : (flow : Flow) (order : Order) (nodes : List Node) → total (amount_in (flow_quantity flow order)) nodes ≡ flow_totals flow nodes order

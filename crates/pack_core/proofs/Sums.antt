@@ -8,6 +8,7 @@ use Rattle.std.proofs.lemmas.List.Folds.{list_all-append}
 use Rattle.std.specs.List.{list_all}
 use Rattle.pack_core.specs.Items.{is_penalty, last_below}
 use Rattle.pack_core.specs.Measures.{pending_behind}
+use Rattle.node_core.specs.declared.tree.Glue.{Glue}
 use Rattle.node_core.specs.declared.tree.Node.{Node}
 use Rattle.node_core.specs.declared.tree.Node.TheVariants as nodes
 use Rattle.std.proofs.Math.Bool.{and-true, and-false}
@@ -89,3 +90,11 @@ pending-none ((nodes.Kern width) ∷ xs) all = absurd (cc)
 pending-none ((nodes.Glue g) ∷ xs) all = absurd (cc)
 pending-none ((nodes.Rule sizes) ∷ xs) all = absurd (cc)
 pending-none ((nodes.Box shift b) ∷ xs) all = absurd (cc)
+
+-- Glue in front of a list changes nothing of the depth that is pending at its end.
+pub pending-below : (glue : Glue) (xs : List Node) → pending_depth (nodes.Glue glue ∷ xs) ≡ pending_depth xs
+pending-below glue xs = here (list_all is_penalty xs) refl
+  where
+    here : (all : Bool) → list_all is_penalty xs ≡ all → pending_depth (nodes.Glue glue ∷ xs) ≡ pending_depth xs
+    here true e = rw e (sym (pending-none xs e))
+    here false e = rw e refl

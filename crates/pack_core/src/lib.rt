@@ -4,6 +4,7 @@
 //! fraction, and the places of the items are rounded once each, so that a box is filled exactly.
 #![tactic(auto)]
 
+mod below;
 pub mod laws;
 mod pack;
 mod places;
@@ -11,7 +12,11 @@ mod setting;
 mod sizes;
 mod totals;
 
-pub use pack::{Packed, Target, TooLarge, hpack, vpack, vtop};
+pub use below::vbox_fits_below;
+pub use pack::{Packed, Target, TooLarge, hpack, vbox_fits, vpack, vtop};
 pub use places::{Cursor, offset};
-pub use sizes::{advance_of, counted, difference, share_of};
+pub use sizes::{
+    advance_of, counted, difference, first_height_of, is_penalty, last_depth_of, share_of,
+    shrink_of, stretch_of,
+};
 pub use totals::dimension;

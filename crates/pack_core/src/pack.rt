@@ -78,6 +78,15 @@ pub fn vpack(list: NodeList, target: Target, depth_limit: Dimen) -> Result<Packe
     boxed(list, shell)
 }
 
+/// Whether `vpack` packs these nodes so: whether each of their numbers fits.
+#[tactic(auto, using(crate::proofs::Steps::steps))]
+pub fn vbox_fits(target: Target, depth_limit: Dimen, nodes: &[Node]) -> bool
+    requires { length nodes.now ≤ most_nodes }
+    ensures { result ≡ list_all fits (vbox_numbers target depth_limit nodes.now) }
+{
+    vbox_shell(target, depth_limit, nodes).is_some()
+}
+
 /// The vtop of a vertical list: the vbox with its baseline at that of its first item, where that is a rule or a box, and else at its top
 /// (TeX: The Program, part 47, §1087). It is refused exactly where one of its numbers does not fit, and the list comes back. It takes no memory.
 #[tactic(auto, using(crate::proofs::Packing::packing))]

@@ -39,7 +39,7 @@ pub struct GlueSet {
 }
 
 /// What is summed for the total of an order.
-fn quantity(flow: Flow, order: Order) -> Quantity
+pub fn quantity(flow: Flow, order: Order) -> Quantity
     ensures { result ≡ flow_quantity flow order }
 {
     match flow {

@@ -39,7 +39,7 @@ pub enum Quantity {
 }
 
 /// How much an item has of a quantity.
-fn amount_of(what: Quantity, node: &Node) -> i64
+pub fn amount_of(what: Quantity, node: &Node) -> i64
     ensures value { result ≡ amount_in what node.now }
     ensures small { Within (2 ^ 31) result }
 {

@@ -1,0 +1,5 @@
+-- Lemmas on sums, trials and the parts of a list.
+pub mod Walks
+pub mod Openings
+pub mod Search
+pub mod Rests

@@ -1,0 +1,50 @@
+//! Laws of the definitions, each on a function that does nothing.
+
+ghost use Rattle.std.specs.Prelude.{◌≡◌, ◌++◌, ◌∷◌, [], ℤ, pos, negsuc, List, Some, None};
+ghost use Rattle.node_core.specs.declared.params.Params.{Params};
+ghost use Rattle.node_core.specs.declared.tree.Node.{Node};
+ghost use Rattle.node_core.specs.Parameters.{first_params};
+ghost use Rattle.split_core.specs.declared.parts.SplitFault.TheVariants.{InfiniteShrink, DimensionTooLarge};
+ghost use Rattle.split_core.specs.Split.{split_place, refusal};
+ghost use Rattle.split_core.specs.Laws.{points, rule, space, shrinking, front_height, badness_of_front, rest_height, forced, spaced, high, sunken};
+
+/// A penalty of -10000 is where the list is split, however bad the front is there. Above the rest, a rule 5pt high, stand 5pt.
+pub fn forced_place()
+    ensures place { split_place first_params (points 20) forced ≡ 3 }
+    ensures height { front_height first_params (points 20) forced ≡ points 20 }
+    ensures badness { badness_of_front first_params (points 20) forced ≡ 10000 }
+    ensures rest { rest_height first_params (points 20) forced ≡ Some (points 10) }
+{}
+
+/// Of two places that cost the same the later one is taken; the end is awful, and costs more.
+pub fn later_of_two_places()
+    ensures place { split_place first_params (points 15) spaced ≡ 3 }
+    ensures badness { badness_of_front first_params (points 15) spaced ≡ 10000 }
+    ensures rest { rest_height first_params (points 15) spaced ≡ Some (points 10) }
+{}
+
+/// Where the first place is awful it is taken. Above a rule that is higher than splittopskip stands glue of no width.
+pub fn awful_first_place()
+    ensures place { split_place first_params (points 20) high ≡ 1 }
+    ensures badness { badness_of_front first_params (points 20) high ≡ 1000000 }
+    ensures rest { rest_height first_params (points 20) high ≡ Some (points 30) }
+{}
+
+/// A list without any other place is split at its end, and nothing is left; nor is where only glue is left.
+pub fn nothing_is_left()
+    ensures end { rest_height first_params (points 20) (rule (points 5) ∷ []) ≡ None }
+    ensures glue { rest_height first_params (points 5) (rule (points 5) ∷ space (points 2) ∷ []) ≡ None }
+{}
+
+/// Glue that shrinks in an infinite order refuses the split, also behind the place, and also where other glue shrinks by as much less.
+pub fn infinite_shrink_refuses()
+    ensures behind { refusal first_params (points 20) (forced ++ shrinking (pos 1) ∷ []) ≡ Some InfiniteShrink }
+    ensures no_total { refusal first_params (points 20) (shrinking (pos 1) ∷ shrinking (negsuc 0) ∷ []) ≡ Some InfiniteShrink }
+    ensures none { refusal first_params (points 20) (shrinking (pos 0) ∷ []) ≡ None }
+{}
+
+/// Above a rule of a height below 0 the glue is more than splittopskip, and may be too much, also where the rest itself is not.
+pub fn too_large_a_top_skip()
+    ensures place { split_place first_params (points 5) sunken ≡ 1 }
+    ensures refused { refusal first_params (points 5) sunken ≡ Some DimensionTooLarge }
+{}
