@@ -5,8 +5,9 @@ ghost use Rattle.node_core.specs.declared.params.Params.{Params};
 ghost use Rattle.node_core.specs.declared.tree.Node.{Node};
 ghost use Rattle.node_core.specs.Parameters.{first_params};
 ghost use Rattle.split_core.specs.declared.parts.SplitFault.TheVariants.{InfiniteShrink, DimensionTooLarge};
-ghost use Rattle.split_core.specs.Split.{split_place, refusal};
-ghost use Rattle.split_core.specs.Laws.{points, rule, space, shrinking, front_height, badness_of_front, rest_height, forced, spaced, high, sunken};
+ghost use Rattle.split_core.specs.Split.{split_place, front_of, refusal};
+ghost use Rattle.split_core.specs.Laws.{points, rule, space, shrinking, front_height, badness_of_front, rest_height, rest_nodes};
+ghost use Rattle.split_core.specs.Laws.{forced, spaced, high, sunken, hanging, mixed, places, stretching_top};
 
 /// A penalty of -10000 is where the list is split, however bad the front is there. Above the rest, a rule 5pt high, stand 5pt.
 pub fn forced_place()
@@ -47,4 +48,23 @@ pub fn infinite_shrink_refuses()
 pub fn too_large_a_top_skip()
     ensures place { split_place first_params (points 5) sunken ≡ 1 }
     ensures refused { refusal first_params (points 5) sunken ≡ Some DimensionTooLarge }
+{}
+
+/// A split is allowed in front of glue behind a box or a rule, in front of a kern that glue follows, in front of a penalty below 10000, and
+/// at the end.
+pub fn allowed_places()
+    ensures { places mixed ≡ 4 ∷ 8 ∷ 10 ∷ 11 ∷ [] }
+{}
+
+/// What the last rule is deeper than splitmaxdepth counts as height.
+pub fn depth_counts_as_height()
+    ensures cut { badness_of_front (record first_params { split_max_depth = pos 0 }) (points 8) hanging ≡ 0 }
+    ensures whole { badness_of_front first_params (points 8) hanging ≡ 10000 }
+    ensures depth { ((front_of (record first_params { split_max_depth = pos 0 }) (points 8) hanging).shown).depth ≡ pos 0 }
+{}
+
+/// The glue above the rest stretches as splittopskip does.
+pub fn top_skip_stretches()
+    ensures { rest_nodes (stretching_top (points 10)) (points 20) forced ≡
+        Some (Node.Glue (stretching_top (points 5)).split_top_skip ∷ rule (points 5) ∷ []) }
 {}

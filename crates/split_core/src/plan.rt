@@ -80,7 +80,8 @@ fn rest_start(nodes: &[Node], place: usize) -> usize
 fn top_glue(height: Dimen, params: &Params) -> Option<Glue>
     ensures { result ≡ (if fits (top_width params.now height) then Some (top_glue params.now height) else None) }
 {
-    let width = dimension(i128::from(positive(difference(params.split_top_skip.width, height))))?;
+    let left = difference(params.split_top_skip.width, height);
+    let width = dimension(i128::from(positive(left)))?;
     Some(Glue {
         width,
         ..params.split_top_skip
