@@ -3,3 +3,4 @@ pub mod Walks
 pub mod Openings
 pub mod Search
 pub mod Rests
+pub mod Choices

@@ -28,7 +28,7 @@ both-true true false e = absurd (cc)
 both-true false b e = absurd (cc)
 
 -- What a trial is cheaper than all of, one that is cheaper still is too.
-cheaper-all : (best t : Trial) (ts : List Trial) → is_cheaper best t ≡ true → list_all (is_cheaper t) ts ≡ true → list_all (is_cheaper best) ts ≡ true
+pub cheaper-all : (best t : Trial) (ts : List Trial) → is_cheaper best t ≡ true → list_all (is_cheaper t) ts ≡ true → list_all (is_cheaper best) ts ≡ true
 cheaper-all best t [] less all = refl
 cheaper-all best t (x ∷ xs) less all =
     let parts = both-true (is_cheaper t x) (list_all (is_cheaper t) xs) all in

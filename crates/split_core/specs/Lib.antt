@@ -4,4 +4,5 @@ pub mod Costs
 pub mod Split
 pub mod Walks
 pub mod Steps
+pub mod Chosen
 pub mod Laws

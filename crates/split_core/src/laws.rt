@@ -1,11 +1,12 @@
 //! Laws of the definitions, each on a function that does nothing.
 
-ghost use Rattle.std.specs.Prelude.{◌≡◌, ◌++◌, ◌∷◌, [], ℤ, pos, negsuc, List, Some, None};
+ghost use Rattle.std.specs.Prelude.{◌≡◌, ◌↔◌, ◌++◌, ◌∷◌, [], ℕ, ℤ, pos, negsuc, List, Some, None};
 ghost use Rattle.node_core.specs.declared.params.Params.{Params};
 ghost use Rattle.node_core.specs.declared.tree.Node.{Node};
 ghost use Rattle.node_core.specs.Parameters.{first_params};
 ghost use Rattle.split_core.specs.declared.parts.SplitFault.TheVariants.{InfiniteShrink, DimensionTooLarge};
 ghost use Rattle.split_core.specs.Split.{split_place, front_of, refusal};
+ghost use Rattle.split_core.specs.Chosen.{IsSplitPlace};
 ghost use Rattle.split_core.specs.Laws.{points, rule, space, shrinking, front_height, badness_of_front, rest_height, rest_nodes};
 ghost use Rattle.split_core.specs.Laws.{forced, spaced, high, sunken, hanging, mixed, places, stretching_top};
 
@@ -67,4 +68,10 @@ pub fn depth_counts_as_height()
 pub fn top_skip_stretches()
     ensures { rest_nodes (stretching_top (points 10)) (points 20) forced ≡
         Some (Node.Glue (stretching_top (points 5)).split_top_skip ∷ rule (points 5) ∷ []) }
+{}
+
+/// The place of a split is the one that is chosen: of the places tried none costs less, and each that is tried behind it costs more.
+pub fn chosen_place()
+    ensures { (params : Params) → (goal : ℤ) → (items : List Node) → (place : ℕ) →
+        ((split_place params goal items ≡ place) ↔ IsSplitPlace params goal items place) }
 {}
