@@ -1,11 +1,16 @@
 //! Laws of the definitions, each on a function that does nothing.
 
-ghost use Rattle.std.specs.Prelude.{◌≡◌, ◌↔◌, ◌++◌, ◌∷◌, [], ℕ, ℤ, pos, negsuc, List, Some, None};
+ghost use Rattle.std.specs.Prelude.{◌≡◌, ◌↔◌, ◌++◌, ◌∷◌, [], ℕ, ℤ, pos, negsuc, List, Some, None, Ok, Err, if◌then◌else◌};
+ghost use Rattle.std.specs.List.{list_all};
+ghost use Rattle.scaled_core.specs.Dimensions.{fits};
 ghost use Rattle.node_core.specs.declared.params.Params.{Params};
 ghost use Rattle.node_core.specs.declared.tree.Node.{Node};
+ghost use Rattle.node_core.specs.Nodes.{items_of};
 ghost use Rattle.node_core.specs.Parameters.{first_params};
+ghost use Rattle.pack_core.specs.declared.pack.Target.{Target};
+ghost use Rattle.pack_core.specs.Boxes.{vbox_numbers, vpacked};
 ghost use Rattle.split_core.specs.declared.parts.SplitFault.TheVariants.{InfiniteShrink, DimensionTooLarge};
-ghost use Rattle.split_core.specs.Split.{split_place, front_of, refusal};
+ghost use Rattle.split_core.specs.Split.{split_place, front_of, refusal, packed_as};
 ghost use Rattle.split_core.specs.Chosen.{IsSplitPlace};
 ghost use Rattle.split_core.specs.Laws.{points, rule, space, shrinking, front_height, badness_of_front, rest_height, rest_nodes};
 ghost use Rattle.split_core.specs.Laws.{forced, spaced, high, sunken, hanging, mixed, places, stretching_top};
@@ -74,4 +79,10 @@ pub fn top_skip_stretches()
 pub fn chosen_place()
     ensures { (params : Params) → (goal : ℤ) → (items : List Node) → (place : ℕ) →
         ((split_place params goal items ≡ place) ↔ IsSplitPlace params goal items place) }
+{}
+
+/// The parts of a split are what `vpack` packs of their items.
+pub fn parts_are_packed()
+    ensures { (target : Target) → (limit : ℤ) → (items : List Node) → vpacked target limit (items_of items) ≡
+        (if list_all fits (vbox_numbers target limit items) then Ok (packed_as target limit items) else Err (record { list = items_of items })) }
 {}
