@@ -9,7 +9,7 @@ abbrev pub rigid : (width : ℤ) → Glue
 rigid width = record { width = width; stretch = pos 0; stretch_order = Normal; shrink = pos 0; shrink_order = Normal }
 
 -- boxmaxdepth is the greatest dimension, baselineskip 12pt, lineskip 1pt, lineskiplimit 0pt, hsize 6.5in and parfillskip 0pt plus 1fil; then the
--- numbers.
+-- numbers; splitmaxdepth is the greatest dimension and splittopskip 10pt.
 abbrev pub first_params : Params
 first_params =
     record {
@@ -26,4 +26,6 @@ first_params =
       club_penalty = pos 150;
       widow_penalty = pos 150;
       interline_penalty = pos 0;
+      split_max_depth = pos 1073741823;
+      split_top_skip = rigid (pos 655360);
     }

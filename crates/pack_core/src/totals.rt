@@ -118,7 +118,7 @@ impl Totals {
 }
 
 /// The pending depth behind one more item.
-fn pending_behind(before: Dimen, node: &Node) -> Dimen
+pub fn pending_behind(before: Dimen, node: &Node) -> Dimen
     ensures { result ≡ pending_behind before node.now }
 {
     match node.class() {
