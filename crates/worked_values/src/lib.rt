@@ -15,6 +15,8 @@ mod nodes;
 #[cfg(test)]
 mod packing;
 #[cfg(test)]
+mod paragraphs;
+#[cfg(test)]
 mod samples;
 #[cfg(test)]
 mod scaled_values;
