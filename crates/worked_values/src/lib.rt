@@ -17,6 +17,8 @@ mod packing;
 #[cfg(test)]
 mod pages;
 #[cfg(test)]
+mod paragraphs;
+#[cfg(test)]
 mod reused_bodies;
 #[cfg(test)]
 mod samples;
