@@ -52,9 +52,9 @@ numbers-below limit glue xs totals high wide stretches shrinks is h d w s t =
     ∙ ap (λ (b : Bool). b && list_all fits (each_order (shrink_totals all))) (sym s') ∙ ap (λ (b : Bool). stretches && b) (sym t') in
     let parts : list_all fits (vbox_numbers Natural limit all) ≡ (fits (natural_height limit all) && (fits (natural_height limit all) && (fits (vbox_depth limit all) && (fits (greatest breadth all) && list_all fits (glue_totals all))))) = refl in
     sym (
-      parts
-      ∙ ap (λ (b : Bool). fits (natural_height limit all) && (fits (natural_height limit all) && (fits (vbox_depth limit all) && (fits (greatest breadth all) && b)))) g
-      ∙ four (fits (natural_height limit all)) (fits (vbox_depth limit all)) (fits (greatest breadth all)) stretches shrinks d'
-      ∙ ap (λ (b : Bool). b && (fits (greatest breadth all) && (stretches && shrinks))) (sym h')
-      ∙ ap (λ (b : Bool). high && (b && (stretches && shrinks))) (sym w')
+    parts
+    ∙ ap (λ (b : Bool). fits (natural_height limit all) && (fits (natural_height limit all) && (fits (vbox_depth limit all) && (fits (greatest breadth all) && b)))) g
+    ∙ four (fits (natural_height limit all)) (fits (vbox_depth limit all)) (fits (greatest breadth all)) stretches shrinks d'
+    ∙ ap (λ (b : Bool). b && (fits (greatest breadth all) && (stretches && shrinks))) (sym h')
+    ∙ ap (λ (b : Bool). high && (b && (stretches && shrinks))) (sym w')
     )

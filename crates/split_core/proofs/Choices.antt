@@ -6,7 +6,7 @@ use Rattle.std.proofs.lemmas.Bool.{cases_eq}
 use Rattle.std.proofs.lemmas.Option.{none-some}
 use Rattle.std.specs.Option.{option_map}
 use Rattle.std.specs.List.{list_all, filter_map, cons_option, range_with_len}
-use Rattle.node_core.specs.declared.params.Params.{Params}
+use Rattle.node_core.specs.declared.params.SplitParams.{SplitParams}
 use Rattle.node_core.specs.declared.tree.Node.{Node}
 use Rattle.split_core.specs.declared.trials.Trial.{Trial}
 use Rattle.split_core.specs.Costs.{cost, front_badness, is_last}
@@ -179,7 +179,7 @@ at-place i badness t None e = absurd (cc)
 at-place i badness t (Some p) e = let same : t ≡ record { place = i; penalty = p; badness = badness } = cc in ap (λ (x : Trial). x.place) same
 
 chosen-of :
-    (params : Params) (goal : ℤ) (items : List Node) (best : Option Trial) → Found (trial_at params goal items) 0 (length items + 1) best
+    (params : SplitParams) (goal : ℤ) (items : List Node) (best : Option Trial) → Found (trial_at params goal items) 0 (length items + 1) best
     → IsSplitPlace params goal items (place_of best)
 chosen-of params goal items None found =
     absurd (found (record { place = length items; penalty = eject; badness = front_badness params goal items })
@@ -198,13 +198,13 @@ only-chosen f a b t u ct cu = here (cases_eq t.place u.place)
         (λ more. let c = cu.latest t ct.tried (omega (arith, ints, more, apart)) in absurd (omega (arith, ints, c, ct.least u cu.tried)))
 
 -- The place of the split is that of the trial which is chosen.
-pub split-place-chosen : (params : Params) (goal : ℤ) (items : List Node) → IsSplitPlace params goal items (split_place params goal items)
+pub split-place-chosen : (params : SplitParams) (goal : ℤ) (items : List Node) → IsSplitPlace params goal items (split_place params goal items)
 unfolding split_place
 split-place-chosen params goal items =
     chosen-of params goal items (last_cheapest (up_to_last (trials params goal items)))
     (found-from (trial_at params goal items) (λ i t e. at-place i (front_badness params goal (take i items)) t (penalty_at items i) e) (length items + 1) 0 (length items + 1) (omega arith))
 
-pub split-place-only : (params : Params) (goal : ℤ) (items : List Node) (place : ℕ) → IsSplitPlace params goal items place → split_place params goal items ≡ place
+pub split-place-only : (params : SplitParams) (goal : ℤ) (items : List Node) (place : ℕ) → IsSplitPlace params goal items place → split_place params goal items ≡ place
 split-place-only params goal items place other =
     let found = split-place-chosen params goal items in
     sym found.here ∙ only-chosen (trial_at params goal items) 0 (length items + 1) found.trial other.trial found.chosen other.chosen ∙ other.here

@@ -6,7 +6,7 @@ use Rattle.std.specs.Option.{IfSome}
 use Rattle.std.proofs.lemmas.List.{drop_more, get_or_default, length-drop}
 use Rattle.std.proofs.lemmas.Option.{slice_get-get_or}
 use Rattle.std.proofs.lemmas.List.Folds.{list_all-append}
-use Rattle.node_core.specs.declared.params.Params.{Params}
+use Rattle.node_core.specs.declared.params.SplitParams.{SplitParams}
 use Rattle.node_core.specs.declared.tree.Node.{Node}
 use Rattle.node_core.specs.declared.tree.Node.TheVariants as nodes
 use Rattle.scaled_core.specs.Dimensions.{fits}
@@ -53,7 +53,7 @@ start-behind items place start dropped rest behind within =
 
 -- The numbers of the rest fit.
 pub top-fits :
-    (params : Params) (items rest : List Node) (top : Option Top) → top_items top items ≡ topped params rest → list_all fits (rest_numbers params rest) ≡ true
+    (params : SplitParams) (items rest : List Node) (top : Option Top) → top_items top items ≡ topped params rest → list_all fits (rest_numbers params rest) ≡ true
     → IfSome top (λ t. IsTrue (list_all fits (vbox_numbers Natural no_limit (nodes.Glue t.glue ∷ drop t.start items))))
 top-fits params items rest None same fit = tt
 top-fits params items [] (Some t) same fit = absurd (cc)
@@ -61,12 +61,12 @@ top-fits params items (x ∷ xs) (Some t) same fit =
     subst (λ (all : List Node). IsTrue (list_all fits (vbox_numbers Natural no_limit all))) (sym same) ((both-true _ _ fit).1)
 
 -- Why a list is not split.
-pub refusal-infinite : (params : Params) (goal : ℤ) (items : List Node) → list_any shrinks_infinitely items ≡ true → refusal params goal items ≡ Some InfiniteShrink
+pub refusal-infinite : (params : SplitParams) (goal : ℤ) (items : List Node) → list_any shrinks_infinitely items ≡ true → refusal params goal items ≡ Some InfiniteShrink
 unfolding refusal
 refusal-infinite params goal items infinite = rw infinite refl
 
 pub refusal-fits :
-    (params : Params) (goal : ℤ) (items : List Node) (front rest : Bool) → list_any shrinks_infinitely items ≡ false
+    (params : SplitParams) (goal : ℤ) (items : List Node) (front rest : Bool) → list_any shrinks_infinitely items ≡ false
     → list_all fits (vbox_numbers (To goal) params.split_max_depth (front_items params goal items)) ≡ front
     → list_all fits (rest_numbers params (rest_items params goal items)) ≡ rest
     → refusal params goal items ≡ (if (front && rest) then None else Some DimensionTooLarge)
@@ -78,7 +78,7 @@ refusal-fits params goal items front rest infinite f r =
     ∙ ap (λ (b : Bool). if b then None else Some DimensionTooLarge) both
 
 pub refusal-planned :
-    (params : Params) (goal : ℤ) (items : List Node) (place start : ℕ) (front rest : Bool) → list_any shrinks_infinitely items ≡ false
+    (params : SplitParams) (goal : ℤ) (items : List Node) (place start : ℕ) (front rest : Bool) → list_any shrinks_infinitely items ≡ false
     → place ≡ split_place params goal items → list_all fits (vbox_numbers (To goal) params.split_max_depth (take place items)) ≡ front
     → drop start items ≡ from_box_or_rule (drop place items) → list_all fits (rest_numbers params (drop start items)) ≡ rest
     → refusal params goal items ≡ (if (front && rest) then None else Some DimensionTooLarge)
@@ -90,13 +90,13 @@ refusal-planned params goal items place start front rest infinite is f at r =
 
 -- The parts of the plan are those of the split.
 pub front-planned :
-    (params : Params) (goal : ℤ) (items : List Node) (place : ℕ) → place ≡ split_place params goal items
+    (params : SplitParams) (goal : ℤ) (items : List Node) (place : ℕ) → place ≡ split_place params goal items
     → packed_as (To goal) params.split_max_depth (take place items) ≡ front_of params goal items
 unfolding front_of
 front-planned params goal items place is = ap (λ (i : ℕ). packed_as (To goal) params.split_max_depth (take i items)) is
 
 pub rest-planned :
-    (params : Params) (goal : ℤ) (items : List Node) (top : Option Top) → top_items top items ≡ topped params (rest_items params goal items)
+    (params : SplitParams) (goal : ℤ) (items : List Node) (top : Option Top) → top_items top items ≡ topped params (rest_items params goal items)
     → packed_rest (top_items top items) ≡ rest_of params goal items
 unfolding rest_of
 rest-planned params goal items top is = ap packed_rest is

@@ -7,7 +7,7 @@ use Rattle.std.specs.Option.{IfSome}
 use Rattle.std.proofs.lemmas.List.{drop_all, take_all}
 use Rattle.std.proofs.Math.Bool.{or-true}
 use Rattle.std.proofs.Common.{◌==◌}
-use Rattle.node_core.specs.declared.params.Params.{Params}
+use Rattle.node_core.specs.declared.params.SplitParams.{SplitParams}
 use Rattle.node_core.specs.declared.tree.Node.{Node}
 use Rattle.split_core.specs.declared.trials.Trial.{Trial}
 use Rattle.split_core.specs.Costs.{awful, cost, is_last, front_badness}
@@ -52,20 +52,20 @@ places-more : (n i : ℕ) → i ≤ n → range_with_len i (n + 1 - i) ≡ i ∷
 places-more n i within = let more : n + 1 - i ≡ suc (n + 1 - (i + 1)) = omega arith in rw more refl
 
 pub trials-none :
-    (params : Params) (goal : ℤ) (items : List Node) (i : ℕ) → i ≤ length items → trial_at params goal items i ≡ None
+    (params : SplitParams) (goal : ℤ) (items : List Node) (i : ℕ) → i ≤ length items → trial_at params goal items i ≡ None
     → trials_from params goal items i ≡ trials_from params goal items (i + 1)
 unfolding trials_from
 trials-none params goal items i within none = rw (places-more (length items) i within, none) refl
 
 pub trials-some :
-    (params : Params) (goal : ℤ) (items : List Node) (i : ℕ) (t : Trial) → i ≤ length items → trial_at params goal items i ≡ Some t
+    (params : SplitParams) (goal : ℤ) (items : List Node) (i : ℕ) (t : Trial) → i ≤ length items → trial_at params goal items i ≡ Some t
     → trials_from params goal items i ≡ t ∷ trials_from params goal items (i + 1)
 unfolding trials_from
 trials-some params goal items i t within some = rw (places-more (length items) i within, some) refl
 
 -- At the end of the list a trial is made, and it is the last.
 pub trial-end :
-    (params : Params) (goal : ℤ) (items : List Node) (badness : ℕ) → badness ≡ front_badness params goal items
+    (params : SplitParams) (goal : ℤ) (items : List Node) (badness : ℕ) → badness ≡ front_badness params goal items
     → trial_at params goal items (length items) ≡ Some (record { place = length items; penalty = eject; badness = badness })
 unfolding place_penalty
 trial-end params goal items badness is =
@@ -76,7 +76,7 @@ unfolding is_last
 end-last i badness = or-true (badness == awful)
 
 -- All trials are those of the places from the first on.
-pub trials-all : (params : Params) (goal : ℤ) (items : List Node) → trials_from params goal items 0 ≡ trials params goal items
+pub trials-all : (params : SplitParams) (goal : ℤ) (items : List Node) → trials_from params goal items 0 ≡ trials params goal items
 unfolding trials_from
 trials-all params goal items =
     let all : length items + 1 - 0 ≡ length items + 1 = omega arith in ap (λ (n : ℕ). filter_map (trial_at params goal items) (range_with_len 0 n)) all
@@ -91,18 +91,18 @@ kept-open items (Some best) t so_far here = by (is_cheaper best t) refl
     by false e = rw e here
 
 -- So far these are the trials to choose from: the best one, and those of the places from one on.
-abbrev pub IsChosenFrom : Params → (goal : ℤ) → List Node → Option Trial → ℕ → Type 0
+abbrev pub IsChosenFrom : SplitParams → (goal : ℤ) → List Node → Option Trial → ℕ → Type 0
 IsChosenFrom params goal items best i =
     last_cheapest (listed best ++ up_to_last (trials_from params goal items i)) ≡ last_cheapest (up_to_last (trials params goal items))
 
 pub chosen-none :
-    (params : Params) (goal : ℤ) (items : List Node) (best : Option Trial) (i : ℕ) → i ≤ length items → trial_at params goal items i ≡ None
+    (params : SplitParams) (goal : ℤ) (items : List Node) (best : Option Trial) (i : ℕ) → i ≤ length items → trial_at params goal items i ≡ None
     → IsChosenFrom params goal items best i → IsChosenFrom params goal items best (i + 1)
 chosen-none params goal items best i within none so_far =
     ap (λ (ts : List Trial). last_cheapest (listed best ++ up_to_last ts)) (sym (trials-none params goal items i within none)) ∙ so_far
 
 pub chosen-more :
-    (params : Params) (goal : ℤ) (items : List Node) (best : Option Trial) (i : ℕ) (t : Trial) → i ≤ length items → trial_at params goal items i ≡ Some t
+    (params : SplitParams) (goal : ℤ) (items : List Node) (best : Option Trial) (i : ℕ) (t : Trial) → i ≤ length items → trial_at params goal items i ≡ Some t
     → is_last t ≡ false → IsChosenFrom params goal items best i → IsChosenFrom params goal items (Some (cheaper best t)) (i + 1)
 chosen-more params goal items best i t within some more so_far =
     let rest : List Trial = trials_from params goal items (i + 1) in
@@ -110,7 +110,7 @@ chosen-more params goal items best i t within some more so_far =
     sym (ap (λ (ts : List Trial). last_cheapest (listed best ++ ts)) first ∙ kept best t (up_to_last rest)) ∙ so_far
 
 pub chosen-last :
-    (params : Params) (goal : ℤ) (items : List Node) (best : Option Trial) (i : ℕ) (t : Trial) → i ≤ length items → trial_at params goal items i ≡ Some t
+    (params : SplitParams) (goal : ℤ) (items : List Node) (best : Option Trial) (i : ℕ) (t : Trial) → i ≤ length items → trial_at params goal items i ≡ Some t
     → is_last t ≡ true → IsChosenFrom params goal items best i → (cheaper best t).place ≡ split_place params goal items
 unfolding split_place
 chosen-last params goal items best i t within some last so_far =

@@ -1,6 +1,6 @@
 -- The place of a split by what sets it apart (TeX: The Program, part 44, §970 to §976; that `split_place` is this place is a law).
 use Rattle.std.specs.Prelude.{◌≡◌, ◌<◌, ◌≤◌, ◌+◌, ◌≤ℤ◌, ◌<ℤ◌, ℕ, ℤ, false, List, length, Option, Some}
-use Rattle.node_core.specs.declared.params.Params.{Params}
+use Rattle.node_core.specs.declared.params.SplitParams.{SplitParams}
 use Rattle.node_core.specs.declared.tree.Node.{Node}
 use Rattle.split_core.specs.declared.trials.Trial.{Trial}
 use Rattle.split_core.specs.Costs.{cost, is_last}
@@ -24,7 +24,7 @@ pub record IsChosen (trials : ℕ → Option Trial) (first end : ℕ) (t : Trial
   pub latest : (other : Trial) → IsTried trials first end other → t.place < other.place → cost t <ℤ cost other
 
 -- A list is split at this place: that of the trial that is chosen of those of the list.
-pub record IsSplitPlace (params : Params) (goal : ℤ) (items : List Node) (place : ℕ) : Type 0 where
+pub record IsSplitPlace (params : SplitParams) (goal : ℤ) (items : List Node) (place : ℕ) : Type 0 where
   pub trial : Trial
   pub here : trial.place ≡ place
   pub chosen : IsChosen (trial_at params goal items) 0 (length items + 1) trial

@@ -1,6 +1,6 @@
 -- What a split at a place costs (TeX: The Program, part 44, §974 and §975).
 use Rattle.std.specs.Prelude.{◌+ℤ◌, ◌-ℤ◌, ◌==◌, ◌&&◌, ◌||◌, ℕ, ℤ, pos, Bool, int_lt, int_le, nat_lt, if◌then◌else◌, List}
-use Rattle.node_core.specs.declared.params.Params.{Params}
+use Rattle.node_core.specs.declared.params.SplitParams.{SplitParams}
 use Rattle.node_core.specs.declared.tree.Node.{Node}
 use Rattle.node_core.specs.declared.tree.Order.{Order}
 use Rattle.node_core.specs.declared.tree.Order.TheVariants.{Normal, Fil, Fill, Filll}
@@ -32,7 +32,7 @@ badness_to goal natural stretch shrink =
     if int_lt natural goal then stretching_badness (goal -ℤ natural) stretch else shrinking_badness (natural -ℤ goal) shrink
 
 -- The badness of a front: of the items before a place, whose natural height is that of their vbox, no deeper than splitmaxdepth.
-unfoldable pub front_badness : Params → (goal : ℤ) → (front : List Node) → ℕ
+unfoldable pub front_badness : SplitParams → (goal : ℤ) → (front : List Node) → ℕ
 front_badness params goal front =
     badness_to goal (natural_height params.split_max_depth front) (stretch_totals front) (shrink_totals front Normal)
 

@@ -1,13 +1,13 @@
 -- Lists whose splits are known (own).
 use Rattle.std.specs.Prelude.{◌*◌, ℕ, ℤ, pos, negsuc, List, [], ◌∷◌, map, Option}
 use Rattle.std.specs.Option.{option_map}
-use Rattle.node_core.specs.declared.params.Params.{Params}
+use Rattle.node_core.specs.declared.params.SplitParams.{SplitParams}
 use Rattle.node_core.specs.declared.tree.Node.{Node}
 use Rattle.node_core.specs.declared.tree.Node.TheVariants as nodes
 use Rattle.node_core.specs.declared.tree.Order.TheVariants.{Normal, Fil}
 use Rattle.node_core.specs.declared.tree.RuleSize.TheVariants.{Fixed}
 use Rattle.node_core.specs.Nodes.{nodes_of}
-use Rattle.node_core.specs.Parameters.{rigid, first_params}
+use Rattle.node_core.specs.Parameters.{rigid, first_split_params}
 use Rattle.pack_core.specs.declared.pack.Packed.{Packed}
 use Rattle.split_core.specs.Split.{trials, front_of, rest_of}
 use Rattle.split_core.specs.declared.trials.Trial.{Trial}
@@ -29,14 +29,14 @@ abbrev pub shrinking : ℤ → Node
 shrinking shrink = nodes.Glue (record { width = pos 0; stretch = pos 0; stretch_order = Normal; shrink = shrink; shrink_order = Fil })
 
 -- The height of the front of a split, and its badness.
-abbrev pub front_height : Params → (goal : ℤ) → List Node → ℤ
+abbrev pub front_height : SplitParams → (goal : ℤ) → List Node → ℤ
 front_height params goal items = (front_of params goal items).box_node.height
 
-abbrev pub badness_of_front : Params → (goal : ℤ) → List Node → ℕ
+abbrev pub badness_of_front : SplitParams → (goal : ℤ) → List Node → ℕ
 badness_of_front params goal items = (front_of params goal items).badness
 
 -- The height of the rest of a split, if there is a rest.
-abbrev pub rest_height : Params → (goal : ℤ) → List Node → Option ℤ
+abbrev pub rest_height : SplitParams → (goal : ℤ) → List Node → Option ℤ
 rest_height params goal items = option_map (λ (p : Packed). p.box_node.height) (rest_of params goal items)
 
 -- Three rules, 5pt high: glue of 2pt between the first two, and a penalty that forces a split between the last two.
@@ -71,13 +71,13 @@ mixed =
 
 -- The places of a list where a split is allowed.
 abbrev pub places : List Node → List ℕ
-places items = map (λ (t : Trial). t.place) (trials first_params (pos 0) items)
+places items = map (λ (t : Trial). t.place) (trials first_split_params (pos 0) items)
 
 -- splittopskip of that width, which stretches by 1fil.
-abbrev pub stretching_top : (width : ℤ) → Params
+abbrev pub stretching_top : (width : ℤ) → SplitParams
 stretching_top width =
-    record first_params { split_top_skip = record { width = width; stretch = points 1; stretch_order = Fil; shrink = pos 0; shrink_order = Normal } }
+    record first_split_params { split_top_skip = record { width = width; stretch = points 1; stretch_order = Fil; shrink = pos 0; shrink_order = Normal } }
 
 -- The items of the rest of a split, if there is a rest.
-abbrev pub rest_nodes : Params → (goal : ℤ) → List Node → Option (List Node)
+abbrev pub rest_nodes : SplitParams → (goal : ℤ) → List Node → Option (List Node)
 rest_nodes params goal items = option_map (λ (p : Packed). nodes_of p.box_node.list) (rest_of params goal items)

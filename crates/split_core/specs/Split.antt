@@ -4,7 +4,7 @@ use Rattle.std.specs.Prelude.{List, [], ◌∷◌, length, take, drop, Option, S
 use Rattle.std.specs.Int.{int_max}
 use Rattle.std.specs.List.{list_all, list_any, filter_map, range_with_len}
 use Rattle.std.specs.Option.{option_map}
-use Rattle.node_core.specs.declared.params.Params.{Params}
+use Rattle.node_core.specs.declared.params.SplitParams.{SplitParams}
 use Rattle.node_core.specs.declared.tree.Glue.{Glue}
 use Rattle.node_core.specs.declared.tree.Node.{Node}
 use Rattle.node_core.specs.declared.tree.Node.TheVariants as nodes
@@ -24,12 +24,12 @@ use Rattle.split_core.specs.Places.{is_box_or_rule, penalty_at}
 use Rattle.split_core.specs.Costs.{cost, front_badness, is_last}
 
 -- The trial of the place in front of item i, where a split is allowed there: its penalty, and the badness of the items before it.
-abbrev pub trial_at : Params → (goal : ℤ) → List Node → ℕ → Option Trial
+abbrev pub trial_at : SplitParams → (goal : ℤ) → List Node → ℕ → Option Trial
 trial_at params goal items i =
     option_map (λ (penalty : ℤ). record { place = i; penalty = penalty; badness = front_badness params goal (take i items) }) (penalty_at items i)
 
 -- The trials of all places where a split is allowed, in order, the end included.
-abbrev pub trials : Params → (goal : ℤ) → List Node → List Trial
+abbrev pub trials : SplitParams → (goal : ℤ) → List Node → List Trial
 trials params goal items = filter_map (trial_at params goal items) (range_with_len 0 (length items + 1))
 
 -- The trials up to and with the first that is the last one.
@@ -52,11 +52,11 @@ place_of None = 0
 place_of (Some t) = t.place
 
 -- The place of the split: of the places tried, the last of least cost (TeX: The Program, part 44, §970 to §976, vert_break).
-unfoldable pub split_place : Params → (goal : ℤ) → List Node → ℕ
+unfoldable pub split_place : SplitParams → (goal : ℤ) → List Node → ℕ
 split_place params goal items = place_of (last_cheapest (up_to_last (trials params goal items)))
 
 -- The items before the place of the split.
-abbrev pub front_items : Params → (goal : ℤ) → List Node → List Node
+abbrev pub front_items : SplitParams → (goal : ℤ) → List Node → List Node
 front_items params goal items = take (split_place params goal items) items
 
 -- The items from the first box or rule on; glue, kerns and penalties before it are dropped (TeX: The Program, part 44, §968, prune_page_top).
@@ -65,20 +65,20 @@ from_box_or_rule [] = []
 from_box_or_rule (x ∷ xs) = if is_box_or_rule x then x ∷ xs else from_box_or_rule xs
 
 -- The items that are left behind the place of the split.
-abbrev pub rest_items : Params → (goal : ℤ) → List Node → List Node
+abbrev pub rest_items : SplitParams → (goal : ℤ) → List Node → List Node
 rest_items params goal items = from_box_or_rule (drop (split_place params goal items) items)
 
 -- The width of the glue above a box or a rule of that height: that of splittopskip less the height, and not below 0
 -- (TeX: The Program, part 44, §969).
-abbrev pub top_width : Params → (height : ℤ) → ℤ
+abbrev pub top_width : SplitParams → (height : ℤ) → ℤ
 top_width params height = int_max (pos 0) (params.split_top_skip.width -ℤ height)
 
 -- The glue above a box or a rule of that height: it stretches and shrinks as splittopskip does.
-abbrev pub top_glue : Params → (height : ℤ) → Glue
+abbrev pub top_glue : SplitParams → (height : ℤ) → Glue
 top_glue params height = record params.split_top_skip { width = top_width params height }
 
 -- What is left with the glue above its first item, if there is one.
-abbrev pub topped : Params → List Node → List Node
+abbrev pub topped : SplitParams → List Node → List Node
 topped params [] = []
 topped params (x ∷ xs) = nodes.Glue (top_glue params (first_above x)) ∷ x ∷ xs
 
@@ -92,7 +92,7 @@ no_limit = pos 1073741823
 
 -- The front of a split: what stands before the place, in a vbox of just that height, no deeper than splitmaxdepth
 -- (TeX: The Program, part 44, §977, vsplit).
-unfoldable pub front_of : Params → (goal : ℤ) → List Node → Packed
+unfoldable pub front_of : SplitParams → (goal : ℤ) → List Node → Packed
 front_of params goal items = packed_as (To goal) params.split_max_depth (front_items params goal items)
 
 -- What is left, below its glue, in a vbox of its natural height; none where nothing is left.
@@ -101,7 +101,7 @@ packed_rest [] = None
 packed_rest (x ∷ xs) = Some (packed_as Natural no_limit (x ∷ xs))
 
 -- The rest of a split (TeX: The Program, part 44, §977, vsplit).
-unfoldable pub rest_of : Params → (goal : ℤ) → List Node → Option Packed
+unfoldable pub rest_of : SplitParams → (goal : ℤ) → List Node → Option Packed
 rest_of params goal items = packed_rest (topped params (rest_items params goal items))
 
 -- Whether an item is glue that shrinks in an infinite order.
@@ -115,18 +115,18 @@ shrinks_infinitely (nodes.Rule rule) = false
 shrinks_infinitely (nodes.Box shift b) = false
 
 -- The numbers of what is left that have to fit: the width of the glue above it, and those of its vbox (own: TeX looks at none).
-abbrev pub rest_numbers : Params → List Node → List ℤ
+abbrev pub rest_numbers : SplitParams → List Node → List ℤ
 rest_numbers params [] = []
 rest_numbers params (x ∷ xs) = top_width params (first_above x) ∷ vbox_numbers Natural no_limit (topped params (x ∷ xs))
 
 -- The numbers of a split that have to fit: those of the front and those of the rest (own).
-unfoldable pub split_numbers : Params → (goal : ℤ) → List Node → List ℤ
+unfoldable pub split_numbers : SplitParams → (goal : ℤ) → List Node → List ℤ
 split_numbers params goal items =
     vbox_numbers (To goal) params.split_max_depth (front_items params goal items) ++ rest_numbers params (rest_items params goal items)
 
 -- Why a list is not split, if so. Glue anywhere in the list that shrinks in an infinite order, glue by glue and no total: what else shrinks or
 -- stretches does not make up for it (TeX: The Program, part 44, §976; own: TeX looks no further than the split). Else a number that does not fit (own).
-unfoldable pub refusal : Params → (goal : ℤ) → List Node → Option SplitFault
+unfoldable pub refusal : SplitParams → (goal : ℤ) → List Node → Option SplitFault
 refusal params goal items =
     if list_any shrinks_infinitely items then Some InfiniteShrink
     else (if list_all fits (split_numbers params goal items) then None else Some DimensionTooLarge)

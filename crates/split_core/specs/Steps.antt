@@ -2,7 +2,7 @@
 use Rattle.std.specs.Prelude.{◌≡◌, ◌<◌, ◌≤◌, ◌+◌, ◌-◌, ℕ, ℤ, false, if◌then◌else◌, List, [], ◌∷◌, length, drop, take, Option, Some, None, IsTrue}
 use Rattle.std.specs.List.{list_all, filter_map, range_with_len, slice_get}
 use Rattle.std.specs.Option.{IfSome}
-use Rattle.node_core.specs.declared.params.Params.{Params}
+use Rattle.node_core.specs.declared.params.SplitParams.{SplitParams}
 use Rattle.node_core.specs.declared.tree.Node.{Node}
 use Rattle.node_core.specs.declared.tree.Node.TheVariants as nodes
 use Rattle.scaled_core.specs.Dimensions.{fits}
@@ -25,7 +25,7 @@ listed None = []
 listed (Some t) = t ∷ []
 
 -- The trials of the places from one on.
-unfoldable pub trials_from : Params → (goal : ℤ) → List Node → ℕ → List Trial
+unfoldable pub trials_from : SplitParams → (goal : ℤ) → List Node → ℕ → List Trial
 trials_from params goal items i = filter_map (trial_at params goal items) (range_with_len i (length items + 1 - i))
 
 -- A place of the list in front of which no box or rule stands: a split there drops the item behind it, if there is one.
@@ -39,7 +39,7 @@ top_items None items = []
 top_items (Some top) items = nodes.Glue top.glue ∷ drop top.start items
 
 -- The plan fits the list: it can be carried out.
-pub record IsSound (params : Params) (goal : ℤ) (items : List Node) (plan : Plan) : Type 0 where
+pub record IsSound (params : SplitParams) (goal : ℤ) (items : List Node) (plan : Plan) : Type 0 where
   pub within : plan.place ≤ length items
   pub behind : IfSome plan.top (λ top. plan.place < top.start)
   pub inside : IfSome plan.top (λ top. top.start ≤ length items)

@@ -11,7 +11,7 @@ ghost use Rattle.split_core.specs.Steps.{top_items, IsSound};
 
 use crate::parts::{Split, SplitFault, Unsplit};
 use crate::plan::{Plan, Top, plan_split};
-use node_core::{Glue, Node, NodeList, Params};
+use node_core::{Glue, Node, NodeList, SplitParams};
 use pack_core::{Packed, Target, vpack};
 use scaled_core::Dimen;
 use std::alloc::{AllocError, Global};
@@ -57,7 +57,7 @@ fn pack_rest(nodes: &mut Vec<Node>, top: Top) -> Result<Packed, AllocError>
 }
 
 /// Packs what stands before a place.
-fn pack_front(mut nodes: Vec<Node>, place: usize, height: Dimen, params: &Params) -> Packed
+fn pack_front(mut nodes: Vec<Node>, place: usize, height: Dimen, params: &SplitParams) -> Packed
     requires short { length nodes.items ≤ most_nodes }
     requires fits { IsTrue (list_all fits (vbox_numbers (Target.To height) params.now.split_max_depth (take place nodes.items))) }
     ensures { result ≡ packed_as (Target.To height) params.now.split_max_depth (take place nodes.items) }
@@ -71,7 +71,7 @@ fn carry_out(
     mut nodes: Vec<Node>,
     plan: &Plan,
     height: Dimen,
-    params: &Params,
+    params: &SplitParams,
 ) -> Result<Split, Vec<Node>>
     requires short { length nodes.items ≤ most_nodes }
     requires sound { IsSound params.now height nodes.items plan.now }
@@ -96,7 +96,7 @@ fn carry_out(
 
 /// Splits a vertical list to that height: what stands before the place is packed to just this height, no deeper than splitmaxdepth, and what is
 /// left to its natural height. No item is copied; one growth, for the nodes of the rest. Refused, the list comes back as it was.
-pub fn split_list(list: NodeList, height: Dimen, params: &Params) -> Result<Split, Unsplit>
+pub fn split_list(list: NodeList, height: Dimen, params: &SplitParams) -> Result<Split, Unsplit>
     ensures front { IfOk result (λ s. s.front ≡ front_of params.now height (nodes_of list)) }
     ensures rest { IfOk result (λ s. s.rest ≡ rest_of params.now height (nodes_of list)) }
     // Nothing speaks against the split, and else this is the fault, even where memory would be refused too.
@@ -133,7 +133,7 @@ fn split_copy(
     nodes: &[Node],
     plan: &Plan,
     height: Dimen,
-    params: &Params,
+    params: &SplitParams,
 ) -> Result<Split, AllocError>
     requires short { length nodes.now ≤ most_nodes }
     requires sound { IsSound params.now height nodes.now plan.now }
@@ -151,7 +151,7 @@ pub fn split(
     alloc: Global,
     nodes: &[Node],
     height: Dimen,
-    params: &Params,
+    params: &SplitParams,
 ) -> Result<Split, SplitFault>
     requires short { length nodes.now ≤ most_nodes }
     ensures front { IfOk result (λ s. s.front ≡ front_of params.now height nodes.now) }

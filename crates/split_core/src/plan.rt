@@ -11,7 +11,7 @@ ghost use Rattle.split_core.specs.Steps.{top_items, IsSound};
 
 use crate::parts::SplitFault;
 use crate::trials::{is_box_or_rule, split_place};
-use node_core::{Glue, Node, Order, Params};
+use node_core::{Glue, Node, Order, SplitParams};
 use pack_core::{Target, first_height_of, vbox_fits, vbox_fits_below};
 use scaled_core::Dimen;
 
@@ -78,7 +78,7 @@ fn rest_start(nodes: &[Node], place: usize) -> usize
 
 /// The glue above a box or a rule of that height, where its width fits.
 #[tactic(auto, unfolding(scaled_core::specs::Dimensions::dimension_of))]
-fn top_glue(height: Dimen, params: &Params) -> Option<Glue>
+fn top_glue(height: Dimen, params: &SplitParams) -> Option<Glue>
     ensures { result ≡ (if fits (top_width params.now height) then Some (top_glue params.now height) else None) }
 {
     let left = params.split_top_skip.width.exact_sub(height);
@@ -97,7 +97,7 @@ fn positive(value: i64) -> i64
 }
 
 /// What is left of a list from an item on, which is the first box or rule there, where its numbers fit.
-fn top_from(nodes: &[Node], start: usize, params: &Params) -> Result<Option<Top>, SplitFault>
+fn top_from(nodes: &[Node], start: usize, params: &SplitParams) -> Result<Option<Top>, SplitFault>
     requires short { length nodes.now ≤ most_nodes }
     requires within { start ≤ length nodes.now }
     ensures ok { IfOk result (λ top. top_items top nodes.now ≡ topped params.now (drop start nodes.now)) }
@@ -122,7 +122,7 @@ fn top_from(nodes: &[Node], start: usize, params: &Params) -> Result<Option<Top>
 }
 
 /// How a list is split to that height. It is refused exactly as the split is, and takes no memory.
-pub fn plan_split(nodes: &[Node], height: Dimen, params: &Params) -> Result<Plan, SplitFault>
+pub fn plan_split(nodes: &[Node], height: Dimen, params: &SplitParams) -> Result<Plan, SplitFault>
     requires short { length nodes.now ≤ most_nodes }
     ensures place { IfOk result (λ p. p.place ≡ split_place params.now height nodes.now) }
     ensures rest { IfOk result (λ p. top_items p.top nodes.now ≡ topped params.now (rest_items params.now height nodes.now)) }

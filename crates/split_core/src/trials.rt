@@ -8,10 +8,11 @@ ghost use Rattle.split_core.specs.Places.{ends_in_box_or_rule, is_box_or_rule, i
 ghost use Rattle.split_core.specs.Costs.{cost, is_last};
 ghost use Rattle.split_core.specs.Split.{trial_at, split_place};
 ghost use Rattle.split_core.specs.Steps.{cheaper, IsOpen};
-ghost use Rattle.split_core.specs.Walks.{sums_of};
+ghost use Rattle.pack_core.specs.ListTotals.{totals_of};
 
-use crate::sums::{AWFUL, Sums};
-use node_core::{Node, Params};
+use crate::sums::{AWFUL, front_badness};
+use node_core::{Kind, Node, SplitParams};
+use pack_core::Totals;
 use scaled_core::Dimen;
 
 /// The penalty at which a split has to be made (TeX: The Program, part 11, §157).
@@ -97,16 +98,17 @@ fn place_penalty(before: &[Node], after: &[Node]) -> Option<i32>
     }
 }
 
-/// The trial of the place in front of item `place`, where a split is allowed there; the items before it add up to `sums`.
+/// The trial of the place in front of item `place`, where a split is allowed there; the items before it have these totals.
 fn trial_at(
     nodes: &[Node],
     place: usize,
-    sums: &Sums,
+    totals: &Totals,
     height: Dimen,
-    params: &Params,
+    params: &SplitParams,
 ) -> Option<Trial>
     requires within { place ≤ length nodes.now }
-    requires passed { sums.now ≡ sums_of (take place nodes.now) }
+    requires short { length nodes.now ≤ most_nodes }
+    requires passed { totals.now ≡ totals_of Kind.Vertical (take place nodes.now) }
     ensures value { result ≡ trial_at params.now height nodes.now place }
     ensures open { IfSome result (λ t. IsOpen nodes.now t.place) }
 {
@@ -115,7 +117,7 @@ fn trial_at(
         Some(penalty) => Some(Trial {
             place,
             penalty,
-            badness: sums.front_badness(height, params),
+            badness: front_badness(height, totals, params),
         }),
     }
 }
@@ -138,29 +140,29 @@ fn cheaper(best: Option<Trial>, trial: Trial) -> Trial
 
 /// The place where a vertical list is split to that height: in front of which item, or the number of items. One walk over the list; it takes
 /// no memory.
-pub fn split_place(nodes: &[Node], height: Dimen, params: &Params) -> usize
+pub fn split_place(nodes: &[Node], height: Dimen, params: &SplitParams) -> usize
     requires short { length nodes.now ≤ most_nodes }
     ensures value { result ≡ split_place params.now height nodes.now }
     ensures within { result ≤ length nodes.now }
     // What stands behind the place is dropped.
     ensures dropped { is_some_box_or_rule (slice_get nodes.now result) ≡ false }
 {
-    let mut sums = Sums::new();
+    let mut totals = Totals::new(Kind::Vertical);
     let mut best = None;
     for place in 0..nodes.len() {
-        if let Some(trial) = trial_at(nodes, place, &sums, height, params) {
+        if let Some(trial) = trial_at(nodes, place, &totals, height, params) {
             let kept = cheaper(best, trial);
             if trial.is_last() {
                 return kept.place;
             }
             best = Some(kept);
         }
-        sums.pass(&nodes[place]);
+        totals.pass(&nodes[place]);
     }
     let end = Trial {
         place: nodes.len(),
         penalty: EJECT,
-        badness: sums.front_badness(height, params),
+        badness: front_badness(height, &totals, params),
     };
     cheaper(best, end).place
 }

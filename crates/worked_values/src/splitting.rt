@@ -1,6 +1,6 @@
 //! Vertical lists are split.
 
-use node_core::{Glue, Node, NodeList, Order, Params, Rule, RuleSize};
+use node_core::{Glue, Node, NodeList, Order, SplitParams, Rule, RuleSize};
 use pack_core::Packed;
 use scaled_core::Dimen;
 use std::alloc::Global;
@@ -60,7 +60,7 @@ fn expect_split(rt: &impl Abort, parts: &Split, height: i64, badness: u32, rest:
 #[test]
 fn three_lists_are_split(rt: HostRuntime) -> Result<(), Fail> {
     let alloc = rt.alloc();
-    let params = Params::first();
+    let params = SplitParams::first();
     let (a, b, c) = (rule(&rt, 5), rule(&rt, 5), rule(&rt, 5));
     let forced = Vec::from_array(alloc, [a, glue(&rt, 2, 0), b, Node::Penalty(-10_000), c])?;
     let parts = split(alloc, &forced, points(&rt, 20), &params);
@@ -81,7 +81,7 @@ fn three_lists_are_split(rt: HostRuntime) -> Result<(), Fail> {
 #[test]
 fn rests_and_refusals(rt: HostRuntime) -> Result<(), Fail> {
     let alloc = rt.alloc();
-    let params = Params::first();
+    let params = SplitParams::first();
     let ends = Vec::from_array(alloc, [rule(&rt, 5), glue(&rt, 2, 0)])?;
     let parts = split(alloc, &ends, points(&rt, 5), &params);
     let parts = parts.expect(&rt, "its numbers fit");

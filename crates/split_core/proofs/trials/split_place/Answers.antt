@@ -6,15 +6,16 @@ use Rattle.split_core.specs.Places.{is_some_box_or_rule}
 use Rattle.split_core.proofs.Openings.{open-end}
 use Rattle.split_core.specs.declared.trials.Trial.{Trial}
 use Rattle.split_core.specs.Split.{up_to_last, last_cheapest}
-use Rattle.split_core.specs.Walks.{Sums, one_more, sums_of}
-use Rattle.split_core.proofs.Walks.{sums_more, sums-passed}
+use Rattle.node_core.specs.declared.tree.Kind.TheVariants.{Vertical}
+use Rattle.pack_core.specs.ListTotals.{ListTotals, with_item, totals_of}
+use Rattle.pack_core.proofs.Passing.{totals-more, totals-passed}
 use Rattle.split_core.proofs.Search.{trials-all, trial-end, end-last, chosen-none, chosen-more, chosen-last, kept-open}
 use Rattle.split_core.proofs.trials.split_place.Goals.{in-Some+else-is_last, in_default}
 use Rattle.split_core.proofs.trials.split_place.Goals as goal
 
 pub loop-place-init : goal.loop-place-init
 loop-place-init c = record {
-  passed = c.new-sums.ensures;
+  passed = c.new-totals.ensures;
   chosen = ap (λ (ts : List Trial). last_cheapest (up_to_last ts)) (trials-all c.args.params.now c.args.height c.args.nodes.now);
   kept = tt;
 }
@@ -25,16 +26,21 @@ returns-then-is_last-clause-value c =
     ∙ chosen-last c.args.params.now c.args.height c.args.nodes.now c.loop-place.best c.loop-place.place c.in-Some.trial (omega arith)
     (sym c.trial_at.ensures.value ∙ c.in-Some.is) (sym c.is_last.ensures ∙ c.if-is_last.true) c.loop-place.invariant.chosen
 
+pub front_badness-requires : goal.front_badness-requires
+front_badness-requires c =
+    let passed = ap (λ (t : ListTotals). t.passed) c.loop-place.invariant.passed ∙ totals-passed Vertical (take c.loop-place.place c.args.nodes.now) in
+    omega (arith, c.requires, length-take c.loop-place.place c.args.nodes.now)
+
 pub pass-requires : goal.pass-requires
 pass-requires c =
-    let passed = ap (λ (s : Sums). s.passed) c.loop-place.invariant.passed ∙ sums-passed (take c.loop-place.place c.args.nodes.now) in
+    let passed = ap (λ (t : ListTotals). t.passed) c.loop-place.invariant.passed ∙ totals-passed Vertical (take c.loop-place.place c.args.nodes.now) in
     omega (arith, length-take c.loop-place.place c.args.nodes.now)
 
 pub loop-place-preserved : goal.loop-place-preserved
 loop-place-preserved c =
-    let passed : c.pass.new.self ≡ sums_of (take (c.loop-place.place + 1) c.args.nodes.now) =
-    c.pass.ensures ∙ ap (λ (s : Sums). one_more s c.index-nodes-place.result) c.loop-place.invariant.passed
-    ∙ sums_more c.args.nodes.now c.loop-place.place c.index-nodes-place.result c.loop-place-test.true c.index-nodes-place.is in
+    let passed : c.pass.new.self ≡ totals_of Vertical (take (c.loop-place.place + 1) c.args.nodes.now) =
+    c.pass.ensures.value ∙ ap (λ (t : ListTotals). with_item t c.index-nodes-place.result) c.loop-place.invariant.passed
+    ∙ totals-more Vertical c.args.nodes.now c.loop-place.place c.index-nodes-place.result c.loop-place-test.true c.index-nodes-place.is in
     record {
       passed = passed;
       chosen =
