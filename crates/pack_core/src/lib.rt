@@ -18,5 +18,5 @@ pub use below::vbox_fits_below;
 pub use orders::{OrderAmounts, OrderDimens};
 pub use pack::{Packed, Target, TooLarge, hpack, vbox_fits, vpack, vtop};
 pub use places::{Cursor, offset};
-pub use sizes::{advance_of, first_height_of, own_size, share_of};
+pub use sizes::{advance_of, first_height_of, own_size, share_of, shrink_of, stretch_of};
 pub use totals::Totals;
