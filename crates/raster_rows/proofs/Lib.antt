@@ -1,0 +1,3 @@
+pub mod OredWords
+pub mod MaskBits
+pub mod RowSteps

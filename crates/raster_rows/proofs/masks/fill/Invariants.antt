@@ -1,0 +1,6 @@
+use Rattle.std.proofs.Common.{◌≡◌, ℕ, ◌*◌, ◌<◌, ◌≤◌}
+use Rattle.raster_rows.specs.Words.{between, in_row}
+use Rattle.raster_rows.proofs.masks.fill.Given as goal
+
+abbrev pub invariant-loop-k : goal.invariant-loop-k
+invariant-loop-k l = (x : ℕ) → 64 * l.from ≤ x → x < 64 * l.k → in_row l.mask x ≡ between l.first l.last x
