@@ -1,13 +1,6 @@
-// A library with one function.
+//! Bitmaps: the rules of a page painted black, and the plain text of a bitmap.
+//!
+//! A bitmap is seen as its rows of pixels, from the top. The program that paints a page stands above it.
 #![tactic(auto)]
 
-ghost use Rattle.std.specs.Prelude.{◌≡◌};
-ghost use Rattle.raster_core.specs.Echo.{echo_of};
-
-// The `ensures` clause is the contract: what `echo` returns is `echo_of` of its argument, a definition
-// in `specs/Echo.antt`, which a caller's clause can cite too.
-pub fn echo(x: usize) -> usize
-    ensures { result ≡ echo_of x }
-{
-    x
-}
+mod pixels;
