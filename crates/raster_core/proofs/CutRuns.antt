@@ -28,14 +28,14 @@ abbrev kept : ℤ → ℤ
 kept z = cast_signed w128 (cast_unsigned w128 z)
 
 pub columns_are : (x : ℕ) (z q : ℤ) (n m : ℕ) → Within (2 ^ 126) z → n ≤ 2 ^ 107 → z ≡ q → n ≡ m
-  → spans (kept z) (kept (kept (kept z +ℤ cast_signed w128 n) -ℤ pos 1)) x ≡ spans q (q +ℤ pos m -ℤ pos 1) x
+    → spans (kept z) (kept (kept (kept z +ℤ cast_signed w128 n) -ℤ pos 1)) x ≡ spans q (q +ℤ pos m -ℤ pos 1) x
 columns_are x z q n m within few e f =
     let low : kept z ≡ q = omega (arith, ints) in
     let high : kept (kept (kept z +ℤ cast_signed w128 n) -ℤ pos 1) ≡ q +ℤ pos m -ℤ pos 1 = omega (arith, ints) in
     ap (λ u. spans u (kept (kept (kept z +ℤ cast_signed w128 n) -ℤ pos 1)) x) low ∙ ap (λ u. spans q u x) high
 
 pub rows_are : (y : ℕ) (z q : ℤ) (n m : ℕ) → Within (2 ^ 126) z → n ≤ 2 ^ 107 → z ≡ q → n ≡ m
-  → spans (kept (kept (kept z -ℤ cast_signed w128 n) +ℤ pos 1)) (kept z) y ≡ spans (q -ℤ pos m +ℤ pos 1) q y
+    → spans (kept (kept (kept z -ℤ cast_signed w128 n) +ℤ pos 1)) (kept z) y ≡ spans (q -ℤ pos m +ℤ pos 1) q y
 rows_are y z q n m within few e f =
     let low : kept (kept (kept z -ℤ cast_signed w128 n) +ℤ pos 1) ≡ q -ℤ pos m +ℤ pos 1 = omega (arith, ints) in
     let high : kept z ≡ q = omega (arith, ints) in

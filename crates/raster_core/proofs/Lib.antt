@@ -1,1 +1,4 @@
 pub mod CutRuns
+pub mod PaintedMarks
+pub mod DrawnPixels
+pub mod TextRuns

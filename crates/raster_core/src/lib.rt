@@ -3,4 +3,10 @@
 //! A bitmap is seen as its rows of pixels, from the top. The program that paints a page stands above it.
 #![tactic(auto)]
 
+pub mod fault;
+mod painting;
 mod pixels;
+mod printing;
+
+pub use fault::BitmapFault;
+pub use painting::Bitmap;

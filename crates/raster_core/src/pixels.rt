@@ -40,7 +40,9 @@ impl Scale {
         ensures { result ≡ scale_of (units_of units) dpi }
     {
         Scale {
-            num: u128::from(units.num.unsigned_abs()) * u128::from(units.mag.unsigned_abs()) * u128::from(dpi),
+            num: u128::from(units.num.unsigned_abs())
+                * u128::from(units.mag.unsigned_abs())
+                * u128::from(dpi),
             den: 254_000 * u64::from(units.den.unsigned_abs()) * 1000,
         }
     }

@@ -1,10 +1,10 @@
 -- Bits of words, and the bits of the mask of a run.
-use Rattle.std.proofs.Common.{◌≡◌, ℕ, zero, suc, ◌+◌, ◌-◌, ◌*◌, ◌/◌, ◌%◌, ◌^◌, ◌<◌, ◌≤◌, min, max, Bool, true, false, not, ◌&&◌, ◌||◌, ◌==◌, ltb, leb, List, length, get_or, set, refl, sym, ap, ◌∙◌, subst, arith, w64, inl, inr, ◌⊎◌, ◌≢◌}
+use Rattle.std.proofs.Common.{◌≡◌, ℕ, zero, suc, ◌+◌, ◌-◌, ◌*◌, ◌/◌, ◌%◌, ◌^◌, ◌<◌, ◌≤◌, min, max, not, ◌&&◌, ◌||◌, ◌==◌, ltb, List, length, get_or, set, refl, sym, ap, ◌∙◌, arith, w64, inl, inr, ◌⊎◌, ◌≢◌}
 use Rattle.std.specs.Prelude.{bit_and, bit_or}
 use Rattle.std.specs.Int.{bit_at}
 use Rattle.std.proofs.lemmas.Nat.{one_shl, mod_below}
 use Rattle.std.proofs.lemmas.Nat.Bits.{bit_at_and, bit_at_or, bit_at_not, bit_at_ones, bit_at_ones_above, bit_at-lt}
-use Rattle.std.proofs.lemmas.Bool.{cases_lt, cases_eq, lt-ltb, le-ltb, le-leb, lt-leb}
+use Rattle.std.proofs.lemmas.Bool.{cases_lt, lt-ltb, le-ltb, le-leb, lt-leb}
 use Rattle.std.proofs.lemmas.List.{get_or-set_same, get_or-set_other}
 use Rattle.raster_rows.specs.Words.{is_set, between, in_row}
 
@@ -50,7 +50,7 @@ run_is k i first last = go (cases_lt (64 * k + i) last) (cases_lt (64 * k + i) f
 
 -- bit i of word k of the mask
 word_bit : (low high k i first last : ℕ) → high < 2 ^ 64 → i < 64 → ((j : ℕ) → j < 64 → is_set low j ≡ ltb j (last - 64 * k)) → ((j : ℕ) → j < 64 → is_set high j ≡ ltb j (first - 64 * k))
-  → is_set (bit_and low (2 ^ 64 - 1 - high)) i ≡ between first last (64 * k + i)
+    → is_set (bit_and low (2 ^ 64 - 1 - high)) i ≡ between first last (64 * k + i)
 word_bit low high k i first last fits h p q =
     is_set-and low (2 ^ 64 - 1 - high) i
     ∙ (ap (λ b. is_set low i && b) (is_set-not high i fits h)
@@ -59,8 +59,8 @@ word_bit low high k i first last fits h p q =
 
 -- a word is written: the words before it are as they were
 pub fill_more : (mask : List ℕ) (k word first last from : ℕ) → k < length mask → ((i : ℕ) → i < 64 → is_set word i ≡ between first last (64 * k + i))
-  → ((x : ℕ) → 64 * from ≤ x → x < 64 * k → in_row mask x ≡ between first last x)
-  → (x : ℕ) → 64 * from ≤ x → x < 64 * (k + 1) → in_row (set mask k word) x ≡ between first last x
+    → ((x : ℕ) → 64 * from ≤ x → x < 64 * k → in_row mask x ≡ between first last x)
+    → (x : ℕ) → 64 * from ≤ x → x < 64 * (k + 1) → in_row (set mask k word) x ≡ between first last x
 unfolding in_row
 fill_more mask k word first last from room here below x low high = go (cases_lt x (64 * k))
   where
@@ -75,5 +75,5 @@ fill_more mask k word first last from room here below x low high = go (cases_lt 
 
 -- the word that `fill` writes
 pub filled_word : (low high k first last : ℕ) → high < 2 ^ 64 → ((j : ℕ) → j < 64 → is_set low j ≡ ltb j (last - 64 * k)) → ((j : ℕ) → j < 64 → is_set high j ≡ ltb j (first - 64 * k))
-  → (i : ℕ) → i < 64 → is_set (bit_and low (2 ^ 64 - 1 - high)) i ≡ between first last (64 * k + i)
+    → (i : ℕ) → i < 64 → is_set (bit_and low (2 ^ 64 - 1 - high)) i ≡ between first last (64 * k + i)
 filled_word low high k first last fits p q i h = word_bit low high k i first last fits h p q

@@ -1,5 +1,5 @@
 -- Words put into words by "or".
-use Rattle.std.proofs.Common.{◌≡◌, ℕ, zero, suc, ◌+◌, ◌-◌, ◌<◌, ◌≤◌, List, length, get_or, set, take, drop, refl, sym, ap, subst, ◌∙◌, arith, slice_index, inl, inr, ◌⊎◌}
+use Rattle.std.proofs.Common.{◌≡◌, ℕ, ◌+◌, ◌-◌, ◌<◌, ◌≤◌, List, length, get_or, sym, ap, subst, ◌∙◌, arith}
 use Rattle.std.specs.Prelude.{bit_or}
 use Rattle.std.specs.Simd.Lanes.{zip2, chunk, put_chunk}
 use Rattle.std.proofs.lemmas.Simd.{length-zip2, length-chunk, get_or-chunk, get_or-zip2, get_or-put_chunk_at, get_or-put_chunk_below, get_or-put_chunk_above}
@@ -16,7 +16,7 @@ length-lanes old at mask from room long =
     length-zip2 bit_or (chunk (at + from) 8 old) (chunk from 8 mask) (a ∙ sym b) ∙ a
 
 lane : (old : List ℕ) (at : ℕ) (mask : List ℕ) (from : ℕ) → at + from + 8 ≤ length old → from + 8 ≤ length mask → (j : ℕ) → j < 8
-  → get_or (eight old at mask from) (at + from + j) 0 ≡ bit_or (get_or old (at + from + j) 0) (get_or mask (from + j) 0)
+    → get_or (eight old at mask from) (at + from + j) 0 ≡ bit_or (get_or old (at + from + j) 0) (get_or mask (from + j) 0)
 lane old at mask from room long j h =
     let a = length-chunk (at + from) 8 old room in
     let b = length-chunk from 8 mask long in
@@ -26,7 +26,7 @@ lane old at mask from room long j h =
     ∙ (ap (λ x. bit_or x (get_or (chunk from 8 mask) j 0)) (get_or-chunk (at + from) 8 old j 0 h) ∙ ap (bit_or (get_or old (at + from + j) 0)) (get_or-chunk from 8 mask j 0 h)))
 
 lane_at : (old : List ℕ) (at : ℕ) (mask : List ℕ) (from : ℕ) → at + from + 8 ≤ length old → from + 8 ≤ length mask → (k j : ℕ) → from + j ≡ k → j < 8
-  → get_or (eight old at mask from) (at + k) 0 ≡ bit_or (get_or old (at + k) 0) (get_or mask k 0)
+    → get_or (eight old at mask from) (at + k) 0 ≡ bit_or (get_or old (at + k) 0) (get_or mask k 0)
 lane_at old at mask from room long k j e h =
     let f : at + from + j ≡ at + k = omega arith in
     let P : ℕ → ℕ → Type 0 = λ x y. get_or (eight old at mask from) x 0 ≡ bit_or (get_or old x 0) (get_or mask y 0) in

@@ -1,6 +1,5 @@
 -- A mask is put into one row more.
-use Rattle.std.proofs.Common.{◌≡◌, ℕ, suc, ◌+◌, ◌-◌, ◌*◌, ◌/◌, ◌%◌, ◌<◌, ◌≤◌, Bool, true, false, ◌&&◌, ◌||◌, eqb, ltb, leb, List, length, get_or, refl, sym, ap, ◌∙◌, subst, arith, inl, inr, ◌⊎◌}
-use Rattle.std.specs.Prelude.{bit_or}
+use Rattle.std.proofs.Common.{◌≡◌, ℕ, ◌+◌, ◌*◌, ◌/◌, ◌%◌, ◌<◌, ◌≤◌, Bool, true, false, ◌&&◌, ◌||◌, eqb, ltb, leb, List, get_or, refl, sym, ap, ◌∙◌, subst, arith, inl, inr, ◌⊎◌}
 use Rattle.std.proofs.lemmas.Nat.{mul-add-lt, row_fits}
 use Rattle.std.proofs.lemmas.Bool.{cases_lt, cases_order, lt-ltb, le-ltb, le-leb, lt-leb, eq-eqb, ne_eqb, or_right}
 use Rattle.raster_rows.specs.Words.{is_set, between, in_row, in_rows, Ors}
@@ -25,14 +24,15 @@ after_words from to x h = rw (le-ltb x (64 * to) (omega arith)) (and-false (leb 
 
 -- a pixel of the row itself
 same_row : (old new : List ℕ) (stride row : ℕ) (mask : List ℕ) (from to : ℕ) → Ors old new (row * stride) mask from to → (x : ℕ)
-  → in_rows new stride x row ≡ (in_rows old stride x row || (between (64 * from) (64 * to) x && in_row mask x))
+    → in_rows new stride x row ≡ (in_rows old stride x row || (between (64 * from) (64 * to) x && in_row mask x))
 unfolding in_rows in_row
 same_row old new stride row mask from to ors x = go (cases_lt (x / 64) from) (cases_lt (x / 64) to)
   where
     at : List ℕ → Bool
     at words = is_set (get_or words (row * stride + x / 64) 0) (x % 64)
+
     go : ((x / 64) < from) ⊎ (from ≤ (x / 64)) → ((x / 64) < to) ⊎ (to ≤ (x / 64))
-      → is_set (get_or new (row * stride + x / 64) 0) (x % 64) ≡ (is_set (get_or old (row * stride + x / 64) 0) (x % 64) || (between (64 * from) (64 * to) x && is_set (get_or mask (x / 64) 0) (x % 64)))
+        → is_set (get_or new (row * stride + x / 64) 0) (x % 64) ≡ (is_set (get_or old (row * stride + x / 64) 0) (x % 64) || (between (64 * from) (64 * to) x && is_set (get_or mask (x / 64) 0) (x % 64)))
     go (inl a) b =
         ap (λ w. is_set w (x % 64)) (ors.before (row * stride + x / 64) (omega arith))
         ∙ (or-false _ ∙ ap (λ m. is_set (get_or old (row * stride + x / 64) 0) (x % 64) || (m && is_set (get_or mask (x / 64) 0) (x % 64))) (sym (before_words from to x a)))
@@ -46,12 +46,13 @@ same_row old new stride row mask from to ors x = go (cases_lt (x / 64) from) (ca
 
 -- a pixel of any row
 one_row : (old new : List ℕ) (stride row : ℕ) (mask : List ℕ) (from to : ℕ) → to ≤ stride → Ors old new (row * stride) mask from to → (x y : ℕ) → x < 64 * stride
-  → in_rows new stride x y ≡ (in_rows old stride x y || (eqb y row && (between (64 * from) (64 * to) x && in_row mask x)))
+    → in_rows new stride x y ≡ (in_rows old stride x y || (eqb y row && (between (64 * from) (64 * to) x && in_row mask x)))
 unfolding in_rows
 one_row old new stride row mask from to fits ors x y h = go (cases_order y row)
   where
     column : x / 64 < stride
     column = omega arith
+
     go : (y ≡ row) ⊎ ((y < row) ⊎ (row < y)) → in_rows new stride x y ≡ (in_rows old stride x y || (eqb y row && (between (64 * from) (64 * to) x && in_row mask x)))
     go (inl e) =
         subst (λ r. in_rows new stride x r ≡ (in_rows old stride x r || (eqb r row && (between (64 * from) (64 * to) x && in_row mask x)))) (sym e)
@@ -86,9 +87,9 @@ more_rows top row y le = go (cases_order y row) (cases_lt y top)
     go (inr (inr high)) (inr t) = rw (le-leb top y t, le-ltb y row (omega arith), ne_eqb y row (λ e. omega arith), le-ltb y (row + 1) (omega arith))
 
 pub rows_more : (first old new : List ℕ) (stride top row : ℕ) (mask : List ℕ) (from to : ℕ) → top ≤ row → to ≤ stride
-  → ((x y : ℕ) → x < 64 * stride → in_rows old stride x y ≡ (in_rows first stride x y || (between top row y && (between (64 * from) (64 * to) x && in_row mask x))))
-  → Ors old new (row * stride) mask from to
-  → (x y : ℕ) → x < 64 * stride → in_rows new stride x y ≡ (in_rows first stride x y || (between top (row + 1) y && (between (64 * from) (64 * to) x && in_row mask x)))
+    → ((x y : ℕ) → x < 64 * stride → in_rows old stride x y ≡ (in_rows first stride x y || (between top row y && (between (64 * from) (64 * to) x && in_row mask x))))
+    → Ors old new (row * stride) mask from to
+    → (x y : ℕ) → x < 64 * stride → in_rows new stride x y ≡ (in_rows first stride x y || (between top (row + 1) y && (between (64 * from) (64 * to) x && in_row mask x)))
 rows_more first old new stride top row mask from to le fits before ors x y h =
     one_row old new stride row mask from to fits ors x y h
     ∙ (ap (λ o. o || (eqb y row && (between (64 * from) (64 * to) x && in_row mask x))) (before x y h)

@@ -7,7 +7,11 @@ ghost use Rattle.raster_rows.specs.Words.{between, in_row, is_set};
 fn low_bits(count: usize) -> u64
     ensures { (i : ℕ) → i < 64 → is_set result i ≡ nat_lt i count }
 {
-    if count >= 64 { u64::MAX } else { (1 << count) - 1 }
+    if count >= 64 {
+        u64::MAX
+    } else {
+        (1 << count) - 1
+    }
 }
 
 /// Sets the words of a mask from `from` to before `to` to the run of black pixels from `first` to before `last`.

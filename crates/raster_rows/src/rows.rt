@@ -15,7 +15,7 @@ fn or_rows(words: &mut [u64], mask: &[u64], from: usize, to: usize, top: usize, 
     requires room { bottom * length mask.now ≤ length words.old }
     ensures { let stride = length mask.now in
         (x y : ℕ) → x < 64 * stride → in_rows words.new stride x y
-            ≡ (in_rows words.old stride x y || (between top bottom y && (between (64 * from) (64 * to) x && in_row mask.now x))) }
+        ≡ (in_rows words.old stride x y || (between top bottom y && (between (64 * from) (64 * to) x && in_row mask.now x))) }
 {
     let stride = mask.len();
     for row in top..bottom {
@@ -31,7 +31,7 @@ pub fn blacken(words: &mut [u64], mask: &mut [u64], columns: Range<usize>, rows:
     requires short { 64 * length mask.old < 2 ^ 64 }
     ensures { let stride = length mask.old in
         (x y : ℕ) → x < 64 * stride → in_rows words.new stride x y
-            ≡ (in_rows words.old stride x y || (between columns.start columns.end x && between rows.start rows.end y)) }
+        ≡ (in_rows words.old stride x y || (between columns.start columns.end x && between rows.start rows.end y)) }
 {
     if columns.start >= columns.end || rows.start >= rows.end {
         return;

@@ -1,0 +1,157 @@
+//! A bitmap, and painting the rules of a page.
+
+ghost use Rattle.std.specs.Prelude.{◌≡◌, ◌+◌, ◌*◌, ◌^◌, ◌<◌, ◌≤◌, ◌&&◌, ◌||◌, ℕ, length, map, if◌then◌else◌, IsTrue, IfOk, IfErr, OnOk, OnErr, ◌++◌};
+ghost use Rattle.dvi_ops.specs.File.{AreUnits};
+ghost use Rattle.dvi_ops.specs.View.{units as units_of};
+ghost use Rattle.dvi_pass.specs.View.{mark_of, page_of};
+ghost use Rattle.raster_rows.specs.Words.{in_rows};
+ghost use Rattle.raster_core.specs.Pixels.{covers, is_covered, scale_of};
+ghost use Rattle.raster_core.specs.Pictures.{is_size, painted, white};
+ghost use Rattle.raster_core.specs.PlainText.{pbm};
+
+use crate::fault::BitmapFault;
+use crate::pixels::Scale;
+use crate::printing::append_text;
+use dvi_ops::Units;
+use dvi_pass::{Mark, Page};
+use raster_rows::blacken;
+use std::alloc::{AllocError, Global};
+use std::marker::Model;
+
+/// A bitmap of black and white pixels, with room for the mask of one row.
+#[derive(Debug, Drop)]
+pub struct Bitmap {
+    width: usize,
+    height: usize,
+    words: Vec<u64>,
+    mask: Vec<u64>,
+}
+
+impl Model for Bitmap {
+    ghost use Rattle.raster_core.specs.Pictures.{Picture};
+
+    ghost Value = { Picture };
+
+    ghost use Rattle.raster_core.specs.Bitmaps.{IsBitmap, picture};
+
+    ghost view = { picture };
+
+    ghost invariant = { IsBitmap };
+}
+
+impl Bitmap {
+    /// A white bitmap of that many columns and rows, 1 to 10,000 each; other sizes are refused. It has all the memory that painting takes.
+    pub fn new(alloc: Global, width: u32, height: u32) -> Result<Bitmap, BitmapFault>
+        ensures ok { IfOk result (λ bitmap. bitmap ≡ white width height) }
+        ensures fits { OnOk result (IsTrue (is_size width && is_size height)) }
+        ensures fault { IfErr result (λ fault. fault
+            ≡ (if is_size width && is_size height then BitmapFault.OutOfMemory else BitmapFault.DimensionTooLarge)) }
+    {
+        if width < 1 || width > 10_000 || height < 1 || height > 10_000 {
+            return Err(BitmapFault::DimensionTooLarge);
+        }
+        match white(alloc, width as usize, height as usize) {
+            Ok(bitmap) => Ok(bitmap),
+            Err(AllocError) => Err(BitmapFault::OutOfMemory),
+        }
+    }
+
+    /// Makes black what the rules of a page cover, with positive units and at most 10,000 pixels to an inch. The pixel of column 0 and row 0 is that
+    /// of the page's origin, columns go to the right and rows downward; what lies outside is cut. A rule's bottom left corner falls on the nearest
+    /// pixel, halves away from zero, its sizes are rounded up (DVItype, pixel_round and rule_pixels), and no glyph is painted. It takes no memory,
+    /// and its time is that of the words that the rules touch.
+    pub fn paint(&mut self, page: &Page, units: Units, dpi: u32)
+        requires units { AreUnits (units_of units) }
+        requires dpi { dpi ≤ 10000 }
+        ensures { self.new ≡ painted (is_covered (scale_of (units_of units) dpi) (page_of page.now).marks) self.old }
+    {
+        let scale = Scale::new(units, dpi);
+        paint_marks(
+            &mut self.words,
+            &mut self.mask,
+            self.width,
+            self.height,
+            scale,
+            &page.marks,
+        );
+    }
+
+    /// Appends the text of the bitmap, a plain PBM file: `P1`, the width and the height, and the rows from the top, 1 for black and 0 for white, in
+    /// lines of at most 70 digits (Netpbm, plain PBM). Where memory is refused, `out` is as it was.
+    pub fn write_pbm(&self, out: &mut Vec<u8>) -> Result<(), AllocError>
+        ensures ok { OnOk result (out.new.items ≡ out.old.items ++ pbm self.now) }
+        ensures err { OnErr result (out.new.items ≡ out.old.items) }
+    {
+        let held = out.len();
+        let written = append_text(out, &self.words, self.mask.len(), self.width, self.height);
+        if written.is_err() {
+            out.truncate(held);
+        }
+        written
+    }
+}
+
+/// A white bitmap of that size.
+fn white(alloc: Global, width: usize, height: usize) -> Result<Bitmap, AllocError>
+    requires width { (1 ≤ width) × (width ≤ 10000) }
+    requires height { (1 ≤ height) × (height ≤ 10000) }
+    ensures { IfOk result (λ bitmap. bitmap ≡ white width height) }
+{
+    let stride = width.div_ceil(64);
+    let words = vec![in alloc; 0; height * stride]?;
+    let mask = vec![in alloc; 0; stride]?;
+    Ok(Bitmap {
+        width,
+        height,
+        words,
+        mask,
+    })
+}
+
+/// Paints a mark into the pixels of a bitmap of that size.
+fn paint_mark(
+    words: &mut [u64],
+    mask: &mut [u64],
+    width: usize,
+    height: usize,
+    scale: Scale,
+    mark: Mark,
+)
+    requires columns { width ≤ 64 * length mask.old }
+    requires rows { height * length mask.old ≤ length words.old }
+    requires short { length mask.old ≤ 157 }
+    ensures { (x y : ℕ) → x < width → y < height
+        → in_rows words.new (length mask.old) x y ≡ (in_rows words.old (length mask.old) x y || covers scale (mark_of mark) x y) }
+{
+    if let Mark::Rule {
+        h,
+        v,
+        height: high,
+        width: wide,
+    } = mark
+    {
+        let columns = scale.columns(h, wide, width);
+        let rows = scale.rows(v, high, height);
+        blacken(words, mask, columns, rows);
+    }
+}
+
+/// Paints marks, one after the other.
+fn paint_marks(
+    words: &mut [u64],
+    mask: &mut [u64],
+    width: usize,
+    height: usize,
+    scale: Scale,
+    marks: &[Mark],
+)
+    requires columns { width ≤ 64 * length mask.old }
+    requires rows { height * length mask.old ≤ length words.old }
+    requires short { length mask.old ≤ 157 }
+    ensures { (x y : ℕ) → x < width → y < height
+        → in_rows words.new (length mask.old) x y ≡ (in_rows words.old (length mask.old) x y || is_covered scale (map mark_of marks.now) x y) }
+{
+    for mark in marks {
+        paint_mark(words, mask, width, height, scale, *mark);
+    }
+}
