@@ -77,3 +77,21 @@ white_is w h n stride words cleared =
     (λ x y a b.
     ap (λ l. is_set (get_or l (y * stride + x / 64) 0) (x % 64)) cleared
     ∙ (ap (λ k. is_set k (x % 64)) (no_word n (y * stride + x / 64)) ∙ ap (λ bit. bit == 1) (bit_at-zero (x % 64))))
+
+pub drawn_right : (w h : ℕ) (f : ℕ → ℕ → Bool) (x y : ℕ) → w ≤ x → is_black (drawn w h f) x y ≡ false
+unfolding drawn is_black
+drawn_right w h f x y past = go (cases_lt y h)
+  where
+    go : (y < h) ⊎ (h ≤ y) → get_or (get_or (map (row_of w f) (range_with_len 0 h)) y []) x false ≡ false
+    go (inl b) =
+        let n = length-map-range_with_len (λ z. f z y) 0 w in
+        ap (λ row. get_or row x false) (get_or-map-range_with_len (row_of w f) 0 h y y [] b (omega arith)) ∙ get_or_past (row_of w f y) x false (omega (arith, n))
+    go (inr b) =
+        let n = length-map-range_with_len (row_of w f) 0 h in
+        ap (λ row. get_or row x false) (get_or_past (map (row_of w f) (range_with_len 0 h)) y [] (omega (arith, n)))
+
+pub drawn_below : (w h : ℕ) (f : ℕ → ℕ → Bool) (x y : ℕ) → h ≤ y → is_black (drawn w h f) x y ≡ false
+unfolding drawn is_black
+drawn_below w h f x y b =
+    let n = length-map-range_with_len (row_of w f) 0 h in
+    ap (λ row. get_or row x false) (get_or_past (map (row_of w f) (range_with_len 0 h)) y [] (omega (arith, n)))
