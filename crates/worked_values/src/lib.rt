@@ -1,6 +1,8 @@
 //! Worked values of the libraries, as tests.
 #![tactic(auto)]
 
+#[cfg(test)]
+mod bitmaps;
 pub mod changed_bytes;
 #[cfg(test)]
 mod font_files;
