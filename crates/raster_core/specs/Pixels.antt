@@ -1,5 +1,5 @@
 -- The pixels of a page: its places and lengths in pixels, and what its rules cover (DVItype: its conversion of DVI units to pixels, and its rules).
-use Rattle.std.specs.Prelude.{◌+◌, ◌-◌, ◌*◌, ◌+ℤ◌, ◌-ℤ◌, ◌*ℤ◌, ◌&&◌, ℕ, ℤ, pos, negsuc, Bool, false, List, unsigned_abs, int_le}
+use Rattle.std.specs.Prelude.{◌*◌, ◌+ℤ◌, ◌-ℤ◌, ◌*ℤ◌, ◌&&◌, ℕ, ℤ, pos, negsuc, Bool, false, List, unsigned_abs, int_le}
 use Rattle.std.specs.Int.{div_ceil}
 use Rattle.std.specs.List.{list_any}
 use Rattle.scaled_core.specs.Rounding.{rounded}

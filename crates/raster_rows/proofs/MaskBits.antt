@@ -77,3 +77,7 @@ fill_more mask k word first last from room here below x low high = go (cases_lt 
 pub filled_word : (low high k first last : ℕ) → high < 2 ^ 64 → ((j : ℕ) → j < 64 → is_set low j ≡ ltb j (last - 64 * k)) → ((j : ℕ) → j < 64 → is_set high j ≡ ltb j (first - 64 * k))
     → (i : ℕ) → i < 64 → is_set (bit_and low (2 ^ 64 - 1 - high)) i ≡ between first last (64 * k + i)
 filled_word low high k first last fits p q i h = word_bit low high k i first last fits h p q
+
+-- another word stays
+pub stays : (mask first : List ℕ) (k word j : ℕ) → (j ≡ k → ⊥) → get_or mask j 0 ≡ get_or first j 0 → get_or (set mask k word) j 0 ≡ get_or first j 0
+stays mask first k word j other before = get_or-set_other mask k j word 0 other ∙ before

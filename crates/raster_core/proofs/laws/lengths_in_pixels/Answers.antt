@@ -1,7 +1,7 @@
 use Rattle.std.proofs.Common.{◌≡◌, ℕ, ◌+◌, ◌*◌, ◌/◌, ◌%◌, ◌<◌, ◌≤◌, min, arith, inl, inr, ◌⊎◌}
 use Rattle.std.proofs.lemmas.Bool.{cases_lt}
 use Rattle.std.proofs.lemmas.Nat.{div-add-mod', mod_below}
-use Rattle.raster_core.specs.Pixels.{Scale, pixels}
+use Rattle.raster_core.specs.Pixels.{pixels}
 use Rattle.raster_core.proofs.laws.lengths_in_pixels.Goals as goal
 
 -- a quotient and a rest, rounded up

@@ -1,4 +1,4 @@
-use Rattle.std.proofs.Common.{◌≡◌, ◌++◌, length, take}
+use Rattle.std.proofs.Common.{◌≡◌, ◌++◌}
 use Rattle.std.specs.List.{flat_map, range_with_len}
 use Rattle.raster_rows.specs.Words.{in_rows}
 use Rattle.raster_core.specs.PlainText.{digit_text, ends_line}
