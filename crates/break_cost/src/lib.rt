@@ -5,6 +5,7 @@
 #![tactic(auto)]
 
 mod cost;
+pub mod laws;
 mod sums;
 
 pub use cost::{Bound, Judged, judge, line_from};
