@@ -4,4 +4,5 @@ pub mod Kept
 pub mod Small
 pub mod Filling
 pub mod Ends
+pub mod Examples
 pub mod Passes

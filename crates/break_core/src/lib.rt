@@ -8,6 +8,7 @@ mod breaking;
 mod broken;
 mod fault;
 mod filling;
+pub mod laws;
 mod list;
 mod list_meter;
 mod meter;
