@@ -1,6 +1,8 @@
 //! Worked values of the libraries, as tests.
 #![tactic(auto)]
 
+#[cfg(test)]
+mod all_breaks;
 pub mod changed_bytes;
 #[cfg(test)]
 mod font_files;
@@ -16,6 +18,8 @@ mod nodes;
 mod packing;
 #[cfg(test)]
 mod pages;
+#[cfg(test)]
+mod paragraphs;
 #[cfg(test)]
 mod reused_bodies;
 #[cfg(test)]

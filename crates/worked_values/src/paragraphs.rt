@@ -1,6 +1,6 @@
 //! Breaks of paragraphs.
 
-use break_core::{Pass, breaks};
+use break_core::{BreakFault, Class, Pass, breaks};
 use node_core::{Glue, Node, Number, Order, Params, Rule, RuleSize};
 use scaled_core::Dimen;
 use std::alloc::Global;
@@ -176,4 +176,150 @@ fn ties_and_rescues(rt: HostRuntime) {
         &[4],
         (Pass::Third, 327_680, 100_000_000),
     );
+}
+
+/// Glue of no width that can shrink by so many points of order fil.
+fn shrinking(rt: &impl Abort, number: i64) -> Node {
+    Node::Glue(Glue {
+        width: Dimen::ZERO,
+        stretch: Dimen::ZERO,
+        stretch_order: Order::Normal,
+        shrink: points(rt, number),
+        shrink_order: Order::Fil,
+    })
+}
+
+/// So many penalties.
+fn penalties(rt: &impl Abort, alloc: Global, count: usize, penalty: i32) -> Vec<Node> {
+    let mut items = Vec::new(alloc);
+    for _ in 0..count {
+        items
+            .push(Node::Penalty(penalty))
+            .ok()
+            .expect(rt, "there is memory");
+    }
+    items
+}
+
+/// Asserts why a list is not broken.
+fn expect_fault(rt: &impl Abort, alloc: Global, nodes: &[Node], fault: BreakFault) {
+    assert!(rt; nodes.len() <= 131_072);
+    let found = breaks(alloc, nodes, &narrow(rt));
+    assert!(rt; found.err() == Some(fault));
+}
+
+#[test]
+fn lists_that_are_refused(rt: HostRuntime) {
+    let alloc = rt.alloc();
+    let params = narrow(&rt);
+    let forever = Vec::from_array(
+        alloc,
+        [rule(&rt, 10), shrinking(&rt, 1), shrinking(&rt, -1)],
+    );
+    let nodes = finished(&rt, forever.expect(&rt, "there is memory"), &params);
+    expect_fault(&rt, alloc, &nodes, BreakFault::InfiniteShrink);
+    let nowhere = Vec::from_array(alloc, [rule(&rt, 10), shrinking(&rt, 0)]);
+    let nodes = finished(&rt, nowhere.expect(&rt, "there is memory"), &params);
+    expect_breaks(&rt, alloc, &nodes, &params, &[4], (Pass::First, 0, 100));
+    let nodes = finished(&rt, penalties(&rt, alloc, 8_192, -10_000), &params);
+    expect_fault(&rt, alloc, &nodes, BreakFault::TooManyBreaks);
+}
+
+#[test]
+fn the_most_places(rt: HostRuntime) {
+    let alloc = rt.alloc();
+    let params = narrow(&rt);
+    let nodes = finished(&rt, penalties(&rt, alloc, 8_191, -10_000), &params);
+    assert!(&rt; nodes.len() <= 131_072);
+    let found = breaks(alloc, &nodes, &params).expect(&rt, "not refused");
+    assert_eq!(&rt; found.lines.len(), 8_192);
+    assert!(&rt; found.pass == Pass::Third);
+    assert_eq!(&rt; found.overhang, 0);
+    assert_eq!(&rt; found.demerits, 819_200_010_000);
+}
+
+#[test]
+fn a_tie_by_class_alone(rt: HostRuntime) {
+    let alloc = rt.alloc();
+    let mut params = narrow(&rt);
+    params.par_fill_skip.stretch = Dimen::ZERO;
+    let items = [
+        rule(&rt, 40),
+        glue(&rt, -8, 4),
+        rule(&rt, 5),
+        glue(&rt, -8, 4),
+        rule(&rt, 40),
+    ];
+    let items = Vec::from_array(alloc, items).expect(&rt, "there is memory");
+    let nodes = finished(&rt, items, &params);
+    expect_breaks(
+        &rt,
+        alloc,
+        &nodes,
+        &params,
+        &[1, 7],
+        (Pass::First, 0, 2_804),
+    );
+    assert!(&rt; nodes.len() <= 131_072);
+    let found = breaks(alloc, &nodes, &params).expect(&rt, "not refused");
+    let classes = [Class::Decent, Class::Loose];
+    for (line, class) in found.lines.iter().zip(&classes) {
+        assert!(&rt; line.class == *class);
+    }
+}
+
+/// Asserts what the breaks of two rules are, with an item between them.
+fn expect_between(
+    rt: &impl Abort,
+    alloc: Global,
+    width: i64,
+    item: Node,
+    places: &[usize],
+    costs: (Pass, i64, i64),
+) {
+    let items = Vec::from_array(alloc, [rule(rt, width), item, rule(rt, width)]);
+    let params = narrow(rt);
+    let nodes = finished(rt, items.expect(rt, "there is memory"), &params);
+    expect_breaks(rt, alloc, &nodes, &params, places, costs);
+}
+
+#[test]
+fn penalties_as_places(rt: HostRuntime) {
+    let costs = (Pass::Third, 2_621_440, 100_000_000);
+    expect_between(&rt, rt.alloc(), 40, Node::Penalty(10_000), &[5], costs);
+    let costs = (Pass::First, 0, 99_980_201);
+    expect_between(&rt, rt.alloc(), 40, Node::Penalty(9_999), &[1, 5], costs);
+    let costs = (Pass::First, 0, -99_979_801);
+    expect_between(&rt, rt.alloc(), 40, Node::Penalty(-9_999), &[1, 5], costs);
+    let costs = (Pass::First, 0, 200);
+    expect_between(&rt, rt.alloc(), 40, Node::Penalty(-10_000), &[1, 5], costs);
+    let costs = (Pass::First, 0, 100);
+    expect_between(&rt, rt.alloc(), 10, Node::Penalty(-9_999), &[5], costs);
+    let costs = (Pass::Third, 0, 100_020_100);
+    expect_between(&rt, rt.alloc(), 10, Node::Penalty(-10_000), &[1, 5], costs);
+}
+
+#[test]
+fn kerns_and_dropped_items(rt: HostRuntime) {
+    let alloc = rt.alloc();
+    let params = narrow(&rt);
+    let kern = Node::Kern(points(&rt, 5));
+    let items = Vec::from_array(alloc, [rule(&rt, 40), kern, glue(&rt, 0, 0), rule(&rt, 40)]);
+    let nodes = finished(&rt, items.expect(&rt, "there is memory"), &params);
+    expect_breaks(&rt, alloc, &nodes, &params, &[1, 6], (Pass::First, 0, 200));
+    let kern = Node::FontKern(points(&rt, 5));
+    let items = Vec::from_array(alloc, [rule(&rt, 35), kern, glue(&rt, 0, 0), rule(&rt, 40)]);
+    let nodes = finished(&rt, items.expect(&rt, "there is memory"), &params);
+    expect_breaks(&rt, alloc, &nodes, &params, &[2, 6], (Pass::First, 0, 200));
+    let items = [
+        rule(&rt, 40),
+        Node::Penalty(-10_000),
+        glue(&rt, 40, 0),
+        Node::Penalty(-10_000),
+        rule(&rt, 10),
+    ];
+    let items = Vec::from_array(alloc, items);
+    let nodes = finished(&rt, items.expect(&rt, "there is memory"), &params);
+    let costs = (Pass::Third, 0, 100_020_200);
+    expect_breaks(&rt, alloc, &nodes, &params, &[1, 3, 7], costs);
 }
