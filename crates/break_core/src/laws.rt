@@ -3,6 +3,8 @@
 ghost use Rattle.std.specs.Prelude.{◌≡◌, ◌∷◌, ℕ, pos, negsuc, min, List, [], take, Option, None, Some};
 ghost use Rattle.node_core.specs.declared.tree.Node.{Node};
 ghost use Rattle.node_core.specs.declared.tree.Node.TheVariants.{Kern, Penalty};
+ghost use Rattle.node_core.specs.declared.tree.Kind.TheVariants.{Horizontal};
+ghost use Rattle.pack_core.specs.ListTotals.{totals_of};
 ghost use Rattle.break_cost.specs.Examples.{sums_of_points};
 ghost use Rattle.break_core.specs.Legal.{legal_places};
 ghost use Rattle.break_core.specs.Kept.{BeginsBefore, kept, first_kept, sums_of, minus};
@@ -13,6 +15,16 @@ ghost use Rattle.break_core.specs.Examples.{rule, space, five_rules, kern_and_gl
 pub fn sums_of_lines_are_differences()
     ensures { (list : List Node) → (from : Option ℕ) → (b : ℕ) → BeginsBefore from b →
         sums_of (kept list from b) ≡ minus (sums_of (take b list)) (sums_of (take (min b (first_kept list from)) list)) }
+{}
+
+/// The sums over items are the totals by which they are packed into an hbox.
+pub fn sums_are_totals()
+    ensures width { (items : List Node) → (sums_of items).width ≡ (totals_of Horizontal items).advance }
+    ensures stretch { (items : List Node) → (sums_of items).stretch ≡ (totals_of Horizontal items).stretch.normal }
+    ensures fil { (items : List Node) → (sums_of items).fil ≡ (totals_of Horizontal items).stretch.fil }
+    ensures fill { (items : List Node) → (sums_of items).fill ≡ (totals_of Horizontal items).stretch.fill }
+    ensures filll { (items : List Node) → (sums_of items).filll ≡ (totals_of Horizontal items).stretch.filll }
+    ensures shrink { (items : List Node) → (sums_of items).shrink ≡ (totals_of Horizontal items).shrink.normal }
 {}
 
 /// Five rules with glue between them may be broken at the glue and at the end. The lines to places 3, 7 and 11 have 25pt, 40pt and 30pt.
