@@ -1,11 +1,11 @@
 -- What a line keeps of a list, and the sums over it (TeX: The Program, part 38, §822 and §837; part 39, §879 to §882).
-use Rattle.std.specs.Prelude.{◌≡◌, ◌+◌, ◌-◌, ◌+ℤ◌, ◌-ℤ◌, ◌++◌, map, length, ℕ, zero, suc, ℤ, pos, Bool, not, List, [], ◌∷◌, take, drop, slice_get, Option, Some, None, if◌then◌else◌}
+use Rattle.std.specs.Prelude.{◌≡◌, ◌<◌, ◌+◌, ◌-◌, ◌+ℤ◌, ◌-ℤ◌, ◌++◌, map, length, ℕ, zero, suc, ℤ, pos, Bool, not, List, [], ◌∷◌, take, drop, slice_get, Option, Some, None, if◌then◌else◌}
 use Rattle.node_core.specs.declared.tree.Node.{Node}
 use Rattle.node_core.specs.declared.tree.Node.TheVariants as nodes
 use Rattle.node_core.specs.declared.tree.Order.TheVariants.{Normal, Fil, Fill, Filll}
 use Rattle.pack_core.specs.Items.{across, stretch_in, shrink_in}
 use Rattle.pack_core.specs.Totals.{total}
-use Rattle.break_core.specs.declared.sums.Sums.{Sums}
+use Rattle.break_cost.specs.declared.sums.Sums.{Sums}
 use Rattle.break_core.specs.Legal.{is_dropped, up_to}
 
 -- What a line keeps of the item that it ends at: glue vanishes, a kern has no width any more, and a penalty stays.
@@ -24,6 +24,11 @@ without_first (node ∷ rest) = if is_dropped node then without_first rest else 
 abbrev pub kept : List Node → (from : Option ℕ) → (b : ℕ) → List Node
 kept list None b = take b list ++ at_break (slice_get list b)
 kept list (Some a) b = without_first (drop (a + 1) (take b list)) ++ at_break (slice_get list b)
+
+-- A line begins before its end.
+abbrev pub BeginsBefore : (from : Option ℕ) → (b : ℕ) → Type 0
+BeginsBefore None b = Unit {0}
+BeginsBefore (Some a) b = a < b
 
 -- The sums over the items of a line: their widths, how much they stretch in each order, and how much they shrink.
 unfoldable pub sums_of : List Node → Sums

@@ -6,7 +6,7 @@ ghost use Rattle.std.specs.List.{list_any};
 ghost use Rattle.node_core.specs.Nodes.{most_nodes};
 ghost use Rattle.break_core.specs.Legal.{is_dropped, is_kept, is_glue, is_break, node_before, is_legal, legal_places, penalty_of, shrinks_forever};
 
-use node_core::{Node, Order};
+use node_core::{Kind, Node, Order};
 use std::alloc::{AllocError, Global};
 
 /// Whether an item is dropped at the beginning of a line.
@@ -14,7 +14,7 @@ use std::alloc::{AllocError, Global};
 fn is_dropped(node: &Node) -> bool
     ensures { result ≡ is_dropped node.now }
 {
-    matches!(node, Node::Glue(_) | Node::Kern(_) | Node::Penalty(_))
+    node.class().is_discardable()
 }
 
 /// Whether the item behind a place is glue.
@@ -28,7 +28,7 @@ fn is_glue(nodes: &[Node], index: usize) -> bool
     }
 }
 
-/// Whether there is an item in front of a place that is not dropped at the beginning of a line.
+/// Whether there is an item in front of a place behind which glue is a legal place.
 fn is_kept_before(nodes: &[Node], index: usize) -> bool
     ensures { result ≡ is_kept (node_before nodes.now index) }
 {
@@ -36,7 +36,7 @@ fn is_kept_before(nodes: &[Node], index: usize) -> bool
         return false;
     }
     match nodes.get(index - 1) {
-        Some(node) => !is_dropped(node),
+        Some(node) => node.class().precedes_break(Kind::Horizontal),
         None => false,
     }
 }

@@ -3,6 +3,7 @@
 
 #[cfg(test)]
 mod bitmaps;
+mod all_breaks;
 pub mod changed_bytes;
 #[cfg(test)]
 mod font_files;
@@ -18,6 +19,8 @@ mod nodes;
 mod packing;
 #[cfg(test)]
 mod pages;
+#[cfg(test)]
+mod paragraphs;
 #[cfg(test)]
 mod reused_bodies;
 #[cfg(test)]
