@@ -5,3 +5,5 @@ pub mod Refusals
 pub mod SizedGlyphs
 pub mod LoadedFonts
 pub mod TakenBoxes
+pub mod ShapedItems
+pub mod ShippedPages
