@@ -13,7 +13,7 @@ use Rattle.node_core.specs.Items.{Leaf, glyph, font_kern, kern, glue, penalty, r
 use Rattle.dvi_ops.proofs.Appends.{all_append, all_weaker}
 use Rattle.dvi_write.specs.declared.fonts.LoadedFont.{LoadedFont}
 use Rattle.command_core.specs.declared.command.Command.{Command}
-use Rattle.command_core.specs.declared.command.Command.TheVariants.{LoadFont, UseFont, Open, End, Text, Character, Rule, Kern, Glue, Penalty, Append, Unbox, LastBox, Measure, Void, Set, Ship}
+use Rattle.command_core.specs.declared.command.Command.TheVariants.{LoadFont, UseFont, Open, End, Text, Character, Rule, Kern, Glue, Penalty, Append, Unbox, LastBox, Split, Measure, Void, Set, Ship}
 use Rattle.command_core.specs.declared.command.Refusal.{Refusal}
 use Rattle.command_core.specs.Reply.{Reply}
 use Rattle.dvi_write.specs.Fonts.{Slots, font_in}
@@ -70,6 +70,7 @@ read_after s (Penalty n) all = all
 read_after s (Append taken) all = still_read s (after s (Append taken)) (append_keeps s taken) all
 read_after s (Unbox taken) all = still_read s (after s (Unbox taken)) (unbox_keeps s taken) all
 read_after s (LastBox r) all = all
+read_after s (Split splitting) all = all
 read_after s (Measure r) all = all
 read_after s (Void r) all = all
 read_after s (Set parameter) all = all
@@ -96,6 +97,7 @@ new_sized s (Penalty n) sized = tt
 new_sized s (Append taken) sized = tt
 new_sized s (Unbox taken) sized = tt
 new_sized s (LastBox r) sized = tt
+new_sized s (Split splitting) sized = tt
 new_sized s (Measure r) sized = tt
 new_sized s (Void r) sized = tt
 new_sized s (Set parameter) sized = tt

@@ -12,7 +12,7 @@ use Rattle.dvi_ops.specs.Forest.{flat, nests}
 use Rattle.dvi_ops.specs.Layout.{bytes_of, define, sheet_from, table_widths}
 use Rattle.dvi_ops.proofs.Appends.{all_append, all_weaker}
 use Rattle.command_core.specs.declared.command.Command.{Command}
-use Rattle.command_core.specs.declared.command.Command.TheVariants.{LoadFont, UseFont, Open, End, Text, Character, Rule, Kern, Glue, Penalty, Append, Unbox, LastBox, Measure, Void, Set, Ship}
+use Rattle.command_core.specs.declared.command.Command.TheVariants.{LoadFont, UseFont, Open, End, Text, Character, Rule, Kern, Glue, Penalty, Append, Unbox, LastBox, Split, Measure, Void, Set, Ship}
 use Rattle.command_core.specs.declared.command.Refusal.{Refusal}
 use Rattle.command_core.specs.declared.command.Refusal.TheVariants.{OutOfMemory, JobOver, VoidBox, TooManyPages, TooMuchShipped, HugePage}
 use Rattle.command_core.specs.Reply.{Reply}
@@ -88,6 +88,7 @@ after-pages s (Penalty n) none = omega arith
 after-pages s (Append taken) none = omega (arith, (append_keeps s taken).pages)
 after-pages s (Unbox taken) none = omega (arith, (unbox_keeps s taken).pages)
 after-pages s (LastBox r) none = omega arith
+after-pages s (Split splitting) none = omega arith
 after-pages s (Measure r) none = omega arith
 after-pages s (Void r) none = omega arith
 after-pages s (Set parameter) none = omega arith
@@ -166,6 +167,7 @@ new_shipped s (Penalty n) none sized = tt
 new_shipped s (Append taken) none sized = tt
 new_shipped s (Unbox taken) none sized = tt
 new_shipped s (LastBox r) none sized = tt
+new_shipped s (Split splitting) none sized = tt
 new_shipped s (Measure r) none sized = tt
 new_shipped s (Void r) none sized = tt
 new_shipped s (Set parameter) none sized = tt
@@ -325,6 +327,7 @@ roomy s draft (Penalty n) numbers room = steady_room s draft (Penalty n) (first_
 roomy s draft (Append taken) numbers room = steady_room s draft (Append taken) (first_of (checks s (Append taken))) refl numbers (append_keeps s taken).shipped (append_keeps s taken).pages refl room
 roomy s draft (Unbox taken) numbers room = steady_room s draft (Unbox taken) (first_of (checks s (Unbox taken))) refl numbers (unbox_keeps s taken).shipped (unbox_keeps s taken).pages refl room
 roomy s draft (LastBox r) numbers room = steady_room s draft (LastBox r) (first_of (checks s (LastBox r))) refl numbers refl refl refl room
+roomy s draft (Split splitting) numbers room = steady_room s draft (Split splitting) (first_of (checks s (Split splitting))) refl numbers refl refl refl room
 roomy s draft (Measure r) numbers room = steady_room s draft (Measure r) (first_of (checks s (Measure r))) refl numbers refl refl refl room
 roomy s draft (Void r) numbers room = steady_room s draft (Void r) (first_of (checks s (Void r))) refl numbers refl refl refl room
 roomy s draft (Set parameter) numbers room = steady_room s draft (Set parameter) (first_of (checks s (Set parameter))) refl numbers refl refl refl room
@@ -361,6 +364,7 @@ small_after s draft (Penalty n) room = steady_bytes s draft (Penalty n) (first_o
 small_after s draft (Append taken) room = steady_bytes s draft (Append taken) (first_of (checks s (Append taken))) refl room
 small_after s draft (Unbox taken) room = steady_bytes s draft (Unbox taken) (first_of (checks s (Unbox taken))) refl room
 small_after s draft (LastBox r) room = steady_bytes s draft (LastBox r) (first_of (checks s (LastBox r))) refl room
+small_after s draft (Split splitting) room = steady_bytes s draft (Split splitting) (first_of (checks s (Split splitting))) refl room
 small_after s draft (Measure r) room = steady_bytes s draft (Measure r) (first_of (checks s (Measure r))) refl room
 small_after s draft (Void r) room = steady_bytes s draft (Void r) (first_of (checks s (Void r))) refl room
 small_after s draft (Set parameter) room = steady_bytes s draft (Set parameter) (first_of (checks s (Set parameter))) refl room

@@ -71,6 +71,7 @@ fn obey(kept: &mut Kept, writer: &mut Writer, command: &Command) -> Result<Reply
         Command::Append(taken) => kept.append_register_box(taken),
         Command::Unbox(taken) => kept.unbox(taken),
         Command::LastBox(register) => Ok(kept.last_box(*register)),
+        Command::Split(splitting) => kept.split(splitting),
         Command::Measure(register) => Ok(kept.measure(*register)),
         Command::Void(register) => Ok(kept.void(*register)),
         Command::Set(parameter) => Ok(kept.set(*parameter)),

@@ -1,5 +1,5 @@
 -- The function that reads a command gives the commands of the grammar.
-use Rattle.std.proofs.Common.{◌≡◌, ℕ, ℤ, Bool, true, false, if◌then◌else◌, List, [], ◌∷◌, ◌++◌, Option, Some, None, Ok, Err, codes, refl, ap, sym, subst}
+use Rattle.std.proofs.Common.{◌≡◌, ℕ, ℤ, Bool, true, false, if◌then◌else◌, List, [], ◌∷◌, ◌++◌, Option, Some, None, Result, Ok, Err, codes, refl, ap, sym, ◌∙◌, subst}
 use Rattle.std.specs.Str.{bytes_eq}
 use Rattle.node_core.specs.declared.tree.Glue as glues
 use Rattle.pack_core.specs.declared.pack.Target.{Target}
@@ -7,15 +7,16 @@ use Rattle.pack_core.specs.declared.pack.Target.TheVariants.{Natural, To, Spread
 use Rattle.command_core.specs.declared.command.BoxForm.{BoxForm}
 use Rattle.command_core.specs.declared.command.Taking.{Taking}
 use Rattle.command_core.specs.declared.command.Parameter.{Parameter}
-use Rattle.command_core.specs.declared.command.Parameter.TheVariants.{BoxMaxDepth, BaselineSkip, LineSkip, LineSkipLimit}
+use Rattle.command_core.specs.declared.command.Parameter.TheVariants.{BoxMaxDepth, BaselineSkip, LineSkip, LineSkipLimit, SplitMaxDepth, SplitTopSkip}
 use Rattle.command_core.specs.declared.command.Command.{Command}
 use Rattle.command_core.specs.declared.command.Command.TheVariants.{UseFont, End, Character, Kern, Glue, Penalty, LastBox, Measure, Void, Set, Ship}
+use Rattle.script_core.specs.declared.cause.Cause.{Cause}
 use Rattle.script_core.specs.declared.cause.Cause.TheVariants.{Word}
 use Rattle.script_core.specs.declared.name.Name.{Name}
 use Rattle.script_core.specs.declared.name.Name.TheVariants as names
 use Rattle.script_core.specs.Names.{name_of}
 use Rattle.script_core.specs.Grammar.{register_count, slot_count, character_count, IsNumberAmong, IsDimension, form_text, IsTarget, taking_text, unboxing_text, IsGlue, Says}
-use Rattle.script_core.specs.Reading.{rest_of, number_first, dimension_first, map_ok, no_field_left, last_number, last_dimension, right_and, font_of, rule_of, last_penalty, opening, opening_with_register, opening_into, opening_with_size, opening_of, append, shift_of, append_of, unboxing, glue_of, parameter_of, command_named, named_by, command_of}
+use Rattle.script_core.specs.Reading.{rest_of, number_first, dimension_first, map_ok, no_field_left, last_number, last_dimension, right_and, font_of, rule_of, last_penalty, opening, opening_with_register, opening_into, opening_with_size, opening_of, append, shift_of, append_of, unboxing, split, split_into, split_height, split_to, split_of, glue_of, parameter_of, command_named, named_by, command_of}
 use Rattle.script_core.proofs.FieldLaws.{same_bytes}
 use Rattle.script_core.proofs.NameLaws.{name_text, name_written}
 use Rattle.script_core.proofs.ReadFields.{number_last, dimension_last, number_read, font_name_read, two_fields, chosen_size_read, size_read, nothing_left, rule_read, font_read, made, then_read, dimension_first_read, shift_read, glue_read, penalty_last}
@@ -82,6 +83,51 @@ says_append taking rest command h =
     let m = made (append taking read.0) (shift_of (rest_of rest)) command read.2 in
     along _ _ _ m.2 (r.0, rest_of rest, ap (λ (xs : List (List ℕ)). taking_text taking ∷ xs) r.1, r.2, shift_read (rest_of rest) m.0 m.1)
 
+split_into_by : (r : ℕ) (z : ℤ) (w : List ℕ) (rest : List (List ℕ)) (command : Command) (b : Bool) → bytes_eq w (codes "into") ≡ b → split_into r z (w ∷ rest) ≡ Ok command
+    → (q : ℕ) × (split r z q ≡ command) × (f : List ℕ) × (w ∷ rest ≡ codes "into" ∷ f ∷ []) × IsNumberAmong register_count f q
+unfolding split_into
+split_into_by r z w rest command true e h =
+    let m = made (split r z) (last_number register_count rest) command (rw e at h) in
+    let last = number_last register_count rest m.0 m.1 in
+    (m.0, m.2, last.0, two_fields w (codes "into") rest last.0 (same_bytes w (codes "into") e) last.1, last.2)
+split_into_by r z w rest command false e h = let s : Err Word ≡ Ok command = rw e at h in absurd (cc)
+
+split_into_read : (r : ℕ) (z : ℤ) (rest : List (List ℕ)) (command : Command) → split_into r z rest ≡ Ok command
+    → (q : ℕ) × (split r z q ≡ command) × (f : List ℕ) × (rest ≡ codes "into" ∷ f ∷ []) × IsNumberAmong register_count f q
+unfolding split_into
+split_into_read r z [] command h = absurd (cc)
+split_into_read r z (w ∷ rest) command h = split_into_by r z w rest command (bytes_eq w (codes "into")) refl h
+
+says_height : (f : List ℕ) (r : ℕ) (rest : List (List ℕ)) (command : Command) → IsNumberAmong register_count f r → split_height r rest ≡ Ok command → Says (codes "vsplit" ∷ f ∷ codes "to" ∷ rest) command
+unfolding split_height
+says_height f r rest command is h =
+    let read = then_read (dimension_first rest) (λ z. split_into r z (rest_of rest)) command h in
+    let d = dimension_first_read rest read.0 read.1 in
+    let into = split_into_read r read.0 (rest_of rest) command read.2 in
+    let all : rest ≡ d.0 ∷ codes "into" ∷ into.2 ∷ [] = d.1 ∙ ap (λ (xs : List (List ℕ)). d.0 ∷ xs) into.3 in
+    along _ _ _ into.1 (f, d.0, into.2, ap (λ (xs : List (List ℕ)). codes "vsplit" ∷ f ∷ codes "to" ∷ xs) all, is, d.2, into.4)
+
+split_to_by : (f : List ℕ) (r : ℕ) (w : List ℕ) (rest : List (List ℕ)) (command : Command) (b : Bool) → IsNumberAmong register_count f r → bytes_eq w (codes "to") ≡ b → split_to r (w ∷ rest) ≡ Ok command
+    → Says (codes "vsplit" ∷ f ∷ w ∷ rest) command
+unfolding split_to
+split_to_by f r w rest command true is e h =
+    let P : List ℕ → Type 0 = λ x. Says (codes "vsplit" ∷ f ∷ x ∷ rest) command in
+    subst P (sym (same_bytes w (codes "to") e)) (says_height f r rest command is (rw e at h))
+split_to_by f r w rest command false is e h = let s : Err Word ≡ Ok command = rw e at h in absurd (cc)
+
+says_to : (f : List ℕ) (r : ℕ) (rest : List (List ℕ)) (command : Command) → IsNumberAmong register_count f r → split_to r rest ≡ Ok command → Says (codes "vsplit" ∷ f ∷ rest) command
+unfolding split_to
+says_to f r [] command is h = absurd (cc)
+says_to f r (w ∷ rest) command is h = split_to_by f r w rest command (bytes_eq w (codes "to")) is refl h
+
+says_split : (rest : List (List ℕ)) (command : Command) → split_of rest ≡ Ok command → Says (codes "vsplit" ∷ rest) command
+unfolding split_of
+says_split rest command h =
+    let read = then_read (number_first register_count rest) (λ register. split_to register (rest_of rest)) command h in
+    let r = number_read register_count rest read.0 read.1 in
+    let P : List (List ℕ) → Type 0 = λ xs. Says (codes "vsplit" ∷ xs) command in
+    subst P (sym r.1) (says_to r.0 read.0 (rest_of rest) command r.2 read.2)
+
 says_glue : (rest : List (List ℕ)) (command : Command) → map_ok Glue (glue_of rest) ≡ Ok command → Says (codes "glue" ∷ rest) command
 says_glue rest command h =
     let m = made Glue (glue_of rest) command h in
@@ -110,19 +156,36 @@ says_skip w word rest make p says e h =
     let P : List ℕ → Type 0 = λ x. Says (codes "set" ∷ x ∷ rest) (Set (make m.0)) in
     along _ _ _ (ap (λ (x : Parameter). Set x) m.2) (subst P (sym (same_bytes w word e)) (says rest m.0 (glue_read rest m.0 m.1)))
 
-limit_by : (w : List ℕ) (rest : List (List ℕ)) (p : Parameter) (b : Bool) → bytes_eq w (codes "lineskiplimit") ≡ b → (if b then map_ok LineSkipLimit (last_dimension rest) else Err Word) ≡ Ok p → Says (codes "set" ∷ w ∷ rest) (Set p)
+-- the parameters of splits
+top_skip_by : (w : List ℕ) (rest : List (List ℕ)) (p : Parameter) (b : Bool) → bytes_eq w (codes "splittopskip") ≡ b → (if b then map_ok SplitTopSkip (glue_of rest) else Err Word) ≡ Ok p → Says (codes "set" ∷ w ∷ rest) (Set p)
+top_skip_by w rest p true e h = says_skip w (codes "splittopskip") rest SplitTopSkip p (λ more g is. (more, refl, is)) e h
+top_skip_by w rest p false e h = absurd (cc)
+
+split_depth_by : (w : List ℕ) (rest : List (List ℕ)) (p : Parameter) (b : Bool) → bytes_eq w (codes "splitmaxdepth") ≡ b
+    → (if b then map_ok SplitMaxDepth (last_dimension rest) else (if bytes_eq w (codes "splittopskip") then map_ok SplitTopSkip (glue_of rest) else Err Word)) ≡ Ok p
+    → Says (codes "set" ∷ w ∷ rest) (Set p)
+split_depth_by w rest p true e h = says_dimension w (codes "splitmaxdepth") rest SplitMaxDepth p (λ d z is. (d, refl, is)) e h
+split_depth_by w rest p false e h = top_skip_by w rest p (bytes_eq w (codes "splittopskip")) refl h
+
+-- what is read where a word is none of the other parameters
+abbrev split_parameter : List ℕ → List (List ℕ) → Result Parameter Cause
+split_parameter w rest =
+    if bytes_eq w (codes "splitmaxdepth") then map_ok SplitMaxDepth (last_dimension rest)
+    else (if bytes_eq w (codes "splittopskip") then map_ok SplitTopSkip (glue_of rest) else Err Word)
+
+limit_by : (w : List ℕ) (rest : List (List ℕ)) (p : Parameter) (b : Bool) → bytes_eq w (codes "lineskiplimit") ≡ b → (if b then map_ok LineSkipLimit (last_dimension rest) else split_parameter w rest) ≡ Ok p → Says (codes "set" ∷ w ∷ rest) (Set p)
 limit_by w rest p true e h = says_dimension w (codes "lineskiplimit") rest LineSkipLimit p (λ d z is. (d, refl, is)) e h
-limit_by w rest p false e h = absurd (cc)
+limit_by w rest p false e h = split_depth_by w rest p (bytes_eq w (codes "splitmaxdepth")) refl h
 
 line_skip_by : (w : List ℕ) (rest : List (List ℕ)) (p : Parameter) (b : Bool) → bytes_eq w (codes "lineskip") ≡ b
-    → (if b then map_ok LineSkip (glue_of rest) else (if bytes_eq w (codes "lineskiplimit") then map_ok LineSkipLimit (last_dimension rest) else Err Word)) ≡ Ok p
+    → (if b then map_ok LineSkip (glue_of rest) else (if bytes_eq w (codes "lineskiplimit") then map_ok LineSkipLimit (last_dimension rest) else split_parameter w rest)) ≡ Ok p
     → Says (codes "set" ∷ w ∷ rest) (Set p)
 line_skip_by w rest p true e h = says_skip w (codes "lineskip") rest LineSkip p (λ more g is. (more, refl, is)) e h
 line_skip_by w rest p false e h = limit_by w rest p (bytes_eq w (codes "lineskiplimit")) refl h
 
 baseline_skip_by : (w : List ℕ) (rest : List (List ℕ)) (p : Parameter) (b : Bool) → bytes_eq w (codes "baselineskip") ≡ b
     → (if b then map_ok BaselineSkip (glue_of rest)
-    else (if bytes_eq w (codes "lineskip") then map_ok LineSkip (glue_of rest) else (if bytes_eq w (codes "lineskiplimit") then map_ok LineSkipLimit (last_dimension rest) else Err Word))) ≡ Ok p
+    else (if bytes_eq w (codes "lineskip") then map_ok LineSkip (glue_of rest) else (if bytes_eq w (codes "lineskiplimit") then map_ok LineSkipLimit (last_dimension rest) else split_parameter w rest))) ≡ Ok p
     → Says (codes "set" ∷ w ∷ rest) (Set p)
 baseline_skip_by w rest p true e h = says_skip w (codes "baselineskip") rest BaselineSkip p (λ more g is. (more, refl, is)) e h
 baseline_skip_by w rest p false e h = line_skip_by w rest p (bytes_eq w (codes "lineskip")) refl h
@@ -193,6 +256,7 @@ says_named names.Penalty rest command h = says_penalty rest command h
 says_named (names.Append taking) rest command h = says_append taking rest command h
 says_named (names.Unbox kind taking) rest command h = says_alone register_count (unboxing_text kind taking) rest (unboxing kind taking) command (λ r n is. (r, refl, is)) h
 says_named names.LastBox rest command h = says_alone register_count (codes "lastbox") rest LastBox command (λ r n is. (r, refl, is)) h
+says_named names.Split rest command h = says_split rest command h
 says_named names.Measure rest command h = says_alone register_count (codes "measure") rest Measure command (λ r n is. (r, refl, is)) h
 says_named names.Void rest command h = says_alone register_count (codes "void") rest Void command (λ r n is. (r, refl, is)) h
 says_named names.Set rest command h = says_set rest command h

@@ -12,6 +12,7 @@ pub mod CauseForms
 pub mod FontCauses
 pub mod OpeningCauses
 pub mod BoxCauses
+pub mod SplitCauses
 pub mod GlueCauses
 pub mod SharedCauses
 pub mod ParameterCauses

@@ -4,7 +4,7 @@ use Rattle.std.specs.Str.{bytes_eq}
 use Rattle.node_core.specs.declared.tree.Glue as glues
 use Rattle.command_core.specs.declared.command.Command.{Command}
 use Rattle.command_core.specs.declared.command.Command.TheVariants.{Glue, Set}
-use Rattle.command_core.specs.declared.command.Parameter.TheVariants.{BoxMaxDepth, BaselineSkip, LineSkip, LineSkipLimit}
+use Rattle.command_core.specs.declared.command.Parameter.TheVariants.{BoxMaxDepth, BaselineSkip, LineSkip, LineSkipLimit, SplitMaxDepth, SplitTopSkip}
 use Rattle.script_core.specs.declared.cause.Cause.{Cause}
 use Rattle.script_core.specs.declared.cause.Cause.TheVariants.{Word, Missing}
 use Rattle.script_core.specs.declared.name.Name.TheVariants as names
@@ -25,9 +25,9 @@ unfolding parameter_of
 set_lacks = set_reads []
 
 no_parameter : (w : List ℕ) (rest : List (List ℕ)) → bytes_eq w (codes "boxmaxdepth") ≡ false → bytes_eq w (codes "baselineskip") ≡ false → bytes_eq w (codes "lineskip") ≡ false → bytes_eq w (codes "lineskiplimit") ≡ false
-    → command_of (codes "set" ∷ w ∷ rest) ≡ Err Word
+    → bytes_eq w (codes "splitmaxdepth") ≡ false → bytes_eq w (codes "splittopskip") ≡ false → command_of (codes "set" ∷ w ∷ rest) ≡ Err Word
 unfolding parameter_of
-no_parameter w rest a b c d = set_reads (w ∷ rest) ∙ (rw (a, b, c, d) refl)
+no_parameter w rest a b c d e f = set_reads (w ∷ rest) ∙ (rw (a, b, c, d, e, f) refl)
 
 -- a dimension
 abbrev depth : ℤ → Command
@@ -39,6 +39,13 @@ limit z = Set (LineSkipLimit z)
 depth_reads : (rest : List (List ℕ)) → command_of (codes "set" ∷ codes "boxmaxdepth" ∷ rest) ≡ map_ok depth (last_dimension rest)
 unfolding parameter_of
 depth_reads rest = set_reads (codes "boxmaxdepth" ∷ rest) ∙ twice Set BoxMaxDepth (last_dimension rest)
+
+abbrev split_depth : ℤ → Command
+split_depth z = Set (SplitMaxDepth z)
+
+split_depth_reads : (rest : List (List ℕ)) → command_of (codes "set" ∷ codes "splitmaxdepth" ∷ rest) ≡ map_ok split_depth (last_dimension rest)
+unfolding parameter_of
+split_depth_reads rest = set_reads (codes "splitmaxdepth" ∷ rest) ∙ twice Set SplitMaxDepth (last_dimension rest)
 
 limit_reads : (rest : List (List ℕ)) → command_of (codes "set" ∷ codes "lineskiplimit" ∷ rest) ≡ map_ok limit (last_dimension rest)
 unfolding parameter_of
@@ -56,6 +63,10 @@ limit_cause : (rest : List (List ℕ)) (cause : Cause) → command_of (codes "se
 limit_cause rest cause h =
     dimension_cause (codes "set" ∷ codes "lineskiplimit" ∷ []) limit limit_reads rest cause (not_made limit (last_dimension rest) cause (sym (limit_reads rest) ∙ h))
 
+split_depth_cause : (rest : List (List ℕ)) (cause : Cause) → command_of (codes "set" ∷ codes "splitmaxdepth" ∷ rest) ≡ Err cause → IsFieldCause cause (codes "set" ∷ codes "splitmaxdepth" ∷ rest)
+split_depth_cause rest cause h =
+    dimension_cause (codes "set" ∷ codes "splitmaxdepth" ∷ []) split_depth split_depth_reads rest cause (not_made split_depth (last_dimension rest) cause (sym (split_depth_reads rest) ∙ h))
+
 -- a glue
 abbrev baseline_skip : glues.Glue → Command
 baseline_skip g = Set (BaselineSkip g)
@@ -66,6 +77,13 @@ line_skip g = Set (LineSkip g)
 baseline_skip_reads : (rest : List (List ℕ)) → command_of (codes "set" ∷ codes "baselineskip" ∷ rest) ≡ map_ok baseline_skip (glue_of rest)
 unfolding parameter_of
 baseline_skip_reads rest = set_reads (codes "baselineskip" ∷ rest) ∙ twice Set BaselineSkip (glue_of rest)
+
+abbrev top_skip : glues.Glue → Command
+top_skip g = Set (SplitTopSkip g)
+
+top_skip_reads : (rest : List (List ℕ)) → command_of (codes "set" ∷ codes "splittopskip" ∷ rest) ≡ map_ok top_skip (glue_of rest)
+unfolding parameter_of
+top_skip_reads rest = set_reads (codes "splittopskip" ∷ rest) ∙ twice Set SplitTopSkip (glue_of rest)
 
 line_skip_reads : (rest : List (List ℕ)) → command_of (codes "set" ∷ codes "lineskip" ∷ rest) ≡ map_ok line_skip (glue_of rest)
 unfolding parameter_of
@@ -91,6 +109,11 @@ line_skip_cause rest cause h =
     shared_cause glues.Glue glue_of (codes "glue") (codes "set") (codes "lineskip") Glue line_skip glue_reads line_skip_reads (codes "0sp" ∷ []) _ zero_glue cause rest
     (of_glue rest line_skip cause (sym (line_skip_reads rest) ∙ h))
 
+top_skip_cause : (rest : List (List ℕ)) (cause : Cause) → command_of (codes "set" ∷ codes "splittopskip" ∷ rest) ≡ Err cause → IsFieldCause cause (codes "set" ∷ codes "splittopskip" ∷ rest)
+top_skip_cause rest cause h =
+    shared_cause glues.Glue glue_of (codes "glue") (codes "set") (codes "splittopskip") Glue top_skip glue_reads top_skip_reads (codes "0sp" ∷ []) _ zero_glue cause rest
+    (of_glue rest top_skip cause (sym (top_skip_reads rest) ∙ h))
+
 -- what holds behind a word holds behind its bytes
 along_word : (w word : List ℕ) (rest : List (List ℕ)) (cause : Cause) → bytes_eq w word ≡ true → (command_of (codes "set" ∷ word ∷ rest) ≡ Err cause → IsFieldCause cause (codes "set" ∷ word ∷ rest)) → command_of (codes "set" ∷ w ∷ rest) ≡ Err cause → IsFieldCause cause (codes "set" ∷ w ∷ rest)
 along_word w word rest cause e there h =
@@ -99,16 +122,22 @@ along_word w word rest cause e there h =
     let Q : List ℕ → Type 0 = λ x. command_of (codes "set" ∷ x ∷ rest) ≡ Err cause in
     subst P (sym is) (there (subst Q is h))
 
+by_split_word : (w : List ℕ) (rest : List (List ℕ)) (deep top : Bool) (cause : Cause) → bytes_eq w (codes "boxmaxdepth") ≡ false → bytes_eq w (codes "baselineskip") ≡ false → bytes_eq w (codes "lineskip") ≡ false → bytes_eq w (codes "lineskiplimit") ≡ false
+    → bytes_eq w (codes "splitmaxdepth") ≡ deep → bytes_eq w (codes "splittopskip") ≡ top → command_of (codes "set" ∷ w ∷ rest) ≡ Err cause → IsFieldCause cause (codes "set" ∷ w ∷ rest)
+by_split_word w rest true top cause a b c d e f h = along_word w (codes "splitmaxdepth") rest cause e (split_depth_cause rest cause) h
+by_split_word w rest false true cause a b c d e f h = along_word w (codes "splittopskip") rest cause f (top_skip_cause rest cause) h
+by_split_word w rest false false cause a b c d e f h =
+    as_cause _ Word cause (let no = no_parameter w rest a b c d e f in cc)
+    (has_bad_elsewhere IsWord (codes "set" ∷ []) w rest (codes "boxmaxdepth") (codes "0sp" ∷ []) (depth (pos 0)) depth_is_word depth_zero
+    (λ later. (Word, no_parameter w later a b c d e f)) (λ later. (Word, no_parameter letter later refl refl refl refl refl refl)))
+
 by_word : (w : List ℕ) (rest : List (List ℕ)) (deep base line most : Bool) (cause : Cause) → bytes_eq w (codes "boxmaxdepth") ≡ deep → bytes_eq w (codes "baselineskip") ≡ base → bytes_eq w (codes "lineskip") ≡ line → bytes_eq w (codes "lineskiplimit") ≡ most
     → command_of (codes "set" ∷ w ∷ rest) ≡ Err cause → IsFieldCause cause (codes "set" ∷ w ∷ rest)
 by_word w rest true base line most cause a b c d h = along_word w (codes "boxmaxdepth") rest cause a (depth_cause rest cause) h
 by_word w rest false true line most cause a b c d h = along_word w (codes "baselineskip") rest cause b (baseline_skip_cause rest cause) h
 by_word w rest false false true most cause a b c d h = along_word w (codes "lineskip") rest cause c (line_skip_cause rest cause) h
 by_word w rest false false false true cause a b c d h = along_word w (codes "lineskiplimit") rest cause d (limit_cause rest cause) h
-by_word w rest false false false false cause a b c d h =
-    as_cause _ Word cause (let no = no_parameter w rest a b c d in cc)
-    (has_bad_elsewhere IsWord (codes "set" ∷ []) w rest (codes "boxmaxdepth") (codes "0sp" ∷ []) (depth (pos 0)) depth_is_word depth_zero
-    (λ later. (Word, no_parameter w later a b c d)) (λ later. (Word, no_parameter letter later refl refl refl refl)))
+by_word w rest false false false false cause a b c d h = by_split_word w rest (bytes_eq w (codes "splitmaxdepth")) (bytes_eq w (codes "splittopskip")) cause a b c d refl refl h
 
 pub set_cause : (rest : List (List ℕ)) (cause : Cause) → command_of (codes "set" ∷ rest) ≡ Err cause → IsFieldCause cause (codes "set" ∷ rest)
 set_cause [] cause h =

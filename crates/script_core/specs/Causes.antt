@@ -21,7 +21,7 @@ Begins fields = (more : List (List ℕ)) × SaysSome (fields ++ more)
 abbrev pub IsInnerWord : List ℕ → Type 0
 IsInnerWord field =
     Contains (codes "at" ∷ codes "to" ∷ codes "spread" ∷ codes "into" ∷ codes "plus" ∷ codes "minus" ∷ codes "shift"
-    ∷ codes "boxmaxdepth" ∷ codes "baselineskip" ∷ codes "lineskip" ∷ codes "lineskiplimit" ∷ []) field
+    ∷ codes "boxmaxdepth" ∷ codes "baselineskip" ∷ codes "lineskip" ∷ codes "lineskiplimit" ∷ codes "splitmaxdepth" ∷ codes "splittopskip" ∷ []) field
 
 -- one of the words of the grammar of fields, to which `text` does not belong: it begins a command, or stands behind others
 abbrev pub IsWord : List ℕ → Type 0

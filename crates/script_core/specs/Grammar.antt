@@ -18,9 +18,9 @@ use Rattle.command_core.specs.declared.command.BoxForm.{BoxForm}
 use Rattle.command_core.specs.declared.command.BoxForm.TheVariants.{Hbox, Vbox, Vtop}
 use Rattle.command_core.specs.declared.command.Taking.{Taking}
 use Rattle.command_core.specs.declared.command.Taking.TheVariants.{Moved, Copied}
-use Rattle.command_core.specs.declared.command.Parameter.TheVariants.{BoxMaxDepth, BaselineSkip, LineSkip, LineSkipLimit}
+use Rattle.command_core.specs.declared.command.Parameter.TheVariants.{BoxMaxDepth, BaselineSkip, LineSkip, LineSkipLimit, SplitMaxDepth, SplitTopSkip}
 use Rattle.command_core.specs.declared.command.Command.{Command}
-use Rattle.command_core.specs.declared.command.Command.TheVariants.{LoadFont, UseFont, Open, End, Text, Character, Rule, Kern, Glue, Penalty, Append, Unbox, LastBox, Measure, Void, Set, Ship}
+use Rattle.command_core.specs.declared.command.Command.TheVariants.{LoadFont, UseFont, Open, End, Text, Character, Rule, Kern, Glue, Penalty, Append, Unbox, LastBox, Split, Measure, Void, Set, Ship}
 
 -- a field that writes this whole number by an optional sign and digits
 pub record IsInteger (field : List ℕ) (z : ℤ) : Type 0 where
@@ -175,10 +175,15 @@ Says fields (Append box_use) =
     (r : List ℕ) × (shift : List (List ℕ)) × (fields ≡ taking_text box_use.taking ∷ r ∷ shift) × IsRegister r box_use.register × IsShift shift box_use.shift
 Says fields (Unbox unboxing) = (r : List ℕ) × (fields ≡ unboxing_text unboxing.kind unboxing.taking ∷ r ∷ []) × IsRegister r unboxing.register
 Says fields (LastBox n) = (r : List ℕ) × (fields ≡ codes "lastbox" ∷ r ∷ []) × IsRegister r n
+Says fields (Split splitting) =
+    (r : List ℕ) × (d : List ℕ) × (q : List ℕ) × (fields ≡ codes "vsplit" ∷ r ∷ codes "to" ∷ d ∷ codes "into" ∷ q ∷ [])
+    × IsRegister r splitting.register × IsDimension d splitting.height × IsRegister q splitting.into
 Says fields (Measure n) = (r : List ℕ) × (fields ≡ codes "measure" ∷ r ∷ []) × IsRegister r n
 Says fields (Void n) = (r : List ℕ) × (fields ≡ codes "void" ∷ r ∷ []) × IsRegister r n
 Says fields (Set (BoxMaxDepth z)) = (d : List ℕ) × (fields ≡ codes "set" ∷ codes "boxmaxdepth" ∷ d ∷ []) × IsDimension d z
 Says fields (Set (BaselineSkip glue)) = (more : List (List ℕ)) × (fields ≡ codes "set" ∷ codes "baselineskip" ∷ more) × IsGlue more glue
 Says fields (Set (LineSkip glue)) = (more : List (List ℕ)) × (fields ≡ codes "set" ∷ codes "lineskip" ∷ more) × IsGlue more glue
 Says fields (Set (LineSkipLimit z)) = (d : List ℕ) × (fields ≡ codes "set" ∷ codes "lineskiplimit" ∷ d ∷ []) × IsDimension d z
+Says fields (Set (SplitMaxDepth z)) = (d : List ℕ) × (fields ≡ codes "set" ∷ codes "splitmaxdepth" ∷ d ∷ []) × IsDimension d z
+Says fields (Set (SplitTopSkip glue)) = (more : List (List ℕ)) × (fields ≡ codes "set" ∷ codes "splittopskip" ∷ more) × IsGlue more glue
 Says fields (Ship n) = (r : List ℕ) × (fields ≡ codes "ship" ∷ r ∷ []) × IsRegister r n

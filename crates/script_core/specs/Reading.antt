@@ -17,9 +17,9 @@ use Rattle.pack_core.specs.declared.pack.Target.TheVariants.{Natural, To, Spread
 use Rattle.command_core.specs.declared.command.BoxForm.{BoxForm}
 use Rattle.command_core.specs.declared.command.Taking.{Taking}
 use Rattle.command_core.specs.declared.command.Parameter.{Parameter}
-use Rattle.command_core.specs.declared.command.Parameter.TheVariants.{BoxMaxDepth, BaselineSkip, LineSkip, LineSkipLimit}
+use Rattle.command_core.specs.declared.command.Parameter.TheVariants.{BoxMaxDepth, BaselineSkip, LineSkip, LineSkipLimit, SplitMaxDepth, SplitTopSkip}
 use Rattle.command_core.specs.declared.command.Command.{Command}
-use Rattle.command_core.specs.declared.command.Command.TheVariants.{LoadFont, UseFont, Open, End, Text, Character, Rule, Kern, Glue, Penalty, Append, Unbox, LastBox, Measure, Void, Set, Ship}
+use Rattle.command_core.specs.declared.command.Command.TheVariants.{LoadFont, UseFont, Open, End, Text, Character, Rule, Kern, Glue, Penalty, Append, Unbox, LastBox, Split, Measure, Void, Set, Ship}
 use Rattle.script_core.specs.declared.cause.Cause.{Cause}
 use Rattle.script_core.specs.declared.cause.Cause.TheVariants as causes
 use Rattle.script_core.specs.declared.cause.Cause.TheVariants.{Byte, Word, Missing, Extra, Number, Dimension}
@@ -288,6 +288,29 @@ append_of taking fields = and_then (number_first register_count fields) (λ regi
 abbrev pub unboxing : Kind → Taking → ℕ → Command
 unboxing kind taking register = Unbox (record { kind = kind; register = register; taking = taking })
 
+-- the command that splits the box of a register to that height, with its front for another one
+abbrev pub split : (register : ℕ) → (height : ℤ) → (into : ℕ) → Command
+split register height into = Split (record { register = register; height = height; into = into })
+
+-- what stands behind the height of a split: `into` and a register
+unfoldable pub split_into : (register : ℕ) → (height : ℤ) → List (List ℕ) → Result Command Cause
+split_into register height [] = Err Missing
+split_into register height (word ∷ rest) =
+    if bytes_eq word (codes "into") then map_ok (split register height) (last_number register_count rest) else Err Word
+
+-- the height of a split, and what stands behind it
+unfoldable pub split_height : (register : ℕ) → List (List ℕ) → Result Command Cause
+split_height register fields = and_then (dimension_first fields) (λ height. split_into register height (rest_of fields))
+
+-- what stands behind the register of a split: `to`, and a height
+unfoldable pub split_to : (register : ℕ) → List (List ℕ) → Result Command Cause
+split_to register [] = Err Missing
+split_to register (word ∷ rest) = if bytes_eq word (codes "to") then split_height register rest else Err Word
+
+-- what the fields behind `vsplit` say
+unfoldable pub split_of : List (List ℕ) → Result Command Cause
+split_of fields = and_then (number_first register_count fields) (λ register. split_to register (rest_of fields))
+
 -- no stretch or shrink: 0 of order normal
 abbrev pub no_amount : Amount
 no_amount = amount Normal (pos 0)
@@ -326,7 +349,9 @@ parameter_of (word ∷ rest) =
     else (if bytes_eq word (codes "baselineskip") then map_ok BaselineSkip (glue_of rest)
     else (if bytes_eq word (codes "lineskip") then map_ok LineSkip (glue_of rest)
     else (if bytes_eq word (codes "lineskiplimit") then map_ok LineSkipLimit (last_dimension rest)
-    else Err Word)))
+    else (if bytes_eq word (codes "splitmaxdepth") then map_ok SplitMaxDepth (last_dimension rest)
+    else (if bytes_eq word (codes "splittopskip") then map_ok SplitTopSkip (glue_of rest)
+    else Err Word)))))
 
 -- the size behind the name of a font: none, or `at` and a size
 unfoldable pub chosen_size_of : List (List ℕ) → Result (Option ℤ) Cause
@@ -371,6 +396,7 @@ command_named names.Penalty fields = map_ok Penalty (last_penalty fields)
 command_named (names.Append taking) fields = append_of taking fields
 command_named (names.Unbox kind taking) fields = map_ok (unboxing kind taking) (last_number register_count fields)
 command_named names.LastBox fields = map_ok LastBox (last_number register_count fields)
+command_named names.Split fields = split_of fields
 command_named names.Measure fields = map_ok Measure (last_number register_count fields)
 command_named names.Void fields = map_ok Void (last_number register_count fields)
 command_named names.Set fields = map_ok Set (parameter_of fields)
