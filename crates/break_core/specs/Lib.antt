@@ -6,3 +6,4 @@ pub mod Small
 pub mod Filling
 pub mod Ends
 pub mod Passes
+pub mod Steady

@@ -1,7 +1,8 @@
 //! The meter of a list of nodes.
 
-ghost use Rattle.std.specs.Prelude.{◌≡◌, ◌+◌, ◌<◌, ◌≤◌, length, replicate, IfOk};
-ghost use Rattle.break_core.specs.Passes.{position_of, begins_at};
+ghost use Rattle.std.specs.Prelude.{◌≡◌, ◌+◌, ◌<◌, ◌≤◌, true, length, replicate, IfOk};
+ghost use Rattle.break_core.specs.Passes.{position_of, begins_at, facts_of};
+ghost use Rattle.break_core.specs.Steady.{IsNoNarrower, IsRising, IsSteady};
 ghost use Rattle.node_core.specs.Nodes.{most_nodes};
 ghost use Rattle.break_table.specs.Tables.{most_places};
 ghost use Rattle.break_core.specs.Legal.{legal_places};
@@ -88,9 +89,52 @@ impl<'a> ListMeter<'a> {
     }
 }
 
+/// Whether a line is no narrower than another one, neither as it is nor shrunk as far as it goes.
+fn is_no_narrower(line: &Sums, than: &Sums) -> bool
+    requires small { IsSmallSums line.now }
+    requires than { IsSmallSums than.now }
+    ensures yes { result ≡ true → IsNoNarrower line.now than.now }
+    ensures no { IsNoNarrower line.now than.now → result ≡ true }
+{
+    if line.width < than.width {
+        return false;
+    }
+    if line.width - line.shrink < than.width - than.shrink {
+        return false;
+    }
+    true
+}
+
+impl<'a> ListMeter<'a> {
+    /// Whether the line from a place to a later one gets no narrower by going on to the next place.
+    fn is_rising(&self, from: usize, to: usize) -> bool
+        requires later { from < to }
+        requires last { to < length (legal_places self.now.nodes.now) }
+        ensures yes { result ≡ true → IsRising (facts_of self.now.nodes.now) from to }
+        ensures no { IsRising (facts_of self.now.nodes.now) from to → result ≡ true }
+    {
+        is_no_narrower(&self.line(from, to + 1), &self.line(from, to))
+    }
+
+    /// Whether no line gets narrower by going on to the next place. The lines from the start and from the place before each place decide for all.
+    fn is_steady(&self) -> bool
+        ensures yes { result ≡ true → IsSteady (facts_of self.now.nodes.now) }
+        ensures no { IsSteady (facts_of self.now.nodes.now) → result ≡ true }
+    {
+        for place in 1..self.places.len() {
+            if !self.is_rising(0, place) {
+                return false;
+            }
+            if !self.is_rising(place - 1, place) {
+                return false;
+            }
+        }
+        true
+    }
+}
+
 impl<'a> Meter for ListMeter<'a> {
     ghost use Rattle.std.specs.Prelude.{get_or};
-    ghost use Rattle.break_core.specs.Passes.{facts_of};
     ghost use Rattle.break_core.specs.Ends.{some_place};
 
     ghost facts = { λ m. facts_of m.nodes.now };
@@ -107,6 +151,10 @@ impl<'a> Meter for ListMeter<'a> {
             position,
             penalty: penalty_at(self.nodes, position),
         }
+    }
+
+    fn steady(&self) -> bool {
+        self.is_steady()
     }
 
     fn try_line(&mut self, from: usize, to: usize) -> Sums {
