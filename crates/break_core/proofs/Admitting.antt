@@ -14,10 +14,10 @@ use Rattle.break_table.specs.Chosen.{top, IsFalling, IsBreakList, AdmitsNone, Is
 use Rattle.break_table.specs.Ways.{since, Way, starts, goes}
 use Rattle.break_table.proofs.Since.{since_below}
 use Rattle.break_table.proofs.Lists.{way_of_break_list, break_list_of_way}
-use Rattle.break_core.specs.declared.cost.Judged.{Judged}
-use Rattle.break_core.specs.declared.cost.Bound.{Bound}
-use Rattle.break_core.specs.declared.cost.Bound.TheVariants.{Any, AtMost}
-use Rattle.break_core.specs.Costs.{judged, admits, line_of, demerits_of}
+use Rattle.break_cost.specs.declared.cost.Judged.{Judged}
+use Rattle.break_cost.specs.declared.cost.Bound.{Bound}
+use Rattle.break_cost.specs.declared.cost.Bound.TheVariants.{Any, AtMost}
+use Rattle.break_cost.specs.Costs.{judged, admits, line_of, demerits_of}
 use Rattle.break_core.specs.declared.broken.Pass.{Pass}
 use Rattle.break_core.specs.declared.broken.Pass.TheVariants.{First, Second, Third}
 use Rattle.break_core.specs.Passes.{Facts, problem_of, bound_of, IsBefore}

@@ -14,10 +14,10 @@ use Rattle.break_table.proofs.Entries.{get_left, get_cases}
 use Rattle.break_table.proofs.Rows.{row_silent}
 use Rattle.break_table.proofs.Live.{live_more, live_forced, new_group, first_live}
 use Rattle.node_core.specs.declared.params.Params.{Params}
-use Rattle.break_core.specs.declared.sums.Sums.{Sums}
-use Rattle.break_core.specs.declared.cost.Judged.{Judged}
-use Rattle.break_core.specs.declared.cost.Bound.{Bound}
-use Rattle.break_core.specs.Costs.{judged, line_of}
+use Rattle.break_cost.specs.declared.sums.Sums.{Sums}
+use Rattle.break_cost.specs.declared.cost.Judged.{Judged}
+use Rattle.break_cost.specs.declared.cost.Bound.{Bound}
+use Rattle.break_cost.specs.Costs.{judged, line_of}
 use Rattle.break_core.specs.Passes.{Facts, problem_of}
 use Rattle.break_core.specs.Filling.{IsOf, IsJudged, AreRising, IsFilled, IsGrown, AreFew, AreTried}
 

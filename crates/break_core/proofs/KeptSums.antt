@@ -10,7 +10,7 @@ use Rattle.node_core.specs.declared.tree.Order.TheVariants.{Normal, Fil, Fill, F
 use Rattle.pack_core.specs.Items.{across, stretch_in, shrink_in}
 use Rattle.pack_core.specs.Totals.{total}
 use Rattle.pack_core.proofs.Sums.{total-append, total_more}
-use Rattle.break_core.specs.declared.sums.Sums.{Sums}
+use Rattle.break_cost.specs.declared.sums.Sums.{Sums}
 use Rattle.break_core.specs.Legal.{is_dropped, up_to}
 use Rattle.break_core.specs.Kept.{at_break, without_first, kept, sums_of, lead, first_kept, amounts_of, plus, minus}
 

@@ -1,5 +1,4 @@
 -- Lemmas on lines of nodes.
-pub mod Costs
 pub mod Filled
 pub mod Admitting
 pub mod Places

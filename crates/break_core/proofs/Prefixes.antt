@@ -13,7 +13,7 @@ use Rattle.pack_core.specs.Items.{across, stretch_in, shrink_in}
 use Rattle.pack_core.specs.Totals.{total}
 use Rattle.pack_core.proofs.Sums.{total_more}
 use Rattle.break_table.proofs.Entries.{get_left, get_right, get_cases}
-use Rattle.break_core.specs.declared.sums.Sums.{Sums}
+use Rattle.break_cost.specs.declared.sums.Sums.{Sums}
 use Rattle.break_core.specs.Legal.{up_to}
 use Rattle.break_core.specs.Kept.{sums_of, amounts_of, plus, minus, prefix_sums}
 use Rattle.break_core.specs.Small.{IsPrefix, ArePrefixes}

@@ -6,7 +6,7 @@ ghost use Rattle.break_core.specs.Passes.{problem_of};
 ghost use Rattle.break_core.specs.Small.{IsSmallJudged};
 ghost use Rattle.break_core.specs.Filling.{IsOf, IsOffering, IsFilled, IsGrown, AreFew};
 
-use crate::cost::{Bound, Judged, judge, line_from};
+use break_cost::{Bound, Judged, judge, line_from};
 use crate::meter::{Meter, Place};
 use break_table::{Best, Group, empty_row, improve, keep};
 use node_core::Params;

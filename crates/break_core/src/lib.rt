@@ -6,7 +6,6 @@
 
 mod breaking;
 mod broken;
-mod cost;
 mod fault;
 mod filling;
 mod list;
@@ -15,6 +14,7 @@ mod meter;
 mod passes;
 mod sums;
 
+pub use break_cost::{Bound, Judged, Sums, judge, line_from};
 pub use break_table::Class;
 pub use breaking::breaks;
 pub use broken::{Breaks, LineEnd, Pass};
@@ -22,4 +22,3 @@ pub use fault::BreakFault;
 pub use list_meter::ListMeter;
 pub use meter::{Meter, Place};
 pub use passes::breaks_of;
-pub use sums::Sums;

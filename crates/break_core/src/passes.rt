@@ -7,7 +7,7 @@ ghost use Rattle.break_core.specs.Passes.{Facts, problem_of, bound_of, line_end,
 ghost use Rattle.break_core.specs.Filling.{IsGrown, AreFew, AreWithin, IsDecided};
 
 use crate::broken::{Breaks, LineEnd, Pass};
-use crate::cost::Bound;
+use break_cost::Bound;
 use crate::filling::fill;
 use crate::meter::Meter;
 use break_table::{Least, State, chosen_list};

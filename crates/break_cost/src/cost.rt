@@ -3,8 +3,8 @@
 ghost use Rattle.std.specs.Prelude.{◌≡◌, ◌≤◌, ◌<ℤ◌, ◌≤ℤ◌, ◌*ℤ◌, ◌+◌, ◌^◌, pos, IfSome};
 ghost use Rattle.scaled_core.specs.Dimensions.{Within};
 ghost use Rattle.break_table.specs.Tables.{IsSmallLine};
-ghost use Rattle.break_core.specs.Costs.{stretched_class, shrunk_class, stretches_forever, judged_short, judged_long, judged, base_demerits, penalty_demerits, is_apart, adjacent_demerits, demerits_of, admits, line_of};
-ghost use Rattle.break_core.specs.Small.{IsSmallSums, IsSmallJudged};
+ghost use Rattle.break_cost.specs.Costs.{stretched_class, shrunk_class, stretches_forever, judged_short, judged_long, judged, base_demerits, penalty_demerits, is_apart, adjacent_demerits, demerits_of, admits, line_of};
+ghost use Rattle.break_cost.specs.Small.{IsSmallSums, IsSmallJudged};
 
 use crate::sums::Sums;
 use break_table::{Class, Line};

@@ -1,7 +1,7 @@
 use Rattle.std.proofs.Common.{◌≡◌, ◌∙◌, ◌+ℤ◌, to_z, of_z, w32, w64, refl, ap, sym, arith}
 use Rattle.std.proofs.lemmas.Int.{ints}
-use Rattle.break_core.proofs.Costs.{sum_is}
-use Rattle.break_core.proofs.cost.demerits_of.Goals as goal
+use Rattle.break_cost.proofs.Costs.{sum_is}
+use Rattle.break_cost.proofs.cost.demerits_of.Goals as goal
 
 pub returns-clause-value : goal.returns-clause-value
 returns-clause-value c =

@@ -1,8 +1,8 @@
 use Rattle.std.proofs.Common.{◌+ℤ◌, ◌*ℤ◌, to_z, of_z, w64, arith}
 use Rattle.std.proofs.lemmas.Int.{ints}
 use Rattle.scaled_core.specs.Dimensions.{Within}
-use Rattle.break_core.proofs.Costs.{square_small}
-use Rattle.break_core.proofs.cost.base_demerits.Goals as goal
+use Rattle.break_cost.proofs.Costs.{square_small}
+use Rattle.break_cost.proofs.cost.base_demerits.Goals as goal
 
 pub returns-clause-small : goal.returns-clause-small
 returns-clause-small c =

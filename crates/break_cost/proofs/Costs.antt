@@ -7,9 +7,9 @@ use Rattle.std.proofs.Math.IntN.{pos-*ℤ-pos, negsuc-*ℤ-negsuc}
 use Rattle.scaled_core.specs.Dimensions.{Within}
 use Rattle.node_core.specs.declared.params.Params.{Params}
 use Rattle.break_table.specs.declared.state.Class.{Class}
-use Rattle.break_core.specs.declared.sums.Sums.{Sums}
-use Rattle.break_core.specs.declared.cost.Judged.{Judged}
-use Rattle.break_core.specs.Costs.{judged_short, judged_long, judged_by, judged, base_demerits, penalty_demerits, adjacent_demerits, demerits_of}
+use Rattle.break_cost.specs.declared.sums.Sums.{Sums}
+use Rattle.break_cost.specs.declared.cost.Judged.{Judged}
+use Rattle.break_cost.specs.Costs.{judged_short, judged_long, judged_by, judged, base_demerits, penalty_demerits, adjacent_demerits, demerits_of}
 
 pub by_short : (sums : Sums) (s : ℤ) → pos 0 <ℤ s → judged_by sums s ≡ judged_short sums s
 unfolding judged_by

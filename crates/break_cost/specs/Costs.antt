@@ -7,10 +7,10 @@ use Rattle.break_table.specs.declared.state.Class.{Class}
 use Rattle.break_table.specs.declared.state.Class.TheVariants.{VeryLoose, Loose, Decent, Tight}
 use Rattle.break_table.specs.declared.state.Line.{Line}
 use Rattle.break_table.specs.Problems.{rank}
-use Rattle.break_core.specs.declared.sums.Sums.{Sums}
-use Rattle.break_core.specs.declared.cost.Judged.{Judged}
-use Rattle.break_core.specs.declared.cost.Bound.{Bound}
-use Rattle.break_core.specs.declared.cost.Bound.TheVariants.{Any, AtMost}
+use Rattle.break_cost.specs.declared.sums.Sums.{Sums}
+use Rattle.break_cost.specs.declared.cost.Judged.{Judged}
+use Rattle.break_cost.specs.declared.cost.Bound.{Bound}
+use Rattle.break_cost.specs.declared.cost.Bound.TheVariants.{Any, AtMost}
 
 -- The class of a line that is stretched, by its badness.
 unfoldable pub stretched_class : (badness : ℕ) → Class

@@ -1,7 +1,7 @@
 use Rattle.std.proofs.Common.{arith}
 use Rattle.std.proofs.lemmas.Int.{ints}
-use Rattle.break_core.proofs.Costs.{short_is, long_is}
-use Rattle.break_core.proofs.cost.judge.Goals as goal
+use Rattle.break_cost.proofs.Costs.{short_is, long_is}
+use Rattle.break_cost.proofs.cost.judge.Goals as goal
 
 pub returns-then-shortfall-gt0-clause-value : goal.returns-then-shortfall-gt0-clause-value
 returns-then-shortfall-gt0-clause-value c =

@@ -1,0 +1,2 @@
+-- Lemmas on the cost of a line.
+pub mod Costs

@@ -1,0 +1,3 @@
+-- What a line costs: its badness, class, overhang and demerits.
+pub mod Costs
+pub mod Small
