@@ -6,7 +6,7 @@ use Rattle.std.proofs.Math.Logic.{◌⊎◌, inl, inr}
 use Rattle.std.proofs.lemmas.Int.{ints}
 use Rattle.std.proofs.lemmas.Bool.{cases_Bool, cases_lt, cond-true, cond-false}
 use Rattle.node_core.specs.declared.tree.Node.{Node}
-use Rattle.break_core.specs.declared.sums.Sums.{Sums}
+use Rattle.break_cost.specs.declared.sums.Sums.{Sums}
 use Rattle.break_core.specs.Legal.{is_dropped, legal_places}
 use Rattle.break_core.specs.Kept.{kept, sums_of, lead, first_kept, minus}
 use Rattle.break_core.specs.Passes.{facts_of, position_of, begins_at}

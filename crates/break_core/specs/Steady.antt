@@ -1,6 +1,6 @@
 -- Steady paragraphs: a line that goes on to the next place gets no narrower (own).
 use Rattle.std.specs.Prelude.{◌≡◌, ◌<◌, ◌+◌, ◌≤ℤ◌, ◌-ℤ◌, ℕ}
-use Rattle.break_core.specs.declared.sums.Sums.{Sums}
+use Rattle.break_cost.specs.declared.sums.Sums.{Sums}
 use Rattle.break_core.specs.Passes.{Facts}
 
 -- A line is no narrower than another one, neither as it is nor shrunk as far as it goes.

@@ -1,7 +1,8 @@
 //! The meter of a list of nodes.
 
-ghost use Rattle.std.specs.Prelude.{◌≡◌, ◌+◌, ◌<◌, ◌≤◌, true, length, replicate, IfOk};
-ghost use Rattle.break_core.specs.Passes.{position_of, begins_at, facts_of};
+ghost use Rattle.std.specs.Prelude.{◌≡◌, ◌+◌, ◌<◌, ◌≤◌, true, ℕ, None, get_or, length, replicate, IfOk, IfErr, OnOk};
+ghost use Rattle.std.specs.Option.{unwrap_or};
+ghost use Rattle.break_core.specs.Passes.{position_of, begins_at, facts_of, refusal};
 ghost use Rattle.break_core.specs.Steady.{IsNoNarrower, IsRising, IsSteady};
 ghost use Rattle.node_core.specs.Nodes.{most_nodes};
 ghost use Rattle.break_table.specs.Tables.{most_places};
@@ -9,7 +10,10 @@ ghost use Rattle.break_core.specs.Legal.{legal_places};
 ghost use Rattle.break_core.specs.Kept.{prefix_sums, first_kept, kept, sums_of};
 ghost use Rattle.break_core.specs.Small.{ArePrefixes, IsSmallSums};
 
-use crate::list::{first_kept, legal_places, no_trials, penalty_at};
+use crate::fault::BreakFault;
+use crate::list::{
+    any_shrinks_forever, count_places, first_kept, legal_places, no_trials, penalty_at,
+};
 use crate::meter::{Meter, Place};
 use crate::sums::{Sums, minus, prefix_sums};
 use node_core::Node;
@@ -33,7 +37,7 @@ pub struct ListMeter<'a> {
 
 impl<'a> ListMeter<'a> {
     /// The meter of a list of nodes that is not too long and has few legal places, without trials.
-    pub fn new(alloc: Global, nodes: &'a [Node]) -> Result<ListMeter<'a>, AllocError>
+    pub(crate) fn of(alloc: Global, nodes: &'a [Node]) -> Result<ListMeter<'a>, AllocError>
         requires short { length nodes.now ≤ most_nodes }
         requires few { length (legal_places nodes.now) ≤ most_places }
         ensures nodes { IfOk result (λ meter. meter.nodes.now ≡ nodes.now) }
@@ -48,6 +52,27 @@ impl<'a> ListMeter<'a> {
             sums,
             trials,
         })
+    }
+
+    /// The meter of a finished list of at most 131,072 nodes, without trials. The list is refused exactly where it has glue that shrinks without end, or
+    /// else more than 8,192 legal places, both found before any growth, or where a growth is refused.
+    pub fn new(alloc: Global, nodes: &'a [Node]) -> Result<ListMeter<'a>, BreakFault>
+        requires short { length nodes.now ≤ most_nodes }
+        ensures nodes { IfOk result (λ meter. meter.nodes.now ≡ nodes.now) }
+        ensures trials { IfOk result (λ meter. (place : ℕ) → get_or meter.trials.items place 0 ≡ 0) }
+        ensures fits { OnOk result (refusal nodes.now ≡ None) }
+        ensures fault { IfErr result (λ fault. fault ≡ unwrap_or (refusal nodes.now) BreakFault.OutOfMemory) }
+    {
+        if any_shrinks_forever(nodes) {
+            return Err(BreakFault::InfiniteShrink);
+        }
+        if count_places(nodes) > 8192 {
+            return Err(BreakFault::TooManyBreaks);
+        }
+        match ListMeter::of(alloc, nodes) {
+            Ok(meter) => Ok(meter),
+            Err(AllocError) => Err(BreakFault::OutOfMemory),
+        }
     }
 
     /// The legal place of a number.
@@ -134,7 +159,6 @@ impl<'a> ListMeter<'a> {
 }
 
 impl<'a> Meter for ListMeter<'a> {
-    ghost use Rattle.std.specs.Prelude.{get_or};
     ghost use Rattle.break_core.specs.Ends.{some_place};
 
     ghost facts = { λ m. facts_of m.nodes.now };

@@ -7,7 +7,6 @@ ghost use Rattle.break_core.specs.Kept.{sums_of, amounts_of, plus, minus, prefix
 ghost use Rattle.break_core.specs.Small.{IsPrefix, IsSmallSums, ArePrefixes};
 
 pub use break_cost::Sums;
-
 use node_core::{Kind, Node, Order};
 use pack_core::{advance_of, shrink_of, stretch_of};
 use std::alloc::{AllocError, Global};
