@@ -1,19 +1,18 @@
 -- The active list as the table grows.
-use Rattle.std.proofs.Common.{◌≡◌, ◌∙◌, ℕ, zero, suc, ◌+◌, ◌-◌, ◌<◌, ◌≤◌, Bool, true, false, cond, ◌||◌, ◌&&◌, List, [], ◌∷◌, ◌++◌, length, length-append, drop, drop-cons, drop_of_length-le, get_or, refl, ap, sym, subst, arith, Option, Some, None}
+use Rattle.std.proofs.Common.{◌≡◌, ◌∙◌, ℕ, suc, ◌+◌, ◌<◌, ◌≤◌, Bool, true, false, cond, List, [], ◌∷◌, ◌++◌, length, length-append, drop, drop-cons, drop_of_length-le, get_or, refl, ap, sym, subst, arith, Option, Some, None}
 use Rattle.std.specs.Prelude.{slice_get, if◌then◌else◌}
 use Rattle.std.proofs.Math.Logic.{◌⊎◌, inl, inr}
 use Rattle.std.proofs.lemmas.Bool.{cases_Bool, cases_lt}
 use Rattle.std.proofs.lemmas.Option.{slice_get_within, get_or_from_slice_get}
 use Rattle.break_table.specs.declared.group.Group.{Group}
 use Rattle.break_table.specs.Problems.{Problem}
-use Rattle.break_table.specs.Ways.{since}
-use Rattle.break_table.specs.Tables.{Entry, first_entry, offer, IsTable, IsOffered, IsHeld, IsMet, IsRow, held_in}
+use Rattle.break_table.specs.Tables.{Entry, first_entry, offer, IsOffered, IsMet, IsRow, held_in}
 use Rattle.break_table.specs.Live.{IsGroup, IsLive}
-use Rattle.break_table.proofs.Entries.{get_left, get_cases}
+use Rattle.break_table.proofs.Entries.{get_cases}
 use Rattle.break_table.proofs.Since.{since_free}
 use Rattle.break_table.proofs.Bellman.{first_table, next_table}
 use Rattle.break_table.proofs.Live.{live_forced, new_group, first_live}
-use Rattle.active_breaks.specs.Active.{IsQuiet, IsTrying, IsNext, IsLast, IsActive, IsFilled}
+use Rattle.active_breaks.specs.Active.{IsQuiet, IsNext, IsActive, IsFilled}
 
 -- The next group, and those behind it.
 pub next_active :

@@ -1,6 +1,6 @@
 -- The trials of passes, together.
-use Rattle.std.proofs.Common.{◌≡◌, ◌∙◌, ℕ, zero, suc, ◌+◌, ◌-◌, ◌<◌, ◌≤◌, Bool, true, false, ◌&&◌, ◌||◌, List, [], ◌∷◌, ◌++◌, refl, ap, sym, subst, arith}
-use Rattle.std.proofs.Math.Logic.{◌⊎◌, inl, inr}
+use Rattle.std.proofs.Common.{◌≡◌, ◌∙◌, ℕ, ◌+◌, ◌≤◌, Bool, true, ◌&&◌, ◌||◌, List, [], ◌∷◌, ◌++◌, refl, ap, sym, subst, arith}
+use Rattle.std.proofs.Math.Logic.{inl, inr}
 use Rattle.std.proofs.Math.Bool.{or-true}
 use Rattle.node_core.specs.declared.params.Params.{Params}
 use Rattle.break_table.specs.Tables.{most_places}
@@ -10,7 +10,7 @@ use Rattle.break_core.specs.Legal.{is_forced}
 use Rattle.break_core.specs.Passes.{Facts, bound_of}
 use Rattle.break_core.specs.Steady.{IsSteady}
 use Rattle.break_core.specs.Filling.{IsGrown}
-use Rattle.active_breaks.specs.Trials.{is_overfull, is_bounded, IsStop, passes_run, places_up_to, AreBounded, HasNoTrials}
+use Rattle.active_breaks.specs.Trials.{is_overfull, is_bounded, passes_run, places_up_to, AreBounded, HasNoTrials}
 use Rattle.active_breaks.specs.Active.{stops, is_limit, MayDrop, IsCounted, IsWithin, AreAdded}
 use Rattle.active_breaks.proofs.Overfull.{both_true}
 

@@ -3,3 +3,4 @@ pub mod Overfull
 pub mod Active
 pub mod Counts
 pub mod Added
+pub mod Joined

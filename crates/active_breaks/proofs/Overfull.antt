@@ -1,9 +1,7 @@
 -- Overfull lines of steady paragraphs stay overfull.
-use Rattle.std.proofs.Common.{◌≡◌, ◌∙◌, ℕ, zero, suc, ◌+◌, ◌-◌, ◌<◌, ◌≤◌, Bool, true, false, not, cond, ◌&&◌, ◌||◌, refl, ap, sym, subst, arith, Option, Some, None, List}
-use Rattle.std.specs.Prelude.{ℤ, pos, neg_ℤ, int_lt, int_le, nat_le, ◌<ℤ◌, ◌≤ℤ◌, ◌-ℤ◌, slice_get}
-use Rattle.std.proofs.Math.Logic.{◌⊎◌, inl, inr}
+use Rattle.std.proofs.Common.{◌≡◌, ◌∙◌, ℕ, zero, suc, ◌+◌, ◌-◌, ◌<◌, ◌≤◌, Bool, true, false, not, cond, ◌&&◌, ◌||◌, refl, ap, sym, subst, arith, Option, None, List}
+use Rattle.std.specs.Prelude.{ℤ, pos, neg_ℤ, int_lt, int_le, nat_le, ◌<ℤ◌, ◌≤ℤ◌, ◌-ℤ◌}
 use Rattle.std.proofs.lemmas.Int.{ints, by_lt_z}
-use Rattle.std.proofs.lemmas.Bool.{cases_Bool}
 use Rattle.node_core.specs.declared.params.Params.{Params}
 use Rattle.break_table.specs.declared.state.Class.{Class}
 use Rattle.break_table.specs.declared.state.Line.{Line}
@@ -16,7 +14,7 @@ use Rattle.break_cost.specs.declared.sums.Sums.{Sums}
 use Rattle.break_cost.specs.declared.cost.Judged.{Judged}
 use Rattle.break_cost.specs.declared.cost.Bound.{Bound}
 use Rattle.break_cost.specs.declared.cost.Bound.TheVariants.{Any, AtMost}
-use Rattle.break_cost.specs.Costs.{stretches_forever, judged_short, judged_long, judged, admits, demerits_of, line_of}
+use Rattle.break_cost.specs.Costs.{stretches_forever, judged_short, judged_long, judged, admits, line_of}
 use Rattle.break_cost.proofs.Costs.{by_short, by_long}
 use Rattle.break_core.specs.Legal.{is_forced}
 use Rattle.break_core.specs.Passes.{Facts, problem_of}

@@ -50,3 +50,10 @@ AreBounded facts params passes trials =
 -- No line was tried yet.
 abbrev pub HasNoTrials : (trials : ℕ → ℕ) → Type 0
 HasNoTrials trials = (place : ℕ) → trials place ≡ 0
+
+-- Two answers say the same.
+pub record AreSame (a b : Breaks) : Type 0 where
+  pub lines : a.lines.items ≡ b.lines.items
+  pub pass : a.pass ≡ b.pass
+  pub overhang : a.overhang ≡ b.overhang
+  pub demerits : a.demerits ≡ b.demerits

@@ -6,4 +6,7 @@
 #![tactic(auto)]
 
 mod filling;
+pub mod laws;
 mod passes;
+
+pub use passes::active_breaks;

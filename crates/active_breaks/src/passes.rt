@@ -88,3 +88,26 @@ fn decide<M: Meter>(
         None => unreachable!(),
     }
 }
+
+/// The breaks of a paragraph, which a meter measures that has tried no line: the list that `breaks_of` chooses, with few trials. Only a growth that is
+/// refused stops it; also then the trials are few.
+pub fn active_breaks<M: Meter>(
+    alloc: Global,
+    meter: &mut M,
+    params: &Params,
+) -> Result<Breaks, AllocError>
+    requires fresh { HasNoTrials (M.trials meter.old) }
+    ensures broken { IfOk result (IsBroken (M.facts meter.old) params.now) }
+    ensures facts { M.facts meter.new ≡ M.facts meter.old }
+    ensures run { IfOk result (λ breaks. AreBounded (M.facts meter.old) params.now (passes_run params.now breaks.pass) (M.trials meter.new)) }
+    ensures trials { AreBounded (M.facts meter.old) params.now (passes_run params.now Pass.Third) (M.trials meter.new) }
+{
+    let (pass, least) = decide(alloc, meter, params)?;
+    let lines = line_ends(alloc, meter, &least.ends)?;
+    Ok(Breaks {
+        lines,
+        pass,
+        overhang: least.overhang,
+        demerits: least.demerits,
+    })
+}

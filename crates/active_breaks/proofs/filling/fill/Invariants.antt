@@ -1,4 +1,4 @@
-use Rattle.std.proofs.Common.{◌≡◌, ◌≤◌, ◌+◌, ℕ}
+use Rattle.std.proofs.Common.{◌≡◌, ◌+◌}
 use Rattle.break_core.specs.Passes.{problem_of}
 use Rattle.active_breaks.specs.Active.{stops, IsFilled, IsCounted}
 use Rattle.active_breaks.proofs.filling.fill.Given as goal

@@ -1,6 +1,5 @@
 use Rattle.std.proofs.Common.{arith}
 use Rattle.std.proofs.lemmas.Int.{ints}
-use Rattle.std.proofs.Common.{refl}
 use Rattle.break_core.proofs.Admitting.{negative_admits_none}
 use Rattle.active_breaks.proofs.passes.chosen_first.Goals as goal
 
