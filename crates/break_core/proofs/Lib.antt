@@ -4,3 +4,4 @@ pub mod Admitting
 pub mod Places
 pub mod KeptSums
 pub mod Prefixes
+pub mod Steady

@@ -6,3 +6,4 @@ pub mod Filling
 pub mod Ends
 pub mod Examples
 pub mod Passes
+pub mod Steady

@@ -20,6 +20,7 @@ pub use break_table::Class;
 pub use breaking::breaks;
 pub use broken::{Breaks, LineEnd, Pass};
 pub use fault::BreakFault;
+pub use filling::{begin_group, offer_group};
 pub use list_meter::ListMeter;
 pub use meter::{Meter, Place};
-pub use passes::breaks_of;
+pub use passes::{bound_of, breaks_of, line_ends};

@@ -15,7 +15,7 @@ use node_core::Params;
 use std::alloc::{AllocError, Global};
 
 /// What a pass admits.
-fn bound_of(params: &Params, pass: Pass) -> Bound
+pub fn bound_of(params: &Params, pass: Pass) -> Bound
     ensures { result ≡ bound_of params.now pass }
 {
     match pass {
@@ -86,7 +86,11 @@ fn decide<M: Meter>(
 }
 
 /// The ends of lines, by where they stand in the list.
-fn line_ends<M: Meter>(alloc: Global, meter: &M, ends: &[State]) -> Result<Vec<LineEnd>, AllocError>
+pub fn line_ends<M: Meter>(
+    alloc: Global,
+    meter: &M,
+    ends: &[State],
+) -> Result<Vec<LineEnd>, AllocError>
     requires within { AreWithin (M.facts meter.now) ends.now }
     ensures { IfOk result (λ lines. lines.items ≡ map (line_end (M.facts meter.now)) ends.now) }
 {
