@@ -14,6 +14,8 @@ mod interline;
 #[cfg(test)]
 mod jobs;
 #[cfg(test)]
+mod listings;
+#[cfg(test)]
 mod nodes;
 #[cfg(test)]
 mod packing;
