@@ -1,5 +1,5 @@
 -- What holds of all read fonts holds of the one that is found.
-use Rattle.std.proofs.Common.{◌≡◌, [], ◌∷◌, List, Bool, true, false, Option, Some, None, if◌then◌else◌, subst}
+use Rattle.std.proofs.Common.{◌≡◌, [], ◌∷◌, List, Bool, true, false, Option, Some, if◌then◌else◌, subst}
 use Rattle.std.specs.List.{AllByRecursion, find}
 
 by_test : {X : Type 0} (P : X → Type 0) (b : Bool) (y x : X) (rest : Option X) → P y → (rest ≡ Some x → P x) → (if b then Some y else rest) ≡ Some x → P x

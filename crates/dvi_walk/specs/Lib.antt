@@ -1,1 +1,2 @@
 pub mod ReadFonts
+pub mod Steps

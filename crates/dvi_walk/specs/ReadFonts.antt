@@ -1,6 +1,6 @@
 -- The fonts that were read, and what they say of the fonts of a file (own).
 use Rattle.std.specs.Prelude.{◌≡◌, List, ℤ, Option, Some, None, IsSome}
-use Rattle.std.specs.List.{AllByRecursion, find}
+use Rattle.std.specs.List.{find}
 use Rattle.std.specs.Ordering.{int_eq}
 use Rattle.dvi_fonts.specs.Widths.{HasBytes}
 use Rattle.dvi_ops.specs.Fonts.{Metrics, font}
@@ -8,7 +8,8 @@ use Rattle.dvi_ops.specs.Instruction.{Definition, SetChar, PutChar, Instruction,
 use Rattle.dvi_pass.specs.declared.turning.Stand.{Stand}
 use Rattle.dvi_pass.specs.declared.turning.Stand.TheVariants.{Between, Inside}
 use Rattle.dvi_walk.specs.declared.read_fonts.ReadFont.{ReadFont}
-use Rattle.tfm_core.specs.FileWidths.{width_at}
+use Rattle.tfm_core.specs.FileWidths.{file_widths, width_at}
+use Rattle.tfm_core.specs.NamedBytes.{NamedBytes}
 
 -- A read font has the widths that the metric files give for its number, among these definitions.
 abbrev pub GivesWidths : Metrics → (table : List Definition) → ReadFont → Type 0
@@ -17,6 +18,17 @@ GivesWidths metrics table read = font metrics table read.number ≡ Some (width_
 -- The codes of its characters are bytes.
 abbrev pub HasByteCodes : ReadFont → Type 0
 HasByteCodes read = HasBytes read.font
+
+-- Both of a read font.
+pub record IsSound (metrics : Metrics) (table : List Definition) (read : ReadFont) : Type 0 where
+  pub widths : GivesWidths metrics table read
+  pub codes : HasByteCodes read
+
+-- A font was read for a definition, from these files, with that number.
+pub record IsReadFor (files : List NamedBytes) (d : Definition) (number : ℤ) (read : ReadFont) : Type 0 where
+  pub number_is : read.number ≡ number
+  pub widths : file_widths files d.name d.size ≡ Some (width_at read.font)
+  pub codes : HasByteCodes read
 
 -- The first read font of a number.
 abbrev pub read_of : ℤ → List ReadFont → Option ReadFont

@@ -37,7 +37,7 @@ pub fn width_of(font: &Font, code: Code) -> Option<i32>
 }
 
 /// The first read font of a number.
-fn read_of(fonts: &[ReadFont], number: Number) -> Option<&ReadFont>
+pub(crate) fn read_of(fonts: &[ReadFont], number: Number) -> Option<&ReadFont>
     ensures { option_copied result ≡ find (λ read. int_eq read.number number.value) fonts.now }
 {
     fonts.iter().find(|read| read.number == number.value)
