@@ -97,7 +97,7 @@ broken_here bytes place to known Font i (d, other, wrong) stands idle right =
 broken_here bytes place to known cause i broken stands idle right = absurd broken
 
 -- The instruction that begins spelled bytes stands there.
-first_stands : (bytes : List ℕ) (place to : ℕ) (t : Token) (more : List Token) → place ≤ to → to ≤ length bytes → IsSpelled t → t.bytes ++ written more ≡ take (to - place) (drop place bytes) → StandsAt bytes place to t.says
+pub first_stands : (bytes : List ℕ) (place to : ℕ) (t : Token) (more : List Token) → place ≤ to → to ≤ length bytes → IsSpelled t → t.bytes ++ written more ≡ take (to - place) (drop place bytes) → StandsAt bytes place to t.says
 first_stands bytes place to t more low high spelled whole =
     let room = length-drop place bytes in
     let size : length t.bytes + length (written more) ≡ to - place =

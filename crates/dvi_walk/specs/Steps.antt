@@ -1,5 +1,5 @@
 -- One instruction of the pages, with the fonts of the file (own).
-use Rattle.std.specs.Prelude.{◌≡◌, ◌≢◌, ◌++◌, ◌⊎◌, List, map, reverse, ℕ, ℤ, Some, None, IsSome}
+use Rattle.std.specs.Prelude.{◌≡◌, ◌≢◌, ◌++◌, ◌⊎◌, List, map, reverse, ℕ, ℤ, Option, Some, None, IsSome}
 use Rattle.std.specs.List.{AllByRecursion}
 use Rattle.dvi_fonts.specs.Widths.{IsFontRefusal}
 use Rattle.dvi_fonts.specs.declared.widths.FontRefusal.{FontRefusal}
@@ -11,11 +11,12 @@ use Rattle.dvi_ops.specs.Fonts.{Metrics, IsRightAfter, defined, definition_of, s
 use Rattle.dvi_ops.specs.Instruction.{Definition, FontNum, Instruction, Do}
 use Rattle.dvi_ops.specs.Tokens.{place_of}
 use Rattle.dvi_ops.specs.View.{definition}
+use Rattle.dvi_pass.specs.Drawing.{always}
 use Rattle.dvi_pass.specs.Pass.{Pass, turn}
 use Rattle.dvi_pass.specs.Reached.{HasWidths}
 use Rattle.dvi_pass.specs.Turning.{BreaksTurn, pass_at}
 use Rattle.dvi_pass.specs.View.{page_of}
-use Rattle.dvi_walk.specs.ReadFonts.{IsCurrent, IsSound, read_of}
+use Rattle.dvi_walk.specs.ReadFonts.{IsCurrent, IsSound, asked_width, code_in, read_of, selected_in}
 use Rattle.dvi_walk.specs.declared.fault.StepFault.{StepFault}
 use Rattle.dvi_walk.specs.declared.fault.StepFault.TheVariants.{OutOfMemory, Broken, Refused}
 use Rattle.dvi_walk.specs.declared.read_fonts.ReadFont.{ReadFont}
@@ -83,6 +84,23 @@ abbrev pub BreaksNote : List NamedBytes → (table : List Definition) → (at : 
 BreaksNote files table at i walk OutOfMemory = Unit {0}
 BreaksNote files table at i walk (Broken cause) = BreaksRest table (known_of walk) at (places_left walk) i cause
 BreaksNote files table at i walk (Refused refusal) = (f : ℤ) × (i ≡ Do (FontNum f)) × IsUnread files table f refusal
+
+-- The width of the character that an instruction sets or puts, in the font that is selected.
+abbrev pub asked_of : Walk → Instruction → Option ℤ
+asked_of walk i = asked_width walk.fonts.items (selected_in walk.stand) (code_in i)
+
+-- The pass goes on, and all else stays.
+pub record PassesOn (most : ℕ) (i : Instruction) (old new : Walk) : Type 0 where
+  pub goes_on : turn (kept (acts (always (asked_of old i)))) most i (stand_of old) ≡ Some (stand_of new)
+  pub known : known_of new ≡ known_of old
+  pub fonts : new.fonts.items ≡ old.fonts.items
+  pub left : places_left new ≡ places_left old
+
+-- It does not go on.
+abbrev pub BreaksPass : (most : ℕ) → Instruction → Walk → StepFault → Type 0
+BreaksPass most i walk OutOfMemory = Unit {0}
+BreaksPass most i walk (Broken cause) = BreaksTurn (acts (always (asked_of walk i))) most i (stand_of walk) cause
+BreaksPass most i walk (Refused refusal) = ⊥
 
 -- One instruction more: the pass goes on, and what it says is right and was kept.
 pub record Steps (metrics : Metrics) (table : List Definition) (most at : ℕ) (i : Instruction) (old new : Walk) : Type 0 where

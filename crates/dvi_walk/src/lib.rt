@@ -4,13 +4,16 @@
 #![tactic(auto)]
 
 mod fault;
+pub mod laws;
 mod read_fonts;
 mod selecting;
 mod stepping;
 mod walk;
+mod walking;
 
-pub use fault::StepFault;
+pub use fault::{DviFault, StepFault};
 pub use read_fonts::{Code, ReadFont, width_asked, width_of};
 pub use selecting::select;
-pub use stepping::note;
+pub use stepping::step;
 pub use walk::Walk;
+pub use walking::{pages_end, walk_pages};
