@@ -11,7 +11,7 @@ use Rattle.break_core.specs.Legal.{is_dropped, legal_places}
 use Rattle.break_core.specs.Kept.{kept, sums_of, lead, first_kept, minus}
 use Rattle.break_core.specs.Passes.{facts_of, position_of, begins_at}
 use Rattle.break_core.specs.Steady.{IsNoNarrower, IsRising, IsSteady}
-use Rattle.break_core.proofs.KeptSums.{IsBefore, kept_sums, kept_some}
+use Rattle.break_core.proofs.KeptSums.{kept_sums, kept_some}
 use Rattle.break_core.proofs.Places.{rising_places, begins_some, begins_before}
 
 -- Among the items that come first and are dropped, each has the others behind it.

@@ -3,6 +3,7 @@
 
 #[cfg(test)]
 mod bitmaps;
+#[cfg(test)]
 mod all_breaks;
 pub mod changed_bytes;
 #[cfg(test)]
