@@ -1,2 +1,5 @@
--- Lemmas on lists that are shortened again.
+-- Lemmas on lists that are shortened again, and on what lines keep and bring.
 pub mod Shortened
+pub mod KeptItems
+pub mod Stacks
+pub mod Endings
