@@ -3,3 +3,5 @@ pub mod Shortened
 pub mod KeptItems
 pub mod Stacks
 pub mod Endings
+pub mod FewLines
+pub mod SetLists

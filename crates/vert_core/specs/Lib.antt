@@ -2,4 +2,5 @@
 pub mod Interline
 pub mod Lines
 pub mod Finished
+pub mod Paragraphs
 pub mod Rows

@@ -8,6 +8,7 @@ mod finishing;
 mod interline;
 pub mod laws;
 mod line_boxes;
+mod paragraph;
 mod penalties;
 mod stacking;
 
@@ -15,4 +16,5 @@ pub use append::{AppendFault, Unappended, append_box, append_with_glue};
 pub use finishing::{finish_paragraph, unfinish_paragraph};
 pub use interline::{DimensionTooLarge, interline_glue};
 pub use line_boxes::LinesFault;
+pub use paragraph::{ParagraphFault, SetParagraph, UnsetParagraph, set_paragraph};
 pub use stacking::{VerticalItems, lines};

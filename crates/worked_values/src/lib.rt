@@ -17,6 +17,8 @@ mod packing;
 #[cfg(test)]
 mod pages;
 #[cfg(test)]
+mod paragraph_lines;
+#[cfg(test)]
 mod reused_bodies;
 #[cfg(test)]
 mod samples;
