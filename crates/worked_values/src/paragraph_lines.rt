@@ -9,7 +9,7 @@ use std::test::Fail;
 use vert_core::set_paragraph;
 
 /// A rule of that width that is 1pt high.
-fn rule(width: u16) -> Node {
+fn rule(width: u8) -> Node {
     Node::Rule(Rule {
         width: RuleSize::Fixed(Dimen::points(width)),
         height: RuleSize::Fixed(Dimen::points(1)),
