@@ -1,13 +1,10 @@
-// A library with one function.
+//! DVI files are read: `Dvi::open` checks a whole file, and its pages are those of the file definition.
+//!
+//! The programs that list and paint pages stand above it.
 #![tactic(auto)]
 
-ghost use Rattle.std.specs.Prelude.{◌≡◌};
-ghost use Rattle.dvi_read.specs.Echo.{echo_of};
+mod before_pages;
+pub mod laws;
+mod reading;
 
-// The `ensures` clause is the contract: what `echo` returns is `echo_of` of its argument, a definition
-// in `specs/Echo.antt`, which a caller's clause can cite too.
-pub fn echo(x: usize) -> usize
-    ensures { result ≡ echo_of x }
-{
-    x
-}
+pub use before_pages::{Front, find_front};
