@@ -1,14 +1,10 @@
 -- The words NAME=TFM of a command line (own).
-use Rattle.std.specs.Prelude.{◌≡◌, ◌≤◌, ◌==◌, ◌++◌, ⊤, [], ◌∷◌, List, ℕ, Bool, true, Option, Some, None, codes, map, option_map, unwrap_or}
+use Rattle.std.specs.Prelude.{◌≡◌, ◌==◌, ◌++◌, ⊤, ◌∷◌, List, ℕ, Bool, true, map}
 use Rattle.std.specs.List.{All, IsDistinct, after_first, before_first, list_any}
 use Rattle.std.specs.Str.{bytes_eq}
-use Rattle.std.specs.Str.Parse.{digits_value, without_leading_plus}
-use Rattle.clap.specs.Walk.{Row, Text, all_of, first_of, one_of}
+use Rattle.clap.specs.Walk.{Text}
 use Rattle.tfm_core.specs.NamedBytes.{IsFontName}
 use Rattle.word_core.specs.declared.fonts.NamedPath.{NamedPath}
-use Rattle.word_core.specs.declared.fonts.Picture.{Picture}
-use Rattle.word_core.specs.declared.fonts.Task.{Task}
-use Rattle.word_core.specs.declared.fonts.Task.TheVariants.{Memory, Typeset, List as Lists, Paint}
 use Rattle.word_core.specs.declared.fonts.WordFault.{WordFault}
 use Rattle.word_core.specs.declared.fonts.WordFault.TheVariants.{Memory as WantsMemory, NotPair, NameTwice}
 
