@@ -1,5 +1,5 @@
 -- How many bytes a page takes at most, with the definitions before it.
-use Rattle.std.proofs.Common.{◌≡◌, ℕ, zero, suc, ◌+◌, ◌*◌, ◌≤◌, ◌<◌, List, [], ◌∷◌, ◌++◌, length, replicate, refl, ap, arith, length-append}
+use Rattle.std.proofs.Common.{◌≡◌, ℕ, ◌+◌, ◌*◌, ◌≤◌, ◌<◌, List, [], ◌∷◌, ◌++◌, length, refl, ap, arith, length-append}
 use Rattle.std.specs.Prelude.{ℤ, pos, nat_lt, if◌then◌else◌, Option, Some, None}
 use Rattle.std.proofs.lemmas.Bool.{lt-ltb}
 use Rattle.std.proofs.lemmas.List.{map-append}
@@ -16,21 +16,22 @@ use Rattle.dvi_ops.proofs.Layouts.{length-bytes_of-append}
 use Rattle.dvi_ops.proofs.Spelled.{operand_length}
 use Rattle.dvi_write.specs.declared.fonts.LoadedFont.{LoadedFont}
 use Rattle.dvi_write.specs.Fonts.{Slots, font_in}
-use Rattle.dvi_write.specs.Draft.{definition_of, definition_by, definitions_of, fresh_slots, sheet_of}
+use Rattle.ship_core.specs.Marks.{Page}
+use Rattle.dvi_write.specs.Draft.{written_body, definition_of, definition_by, definitions_of, fresh_slots, sheet_of}
 use Rattle.ship_core.specs.Pages.{page_of}
 use Rattle.ship_core.specs.Drawing.{body_of}
 use Rattle.ship_core.specs.Shown.{HasWidth}
 use Rattle.ship_core.proofs.DrawnBytes.{body_bytes}
 
-length-counts : (n : ℕ) → length (flat_map (operand 4) (replicate n (pos 0))) ≡ 4 * n
-length-counts zero = refl
-length-counts (suc n) =
-    omega (arith, length-append (operand 4 (pos 0)) (flat_map (operand 4) (replicate n (pos 0))), operand_length 4 (pos 0), length-counts n)
+length-counts : (counts : List ℤ) → length (flat_map (operand 4) counts) ≡ 4 * length counts
+length-counts [] = refl
+length-counts (z ∷ counts) =
+    omega (arith, length-append (operand 4 z) (flat_map (operand 4) counts), operand_length 4 z, length-counts counts)
 
-length-bop : (last : ℤ) → length (spelling (Bop (replicate 10 (pos 0)) last)) ≡ 45
+length-bop : (counts : List ℤ) (last : ℤ) → length counts ≡ 10 → length (spelling (Bop counts last)) ≡ 45
 unfolding spelling
-length-bop last =
-    omega (arith, length-append (flat_map (operand 4) (replicate 10 (pos 0))) (operand 4 last), length-counts 10, operand_length 4 last)
+length-bop counts last ten =
+    omega (arith, length-append (flat_map (operand 4) counts) (operand 4 last), length-counts counts, ten, operand_length 4 last)
 
 length-eop : length (spelling Eop) ≡ 1
 unfolding spelling
@@ -85,20 +86,26 @@ definition_bytes fonts (s ∷ slots) short =
         let fine = short s l is in omega (arith, length-append (spelling (Do (FontDef (definition_of s l)))) [], length-definition s l fine.0 fine.1)
 
 -- A page takes at most 46 bytes, 19 for each node of its box, and 271 for each font that it defines.
-pub page_bytes : (widths : Widths) (fonts : Slots) (slots : List ℕ) (b : BoxNode) (last : ℤ) → HasShortNames fonts → EachLeaf (HasWidth widths) b.list
-    → length (bytes_of (sheet_from last (sheet_of fonts slots (page_of b)))) ≤ 46 + 19 * box_count b + 271 * length (fresh_slots fonts slots (flat (body_of (page_of b))))
-page_bytes widths fonts slots b last short sized =
-    let bop = Bop (replicate 10 (pos 0)) last in
-    let fresh = fresh_slots fonts slots (flat (body_of (page_of b))) in
-    let inner = flat (body_of (page_of b)) in
+pub sheet_bytes : (widths : Widths) (fonts : Slots) (slots : List ℕ) (page : Page) (last : ℤ) → HasShortNames fonts → length page.counts ≡ 10
+    → EachLeaf (HasWidth widths) page.box_node.list
+    → length (bytes_of (sheet_from last (sheet_of fonts slots page)))
+    ≤ 46 + 19 * box_count page.box_node + 271 * length (fresh_slots fonts slots (flat (written_body page)))
+sheet_bytes widths fonts slots page last short ten sized =
+    let bop = Bop page.counts last in
+    let fresh = fresh_slots fonts slots (flat (written_body page)) in
+    let inner = flat (written_body page) in
     omega (
       arith,
       length-bytes_of-append (define (definitions_of fonts fresh)) (bop ∷ (inner ++ Eop ∷ [])),
       definition_bytes fonts fresh short,
       length-append (spelling bop) (bytes_of (inner ++ Eop ∷ [])),
-      length-bop last,
+      length-bop page.counts last ten,
       length-bytes_of-append inner (Eop ∷ []),
       length-append (spelling Eop) [],
       length-eop,
-      body_bytes widths (page_of b) sized,
+      body_bytes widths page sized,
     )
+
+pub page_bytes : (widths : Widths) (fonts : Slots) (slots : List ℕ) (b : BoxNode) (last : ℤ) → HasShortNames fonts → EachLeaf (HasWidth widths) b.list
+    → length (bytes_of (sheet_from last (sheet_of fonts slots (page_of b)))) ≤ 46 + 19 * box_count b + 271 * length (fresh_slots fonts slots (flat (body_of (page_of b))))
+page_bytes widths fonts slots b last short sized = sheet_bytes widths fonts slots (page_of b) last short refl sized

@@ -5,13 +5,17 @@ use Rattle.std.specs.Ordering.{int_eq}
 use Rattle.std.specs.List.{flat_map, list_any}
 use Rattle.dvi_ops.specs.declared.opcodes.TheConstants.{FORMAT, PADDING}
 use Rattle.dvi_ops.specs.Instruction.{Definition, FontNum, Instruction, Do, Post, PostPost, Postamble}
-use Rattle.dvi_ops.specs.Forest.{flat, nests}
+use Rattle.dvi_ops.specs.Forest.{Forest, flat, nests}
 use Rattle.dvi_ops.specs.Layout.{Sheet, bytes_of, define, preamble, scaled_points, sheet_from, padding_after}
 use Rattle.dvi_write.specs.declared.fonts.LoadedFont.{LoadedFont}
 use Rattle.dvi_write.specs.Fonts.{Slots, font_in}
 use Rattle.ship_core.specs.Marks.{Page}
 use Rattle.ship_core.specs.Pages.{reach_down, reach_right}
 use Rattle.ship_core.specs.Drawing.{body_of}
+
+-- The body of a page as it is written.
+abbrev pub written_body : Page → Forest
+written_body page = body_of page
 
 -- The definition of a font: its number is its slot, and its name has no area (DVItype, 18).
 abbrev pub definition_of : ℕ → LoadedFont → Definition
@@ -63,7 +67,7 @@ in_rising_order defined = filter (λ slot. is_among slot defined) (numbers_below
 -- What is written for a page, where the fonts of these slots are defined before it.
 abbrev pub sheet_of : Slots → (defined : List ℕ) → Page → Sheet
 sheet_of fonts defined page =
-    record { counts = page.counts; fresh = definitions_of fonts (fresh_slots fonts defined (flat (body_of page))); body = body_of page }
+    record { counts = page.counts; fresh = definitions_of fonts (fresh_slots fonts defined (flat (written_body page))); body = written_body page }
 
 -- What the writer keeps: the bytes up to the last eop; the slots of the fonts that they define, in order; the place of the last bop, or -1; the
 -- greatest reaches of the pages, at least 0; and the most pushes that are open at once in a page.
@@ -84,11 +88,11 @@ unfoldable pub with_page : Slots → Draft → Page → Draft
 with_page fonts draft page =
     record {
       bytes = draft.bytes ++ bytes_of (sheet_from draft.last (sheet_of fonts draft.defined page));
-      defined = draft.defined ++ fresh_slots fonts draft.defined (flat (body_of page));
+      defined = draft.defined ++ fresh_slots fonts draft.defined (flat (written_body page));
       last = pos (length draft.bytes + length (bytes_of (define (sheet_of fonts draft.defined page).fresh)));
       tall = int_max draft.tall (reach_down page);
       wide = int_max draft.wide (reach_right page);
-      deep = max draft.deep (nests (body_of page));
+      deep = max draft.deep (nests (written_body page));
     }
 
 -- A draft with these pages more, in order.

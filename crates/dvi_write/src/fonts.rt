@@ -1,7 +1,7 @@
 //! The fonts of a job by their slots.
 
 ghost use Rattle.std.specs.Prelude.{◌≡◌, List, Option, Some, None, IfOk, OnOk, option_copied, replicate, slice_set};
-ghost use Rattle.dvi_write.specs.Fonts.{font_in};
+ghost use Rattle.dvi_write.specs.Fonts.{font_in, IsDefinable, AreDefinable};
 
 use std::alloc::{AllocError, Global};
 use std::marker::Model;
@@ -17,6 +17,18 @@ pub struct LoadedFont {
     pub font: Font,
 }
 
+impl LoadedFont {
+    /// The font can be defined in a file: names and sizes of fonts always can. It does nothing.
+    fn can_be_defined(&self)
+        ensures { IsDefinable self.now }
+    {
+        let _name = self.name.as_bytes();
+        let _size = self.font.size().get();
+        let _design_size = self.font.design_size().get();
+        let _check_sum = self.font.check_sum();
+    }
+}
+
 /// What each slot has: a font, or nothing.
 #[derive(Debug, Drop)]
 pub struct Fonts {
@@ -24,10 +36,10 @@ pub struct Fonts {
 }
 
 impl Model for Fonts {
-    ghost use Rattle.std.specs.Prelude.{◌≡◌, List, Option, length};
+    ghost use Rattle.std.specs.Prelude.{List, Option};
     ghost use Rattle.std.specs.Coded.{coded_list, coded_option};
     ghost use Rattle.dvi_write.specs.declared.fonts.LoadedFont.{LoadedFont};
-    ghost use Rattle.dvi_write.specs.declared.fonts.TheConstants.{FONT_SLOTS};
+    ghost use Rattle.dvi_write.specs.Fonts.{AreDefinable};
     ghost use Rattle.dvi_write.specs.contracts.fonts.LoadedFont as loaded_font;
 
     ghost Value = { List (Option LoadedFont) };
@@ -36,7 +48,7 @@ impl Model for Fonts {
 
     ghost view = { λ fonts. fonts.slots.items };
 
-    ghost invariant = { λ fonts. length fonts.slots.items ≡ FONT_SLOTS };
+    ghost invariant = { λ fonts. AreDefinable fonts.slots.items };
 }
 
 impl Fonts {
@@ -58,10 +70,18 @@ impl Fonts {
         self.slots[usize::from(slot)].as_ref()
     }
 
+    /// The font of each slot can be defined in a file. It does nothing.
+    pub fn can_be_defined(&self)
+        ensures { AreDefinable self.now }
+    {
+        let _slots = &self.slots;
+    }
+
     /// Gives a slot a font.
     pub fn put(&mut self, slot: u8, loaded: LoadedFont)
         ensures { self.new ≡ slice_set self.old slot (Some loaded) }
     {
+        loaded.can_be_defined();
         self.slots[usize::from(slot)] = Some(loaded);
     }
 }

@@ -11,8 +11,9 @@ ghost use Rattle.job_core.specs.Jobs.{draft_after, Holds, KeepsTo, RunsTo, Finis
 ghost use Rattle.job_core.specs.Shown.{FilesPages};
 ghost use Rattle.job_core.specs.Closing.{ClosesFile};
 
-use crate::device::{Device, write_all};
+
 use command_core::{Answer, Command, Refusal, Register, Reply, Summary};
+use device_core::{Device, write_all};
 use dvi_write::Writer;
 use node_core::Node;
 use state_core::kept::Kept;
@@ -106,7 +107,7 @@ impl<D: Device> Job<D> {
     ghost use Rattle.std.specs.Prelude.{◌≡◌, ◌≢◌, ◌<◌, ◌+◌, ◌^◌, ◌++◌, [], true, List, IfOk, IfErr, OnOk, OnErr, IfSome, Err, length};
     ghost use Rattle.nest_core.specs.Machine.{Machine, first_machine};
     ghost use Rattle.dvi_write.specs.Draft.{file_of};
-    ghost use Rattle.job_core.specs.Told.{grown, GrowsByFront, IsFrontOf};
+    ghost use Rattle.device_core.specs.Told.{grown, GrowsByFront, IsFrontOf};
     ghost use Rattle.command_core.specs.declared.command.Refusal.{Refusal};
     ghost use Rattle.command_core.specs.Reply.{Reply as AReply};
     ghost use Rattle.job_core.specs.Jobs.{Holds, KeepsTo, RunsTo, FinishesTo};

@@ -1,0 +1,38 @@
+-- Lists whose elements all have a property.
+use Rattle.std.proofs.Common.{◌≡◌, ◌<◌, ℕ, zero, suc, List, [], ◌∷◌, length, take, set, replicate, Option, Some, None, subst, arith}
+use Rattle.std.specs.Prelude.{slice_get, unwrap_or}
+use Rattle.std.specs.List.{AllByRecursion}
+
+module _ {A : Type 0} (P : A → Type 0) where
+  pub each_taken : (n : ℕ) (xs : List A) → AllByRecursion P xs → AllByRecursion P (take n xs)
+  each_taken zero xs all = tt
+  each_taken (suc n) [] all = tt
+  each_taken (suc n) (x ∷ xs) all = (all.0, each_taken n xs all.1)
+
+  pub each_set : (xs : List A) (i : ℕ) (y : A) → AllByRecursion P xs → P y → AllByRecursion P (set xs i y)
+  each_set [] i y all here = tt
+  each_set (x ∷ xs) zero y all here = (here, all.1)
+  each_set (x ∷ xs) (suc i) y all here = (all.0, each_set xs i y all.1 here)
+
+  pub each_at : (xs : List A) (i : ℕ) (y : A) → AllByRecursion P xs → slice_get xs i ≡ Some y → P y
+  each_at [] i y all is = cc
+  each_at (x ∷ xs) zero y all is = subst P (some_same is) all.0
+    where
+      some_same : Some x ≡ Some y → x ≡ y
+      some_same e = cc
+  each_at (x ∷ xs) (suc i) y all is = each_at xs i y all.1 is
+
+  pub each_copy : (n : ℕ) (x : A) → P x → AllByRecursion P (replicate n x)
+  each_copy zero x here = tt
+  each_copy (suc n) x here = (here, each_copy n x here)
+
+-- What a slot or a register holds has the property, and its number is less than how many there are.
+pub each_held : {A : Type 0} (P : Option A → Type 0) (xs : List (Option A)) (i : ℕ) (x : A) → AllByRecursion P xs → unwrap_or (slice_get xs i) None ≡ Some x → P (Some x)
+each_held P [] i x all is = cc
+each_held P (held ∷ xs) zero x all is = subst P is all.0
+each_held P (held ∷ xs) (suc i) x all is = each_held P xs i x all.1 is
+
+pub held_within : {A : Type 0} (xs : List (Option A)) (i : ℕ) (x : A) → unwrap_or (slice_get xs i) None ≡ Some x → i < length xs
+held_within [] i x is = cc
+held_within (held ∷ xs) zero x is = omega arith
+held_within (held ∷ xs) (suc i) x is = omega (arith, held_within xs i x is)
