@@ -1,10 +1,1 @@
-pub mod EachOf
-pub mod Spelled
-pub mod PageBytes
-pub mod FreshFonts
-pub mod DefinedFonts
-pub mod NextPages
-pub mod Rooms
 pub mod Writings
-pub mod Leaves
-pub mod Files

@@ -7,15 +7,16 @@ use Rattle.dvi_ops.proofs.Appends.{all_append}
 use Rattle.device_core.specs.Told.{grown, GrowsByFront}
 use Rattle.device_core.proofs.Tellings.{grown-grown}
 use Rattle.ship_core.specs.Marks.{Page}
-use Rattle.dvi_write.specs.declared.progress.WriteFault.{WriteFault}
-use Rattle.dvi_write.specs.declared.progress.WriteFault.TheVariants.{Device}
-use Rattle.dvi_write.specs.Fonts.{Slots}
-use Rattle.dvi_write.specs.Layout.{front, whole}
-use Rattle.dvi_write.specs.Shippable.{IsRightPage}
-use Rattle.dvi_write.specs.SoFar.{SoFar, nothing_so_far, next_bytes, with_next, last_bytes}
-use Rattle.dvi_write.specs.Writing.{Writing, HasWritten, HasRoom}
-use Rattle.dvi_write.proofs.Rooms.{small}
-use Rattle.dvi_write.proofs.NextPages.{front-append, so_far-append, whole-is}
+use Rattle.dvi_layout.specs.declared.progress.WriteFault.{WriteFault}
+use Rattle.dvi_layout.specs.declared.progress.WriteFault.TheVariants.{Device}
+use Rattle.dvi_layout.specs.Fonts.{Slots}
+use Rattle.dvi_layout.specs.Layout.{front, whole}
+use Rattle.dvi_layout.specs.Shippable.{IsRightPage}
+use Rattle.dvi_layout.specs.SoFar.{SoFar, nothing_so_far, next_bytes, with_next, last_bytes}
+use Rattle.dvi_layout.specs.Limits.{HasRoom}
+use Rattle.dvi_write.specs.Writing.{Writing, HasWritten}
+use Rattle.dvi_layout.proofs.Rooms.{small}
+use Rattle.dvi_layout.proofs.NextPages.{front-append, so_far-append, whole-is}
 
 grown-none : (told : Option (List ℕ)) → told ≡ grown told []
 grown-none None = refl

@@ -1,17 +1,15 @@
 -- A writer and its device (own).
-use Rattle.std.specs.Prelude.{◌≡◌, ◌≢◌, ◌⊎◌, ◌+◌, ◌*◌, ◌≤◌, ℕ, Bool, true, false, List, length, Option, Some, None, if◌then◌else◌, nat_le, nat_lt}
+use Rattle.std.specs.Prelude.{◌≡◌, ◌≢◌, ◌⊎◌, ℕ, Bool, true, false, List, Option, Some, None, if◌then◌else◌}
 use Rattle.std.specs.List.{AllByRecursion}
-use Rattle.node_core.specs.Nodes.{box_count}
-use Rattle.ship_core.specs.Marks.{Page, is_huge}
+use Rattle.ship_core.specs.Marks.{Page}
 use Rattle.device_core.specs.Told.{grown}
-use Rattle.dvi_write.specs.declared.progress.WriteFault.{WriteFault}
-use Rattle.dvi_write.specs.declared.progress.WriteFault.TheVariants.{JobOver, TooManyPages, TooMuchShipped, HugePage, OutOfMemory, Device}
-use Rattle.dvi_write.specs.declared.progress.TheConstants.{MOST_PAGES, MOST_SHIPPED, MOST_DEEP}
-use Rattle.dvi_write.specs.Fonts.{Slots}
-use Rattle.dvi_write.specs.Draft.{in_rising_order}
-use Rattle.dvi_write.specs.Layout.{front}
-use Rattle.dvi_write.specs.SoFar.{SoFar, so_far_of}
-use Rattle.dvi_write.specs.Shippable.{IsRightPage}
+use Rattle.dvi_layout.specs.declared.progress.WriteFault.{WriteFault}
+use Rattle.dvi_layout.specs.declared.progress.WriteFault.TheVariants.{JobOver, OutOfMemory, Device}
+use Rattle.dvi_layout.specs.Fonts.{Slots}
+use Rattle.dvi_layout.specs.Limits.{limit_of}
+use Rattle.dvi_layout.specs.Layout.{front}
+use Rattle.dvi_layout.specs.SoFar.{SoFar, so_far_of}
+use Rattle.dvi_layout.specs.Shippable.{IsRightPage}
 
 -- What a writer is seen as: what it keeps of the pages so far, of its device the bytes that it tells and how often it failed, and whether the file is
 -- over.
@@ -29,14 +27,6 @@ pub record HasWritten (fonts : Slots) (before : Option (List ℕ)) (w : Writing)
   pub right : AllByRecursion (IsRightPage fonts) pages
   pub running : w.over ≡ false
 
--- Why a page is not taken before memory is asked for: the first of these that holds.
-abbrev pub limit_of : SoFar → Page → Option WriteFault
-limit_of s page =
-    if nat_le MOST_PAGES s.pages then Some TooManyPages
-    else if nat_lt MOST_SHIPPED (s.nodes + box_count page.box_node) then Some TooMuchShipped
-    else if is_huge page then Some HugePage
-    else None
-
 -- Why a page is not taken at all: the file is over, or a limit is met.
 abbrev pub refusal_of : Writing → Page → Option WriteFault
 refusal_of w page = if w.over then Some JobOver else limit_of w.so_far page
@@ -53,15 +43,3 @@ EndsWith w page fault = Refuses w page fault ⊎ ((refusal_of w page ≡ None) �
 abbrev pub MayFail : Writing → WriteFault → Type 0
 MayFail w fault =
     ((w.over ≡ true) × (fault ≡ JobOver)) ⊎ ((w.over ≡ false) × (w.so_far.pages ≢ 0) × ((fault ≡ OutOfMemory) ⊎ (fault ≡ Device)))
-
--- What is kept lies within the limits, so that every place in the file is below 2^31 (the invariant of the writer).
-pub record HasRoom (s : SoFar) : Type 0 where
-  pub nodes : s.nodes ≤ MOST_SHIPPED
-  pub pages : s.pages ≤ MOST_PAGES
-  pub deep : s.deep ≤ MOST_DEEP
-  -- Each slot is defined once, so that there are at most `FONT_SLOTS` definitions.
-  pub defined : length (in_rising_order s.defined) ≡ length s.defined
-  -- Nothing goes out before the first page.
-  pub empty : s.pages ≡ 0 → s.size ≡ 0
-  -- A page takes 46 bytes and 19 for each node, and a font definition at most 271.
-  pub size : s.size ≤ 15 + 46 * s.pages + 19 * s.nodes + 271 * length s.defined

@@ -1,7 +1,7 @@
 -- How the logic stores what a writer is seen as (own; the model of `DviWriter` alone, no public clause speaks of it).
 use Rattle.std.specs.Prelude.{ℕ, ℤ, Bool, List, Option, refl}
 use Rattle.std.specs.Coded.{Coded, code_by, coded×, coded_ℕ, coded_ℤ, coded_bool, coded_list, coded_option}
-use Rattle.dvi_write.specs.SoFar.{SoFar}
+use Rattle.dvi_layout.specs.SoFar.{SoFar}
 use Rattle.dvi_write.specs.Writing.{Writing}
 
 -- How what is kept is stored: the place of the last bop, the length and the slots; the reaches and the depth; the numbers of pages and nodes.

@@ -4,9 +4,8 @@ ghost use Rattle.std.specs.Prelude.{◌≡◌, length};
 ghost use Rattle.std.specs.List.{AllByRecursion};
 ghost use Rattle.dvi_ops.specs.Spelling.{NumberFits};
 
-use crate::fonts::Fonts;
-use crate::progress::{Offsets, Progress, WriteFault};
 use device_core::{Device, write_all};
+use dvi_layout::{Fonts, Offsets, Progress, WriteFault};
 use node_core::BoxNode;
 use std::alloc::Global;
 use std::marker::Model;
@@ -28,7 +27,8 @@ pub struct DviWriter<D: Device> {
 
 impl<D: Device> Model for DviWriter<D> {
     ghost use Rattle.std.specs.Prelude.{◌≡◌, ◌<◌, ◌+◌, ◌^◌, false};
-    ghost use Rattle.dvi_write.specs.Writing.{Writing, HasRoom};
+    ghost use Rattle.dvi_layout.specs.Limits.{HasRoom};
+    ghost use Rattle.dvi_write.specs.Writing.{Writing};
     ghost use Rattle.dvi_write.specs.WritingCode.{coded_writing};
 
     ghost Value = { Writing };
@@ -45,11 +45,11 @@ impl<D: Device> DviWriter<D> {
     ghost use Rattle.device_core.specs.Told.{grown, GrowsByFront};
     ghost use Rattle.dvi_ops.specs.Fonts.{Metrics};
     ghost use Rattle.ship_core.specs.Marks.{Page};
-    ghost use Rattle.dvi_write.specs.declared.progress.WriteFault.{WriteFault};
-    ghost use Rattle.dvi_write.specs.Fonts.{Slots};
-    ghost use Rattle.dvi_write.specs.SoFar.{next_bytes, with_next};
-    ghost use Rattle.dvi_write.specs.Layout.{front, whole};
-    ghost use Rattle.dvi_write.specs.Shippable.{GivesFonts, IsFileOfPages, IsRightPage, IsShippable, page_with};
+    ghost use Rattle.dvi_layout.specs.declared.progress.WriteFault.{WriteFault};
+    ghost use Rattle.dvi_layout.specs.Fonts.{Slots};
+    ghost use Rattle.dvi_layout.specs.SoFar.{next_bytes, with_next};
+    ghost use Rattle.dvi_layout.specs.Layout.{front, whole};
+    ghost use Rattle.dvi_layout.specs.Shippable.{GivesFonts, IsFileOfPages, IsRightPage, IsShippable, page_with};
     ghost use Rattle.dvi_write.specs.Writing.{EndsWith, HasWritten, MayFail, Refuses, refusal_of};
 
     /// A writer on a device. It takes no memory, and sends nothing.

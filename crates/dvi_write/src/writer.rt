@@ -13,11 +13,12 @@ ghost use Rattle.std.specs.List.{AllByRecursion, list_any};
 ghost use Rattle.scaled_core.specs.Dimensions.{fits};
 ghost use Rattle.ship_core.specs.Marks.{is_huge};
 ghost use Rattle.ship_core.specs.Pages.{page_of, reach_down, reach_right};
-ghost use Rattle.dvi_write.specs.Draft.{Draft, closing, closing_ops, definition_of, definitions_of, first_draft, fresh_slots, is_among, is_fresh, in_rising_order, selects, whole, with_page};
+ghost use Rattle.dvi_layout.specs.Sheets.{definition_of, definitions_of, fresh_slots, is_among, is_fresh, in_rising_order, selects};
+ghost use Rattle.dvi_write.specs.Draft.{Draft, closing, closing_ops, first_draft, whole, with_page};
 ghost use Rattle.ship_core.specs.Drawing.{body_of};
 
-use crate::fonts::Fonts;
-use crate::layout::{
+use dvi_layout::Fonts;
+use dvi_layout::layout::{
     SCALED_POINTS, append_all, append_both, append_definitions, append_padding, fresh_slots,
     in_rising_order, page_ops,
 };

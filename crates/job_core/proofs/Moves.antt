@@ -20,7 +20,8 @@ use Rattle.tfm_core.specs.NamedBytes.{NamedBytes}
 use Rattle.dvi_ops.specs.Spelling.{spelling, operand}
 use Rattle.ship_core.specs.Marks.{Page}
 use Rattle.ship_core.specs.Pages.{page_of, reach_down, reach_right}
-use Rattle.dvi_write.specs.Draft.{Draft, definitions_of, fresh_slots, sheet_of, with_page, with_pages, first_draft, draft_of}
+use Rattle.dvi_layout.specs.Sheets.{definitions_of, fresh_slots, sheet_of}
+use Rattle.dvi_write.specs.Draft.{Draft, with_page, with_pages, first_draft, draft_of}
 use Rattle.command_core.specs.declared.limits.TheConstants.{MOST_PAGES, MOST_SHIPPED}
 use Rattle.nest_core.specs.State.{State, held_in, count_in, first_state}
 use Rattle.nest_core.specs.Checks.{checks, own_checks, first_of, is_huge_in}
@@ -31,15 +32,15 @@ use Rattle.ship_core.specs.Drawing.{body_of}
 use Rattle.nest_core.specs.Runs.{TakesMemory, early_checks, Steps, Replies, LacksMemory, Run}
 use Rattle.job_core.specs.Jobs.{draft_after, IsShipped, Seen, Holds, KeepsTo, RunsTo}
 use Rattle.job_core.specs.Room.{HasRoom}
-use Rattle.dvi_write.specs.Fonts.{Slots}
+use Rattle.dvi_layout.specs.Fonts.{Slots}
 use Rattle.state_core.specs.Loaded.{AreLoaded, GivesNumbersFor}
 use Rattle.state_core.specs.Sized.{IsSizedHeld, HasSizedGlyphs}
 use Rattle.state_core.proofs.KeptRest.{end_keeps, append_keeps, unbox_keeps, job_kept}
 use Rattle.state_core.proofs.SizedGlyphs.{sized_first, sized_after, sized_held, stays_sized, stays_loaded}
 use Rattle.state_core.proofs.LoadedFonts.{loaded_first, loaded_after}
-use Rattle.dvi_write.proofs.DefinedFonts.{Extends, HasSelected, fresh_same, definitions_same, fresh_parts, among_fresh, defined_once, few_defined, none_rising}
+use Rattle.dvi_layout.proofs.DefinedFonts.{Extends, HasSelected, fresh_same, definitions_same, fresh_parts, among_fresh, defined_once, few_defined, none_rising}
 use Rattle.job_core.proofs.PageFonts.{table_of, short_names, has_selected, have_widths}
-use Rattle.dvi_write.proofs.PageBytes.{page_bytes}
+use Rattle.dvi_layout.proofs.PageBytes.{page_bytes}
 use Rattle.ship_core.proofs.DrawnPages.{nests_page}
 
 -- The draft of pages, and of more pages behind them.

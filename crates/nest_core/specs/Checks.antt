@@ -23,7 +23,7 @@ use Rattle.scaled_core.specs.Dimensions.{fits}
 use Rattle.split_core.specs.Split.{shrinks_infinitely, split_numbers}
 use Rattle.ship_core.specs.Marks.{is_huge}
 use Rattle.tfm_core.specs.Fonts.{SizedFont}
-use Rattle.dvi_write.specs.Fonts.{font_in}
+use Rattle.dvi_layout.specs.Fonts.{font_in}
 use Rattle.nest_core.specs.FontSlots.{current_font, CharacterItems, text_shaped, character_shaped}
 use Rattle.nest_core.specs.State.{State, innermost, outer, items_in, open_count, held_in, count_in, font_for}
 use Rattle.nest_core.specs.OpenLists.{kind_in, is_vertical, register_of, glue_in, box_items, packed_list}

@@ -7,7 +7,7 @@ use Rattle.command_core.specs.declared.command.Refusal.TheVariants.{OutOfMemory,
 use Rattle.command_core.specs.declared.command.Summary.{Summary}
 use Rattle.command_core.specs.Reply.{Reply}
 use Rattle.tfm_core.specs.NamedBytes.{file_named}
-use Rattle.dvi_write.specs.Fonts.{font_in}
+use Rattle.dvi_layout.specs.Fonts.{font_in}
 use Rattle.nest_core.specs.State.{State, innermost, held_in}
 use Rattle.nest_core.specs.OpenLists.{GoesIntoList}
 use Rattle.nest_core.specs.Checks.{checks, character_checks, first_of}

@@ -1,5 +1,3 @@
-pub mod EachOf
-pub mod Leaves
 pub mod KeptRest
 pub mod Refusals
 pub mod SplitParts

@@ -24,16 +24,16 @@ use Rattle.dvi_ops.proofs.Appends.{all_append, all_weaker}
 use Rattle.pack_core.specs.declared.pack.Packed as packs
 use Rattle.pack_core.specs.declared.pack.TooLarge.{TooLarge}
 use Rattle.nest_core.specs.declared.nest.OpenList.{OpenList}
-use Rattle.dvi_write.specs.declared.fonts.LoadedFont.{LoadedFont}
+use Rattle.dvi_layout.specs.declared.fonts.LoadedFont.{LoadedFont}
 use Rattle.command_core.specs.declared.command.Command.{Command}
 use Rattle.command_core.specs.declared.command.Command.TheVariants.{LoadFont, UseFont, Open, End, Text, Character, Rule, Kern, Glue, Penalty, Append, Unbox, LastBox, Split, Measure, Void, Set, Ship}
 use Rattle.command_core.specs.declared.command.FontLoad.{FontLoad}
 use Rattle.command_core.specs.declared.command.Refusal.{Refusal}
 use Rattle.command_core.specs.declared.command.Refusal.TheVariants.{SlotTaken, TooDeep, JobOver}
-use Rattle.dvi_write.specs.Fonts.{Slots, font_in}
+use Rattle.dvi_layout.specs.Fonts.{Slots, font_in}
 use Rattle.nest_core.specs.FontSlots.{with_font, glyph_by, text_in, character_in, text_shaped, character_shaped}
-use Rattle.state_core.proofs.EachOf.{each_taken, each_set, each_at, each_copy, each_held}
-use Rattle.state_core.proofs.Leaves.{each_leaf}
+use Rattle.dvi_layout.proofs.EachOf.{each_taken, each_set, each_at, each_copy, each_held}
+use Rattle.dvi_layout.proofs.Leaves.{each_leaf}
 use Rattle.state_core.proofs.KeptRest.{KeepsRest, end_keeps, append_keeps, unbox_keeps}
 use Rattle.nest_core.proofs.PackedItems.{packed_items}
 use Rattle.state_core.proofs.SplitParts.{inner_nodes, rest_sound, front_sound}

@@ -2,7 +2,7 @@
 
 ghost use Rattle.std.specs.Prelude.{◌≡◌, ◌==◌, ◌<◌, ◌≤◌, ◌+◌, ◌∷◌, [], not, true, false, None, Some, IfOk, IfErr, OnOk, OnErr, IsSome, length};
 ghost use Rattle.command_core.specs.declared.command.Command.TheVariants as commands;
-ghost use Rattle.dvi_write.specs.Fonts.{font_in};
+ghost use Rattle.dvi_layout.specs.Fonts.{font_in};
 ghost use Rattle.state_core.specs.Loaded.{GivesNumbers};
 ghost use Rattle.node_core.specs.Nodes.{most_nodes, nodes_of};
 ghost use Rattle.nest_core.specs.EmptiedNest.{refilled_nest};
@@ -19,7 +19,7 @@ use command_core::{
     Answer, BoxUse, Characters, FontLoad, Opening, Parameter, Refusal, Register, Reply, Splitting,
     Taking, Unboxing,
 };
-use dvi_write::{Fonts, LoadedFont};
+use dvi_layout::{Fonts, LoadedFont};
 use nest_core::fonts::read_font;
 use nest_core::nest::Nest;
 use nest_core::registers::{Registers, sizes_of};

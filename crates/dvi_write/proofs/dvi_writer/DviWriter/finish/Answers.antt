@@ -1,7 +1,7 @@
 use Rattle.std.proofs.Common.{◌≢◌, ap, sym, ◌∙◌, length, arith}
 use Rattle.dvi_write.specs.Writing.{Writing}
-use Rattle.dvi_write.proofs.Files.{file_shows}
-use Rattle.dvi_write.proofs.Rooms.{small}
+use Rattle.dvi_layout.proofs.Files.{file_shows}
+use Rattle.dvi_layout.proofs.Rooms.{small}
 use Rattle.dvi_write.proofs.Writings.{ended_all, ended_none, ended_part, ended_size, none_ended, written_small}
 use Rattle.dvi_write.proofs.dvi_writer.DviWriter.finish.Goals as goal
 

@@ -1,6 +1,6 @@
 use Rattle.ship_core.specs.Pages.{page_at}
-use Rattle.dvi_write.specs.SoFar.{with_next}
-use Rattle.dvi_write.proofs.Rooms.{room_next, kept_room}
+use Rattle.dvi_layout.specs.SoFar.{with_next}
+use Rattle.dvi_layout.proofs.Rooms.{room_next, kept_room}
 use Rattle.dvi_write.proofs.dvi_writer.DviWriter.prepare.Goals as goal
 
 pub add_page-requires-clause-room : goal.add_page-requires-clause-room
