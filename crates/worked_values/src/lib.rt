@@ -34,3 +34,5 @@ mod scaled_values;
 mod scripts;
 #[cfg(test)]
 mod shaped_texts;
+#[cfg(test)]
+mod splitting;
