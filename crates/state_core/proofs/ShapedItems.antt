@@ -5,8 +5,8 @@ use Rattle.tfm_core.specs.Fonts.{glyph_of, step_of}
 use Rattle.shape_core.specs.Shaping.{shaped_items, shaped_missing}
 use Rattle.shape_core.specs.Texts.{text_items, text_missing}
 use Rattle.shape_core.specs.Spaces.{space_glue}
-use Rattle.dvi_write.specs.declared.fonts.LoadedFont.{LoadedFont}
-use Rattle.dvi_write.specs.Fonts.{font_in}
+use Rattle.dvi_layout.specs.declared.fonts.LoadedFont.{LoadedFont}
+use Rattle.dvi_layout.specs.Fonts.{font_in}
 use Rattle.command_core.specs.declared.command.Answer.{Answer}
 use Rattle.command_core.specs.declared.command.Command.{Command}
 use Rattle.command_core.specs.declared.command.Command.TheVariants.{Text, Character}
