@@ -7,6 +7,8 @@ mod bitmaps;
 mod all_breaks;
 pub mod changed_bytes;
 #[cfg(test)]
+mod driver;
+#[cfg(test)]
 mod font_files;
 #[cfg(test)]
 mod instructions;
