@@ -2,6 +2,7 @@
 
 ghost use Rattle.std.specs.Prelude.{◌≡◌, ◌+◌, ◌<◌, ◌≤◌, true, ℕ, None, get_or, length, replicate, IfOk, IfErr, OnOk};
 ghost use Rattle.std.specs.Option.{unwrap_or};
+ghost use Rattle.std.specs.Int.{sum_through};
 ghost use Rattle.break_core.specs.Passes.{position_of, begins_at, facts_of, refusal};
 ghost use Rattle.break_core.specs.Steady.{IsNoNarrower, IsRising, IsSteady};
 ghost use Rattle.node_core.specs.Nodes.{most_nodes};
@@ -155,6 +156,29 @@ impl<'a> ListMeter<'a> {
             }
         }
         true
+    }
+}
+
+impl<'a> ListMeter<'a> {
+    /// How many lines from a place, or from 0, the start, were tried.
+    pub fn trials(&self, place: usize) -> u64
+        ensures { result ≡ ⟦<ListMeter<'a> as Meter>⟧.trials self.now place }
+    {
+        match self.trials.get(place) {
+            Some(trials) => *trials,
+            None => 0,
+        }
+    }
+
+    /// How many lines were tried: those from the start and from each place.
+    pub fn all_trials(&self) -> u128
+        ensures { result ≡ sum_through (⟦<ListMeter<'a> as Meter>⟧.trials self.now) (length (legal_places self.now.nodes.now)) }
+    {
+        let mut all = u128::from(self.trials(0));
+        for place in 0..self.places.len() {
+            all += u128::from(self.trials(place + 1));
+        }
+        all
     }
 }
 
