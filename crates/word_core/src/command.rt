@@ -1,0 +1,91 @@
+//! The command line, built for clap.
+
+ghost use Rattle.std.specs.Prelude.{◌≡◌, ◌≤◌, false, pos, IfOk};
+ghost use Rattle.clap.specs.Words.{app_of, rule_of};
+ghost use Rattle.clap.specs.declared.builder.Command.TheViews.{out-Command};
+ghost use Rattle.word_core.specs.CommandLine.{boxglue, fonts_rule, lists, number_rule, paint, path_rule, typeset};
+
+use clap::{Arg, ArgAction, Command, value_parser};
+use std::alloc::{AllocError, Global};
+
+/// A path, which has to be there.
+fn path(alloc: Global, id: &'static str, help: &'static str) -> Arg<'static>
+    ensures rule { rule_of result ≡ path_rule id.now }
+    ensures local { result.global ≡ false }
+{
+    Arg::new(alloc, id).help(help).required(true)
+}
+
+/// The words NAME=TFM.
+fn fonts(alloc: Global) -> Arg<'static>
+    ensures rule { rule_of result ≡ fonts_rule }
+    ensures local { result.global ≡ false }
+{
+    Arg::new(alloc, "NAME=TFM")
+        .help("a font that the text names, and its metric file")
+        .action(ArgAction::Append)
+        .num_args(0..)
+}
+
+/// An option with a number from 1 to this one, which has to be there.
+fn number(alloc: Global, id: &'static str, most: u32, help: &'static str) -> Arg<'static>
+    ensures rule { rule_of result ≡ number_rule id.now most }
+    ensures local { result.global ≡ false }
+{
+    Arg::new(alloc, id)
+        .long(id)
+        .value_name("N")
+        .help(help)
+        .value_parser(value_parser!(u32).range(1..=i64::from(most)))
+        .required(true)
+}
+
+/// The subcommand `typeset`.
+fn typeset(alloc: Global) -> Result<Command<'static>, AllocError>
+    ensures shape { IfOk result (λ command. app_of command ≡ typeset) }
+    ensures local { IfOk result (λ command. (out-Command command).has_globals ≡ false) }
+{
+    Command::new(alloc, "typeset")
+        .about("runs the script of standard input and writes the DVI file")
+        .arg(path(alloc, "OUT", "the DVI file that is written"))?
+        .arg(fonts(alloc))
+}
+
+/// The subcommand `list`.
+fn lists(alloc: Global) -> Result<Command<'static>, AllocError>
+    ensures shape { IfOk result (λ command. app_of command ≡ lists) }
+    ensures local { IfOk result (λ command. (out-Command command).has_globals ≡ false) }
+{
+    Command::new(alloc, "list")
+        .about("prints the pages of a DVI file and their marks")
+        .arg(path(alloc, "DVI", "the DVI file that is read"))?
+        .arg(fonts(alloc))
+}
+
+/// The subcommand `paint`.
+fn paint(alloc: Global) -> Result<Command<'static>, AllocError>
+    ensures shape { IfOk result (λ command. app_of command ≡ paint) }
+    ensures local { IfOk result (λ command. (out-Command command).has_globals ≡ false) }
+{
+    Command::new(alloc, "paint")
+        .about("prints a page of a DVI file as a bitmap in plain PBM")
+        .arg(number(alloc, "page", u32::MAX, "the page, from 1 on"))?
+        .arg(number(alloc, "dpi", 10_000, "pixels an inch"))?
+        .arg(number(alloc, "width", 10_000, "pixels across"))?
+        .arg(number(alloc, "height", 10_000, "pixels down"))?
+        .arg(path(alloc, "DVI", "the DVI file that is read"))?
+        .arg(fonts(alloc))
+}
+
+/// The command line of boxglue, for clap: no words, or `typeset`, `list` or `paint` with its own. It takes memory.
+pub fn command_line(alloc: Global) -> Result<Command<'static>, AllocError>
+    ensures { IfOk result (λ command. app_of command ≡ boxglue) }
+{
+    Command::new(alloc, "boxglue")
+        .about("typesets scripts of boxes and glue into DVI files, and reads such files")
+        .no_binary_name(true)
+        .disable_help_subcommand(true)
+        .subcommand(typeset(alloc)?)?
+        .subcommand(lists(alloc)?)?
+        .subcommand(paint(alloc)?)
+}
