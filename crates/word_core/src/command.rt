@@ -9,7 +9,7 @@ use clap::{Arg, ArgAction, Command, value_parser};
 use std::alloc::{AllocError, Global};
 
 /// A path, which has to be there.
-fn path(alloc: Global, id: &'static str, help: &'static str) -> Arg<'static>
+fn path<'a>(alloc: Global, id: &'static str, help: &'static str) -> Arg<'a>
     ensures rule { rule_of result ≡ path_rule id.now }
     ensures local { result.global ≡ false }
 {
@@ -17,7 +17,7 @@ fn path(alloc: Global, id: &'static str, help: &'static str) -> Arg<'static>
 }
 
 /// The words NAME=TFM.
-fn fonts(alloc: Global) -> Arg<'static>
+fn fonts<'a>(alloc: Global) -> Arg<'a>
     ensures rule { rule_of result ≡ fonts_rule }
     ensures local { result.global ≡ false }
 {
@@ -28,7 +28,7 @@ fn fonts(alloc: Global) -> Arg<'static>
 }
 
 /// An option with a number from 1 to this one, which has to be there.
-fn number(alloc: Global, id: &'static str, most: u32, help: &'static str) -> Arg<'static>
+fn number<'a>(alloc: Global, id: &'static str, most: u32, help: &'static str) -> Arg<'a>
     ensures rule { rule_of result ≡ number_rule id.now most }
     ensures local { result.global ≡ false }
 {
@@ -41,7 +41,7 @@ fn number(alloc: Global, id: &'static str, most: u32, help: &'static str) -> Arg
 }
 
 /// The subcommand `typeset`.
-fn typeset(alloc: Global) -> Result<Command<'static>, AllocError>
+fn typeset<'a>(alloc: Global) -> Result<Command<'a>, AllocError>
     ensures shape { IfOk result (λ command. app_of command ≡ typeset) }
     ensures local { IfOk result (λ command. (out-Command command).has_globals ≡ false) }
 {
@@ -52,7 +52,7 @@ fn typeset(alloc: Global) -> Result<Command<'static>, AllocError>
 }
 
 /// The subcommand `list`.
-fn lists(alloc: Global) -> Result<Command<'static>, AllocError>
+fn lists<'a>(alloc: Global) -> Result<Command<'a>, AllocError>
     ensures shape { IfOk result (λ command. app_of command ≡ lists) }
     ensures local { IfOk result (λ command. (out-Command command).has_globals ≡ false) }
 {
@@ -63,7 +63,7 @@ fn lists(alloc: Global) -> Result<Command<'static>, AllocError>
 }
 
 /// The subcommand `paint`.
-fn paint(alloc: Global) -> Result<Command<'static>, AllocError>
+fn paint<'a>(alloc: Global) -> Result<Command<'a>, AllocError>
     ensures shape { IfOk result (λ command. app_of command ≡ paint) }
     ensures local { IfOk result (λ command. (out-Command command).has_globals ≡ false) }
 {
@@ -78,7 +78,7 @@ fn paint(alloc: Global) -> Result<Command<'static>, AllocError>
 }
 
 /// The command line of boxglue, for clap: no words, or `typeset`, `list` or `paint` with its own. It takes memory.
-pub fn command_line(alloc: Global) -> Result<Command<'static>, AllocError>
+pub fn command_line<'a>(alloc: Global) -> Result<Command<'a>, AllocError>
     ensures { IfOk result (λ command. app_of command ≡ boxglue) }
 {
     Command::new(alloc, "boxglue")
