@@ -2,9 +2,9 @@
 #![tactic(auto)]
 
 #[cfg(test)]
-mod bitmaps;
-#[cfg(test)]
 mod all_breaks;
+#[cfg(test)]
+mod bitmaps;
 pub mod changed_bytes;
 #[cfg(test)]
 mod font_files;
@@ -22,6 +22,8 @@ mod nodes;
 mod packing;
 #[cfg(test)]
 mod pages;
+#[cfg(test)]
+mod paragraph_lines;
 #[cfg(test)]
 mod paragraphs;
 #[cfg(test)]
