@@ -29,6 +29,10 @@ abbrev pub GivesPages : List MarkedPage → Result Opened DviFault → Type 0
 GivesPages pages (Ok dvi) = dvi.pages ≡ pages
 GivesPages pages (Err fault) = fault ≡ OutOfMemory
 
+-- Whatever the pages of these bytes with these font files, a call gives exactly them, or memory is wanting.
+abbrev pub IsExact : List NamedBytes → List ℕ → Result Opened DviFault → Type 0
+IsExact files bytes result = (pages : List MarkedPage) → IsFile (file_widths files) bytes pages → GivesPages pages result
+
 -- With these font files the bytes are no file, whatever the pages.
 abbrev pub IsNoFile : List NamedBytes → List ℕ → Type 0
 IsNoFile files bytes = (pages : List MarkedPage) → IsFile (file_widths files) bytes pages → ⊥

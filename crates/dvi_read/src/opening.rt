@@ -1,11 +1,11 @@
 //! A DVI file that was checked as a whole (DVItype, 13 to 20).
 
-ghost use Rattle.std.specs.Prelude.{◌≡◌, ◌≢◌, ◌++◌, ◌<◌, List, length, map, slice_get, IfErr, IfOk, OnErr, OnOk, Some};
+ghost use Rattle.std.specs.Prelude.{◌≡◌, ◌≢◌, ◌++◌, ◌<◌, length, map, slice_get, IfErr, IfOk, OnErr, OnOk, Some};
 ghost use Rattle.dvi_listing.specs.Listing.{listing as listing_of};
-ghost use Rattle.dvi_ops.specs.File.{IsFile, MarkedPage};
+ghost use Rattle.dvi_ops.specs.File.{IsFile};
 ghost use Rattle.dvi_ops.specs.View.{definition, units as view_units};
 ghost use Rattle.dvi_pass.specs.View.{page_of};
-ghost use Rattle.dvi_read.specs.Opened.{GivesPages, HasFontsOf, HasUnitsOf, IsNoFile, IsReadFrom};
+ghost use Rattle.dvi_read.specs.Opened.{HasFontsOf, HasUnitsOf, IsExact, IsNoFile, IsReadFrom};
 ghost use Rattle.dvi_read.specs.Opening.{IsDviFault};
 ghost use Rattle.dvi_walk.specs.declared.fault.DviFault.TheVariants.{OutOfMemory};
 ghost use Rattle.tfm_core.specs.FileWidths.{file_widths};
@@ -98,7 +98,7 @@ impl<'a> Dvi<'a> {
         // But for memory, only what is no file is refused.
         ensures refused { IfErr result (λ fault. fault ≢ OutOfMemory → IsNoFile files.now bytes.now) }
         // A file is opened with exactly its pages, or memory is wanting.
-        ensures exact { (pages : List MarkedPage) → IsFile (file_widths files.now) bytes.now pages → GivesPages pages result }
+        ensures exact { IsExact files.now bytes.now result }
     {
         read_file(alloc, bytes, files)
     }
