@@ -37,7 +37,7 @@ table_of fonts (pos slot) = option_map (definition_of slot) (font_in fonts slot)
 table_of fonts (negsuc n) = None
 
 -- The definition of a font in a slot is right.
-tabled : (fonts : Slots) → AreDefinable fonts → (s : ℕ) (l : LoadedFont) → font_in fonts s ≡ Some l → IsTabled (table_of fonts) (definition_of s l)
+pub tabled : (fonts : Slots) → AreDefinable fonts → (s : ℕ) (l : LoadedFont) → font_in fonts s ≡ Some l → IsTabled (table_of fonts) (definition_of s l)
 tabled fonts definable s l has =
     let of = definable_in fonts s l definable has in
     let numbers = of.0.numbers in
@@ -174,11 +174,11 @@ greatest_within fonts size (page ∷ pages) fits (here, all) =
     let others = greatest_within fonts size pages fits all in
     record { low = omega (arith, ints, clamps, one.low, others.low); high = omega (arith, ints, clamps, one.high, others.high) }
 
-tall_fits : (fonts : Slots) (pages : List Page) → AllByRecursion (IsRightPage fonts) pages → NumberFits (greatest reach_down pages)
+pub tall_fits : (fonts : Slots) (pages : List Page) → AllByRecursion (IsRightPage fonts) pages → NumberFits (greatest reach_down pages)
 tall_fits fonts pages all =
     number_within _ (greatest_within fonts reach_down pages (λ page right. fits_within (page.v +ℤ page.box_node.depth) (fits_down page right.small)) all)
 
-wide_fits : (fonts : Slots) (pages : List Page) → AllByRecursion (IsRightPage fonts) pages → NumberFits (greatest reach_right pages)
+pub wide_fits : (fonts : Slots) (pages : List Page) → AllByRecursion (IsRightPage fonts) pages → NumberFits (greatest reach_right pages)
 wide_fits fonts pages all =
     number_within _ (greatest_within fonts reach_right pages (λ page right. fits_within (page.h +ℤ page.box_node.width) (fits_right page right.small)) all)
 

@@ -7,3 +7,5 @@ pub mod DefinedFonts
 pub mod NextPages
 pub mod Rooms
 pub mod Files
+pub mod MoreFonts
+pub mod ClosedFiles

@@ -4,3 +4,4 @@ pub mod Layout
 pub mod Shippable
 pub mod SoFar
 pub mod Limits
+pub mod Closing

@@ -2,6 +2,7 @@
 #![tactic(auto)]
 
 mod dvi_writer;
+pub mod laws;
 pub mod writer;
 
 pub use device_core::{Device, DeviceFault, Memory};

@@ -32,13 +32,13 @@ use Rattle.ship_core.specs.Drawing.{body_of}
 use Rattle.nest_core.specs.Runs.{TakesMemory, early_checks, Steps, Replies, LacksMemory, Run}
 use Rattle.job_core.specs.Jobs.{draft_after, IsShipped, Seen, Holds, KeepsTo, RunsTo}
 use Rattle.job_core.specs.Room.{HasRoom}
-use Rattle.dvi_layout.specs.Fonts.{Slots}
+use Rattle.dvi_layout.specs.Fonts.{Slots, Extends}
 use Rattle.state_core.specs.Loaded.{AreLoaded, GivesNumbersFor}
 use Rattle.state_core.specs.Sized.{IsSizedHeld, HasSizedGlyphs}
 use Rattle.state_core.proofs.KeptRest.{end_keeps, append_keeps, unbox_keeps, job_kept}
 use Rattle.state_core.proofs.SizedGlyphs.{sized_first, sized_after, sized_held, stays_sized, stays_loaded}
 use Rattle.state_core.proofs.LoadedFonts.{loaded_first, loaded_after}
-use Rattle.dvi_layout.proofs.DefinedFonts.{Extends, HasSelected, fresh_same, definitions_same, fresh_parts, among_fresh, defined_once, few_defined, none_rising}
+use Rattle.dvi_layout.proofs.DefinedFonts.{HasSelected, fresh_same, definitions_same, fresh_parts, among_fresh, defined_once, few_defined, none_rising}
 use Rattle.job_core.proofs.PageFonts.{table_of, short_names, has_selected, have_widths}
 use Rattle.dvi_layout.proofs.PageBytes.{page_bytes}
 use Rattle.ship_core.proofs.DrawnPages.{nests_page}

@@ -9,7 +9,7 @@ use Rattle.tfm_core.specs.NamedBytes.{NamedBytes}
 use Rattle.nest_core.specs.Machine.{Machine, first_machine}
 use Rattle.nest_core.specs.Runs.{Run, Finishes}
 use Rattle.job_core.specs.Jobs.{Seen}
-use Rattle.job_core.specs.Closing.{IsClosedFor}
+use Rattle.dvi_layout.specs.Closing.{IsClosedFor}
 use Rattle.job_core.specs.Shown.{GivesFiles, IsFileOf}
 
 -- A job that was new with these files has taken the commands, replied, and was ended with this result.

@@ -12,7 +12,7 @@ use Rattle.device_core.specs.Told.{IsFrontOf}
 use Rattle.dvi_ops.specs.Fonts.{Metrics}
 use Rattle.dvi_write.specs.Draft.{file_of}
 use Rattle.job_core.specs.Shown.{GivesFiles, IsFileOf}
-use Rattle.job_core.specs.Closing.{IsClosedFor}
+use Rattle.dvi_layout.specs.Closing.{IsClosedFor}
 use Rattle.device_core.specs.Held.{Held}
 use Rattle.nest_core.specs.Machine.{Machine, first_machine}
 use Rattle.nest_core.specs.Runs.{Run, Finishes}
