@@ -71,7 +71,8 @@ module _ (files : List NamedBytes) (bytes : List ℕ) (post behind last : ℕ) (
         by_front [] spelled whole is = cc
         by_front (t ∷ more) (here, spelled) whole is =
             let first : t.says ≡ Pre 2 stop.units f.comment = cc in
-            fault.none f.comment (subst (λ (i : Instruction). StandsAt bytes 0 post i) first (first_stands bytes 0 post t more (omega arith) post_within here whole)) f.units
+            let whole_size : post ≡ post - 0 = omega arith in
+            fault.none f.comment (subst (λ (i : Instruction). StandsAt bytes 0 post i) first (first_stands bytes 0 post t more (omega arith) post_within here (subst (λ (n : ℕ). written (t ∷ more) ≡ take n bytes) whole_size whole))) f.units
 
     -- At post's place.
     reached_with : (table : List Definition) (walk : Walk) (known : List Definition) → IsLookedAhead bytes behind (last - 5) table

@@ -1,9 +1,10 @@
 -- A whole file: what was found makes a file, and each refusal says why.
-use Rattle.std.proofs.Common.{◌≡◌, ◌≢◌, ◌≤◌, ◌+◌, ◌-◌, ◌++◌, [], List, length, map, reverse, ℕ, Result, Ok, Err, refl, sym, ◌∙◌, ap, subst, subst₂, inl, inr, arith}
+use Rattle.std.proofs.Common.{◌≡◌, ◌≢◌, ◌≤◌, ◌+◌, ◌-◌, ◌++◌, [], List, length, map, replicate, reverse, take, drop, ℕ, Result, Ok, Err, refl, sym, ◌∙◌, ap, ap₂, subst, subst₂, inl, inr, length-append, arith}
+use Rattle.std.proofs.lemmas.List.{drop-drop, drop_at, take_at, length-drop, length-take-le}
 use Rattle.std.specs.Prelude.{◌⊎◌, IfOk, IfErr}
 use Rattle.std.proofs.lemmas.Grind.{flat_map-append}
 use Rattle.std.specs.List.{AllByRecursion}
-use Rattle.dvi_closing.specs.Closing.{Closes, ClosesTo, IsLookedAhead}
+use Rattle.dvi_closing.specs.Closing.{Closes, ClosesTo, IsClosingFault, IsLookedAhead}
 use Rattle.dvi_closing.specs.Known.{HasSame}
 use Rattle.dvi_closing.proofs.ClosingLemmas.{looked, looked_sizes}
 use Rattle.dvi_closing.proofs.KnownLemmas.{fonts_fewer, fonts_same, same_after, same_more, same_self, same_sym}
@@ -12,19 +13,21 @@ use Rattle.dvi_frame.specs.Ends.{Ends}
 use Rattle.dvi_frame.specs.declared.fault.BadDvi.{BadDvi}
 use Rattle.dvi_frame.specs.declared.fault.FrameFault.{FrameFault}
 use Rattle.dvi_frame.specs.declared.fault.FrameFault.TheVariants as frames
-use Rattle.dvi_frame.proofs.EndLemmas.{frame_ends, one_end}
+use Rattle.dvi_frame.proofs.EndLemmas.{frame_ends, frame_last, one_end}
+use Rattle.dvi_frame.proofs.PlaceLemmas.{same_front}
 use Rattle.dvi_ops.specs.File.{Frame, IsFile, MarkedPage}
 use Rattle.dvi_ops.specs.Fonts.{Metrics, FontsAreRight, definition_of, definitions, known_after}
-use Rattle.dvi_ops.specs.Instruction.{Definition, Postamble, Units}
+use Rattle.dvi_ops.specs.Instruction.{Definition, Post, Postamble, Units}
+use Rattle.dvi_ops.specs.Table.{Spells}
 use Rattle.dvi_ops.specs.Tokens.{Token, says, written}
-use Rattle.dvi_ops.proofs.Frames.{one_frame, one_list_of_pages}
+use Rattle.dvi_ops.proofs.Frames.{one_list, one_list_of_pages}
 use Rattle.dvi_pass.specs.Pass.{Pass, Between}
 use Rattle.dvi_pass.specs.Passed.{IsFramed}
 use Rattle.dvi_pass.specs.Reached.{IsReached, IsTail}
 use Rattle.dvi_pass.specs.Turning.{pass_at}
 use Rattle.dvi_pass.specs.View.{page_of}
 use Rattle.dvi_pass.specs.declared.turning.Stand.{Stand}
-use Rattle.dvi_pass.proofs.PassedLemmas.{frame_of, passed_file}
+use Rattle.dvi_pass.proofs.PassedLemmas.{passed_file}
 use Rattle.dvi_pass.proofs.ReachedLemmas.{reached_end, reached_first}
 use Rattle.dvi_read.specs.Opened.{Opened, GivesPages, HasFontsOf, HasUnitsOf, IsExact, IsNoFile, IsReadFrom}
 use Rattle.dvi_read.specs.Opening.{HasPages, IsDviFault, IsFinishFault, StartsAt, LacksMemory, AtTheEnd, InTheChain, AtPost, BehindPost}
@@ -93,16 +96,47 @@ same_trans xs ys zs one other = record { there = λ d at. other.there d (one.the
 same_front_of : (xs ys ds : List Definition) → HasSame xs ys → HasSame (xs ++ ds) (ys ++ ds)
 same_front_of xs ys ds same = same_trans (xs ++ ds) (ds ++ ys) (ys ++ ds) (same_more xs ys ds same) (same_sym (ys ++ ds) (ds ++ ys) (same_more ys ys ds (same_self ys)))
 
+-- Where the parts of each frame stand.
+frame_parts : (bytes : List ℕ) (post behind last : ℕ) (stop : Postamble) (chain : List ℕ) → IsFramed bytes post behind last stop chain → (g : Frame bytes)
+    → (written g.front ≡ take post bytes) × (written g.tail ≡ take (last - 5 - behind) (drop behind bytes))
+frame_parts bytes post behind last stop chain framed g =
+    let found = frame_ends bytes g in
+    let (lasts, posts, stops) = one_end bytes post last (length (written g.front)) found.0 stop g.stop framed.ends found.1 in
+    let where_last = frame_last bytes g in
+    let front_whole : take post bytes ≡ written g.front = ap₂ (λ (n : ℕ) (x : List ℕ). take n x) posts g.whole ∙ take_at (written g.front) _ (length (written g.front)) refl in
+    let from_post : drop post bytes ≡ g.post ++ (written g.tail ++ (g.ending ++ replicate g.padding 223)) = ap₂ (λ (n : ℕ) (x : List ℕ). drop n x) posts g.whole ∙ drop_at (written g.front) _ (length (written g.front)) refl in
+    let there : take (length g.post) (drop post bytes) ≡ g.post = ap (λ (x : List ℕ). take (length g.post) x) from_post ∙ take_at g.post _ (length g.post) refl in
+    let spelled = subst (λ (x : List ℕ). Spells (Post g.stop) x) (sym there) g.post_spelled in
+    let same = same_front (Post stop) (Post g.stop) (behind - post) (length g.post) (drop post bytes) framed.spelled spelled in
+    let behind_is : behind ≡ post + length g.post = sizes same.1 front_whole from_post in
+    let from_behind : drop behind bytes ≡ written g.tail ++ (g.ending ++ replicate g.padding 223) =
+    ap (λ (n : ℕ). drop n bytes) behind_is ∙ (sym (drop-drop (length g.post) post bytes) ∙ (ap (λ (x : List ℕ). drop (length g.post) x) from_post ∙ drop_at g.post _ (length g.post) refl)) in
+    let tail_size : last - 5 - behind ≡ length (written g.tail) = omega arith in
+    (sym front_whole, sym (ap₂ (λ (n : ℕ) (x : List ℕ). take n x) tail_size from_behind ∙ take_at (written g.tail) _ (length (written g.tail)) refl))
+  where
+    sizes : take (behind - post) (drop post bytes) ≡ take (length g.post) (drop post bytes) → take post bytes ≡ written g.front
+        → drop post bytes ≡ g.post ++ (written g.tail ++ (g.ending ++ replicate g.padding 223)) → behind ≡ post + length g.post
+    sizes same front_whole from_post =
+        let padded = framed.ends.closed.trailed.padded in
+        let low = framed.low in
+        let high = framed.high in
+        let all = length-drop post bytes in
+        let one : length (take (behind - post) (drop post bytes)) ≡ behind - post = length-take-le (behind - post) (drop post bytes) (omega arith) in
+        let whole = ap (λ (x : List ℕ). length x) from_post in
+        let other : length (take (length g.post) (drop post bytes)) ≡ length g.post =
+        length-take-le (length g.post) (drop post bytes) (let size = length-append g.post (written g.tail ++ (g.ending ++ replicate g.padding 223)) in omega arith) in
+        let equal = ap (λ (x : List ℕ). length x) same in
+        omega arith
+
 -- The definitions that a walk has kept at the end are those of the whole file.
-pub fonts_read : (metrics : Metrics) (table : List Definition) (bytes : List ℕ) (post behind last : ℕ) (stop : Postamble) (chain : List ℕ) (walk : Walk) (new : List Definition) (framed : IsFramed bytes post behind last stop chain)
-    → IsWalked metrics table bytes stop chain post walk → ClosesTo bytes behind (last - 5) (known_of walk) new → (f : Frame bytes) → HasSame new (definitions (says f.front ++ says f.tail))
-unfolding frame_of
+pub fonts_read : (metrics : Metrics) (table : List Definition) (bytes : List ℕ) (post behind last : ℕ) (stop : Postamble) (chain : List ℕ) (walk : Walk) (new : List Definition)
+    → IsFramed bytes post behind last stop chain → IsWalked metrics table bytes stop chain post walk → ClosesTo bytes behind (last - 5) (known_of walk) new
+    → (f : Frame bytes) → HasSame new (definitions (says f.front ++ says f.tail))
 fonts_read metrics table bytes post behind last stop chain walk new framed walked (tail, closes, new_is) f =
     let r = walked.reached in
-    let frame = frame_of bytes post behind last stop chain framed r.before tail r.spelled closes.spelled r.whole closes.whole in
-    let same = one_frame bytes frame f in
-    let front : r.before ≡ f.front = same.front in
-    let behind_it : tail ≡ f.tail = same.tail in
+    let parts = frame_parts bytes post behind last stop chain framed f in
+    let front : r.before ≡ f.front = one_list r.before f.front r.spelled f.front_spelled (r.whole ∙ sym parts.0) in
+    let behind_it : tail ≡ f.tail = one_list tail f.tail closes.spelled f.tail_spelled (closes.whole ∙ sym parts.1) in
     let before = definitions (says r.before) in
     let ds = definitions (says tail) in
     let there : HasSame before (known_after [] (says r.before)) = same_after [] [] (says r.before) (same_self []) in
@@ -149,3 +183,20 @@ exactly files bytes (Err fault) pages read bad f = absurd (no_fault files bytes 
 
 pub exact_open : (files : List NamedBytes) (bytes : List ℕ) (result : Result Opened DviFault) → IfOk result (IsReadFrom files bytes) → IfErr result (IsDviFault files bytes) → IsExact files bytes result
 exact_open files bytes result read bad = λ pages f. exactly files bytes result pages read bad f
+
+-- What is wrong behind post.
+pub tail_refused : (bytes : List ℕ) (post behind last : ℕ) (walk : Walk) (new : List Definition) (fault : FrameFault) (result : DviFault) → HasEnded walk
+    → IsClosingFault bytes behind (last - 5) (known_of walk) new fault
+    → ((bad : BadDvi) → fault ≡ frames.Bad bad → result ≡ faults.Bad bad) → (fault ≡ frames.OutOfMemory → result ≡ faults.OutOfMemory) → IsFinishFault bytes post behind last walk result
+tail_refused bytes post behind last walk new frames.OutOfMemory result ended broken bad memory =
+    subst (λ (f : DviFault). IsFinishFault bytes post behind last walk f) (sym (memory refl)) tt
+tail_refused bytes post behind last walk new (frames.Bad fault) result ended broken bad memory =
+    subst (λ (f : DviFault). IsFinishFault bytes post behind last walk f) (sym (bad fault refl)) (inr (ended, new, broken))
+
+-- The same, of pages that are equal to those of the walk.
+pub read_kept : (files : List NamedBytes) (bytes : List ℕ) (post behind last : ℕ) (stop : Postamble) (chain : List ℕ) (from : ℕ) (table new : List Definition) (walk : Walk) (pages : List MarkedPage)
+    → HasPages files bytes post behind last stop chain from table walk → HasEnded walk → ClosesTo bytes behind (last - 5) (known_of walk) new → pages ≡ map page_of walk.done.items
+    → IsReadFrom files bytes (record { units = stop.units; pages = pages; fonts = new })
+read_kept files bytes post behind last stop chain from table new walk pages has ended closes same =
+    subst (λ (ps : List MarkedPage). IsReadFrom files bytes (record { units = stop.units; pages = ps; fonts = new })) (sym same)
+    (read_from files bytes post behind last stop chain from table new walk has ended closes)

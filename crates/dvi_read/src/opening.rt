@@ -41,7 +41,7 @@ impl<'a> Model for Dvi<'a> {
 
 /// What is kept of a walk over all pages.
 fn kept(units: Units, walk: Walk<'_>) -> Dvi<'_>
-    ensures { result ≡ record { units = view_units units; pages = map page_of walk.done.items; fonts = map definition walk.known.items } }
+    ensures { result ≡ record { units = view_units units; pages = map page_of walk.entry.done.items; fonts = map definition walk.entry.known.items } }
 {
     let Walk { done, known, .. } = walk;
     Dvi {
