@@ -4,3 +4,5 @@ pub mod Stacks
 pub mod Endings
 pub mod FewLines
 pub mod SetLists
+pub mod LeastLists
+pub mod Settings

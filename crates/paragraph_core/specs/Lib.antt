@@ -3,3 +3,5 @@ pub mod Lines
 pub mod Finished
 pub mod Paragraphs
 pub mod Rows
+pub mod LeastLists
+pub mod Setting

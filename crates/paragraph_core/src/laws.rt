@@ -1,11 +1,18 @@
 //! Laws of the definitions, each on a function that does nothing.
 
-ghost use Rattle.std.specs.Prelude.{◌≡◌, ◌+ℤ◌, ◌++◌, ℕ, ℤ, pos, List, [], ◌∷◌, flat_map, length};
+ghost use Rattle.std.specs.Prelude.{◌≡◌, ◌≢◌, ◌<◌, ◌+ℤ◌, ◌++◌, ℕ, ℤ, pos, List, [], ◌∷◌, flat_map, length, None, Ok, Err};
 ghost use Rattle.node_core.specs.declared.params.Params.{Params};
 ghost use Rattle.node_core.specs.declared.tree.Node.{Node};
 ghost use Rattle.node_core.specs.Parameters.{first_params};
 ghost use Rattle.vert_core.specs.Interline.{interline, glue_of, appended};
 ghost use Rattle.paragraph_core.specs.Lines.{line_box, penalty_nodes, vertical_items, last_depth};
+ghost use Rattle.break_core.specs.Passes.{refusal};
+ghost use Rattle.paragraph_core.specs.declared.paragraph.SetParagraph.{SetParagraph};
+ghost use Rattle.paragraph_core.specs.declared.paragraph.ParagraphFault.{ParagraphFault};
+ghost use Rattle.paragraph_core.specs.declared.paragraph.ParagraphFault.TheVariants.{OutOfMemory};
+ghost use Rattle.paragraph_core.specs.Finished.{finished};
+ghost use Rattle.paragraph_core.specs.Paragraphs.{IsSetParagraph, IsUnset};
+ghost use Rattle.paragraph_core.specs.Setting.{setting};
 ghost use Rattle.paragraph_core.specs.Rows.{penalties_of, with_penalties, greatest_penalties, in_two, two_short_lines, numbers_in};
 
 /// Behind a line of two stand all three penalties, added; of more lines clubpenalty behind the first one and widowpenalty behind the last but one.
@@ -40,4 +47,12 @@ pub fn two_lines_of_rules()
         pos 2621440 ∷ pos 65536 ∷ pos 0 ∷ pos 300 ∷ pos 720896 ∷ pos 2621440 ∷ pos 65536 ∷ pos 0 ∷ [] }
     ensures depth { last_depth two_short_lines ≡ pos 0 }
     ensures finished { length two_short_lines.nodes ≡ 8 }
+{}
+
+/// A paragraph is set in one way, if it is set, or there is one cause why it is not; but memory may be wanted at any time.
+pub fn one_setting()
+    ensures set { (list : List Node) → (params : Params) → (previous : ℤ) → (set : SetParagraph) →
+        (0 < length list → refusal (finished list params.par_fill_skip) ≡ None) → IsSetParagraph list params previous set → setting list params previous ≡ Ok set }
+    ensures unset { (list : List Node) → (params : Params) → (previous : ℤ) → (fault : ParagraphFault) → 0 < length list → fault ≢ OutOfMemory →
+        IsUnset (finished list params.par_fill_skip) params previous fault → setting list params previous ≡ Err fault }
 {}

@@ -14,5 +14,5 @@ mod stacking;
 
 pub use finishing::{finish_paragraph, unfinish_paragraph};
 pub use line_boxes::LinesFault;
-pub use paragraph::{ParagraphFault, SetParagraph, UnsetParagraph, set_paragraph};
+pub use paragraph::{ParagraphFault, SetParagraph, set_paragraph};
 pub use stacking::{VerticalItems, lines};

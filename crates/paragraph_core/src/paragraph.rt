@@ -1,6 +1,6 @@
 //! Paragraphs are set: finished, broken into lines, and put together as they stand in a vertical list.
 
-ghost use Rattle.std.specs.Prelude.{◌≡◌, ◌≤◌, ◌+◌, ◌<◌, length, None, IfOk, IfErr, OnOk};
+ghost use Rattle.std.specs.Prelude.{◌≡◌, ◌≤◌, ◌+◌, ◌<◌, length, None, IfOk, IfErr, OnOk, OnErr};
 ghost use Rattle.std.specs.Option.{unwrap_or};
 ghost use Rattle.node_core.specs.Nodes.{most_nodes, nodes_of};
 ghost use Rattle.break_core.specs.Passes.{facts_of, refusal, IsBroken};
@@ -15,6 +15,7 @@ use break_core::{BreakFault, Breaks, ListMeter, Pass};
 use node_core::{Node, NodeList, Params};
 use scaled_core::Dimen;
 use std::alloc::{AllocError, Global};
+use std::mem::replace;
 use thiserror::Error;
 
 /// A paragraph that was set.
@@ -48,14 +49,6 @@ pub enum ParagraphFault {
     /// A growth was refused.
     #[error("out of memory")]
     OutOfMemory,
-}
-
-/// The paragraph was not set; its list comes back.
-#[derive(Debug, Drop, Error)]
-#[error("the paragraph was not set: {fault}")]
-pub struct UnsetParagraph {
-    pub list: NodeList,
-    pub fault: ParagraphFault,
 }
 
 /// The breaks of a finished list of at most 131,072 nodes, as `breaks` of break_core has them, with few trials of lines.
@@ -104,23 +97,45 @@ fn set_finished(
     }
 }
 
-/// Sets a paragraph of at most 131,070 items behind a previous depth. It is refused where its glue shrinks without end, else where it has more than 8,192
-/// legal places, else where a line does not fit, or where a growth is refused; then its list comes back as it was.
-pub fn set_paragraph(
+/// Sets a list that is not empty and has at most 131,070 items. It is finished for that, and then made as it was.
+fn set_items(
     alloc: Global,
-    list: NodeList,
+    nodes: &mut Vec<Node>,
     params: &Params,
     previous_depth: Dimen,
-) -> Result<SetParagraph, UnsetParagraph>
-    requires short { length (nodes_of list) + 2 ≤ most_nodes }
-    ensures ok { IfOk result (IsSetParagraph (nodes_of list) params.now previous_depth) }
-    ensures fits { OnOk result (0 < length (nodes_of list) → refusal (finished (nodes_of list) params.now.par_fill_skip) ≡ None) }
-    ensures refused { IfErr result (λ e. IsUnset (finished (nodes_of list) params.now.par_fill_skip) params.now previous_depth e.fault) }
-    ensures back { IfErr result (λ e. e.list ≡ list) }
+) -> Result<SetParagraph, ParagraphFault>
+    requires short { length nodes.old.items + 2 ≤ most_nodes }
+    ensures ok { IfOk result (IsSet (finished nodes.old.items params.now.par_fill_skip) params.now previous_depth) }
+    ensures fits { OnOk result (refusal (finished nodes.old.items params.now.par_fill_skip) ≡ None) }
+    ensures refused { IfErr result (IsUnset (finished nodes.old.items params.now.par_fill_skip) params.now previous_depth) }
+    ensures same { nodes.new.items ≡ nodes.old.items }
+{
+    let Ok(replaced) = finish_paragraph(nodes, params.par_fill_skip) else {
+        return Err(ParagraphFault::OutOfMemory);
+    };
+    let set = set_finished(alloc, nodes, params, previous_depth);
+    unfinish_paragraph(nodes, replaced);
+    set
+}
+
+/// Sets a paragraph of at most 131,070 items behind a previous depth, and leaves its list as it is. It is refused where its glue shrinks without end, else
+/// where it has more than 8,192 legal places, else where a line does not fit, or where a growth is refused.
+pub fn set_paragraph(
+    alloc: Global,
+    list: &mut NodeList,
+    params: &Params,
+    previous_depth: Dimen,
+) -> Result<SetParagraph, ParagraphFault>
+    requires short { length (nodes_of list.old) + 2 ≤ most_nodes }
+    ensures ok { IfOk result (IsSetParagraph (nodes_of list.old) params.now previous_depth) }
+    ensures fits { OnOk result (0 < length (nodes_of list.old) → refusal (finished (nodes_of list.old) params.now.par_fill_skip) ≡ None) }
+    ensures some { OnErr result (0 < length (nodes_of list.old)) }
+    ensures refused { IfErr result (IsUnset (finished (nodes_of list.old) params.now.par_fill_skip) params.now previous_depth) }
+    ensures same { list.new ≡ list.old }
 {
     if list.is_empty() {
         return Ok(SetParagraph {
-            items: list,
+            items: NodeList::new(alloc),
             depth: previous_depth,
             lines: 0,
             pass: None,
@@ -128,24 +143,8 @@ pub fn set_paragraph(
             demerits: 0,
         });
     }
-    let mut nodes = list.into_vec();
-    let replaced = match finish_paragraph(&mut nodes, params.par_fill_skip) {
-        Ok(replaced) => replaced,
-        Err(AllocError) => {
-            return Err(UnsetParagraph {
-                list: NodeList::from_vec(nodes),
-                fault: ParagraphFault::OutOfMemory,
-            });
-        }
-    };
-    match set_finished(alloc, &nodes, params, previous_depth) {
-        Ok(set) => Ok(set),
-        Err(fault) => {
-            unfinish_paragraph(&mut nodes, replaced);
-            Err(UnsetParagraph {
-                list: NodeList::from_vec(nodes),
-                fault,
-            })
-        }
-    }
+    let mut nodes = replace(list, NodeList::new(alloc)).into_vec();
+    let set = set_items(alloc, &mut nodes, params, previous_depth);
+    *list = NodeList::from_vec(nodes);
+    set
 }
