@@ -1,5 +1,5 @@
 -- Where a rule is broken that a fault names, the bytes are no file.
-use Rattle.std.proofs.Common.{◌≡◌, ◌≢◌, ◌≤◌, ◌+◌, ◌-◌, ◌++◌, [], ◌∷◌, List, length, map, reverse, take, drop, ℕ, ℤ, Option, Some, None, refl, sym, ◌∙◌, ap, subst, inl, inr, arith}
+use Rattle.std.proofs.Common.{◌≡◌, ◌≢◌, ◌≤◌, ◌-◌, [], ◌∷◌, List, length, map, reverse, take, ℕ, refl, sym, ◌∙◌, ap, subst, inl, inr, arith}
 use Rattle.std.specs.Prelude.{◌⊎◌}
 use Rattle.std.specs.List.{AllByRecursion}
 use Rattle.std.proofs.lemmas.List.{reverse-reverse}
@@ -12,21 +12,21 @@ use Rattle.dvi_frame.specs.declared.fault.BadDvi.{BadDvi}
 use Rattle.dvi_frame.specs.declared.fault.DviCause.TheVariants.{Opcode, Pointer}
 use Rattle.dvi_frame.specs.declared.fault.FrameFault.TheVariants as frames
 use Rattle.dvi_frame.proofs.FaultLemmas.{chain_fault, end_fault}
-use Rattle.dvi_ops.specs.File.{IsFile, IsIdle, MarkedPage}
-use Rattle.dvi_ops.specs.Fonts.{FontsAreRight, definitions, known_after}
+use Rattle.dvi_ops.specs.File.{IsFile, MarkedPage}
+use Rattle.dvi_ops.specs.Fonts.{definitions, known_after}
 use Rattle.dvi_ops.specs.Instruction.{Definition, Instruction, Postamble, Pre}
 use Rattle.dvi_ops.specs.Tokens.{Token, IsSpelled, says, written}
 use Rattle.dvi_ops.proofs.Appends.{fonts_back}
-use Rattle.dvi_pass.specs.Pass.{Pass, Between}
+use Rattle.dvi_pass.specs.Pass.{Between}
 use Rattle.dvi_pass.specs.Passed.{IsFramed, IsPassed}
-use Rattle.dvi_pass.specs.Reached.{IsReached, IsTail}
+use Rattle.dvi_pass.specs.Reached.{IsReached}
 use Rattle.dvi_pass.specs.Turning.{pass_at}
 use Rattle.dvi_pass.specs.View.{page_of}
 use Rattle.dvi_pass.specs.declared.turning.Stand.{Stand}
 use Rattle.dvi_pass.specs.declared.turning.Stand.TheVariants as stands
 use Rattle.dvi_pass.proofs.PassedLemmas.{file_passed}
 use Rattle.dvi_pass.proofs.ReachedLemmas.{end_right, tail_right}
-use Rattle.dvi_read.specs.Opening.{HasChain, HasPages, IsDviFault, LacksMemory, AtTheEnd, InTheChain, InThePreamble, InThePages, AtPost, BehindPost}
+use Rattle.dvi_read.specs.Opening.{HasPages, IsDviFault, LacksMemory, AtTheEnd, InTheChain, InThePreamble, InThePages, AtPost, BehindPost}
 use Rattle.dvi_walk.specs.Steps.{known_of, places_left, stand_of}
 use Rattle.dvi_walk.specs.Walks.{IsUnended}
 use Rattle.dvi_walk.specs.declared.fault.DviFault.{DviFault}

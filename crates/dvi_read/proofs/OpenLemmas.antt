@@ -1,12 +1,11 @@
 -- A whole file: what was found makes a file, and each refusal says why.
-use Rattle.std.proofs.Common.{◌≡◌, ◌≢◌, ◌≤◌, ◌+◌, ◌-◌, ◌++◌, [], List, length, map, replicate, reverse, take, drop, ℕ, Result, Ok, Err, refl, sym, ◌∙◌, ap, ap₂, subst, subst₂, inl, inr, length-append, arith}
+use Rattle.std.proofs.Common.{◌≡◌, ◌≢◌, ◌+◌, ◌-◌, ◌++◌, [], List, length, map, replicate, reverse, take, drop, ℕ, Result, Ok, Err, refl, sym, ◌∙◌, ap, ap₂, subst, subst₂, inl, inr, length-append, arith}
 use Rattle.std.proofs.lemmas.List.{drop-drop, drop_at, take_at, length-drop, length-take-le}
-use Rattle.std.specs.Prelude.{◌⊎◌, IfOk, IfErr}
+use Rattle.std.specs.Prelude.{IfOk, IfErr}
 use Rattle.std.proofs.lemmas.Grind.{flat_map-append}
-use Rattle.std.specs.List.{AllByRecursion}
-use Rattle.dvi_closing.specs.Closing.{Closes, ClosesTo, IsClosingFault, IsLookedAhead}
+use Rattle.dvi_closing.specs.Closing.{Closes, ClosesTo, IsClosingFault}
 use Rattle.dvi_closing.specs.Known.{HasSame}
-use Rattle.dvi_closing.proofs.ClosingLemmas.{looked, looked_sizes}
+use Rattle.dvi_closing.proofs.ClosingLemmas.{looked}
 use Rattle.dvi_closing.proofs.KnownLemmas.{fonts_fewer, fonts_same, same_after, same_more, same_self, same_sym}
 use Rattle.dvi_frame.specs.Chain.{IsChainRefusal}
 use Rattle.dvi_frame.specs.Ends.{Ends}
@@ -16,8 +15,8 @@ use Rattle.dvi_frame.specs.declared.fault.FrameFault.TheVariants as frames
 use Rattle.dvi_frame.proofs.EndLemmas.{frame_ends, frame_last, one_end}
 use Rattle.dvi_frame.proofs.PlaceLemmas.{same_front}
 use Rattle.dvi_ops.specs.File.{Frame, IsFile, MarkedPage}
-use Rattle.dvi_ops.specs.Fonts.{Metrics, FontsAreRight, definition_of, definitions, known_after}
-use Rattle.dvi_ops.specs.Instruction.{Definition, Post, Postamble, Units}
+use Rattle.dvi_ops.specs.Fonts.{Metrics, definition_of, definitions, known_after}
+use Rattle.dvi_ops.specs.Instruction.{Definition, Post, Postamble}
 use Rattle.dvi_ops.specs.Table.{Spells}
 use Rattle.dvi_ops.specs.Tokens.{Token, says, written}
 use Rattle.dvi_ops.proofs.Frames.{one_list, one_list_of_pages}
@@ -30,7 +29,7 @@ use Rattle.dvi_pass.specs.declared.turning.Stand.{Stand}
 use Rattle.dvi_pass.proofs.PassedLemmas.{passed_file}
 use Rattle.dvi_pass.proofs.ReachedLemmas.{reached_end, reached_first}
 use Rattle.dvi_read.specs.Opened.{Opened, GivesPages, HasFontsOf, HasUnitsOf, IsExact, IsNoFile, IsReadFrom}
-use Rattle.dvi_read.specs.Opening.{HasPages, IsDviFault, IsFinishFault, StartsAt, LacksMemory, AtTheEnd, InTheChain, AtPost, BehindPost}
+use Rattle.dvi_read.specs.Opening.{HasPages, IsDviFault, IsFinishFault, StartsAt, LacksMemory, InTheChain, AtPost, BehindPost}
 use Rattle.dvi_read.proofs.FaultLemmas.{behind_within, no_fault, post_within}
 use Rattle.dvi_walk.specs.Steps.{known_of, places_left, stand_of}
 use Rattle.dvi_walk.specs.Walks.{HasEnded, IsWalked}

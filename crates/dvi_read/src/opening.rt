@@ -52,11 +52,7 @@ fn kept(units: Units, walk: Walk<'_>) -> Dvi<'_>
 }
 
 /// Reads a whole file.
-fn read_file<'a>(
-    alloc: Global,
-    bytes: &'a [u8],
-    files: &[FontFile],
-) -> Result<Dvi<'a>, DviFault>
+fn read_file<'a>(alloc: Global, bytes: &'a [u8], files: &[FontFile]) -> Result<Dvi<'a>, DviFault>
     ensures ok { IfOk result (IsReadFrom files.now bytes.now) }
     ensures bad { IfErr result (IsDviFault files.now bytes.now) }
 {
@@ -84,11 +80,7 @@ impl<'a> Dvi<'a> {
     /// It takes memory for places, pages, marks, definitions and fonts.
     ///
     /// The checks are in this order: the end of the file, the places of its pages from the last one back, the preamble, then each instruction from there on.
-    pub fn open(
-        alloc: Global,
-        bytes: &'a [u8],
-        files: &[FontFile],
-    ) -> Result<Dvi<'a>, DviFault>
+    pub fn open(alloc: Global, bytes: &'a [u8], files: &[FontFile]) -> Result<Dvi<'a>, DviFault>
         // The bytes are a file of these pages.
         ensures ok { IfOk result (λ dvi. IsFile (file_widths files.now) bytes.now dvi.pages) }
         ensures units { IfOk result (HasUnitsOf bytes.now) }

@@ -1,6 +1,5 @@
-use Rattle.std.proofs.Common.{◌-◌, List, map, subst, sym}
+use Rattle.std.proofs.Common.{◌-◌, map}
 use Rattle.dvi_closing.proofs.ClosingLemmas.{looked_sizes}
-use Rattle.dvi_closing.specs.Closing.{IsLookedAhead}
 use Rattle.dvi_ops.specs.View.{definition, postamble}
 use Rattle.dvi_read.specs.Opening.{InThePages}
 use Rattle.dvi_read.proofs.OpenLemmas.{starts_reached}
