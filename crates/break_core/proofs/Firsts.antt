@@ -1,12 +1,12 @@
 -- Where lines begin, read from the end of a list on.
-use Rattle.std.proofs.Common.{◌≡◌, ◌∙◌, ℕ, ◌+◌, ◌-◌, ◌<◌, ◌≤◌, Bool, true, false, List, [], ◌∷◌, length, drop, get_or, map, refl, ap, sym, arith, Option, Some, None}
+use Rattle.std.proofs.Common.{◌≡◌, ◌∙◌, ℕ, ◌+◌, ◌-◌, ◌≤◌, true, false, List, [], ◌∷◌, length, drop, get_or, refl, ap, sym, arith, Some}
 use Rattle.std.specs.Prelude.{slice_get}
 use Rattle.std.proofs.Math.Logic.{◌⊎◌, inl, inr}
 use Rattle.std.proofs.lemmas.Bool.{cases_Bool, cond-true, cond-false}
 use Rattle.std.proofs.lemmas.List.{length-drop}
 use Rattle.std.proofs.lemmas.Option.{same_Some, slice_get_read}
 use Rattle.node_core.specs.declared.tree.Node.{Node}
-use Rattle.break_core.specs.Legal.{is_dropped, up_to}
+use Rattle.break_core.specs.Legal.{is_dropped}
 use Rattle.break_core.specs.Kept.{lead, next_kept, all_next_kept}
 use Rattle.break_core.proofs.Prefixes.{length-mapped, mapped_at}
 

@@ -1,5 +1,5 @@
 -- What a line keeps of a list, and the sums over it (TeX: The Program, part 38, §822 and §837; part 39, §879 to §882).
-use Rattle.std.specs.Prelude.{◌≡◌, ◌<◌, ◌+◌, ◌-◌, ◌+ℤ◌, ◌-ℤ◌, ◌++◌, map, length, ℕ, zero, suc, ℤ, pos, Bool, not, List, [], ◌∷◌, take, drop, slice_get, Option, Some, None, if◌then◌else◌}
+use Rattle.std.specs.Prelude.{◌<◌, ◌+◌, ◌-◌, ◌+ℤ◌, ◌-ℤ◌, ◌++◌, map, length, ℕ, pos, List, [], ◌∷◌, take, drop, slice_get, Option, Some, None, if◌then◌else◌}
 use Rattle.node_core.specs.declared.tree.Node.{Node}
 use Rattle.node_core.specs.declared.tree.Node.TheVariants as nodes
 use Rattle.node_core.specs.declared.tree.Order.TheVariants.{Normal, Fil, Fill, Filll}

@@ -1,4 +1,4 @@
-use Rattle.std.proofs.Common.{◌≡◌, ◌∙◌, ◌+◌, ◌-◌, ◌<◌, ◌≤◌, length, refl, ap, sym, arith, rules}
+use Rattle.std.proofs.Common.{◌∙◌, ◌+◌, ◌-◌, ◌<◌, length, ap, sym, arith, rules}
 use Rattle.break_core.specs.Kept.{first_kept, next_kept}
 use Rattle.break_core.proofs.Firsts.{next_at, next_count, next_within}
 use Rattle.break_core.proofs.Places.{rising_places, begins_some, begins_none}
