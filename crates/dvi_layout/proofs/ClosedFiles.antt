@@ -25,7 +25,7 @@ use Rattle.dvi_layout.specs.Shippable.{slot_widths, IsRightPage}
 use Rattle.dvi_layout.specs.Closing.{IsGreatestOf, IsOfJob, IsClosedFor}
 use Rattle.dvi_layout.proofs.DefinedFonts.{each_of}
 use Rattle.dvi_layout.proofs.Files.{table_of, tabled, tall_fits, wide_fits}
-use Rattle.dvi_layout.proofs.NextPages.{length-sheets, size-some}
+use Rattle.dvi_layout.proofs.NextPages.{size-some}
 
 -- The greatest of a size of some values, and a number.
 abbrev farthest : {X : Type 0} → (X → ℤ) → ℤ → List X → ℤ
@@ -250,7 +250,7 @@ padded fonts pages n =
       length-append end (replicate n 223),
       length-append (front_of sheets) (end ++ []),
       length-append end [],
-      length-replicate n 223,
+      length-replicate {A = ℕ} n 223,
     )
 
 -- The file of some pages ends as it should.

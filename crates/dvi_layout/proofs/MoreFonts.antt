@@ -6,7 +6,7 @@ use Rattle.node_core.specs.declared.tree.BoxNode.{BoxNode}
 use Rattle.node_core.specs.Items.{Leaf, glyph, font_kern, kern, glue, penalty, rule}
 use Rattle.dvi_ops.specs.Forest.{flat}
 use Rattle.dvi_ops.specs.Instruction.{Definition}
-use Rattle.dvi_ops.specs.Layout.{Sheet, Written, at_first, after_all, front_of}
+use Rattle.dvi_ops.specs.Layout.{Sheet, at_first, after_all, front_of}
 use Rattle.dvi_ops.specs.Fonts.{width_in}
 use Rattle.dvi_ops.proofs.Appends.{all_weaker}
 use Rattle.ship_core.specs.Marks.{Page}

@@ -141,13 +141,25 @@ fn opening(alloc: Global, pages: u32) -> Result<Vec<Op<'static>>, AllocError>
     Ok(ops)
 }
 
-/// How far a page reaches from its reference point, one way.
+/// How far down the page of a box reaches.
 #[tactic(auto, unfolding(scaled_core::specs::Dimensions::dimension_of))]
-fn reach(from: i32, size: Dimen) -> Dimen
-    requires { fits (from +ℤ size) ≡ true }
-    ensures { result ≡ from +ℤ size }
+fn reach_down(box_node: &BoxNode, at: PagePoint) -> Dimen
+    requires { fits (at.v +ℤ box_node.now.depth) ≡ true }
+    ensures { result ≡ at.v +ℤ box_node.now.depth }
 {
-    match Dimen::try_new(i64::from(from) + i64::from(size.get())) {
+    match Dimen::try_new(i64::from(at.v) + i64::from(box_node.depth.get())) {
+        Some(end) => end,
+        None => unreachable!(),
+    }
+}
+
+/// How far to the right the page of a box reaches.
+#[tactic(auto, unfolding(scaled_core::specs::Dimensions::dimension_of))]
+fn reach_right(box_node: &BoxNode, at: PagePoint) -> Dimen
+    requires { fits (at.h +ℤ box_node.now.width) ≡ true }
+    ensures { result ≡ at.h +ℤ box_node.now.width }
+{
+    match Dimen::try_new(i64::from(at.h) + i64::from(box_node.width.get())) {
         Some(end) => end,
         None => unreachable!(),
     }
@@ -256,8 +268,8 @@ impl Progress {
         ensures { self.new ≡ record self.old { tall = int_max self.old.tall (reach_down (page_at counts.now at.h at.v box_node.now)); wide = int_max self.old.wide (reach_right (page_at counts.now at.h at.v box_node.now)) } }
     {
         let _counts = *counts;
-        self.tall = self.tall.max(reach(at.v, box_node.depth));
-        self.wide = self.wide.max(reach(at.h, box_node.width));
+        self.tall = self.tall.max(reach_down(box_node, at));
+        self.wide = self.wide.max(reach_right(box_node, at));
     }
 
     /// Keeps how many pushes are open at once in a page with this body, where no page before it has more.
