@@ -10,7 +10,8 @@ use crate::command::command_line;
 use crate::fonts::{NamedPath, WordFault};
 use crate::pairs::read_pairs;
 use crate::task::{Sheet, Task};
-use clap::{ArgMatches, Error, ErrorKind};
+use clap::error::ErrorKind;
+use clap::{ArgMatches, Error};
 use std::alloc::Global;
 
 /// The number of an option, from 1 to a greatest one.

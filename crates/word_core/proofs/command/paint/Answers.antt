@@ -22,7 +22,7 @@ returns-clause-shape c =
 pub returns-clause-local : goal.returns-clause-local
 unfolding either
 returns-clause-local c =
-    let named : (out-Command c.about.result).has_globals ≡ false = search rules in
+    let named : (out-Command c.about.result).has_globals ≡ false = rw c.about.ensures c.new.ensures.local in
     let page = c.in_ok-arg.ensures.globals ∙ ap₂ either named c.number.ensures.local in
     let dpi = c.in_ok-arg-2.ensures.globals ∙ ap₂ either page c.number-2.ensures.local in
     let width = c.in_ok-arg-3.ensures.globals ∙ ap₂ either dpi c.number-3.ensures.local in
