@@ -1,10 +1,10 @@
 -- The least of all lists of breaks is the one that is chosen.
-use Rattle.std.proofs.Common.{◌≡◌, ◌∙◌, ℕ, zero, suc, ◌+◌, ◌<◌, ◌≤◌, Bool, true, false, if◌then◌else◌, List, [], ◌∷◌, ◌++◌, length, map, refl, ap, sym, subst, arith, Option, Some, None}
+use Rattle.std.proofs.Common.{◌≡◌, ◌∙◌, ℕ, zero, suc, ◌<◌, ◌≤◌, Bool, true, false, if◌then◌else◌, List, [], ◌∷◌, ◌++◌, map, refl, ap, sym, subst, arith, Option, Some, None}
 use Rattle.std.specs.Prelude.{ℤ, Contains, int_lt, ◌<ℤ◌}
 use Rattle.std.proofs.Math.Logic.{◌⊎◌, inl, inr}
 use Rattle.std.proofs.lemmas.Int.{ints}
 use Rattle.std.proofs.lemmas.Bool.{cases_lt}
-use Rattle.std.proofs.lemmas.List.Elements.{Contains-append_right, Contains-append_cases, Contains-push_cases, Contains-push}
+use Rattle.std.proofs.lemmas.List.Elements.{Contains-append_right, Contains-append_cases, Contains-push_cases}
 use Rattle.break_table.specs.Orders.{NotAfter}
 use Rattle.break_table.specs.Problems.{Problem, Path, path_of, key}
 use Rattle.break_table.specs.Chosen.{top, IsFalling, IsBreakList, AdmitsNone, IsChosen}
@@ -239,7 +239,7 @@ least_is (Some o ∷ paths) q is = by_rest (least_of paths) refl (some_same _ q 
         record {
           one = inl (ap Some same);
           least = λ t h. elim h [
-            inl here ↦ (let e : q ≡ t = sym same ∙ some_same o t here in subst (λ (x : Path). NotAfter (key q) (key x)) e (not_after_refl (key q)))
+            | inl here ↦ (let e : q ≡ t = sym same ∙ some_same o t here in subst (λ (x : Path). NotAfter (key q) (key x)) e (not_after_refl (key q)))
             | inr there ↦ subst (λ (x : Path). NotAfter (key x) (key t)) same (not_after_trans (key o) (key r) (key t) (after_by (key o) (key r) before) (rest.least t there))
           ];
         }

@@ -1,5 +1,5 @@
 -- There is one way in which a paragraph is set.
-use Rattle.std.proofs.Common.{◌≡◌, ◌≢◌, ◌∙◌, ◌<◌, ℕ, Bool, true, false, if◌then◌else◌, List, [], ◌∷◌, length, map, reverse, refl, ap, sym, subst, arith, Option, Some, None, Result, Ok, Err}
+use Rattle.std.proofs.Common.{◌≡◌, ◌≢◌, ◌∙◌, ◌<◌, ℕ, true, false, List, [], ◌∷◌, length, refl, ap, sym, arith, Option, Some, None, Ok, Err}
 use Rattle.std.specs.Prelude.{ℤ}
 use Rattle.node_core.specs.declared.params.Params.{Params}
 use Rattle.node_core.specs.declared.tree.Node.{Node}
@@ -11,17 +11,14 @@ use Rattle.break_core.specs.declared.broken.Breaks.{Breaks}
 use Rattle.break_core.specs.declared.broken.LineEnd.{LineEnd}
 use Rattle.break_core.specs.declared.broken.Pass.{Pass}
 use Rattle.break_core.specs.declared.broken.Pass.TheVariants.{First, Second, Third}
-use Rattle.break_core.specs.declared.fault.BreakFault.{BreakFault}
-use Rattle.break_core.specs.declared.fault.BreakFault.TheVariants as breaking
-use Rattle.break_core.specs.Passes.{Facts, facts_of, bound_of, problem_of, line_end, IsBefore, IsBroken, refusal}
+use Rattle.break_core.specs.Passes.{Facts, facts_of, bound_of, problem_of, IsBefore, IsBroken, refusal}
 use Rattle.paragraph_core.specs.declared.paragraph.SetParagraph.{SetParagraph}
 use Rattle.paragraph_core.specs.declared.paragraph.ParagraphFault.{ParagraphFault}
 use Rattle.paragraph_core.specs.declared.paragraph.ParagraphFault.TheVariants.{InfiniteShrink, TooManyBreaks, DimensionTooLarge, OutOfMemory}
 use Rattle.paragraph_core.specs.Lines.{BrokenParagraph, broken_list, vertical_items, last_depth, lines_fit}
 use Rattle.paragraph_core.specs.Finished.{finished}
 use Rattle.paragraph_core.specs.Paragraphs.{with_breaks, IsSet, IsSetParagraph, IsUnset}
-use Rattle.paragraph_core.specs.LeastLists.{least_path}
-use Rattle.paragraph_core.specs.Setting.{ChosenLines, chosen_or, chosen_lines, ends_by, lined, set_by, set_if_fit, set_or, list_setting, setting}
+use Rattle.paragraph_core.specs.Setting.{chosen_lines, lined, set_by, list_setting, setting}
 use Rattle.paragraph_core.proofs.LeastLists.{no_least, chosen_least}
 
 -- The least list of the first pass that admits any is the one that is chosen.
@@ -98,7 +95,7 @@ list_unset :
 unfolding list_setting
 list_unset list params previous InfiniteShrink told is = rw is refl
 list_unset list params previous TooManyBreaks told is = rw is refl
-list_unset list params previous DimensionTooLarge told (free, breaks, broken, large) =
+list_unset list params previous DimensionTooLarge told (free, (breaks, broken, large)) =
     let fit : lines_fit (lined list params previous (record { pass = breaks.pass; path = broken.path })) ≡ false =
     sym (ap lines_fit (breaks_lined list params previous breaks broken)) ∙ large in
     rw (free, broken_chosen (facts_of list) params breaks broken, fit) refl

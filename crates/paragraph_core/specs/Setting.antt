@@ -1,6 +1,6 @@
 -- How a paragraph is set, as a function, which the machine's table uses (own; `set_paragraph` and the law `one_setting` say that it is what `IsSetParagraph`
 -- and `IsUnset` tell).
-use Rattle.std.specs.Prelude.{ℤ, true, false, if◌then◌else◌, List, [], ◌∷◌, length, map, reverse, Option, Some, None, Result, Ok, Err}
+use Rattle.std.specs.Prelude.{ℤ, if◌then◌else◌, List, [], ◌∷◌, length, map, reverse, Option, Some, None, Result, Ok, Err}
 use Rattle.node_core.specs.declared.params.Params.{Params}
 use Rattle.node_core.specs.declared.tree.Node.{Node}
 use Rattle.node_core.specs.Nodes.{items_of}

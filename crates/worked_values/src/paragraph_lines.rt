@@ -53,9 +53,10 @@ fn five_rules_in_three_lines(rt: HostRuntime) -> Result<(), Fail> {
         fourth,
         rule(30),
     ];
-    let list = NodeList::from_vec(Vec::from_array(rt.alloc(), items)?);
-    let set = set_paragraph(rt.alloc(), list, &params, Dimen::IGNORE_DEPTH);
+    let mut list = NodeList::from_vec(Vec::from_array(rt.alloc(), items)?);
+    let set = set_paragraph(rt.alloc(), &mut list, &params, Dimen::IGNORE_DEPTH);
     let set = set.expect(&rt, "its lines fit");
+    assert_eq!(rt; list.len(), 9);
     assert_eq!(rt; set.lines, 3);
     assert_eq!(rt; set.pass, Some(Pass::Second));
     assert_eq!(rt; set.overhang, 0);
