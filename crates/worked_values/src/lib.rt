@@ -2,10 +2,12 @@
 #![tactic(auto)]
 
 #[cfg(test)]
-mod bitmaps;
-#[cfg(test)]
 mod all_breaks;
+#[cfg(test)]
+mod bitmaps;
 pub mod changed_bytes;
+#[cfg(test)]
+mod counted_breaks;
 #[cfg(test)]
 mod font_files;
 #[cfg(test)]
