@@ -9,6 +9,8 @@ pub mod changed_bytes;
 #[cfg(test)]
 mod counted_breaks;
 #[cfg(test)]
+mod driver;
+#[cfg(test)]
 mod font_files;
 #[cfg(test)]
 mod instructions;
@@ -24,6 +26,8 @@ mod nodes;
 mod packing;
 #[cfg(test)]
 mod pages;
+#[cfg(test)]
+mod paragraph_lines;
 #[cfg(test)]
 mod paragraphs;
 #[cfg(test)]
