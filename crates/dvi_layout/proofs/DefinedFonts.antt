@@ -12,7 +12,8 @@ use Rattle.dvi_ops.specs.Fonts.{selections, defined, known_after}
 use Rattle.dvi_ops.specs.Layout.{define}
 use Rattle.dvi_ops.proofs.Appends.{all_append, all_weaker}
 use Rattle.dvi_layout.specs.declared.fonts.LoadedFont.{LoadedFont}
-use Rattle.dvi_layout.specs.Fonts.{Slots, font_in, Extends}
+use Rattle.dvi_layout.specs.Fonts.{Slots, font_in}
+use Rattle.dvi_layout.specs.MoreFonts.{Extends}
 use Rattle.dvi_layout.specs.Sheets.{numbers_below, definition_of, definition_by, definitions_of, selects, is_among, is_fresh, fresh_slots, in_rising_order}
 
 or_cases : {G : Type 0} (a b : Bool) → (a || b) ≡ true → (a ≡ true → G) → (b ≡ true → G) → G

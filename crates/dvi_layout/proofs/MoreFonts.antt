@@ -13,7 +13,8 @@ use Rattle.ship_core.specs.Marks.{Page}
 use Rattle.ship_core.specs.Pages.{reach_down, reach_right}
 use Rattle.ship_core.specs.Shown.{HasWidth}
 use Rattle.dvi_layout.specs.declared.fonts.LoadedFont.{LoadedFont}
-use Rattle.dvi_layout.specs.Fonts.{Slots, font_in, Extends}
+use Rattle.dvi_layout.specs.Fonts.{Slots, font_in}
+use Rattle.dvi_layout.specs.MoreFonts.{Extends}
 use Rattle.dvi_layout.specs.Sheets.{written_body, definitions_of, fresh_slots, sheet_of}
 use Rattle.dvi_layout.specs.Layout.{slots_after, slots_behind, sheets_of, greatest, nodes_on, front}
 use Rattle.dvi_layout.specs.Shippable.{widths_by, slot_widths, IsShippable, IsRightPage}

@@ -1,5 +1,5 @@
 -- The fonts of a job by their slots (own; after TeX: The Program, part 30).
-use Rattle.std.specs.Prelude.{◌≡◌, ℕ, List, length, Option, Some, None, slice_get, unwrap_or, IfSome}
+use Rattle.std.specs.Prelude.{◌≡◌, ℕ, List, length, Option, None, slice_get, unwrap_or, IfSome}
 use Rattle.std.specs.List.{AllByRecursion}
 use Rattle.tfm_core.specs.NamedBytes.{IsFontName}
 use Rattle.tfm_core.specs.Fonts.{HasNumbers}
@@ -23,7 +23,3 @@ pub record IsDefinable (loaded : LoadedFont) : Type 0 where
 pub record AreDefinable (fonts : Slots) : Type 0 where
   pub slots : length fonts ≡ FONT_SLOTS
   pub each : AllByRecursion (λ slot. IfSome slot IsDefinable) fonts
-
--- More fonts, beside those that are in slots.
-abbrev pub Extends : Slots → Slots → Type 0
-Extends fonts more = (slot : ℕ) (loaded : LoadedFont) → font_in fonts slot ≡ Some loaded → font_in more slot ≡ Some loaded

@@ -1,4 +1,5 @@
 pub mod Fonts
+pub mod MoreFonts
 pub mod Sheets
 pub mod Layout
 pub mod Shippable

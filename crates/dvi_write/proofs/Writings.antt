@@ -9,7 +9,8 @@ use Rattle.device_core.proofs.Tellings.{grown-grown}
 use Rattle.ship_core.specs.Marks.{Page}
 use Rattle.dvi_layout.specs.declared.progress.WriteFault.{WriteFault}
 use Rattle.dvi_layout.specs.declared.progress.WriteFault.TheVariants.{Device}
-use Rattle.dvi_layout.specs.Fonts.{Slots, Extends}
+use Rattle.dvi_layout.specs.Fonts.{Slots}
+use Rattle.dvi_layout.specs.MoreFonts.{Extends}
 use Rattle.dvi_layout.specs.Layout.{front, whole}
 use Rattle.dvi_layout.specs.Shippable.{IsRightPage}
 use Rattle.dvi_layout.specs.SoFar.{SoFar, nothing_so_far, next_bytes, with_next, last_bytes}

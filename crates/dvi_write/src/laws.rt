@@ -2,7 +2,8 @@
 
 ghost use Rattle.std.specs.Prelude.{ℕ, List, Option};
 ghost use Rattle.ship_core.specs.Marks.{Page};
-ghost use Rattle.dvi_layout.specs.Fonts.{Slots, Extends};
+ghost use Rattle.dvi_layout.specs.Fonts.{Slots};
+ghost use Rattle.dvi_layout.specs.MoreFonts.{Extends};
 ghost use Rattle.dvi_write.specs.Writing.{HasWritten, Writing};
 
 /// Fonts may be loaded between two pages: what was written stays so with more fonts beside those that were there.

@@ -10,7 +10,8 @@ use Rattle.command_core.specs.Reply.{Reply}
 use Rattle.command_core.specs.declared.limits.TheConstants.{MOST_PAGES, MOST_SHIPPED}
 use Rattle.tfm_core.specs.NamedBytes.{NamedBytes}
 use Rattle.ship_core.specs.Marks.{Page}
-use Rattle.dvi_layout.specs.Fonts.{Slots, Extends}
+use Rattle.dvi_layout.specs.Fonts.{Slots}
+use Rattle.dvi_layout.specs.MoreFonts.{Extends}
 use Rattle.device_core.specs.Told.{grown}
 use Rattle.dvi_layout.specs.Layout.{front}
 use Rattle.dvi_write.specs.Writing.{Writing, HasWritten}
