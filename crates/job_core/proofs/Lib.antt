@@ -1,5 +1,6 @@
 pub mod Moves
 pub mod Endings
 pub mod PageFonts
+pub mod Ships
 pub mod WholeRuns
 pub mod MeasuredPages
