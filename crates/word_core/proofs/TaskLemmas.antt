@@ -3,7 +3,7 @@ use Rattle.std.proofs.Common.{◌≡◌, ◌∙◌, ◌<◌, ◌≤◌, ◌^◌,
 use Rattle.std.specs.Prelude.{option_map, is_some, unwrap_or}
 use Rattle.std.specs.Prelude.{Box}
 use Rattle.std.specs.Box.{box_value}
-use Rattle.std.specs.Str.Parse.{ParsesUnsigned, digits_value, without_leading_plus}
+use Rattle.std.specs.Str.Parse.{IsNumeral, digits_value, without_leading_plus}
 use Rattle.clap.specs.Matches.{ReadsOne, found_of, has_subcommand, matched_of, one_text, raw_values, subcommand_name_of}
 use Rattle.clap.specs.Words.{Row, Text, all_of, fault_of, first_of, is_simple, is_simple_and_free, one_of, rows_of, subcommand_of, subcommand_rows_of}
 use Rattle.clap.specs.Kinds.{HasKind, IsAmong, Kinds}
@@ -71,44 +71,39 @@ no_sheet rows lacks (paints sheet dvi fonts) h = lacks sheet h.1
 pub font_words-values : (f : Found) → unwrap_or (option_map raw_values (matched_of f (codes "NAME=TFM"))) [] ≡ font_words (rows_in f)
 font_words-values f = ap (λ o. unwrap_or o []) (raw_values-rows f (codes "NAME=TFM"))
 
--- how a text is read as a number of 32 bits, and more that is told of it
-abbrev pub Gives : {E : Type 0} → (List ℕ → Result ℕ E → Type 0) → List ℕ → Result ℕ E → Type 0
-Gives More text r = ParsesUnsigned 32 10 text r × More text r
-
--- the number that a text gives
-reads : {E : Type 0} (More : List ℕ → Result ℕ E → Type 0) (f : Found) (id : Text) (r : Option ℕ) (text : Text)
-    → ((t : List ℕ) → one_text f id ≡ Some t → ReadsOne (Gives More) t r) → one_of id (rows_in f) ≡ Some text → ReadsOne (Gives More) text r
-reads More f id r text value given = value text (one_text-rows f id ∙ given)
+-- a text that is read as a number of 32 bits
+abbrev pub IsRead : Text → Type 0
+IsRead text = IsNumeral 10 (without_leading_plus text) × (digits_value 10 (without_leading_plus text) < 2 ^ 32)
 
 -- an option whose text is not read has no number
-pub no_number : {E : Type 0} (More : List ℕ → Result ℕ E → Type 0) (f : Found) (id : Text) (most : ℕ)
-    → ((t : List ℕ) → one_text f id ≡ Some t → ReadsOne (Gives More) t None) 
+pub no_number : (f : Found) (id : Text) (most : ℕ) → ((t : List ℕ) → one_text f id ≡ Some t → IsRead t → ⊥)
     → most < 2 ^ 32 → (number : ℕ) → IsNumber most (rows_in f) id number → ⊥
-no_number More f id most value fits number h =
-    let read = reads More f id None h.text value h.given in
+no_number f id most value fits number h =
     let small : digits_value 10 (without_leading_plus h.text) < 2 ^ 32 = omega (arith, h.value, h.most_is) in
-    read.1.0 (h.digits, small)
+    value h.text (one_text-rows f id ∙ h.given) (h.digits, small)
 
 -- the number of an option is the one that is read
-pub same_number : {E : Type 0} (More : List ℕ → Result ℕ E → Type 0) (f : Found) (id : Text) (most n : ℕ)
-    → ((t : List ℕ) → one_text f id ≡ Some t → ReadsOne (Gives More) t (Some n)) 
+pub same_number : (f : Found) (id : Text) (most n : ℕ)
+    → ((t : List ℕ) → one_text f id ≡ Some t → IsRead t × (n ≡ digits_value 10 (without_leading_plus t)))
     → (number : ℕ) → IsNumber most (rows_in f) id number → number ≡ n
-same_number More f id most n value number h =
-    let read = reads More f id (Some n) h.text value h.given in
-    h.value ∙ sym read.0.1
+same_number f id most n value number h = h.value ∙ sym (value h.text (one_text-rows f id ∙ h.given)).1
 
 -- a number that is read, from 1 to a greatest one
-pub number_read : {E : Type 0} (More : List ℕ → Result ℕ E → Type 0) (f : Found) (id : Text) (most n : ℕ)
-    → (one_text f id ≡ None → ◌≡◌ {A = Option ℕ} (Some n) None)
-    → ((t : List ℕ) → one_text f id ≡ Some t → ReadsOne (Gives More) t (Some n)) 
+pub number_read : (f : Found) (id : Text) (most n : ℕ) → (one_text f id ≡ None → ◌≡◌ {A = Option ℕ} (Some n) None)
+    → ((t : List ℕ) → one_text f id ≡ Some t → IsRead t × (n ≡ digits_value 10 (without_leading_plus t)))
     → 1 ≤ n → n ≤ most → IsNumber most (rows_in f) id n
-number_read More f id most n none value least greatest = go (one_text f id) refl
+number_read f id most n none value least greatest = go (one_text f id) refl
   where
     go : (o : Option Text) → one_text f id ≡ o → IsNumber most (rows_in f) id n
     go None e = absurd (cc (none e))
-    go (Some t) e =
-        let parsed = (value t e).0 in
-        record { text = t; given = sym (one_text-rows f id) ∙ e; digits = parsed.0.0; value = parsed.1; least = least; most_is = greatest }
+    go (Some t) e = record {
+      text = t;
+      given = sym (one_text-rows f id) ∙ e;
+      digits = (value t e).0.0;
+      value = (value t e).1;
+      least = least;
+      most_is = greatest;
+    }
 
 -- no subcommand was met
 pub none_met : (m : ArgMatches) → false ≡ has_subcommand m → subcommand_rows_of m ≡ None

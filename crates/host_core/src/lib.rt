@@ -1,0 +1,16 @@
+//! What the program asks of its host: the bytes of a file and of standard input, and a file that is created and written. Here stand the host as an
+//! argument, one in memory, the reading of the font files that a command line names, and the device that writes a DVI file at a path. The program
+//! stands above, with the real host.
+#![tactic(auto)]
+
+mod file_device;
+mod font_files;
+mod host;
+mod memory_host;
+mod reading;
+
+pub use file_device::FileDevice;
+pub use font_files::{Unread, read_fonts};
+pub use host::{Host, HostFault};
+pub use memory_host::{HeldFile, MemoryHost};
+pub use reading::read_all;
