@@ -13,6 +13,7 @@ use Rattle.dvi_layout.specs.declared.progress.Offsets.{Offsets}
 use Rattle.dvi_layout.specs.declared.progress.WriteFault.{WriteFault}
 use Rattle.dvi_layout.specs.declared.progress.WriteFault.TheVariants as faults
 use Rattle.dvi_layout.specs.declared.progress.TheConstants as most
+use Rattle.command_core.specs.declared.limits.TheConstants as job_limits
 use Rattle.dvi_layout.specs.Fonts.{Slots}
 use Rattle.dvi_layout.specs.SoFar.{SoFar, with_next}
 use Rattle.dvi_layout.specs.Shippable.{IsShippable, page_with}
@@ -76,10 +77,12 @@ pub takes : (s : State) (w : Writing) (r : ℕ) (b : BoxNode) (page : Page) → 
     → refusal_of w page ≡ None
 takes s w r b page held is same none =
     let admits = admitted s r none in
-    let pages : nat_le most.MOST_PAGES w.so_far.pages ≡ false = ap (nat_le most.MOST_PAGES) held.pages ∙ under _ most.MOST_PAGES s.pages (omega arith) admits.pages in
+    let within : job_limits.MOST_PAGES ≤ most.MOST_PAGES = omega arith in
+    let pages : nat_le most.MOST_PAGES w.so_far.pages ≡ false =
+    ap (nat_le most.MOST_PAGES) held.pages ∙ under job_limits.MOST_PAGES most.MOST_PAGES s.pages within admits.pages in
     let count : count_in (held_in s.registers r) ≡ box_count page.box_node = ap count_in is ∙ sym (ap (λ (p : Page). box_count p.box_node) same) in
-    let nodes : nat_lt most.MOST_SHIPPED (w.so_far.nodes + box_count page.box_node) ≡ false =
-    ap (nat_lt most.MOST_SHIPPED) (omega (arith, held.nodes, count)) ∙ admits.nodes in
+    let sum : w.so_far.nodes + box_count page.box_node ≡ s.shipped + count_in (held_in s.registers r) = omega (arith, held.nodes, count) in
+    let nodes : nat_lt most.MOST_SHIPPED (w.so_far.nodes + box_count page.box_node) ≡ false = ap (nat_lt most.MOST_SHIPPED) sum ∙ admits.nodes in
     let small : is_huge page ≡ false = ap is_huge same ∙ (sym (ap is_huge_in is) ∙ admits.small) in
     rw (held.running, pages, nodes, small) refl
 

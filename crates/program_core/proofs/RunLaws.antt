@@ -8,7 +8,6 @@ use Rattle.command_core.specs.Reply.{Reply}
 use Rattle.tfm_core.specs.NamedBytes.{NamedBytes}
 use Rattle.device_core.specs.Told.{IsFrontOf}
 use Rattle.dvi_layout.specs.Layout.{front, whole}
-use Rattle.dvi_layout.specs.Fonts.{Slots}
 use Rattle.job_core.specs.Shown.{GivesFiles, FilesPages}
 use Rattle.job_core.specs.Closing.{ClosesFile}
 use Rattle.nest_core.specs.Machine.{Machine, first_machine}
@@ -16,6 +15,7 @@ use Rattle.job_core.specs.Jobs.{Seen, Holds, RunsTo, FinishesTo}
 use Rattle.device_core.specs.Held.{Held}
 use Rattle.job_core.proofs.WholeRuns.{files_kept}
 use Rattle.job_core.proofs.Endings.{said}
+use Rattle.job_core.proofs.NewJobs.{front_none}
 use Rattle.std.specs.Io.KnownBytes.{Keeps}
 use Rattle.std.proofs.lemmas.List.{append-nil}
 use Rattle.program_core.specs.Texts.{hexadecimal_text}
@@ -28,10 +28,6 @@ on_err (Err x) e h = h
 pub on_ok : {A E : Type 0} {P : Type 0} (r : Result A E) → is_err r ≡ false → OnOk r P → P
 on_ok (Ok x) e h = h
 on_ok (Err x) e h = absurd (cc)
-
-front_none : (fonts : Slots) → front fonts [] ≡ []
-unfolding front
-front_none fonts = refl
 
 -- a new job has told nothing
 pub new_untouched : (files : List NamedBytes) (job : Seen) (n k : ℕ) (told : Option (List ℕ)) → Holds job (first_machine files) → job.failed ≡ n → k ≡ job.failed → told ≡ job.told → IsUntouched n k told
