@@ -166,6 +166,14 @@ lacking old command reply says takes accepted m holds =
 true_or_false : {b : Bool} → b ≡ true → b ≡ false → ⊥
 true_or_false t f = cc
 
+-- A job that is over answers so, and stays.
+pub over_replies : (old : Seen) (command : Command) → old.state.over ≡ true → KeepsTo old command (Err JobOver) old
+over_replies old command over =
+    let s = old.state in
+    let refused : first_of (checks s command) ≡ Some JobOver = ap (λ over. if over then Some JobOver else first_of (own_checks s command)) over in
+    replied old old command (Err JobOver) (sym (ap (λ refused. reply_by refused (answer_of s command)) refused))
+    (sym (ap (λ refused. state_by refused s (after s command)) refused)) (λ running. absurd (true_or_false over running)) refl
+
 -- A job that is stopped stands for the stopped machine.
 pub stops : (old new : Seen) (m : Machine) → Holds old m → new.state ≡ record (old.state) { over = true } → Holds new (stopped_machine m)
 stops old new m holds goes =

@@ -17,6 +17,8 @@ mod jobs;
 #[cfg(test)]
 mod listings;
 #[cfg(test)]
+mod many_pages;
+#[cfg(test)]
 mod nodes;
 #[cfg(test)]
 mod packing;
