@@ -1,32 +1,37 @@
 //! Boxglue: a typesetter of command scripts with TeX's model of boxes and glue.
 #![tactic(auto)]
 
-use program_core::{answer_input, refuse_memory};
+mod system_host;
+
+use program_core::{program, refuse_memory};
 use std::io::ErrorKind;
 use std::process::ExitCode;
+use system_host::SystemHost;
 
-/// The program takes no words: a script from standard input, answers to standard output. Its status is 0 where nothing was refused, 2 where there is
-/// a word, and else 1.
+/// The program takes no words, or `typeset`, `list` or `paint` with their own: a script from standard input, answers to standard output. Its status
+/// is 0 where nothing was refused, 2 where the words are refused or a page is asked for that is not there, and else 1.
 fn main(rt: HostRuntime) -> ExitCode {
-    let words = match std::env::args(&rt) {
-        Ok(words) => words.count(),
+    let alloc = rt.alloc();
+    let words: Vec<String> = match std::env::args(&rt) {
+        Ok(words) => match words.skip(1).collect(alloc) {
+            Ok(words) => words,
+            Err(_) => {
+                let _ = refuse_memory(&mut rt.stdout());
+                return ExitCode::from(1);
+            }
+        },
         Err(fault) if fault.kind() == ErrorKind::OutOfMemory => {
             let _ = refuse_memory(&mut rt.stdout());
             return ExitCode::from(1);
         }
         Err(_) => return ExitCode::from(2), // a word that is no UTF-8
     };
-    if words > 1 {
-        return ExitCode::from(2);
-    }
-    let accepted = answer_input(
-        rt.alloc(),
-        &mut rt.reader(),
+    let (status, _) = program(
+        alloc,
+        &words,
+        SystemHost::new(&rt),
         &mut rt.stdout(),
         &mut rt.stderr(),
     );
-    match accepted {
-        Ok(true) => ExitCode::from(0),
-        Ok(false) | Err(_) => ExitCode::from(1),
-    }
+    ExitCode::from(status)
 }

@@ -150,7 +150,7 @@ refused_of m words (NameTwice name) accepted same h = (h.0, words_ask m words ac
 
 -- a fault that is no want of memory is one of these kinds
 pub has_fault : (kinds : Kinds) (e : Error) → HasKind kinds e → (kind_of e ≡ OutOfMemory → ⊥) → kinds ≡ [] → ⊥
-has_fault [] e h other none = elim h [ | inl memory ↦ other memory | inr bad ↦ bad ]
+has_fault [] e h other none = elim h [ inl memory ↦ other memory | inr bad ↦ bad ]
 has_fault (k ∷ kinds) e h other none = absurd (cc none)
 
 -- words that clap refuses are no command line
