@@ -42,13 +42,19 @@ pub enum NumberParameter {
 pub fn size_name(word: &[u8]) -> Option<SizeParameter>
     ensures { result ≡ size_name word.now }
 {
-    match word {
-        b"boxmaxdepth" => Some(SizeParameter::BoxMaxDepth),
-        b"lineskiplimit" => Some(SizeParameter::LineSkipLimit),
-        b"splitmaxdepth" => Some(SizeParameter::SplitMaxDepth),
-        b"hsize" => Some(SizeParameter::Hsize),
-        _ => None,
+    if word == b"boxmaxdepth".as_slice() {
+        return Some(SizeParameter::BoxMaxDepth);
     }
+    if word == b"lineskiplimit".as_slice() {
+        return Some(SizeParameter::LineSkipLimit);
+    }
+    if word == b"splitmaxdepth".as_slice() {
+        return Some(SizeParameter::SplitMaxDepth);
+    }
+    if word == b"hsize".as_slice() {
+        return Some(SizeParameter::Hsize);
+    }
+    None
 }
 
 /// The parameter of glue that a word names, or None.
@@ -56,13 +62,19 @@ pub fn size_name(word: &[u8]) -> Option<SizeParameter>
 pub fn skip_name(word: &[u8]) -> Option<SkipParameter>
     ensures { result ≡ skip_name word.now }
 {
-    match word {
-        b"baselineskip" => Some(SkipParameter::BaselineSkip),
-        b"lineskip" => Some(SkipParameter::LineSkip),
-        b"splittopskip" => Some(SkipParameter::SplitTopSkip),
-        b"parfillskip" => Some(SkipParameter::ParFillSkip),
-        _ => None,
+    if word == b"baselineskip".as_slice() {
+        return Some(SkipParameter::BaselineSkip);
     }
+    if word == b"lineskip".as_slice() {
+        return Some(SkipParameter::LineSkip);
+    }
+    if word == b"splittopskip".as_slice() {
+        return Some(SkipParameter::SplitTopSkip);
+    }
+    if word == b"parfillskip".as_slice() {
+        return Some(SkipParameter::ParFillSkip);
+    }
+    None
 }
 
 /// The parameter of a number that a word names, or None.
@@ -70,16 +82,28 @@ pub fn skip_name(word: &[u8]) -> Option<SkipParameter>
 pub fn number_name(word: &[u8]) -> Option<NumberParameter>
     ensures { result ≡ number_name word.now }
 {
-    match word {
-        b"pretolerance" => Some(NumberParameter::Pretolerance),
-        b"tolerance" => Some(NumberParameter::Tolerance),
-        b"linepenalty" => Some(NumberParameter::LinePenalty),
-        b"adjdemerits" => Some(NumberParameter::AdjDemerits),
-        b"clubpenalty" => Some(NumberParameter::ClubPenalty),
-        b"widowpenalty" => Some(NumberParameter::WidowPenalty),
-        b"interlinepenalty" => Some(NumberParameter::InterlinePenalty),
-        _ => None,
+    if word == b"pretolerance".as_slice() {
+        return Some(NumberParameter::Pretolerance);
     }
+    if word == b"tolerance".as_slice() {
+        return Some(NumberParameter::Tolerance);
+    }
+    if word == b"linepenalty".as_slice() {
+        return Some(NumberParameter::LinePenalty);
+    }
+    if word == b"adjdemerits".as_slice() {
+        return Some(NumberParameter::AdjDemerits);
+    }
+    if word == b"clubpenalty".as_slice() {
+        return Some(NumberParameter::ClubPenalty);
+    }
+    if word == b"widowpenalty".as_slice() {
+        return Some(NumberParameter::WidowPenalty);
+    }
+    if word == b"interlinepenalty".as_slice() {
+        return Some(NumberParameter::InterlinePenalty);
+    }
+    None
 }
 
 /// A parameter that is a dimension, with a value for it.

@@ -15,7 +15,7 @@ use Rattle.split_core.specs.Places.{is_box_or_rule}
 use Rattle.split_core.specs.Split.{from_box_or_rule, rest_items, split_place, topped, packed_rest, front_of, rest_of}
 use Rattle.command_core.specs.declared.limits.TheConstants.{MOST_DEEP}
 use Rattle.dvi_layout.specs.Fonts.{Slots}
-use Rattle.state_core.proofs.EachOf.{each_taken}
+use Rattle.dvi_layout.proofs.EachOf.{each_taken}
 use Rattle.state_core.specs.Sized.{HasSizes, IsSizedLeaf, IsSoundBox, IsSizedHeld}
 
 module _ {A : Type 0} (P : A → Type 0) where
