@@ -1,5 +1,5 @@
 -- Sums over what lines keep are differences of sums over the first items.
-use Rattle.std.proofs.Common.{◌≡◌, ◌∙◌, ℕ, zero, suc, ◌+◌, ◌<◌, ◌≤◌, min, Bool, true, false, cond, List, [], ◌∷◌, ◌++◌, length, take, drop, map, get_or, refl, ap, sym, subst, arith, Option, Some, None}
+use Rattle.std.proofs.Common.{◌≡◌, ◌∙◌, ℕ, zero, suc, ◌+◌, ◌≤◌, min, true, false, List, [], ◌∷◌, take, drop, refl, ap, sym, arith, Option, Some, None}
 use Rattle.std.specs.Prelude.{ℤ, pos, ◌+ℤ◌, ◌-ℤ◌, slice_get}
 use Rattle.std.proofs.Math.Logic.{◌⊎◌, inl, inr}
 use Rattle.std.proofs.lemmas.Int.{ints}
@@ -9,10 +9,10 @@ use Rattle.node_core.specs.declared.tree.Node.TheVariants as nodes
 use Rattle.node_core.specs.declared.tree.Order.TheVariants.{Normal, Fil, Fill, Filll}
 use Rattle.pack_core.specs.Items.{across, stretch_in, shrink_in}
 use Rattle.pack_core.specs.Totals.{total}
-use Rattle.pack_core.proofs.Sums.{total-append, total_more}
+use Rattle.pack_core.proofs.Sums.{total-append}
 use Rattle.break_cost.specs.declared.sums.Sums.{Sums}
-use Rattle.break_core.specs.Legal.{is_dropped, up_to}
-use Rattle.break_core.specs.Kept.{BeginsBefore, at_break, without_first, kept, sums_of, lead, first_kept, amounts_of, plus, minus}
+use Rattle.break_core.specs.Legal.{is_dropped}
+use Rattle.break_core.specs.Kept.{BeginsBefore, at_break, without_first, kept, sums_of, lead, first_kept, minus}
 
 take_none : (n : ℕ) → take {A = Node} n [] ≡ []
 take_none zero = refl

@@ -5,3 +5,4 @@ pub mod Places
 pub mod KeptSums
 pub mod Prefixes
 pub mod Steady
+pub mod Firsts

@@ -1,10 +1,10 @@
 -- Lists whose lines are known (own).
-use Rattle.std.specs.Prelude.{ℕ, ℤ, pos, negsuc, ◌*◌, List, [], ◌∷◌}
+use Rattle.std.specs.Prelude.{ℕ, pos, negsuc, List, [], ◌∷◌}
 use Rattle.node_core.specs.declared.tree.Node.{Node}
 use Rattle.node_core.specs.declared.tree.Node.TheVariants as nodes
 use Rattle.node_core.specs.declared.tree.Order.TheVariants.{Normal}
 use Rattle.node_core.specs.declared.tree.RuleSize.TheVariants.{Fixed}
-use Rattle.node_core.specs.Parameters.{rigid, first_params}
+use Rattle.node_core.specs.Parameters.{first_params}
 use Rattle.break_cost.specs.Examples.{points}
 
 -- A rule that is so many points wide and 1pt high.

@@ -1,5 +1,5 @@
 -- The table of a paragraph as it is filled, place by place (own; no public clause speaks of it).
-use Rattle.std.specs.Prelude.{◌≡◌, ◌<◌, ◌≤◌, ◌+◌, ◌^◌, ℕ, ℤ, List, [], ◌∷◌, slice_get, Option, Some}
+use Rattle.std.specs.Prelude.{◌≡◌, ◌<◌, ◌≤◌, ◌+◌, ◌^◌, ℕ, ℤ, List, slice_get, Option, Some}
 use Rattle.node_core.specs.declared.params.Params.{Params}
 use Rattle.break_table.specs.declared.group.Group.{Group}
 use Rattle.break_table.specs.declared.state.State.{State}

@@ -1,5 +1,5 @@
 -- What a line keeps of a list, and the sums over it (TeX: The Program, part 38, §822 and §837; part 39, §879 to §882).
-use Rattle.std.specs.Prelude.{◌≡◌, ◌<◌, ◌+◌, ◌-◌, ◌+ℤ◌, ◌-ℤ◌, ◌++◌, map, length, ℕ, zero, suc, ℤ, pos, Bool, not, List, [], ◌∷◌, take, drop, slice_get, Option, Some, None, if◌then◌else◌}
+use Rattle.std.specs.Prelude.{◌<◌, ◌+◌, ◌-◌, ◌+ℤ◌, ◌-ℤ◌, ◌++◌, map, length, ℕ, pos, List, [], ◌∷◌, take, drop, slice_get, Option, Some, None, if◌then◌else◌}
 use Rattle.node_core.specs.declared.tree.Node.{Node}
 use Rattle.node_core.specs.declared.tree.Node.TheVariants as nodes
 use Rattle.node_core.specs.declared.tree.Order.TheVariants.{Normal, Fil, Fill, Filll}
@@ -86,7 +86,15 @@ minus a b =
 abbrev pub prefix_sums : List Node → List Sums
 prefix_sums list = map (λ n. sums_of (take n list)) (up_to (length list + 1))
 
+-- Where the first item stands, from item k on, that is not dropped; the end, where there is none.
+abbrev pub next_kept : List Node → (k : ℕ) → ℕ
+next_kept list k = k + lead (drop k list)
+
+-- The same for the end, for the last item, and so on back to the first.
+abbrev pub all_next_kept : List Node → List ℕ
+all_next_kept list = map (λ n. next_kept list (length list - n)) (up_to (length list + 1))
+
 -- Where the items of a line begin that are not dropped first.
 abbrev pub first_kept : List Node → Option ℕ → ℕ
 first_kept list None = 0
-first_kept list (Some a) = (a + 1) + lead (drop (a + 1) list)
+first_kept list (Some a) = next_kept list (a + 1)

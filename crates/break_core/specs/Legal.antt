@@ -1,9 +1,8 @@
 -- The legal places of a finished horizontal list (TeX: The Program, part 38, §816 and §866 to §869).
-use Rattle.std.specs.Prelude.{◌≡◌, ◌+◌, ◌-◌, ◌<◌, ◌++◌, ℕ, zero, suc, ℤ, pos, negsuc, Bool, true, false, not, int_lt, int_le, nat_lt, List, [], ◌∷◌, length, slice_get, Option, Some, None, filter, if◌then◌else◌}
+use Rattle.std.specs.Prelude.{◌+◌, ◌++◌, ℕ, zero, suc, ℤ, pos, negsuc, Bool, true, false, not, int_lt, int_le, List, [], ◌∷◌, length, slice_get, Option, Some, None, filter, if◌then◌else◌}
 use Rattle.node_core.specs.declared.tree.Node.{Node}
 use Rattle.node_core.specs.declared.tree.Node.TheVariants as nodes
 use Rattle.node_core.specs.declared.tree.Order.TheVariants.{Normal}
-use Rattle.node_core.specs.declared.tree.Glue.{Glue}
 use Rattle.node_core.specs.declared.tree.Kind.TheVariants.{Horizontal}
 use Rattle.node_core.specs.Classes.{class_of, is_discardable, precedes_break}
 use Rattle.pack_core.specs.Items.{is_order}

@@ -1,6 +1,6 @@
 -- The passes over a paragraph, and the list of breaks that is chosen (TeX: The Program, part 38, §863 and §874; own: the last pass admits each line,
 -- the least overhang counts first, and ties are decided).
-use Rattle.std.specs.Prelude.{◌≡◌, ◌<◌, ◌+◌, ◌-◌, ℕ, zero, suc, ℤ, Bool, true, false, List, [], ◌∷◌, length, map, reverse, get_or, slice_get, nat_lt, Option, Some, None, if◌then◌else◌}
+use Rattle.std.specs.Prelude.{◌≡◌, ◌-◌, ℕ, zero, suc, ℤ, List, length, map, reverse, get_or, slice_get, nat_lt, Option, Some, None, if◌then◌else◌}
 use Rattle.std.specs.List.{list_any}
 use Rattle.node_core.specs.declared.tree.Node.{Node}
 use Rattle.node_core.specs.declared.params.Params.{Params}

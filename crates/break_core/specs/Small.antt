@@ -1,5 +1,5 @@
 -- Numbers of lines are small (own; no public clause speaks of it).
-use Rattle.std.specs.Prelude.{◌≡◌, ◌≤◌, ◌^◌, ◌*◌, ℕ, List, slice_get, Some}
+use Rattle.std.specs.Prelude.{◌≡◌, ◌^◌, ◌*◌, ℕ, List, slice_get, Some}
 use Rattle.node_core.specs.Nodes.{most_nodes}
 use Rattle.scaled_core.specs.Dimensions.{Within}
 use Rattle.break_cost.specs.declared.sums.Sums.{Sums}

@@ -1,5 +1,5 @@
 -- Steady paragraphs: a line that goes on to the next place gets no narrower (own).
-use Rattle.std.specs.Prelude.{◌≡◌, ◌<◌, ◌+◌, ◌≤ℤ◌, ◌-ℤ◌, ℕ}
+use Rattle.std.specs.Prelude.{◌<◌, ◌+◌, ◌≤ℤ◌, ◌-ℤ◌, ℕ}
 use Rattle.break_cost.specs.declared.sums.Sums.{Sums}
 use Rattle.break_core.specs.Passes.{Facts}
 

@@ -2,36 +2,39 @@
 
 ghost use Rattle.std.specs.Prelude.{◌≡◌, ◌+◌, ◌<◌, ◌≤◌, true, ℕ, None, get_or, length, replicate, IfOk, IfErr, OnOk};
 ghost use Rattle.std.specs.Option.{unwrap_or};
+ghost use Rattle.std.specs.Int.{sum_through};
 ghost use Rattle.break_core.specs.Passes.{position_of, begins_at, facts_of, refusal};
 ghost use Rattle.break_core.specs.Steady.{IsNoNarrower, IsRising, IsSteady};
 ghost use Rattle.node_core.specs.Nodes.{most_nodes};
 ghost use Rattle.break_table.specs.Tables.{most_places};
 ghost use Rattle.break_core.specs.Legal.{legal_places};
-ghost use Rattle.break_core.specs.Kept.{prefix_sums, first_kept, kept, sums_of};
+ghost use Rattle.break_core.specs.Kept.{prefix_sums, all_next_kept, first_kept, kept, sums_of};
 ghost use Rattle.break_core.specs.Small.{ArePrefixes, IsSmallSums};
 
 use crate::fault::BreakFault;
 use crate::list::{
-    any_shrinks_forever, count_places, first_kept, legal_places, no_trials, penalty_at,
+    all_next_kept, any_shrinks_forever, count_places, legal_places, no_trials, penalty_at,
 };
 use crate::meter::{Meter, Place};
 use crate::sums::{Sums, minus, prefix_sums};
 use node_core::Node;
 use std::alloc::{AllocError, Global};
 
-/// A list of at most 131,072 nodes with at most 8,192 legal places, measured: where its places are, the sums over the items in front of each item, and how
-/// many lines were tried from each place.
+/// A list of at most 131,072 nodes with at most 8,192 legal places, measured: where its places are, the sums over the items in front of each item, where
+/// lines begin behind each item, and how many lines were tried from each place.
 #[derive(Drop)]
 pub struct ListMeter<'a> {
     pub(crate) nodes: &'a [Node],
     pub(crate) places: Vec<usize>,
     pub(crate) sums: Vec<Sums>,
+    pub(crate) firsts: Vec<usize>,
     pub(crate) trials: Vec<u64>,
     ghost short: { length nodes.now ≤ most_nodes },
     ghost legal: { places.items ≡ legal_places nodes.now },
     ghost few: { length places.items ≤ most_places },
     ghost prefixes: { sums.items ≡ prefix_sums nodes.now },
     ghost small: { ArePrefixes sums.items },
+    ghost begins: { firsts.items ≡ all_next_kept nodes.now },
     ghost counted: { length trials.items ≡ length places.items + 1 },
 }
 
@@ -45,11 +48,13 @@ impl<'a> ListMeter<'a> {
     {
         let places = legal_places(alloc, nodes)?;
         let sums = prefix_sums(alloc, nodes)?;
+        let firsts = all_next_kept(alloc, nodes)?;
         let trials = no_trials(alloc, places.len() + 1)?;
         Ok(ListMeter {
             nodes,
             places,
             sums,
+            firsts,
             trials,
         })
     }
@@ -95,7 +100,7 @@ impl<'a> ListMeter<'a> {
         if from == 0 {
             return 0;
         }
-        first_kept(self.nodes, self.position(from) + 1)
+        self.firsts[self.nodes.len() - self.position(from) - 1]
     }
 
     /// The sums over the items of a line.
@@ -155,6 +160,29 @@ impl<'a> ListMeter<'a> {
             }
         }
         true
+    }
+}
+
+impl<'a> ListMeter<'a> {
+    /// How many lines from a place, or from 0, the start, were tried.
+    pub fn trials(&self, place: usize) -> u64
+        ensures { result ≡ ⟦<ListMeter<'a> as Meter>⟧.trials self.now place }
+    {
+        match self.trials.get(place) {
+            Some(trials) => *trials,
+            None => 0,
+        }
+    }
+
+    /// How many lines were tried: those from the start and from each place.
+    pub fn all_trials(&self) -> u128
+        ensures { result ≡ sum_through (⟦<ListMeter<'a> as Meter>⟧.trials self.now) (length (legal_places self.now.nodes.now)) }
+    {
+        let mut all = u128::from(self.trials(0));
+        for place in 0..self.places.len() {
+            all += u128::from(self.trials(place + 1));
+        }
+        all
     }
 }
 

@@ -2,11 +2,10 @@
 
 ghost use Rattle.std.specs.Prelude.{◌≡◌, ◌≤◌, ◌<◌, ◌-◌, ◌∷◌, Some, None, IfOk, IfErr, OnOk, OnErr, IsTrue, length, drop, take};
 ghost use Rattle.std.specs.List.{list_all};
-ghost use Rattle.std.specs.Option.{IfSome};
 ghost use Rattle.scaled_core.specs.Dimensions.{fits};
 ghost use Rattle.node_core.specs.Nodes.{most_nodes, nodes_of};
 ghost use Rattle.pack_core.specs.Boxes.{vbox_numbers};
-ghost use Rattle.split_core.specs.Split.{front_of, rest_of, refusal, fault_of, packed_as, packed_rest, topped, no_limit};
+ghost use Rattle.split_core.specs.Split.{front_of, rest_of, refusal, fault_of, packed_as, packed_rest, no_limit};
 ghost use Rattle.split_core.specs.Steps.{top_items, IsSound};
 
 use crate::parts::{Split, SplitFault, Unsplit};

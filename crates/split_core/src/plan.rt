@@ -6,7 +6,7 @@ ghost use Rattle.std.specs.Int.{int_max};
 ghost use Rattle.std.specs.Option.{IfSome};
 ghost use Rattle.scaled_core.specs.Dimensions.{fits};
 ghost use Rattle.node_core.specs.Nodes.{most_nodes};
-ghost use Rattle.split_core.specs.Split.{shrinks_infinitely, from_box_or_rule, topped, rest_numbers, rest_items, split_place, refusal, top_width, top_glue, no_limit};
+ghost use Rattle.split_core.specs.Split.{shrinks_infinitely, from_box_or_rule, topped, rest_numbers, rest_items, split_place, refusal, top_width, top_glue};
 ghost use Rattle.split_core.specs.Steps.{top_items, IsSound};
 
 use crate::parts::SplitFault;
@@ -36,15 +36,7 @@ fn shrinks_infinitely(node: &Node) -> bool
     ensures { result ≡ shrinks_infinitely node.now }
 {
     match node {
-        Node::Glue(glue) => {
-            if glue.shrink.get() == 0 {
-                return false;
-            }
-            match glue.shrink_order {
-                Order::Normal => false,
-                _ => true,
-            }
-        }
+        Node::Glue(glue) if glue.shrink.get() != 0 => !matches!(glue.shrink_order, Order::Normal),
         _ => false,
     }
 }

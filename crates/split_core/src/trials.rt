@@ -79,21 +79,9 @@ fn place_penalty(before: &[Node], after: &[Node]) -> Option<i32>
 {
     match after {
         [] => Some(EJECT),
-        [Node::Glue(_), ..] => {
-            if ends_in_box_or_rule(before) {
-                Some(0)
-            } else {
-                None
-            }
-        }
+        [Node::Glue(_), ..] if ends_in_box_or_rule(before) => Some(0),
         [Node::Kern(_), Node::Glue(_), ..] => Some(0),
-        [Node::Penalty(penalty), ..] => {
-            if *penalty < 10_000 {
-                Some(*penalty)
-            } else {
-                None
-            }
-        }
+        [Node::Penalty(penalty), ..] if *penalty < 10_000 => Some(*penalty),
         _ => None,
     }
 }
@@ -127,14 +115,8 @@ fn cheaper(best: Option<Trial>, trial: Trial) -> Trial
     ensures { result ≡ cheaper best trial }
 {
     match best {
-        None => trial,
-        Some(best) => {
-            if best.cost() < trial.cost() {
-                best
-            } else {
-                trial
-            }
-        }
+        Some(best) if best.cost() < trial.cost() => best,
+        _ => trial,
     }
 }
 

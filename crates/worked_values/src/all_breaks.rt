@@ -1,5 +1,6 @@
 //! Breaks of random lists, compared with the least of all lists of their places. What a list of places costs is computed here from the definition.
 
+use crate::paragraphs::expect_same;
 use break_core::{Breaks, Class, Pass, breaks};
 use node_core::{Glue, Node, Number, Order, Params, Rule, RuleSize};
 use scaled_core::{Dimen, badness};
@@ -431,7 +432,7 @@ fn found_numbers(rt: &impl Abort, alloc: Global, found: &Breaks) -> Vec<i64> {
     numbers
 }
 
-/// Asserts that the breaks of a list are those of the definition.
+/// Asserts that the breaks of a list are those of the definition, by both breakers.
 fn expect_chosen(rt: &impl Abort, alloc: Global, items: &[Item], setting: &Setting) {
     let mut nodes = Vec::new(alloc);
     for item in items {
@@ -441,7 +442,9 @@ fn expect_chosen(rt: &impl Abort, alloc: Global, items: &[Item], setting: &Setti
             .expect(rt, "there is memory");
     }
     assert!(rt; nodes.len() <= 131_072);
-    let found = breaks(alloc, &nodes, &params_of(rt, setting)).expect(rt, "not refused");
+    let params = params_of(rt, setting);
+    let found = breaks(alloc, &nodes, &params).expect(rt, "not refused");
+    expect_same(rt, alloc, &nodes, &params, &found);
     let (pass, numbers) = expected(rt, alloc, items, setting);
     let named = match found.pass {
         Pass::First => 1,

@@ -2,10 +2,14 @@
 #![tactic(auto)]
 
 #[cfg(test)]
-mod bitmaps;
-#[cfg(test)]
 mod all_breaks;
+#[cfg(test)]
+mod bitmaps;
 pub mod changed_bytes;
+#[cfg(test)]
+mod counted_breaks;
+#[cfg(test)]
+mod driver;
 #[cfg(test)]
 mod font_files;
 #[cfg(test)]
@@ -24,6 +28,8 @@ mod nodes;
 mod packing;
 #[cfg(test)]
 mod pages;
+#[cfg(test)]
+mod paragraph_lines;
 #[cfg(test)]
 mod paragraphs;
 #[cfg(test)]

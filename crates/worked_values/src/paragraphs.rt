@@ -1,6 +1,7 @@
-//! Breaks of paragraphs.
+//! Breaks of paragraphs, by both breakers.
 
-use break_core::{BreakFault, Class, Pass, breaks};
+use active_breaks::active_breaks;
+use break_core::{BreakFault, Breaks, Class, LineEnd, ListMeter, Pass, breaks};
 use node_core::{Glue, Node, Number, Order, Params, Rule, RuleSize};
 use scaled_core::Dimen;
 use std::alloc::Global;
@@ -9,12 +10,12 @@ use std::process::Abort;
 const POINT: i64 = 65_536;
 
 /// So many points.
-fn points(rt: &impl Abort, number: i64) -> Dimen {
+pub(crate) fn points(rt: &impl Abort, number: i64) -> Dimen {
     Dimen::try_new(number.saturating_mul(POINT)).expect(rt, "it fits")
 }
 
 /// A rule of so many points, 1pt high.
-fn rule(rt: &impl Abort, width: i64) -> Node {
+pub(crate) fn rule(rt: &impl Abort, width: i64) -> Node {
     Node::Rule(Rule {
         width: RuleSize::Fixed(points(rt, width)),
         height: RuleSize::Fixed(points(rt, 1)),
@@ -23,7 +24,7 @@ fn rule(rt: &impl Abort, width: i64) -> Node {
 }
 
 /// Glue of so many points that can stretch by so many.
-fn glue(rt: &impl Abort, width: i64, stretch: i64) -> Node {
+pub(crate) fn glue(rt: &impl Abort, width: i64, stretch: i64) -> Node {
     Node::Glue(Glue {
         width: points(rt, width),
         stretch: points(rt, stretch),
@@ -34,14 +35,14 @@ fn glue(rt: &impl Abort, width: i64, stretch: i64) -> Node {
 }
 
 /// The parameters of a new job, but for lines of 40pt.
-fn narrow(rt: &impl Abort) -> Params {
+pub(crate) fn narrow(rt: &impl Abort) -> Params {
     let mut params = Params::first();
     params.hsize = points(rt, 40);
     params
 }
 
 /// A paragraph of these items, finished.
-fn finished(rt: &impl Abort, mut items: Vec<Node>, params: &Params) -> Vec<Node> {
+pub(crate) fn finished(rt: &impl Abort, mut items: Vec<Node>, params: &Params) -> Vec<Node> {
     items
         .push(Node::Penalty(10_000))
         .ok()
@@ -51,6 +52,33 @@ fn finished(rt: &impl Abort, mut items: Vec<Node>, params: &Params) -> Vec<Node>
         .ok()
         .expect(rt, "there is memory");
     items
+}
+
+/// Asserts that two lists of lines end at the same places, by lines of the same classes.
+fn expect_lines(rt: &impl Abort, lines: &[LineEnd], others: &[LineEnd]) {
+    assert_eq!(rt; lines.len(), others.len());
+    for (line, other) in lines.iter().zip(others) {
+        assert!(rt; *line == *other);
+    }
+}
+
+/// Asserts that the counted breaker finds the same breaks of a finished list; gives how many lines it tried.
+pub(crate) fn expect_same(
+    rt: &impl Abort,
+    alloc: Global,
+    nodes: &[Node],
+    params: &Params,
+    found: &Breaks,
+) -> u128 {
+    assert!(rt; nodes.len() <= 131_072);
+    let mut meter = ListMeter::new(alloc, nodes).expect(rt, "not refused");
+    let counted = active_breaks(alloc, &mut meter, params);
+    let counted = counted.ok().expect(rt, "there is memory");
+    expect_lines(rt, &found.lines, &counted.lines);
+    assert!(rt; found.pass == counted.pass);
+    assert_eq!(rt; found.overhang, counted.overhang);
+    assert_eq!(rt; found.demerits, counted.demerits);
+    meter.all_trials()
 }
 
 /// Asserts what the breaks of a finished list are: the places, the pass, the overhang and the demerits.
@@ -64,6 +92,7 @@ fn expect_breaks(
 ) {
     assert!(rt; nodes.len() <= 131_072);
     let found = breaks(alloc, nodes, params).expect(rt, "not refused");
+    expect_same(rt, alloc, nodes, params, &found);
     assert_eq!(rt; found.lines.len(), places.len());
     for (line, place) in found.lines.iter().zip(places) {
         assert_eq!(rt; line.place, *place);
@@ -206,6 +235,7 @@ fn expect_fault(rt: &impl Abort, alloc: Global, nodes: &[Node], fault: BreakFaul
     assert!(rt; nodes.len() <= 131_072);
     let found = breaks(alloc, nodes, &narrow(rt));
     assert!(rt; found.err() == Some(fault));
+    assert!(rt; ListMeter::new(alloc, nodes).err() == Some(fault));
 }
 
 #[test]
@@ -232,6 +262,8 @@ fn the_most_places(rt: HostRuntime) {
     let nodes = finished(&rt, penalties(&rt, alloc, 8_191, -10_000), &params);
     assert!(&rt; nodes.len() <= 131_072);
     let found = breaks(alloc, &nodes, &params).expect(&rt, "not refused");
+    // (each place, the start too, is left behind one line in each of three passes)
+    assert_eq!(&rt; expect_same(&rt, alloc, &nodes, &params, &found), 24_576);
     assert_eq!(&rt; found.lines.len(), 8_192);
     assert!(&rt; found.pass == Pass::Third);
     assert_eq!(&rt; found.overhang, 0);

@@ -1,7 +1,6 @@
-use Rattle.std.proofs.Common.{◌≡◌, ◌∙◌, ℕ, ◌+◌, ◌-◌, ◌<◌, ◌≤◌, length, refl, ap, sym, subst, arith, rules}
+use Rattle.std.proofs.Common.{◌≡◌, ◌-◌, ◌<◌, ◌≤◌, length, refl, ap, subst, arith, rules}
 use Rattle.std.proofs.Math.Logic.{◌⊎◌, inl, inr}
 use Rattle.std.proofs.lemmas.Bool.{cases_lt}
-use Rattle.break_core.specs.Legal.{legal_places}
 use Rattle.break_core.specs.Passes.{Facts, facts_of}
 use Rattle.break_core.specs.Steady.{IsRising}
 use Rattle.break_core.proofs.Steady.{steady_by}
