@@ -1,12 +1,11 @@
 -- How bad a line can be, and how far it hangs over.
-use Rattle.std.proofs.Common.{◌≡◌, ◌∙◌, ℕ, zero, suc, ◌+◌, ◌*◌, ◌^◌, ◌<◌, ◌≤◌, Bool, true, false, refl, ap, sym, subst, arith}
-use Rattle.std.specs.Prelude.{ℤ, pos, negsuc, neg_ℤ, ◌+ℤ◌, ◌-ℤ◌, ◌<ℤ◌, ◌≤ℤ◌, int_lt, nat_lt}
+use Rattle.std.proofs.Common.{◌≡◌, ℕ, zero, suc, ◌*◌, ◌<◌, ◌≤◌, true, false, refl, sym, subst, arith}
+use Rattle.std.specs.Prelude.{ℤ, pos, negsuc, ◌-ℤ◌, ◌<ℤ◌, ◌≤ℤ◌, int_lt}
 use Rattle.std.proofs.Math.Logic.{◌⊎◌, inl, inr}
 use Rattle.std.proofs.Math.Nat.{mul-le-mul}
 use Rattle.std.proofs.lemmas.Int.{ints}
-use Rattle.std.proofs.lemmas.Bool.{cases_Bool, cases_lt, cond-true, cond-false, true≢false}
-use Rattle.scaled_core.specs.Rounding.{IsNearest}
-use Rattle.scaled_core.specs.Badness.{IsBadness, IsRatioBadness, badness_of, badness_ratio, ratio_badness}
+use Rattle.std.proofs.lemmas.Bool.{cases_Bool, cases_lt, cond-true, cond-false}
+use Rattle.scaled_core.specs.Badness.{IsBadness, IsRatioBadness, badness_of, badness_ratio}
 use Rattle.scaled_core.proofs.BadnessLaws.{badness_of-is}
 use Rattle.break_table.specs.declared.state.Class.{Class}
 use Rattle.break_table.specs.declared.state.Class.TheVariants.{Decent, Tight}

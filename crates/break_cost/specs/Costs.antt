@@ -1,5 +1,5 @@
 -- What a line costs: how bad it is, its class, its overhang and its demerits (TeX: The Program, part 38, §851 to §853 and §859).
-use Rattle.std.specs.Prelude.{◌≡◌, ◌+◌, ◌-◌, ◌+ℤ◌, ◌-ℤ◌, ◌*ℤ◌, neg_ℤ, ℕ, zero, suc, ℤ, pos, negsuc, Bool, true, false, not, ◌&&◌, ◌||◌, nat_lt, nat_le, int_lt, int_le, unsigned_abs, Option, Some, None, if◌then◌else◌}
+use Rattle.std.specs.Prelude.{◌+◌, ◌+ℤ◌, ◌-ℤ◌, ◌*ℤ◌, neg_ℤ, ℕ, zero, suc, ℤ, pos, negsuc, Bool, true, false, not, ◌&&◌, ◌||◌, nat_lt, nat_le, int_lt, int_le, unsigned_abs, Option, Some, None, if◌then◌else◌}
 use Rattle.scaled_core.specs.Badness.{badness_of}
 use Rattle.pack_core.specs.Glue.{is_zero}
 use Rattle.node_core.specs.declared.params.Params.{Params}

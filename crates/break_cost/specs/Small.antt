@@ -1,5 +1,5 @@
 -- Numbers of lines are small (own; no public clause of `break_core` speaks of it).
-use Rattle.std.specs.Prelude.{◌≡◌, ◌≤◌, ◌^◌, ℕ}
+use Rattle.std.specs.Prelude.{◌≤◌, ◌^◌}
 use Rattle.scaled_core.specs.Dimensions.{Within}
 use Rattle.break_table.specs.Tables.{most_overhang}
 use Rattle.break_cost.specs.declared.sums.Sums.{Sums}

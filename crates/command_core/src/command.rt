@@ -176,6 +176,24 @@ pub enum Parameter {
     SplitMaxDepth(Dimen),
     /// The glue at the top of what is left of a box that is split: splittopskip.
     SplitTopSkip(Glue),
+    /// How wide the lines of a paragraph are, in scaled points: hsize.
+    Hsize(Dimen),
+    /// The glue at the end of a paragraph: parfillskip.
+    ParFillSkip(Glue),
+    /// How bad a line may be in the first pass over a paragraph; below 0 there is no such pass: pretolerance.
+    Pretolerance(Number),
+    /// How bad a line may be in the second pass: tolerance.
+    Tolerance(Number),
+    /// What counts for each line beside its badness: linepenalty.
+    LinePenalty(Number),
+    /// What a line costs that does not go with the line before: adjdemerits.
+    AdjDemerits(Number),
+    /// The penalty behind the first line of a paragraph: clubpenalty.
+    ClubPenalty(Number),
+    /// The penalty behind the last line but one: widowpenalty.
+    WidowPenalty(Number),
+    /// The penalty behind each line but the last: interlinepenalty.
+    InterlinePenalty(Number),
 }
 
 /// A command to a job.

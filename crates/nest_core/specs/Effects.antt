@@ -12,7 +12,7 @@ use Rattle.vert_core.specs.Interline.{ignored_depth}
 use Rattle.nest_core.specs.declared.nest.OpenList.{OpenList}
 use Rattle.ship_core.specs.Pages.{page_of}
 use Rattle.command_core.specs.declared.command.Parameter.{Parameter}
-use Rattle.command_core.specs.declared.command.Parameter.TheVariants.{BoxMaxDepth, BaselineSkip, LineSkip, LineSkipLimit, SplitMaxDepth, SplitTopSkip}
+use Rattle.command_core.specs.declared.command.Parameter.TheVariants.{BoxMaxDepth, BaselineSkip, LineSkip, LineSkipLimit, SplitMaxDepth, SplitTopSkip, Hsize, ParFillSkip, Pretolerance, Tolerance, LinePenalty, AdjDemerits, ClubPenalty, WidowPenalty, InterlinePenalty}
 use Rattle.command_core.specs.declared.command.Splitting.{Splitting}
 use Rattle.command_core.specs.declared.command.Taking.{Taking}
 use Rattle.command_core.specs.declared.command.Taking.TheVariants.{Moved, Copied}
@@ -72,6 +72,15 @@ with_parameter params (LineSkip glue) = record params { line_skip = glue }
 with_parameter params (LineSkipLimit limit) = record params { line_skip_limit = limit }
 with_parameter params (SplitMaxDepth depth) = record params { split = record params.split { split_max_depth = depth } }
 with_parameter params (SplitTopSkip glue) = record params { split = record params.split { split_top_skip = glue } }
+with_parameter params (Hsize size) = record params { hsize = size }
+with_parameter params (ParFillSkip glue) = record params { par_fill_skip = glue }
+with_parameter params (Pretolerance number) = record params { pretolerance = number }
+with_parameter params (Tolerance number) = record params { tolerance = number }
+with_parameter params (LinePenalty number) = record params { line_penalty = number }
+with_parameter params (AdjDemerits number) = record params { adj_demerits = number }
+with_parameter params (ClubPenalty number) = record params { club_penalty = number }
+with_parameter params (WidowPenalty number) = record params { widow_penalty = number }
+with_parameter params (InterlinePenalty number) = record params { interline_penalty = number }
 
 -- The state when the box of a closed list went into its register, or behind the innermost of the lists around.
 abbrev pub with_home : State → (around : List OpenList) → (into : Option ℕ) → BoxNode → State

@@ -49,24 +49,12 @@ pub fn split_box(
             refusal: Some(Refusal::WrongKind),
         });
     }
-    let BoxNode {
-        kind,
-        width,
-        height: own_height,
-        depth,
-        setting,
-        list,
-    } = box_node;
-    match split_list(list, height, params) {
+    match split_list(box_node.list, height, params) {
         Ok(parts) => Ok(parts),
         Err(unsplit) => Err(UnsplitBox {
             box_node: BoxNode {
-                kind,
-                width,
-                height: own_height,
-                depth,
-                setting,
                 list: unsplit.list,
+                ..box_node
             },
             refusal: refusal_for(unsplit.fault),
         }),

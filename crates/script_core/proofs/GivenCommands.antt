@@ -6,12 +6,13 @@ use Rattle.pack_core.specs.declared.pack.Target.{Target}
 use Rattle.pack_core.specs.declared.pack.Target.TheVariants.{Natural, To, Spread}
 use Rattle.command_core.specs.declared.command.BoxForm.{BoxForm}
 use Rattle.command_core.specs.declared.command.Taking.{Taking}
-use Rattle.command_core.specs.declared.command.Parameter.TheVariants.{BoxMaxDepth, BaselineSkip, LineSkip, LineSkipLimit, SplitMaxDepth, SplitTopSkip}
+use Rattle.command_core.specs.declared.command.Parameter.TheVariants.{BoxMaxDepth, BaselineSkip, LineSkip, LineSkipLimit, SplitMaxDepth, SplitTopSkip, Hsize, ParFillSkip, Pretolerance, Tolerance, LinePenalty, AdjDemerits, ClubPenalty, WidowPenalty, InterlinePenalty}
 use Rattle.command_core.specs.declared.command.Command.{Command}
 use Rattle.command_core.specs.declared.command.Command.TheVariants.{LoadFont, UseFont, Open, End, Text, Character, Rule, Kern, Glue, Penalty, Append, Unbox, LastBox, Split, Measure, Void, Set, Ship}
 use Rattle.script_core.specs.declared.name.Name.TheVariants as names
 use Rattle.script_core.specs.declared.amounts.Amount.{Amount}
 use Rattle.script_core.specs.Grammar.{register_count, slot_count, character_count, IsNumberAmong, IsRegister, IsChosenSize, IsTarget, IsDestination, IsShift, IsDimension, IsAmount, IsPart, IsGlue, Says}
+use Rattle.script_core.specs.ParameterNames.{size_name, skip_name, number_name}
 use Rattle.script_core.specs.Reading.{number_first, dimension_first, size_of_font_first, name_first, map_ok, size_first, last_number, last_dimension, chosen_size_of, font_of, rule_of, penalty_first, last_penalty, amount, amount_first, last_amount, opening, opening_with_register, opening_into, opening_with_size, opening_of, append, shift_of, append_of, unboxing, split, split_into, split_height, split_to, split_of, no_amount, glue, last_shrink_of, shrink_of, parts_of, glue_of, parameter_of, command_named, command_of}
 use Rattle.script_core.proofs.AmountLaws.{amount_given}
 use Rattle.script_core.proofs.FieldLaws.{number_written, penalty_written, dimension_read, size_given, font_named, size_of_font_is}
@@ -90,7 +91,7 @@ glue_given fields g (d, plus, minus, e, width, stretch, shrink) =
 
 -- the fields of a command are read as it
 pub complete : (fields : List (List ℕ)) (command : Command) → Says fields command → command_of fields ≡ Ok command
-unfolding command_named font_of number_first name_first rule_of parameter_of size_first last_dimension dimension_first last_penalty penalty_first
+unfolding command_named font_of number_first name_first rule_of parameter_of size_name skip_name number_name size_first last_dimension dimension_first last_penalty penalty_first
 complete fields (LoadFont load) (s, more, e, slot, name, size) =
     rw e (named names.Font (s ∷ load.name ∷ more) ∙ (rw (number_written slot_count s load.slot slot, font_named load.name name, chosen_size_given more load.size size) refl))
 complete fields (UseFont n) (s, e, h) = rw e (named names.Use (s ∷ []) ∙ number_alone slot_count UseFont s n h)
@@ -117,4 +118,13 @@ complete fields (Set (LineSkip g)) (more, e, h) = rw e (named names.Set (codes "
 complete fields (Set (LineSkipLimit z)) (d, e, h) = rw e (named names.Set (codes "lineskiplimit" ∷ d ∷ []) ∙ (rw (dimension_read d z h) refl))
 complete fields (Set (SplitMaxDepth z)) (d, e, h) = rw e (named names.Set (codes "splitmaxdepth" ∷ d ∷ []) ∙ (rw (dimension_read d z h) refl))
 complete fields (Set (SplitTopSkip g)) (more, e, h) = rw e (named names.Set (codes "splittopskip" ∷ more) ∙ (rw (glue_given more g h) refl))
+complete fields (Set (Hsize z)) (d, e, h) = rw e (named names.Set (codes "hsize" ∷ d ∷ []) ∙ (rw (dimension_read d z h) refl))
+complete fields (Set (ParFillSkip g)) (more, e, h) = rw e (named names.Set (codes "parfillskip" ∷ more) ∙ (rw (glue_given more g h) refl))
+complete fields (Set (Pretolerance z)) (p, e, h) = rw e (named names.Set (codes "pretolerance" ∷ p ∷ []) ∙ (rw (penalty_written p z h) refl))
+complete fields (Set (Tolerance z)) (p, e, h) = rw e (named names.Set (codes "tolerance" ∷ p ∷ []) ∙ (rw (penalty_written p z h) refl))
+complete fields (Set (LinePenalty z)) (p, e, h) = rw e (named names.Set (codes "linepenalty" ∷ p ∷ []) ∙ (rw (penalty_written p z h) refl))
+complete fields (Set (AdjDemerits z)) (p, e, h) = rw e (named names.Set (codes "adjdemerits" ∷ p ∷ []) ∙ (rw (penalty_written p z h) refl))
+complete fields (Set (ClubPenalty z)) (p, e, h) = rw e (named names.Set (codes "clubpenalty" ∷ p ∷ []) ∙ (rw (penalty_written p z h) refl))
+complete fields (Set (WidowPenalty z)) (p, e, h) = rw e (named names.Set (codes "widowpenalty" ∷ p ∷ []) ∙ (rw (penalty_written p z h) refl))
+complete fields (Set (InterlinePenalty z)) (p, e, h) = rw e (named names.Set (codes "interlinepenalty" ∷ p ∷ []) ∙ (rw (penalty_written p z h) refl))
 complete fields (Ship n) (r, e, h) = rw e (named names.Ship (r ∷ []) ∙ number_alone register_count Ship r n h)

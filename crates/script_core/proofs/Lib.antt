@@ -5,6 +5,7 @@ pub mod Numbers
 pub mod FieldLaws
 pub mod AmountLaws
 pub mod NameLaws
+pub mod ParameterNameLaws
 pub mod GivenCommands
 pub mod ReadFields
 pub mod CommandLaws

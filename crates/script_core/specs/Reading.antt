@@ -17,7 +17,6 @@ use Rattle.pack_core.specs.declared.pack.Target.TheVariants.{Natural, To, Spread
 use Rattle.command_core.specs.declared.command.BoxForm.{BoxForm}
 use Rattle.command_core.specs.declared.command.Taking.{Taking}
 use Rattle.command_core.specs.declared.command.Parameter.{Parameter}
-use Rattle.command_core.specs.declared.command.Parameter.TheVariants.{BoxMaxDepth, BaselineSkip, LineSkip, LineSkipLimit, SplitMaxDepth, SplitTopSkip}
 use Rattle.command_core.specs.declared.command.Command.{Command}
 use Rattle.command_core.specs.declared.command.Command.TheVariants.{LoadFont, UseFont, Open, End, Text, Character, Rule, Kern, Glue, Penalty, Append, Unbox, LastBox, Split, Measure, Void, Set, Ship}
 use Rattle.script_core.specs.declared.cause.Cause.{Cause}
@@ -29,7 +28,11 @@ use Rattle.script_core.specs.declared.script.ScriptFault.{ScriptFault}
 use Rattle.script_core.specs.declared.script.ScriptFault.TheVariants.{BadScript}
 use Rattle.script_core.specs.declared.name.Name.{Name}
 use Rattle.script_core.specs.declared.name.Name.TheVariants as names
+use Rattle.script_core.specs.declared.parameter.SizeParameter.{SizeParameter}
+use Rattle.script_core.specs.declared.parameter.SkipParameter.{SkipParameter}
+use Rattle.script_core.specs.declared.parameter.NumberParameter.{NumberParameter}
 use Rattle.script_core.specs.Names.{name_of}
+use Rattle.script_core.specs.ParameterNames.{size_name, skip_name, number_name, with_size, with_skip, with_number}
 use Rattle.script_core.specs.ScriptLines.{is_space, is_printable, is_passed_over, fields_of}
 use Rattle.script_core.specs.Grammar.{register_count, slot_count, character_count, is_name_byte}
 
@@ -341,17 +344,17 @@ parts_of width (word ∷ rest) =
 unfoldable pub glue_of : List (List ℕ) → Result glues.Glue Cause
 glue_of fields = and_then (dimension_first fields) (λ width. parts_of width (rest_of fields))
 
+-- what stands behind the name of a parameter, by the kind of value that it takes: a dimension, glue or a number; the cause is Word where there is no name
+abbrev pub parameter_by : Option SizeParameter → Option SkipParameter → Option NumberParameter → List (List ℕ) → Result Parameter Cause
+parameter_by (Some name) skip number rest = map_ok (with_size name) (last_dimension rest)
+parameter_by None (Some name) number rest = map_ok (with_skip name) (glue_of rest)
+parameter_by None None (Some name) rest = map_ok (with_number name) (last_penalty rest)
+parameter_by None None None rest = Err Word
+
 -- what the fields behind `set` say: the name of a parameter and its value
 unfoldable pub parameter_of : List (List ℕ) → Result Parameter Cause
 parameter_of [] = Err Missing
-parameter_of (word ∷ rest) =
-    if bytes_eq word (codes "boxmaxdepth") then map_ok BoxMaxDepth (last_dimension rest)
-    else (if bytes_eq word (codes "baselineskip") then map_ok BaselineSkip (glue_of rest)
-    else (if bytes_eq word (codes "lineskip") then map_ok LineSkip (glue_of rest)
-    else (if bytes_eq word (codes "lineskiplimit") then map_ok LineSkipLimit (last_dimension rest)
-    else (if bytes_eq word (codes "splitmaxdepth") then map_ok SplitMaxDepth (last_dimension rest)
-    else (if bytes_eq word (codes "splittopskip") then map_ok SplitTopSkip (glue_of rest)
-    else Err Word)))))
+parameter_of (word ∷ rest) = parameter_by (size_name word) (skip_name word) (number_name word) rest
 
 -- the size behind the name of a font: none, or `at` and a size
 unfoldable pub chosen_size_of : List (List ℕ) → Result (Option ℤ) Cause

@@ -13,6 +13,7 @@ use crate::amounts::{Amount, amount_of};
 use crate::cause::Cause;
 use crate::lines::first_field;
 use crate::name::Name;
+use crate::parameter::{number_name, size_name, skip_name, with_number, with_size, with_skip};
 use command_core::{
     BoxForm, BoxUse, Command, FontLoad, FontName, FontSize, Opening, Parameter, Register,
     Splitting, Taking, Target, Unboxing,
@@ -427,25 +428,19 @@ impl<'a> Fields<'a> {
         ensures { result ≡ parameter_of (fields_of self.old.rest.now) }
     {
         let word = self.field()?;
-        if word == b"boxmaxdepth".as_slice() {
-            return self.last_dimen().map(Parameter::BoxMaxDepth);
+        if let Some(name) = size_name(word) {
+            let size = self.last_dimen()?;
+            return Ok(with_size(name, size));
         }
-        if word == b"baselineskip".as_slice() {
-            return self.glue().map(Parameter::BaselineSkip);
+        if let Some(name) = skip_name(word) {
+            let glue = self.glue()?;
+            return Ok(with_skip(name, glue));
         }
-        if word == b"lineskip".as_slice() {
-            return self.glue().map(Parameter::LineSkip);
-        }
-        if word == b"lineskiplimit".as_slice() {
-            return self.last_dimen().map(Parameter::LineSkipLimit);
-        }
-        if word == b"splitmaxdepth".as_slice() {
-            return self.last_dimen().map(Parameter::SplitMaxDepth);
-        }
-        if word == b"splittopskip".as_slice() {
-            return self.glue().map(Parameter::SplitTopSkip);
-        }
-        Err(Cause::Word)
+        let Some(name) = number_name(word) else {
+            return Err(Cause::Word);
+        };
+        let number = self.last_penalty()?;
+        Ok(with_number(name, number))
     }
 
     /// What stands behind `rule`.

@@ -549,6 +549,15 @@ impl Kept {
             Parameter::LineSkipLimit(limit) => self.params.line_skip_limit = limit,
             Parameter::SplitMaxDepth(depth) => self.params.split.split_max_depth = depth,
             Parameter::SplitTopSkip(glue) => self.params.split.split_top_skip = glue,
+            Parameter::Hsize(size) => self.params.hsize = size,
+            Parameter::ParFillSkip(glue) => self.params.par_fill_skip = glue,
+            Parameter::Pretolerance(number) => self.params.pretolerance = number,
+            Parameter::Tolerance(number) => self.params.tolerance = number,
+            Parameter::LinePenalty(number) => self.params.line_penalty = number,
+            Parameter::AdjDemerits(number) => self.params.adj_demerits = number,
+            Parameter::ClubPenalty(number) => self.params.club_penalty = number,
+            Parameter::WidowPenalty(number) => self.params.widow_penalty = number,
+            Parameter::InterlinePenalty(number) => self.params.interline_penalty = number,
         }
         Ok(Answer::Done)
     }

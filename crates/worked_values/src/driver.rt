@@ -1,7 +1,5 @@
 //! DVI files that are read: their listings, and why they are refused.
 
-ghost use Rattle.std.specs.Prelude.{◌≤◌, length};
-
 use crate::changed_bytes::with_byte;
 use crate::samples::TINY;
 use dvi_frame::{BadDvi, DviCause};
@@ -121,11 +119,10 @@ fn bad(place: usize, cause: DviCause) -> DviFault {
 
 /// The file of one rule, but its bop names its own place in the place of -1.
 fn naming_itself(bytes: [u8; 116]) -> [u8; 116] {
-    let mut changed = bytes;
-    for (place, byte) in [(56, 0), (57, 0), (58, 0), (59, 15)] {
-        changed = with_byte(changed, place, byte);
-    }
-    changed
+    let first = with_byte(bytes, 56, 0);
+    let second = with_byte(first, 57, 0);
+    let third = with_byte(second, 58, 0);
+    with_byte(third, 59, 15)
 }
 
 #[test]
@@ -247,10 +244,33 @@ fn defined(check_sum: u8, area: u8) -> [u8; 21] {
     ]
 }
 
+/// Asserts the listing of a page of this body, with no font files.
+fn expect_marks(rt: &impl Abort, alloc: Global, body: &[u8], marks: &str) -> Result<(), Fail> {
+    let file = file_of(alloc, &Parts::of(body))?;
+    let want = format!(in alloc; "page 1 counts 0 0 0 0 0 0 0 0 0 0\n{marks}")?;
+    expect_listed(rt, alloc, &file, &[], &want)
+}
+
+/// A special whose text is a bop.
+fn hidden_bop() -> [u8; 47] {
+    let mut special = [0; 47];
+    for (at, byte) in [
+        (0, 0xef),
+        (1, 45),
+        (2, 0x8b),
+        (43, 0xff),
+        (44, 0xff),
+        (45, 0xff),
+        (46, 0xff),
+    ] {
+        special[at] = byte;
+    }
+    special
+}
+
 #[test]
 fn instructions_that_the_writer_has_not(rt: HostRuntime) -> Result<(), Fail> {
     let alloc = rt.alloc();
-    let head = "page 1 counts 0 0 0 0 0 0 0 0 0 0\n";
     let rule = [0x89, 0, 0, 0, 1, 0, 0, 0, 1];
     let saved = joined(
         alloc,
@@ -264,28 +284,18 @@ fn instructions_that_the_writer_has_not(rt: HostRuntime) -> Result<(), Fail> {
         ],
     )?;
     let moved = joined(alloc, &[&[0x84, 0x80, 0, 0, 0, 0, 0, 0, 5], &rule])?;
-    for (body, marks) in [
-        (&saved, "rule 5 0 1 1\nrule 12 0 1 1\nrule 10 0 1 1\n"),
-        (&moved, "rule 5 0 1 1\n"),
-    ] {
-        let file = file_of(alloc, &Parts::of(body))?;
-        let want = format!(in alloc; "{head}{marks}")?;
-        expect_listed(&rt, alloc, &file, &[], &want)?;
-    }
-    let far = file_of(alloc, &Parts::of(&[0x92, 0x7f, 0xff, 0xff, 0xff, 0x8f, 1]))?;
+    let three = "rule 5 0 1 1\nrule 12 0 1 1\nrule 10 0 1 1\n";
+    expect_marks(&rt, alloc, &saved, three)?;
+    expect_marks(&rt, alloc, &moved, "rule 5 0 1 1\n")
+}
+
+#[test]
+fn places_that_are_wrong(rt: HostRuntime) -> Result<(), Fail> {
+    let alloc = rt.alloc();
+    let body = [0x92, 0x7f, 0xff, 0xff, 0xff, 0x8f, 1];
+    let far = file_of(alloc, &Parts::of(&body))?;
     expect_refused(&rt, alloc, &far, bad(65, DviCause::Range));
-    let mut special = [0; 47];
-    for (at, byte) in [
-        (0, 0xef),
-        (1, 45),
-        (2, 0x8b),
-        (43, 0xff),
-        (44, 0xff),
-        (45, 0xff),
-        (46, 0xff),
-    ] {
-        special[at] = byte;
-    }
+    let special = hidden_bop();
     let hidden = file_of(
         alloc,
         &Parts {

@@ -3,7 +3,6 @@
 use node_core::{Glue, Node, NodeList, Order, Rule, RuleSize, SplitParams};
 use pack_core::Packed;
 use scaled_core::Dimen;
-use std::alloc::Global;
 use std::process::Abort;
 use std::test::Fail;
 use vert_core::{Split, SplitFault, split, split_list};

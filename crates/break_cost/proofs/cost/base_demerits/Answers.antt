@@ -1,6 +1,5 @@
-use Rattle.std.proofs.Common.{◌+ℤ◌, ◌*ℤ◌, to_z, of_z, w64, arith}
+use Rattle.std.proofs.Common.{◌+ℤ◌, to_z, of_z, w64, arith}
 use Rattle.std.proofs.lemmas.Int.{ints}
-use Rattle.scaled_core.specs.Dimensions.{Within}
 use Rattle.break_cost.proofs.Costs.{square_small}
 use Rattle.break_cost.proofs.cost.base_demerits.Goals as goal
 

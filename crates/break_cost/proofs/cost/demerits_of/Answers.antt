@@ -1,4 +1,4 @@
-use Rattle.std.proofs.Common.{◌≡◌, ◌∙◌, ◌+ℤ◌, to_z, of_z, w32, w64, refl, ap, sym, arith}
+use Rattle.std.proofs.Common.{◌≡◌, ◌∙◌, ◌+ℤ◌, to_z, of_z, w32, w64, arith}
 use Rattle.std.proofs.lemmas.Int.{ints}
 use Rattle.break_cost.proofs.Costs.{sum_is}
 use Rattle.break_cost.proofs.cost.demerits_of.Goals as goal
