@@ -205,7 +205,10 @@ pub enum Command {
     UseFont(u8),
     /// Opens a list.
     Open(Opening),
-    /// Packs the innermost open list and puts the box into its register or behind the enclosing list.
+    /// Opens a paragraph inside a vertical list.
+    Paragraph,
+    /// Packs the innermost open list and puts the box into its register or behind the enclosing list; or breaks a paragraph into lines, which go behind
+    /// the enclosing list.
     End,
     /// Appends a text in the current font to the innermost open list: words with their kerns and ligatures, and a glue for each run of
     /// spaces.
@@ -264,6 +267,14 @@ pub enum Answer {
     },
     /// How many items were added to the open list.
     Added(usize),
+    /// How many lines a paragraph has, the pass that decided, from 1, how far overfull lines hang over together, in scaled points, and the demerits of
+    /// its lines; all 0 where the paragraph is empty.
+    Paragraph {
+        lines: usize,
+        pass: u8,
+        overhang: i64,
+        demerits: i64,
+    },
     /// The sizes of the front of a split and the badness of its setting, and the sizes of what is left, if something is.
     Split {
         front: Sizes,
@@ -299,8 +310,10 @@ pub enum Refusal {
     ListTooLong,
     #[error("more than 64 lists would be open, or a box is deeper than 200")]
     TooDeep,
-    #[error("a list that is split shrinks without limit")]
+    #[error("a list that is split or a paragraph shrinks without limit")]
     InfiniteShrink,
+    #[error("a paragraph has more than 8192 places for breaks")]
+    TooManyBreaks,
     #[error("a place or size of the page does not fit")]
     HugePage,
     #[error("as many pages as there can be are shipped already")]
