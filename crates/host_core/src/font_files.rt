@@ -1,7 +1,7 @@
 //! The font files that a command line names.
 
-ghost use Rattle.std.specs.Prelude.{◌≡◌, ◌++◌, ◌∷◌, [], List, IfOk, IfErr, IfSome, OnOk};
-ghost use Rattle.host_core.specs.Hosts.{AreFilesOf, IsUnread, IsUnreadOf};
+ghost use Rattle.std.specs.Prelude.{◌++◌, ◌∷◌, [], List, IfOk, IfErr, OnOk};
+ghost use Rattle.host_core.specs.Hosts.{AreFilesOf, IsFileOf, IsUnread, IsUnreadOf};
 
 use crate::host::{Host, HostFault};
 use std::alloc::Global;
@@ -23,9 +23,8 @@ fn read_font<'a, H: Host>(
     host: &H,
     font: &NamedPath<'a>,
 ) -> Result<FontFile, Unread<'a>>
-    ensures name { IfOk result (λ file. file.name ≡ font.now.name) }
-    ensures bytes { IfOk result (λ file. IfSome (H.file host.now font.now.path.now) (λ bytes. file.bytes ≡ bytes)) }
-    ensures err { IfErr result (IsUnreadOf font.now) }
+    ensures ok { IfOk result (IsFileOf (H.file host.now) font.now) }
+    ensures err { IfErr result (IsUnreadOf (H.file host.now) font.now) }
 {
     let bytes = match host.read_file(alloc, font.path) {
         Ok(bytes) => bytes,
@@ -46,13 +45,13 @@ fn push_font<'a, H: Host>(
     files: &mut Vec<FontFile>,
 ) -> Result<(), Unread<'a>>
     ensures ok { (before : List NamedPath) → AreFilesOf (H.file host.now) before files.old.items → OnOk result (AreFilesOf (H.file host.now) (before ++ font.now ∷ []) files.new.items) }
-    ensures err { IfErr result (IsUnreadOf font.now) }
+    ensures err { IfErr result (IsUnreadOf (H.file host.now) font.now) }
 {
     let file = read_font(alloc, host, font)?;
-    match files.push(file) {
-        Ok(()) => Ok(()),
-        Err(_) => Err(Unread::OutOfMemory),
-    }
+    let Ok(()) = files.push(file) else {
+        return Err(Unread::OutOfMemory);
+    };
+    Ok(())
 }
 
 /// The files of fonts, in their order. Where one cannot be read, its path is named, and those behind it are not asked for.
@@ -62,11 +61,13 @@ pub fn read_fonts<'a, H: Host>(
     fonts: &[NamedPath<'a>],
 ) -> Result<Vec<FontFile>, Unread<'a>>
     ensures ok { IfOk result (λ files. AreFilesOf (H.file host.now) fonts.now files.items) }
-    ensures err { IfErr result (IsUnread fonts.now) }
+    ensures err { IfErr result (IsUnread (H.file host.now) fonts.now) }
 {
     let mut files = Vec::new(alloc);
     for font in fonts {
-        push_font(alloc, host, font, &mut files)?;
+        if let Err(fault) = push_font(alloc, host, font, &mut files) {
+            return Err(fault);
+        }
     }
     Ok(files)
 }

@@ -3,6 +3,9 @@
 use std::alloc::Global;
 use thiserror::Error;
 
+/// How many bytes a reading may have, and how many calls it may take.
+pub const READ_LIMIT: usize = 268_435_456;
+
 /// Why a host did not do what it was asked for.
 #[derive(Clone, Copy, Debug, PartialEq, Eq, Error)]
 pub enum HostFault {
@@ -15,10 +18,11 @@ pub enum HostFault {
 }
 
 /// A host has files by their paths, standard input, and one file that it creates and writes. It may tell what they hold; the host of a real program
-/// tells nothing.
+/// tells nothing. A reading is whole, and ends at `READ_LIMIT` bytes.
 pub trait Host {
-    ghost use Rattle.std.specs.Prelude.{◌≡◌, ◌≤◌, ◌<◌, ℕ, List, Option, length, take, IfOk, IfSome, OnOk, OnErr};
+    ghost use Rattle.std.specs.Prelude.{◌≡◌, ◌≤◌, ◌<◌, ℕ, List, Option, Err, length, take, IfOk, IfSome, OnOk, OnErr};
     ghost use Rattle.device_core.specs.Told.{grown};
+    ghost use Rattle.host_core.specs.Readings.{IsReading, IsUnreadable};
     ghost use Rattle.host_core.specs.Hosts.{begun};
 
     /// The bytes of the file at a path, where they are told.
@@ -32,11 +36,13 @@ pub trait Host {
 
     /// All bytes of the file at a path.
     fn read_file(&self, alloc: Global, path: &str) -> Result<Vec<u8>, HostFault>
-        ensures { IfOk result (λ read. IfSome (file self.now path.now) (λ bytes. read.items ≡ bytes)) };
+        ensures ok { IfOk result (λ read. IsReading (file self.now path.now) read.items) }
+        ensures failed { result ≡ Err HostFault.Failed → IsUnreadable (file self.now path.now) };
 
     /// All bytes of standard input.
     fn read_input(&self, alloc: Global) -> Result<Vec<u8>, HostFault>
-        ensures { IfOk result (λ read. IfSome (input self.now) (λ bytes. read.items ≡ bytes)) };
+        ensures ok { IfOk result (λ read. IsReading (input self.now) read.items) }
+        ensures failed { result ≡ Err HostFault.Failed → IsUnreadable (input self.now) };
 
     /// Makes the file at a path an empty one, which `write` goes on with.
     fn create(&mut self, path: &str) -> Result<(), HostFault>

@@ -11,6 +11,6 @@ mod reading;
 
 pub use file_device::FileDevice;
 pub use font_files::{Unread, read_fonts};
-pub use host::{Host, HostFault};
+pub use host::{Host, HostFault, READ_LIMIT};
 pub use memory_host::{HeldFile, MemoryHost};
 pub use reading::read_all;

@@ -1,10 +1,11 @@
 //! A host in memory.
 
-ghost use Rattle.std.specs.Prelude.{◌≡◌, [], false, option_map};
+ghost use Rattle.std.specs.Prelude.{◌≡◌, ◌≤◌, ◌<◌, [], false, length, option_map, Err, IfOk};
 ghost use Rattle.std.specs.Str.{bytes_eq};
 ghost use Rattle.host_core.specs.HostInMemory.{held_at};
+ghost use Rattle.host_core.specs.declared.host.TheConstants.{READ_LIMIT};
 
-use crate::host::{Host, HostFault};
+use crate::host::{Host, HostFault, READ_LIMIT};
 use std::alloc::Global;
 use std::marker::Model;
 
@@ -100,6 +101,20 @@ impl MemoryHost {
     }
 }
 
+/// What is read of bytes in memory: all of them, where they are not too many.
+fn copy(alloc: Global, bytes: &[u8]) -> Result<Vec<u8>, HostFault>
+    ensures ok { IfOk result (λ read. (read.items ≡ bytes.now) × (length bytes.now ≤ READ_LIMIT)) }
+    ensures failed { result ≡ Err HostFault.Failed → READ_LIMIT < length bytes.now }
+{
+    if bytes.len() > READ_LIMIT {
+        return Err(HostFault::Failed);
+    }
+    match Vec::from_slice(alloc, bytes) {
+        Ok(read) => Ok(read),
+        Err(_) => Err(HostFault::OutOfMemory),
+    }
+}
+
 /// The bytes of the first file at a path, where there is one.
 fn held_at<'a>(files: &'a [HeldFile], path: &[u8]) -> Option<&'a [u8]>
     ensures { option_map (λ bytes. bytes.now) result ≡ held_at files.now path.now }
@@ -118,20 +133,14 @@ impl Host for MemoryHost {
     ghost written = { λ host. Some host.written };
 
     fn read_file(&self, alloc: Global, path: &str) -> Result<Vec<u8>, HostFault> {
-        let Some(bytes) = held_at(&self.files, path.as_bytes()) else {
-            return Err(HostFault::Failed);
-        };
-        match Vec::from_slice(alloc, bytes) {
-            Ok(read) => Ok(read),
-            Err(_) => Err(HostFault::OutOfMemory),
+        match held_at(&self.files, path.as_bytes()) {
+            Some(bytes) => copy(alloc, bytes),
+            None => Err(HostFault::Failed),
         }
     }
 
     fn read_input(&self, alloc: Global) -> Result<Vec<u8>, HostFault> {
-        match self.input.to_vec(alloc) {
-            Ok(read) => Ok(read),
-            Err(_) => Err(HostFault::OutOfMemory),
-        }
+        copy(alloc, &self.input)
     }
 
     fn create(&mut self, path: &str) -> Result<(), HostFault> {

@@ -2,13 +2,11 @@
 
 ghost use Rattle.std.specs.Prelude.{◌≡◌, ◌≤◌, ◌++◌, length, IfOk, OnOk};
 ghost use Rattle.std.specs.Io.KnownBytes.{Consumes, IsAtEnd};
+ghost use Rattle.host_core.specs.declared.host.TheConstants.{READ_LIMIT};
 
-use crate::host::HostFault;
+use crate::host::{HostFault, READ_LIMIT};
 use std::alloc::Global;
 use std::io::{Error, ErrorKind, Read};
-
-/// How many bytes a reading may have, and how many calls it may take.
-pub const READ_LIMIT: usize = 268_435_456;
 
 /// How many bytes a call asks for.
 const BUFFER: usize = 65_536;
