@@ -1,5 +1,5 @@
 -- Files of fonts, and what a file device tells.
-use Rattle.std.proofs.Common.{◌≡◌, ◌++◌, ◌<◌, [], ◌∷◌, List, ℕ, Option, Some, None, length, refl, sym, ◌∙◌, ap, arith, zero, suc, take, drop, get_or, true, false}
+use Rattle.std.proofs.Common.{◌≡◌, ◌++◌, ◌<◌, [], ◌∷◌, List, ℕ, Option, Some, None, length, refl, sym, ◌∙◌, ap, arith, zero, suc, take, drop, get_or, false}
 use Rattle.std.specs.Prelude.{IfSome}
 use Rattle.tfm_core.specs.NamedBytes.{NamedBytes}
 use Rattle.word_core.specs.declared.fonts.NamedPath.{NamedPath}
