@@ -1,3 +1,3 @@
 pub mod Nests
-pub mod SplitRefusals
 pub mod PackedItems
+pub mod ParagraphEnds

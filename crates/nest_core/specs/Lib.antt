@@ -1,5 +1,6 @@
 pub mod State
 pub mod OpenLists
+pub mod Paragraphs
 pub mod Checks
 pub mod Answers
 pub mod Effects
@@ -8,4 +9,3 @@ pub mod FontSlots
 pub mod Runs
 pub mod EmptiedNest
 pub mod Lending
-pub mod SplitFaults

@@ -1,21 +1,24 @@
 //! The open lists of a job.
 
-ghost use Rattle.std.specs.Prelude.{◌≡◌, ◌<◌, ◌≤◌, ◌+◌, ◌-◌, ◌++◌, ◌∷◌, [], pos, List, length, None, OnOk, OnErr, IfOk, IfErr, IfSome, IsOk, Some, option_copied};
+ghost use Rattle.std.specs.Prelude.{◌≡◌, ◌<◌, ◌≤◌, ◌+◌, ◌-◌, ◌++◌, ◌∷◌, [], pos, List, length, None, ◌≢◌, Ok, Err, OnOk, OnErr, IfOk, IfErr, IfSome, IsOk, Some, option_copied};
 ghost use Rattle.node_core.specs.Items.{none};
 ghost use Rattle.node_core.specs.Nodes.{most_nodes, items_of, nodes_of, last_box};
 ghost use Rattle.vert_core.specs.Interline.{interline, glue_of, appended};
 ghost use Rattle.nest_core.specs.State.{innermost, items_in, nodes_in, outer};
-ghost use Rattle.nest_core.specs.OpenLists.{kind_by, register_of, packed_by, opened_list, glue_in, box_items, packed_as, packed_list};
+ghost use Rattle.nest_core.specs.OpenLists.{kind_by, packed_by, opened_list, glue_in, box_items, packed_as, packed_list};
 ghost use Rattle.nest_core.specs.Checks.{box_checks, inner_checks, is_other, first_of};
 ghost use Rattle.nest_core.specs.Effects.{with_nodes, with_rule, list_with_box, with_box, without_last};
 ghost use Rattle.nest_core.specs.EmptiedNest.{emptied_nest, refilled_nest};
 ghost use Rattle.nest_core.specs.Lending.{LendsInnermost};
+ghost use Rattle.nest_core.specs.Paragraphs.{with_lines};
+ghost use Rattle.paragraph_core.specs.Setting.{setting};
 ghost use Rattle.std.specs.Borrow.{sem};
 
 use command_core::limits::{MOST_ITEMS, MOST_OPEN};
-use command_core::{BoxForm, Opening, Refusal, Register};
+use command_core::{BoxForm, Opening, Refusal};
 use node_core::{BoxNode, Glue, Kind, Node, NodeList, Params, Rule};
 use pack_core::{Packed, Target, TooLarge, hpack, vpack, vtop};
+use paragraph_core::{ParagraphFault, SetParagraph, set_paragraph};
 use scaled_core::Dimen;
 use smallvec::SmallVec;
 use std::alloc::{AllocError, Global};
@@ -29,6 +32,8 @@ use vert_core::{DimensionTooLarge, append_with_glue, interline_glue};
 pub enum ListPurpose {
     /// It becomes a box.
     Box(Opening),
+    /// It becomes the lines of a paragraph in the list around it.
+    Paragraph,
 }
 
 impl ListPurpose {
@@ -38,15 +43,7 @@ impl ListPurpose {
     {
         match self {
             ListPurpose::Box(opening) => opening.form.kind(),
-        }
-    }
-
-    /// The register that the box of the list goes into; None where it goes into the enclosing list.
-    pub fn register(self) -> Option<Register>
-        ensures { result ≡ register_of self }
-    {
-        match self {
-            ListPurpose::Box(opening) => opening.into,
+            ListPurpose::Paragraph => Kind::Horizontal,
         }
     }
 }
@@ -90,18 +87,19 @@ fn pack_as(
     }
 }
 
-/// The box that a list becomes, or the list where a size does not fit.
+/// The box that a list becomes, or the list where a size does not fit. A paragraph becomes no box.
 fn pack_for(purpose: ListPurpose, params: &Params, list: NodeList) -> Result<Packed, TooLarge>
     ensures value { result ≡ packed_by purpose params.now list }
     ensures back { IfErr result (λ large. large.list ≡ list) }
 {
     match purpose {
         ListPurpose::Box(opening) => pack_as(opening.form, opening.target, params, list),
+        ListPurpose::Paragraph => Err(TooLarge { list }),
     }
 }
 
 /// Whether two kinds are not the same.
-pub(crate) fn is_other(a: Kind, b: Kind) -> bool
+pub fn is_other(a: Kind, b: Kind) -> bool
     ensures { result ≡ is_other a b }
 {
     a != b
@@ -229,6 +227,19 @@ impl OpenList {
             Kind::Vertical => self.append_down(box_node, shift, params),
         }
     }
+
+    /// Puts what the lines of a paragraph bring at the end of the list, whose previous depth is then that of the last line. Where memory is refused,
+    /// the list is as it was.
+    fn append_lines(&mut self, set: SetParagraph) -> Result<(), AllocError>
+        requires { length (nodes_of self.old.list) + length (nodes_of set.items) ≤ most_nodes }
+        ensures ok { OnOk result (self.new ≡ record self.old { list = items_of (nodes_of self.old.list ++ nodes_of set.items); previous_depth = set.depth }) }
+        ensures err { OnErr result (self.new ≡ self.old) }
+    {
+        let mut items = set.items;
+        self.list.append(&mut items)?;
+        self.previous_depth = set.depth;
+        Ok(())
+    }
 }
 
 /// The open lists, the outermost first: at most `MOST_OPEN`.
@@ -299,14 +310,14 @@ impl Nest {
     }
 
     /// Opens a list without nodes inside the others.
-    pub fn begin(&mut self, opening: Opening) -> Result<(), AllocError>
+    pub fn begin(&mut self, purpose: ListPurpose) -> Result<(), AllocError>
         requires { length self.old < MOST_OPEN }
-        ensures ok { OnOk result (self.new ≡ self.old ++ opened_list opening ∷ []) }
+        ensures ok { OnOk result (self.new ≡ self.old ++ opened_list purpose ∷ []) }
         ensures err { OnErr result (self.new ≡ self.old) }
     {
         let list = NodeList::new(*self.lists.allocator());
         self.lists.push(OpenList {
-            purpose: ListPurpose::Box(opening),
+            purpose,
             list,
             previous_depth: Dimen::IGNORE_DEPTH,
         })?;
@@ -465,6 +476,44 @@ impl Nest {
             return Err(box_node);
         };
         around.append_with_glue(box_node, Dimen::ZERO, params)?;
+        let _ = self.lists.pop();
+        Ok(())
+    }
+
+    /// Sets the paragraph of the innermost list behind that previous depth. The lists stay as they are.
+    #[tactic(auto, using(crate::proofs::Nests::same_innermost))]
+    pub(crate) fn set_innermost(
+        &mut self,
+        previous_depth: Dimen,
+        params: &Params,
+    ) -> Result<SetParagraph, ParagraphFault>
+        requires { length (nodes_of (items_in (innermost self.old))) + 2 ≤ most_nodes }
+        ensures ok { IfOk result (λ set. setting (nodes_of (items_in (innermost self.old))) params.now previous_depth ≡ Ok set) }
+        ensures refused { IfErr result (λ fault. fault ≢ ParagraphFault.OutOfMemory → setting (nodes_of (items_in (innermost self.old))) params.now previous_depth ≡ Err fault) }
+        ensures same { self.new ≡ self.old }
+    {
+        let alloc = *self.lists.allocator();
+        let Some(innermost) = self.innermost_mut() else {
+            return Err(ParagraphFault::OutOfMemory);
+        };
+        set_paragraph(alloc, &mut innermost.list, params, previous_depth)
+    }
+
+    /// Puts what the lines of a paragraph bring at the end of the list around the innermost one, and takes that one away. Where memory is refused, the
+    /// lists are as they were.
+    pub(crate) fn close_paragraph(&mut self, set: SetParagraph) -> Result<(), AllocError>
+        requires { length (nodes_of (items_in (innermost (outer self.old)))) + length (nodes_of set.items) ≤ most_nodes }
+        ensures ok { OnOk result (self.new ≡ with_lines (outer self.old) (innermost (outer self.old)) (Ok set)) }
+        ensures err { OnErr result (self.new ≡ self.old) }
+    {
+        let count = self.lists.len();
+        if count < 2 {
+            return Err(AllocError);
+        }
+        let Some(around) = self.lists.get_mut(count - 2) else {
+            return Err(AllocError);
+        };
+        around.append_lines(set)?;
         let _ = self.lists.pop();
         Ok(())
     }

@@ -1,7 +1,7 @@
 -- Nothing speaks against a vbox that was split.
 use Rattle.std.proofs.Common.{◌∙◌, sym}
-use Rattle.nest_core.proofs.SplitRefusals.{vbox_free}
-use Rattle.nest_core.proofs.splits.split_box.Goals as goal
+use Rattle.register_core.proofs.SplitRefusals.{vbox_free}
+use Rattle.register_core.proofs.splits.split_box.Goals as goal
 
 pub returns-in-Ok-clause-ok : goal.returns-in-Ok-clause-ok
 returns-in-Ok-clause-ok c =

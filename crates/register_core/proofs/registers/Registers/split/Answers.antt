@@ -1,7 +1,7 @@
 -- What a split makes of the registers, and what it leaves.
 use Rattle.std.proofs.Common.{◌∙◌, sym}
-use Rattle.nest_core.proofs.SplitRefusals.{void_split, parts_split, box_back, refused_split}
-use Rattle.nest_core.proofs.registers.Registers.split.Goals as goal
+use Rattle.register_core.proofs.SplitRefusals.{void_split, parts_split, box_back, refused_split}
+use Rattle.register_core.proofs.registers.Registers.split.Goals as goal
 
 pub returns-in_default-clause-state : goal.returns-in_default-clause-state
 returns-in_default-clause-state c =

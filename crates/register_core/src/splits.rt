@@ -4,9 +4,9 @@ ghost use Rattle.std.specs.Prelude.{◌≡◌, None, Some, IfOk, IfErr, OnOk};
 ghost use Rattle.node_core.specs.Nodes.{nodes_of};
 ghost use Rattle.split_core.specs.Split.{front_of, rest_of};
 ghost use Rattle.nest_core.specs.Checks.{split_checks, first_of};
-ghost use Rattle.nest_core.specs.SplitFaults.{refusal_for};
+ghost use Rattle.register_core.specs.SplitFaults.{refusal_for};
 
-use crate::nest::is_other;
+use nest_core::nest::is_other;
 use command_core::Refusal;
 use node_core::{BoxNode, Kind, SplitParams};
 use scaled_core::Dimen;

@@ -18,7 +18,7 @@ use Rattle.nest_core.specs.State.{held_in}
 use Rattle.nest_core.specs.Checks.{is_other, split_checks, first_of}
 use Rattle.nest_core.specs.Effects.{with_parts, with_split}
 use Rattle.nest_core.specs.Machine.{state_by}
-use Rattle.nest_core.specs.SplitFaults.{refusal_for}
+use Rattle.register_core.specs.SplitFaults.{refusal_for}
 use Rattle.nest_core.proofs.Nests.{set_again, held_back, void_again}
 
 -- The fault of a split is the first refusal of the items of a vbox.
