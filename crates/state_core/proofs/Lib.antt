@@ -2,6 +2,7 @@ pub mod KeptRest
 pub mod Refusals
 pub mod SplitParts
 pub mod SplitBoxes
+pub mod SetLines
 pub mod SizedGlyphs
 pub mod LoadedFonts
 pub mod TakenBoxes

@@ -19,7 +19,7 @@ use Rattle.dvi_layout.proofs.EachOf.{each_taken}
 use Rattle.state_core.specs.Sized.{HasSizes, IsSizedLeaf, IsSoundBox, IsSizedHeld}
 
 module _ {A : Type 0} (P : A → Type 0) where
-  each_dropped : (n : ℕ) (xs : List A) → AllByRecursion P xs → AllByRecursion P (drop n xs)
+  pub each_dropped : (n : ℕ) (xs : List A) → AllByRecursion P xs → AllByRecursion P (drop n xs)
   each_dropped zero xs all = all
   each_dropped (suc n) [] all = tt
   each_dropped (suc n) (x ∷ xs) all = each_dropped n xs all.1

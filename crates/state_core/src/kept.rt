@@ -21,10 +21,10 @@ use command_core::{
 };
 use dvi_layout::{Fonts, LoadedFont};
 use nest_core::fonts::read_font;
-use nest_core::nest::Nest;
-use nest_core::registers::{Registers, sizes_of};
+use nest_core::nest::{ListPurpose, Nest};
 use node_core::{BoxNode, Kind, Node, Params, Rule, RuleSize};
 use pack_core::Packed;
+use register_core::registers::{Registers, sizes_of};
 use scaled_core::Dimen;
 use shape_core::{Missing, shape_character, shape_text};
 use ship_core::{PagePoint, is_huge};
@@ -261,8 +261,19 @@ impl Kept {
         if count >= MOST_OPEN {
             return Ok(Err(Refusal::TooDeep));
         }
-        self.nest.begin(opening)?;
+        self.nest.begin(ListPurpose::Box(opening))?;
         Ok(Ok(Answer::Done))
+    }
+
+    /// Opens a paragraph inside a vertical list.
+    pub fn open_paragraph(&mut self) -> Result<Reply, AllocError>
+        requires { self.old.over ≡ false }
+        ensures reply { IfOk result (λ reply. reply ≡ reply_to self.old commands.Paragraph) }
+        ensures state { OnOk result (self.new ≡ state_after self.old commands.Paragraph) }
+        ensures err { OnErr result (self.new ≡ self.old) }
+        ensures admitted { OnErr result (first_of (checks self.old commands.Paragraph) ≡ None) }
+    {
+        self.nest.open_paragraph()
     }
 
     /// Appends an item.
@@ -446,19 +457,22 @@ impl Kept {
         self.registers.split(splitting, &self.params.split)
     }
 
-    /// Packs the innermost list, and puts the box into its register or behind the list around it.
+    /// Ends the innermost list: its box goes into its register or behind the list around it, or the lines of its paragraph go behind that list.
     pub fn end(&mut self) -> Result<Reply, AllocError>
         requires { self.old.over ≡ false }
         ensures reply { IfOk result (λ reply. reply ≡ reply_to self.old commands.End) }
         ensures state { OnOk result (self.new ≡ state_after self.old commands.End) }
         ensures err { OnErr result (self.new ≡ self.old) }
-        ensures admitted { OnErr result (first_of (checks self.old commands.End) ≡ None) }
+        ensures early { OnErr result (first_of (early_checks self.old commands.End) ≡ None) }
         ensures takes { OnErr result (GoesIntoList (innermost self.old.nest)) }
     {
         let Some(innermost) = self.nest.innermost() else {
             return Ok(Err(Refusal::NoOpenList));
         };
-        let into = innermost.purpose.register();
+        let into = match innermost.purpose {
+            ListPurpose::Box(opening) => opening.into,
+            ListPurpose::Paragraph => return self.nest.end_paragraph(&self.params),
+        };
         let Some(packed) = self.nest.pack(&self.params) else {
             return Ok(Err(Refusal::DimensionTooLarge));
         };

@@ -5,6 +5,7 @@ use Rattle.command_core.specs.declared.limits.TheConstants.{MOST_OPEN}
 use Rattle.command_core.specs.declared.command.Opening.{Opening}
 use Rattle.command_core.specs.declared.command.Command.TheVariants as commands
 use Rattle.nest_core.specs.declared.nest.OpenList.{OpenList}
+use Rattle.nest_core.specs.declared.nest.ListPurpose.TheVariants.{Box}
 use Rattle.nest_core.specs.State.{State}
 use Rattle.nest_core.specs.OpenLists.{opened_list}
 use Rattle.nest_core.specs.Checks.{open_checks, first_of}
@@ -27,7 +28,7 @@ some_into (Some r) count none tells is = refl
 
 -- A list that nothing refuses is opened behind the others.
 opened : (s : State) (opening : Opening) (now : List OpenList) → s.over ≡ false → first_of (open_checks s.nest opening.into) ≡ None
-    → now ≡ s.nest ++ opened_list opening ∷ [] → record s { nest = now } ≡ state_after s (commands.Open opening)
+    → now ≡ s.nest ++ opened_list (Box opening) ∷ [] → record s { nest = now } ≡ state_after s (commands.Open opening)
 opened s opening now running none is = rw (running, none, is) refl
 
 pub returns-clause-state : goal.returns-clause-state
@@ -40,4 +41,4 @@ returns-clause-state c =
     (lt-leb MOST_OPEN c.len-count.result (omega (arith, c.if-count-ge-MOST_OPEN.false))) in
     ap (λ (t : State). record t { nest = c.begin.new.self }) c.self.view_is
     ∙ opened s c.args.opening c.begin.new.self c.requires none
-    (c.in_ok-begin.ensures.ok ∙ ap (λ (lists : List OpenList). lists ++ opened_list c.args.opening ∷ []) nest)
+    (c.in_ok-begin.ensures.ok ∙ ap (λ (lists : List OpenList). lists ++ opened_list (Box c.args.opening) ∷ []) nest)
