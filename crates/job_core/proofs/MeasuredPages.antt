@@ -13,7 +13,7 @@ use Rattle.node_core.specs.Items.{Leaf, glyph, font_kern, kern, glue, penalty, r
 use Rattle.dvi_ops.proofs.Appends.{all_append, all_weaker}
 use Rattle.dvi_layout.specs.declared.fonts.LoadedFont.{LoadedFont}
 use Rattle.command_core.specs.declared.command.Command.{Command}
-use Rattle.command_core.specs.declared.command.Command.TheVariants.{LoadFont, UseFont, Open, End, Text, Character, Rule, Kern, Glue, Penalty, Append, Unbox, LastBox, Split, Measure, Void, Set, Ship}
+use Rattle.command_core.specs.declared.command.Command.TheVariants.{LoadFont, UseFont, Open, Paragraph, End, Text, Character, Rule, Kern, Glue, Penalty, Append, Unbox, LastBox, Split, Measure, Void, Set, Ship}
 use Rattle.command_core.specs.declared.command.Refusal.{Refusal}
 use Rattle.command_core.specs.Reply.{Reply}
 use Rattle.dvi_layout.specs.Fonts.{Slots, font_in}
@@ -60,6 +60,7 @@ read_after : (s : State) (command : Command) → AreRead s → AreRead (after s 
 read_after s (LoadFont load) all = read_with s.files s.fonts load.slot load.name load.size (font_for s load) refl all
 read_after s (UseFont slot) all = all
 read_after s (Open opening) all = all
+read_after s Paragraph all = all
 read_after s End all = still_read s (after s End) (end_keeps s) all
 read_after s (Text text) all = all
 read_after s (Character code) all = all
@@ -87,6 +88,7 @@ new_sized : (s : State) (command : Command) → HasSizedGlyphs s → AllByRecurs
 new_sized s (LoadFont load) sized = tt
 new_sized s (UseFont slot) sized = tt
 new_sized s (Open opening) sized = tt
+new_sized s Paragraph sized = tt
 new_sized s End sized = tt
 new_sized s (Text text) sized = tt
 new_sized s (Character code) sized = tt

@@ -12,7 +12,7 @@ use Rattle.dvi_ops.specs.Forest.{flat, nests}
 use Rattle.dvi_ops.specs.Layout.{bytes_of, define, sheet_from, table_widths}
 use Rattle.dvi_ops.proofs.Appends.{all_append, all_weaker}
 use Rattle.command_core.specs.declared.command.Command.{Command}
-use Rattle.command_core.specs.declared.command.Command.TheVariants.{LoadFont, UseFont, Open, End, Text, Character, Rule, Kern, Glue, Penalty, Append, Unbox, LastBox, Split, Measure, Void, Set, Ship}
+use Rattle.command_core.specs.declared.command.Command.TheVariants.{LoadFont, UseFont, Open, Paragraph, End, Text, Character, Rule, Kern, Glue, Penalty, Append, Unbox, LastBox, Split, Measure, Void, Set, Ship}
 use Rattle.command_core.specs.declared.command.Refusal.{Refusal}
 use Rattle.command_core.specs.declared.command.Refusal.TheVariants.{OutOfMemory, JobOver, VoidBox, TooManyPages, TooMuchShipped, HugePage}
 use Rattle.command_core.specs.Reply.{Reply}
@@ -79,6 +79,7 @@ after-pages : (s : State) (command : Command) â†’ first_of (checks s command) â‰
 after-pages s (LoadFont load) none = omega arith
 after-pages s (UseFont slot) none = omega arith
 after-pages s (Open opening) none = omega arith
+after-pages s Paragraph none = omega arith
 after-pages s End none = omega (arith, (end_keeps s).pages)
 after-pages s (Text text) none = omega arith
 after-pages s (Character code) none = omega arith
@@ -158,6 +159,7 @@ new_shipped : (s : State) (command : Command) â†’ first_of (checks s command) â‰
 new_shipped s (LoadFont load) none sized = tt
 new_shipped s (UseFont slot) none sized = tt
 new_shipped s (Open opening) none sized = tt
+new_shipped s Paragraph none sized = tt
 new_shipped s End none sized = tt
 new_shipped s (Text text) none sized = tt
 new_shipped s (Character code) none sized = tt
@@ -318,6 +320,7 @@ pub roomy : (s : State) (draft : Draft) (command : Command) â†’ (first_of (check
 roomy s draft (LoadFont load) numbers room = steady_room s draft (LoadFont load) (first_of (checks s (LoadFont load))) refl numbers refl refl refl room
 roomy s draft (UseFont slot) numbers room = steady_room s draft (UseFont slot) (first_of (checks s (UseFont slot))) refl numbers refl refl refl room
 roomy s draft (Open opening) numbers room = steady_room s draft (Open opening) (first_of (checks s (Open opening))) refl numbers refl refl refl room
+roomy s draft Paragraph numbers room = steady_room s draft Paragraph (first_of (checks s Paragraph)) refl numbers refl refl refl room
 roomy s draft End numbers room = steady_room s draft End (first_of (checks s End)) refl numbers (end_keeps s).shipped (end_keeps s).pages refl room
 roomy s draft (Text text) numbers room = steady_room s draft (Text text) (first_of (checks s (Text text))) refl numbers refl refl refl room
 roomy s draft (Character code) numbers room = steady_room s draft (Character code) (first_of (checks s (Character code))) refl numbers refl refl refl room
@@ -355,6 +358,7 @@ small_after s draft (Ship r) room = small_enough (state_after s (Ship r)) (draft
 small_after s draft (LoadFont load) room = steady_bytes s draft (LoadFont load) (first_of (checks s (LoadFont load))) refl room
 small_after s draft (UseFont slot) room = steady_bytes s draft (UseFont slot) (first_of (checks s (UseFont slot))) refl room
 small_after s draft (Open opening) room = steady_bytes s draft (Open opening) (first_of (checks s (Open opening))) refl room
+small_after s draft Paragraph room = steady_bytes s draft Paragraph (first_of (checks s Paragraph)) refl room
 small_after s draft End room = steady_bytes s draft End (first_of (checks s End)) refl room
 small_after s draft (Text text) room = steady_bytes s draft (Text text) (first_of (checks s (Text text))) refl room
 small_after s draft (Character code) room = steady_bytes s draft (Character code) (first_of (checks s (Character code))) refl room

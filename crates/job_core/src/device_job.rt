@@ -62,6 +62,7 @@ fn obey(kept: &mut Kept, writer: &mut Writer, command: &Command) -> Result<Reply
         Command::LoadFont(load) => kept.load_font(load),
         Command::UseFont(slot) => Ok(kept.use_font(*slot)),
         Command::Open(opening) => kept.open_list(*opening),
+        Command::Paragraph => kept.open_paragraph(),
         Command::End => kept.end(),
         Command::Text(text) => kept.append_text(text),
         Command::Character(code) => kept.append_character(*code),

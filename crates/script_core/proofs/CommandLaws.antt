@@ -8,7 +8,7 @@ use Rattle.command_core.specs.declared.command.BoxForm.{BoxForm}
 use Rattle.command_core.specs.declared.command.Taking.{Taking}
 use Rattle.command_core.specs.declared.command.Parameter.{Parameter}
 use Rattle.command_core.specs.declared.command.Command.{Command}
-use Rattle.command_core.specs.declared.command.Command.TheVariants.{UseFont, End, Character, Kern, Glue, Penalty, LastBox, Measure, Void, Set, Ship}
+use Rattle.command_core.specs.declared.command.Command.TheVariants.{UseFont, Paragraph, End, Character, Kern, Glue, Penalty, LastBox, Measure, Void, Set, Ship}
 use Rattle.script_core.specs.declared.cause.Cause.{Cause}
 use Rattle.script_core.specs.declared.cause.Cause.TheVariants.{Word}
 use Rattle.script_core.specs.declared.name.Name.{Name}
@@ -214,6 +214,10 @@ says_alone count name rest make command says h =
     let last = number_last count rest m.0 m.1 in
     along _ _ _ m.2 (let P : List (List ℕ) → Type 0 = λ xs. Says (name ∷ xs) (make m.0) in subst P (sym last.1) (says last.0 m.0 last.2))
 
+says_par : (rest : List (List ℕ)) (command : Command) → right_and (no_field_left rest) (Ok Paragraph) ≡ Ok command → Says (codes "par" ∷ rest) command
+says_par [] command h = let e : Paragraph ≡ command = cc in along _ _ _ e refl
+says_par (field ∷ rest) command h = absurd (cc)
+
 says_end : (rest : List (List ℕ)) (command : Command) → right_and (no_field_left rest) (Ok End) ≡ Ok command → Says (codes "end" ∷ rest) command
 says_end [] command h = let e : End ≡ command = cc in along _ _ _ e refl
 says_end (field ∷ rest) command h = absurd (cc)
@@ -250,6 +254,7 @@ unfolding command_named
 says_named names.Font rest command h = says_font rest command h
 says_named names.Use rest command h = says_alone slot_count (codes "use") rest UseFont command (λ r n is. (r, refl, is)) h
 says_named (names.Open form) rest command h = says_opening form rest command h
+says_named names.Paragraph rest command h = says_par rest command h
 says_named names.End rest command h = says_end rest command h
 says_named names.Character rest command h = says_alone character_count (codes "char") rest Character command (λ r n is. (r, refl, is)) h
 says_named names.Rule rest command h = says_rule rest command h

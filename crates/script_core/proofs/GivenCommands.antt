@@ -8,7 +8,7 @@ use Rattle.command_core.specs.declared.command.BoxForm.{BoxForm}
 use Rattle.command_core.specs.declared.command.Taking.{Taking}
 use Rattle.command_core.specs.declared.command.Parameter.TheVariants.{BoxMaxDepth, BaselineSkip, LineSkip, LineSkipLimit, SplitMaxDepth, SplitTopSkip, Hsize, ParFillSkip, Pretolerance, Tolerance, LinePenalty, AdjDemerits, ClubPenalty, WidowPenalty, InterlinePenalty}
 use Rattle.command_core.specs.declared.command.Command.{Command}
-use Rattle.command_core.specs.declared.command.Command.TheVariants.{LoadFont, UseFont, Open, End, Text, Character, Rule, Kern, Glue, Penalty, Append, Unbox, LastBox, Split, Measure, Void, Set, Ship}
+use Rattle.command_core.specs.declared.command.Command.TheVariants.{LoadFont, UseFont, Open, Paragraph, End, Text, Character, Rule, Kern, Glue, Penalty, Append, Unbox, LastBox, Split, Measure, Void, Set, Ship}
 use Rattle.script_core.specs.declared.name.Name.TheVariants as names
 use Rattle.script_core.specs.declared.amounts.Amount.{Amount}
 use Rattle.script_core.specs.Grammar.{register_count, slot_count, character_count, IsNumberAmong, IsRegister, IsChosenSize, IsTarget, IsDestination, IsShift, IsDimension, IsAmount, IsPart, IsGlue, Says}
@@ -97,6 +97,7 @@ complete fields (LoadFont load) (s, more, e, slot, name, size) =
 complete fields (UseFont n) (s, e, h) = rw e (named names.Use (s ∷ []) ∙ number_alone slot_count UseFont s n h)
 complete fields (Open opened) (size, more, e, target, into) =
     rw e (named (names.Open opened.form) (size ++ more) ∙ opening_given opened.form size opened.target more opened.into target into)
+complete fields Paragraph e = rw e (named names.Paragraph [])
 complete fields End e = rw e (named names.End [])
 complete fields (Text text) h = absurd h
 complete fields (Character n) (c, e, h) = rw e (named names.Character (c ∷ []) ∙ number_alone character_count Character c n h)

@@ -16,6 +16,7 @@ abbrev pub name_text : Name → List ℕ
 name_text names.Font = codes "font"
 name_text names.Use = codes "use"
 name_text (names.Open form) = form_text form
+name_text names.Paragraph = codes "par"
 name_text names.End = codes "end"
 name_text names.Character = codes "char"
 name_text names.Rule = codes "rule"
@@ -43,10 +44,11 @@ box_name_written word name h =
     one_name _ word (codes "hbox") (names.Open forms.Hbox) _ name refl refl
     (one_name _ word (codes "vbox") (names.Open forms.Vbox) _ name refl refl
     (one_name _ word (codes "vtop") (names.Open forms.Vtop) _ name refl refl
+    (one_name _ word (codes "par") names.Paragraph _ name refl refl
     (one_name _ word (codes "end") names.End _ name refl refl
     (one_name _ word (codes "measure") names.Measure _ name refl refl
     (one_name _ word (codes "void") names.Void _ name refl refl
-    (one_name _ word (codes "ship") names.Ship None name refl refl (λ e. absurd (cc)))))))) h
+    (one_name _ word (codes "ship") names.Ship None name refl refl (λ e. absurd (cc))))))))) h
 
 register_name_written : (word : List ℕ) (name : Name) → register_name word ≡ Some name → word ≡ name_text name
 unfolding register_name
@@ -92,6 +94,7 @@ name_read names.Use = refl
 name_read (names.Open forms.Hbox) = refl
 name_read (names.Open forms.Vbox) = refl
 name_read (names.Open forms.Vtop) = refl
+name_read names.Paragraph = refl
 name_read names.End = refl
 name_read names.Character = refl
 name_read names.Rule = refl

@@ -20,7 +20,7 @@ use Rattle.command_core.specs.declared.command.Taking.{Taking}
 use Rattle.command_core.specs.declared.command.Taking.TheVariants.{Moved, Copied}
 use Rattle.command_core.specs.declared.command.Parameter.TheVariants.{BoxMaxDepth, BaselineSkip, LineSkip, LineSkipLimit, SplitMaxDepth, SplitTopSkip, Hsize, ParFillSkip, Pretolerance, Tolerance, LinePenalty, AdjDemerits, ClubPenalty, WidowPenalty, InterlinePenalty}
 use Rattle.command_core.specs.declared.command.Command.{Command}
-use Rattle.command_core.specs.declared.command.Command.TheVariants.{LoadFont, UseFont, Open, End, Text, Character, Rule, Kern, Glue, Penalty, Append, Unbox, LastBox, Split, Measure, Void, Set, Ship}
+use Rattle.command_core.specs.declared.command.Command.TheVariants.{LoadFont, UseFont, Open, Paragraph, End, Text, Character, Rule, Kern, Glue, Penalty, Append, Unbox, LastBox, Split, Measure, Void, Set, Ship}
 
 -- a field that writes this whole number by an optional sign and digits
 pub record IsInteger (field : List ℕ) (z : ℤ) : Type 0 where
@@ -162,6 +162,7 @@ Says fields (UseFont n) = (s : List ℕ) × (fields ≡ codes "use" ∷ s ∷ []
 Says fields (Open opening) =
     (size : List (List ℕ)) × (into : List (List ℕ)) × (fields ≡ form_text opening.form ∷ (size ++ into))
     × IsTarget size opening.target × IsDestination into opening.into
+Says fields Paragraph = fields ≡ codes "par" ∷ []
 Says fields End = fields ≡ codes "end" ∷ []
 Says fields (Text text) = ⊥
 Says fields (Character n) = (c : List ℕ) × (fields ≡ codes "char" ∷ c ∷ []) × IsCharacterCode c n

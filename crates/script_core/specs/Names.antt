@@ -5,7 +5,7 @@ use Rattle.node_core.specs.declared.tree.Kind.TheVariants.{Horizontal, Vertical}
 use Rattle.command_core.specs.declared.command.BoxForm.TheVariants.{Hbox, Vbox, Vtop}
 use Rattle.command_core.specs.declared.command.Taking.TheVariants.{Moved, Copied}
 use Rattle.script_core.specs.declared.name.Name.{Name}
-use Rattle.script_core.specs.declared.name.Name.TheVariants.{Font, Use, Open, End, Character, Rule, Kern, Glue, Penalty, Append, Unbox, LastBox, Split, Measure, Void, Set, Ship}
+use Rattle.script_core.specs.declared.name.Name.TheVariants.{Font, Use, Open, Paragraph, End, Character, Rule, Kern, Glue, Penalty, Append, Unbox, LastBox, Split, Measure, Void, Set, Ship}
 
 -- the name of a command of lists and whole boxes that a word is
 unfoldable pub box_name : List ℕ → Option Name
@@ -13,11 +13,12 @@ box_name word =
     if bytes_eq word (codes "hbox") then Some (Open Hbox)
     else (if bytes_eq word (codes "vbox") then Some (Open Vbox)
     else (if bytes_eq word (codes "vtop") then Some (Open Vtop)
+    else (if bytes_eq word (codes "par") then Some Paragraph
     else (if bytes_eq word (codes "end") then Some End
     else (if bytes_eq word (codes "measure") then Some Measure
     else (if bytes_eq word (codes "void") then Some Void
     else (if bytes_eq word (codes "ship") then Some Ship
-    else None))))))
+    else None)))))))
 
 -- the name of a command that a word is, of those that take the box of a register into a list or the last one out of it, or split one
 unfoldable pub register_name : List ℕ → Option Name

@@ -18,7 +18,7 @@ use Rattle.command_core.specs.declared.command.BoxForm.{BoxForm}
 use Rattle.command_core.specs.declared.command.Taking.{Taking}
 use Rattle.command_core.specs.declared.command.Parameter.{Parameter}
 use Rattle.command_core.specs.declared.command.Command.{Command}
-use Rattle.command_core.specs.declared.command.Command.TheVariants.{LoadFont, UseFont, Open, End, Text, Character, Rule, Kern, Glue, Penalty, Append, Unbox, LastBox, Split, Measure, Void, Set, Ship}
+use Rattle.command_core.specs.declared.command.Command.TheVariants.{LoadFont, UseFont, Open, Paragraph, End, Text, Character, Rule, Kern, Glue, Penalty, Append, Unbox, LastBox, Split, Measure, Void, Set, Ship}
 use Rattle.script_core.specs.declared.cause.Cause.{Cause}
 use Rattle.script_core.specs.declared.cause.Cause.TheVariants as causes
 use Rattle.script_core.specs.declared.cause.Cause.TheVariants.{Byte, Word, Missing, Extra, Number, Dimension}
@@ -390,6 +390,7 @@ unfoldable pub command_named : Name → List (List ℕ) → Result Command Cause
 command_named names.Font fields = font_of fields
 command_named names.Use fields = map_ok UseFont (last_number slot_count fields)
 command_named (names.Open form) fields = opening_of form fields
+command_named names.Paragraph fields = right_and (no_field_left fields) (Ok Paragraph)
 command_named names.End fields = right_and (no_field_left fields) (Ok End)
 command_named names.Character fields = map_ok Character (last_number character_count fields)
 command_named names.Rule fields = rule_of fields

@@ -472,6 +472,7 @@ impl<'a> Fields<'a> {
             Name::Font => self.font(alloc),
             Name::Use => Ok(self.last_slot().map(Command::UseFont)),
             Name::Open(form) => Ok(self.opening(form)),
+            Name::Paragraph => Ok(self.end().map(|()| Command::Paragraph)),
             Name::End => Ok(self.end().map(|()| Command::End)),
             Name::Character => Ok(self.last_character().map(Command::Character)),
             Name::Rule => Ok(self.rule()),

@@ -13,6 +13,7 @@ pub enum Name {
     Use,
     /// `hbox`, `vbox` or `vtop`.
     Open(BoxForm),
+    Paragraph,
     End,
     Character,
     Rule,
@@ -56,6 +57,7 @@ fn box_name(word: &[u8]) -> Option<Name>
         b"hbox" => Some(Name::Open(BoxForm::Hbox)),
         b"vbox" => Some(Name::Open(BoxForm::Vbox)),
         b"vtop" => Some(Name::Open(BoxForm::Vtop)),
+        b"par" => Some(Name::Paragraph),
         b"end" => Some(Name::End),
         b"measure" => Some(Name::Measure),
         b"void" => Some(Name::Void),
