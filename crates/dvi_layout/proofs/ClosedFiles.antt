@@ -16,7 +16,6 @@ use Rattle.dvi_ops.proofs.Layouts.{says-wrote, definitions-define, instructions-
 use Rattle.dvi_ops.proofs.WholeFile.{frame_of, padding_low, padding_fills, size_of_front}
 use Rattle.ship_core.specs.Marks.{Page}
 use Rattle.ship_core.specs.Pages.{reach_down, reach_right}
-use Rattle.ship_core.proofs.DrawnPages.{definitions-page, nests_page, writable_page}
 use Rattle.dvi_layout.specs.declared.progress.TheConstants.{MOST_DEEP}
 use Rattle.dvi_layout.specs.Fonts.{Slots, AreDefinable}
 use Rattle.dvi_layout.specs.Sheets.{written_body, definitions_of, fresh_slots, in_rising_order, sheet_of}
@@ -26,6 +25,7 @@ use Rattle.dvi_layout.specs.Closing.{IsGreatestOf, IsOfJob, IsClosedFor}
 use Rattle.dvi_layout.proofs.DefinedFonts.{each_of}
 use Rattle.dvi_layout.proofs.Files.{table_of, tabled, tall_fits, wide_fits}
 use Rattle.dvi_layout.proofs.NextPages.{size-some}
+use Rattle.dvi_layout.proofs.WrittenBodies.{definitions-written, nests_written, writable_written}
 
 -- The greatest of a size of some values, and a number.
 abbrev farthest : {X : Type 0} → (X → ℤ) → ℤ → List X → ℤ
@@ -120,7 +120,7 @@ pages_writable fonts definable slots s (page ∷ pages) (here, all) fit small =
     all_append IsWritable (sheet_from s.last sheet) (sheets_from next (sheets_of fonts later pages))
     (all_append IsWritable (define sheet.fresh) (Bop page.counts s.last ∷ (flat sheet.body ++ Eop ∷ [])) (all_defined (table_of fonts) sheet.fresh
     (each_of (IsTabled (table_of fonts)) fonts (fresh_slots fonts slots (flat (written_body page))) (λ s l among has. tabled fonts definable s l has)))
-    ((tt, (here.ten, here.counts_fit, fit)), all_append IsWritable (flat sheet.body) (Eop ∷ []) (writable_page (slot_widths fonts) page here.small here.sound.glyphs) ((tt, tt), tt)))
+    ((tt, (here.ten, here.counts_fit, fit)), all_append IsWritable (flat sheet.body) (Eop ∷ []) (writable_written (slot_widths fonts) page here.small here.sound.glyphs) ((tt, tt), tt)))
     (pages_writable fonts definable later next pages all (place_fits fonts slots s page pages small) small)
 
 -- Few pushes are open at once in the pages.
@@ -128,7 +128,7 @@ few_pushes : (fonts : Slots) (slots : List ℕ) (s : Written) (pages : List Page
     → (after_all s (sheets_of fonts slots pages)).depth ≤ MOST_DEEP
 few_pushes fonts slots s [] all few = few
 few_pushes fonts slots s (page ∷ pages) (here, all) few =
-    few_pushes fonts (slots_after fonts slots page) (after s (sheet_of fonts slots page)) pages all (omega (arith, few, nests_page page, here.sound.depth))
+    few_pushes fonts (slots_after fonts slots page) (after s (sheet_of fonts slots page)) pages all (omega (arith, few, nests_written page, here.sound.depth))
 
 -- The parts that are laid out for the pages: the definitions of their fresh fonts, and themselves.
 parts_from : Slots → List ℕ → Written → List Page → List Part
@@ -192,7 +192,7 @@ page_definitions : (fonts : Slots) (slots : List ℕ) (last : ℤ) (page : Page)
 page_definitions fonts slots last page =
     let fresh = definitions_of fonts (fresh_slots fonts slots (flat (written_body page))) in
     let shows = Bop page.counts last ∷ (flat (written_body page) ++ Eop ∷ []) in
-    let none : definitions shows ≡ [] = definitions-append (flat (written_body page)) (Eop ∷ []) ∙ (append-nil (definitions (flat (written_body page))) ∙ definitions-page page) in
+    let none : definitions shows ≡ [] = definitions-append (flat (written_body page)) (Eop ∷ []) ∙ (append-nil (definitions (flat (written_body page))) ∙ definitions-written page) in
     definitions-append (define fresh) shows ∙ (ap₂ (λ (a b : List Definition). a ++ b) (definitions-define fresh) none ∙ append-nil fresh)
 
 front_definitions : (fonts : Slots) (slots : List ℕ) (s : Written) (pages : List Page) → AllByRecursion (IsOfJob fonts) (definitions (sheets_from s (sheets_of fonts slots pages)))

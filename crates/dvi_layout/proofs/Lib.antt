@@ -1,6 +1,7 @@
 pub mod EachOf
 pub mod Leaves
 pub mod Spelled
+pub mod WrittenBodies
 pub mod PageBytes
 pub mod FreshFonts
 pub mod DefinedFonts

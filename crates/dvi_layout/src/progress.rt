@@ -24,6 +24,7 @@ use crate::layout::{
     in_rising_order, page_ops,
 };
 use dvi_ops::{Op, Postamble, opcodes};
+use move_core::reuse;
 use node_core::BoxNode;
 use scaled_core::Dimen;
 use ship_core::{PagePoint, draw_page, is_huge, push_depth};
@@ -122,7 +123,8 @@ fn written_body(
     ensures { IfOk result (λ ops. map view ops.items ≡ flat (written_body (page_at counts.now at.h at.v box_node.now))) }
 {
     let _counts = *counts;
-    draw_page(alloc, box_node, at)
+    let drawn = draw_page(alloc, box_node, at)?;
+    reuse(drawn)
 }
 
 /// What stands before a page and its definitions, when there are that many pages: the preamble before the first.
