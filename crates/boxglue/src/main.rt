@@ -3,10 +3,10 @@
 
 mod system_host;
 
-use program_core::{program, refuse_memory};
 use std::io::ErrorKind;
 use std::process::ExitCode;
 use system_host::SystemHost;
+use task_core::{program, refuse_memory};
 
 /// The program takes no words, or `typeset`, `list` or `paint` with their own: a script from standard input, answers to standard output. Its status
 /// is 0 where nothing was refused, 2 where the words are refused or a page is asked for that is not there, and else 1.

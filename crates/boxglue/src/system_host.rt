@@ -2,11 +2,11 @@
 
 ghost use Rattle.std.specs.Prelude.{None};
 
-use host_core::{Host, HostFault, read_all};
 use std::alloc::Global;
 use std::fs::File;
 use std::io::{Error, ErrorKind, Input, Read, Write};
 use std::rt::Files;
+use task_core::{Host, HostFault, read_all};
 
 /// The host of a real program. It tells nothing of what its files hold.
 #[derive(Drop)]

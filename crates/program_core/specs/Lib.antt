@@ -1,4 +1,3 @@
 pub mod Texts
 pub mod Runs
 pub mod Rows
-pub mod Typesets

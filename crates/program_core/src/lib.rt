@@ -9,9 +9,7 @@ pub mod laws;
 mod memory_run;
 mod program;
 mod run;
-mod tasks;
 mod texts;
-mod typesetting;
 mod writing;
 
 pub use job_core::{Device, DeviceFault, FontFile, FontName, Memory};
@@ -19,5 +17,4 @@ pub use memory_run::run_memory;
 pub use program::{ProgramFault, answer_input, refuse_memory};
 pub use run::{RunFault, run_script};
 pub use script_core::{Cause, Line, ScriptFault, read_script};
-pub use tasks::program;
-pub use typesetting::{Typeset, TypesetFault, typeset_script};
+pub use writing::{Unwritten, write_text};
