@@ -1,7 +1,7 @@
 //! The lines of refusals.
 
 ghost use Rattle.std.specs.Prelude.{◌≡◌, ◌++◌, decimal, OnOk};
-ghost use Rattle.dvi_print.specs.Faults.{bad_line, cause_name, fault_line, metric_cause_name};
+ghost use Rattle.dvi_print.specs.Faults.{bad_line, cause_name, fault_line, metric_cause_name, metric_line};
 
 use dvi_frame::{BadDvi, DviCause};
 use dvi_walk::DviFault;
@@ -69,6 +69,16 @@ fn push_bad(bad: &BadDvi, out: &mut Vec<u8>) -> Result<(), AllocError>
     push_text("\n", out)
 }
 
+/// Appends the line of a bad metric file.
+#[tactic(auto, unfolding(crate::specs::Faults::metric_line))]
+fn push_bad_metric(cause: TfmCause, out: &mut Vec<u8>) -> Result<(), AllocError>
+    ensures { OnOk result (out.new.items ≡ out.old.items ++ metric_line cause) }
+{
+    push_text("refused 5 BadTfm ", out)?;
+    push_text(metric_cause_name(cause), out)?;
+    push_text("\n", out)
+}
+
 /// Appends the line of a refusal.
 #[tactic(auto, unfolding(crate::specs::Faults::fault_line))]
 pub(crate) fn push_fault(fault: DviFault, out: &mut Vec<u8>) -> Result<(), AllocError>
@@ -78,11 +88,7 @@ pub(crate) fn push_fault(fault: DviFault, out: &mut Vec<u8>) -> Result<(), Alloc
         DviFault::OutOfMemory => push_text("refused 1 OutOfMemory\n", out),
         DviFault::DimensionTooLarge => push_text("refused 3 DimensionTooLarge\n", out),
         DviFault::NoFont => push_text("refused 4 NoFont\n", out),
-        DviFault::BadTfm(cause) => {
-            push_text("refused 5 BadTfm ", out)?;
-            push_text(metric_cause_name(cause), out)?;
-            push_text("\n", out)
-        }
+        DviFault::BadTfm(cause) => push_bad_metric(cause, out),
         DviFault::Bad(bad) => push_bad(&bad, out),
     }
 }

@@ -1,6 +1,6 @@
 //! The listing of a DVI file and the bitmap of one of its pages.
 
-ghost use Rattle.std.specs.Prelude.{◌≡◌, ◌≤◌, false, Err, IfOk};
+ghost use Rattle.std.specs.Prelude.{◌≡◌, ◌≢◌, ◌≤◌, false, Err, IfOk, OnOk};
 ghost use Rattle.dvi_ops.specs.File.{AreUnits};
 ghost use Rattle.dvi_ops.specs.View.{units as units_of};
 ghost use Rattle.dvi_pass.specs.View.{page_of};
@@ -38,11 +38,26 @@ pub enum PaintFault {
     NoSuchPage,
 }
 
-/// What is printed of a file that is refused.
+/// Whether a file is refused for want of memory.
+fn wants_memory(fault: DviFault) -> bool
+    ensures { result ≡ false → fault ≢ DviFault.OutOfMemory }
+{
+    match fault {
+        DviFault::OutOfMemory => true,
+        DviFault::DimensionTooLarge | DviFault::NoFont | DviFault::BadTfm(_) | DviFault::Bad(_) =>
+            false,
+    }
+}
+
+/// What is printed of a file that is refused. An Err says that a growth was refused, here or before.
 fn refusal(alloc: Global, fault: DviFault) -> Result<Output, AllocError>
     ensures text { IfOk result (λ output. output.text.items ≡ fault_line fault) }
     ensures refused { IfOk result (λ output. output.accepted ≡ false) }
+    ensures other { OnOk result (fault ≢ DviFault.OutOfMemory) }
 {
+    if wants_memory(fault) {
+        return Err(AllocError);
+    }
     let mut text = Vec::new(alloc);
     push_fault(fault, &mut text)?;
     Ok(Output {
@@ -57,7 +72,6 @@ pub fn list_text(alloc: Global, dvi: &[u8], files: &[FontFile]) -> Result<Output
 {
     let opened = match Dvi::open(alloc, dvi, files) {
         Ok(opened) => opened,
-        Err(DviFault::OutOfMemory) => return Err(AllocError),
         Err(fault) => return refusal(alloc, fault),
     };
     let mut text = Vec::new(alloc);
@@ -110,7 +124,6 @@ pub fn paint_text(
 {
     let opened = match Dvi::open(alloc, dvi, files) {
         Ok(opened) => opened,
-        Err(DviFault::OutOfMemory) => return Err(PaintFault::OutOfMemory),
         Err(fault) => {
             return match refusal(alloc, fault) {
                 Ok(output) => Ok(output),
