@@ -35,14 +35,14 @@ metric_cause_name LigKern = codes "LigKern"
 unfoldable pub bad_line : BadDvi → List ℕ
 bad_line bad = codes "refused 20 BadDvi " ++ (decimal bad.place ++ (codes " " ++ (cause_name bad.cause ++ codes "\n")))
 
--- a bad metric file: the rule that it breaks
-unfoldable pub metric_line : TfmCause → List ℕ
-metric_line cause = codes "refused 5 BadTfm " ++ (metric_cause_name cause ++ codes "\n")
+-- a bad metric file: the name of the rule that it breaks
+unfoldable pub metric_line : List ℕ → List ℕ
+metric_line name = codes "refused 5 BadTfm " ++ (name ++ codes "\n")
 
 -- the line of a refusal
 unfoldable pub fault_line : DviFault → List ℕ
 fault_line OutOfMemory = codes "refused 1 OutOfMemory\n"
 fault_line DimensionTooLarge = codes "refused 3 DimensionTooLarge\n"
 fault_line NoFont = codes "refused 4 NoFont\n"
-fault_line (BadTfm cause) = metric_line cause
+fault_line (BadTfm cause) = metric_line (metric_cause_name cause)
 fault_line (Bad bad) = bad_line bad

@@ -69,13 +69,13 @@ fn push_bad(bad: &BadDvi, out: &mut Vec<u8>) -> Result<(), AllocError>
     push_text("\n", out)
 }
 
-/// Appends the line of a bad metric file.
+/// Appends the line of a bad metric file, with the name of the rule that it breaks.
 #[tactic(auto, unfolding(crate::specs::Faults::metric_line))]
-fn push_bad_metric(cause: TfmCause, out: &mut Vec<u8>) -> Result<(), AllocError>
-    ensures { OnOk result (out.new.items ≡ out.old.items ++ metric_line cause) }
+fn push_bad_metric(name: &str, out: &mut Vec<u8>) -> Result<(), AllocError>
+    ensures { OnOk result (out.new.items ≡ out.old.items ++ metric_line name.now) }
 {
     push_text("refused 5 BadTfm ", out)?;
-    push_text(metric_cause_name(cause), out)?;
+    push_text(name, out)?;
     push_text("\n", out)
 }
 
@@ -88,7 +88,7 @@ pub(crate) fn push_fault(fault: DviFault, out: &mut Vec<u8>) -> Result<(), Alloc
         DviFault::OutOfMemory => push_text("refused 1 OutOfMemory\n", out),
         DviFault::DimensionTooLarge => push_text("refused 3 DimensionTooLarge\n", out),
         DviFault::NoFont => push_text("refused 4 NoFont\n", out),
-        DviFault::BadTfm(cause) => push_bad_metric(cause, out),
+        DviFault::BadTfm(cause) => push_bad_metric(metric_cause_name(cause), out),
         DviFault::Bad(bad) => push_bad(&bad, out),
     }
 }

@@ -8,6 +8,18 @@ ghost use Rattle.word_core.specs.CommandLine.{boxglue, fonts_rule, lists, number
 use clap::{Arg, ArgAction, Command, value_parser};
 use std::alloc::{AllocError, Global};
 
+/// The four uses, with an example each; it stands at the end of the help.
+const USES: &str = "\
+Uses:
+  boxglue < page.box
+      runs a script; prints its answers, and then the bytes of its DVI file
+  boxglue typeset page.dvi cmr10=cmr10.tfm < page.box
+      runs a script that has the font cmr10; writes page.dvi and prints the answers
+  boxglue list page.dvi cmr10=cmr10.tfm
+      prints the pages of a DVI file and their marks
+  boxglue paint --page 1 --dpi 100 --width 850 --height 1100 page.dvi cmr10=cmr10.tfm > page.pbm
+      prints page 1 as a bitmap: its rules, without the shapes of glyphs";
+
 /// A path, which has to be there.
 fn path<'a>(alloc: Global, id: &'static str, help: &'static str) -> Arg<'a>
     ensures rule { rule_of result ≡ path_rule id.now }
@@ -83,6 +95,7 @@ pub fn command_line<'a>(alloc: Global) -> Result<Command<'a>, AllocError>
 {
     Command::new(alloc, "boxglue")
         .about("typesets scripts of boxes and glue into DVI files, and reads such files")
+        .after_help(USES)
         .no_binary_name(true)
         .disable_help_subcommand(true)
         .subcommand(typeset(alloc)?)?
