@@ -1,6 +1,6 @@
 //! The job: commands are run, and each page goes to a device when it is shipped.
 
-ghost use Rattle.std.specs.Prelude.{◌≡◌, ◌≢◌, ◌<◌, ◌+◌, ◌^◌, ◌++◌, ◌⊎◌, [], ⊥, true, false, ℕ, None, Err, List, Option, length, IfOk, IfErr, OnOk, OnErr, IfSome};
+ghost use Rattle.std.specs.Prelude.{◌≡◌, ◌≢◌, ◌<◌, ◌+◌, ◌^◌, ◌++◌, ◌⊎◌, [], true, false, ℕ, None, Err, List, Option, length, IfOk, IfErr, OnOk, OnErr, IfSome};
 ghost use Rattle.command_core.specs.declared.command.Command.TheVariants as commands;
 ghost use Rattle.command_core.specs.declared.command.Refusal.{Refusal};
 ghost use Rattle.command_core.specs.Reply.{Reply as AReply};
