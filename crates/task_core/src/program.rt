@@ -37,11 +37,13 @@ fn do_task<H: Host, W: Write, E: Write>(
     ensures { HasDone (H.file host) (H.input host) (H.written result.1) task.entry (W.contents output.old) (W.contents output.new)
         (E.contents errors.old) (E.contents errors.new) result.0 }
 {
-    let end = match &task {
-        Task::Typeset { out, fonts } => return typeset(alloc, host, out, fonts, output, errors),
+    let end = match task {
+        Task::Typeset { out, fonts } => {
+            return typeset(alloc, host, out, &fonts, output, errors);
+        }
         Task::Memory => run_input(alloc, &host, output),
-        Task::Listing { dvi, fonts } => list(alloc, &host, dvi, fonts, output),
-        Task::Painting { sheet, dvi, fonts } => paint(alloc, &host, *sheet, dvi, fonts, output),
+        Task::Listing { dvi, fonts } => list(alloc, &host, dvi, &fonts, output),
+        Task::Painting { sheet, dvi, fonts } => paint(alloc, &host, sheet, dvi, &fonts, output),
     };
     (finish(end, output, errors), host)
 }

@@ -21,8 +21,12 @@ fn write_line<W: Write>(writer: &mut W, what: &str, name: &str) -> Result<(), Un
     ensures all { OnOk result (Appends (W.contents writer.old) (W.contents writer.new) (what.now ++ (name.now ++ codes "\n"))) }
     ensures front { OnErr result (WritesFront (W.contents writer.old) (W.contents writer.new) (what.now ++ (name.now ++ codes "\n"))) }
 {
-    write_text(writer, what.as_bytes())?;
-    write_text(writer, name.as_bytes())?;
+    let Ok(()) = write_text(writer, what.as_bytes()) else {
+        return Err(Unwritten);
+    };
+    let Ok(()) = write_text(writer, name.as_bytes()) else {
+        return Err(Unwritten);
+    };
     write_text(writer, b"\n")
 }
 

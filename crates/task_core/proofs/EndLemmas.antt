@@ -1,0 +1,60 @@
+-- Texts that go out one behind another, and what is said behind a task.
+use Rattle.std.proofs.Common.{◌≡◌, ◌++◌, ◌+◌, ◌<◌, ℕ, Bool, List, [], length, take, Option, Some, None, Result, Ok, Err, OnOk, OnErr, inl, inr, sym, ◌∙◌, subst, arith}
+use Rattle.std.proofs.Math.Seq.{take-append-add}
+use Rattle.std.proofs.lemmas.List.{take-append-le, length-append}
+use Rattle.std.specs.Borrow.{Bor}
+use Rattle.std.specs.Io.KnownBytes.{Appends, Keeps}
+use Rattle.program_core.specs.Runs.{WritesFront, memory_line}
+use Rattle.program_core.proofs.WritingLemmas.{appends_both, appends_keeps, keeps_appends, keeps_front}
+use Rattle.task_core.specs.Ends.{EndsOutput, EndsTask, Takes, TellsOutput}
+use Rattle.task_core.specs.declared.task_end.TaskEnd.{TaskEnd}
+use Rattle.task_core.specs.declared.task_end.TaskEnd.TheVariants.{Printed, Unwritten, OutOfMemory, Unreadable, NoSuchPage}
+
+pub ok_then : {A E : Type 0} {P Q : Type 0} (r : Result A E) → OnOk r P → (P → Q) → OnOk r Q
+ok_then (Ok x) h f = f h
+ok_then (Err e) h f = tt
+
+pub err_then : {A E : Type 0} {P Q : Type 0} (r : Result A E) → OnErr r P → (P → Q) → OnErr r Q
+err_then (Ok x) h f = tt
+err_then (Err e) h f = f h
+
+-- a beginning of a text is one of a longer text
+pub front_more : (old new : Option (List ℕ)) (a b : List ℕ) → WritesFront old new a → WritesFront old new (a ++ b)
+front_more old new a b front = (
+  front.0,
+  omega (arith, length-append a b, front.1),
+  subst (λ (text : List ℕ). Appends old new text) (sym (take-append-le front.0 a b (omega (arith, front.1)))) front.2,
+)
+
+-- a beginning of a text behind another
+pub front_behind : (old mid new : Option (List ℕ)) (a b : List ℕ) → Appends old mid a → WritesFront mid new b → WritesFront old new (a ++ b)
+front_behind old mid new a b h front = (
+  length a + front.0,
+  omega (arith, length-append a b, front.1),
+  subst (λ (text : List ℕ). Appends old new text) (sym (take-append-add a b front.0)) (appends_both old mid new a (take front.0 b) h front.2),
+)
+
+-- known bytes that stay twice
+pub keeps_twice : (old mid new : Option (List ℕ)) → Keeps old mid → Keeps mid new → Keeps old new
+keeps_twice None mid new h i = tt
+keeps_twice (Some xs) None new h i = absurd h
+keeps_twice (Some xs) (Some ys) None h i = absurd i
+keeps_twice (Some xs) (Some ys) (Some zs) h i = i ∙ h
+
+-- nothing behind a beginning of a text
+pub front_keeps : (old mid new : Option (List ℕ)) (a : List ℕ) → WritesFront old mid a → Keeps mid new → WritesFront old new a
+front_keeps old mid new a front h = (front.0, front.1, appends_keeps old mid new (take front.0 a) front.2 h)
+
+-- a text, or a beginning of it, behind nothing
+pub keeps_takes : (old mid new : Option (List ℕ)) (a : List ℕ) → Keeps old mid → Takes mid new a → Takes old new a
+keeps_takes old mid new a h (inl all) = inl (keeps_appends old mid new a h all)
+keeps_takes old mid new a h (inr front) = inr (keeps_front old mid new a h front)
+
+-- what a task has printed, and what is then said on the output
+pub output_then : (IsAnswer : List ℕ → Bool → Type 0) (IsUnread : Bor (List ℕ) → Type 0) (LacksPage : Type 0) (end : TaskEnd) (old mid new : Option (List ℕ))
+    → EndsTask IsAnswer IsUnread LacksPage end old mid → TellsOutput end mid new → EndsOutput IsAnswer IsUnread LacksPage end old new
+output_then A U L (Printed fine) old mid new ended told = (ended.0, ended.1, appends_keeps old mid new ended.0 ended.2 told)
+output_then A U L Unwritten old mid new ended told = (ended.0, ended.1, ended.2, front_keeps old mid new ended.0 ended.3 told)
+output_then A U L OutOfMemory old mid new ended told = keeps_takes old mid new memory_line ended told
+output_then A U L (Unreadable path) old mid new ended told = (ended.0, keeps_twice old mid new ended.1 told)
+output_then A U L NoSuchPage old mid new ended told = (ended.0, keeps_twice old mid new ended.1 told)
