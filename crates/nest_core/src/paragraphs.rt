@@ -1,11 +1,9 @@
 //! Paragraphs are opened inside vertical lists, and end as lines in them.
 
-ghost use Rattle.std.specs.Prelude.{◌≡◌, ◌∷◌, None, IfOk, IfErr, OnOk, OnErr, length};
-ghost use Rattle.node_core.specs.Nodes.{nodes_of};
+ghost use Rattle.std.specs.Prelude.{◌≡◌, ◌++◌, ◌∷◌, [], false, is_none, None, Ok, IfOk, OnOk, OnErr};
 ghost use Rattle.nest_core.specs.State.{innermost, outer, items_in};
 ghost use Rattle.nest_core.specs.OpenLists.{opened_list};
 ghost use Rattle.nest_core.specs.Checks.{par_checks, first_of};
-ghost use Rattle.nest_core.specs.Effects.{with_nodes};
 ghost use Rattle.nest_core.specs.Machine.{reply_by, state_by};
 ghost use Rattle.nest_core.specs.Paragraphs.{pass_number, refusal_for, lines_checks, set_behind, paragraph_checks, paragraph_answer, with_paragraph};
 
