@@ -3,6 +3,7 @@ pub mod Refusals
 pub mod SplitParts
 pub mod SplitBoxes
 pub mod SetLines
+pub mod EndedParagraphs
 pub mod SizedGlyphs
 pub mod LoadedFonts
 pub mod TakenBoxes
