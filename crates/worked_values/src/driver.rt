@@ -27,7 +27,7 @@ const ONE_RULE_LISTED: &str = "page 1 counts 0 0 0 0 0 0 0 0 0 0\nrule 0 65536 6
 /// What a file of one page is made of: a comment, what stands before the page, the body of the page, how far behind bop's place post points, and what stands
 /// behind post.
 #[derive(Clone, Copy)]
-struct Parts<'a> {
+pub struct Parts<'a> {
     comment: &'a [u8],
     before: &'a [u8],
     body: &'a [u8],
@@ -37,7 +37,7 @@ struct Parts<'a> {
 
 impl<'a> Parts<'a> {
     /// A page of this body.
-    fn of(body: &'a [u8]) -> Parts<'a> {
+    pub fn of(body: &'a [u8]) -> Parts<'a> {
         Parts {
             comment: &[],
             before: &[],
@@ -59,7 +59,7 @@ fn place(at: usize) -> [u8; 4] {
 }
 
 /// The file of one page. Its post allows two open pushes.
-fn file_of(alloc: Global, parts: &Parts<'_>) -> Result<Vec<u8>, Fail> {
+pub fn file_of(alloc: Global, parts: &Parts<'_>) -> Result<Vec<u8>, Fail> {
     let mut file = Vec::new(alloc);
     file.extend_from_slice(&[0xf7, 2])?;
     file.extend_from_slice(&UNITS)?;

@@ -35,6 +35,8 @@ mod paragraphs;
 #[cfg(test)]
 mod reused_bodies;
 #[cfg(test)]
+mod reused_files;
+#[cfg(test)]
 mod samples;
 #[cfg(test)]
 mod scaled_values;
