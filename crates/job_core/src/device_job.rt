@@ -21,10 +21,9 @@ ghost use Rattle.job_core.specs.Closing.{ClosesFile};
 
 use command_core::{Answer, Command, Refusal, Register, Reply, Summary};
 use device_core::Device;
-use dvi_layout::{Offsets, WriteFault};
+use dvi_layout::WriteFault;
 use dvi_write::DviWriter;
 use node_core::Node;
-use scaled_core::Dimen;
 use state_core::kept::Kept;
 use std::alloc::{AllocError, Global};
 use std::marker::Model;
@@ -57,11 +56,13 @@ fn ship_page<D: Device>(
     let nodes = match kept.box_to_ship(register) {
         Err(refusal) => return Ok(Err(refusal)),
         Ok(found) => {
-            let offsets = Offsets {
-                h: Dimen::ZERO,
-                v: Dimen::ZERO,
-            };
-            writer.page(alloc, found.box_node, offsets, &[0; 10], kept.fonts())?;
+            writer.page(
+                alloc,
+                found.box_node,
+                kept.offsets(),
+                kept.counts(),
+                kept.fonts(),
+            )?;
             found.nodes
         }
     };
@@ -100,6 +101,7 @@ fn obey(kept: &mut Kept, command: &Command) -> Result<Reply, AllocError>
         Command::Measure(register) => Ok(kept.measure(*register)),
         Command::Void(register) => Ok(kept.void(*register)),
         Command::Set(parameter) => Ok(kept.set(*parameter)),
+        Command::Count(counting) => Ok(kept.count(*counting)),
         Command::Ship(_) => unreachable!(),
     }
 }
