@@ -1,12 +1,12 @@
 -- What is printed of files that are refused, and of pages.
-use Rattle.std.proofs.Common.{◌≡◌, ◌-◌, ℕ, Bool, true, false, List, Option, Some, Result, Ok, Err, OnOk, IfOk, inl, inr, refl, sym, ◌∙◌, ap, subst}
+use Rattle.std.proofs.Common.{◌≡◌, ◌-◌, ℕ, Bool, true, false, List, Some, ◌++◌, Result, Ok, Err, OnOk, IfOk, append_assoc, inr, refl, sym, ◌∙◌, ap, subst}
 use Rattle.std.specs.Prelude.{◌≢◌, slice_get}
 use Rattle.std.specs.declared.alloc.AllocError.{AllocError}
 use Rattle.dvi_ops.specs.File.{AreUnits, Frame, IsFile, MarkedPage}
 use Rattle.dvi_ops.specs.Fonts.{Metrics}
 use Rattle.dvi_ops.specs.Instruction.{Units}
 use Rattle.dvi_print.specs.Faults.{fault_line}
-use Rattle.dvi_print.specs.Outputs.{IsListed, IsPainted, Paints, Refuses}
+use Rattle.dvi_print.specs.Outputs.{IsListed, Paints, Refuses}
 use Rattle.dvi_print.specs.declared.output.Output.{Output}
 use Rattle.dvi_read.specs.Opened.{IsNoFile}
 use Rattle.dvi_read.specs.Opening.{IsDviFault}
@@ -55,3 +55,9 @@ paints files bytes page dpi width height pages shown u v text file at same of_fi
   text_is = text_is ∙ ap (λ (units : Units). pbm (painted (is_covered (scale_of units dpi) shown.marks) (white width height))) (same ∙ of_file file.frame);
   accepted_is = refl;
 }
+
+-- three texts behind what is there
+pub three_parts : {A E : Type 0} (r : Result A E) (old one two new a b c : List ℕ) → one ≡ old ++ a → two ≡ one ++ b → OnOk r (new ≡ two ++ c) → OnOk r (new ≡ old ++ (a ++ (b ++ c)))
+three_parts (Ok x) old one two new a b c h i j =
+    j ∙ (ap (λ (l : List ℕ). l ++ c) (i ∙ ap (λ (l : List ℕ). l ++ b) h) ∙ (append_assoc (old ++ a) b c ∙ append_assoc old a (b ++ c)))
+three_parts (Err e) old one two new a b c h i j = tt

@@ -70,7 +70,6 @@ fn push_bad(bad: &BadDvi, out: &mut Vec<u8>) -> Result<(), AllocError>
 }
 
 /// Appends the line of a bad metric file, with the name of the rule that it breaks.
-#[tactic(auto, unfolding(crate::specs::Faults::metric_line))]
 fn push_bad_metric(name: &str, out: &mut Vec<u8>) -> Result<(), AllocError>
     ensures { OnOk result (out.new.items ≡ out.old.items ++ metric_line name.now) }
 {
