@@ -5,7 +5,7 @@
 
 mod inputs;
 mod printing;
-mod program;
+mod running;
 mod task_end;
 mod tasks;
 mod telling;
@@ -15,8 +15,8 @@ pub use host_core::{
     FileDevice, HeldFile, Host, HostFault, MemoryHost, READ_LIMIT, Unread, read_all, read_fonts,
 };
 pub use printing::{PrintFault, list_file, paint_file};
-pub use program::program;
 pub use program_core::{FontFile, FontName, ProgramFault, refuse_memory, run_memory, run_script};
+pub use running::program;
 pub use task_end::TaskEnd;
 pub use typesetting::{TypesetEnd, typeset_file};
 pub use word_core::{NamedPath, Sheet, Task, WordFault, read_words};
