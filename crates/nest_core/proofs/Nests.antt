@@ -121,17 +121,17 @@ around_changed nest changed enough =
     take-set-lt n nest (length nest - 2) changed (omega (arith, enough)) ∙ sym (ap (λ i. set (outer nest) i changed) place)
 
 -- The same of the steps by which it is done, with what was there.
-module _ (nest : List OpenList) (l changed : OpenList) (count : ℕ) (after : List OpenList) (many : count ≡ length nest) (enough : 2 ≤ length nest)
-    (is : l ≡ get_or nest (count - 2) l) (left : after ≡ take (length (set nest (count - 2) changed) - 1) (set nest (count - 2) changed)) where
-  pub around_found : innermost (outer nest) ≡ Some l
-  around_found =
-      around_is nest l enough (ap (λ n. slice_get nest (n - 2)) (sym many) ∙ (get_some nest (count - 2) l (omega (arith, many, enough)) ∙ ap Some (sym is)))
+pub around_found : (nest : List OpenList) (l : OpenList) (count : ℕ) → count ≡ length nest → 2 ≤ length nest → l ≡ get_or nest (count - 2) l
+    → innermost (outer nest) ≡ Some l
+around_found nest l count many enough is =
+    around_is nest l enough (ap (λ n. slice_get nest (n - 2)) (sym many) ∙ (get_some nest (count - 2) l (omega (arith, many, enough)) ∙ ap Some (sym is)))
 
-  pub around_left : after ≡ with_innermost (outer nest) changed
-  around_left =
-      let same = length-set nest (length nest - 2) changed in
-      let closed = around_changed nest changed enough in
-      cc (many, left, closed, same)
+around_left : (nest : List OpenList) (changed : OpenList) (count : ℕ) (after : List OpenList) → count ≡ length nest → 2 ≤ length nest
+    → after ≡ take (length (set nest (count - 2) changed) - 1) (set nest (count - 2) changed) → after ≡ with_innermost (outer nest) changed
+around_left nest changed count after many enough left =
+    let same = length-set nest (length nest - 2) changed in
+    let closed = around_changed nest changed enough in
+    cc (many, left, closed, same)
 
 -- A box is put behind the list around the innermost one, which is then taken away.
 pub closing_into : (params : Params) (nest : List OpenList) (b : BoxNode) (l changed : OpenList) (count : ℕ) (after : List OpenList)
@@ -139,8 +139,8 @@ pub closing_into : (params : Params) (nest : List OpenList) (b : BoxNode) (l cha
     → after ≡ take (length (set nest (count - 2) changed) - 1) (set nest (count - 2) changed)
     → after ≡ with_box params (outer nest) (pos 0) b (innermost (outer nest))
 closing_into params nest b l changed count after many enough is turned left =
-    let at = around_found nest l changed count after many enough is left in
-    around_left nest l changed count after many enough is left
+    let at = around_found nest l count many enough is in
+    around_left nest changed count after many enough left
     ∙ (ap (with_innermost (outer nest)) turned ∙ sym (ap (with_box params (outer nest) (pos 0) b) at))
 
 -- The lines of a paragraph are put behind the list around the innermost one, which is then taken away.
@@ -150,8 +150,8 @@ pub lines_left : (nest : List OpenList) (set : SetParagraph) (l changed : OpenLi
     → after ≡ take (length (slice_set nest (count - 2) changed) - 1) (slice_set nest (count - 2) changed)
     → after ≡ with_lines (outer nest) (innermost (outer nest)) (Ok set)
 lines_left nest set l changed count after many enough is turned left =
-    let at = around_found nest l changed count after many enough is left in
-    around_left nest l changed count after many enough is left
+    let at = around_found nest l count many enough is in
+    around_left nest changed count after many enough left
     ∙ (ap (with_innermost (outer nest)) turned ∙ sym (ap (λ (o : Option OpenList). with_lines (outer nest) o (Ok set)) at))
 
 -- The first refusal of a job that is not over is also the first where more checks follow.

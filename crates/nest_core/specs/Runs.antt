@@ -1,5 +1,5 @@
 -- Runs of the machine, with what it does not choose: want of memory and a device that fails (own).
-use Rattle.std.specs.Prelude.{◌≡◌, ◌≢◌, ◌<◌, ◌==◌, [], ◌∷◌, ℕ, Bool, true, not, List, length, Some, None, is_none, is_some, IsSome, Result, Ok, Err}
+use Rattle.std.specs.Prelude.{◌≡◌, ◌≢◌, ◌<◌, ◌==◌, [], ◌∷◌, ℕ, Bool, true, not, List, length, Option, Some, None, is_none, is_some, IsSome, Result, Ok, Err}
 use Rattle.command_core.specs.declared.command.Command.{Command}
 use Rattle.command_core.specs.declared.command.Command.TheVariants.{LoadFont, UseFont, Open, Paragraph, End, Text, Character, Rule, Kern, Glue, Penalty, Append, Unbox, LastBox, Split, Measure, Void, Set, Ship}
 use Rattle.command_core.specs.declared.command.Refusal.{Refusal}
