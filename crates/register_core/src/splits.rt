@@ -6,8 +6,8 @@ ghost use Rattle.split_core.specs.Split.{front_of, rest_of};
 ghost use Rattle.nest_core.specs.Checks.{split_checks, first_of};
 ghost use Rattle.register_core.specs.SplitFaults.{refusal_for};
 
-use nest_core::nest::is_other;
 use command_core::Refusal;
+use nest_core::nest::is_other;
 use node_core::{BoxNode, Kind, SplitParams};
 use scaled_core::Dimen;
 use vert_core::{Split, SplitFault, split_list};
