@@ -1,6 +1,6 @@
 -- Which passes admit lists of breaks.
-use Rattle.std.proofs.Common.{◌≡◌, ◌∙◌, ℕ, zero, suc, ◌+◌, ◌<◌, ◌≤◌, Bool, true, false, not, cond, ◌&&◌, List, [], ◌∷◌, ◌++◌, ◌-◌, length, get_or, reverse, refl, ap, sym, subst, arith, MatchOption, Option, Some, None}
-use Rattle.std.specs.Prelude.{ℤ, pos, negsuc, ◌<ℤ◌, ◌≤ℤ◌, int_le, slice_get}
+use Rattle.std.proofs.Common.{◌≡◌, ◌∙◌, ℕ, zero, suc, ◌<◌, ◌≤◌, Bool, true, false, not, cond, ◌&&◌, List, [], ◌∷◌, ◌-◌, length, get_or, reverse, refl, ap, sym, subst, arith, MatchOption, Option, Some, None}
+use Rattle.std.specs.Prelude.{ℤ, pos, negsuc, ◌<ℤ◌, slice_get}
 use Rattle.std.proofs.lemmas.Int.{ints}
 use Rattle.std.proofs.lemmas.Option.{same_Some, slice_get_within, slice_get-get_or, get_or_from_slice_get, MatchOption-at_none, MatchOption-at_some}
 use Rattle.std.proofs.lemmas.List.{get_or-reverse, length-reverse}
@@ -9,15 +9,15 @@ use Rattle.break_table.specs.declared.state.Class.{Class}
 use Rattle.break_table.specs.declared.state.State.{State}
 use Rattle.break_table.specs.declared.state.Line.{Line}
 use Rattle.break_table.specs.declared.answer.Least.{Least}
-use Rattle.break_table.specs.Problems.{Problem, Path, start, first_path, with_line, path_of, ends_of, places_of}
-use Rattle.break_table.specs.Chosen.{top, IsFalling, IsBreakList, AdmitsNone, IsAnswer}
-use Rattle.break_table.specs.Ways.{since, Way, starts, goes}
+use Rattle.break_table.specs.Problems.{Problem, Path, first_path, with_line, ends_of, places_of}
+use Rattle.break_table.specs.Chosen.{top, IsFalling, AdmitsNone, IsAnswer}
+use Rattle.break_table.specs.Ways.{Way, starts, goes}
 use Rattle.break_table.proofs.Since.{since_below}
 use Rattle.break_table.proofs.Lists.{way_of_break_list, break_list_of_way}
-use Rattle.break_core.specs.declared.cost.Judged.{Judged}
-use Rattle.break_core.specs.declared.cost.Bound.{Bound}
-use Rattle.break_core.specs.declared.cost.Bound.TheVariants.{Any, AtMost}
-use Rattle.break_core.specs.Costs.{judged, admits, line_of, demerits_of}
+use Rattle.break_cost.specs.declared.cost.Judged.{Judged}
+use Rattle.break_cost.specs.declared.cost.Bound.{Bound}
+use Rattle.break_cost.specs.declared.cost.Bound.TheVariants.{Any, AtMost}
+use Rattle.break_cost.specs.Costs.{judged, admits, line_of, demerits_of}
 use Rattle.break_core.specs.declared.broken.Pass.{Pass}
 use Rattle.break_core.specs.declared.broken.Pass.TheVariants.{First, Second, Third}
 use Rattle.break_core.specs.Passes.{Facts, problem_of, bound_of, IsBefore}

@@ -1,25 +1,24 @@
 -- The table as it is filled, place by place.
-use Rattle.std.proofs.Common.{◌≡◌, ◌≢◌, ◌∙◌, ℕ, zero, suc, ◌+◌, ◌<◌, ◌≤◌, Bool, true, false, cond, List, [], ◌∷◌, ◌++◌, length, take, drop, get_or, drop-cons, drop_of_length-le, Result, Ok, Err, refl, ap, sym, subst, arith, Option, Some, None}
+use Rattle.std.proofs.Common.{◌≡◌, ◌≢◌, ◌∙◌, ℕ, zero, suc, ◌+◌, ◌<◌, ◌≤◌, true, false, cond, List, [], ◌∷◌, ◌++◌, length, drop, get_or, drop-cons, drop_of_length-le, Result, Ok, Err, refl, ap, sym, subst, arith, Option, Some}
 use Rattle.std.specs.Prelude.{ℤ, slice_get, if◌then◌else◌, OnOk}
 use Rattle.std.proofs.Math.Logic.{◌⊎◌, inl, inr}
-use Rattle.std.proofs.lemmas.Bool.{cases_Bool, cases_lt, cases_eq}
+use Rattle.std.proofs.lemmas.Bool.{cases_Bool, cases_eq}
 use Rattle.std.proofs.lemmas.Option.{same_Some, slice_get_within, get_or_from_slice_get}
 use Rattle.break_table.specs.declared.group.Group.{Group}
 use Rattle.break_table.specs.Problems.{Problem}
-use Rattle.break_table.specs.Ways.{since}
 use Rattle.break_table.specs.Tables.{Entry, first_entry, IsTable, IsRow, held_in}
 use Rattle.break_table.specs.Live.{IsGroup, IsSilent, IsLive}
 use Rattle.break_table.proofs.Bellman.{first_table, next_table}
-use Rattle.break_table.proofs.Entries.{get_left, get_cases}
+use Rattle.break_table.proofs.Entries.{get_cases}
 use Rattle.break_table.proofs.Rows.{row_silent}
 use Rattle.break_table.proofs.Live.{live_more, live_forced, new_group, first_live}
 use Rattle.node_core.specs.declared.params.Params.{Params}
-use Rattle.break_core.specs.declared.sums.Sums.{Sums}
-use Rattle.break_core.specs.declared.cost.Judged.{Judged}
-use Rattle.break_core.specs.declared.cost.Bound.{Bound}
-use Rattle.break_core.specs.Costs.{judged, line_of}
+use Rattle.break_cost.specs.declared.sums.Sums.{Sums}
+use Rattle.break_cost.specs.declared.cost.Judged.{Judged}
+use Rattle.break_cost.specs.declared.cost.Bound.{Bound}
+use Rattle.break_cost.specs.Costs.{judged, line_of}
 use Rattle.break_core.specs.Passes.{Facts, problem_of}
-use Rattle.break_core.specs.Filling.{IsOf, IsJudged, AreRising, IsFilled, IsGrown, AreFew, AreTried}
+use Rattle.break_core.specs.Filling.{IsOf, IsJudged, AreRising, IsFilled, AreTried}
 
 -- The next live group, and those behind it.
 pub next_live :

@@ -1,5 +1,5 @@
 -- Sums over what lines keep are differences of sums over the first items.
-use Rattle.std.proofs.Common.{◌≡◌, ◌∙◌, ℕ, zero, suc, ◌+◌, ◌<◌, ◌≤◌, min, Bool, true, false, cond, List, [], ◌∷◌, ◌++◌, length, take, drop, map, get_or, refl, ap, sym, subst, arith, Option, Some, None}
+use Rattle.std.proofs.Common.{◌≡◌, ◌∙◌, ℕ, zero, suc, ◌+◌, ◌≤◌, min, true, false, List, [], ◌∷◌, take, drop, refl, ap, sym, arith, Option, Some, None}
 use Rattle.std.specs.Prelude.{ℤ, pos, ◌+ℤ◌, ◌-ℤ◌, slice_get}
 use Rattle.std.proofs.Math.Logic.{◌⊎◌, inl, inr}
 use Rattle.std.proofs.lemmas.Int.{ints}
@@ -9,10 +9,10 @@ use Rattle.node_core.specs.declared.tree.Node.TheVariants as nodes
 use Rattle.node_core.specs.declared.tree.Order.TheVariants.{Normal, Fil, Fill, Filll}
 use Rattle.pack_core.specs.Items.{across, stretch_in, shrink_in}
 use Rattle.pack_core.specs.Totals.{total}
-use Rattle.pack_core.proofs.Sums.{total-append, total_more}
-use Rattle.break_core.specs.declared.sums.Sums.{Sums}
-use Rattle.break_core.specs.Legal.{is_dropped, up_to}
-use Rattle.break_core.specs.Kept.{at_break, without_first, kept, sums_of, lead, first_kept, amounts_of, plus, minus}
+use Rattle.pack_core.proofs.Sums.{total-append}
+use Rattle.break_cost.specs.declared.sums.Sums.{Sums}
+use Rattle.break_core.specs.Legal.{is_dropped}
+use Rattle.break_core.specs.Kept.{BeginsBefore, at_break, without_first, kept, sums_of, lead, first_kept, minus}
 
 take_none : (n : ℕ) → take {A = Node} n [] ≡ []
 take_none zero = refl
@@ -67,13 +67,8 @@ behind_dropped f (x ∷ list) (suc c) (suc b) low =
 abbrev pub IsNothingAtBreaks : (Node → ℤ) → Type 0
 IsNothingAtBreaks f = (node : Option Node) → total f (at_break node) ≡ pos 0
 
--- A line begins before its end.
-abbrev pub IsBefore : Option ℕ → ℕ → Type 0
-IsBefore None b = Unit {0}
-IsBefore (Some a) b = a < b
-
 pub kept_total :
-    (f : Node → ℤ) (list : List Node) (from : Option ℕ) (b : ℕ) → IsNothingAtBreaks f → IsBefore from b
+    (f : Node → ℤ) (list : List Node) (from : Option ℕ) (b : ℕ) → IsNothingAtBreaks f → BeginsBefore from b
     → total f (kept list from b) ≡ total f (take b list) -ℤ total f (take (min b (first_kept list from)) list)
 kept_total f list None b none before =
     let end = none (slice_get list b) in
@@ -98,7 +93,7 @@ nothing f kern penalty (Some (nodes.Box shift b)) = refl
 
 -- The sums over what a line keeps are a difference of sums over first items.
 pub kept_sums :
-    (list : List Node) (from : Option ℕ) (b : ℕ) → IsBefore from b
+    (list : List Node) (from : Option ℕ) (b : ℕ) → BeginsBefore from b
     → sums_of (kept list from b) ≡ minus (sums_of (take b list)) (sums_of (take (min b (first_kept list from)) list))
 unfolding sums_of
 kept_sums list from b before =
@@ -112,7 +107,7 @@ kept_sums list from b before =
 
 -- Where all is dropped, nothing is left.
 pub kept_nothing :
-    (list : List Node) (from : Option ℕ) (b : ℕ) → IsBefore from b → b ≤ first_kept list from
+    (list : List Node) (from : Option ℕ) (b : ℕ) → BeginsBefore from b → b ≤ first_kept list from
     → sums_of (kept list from b) ≡ record { width = pos 0; stretch = pos 0; fil = pos 0; fill = pos 0; filll = pos 0; shrink = pos 0 }
 kept_nothing list from b before all =
     let n : min b (first_kept list from) ≡ b = omega arith in
@@ -129,7 +124,7 @@ kept_nothing list from b before all =
         cc (width, stretch, fil, fill, filll, shrink)
 
 pub kept_some :
-    (list : List Node) (from : Option ℕ) (b : ℕ) → IsBefore from b → first_kept list from ≤ b
+    (list : List Node) (from : Option ℕ) (b : ℕ) → BeginsBefore from b → first_kept list from ≤ b
     → sums_of (kept list from b) ≡ minus (sums_of (take b list)) (sums_of (take (first_kept list from) list))
 kept_some list from b before some =
     let n : min b (first_kept list from) ≡ first_kept list from = omega arith in

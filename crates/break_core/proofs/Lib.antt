@@ -1,7 +1,8 @@
 -- Lemmas on lines of nodes.
-pub mod Costs
 pub mod Filled
 pub mod Admitting
 pub mod Places
 pub mod KeptSums
 pub mod Prefixes
+pub mod Steady
+pub mod Firsts

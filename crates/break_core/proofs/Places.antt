@@ -3,7 +3,7 @@ use Rattle.std.proofs.Common.{◌≡◌, ◌∙◌, ℕ, zero, suc, ◌+◌, ◌
 use Rattle.std.specs.Prelude.{ℤ, pos, int_lt, ◌<ℤ◌, slice_get}
 use Rattle.std.proofs.lemmas.Int.{ints}
 use Rattle.std.proofs.Math.Logic.{◌⊎◌, inl, inr}
-use Rattle.std.proofs.lemmas.Option.{same_Some, slice_get_within, slice_get_past, get_or_from_slice_get}
+use Rattle.std.proofs.lemmas.Option.{same_Some, slice_get_within, get_or_from_slice_get}
 use Rattle.break_table.proofs.Entries.{get_at, get_cases}
 use Rattle.std.specs.List.{filter}
 use Rattle.std.proofs.lemmas.List.Elements.{filter-append}
@@ -12,7 +12,7 @@ use Rattle.node_core.specs.declared.tree.Node.{Node}
 use Rattle.node_core.specs.declared.tree.Node.TheVariants as nodes
 use Rattle.break_core.specs.Legal.{is_dropped, up_to, is_legal, is_break, node_before, legal_places, penalty_of}
 use Rattle.break_core.specs.Passes.{position_of, begins_at}
-use Rattle.break_core.proofs.KeptSums.{IsBefore}
+use Rattle.break_core.specs.Kept.{BeginsBefore}
 use Rattle.break_core.specs.Kept.{lead}
 
 -- One more number, if it passes.
@@ -150,7 +150,7 @@ begins_some list (suc n) some = refl
 pub begins_none : (list : List Node) (n : ℕ) → n ≡ 0 → begins_at list n ≡ None
 begins_none list n none = ap (begins_at list) none
 
-pub begins_before : (list : List Node) (a b : ℕ) → a < b → b ≤ length (legal_places list) → IsBefore (begins_at list a) (position_of list b)
+pub begins_before : (list : List Node) (a b : ℕ) → a < b → b ≤ length (legal_places list) → BeginsBefore (begins_at list a) (position_of list b)
 begins_before list zero b earlier last = tt
 begins_before list (suc a) b earlier last = (rising_places list (suc a) b (omega arith) earlier last).0
 

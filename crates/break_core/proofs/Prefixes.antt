@@ -1,6 +1,6 @@
 -- Sums over the first items, one after another.
-use Rattle.std.proofs.Common.{◌≡◌, ◌∙◌, ℕ, zero, suc, ◌+◌, ◌*◌, ◌^◌, ◌<◌, ◌≤◌, List, [], ◌∷◌, ◌++◌, length, length-append, take, map, get_or, to_z, of_z, w64, refl, ap, sym, subst, arith, Option, Some, None}
-use Rattle.std.specs.Prelude.{ℤ, pos, ◌+ℤ◌, ◌-ℤ◌, slice_get}
+use Rattle.std.proofs.Common.{◌≡◌, ◌∙◌, ℕ, zero, suc, ◌+◌, ◌^◌, ◌<◌, ◌≤◌, List, [], ◌∷◌, ◌++◌, length, length-append, take, map, get_or, to_z, of_z, w64, refl, ap, sym, subst, arith, Some}
+use Rattle.std.specs.Prelude.{ℤ, ◌-ℤ◌, slice_get}
 use Rattle.std.proofs.Math.Logic.{◌⊎◌, inl, inr}
 use Rattle.std.proofs.lemmas.Int.{ints}
 use Rattle.std.proofs.lemmas.Option.{same_Some, slice_get_read}
@@ -10,12 +10,11 @@ use Rattle.node_core.specs.declared.tree.Node.{Node}
 use Rattle.node_core.specs.declared.tree.Order.TheVariants.{Normal, Fil, Fill, Filll}
 use Rattle.node_core.specs.Nodes.{most_nodes}
 use Rattle.pack_core.specs.Items.{across, stretch_in, shrink_in}
-use Rattle.pack_core.specs.Totals.{total}
 use Rattle.pack_core.proofs.Sums.{total_more}
 use Rattle.break_table.proofs.Entries.{get_left, get_right, get_cases}
-use Rattle.break_core.specs.declared.sums.Sums.{Sums}
+use Rattle.break_cost.specs.declared.sums.Sums.{Sums}
 use Rattle.break_core.specs.Legal.{up_to}
-use Rattle.break_core.specs.Kept.{sums_of, amounts_of, plus, minus, prefix_sums}
+use Rattle.break_core.specs.Kept.{sums_of, amounts_of, plus, prefix_sums}
 use Rattle.break_core.specs.Small.{IsPrefix, ArePrefixes}
 
 map-append : {A B : Type 0} (f : A → B) (xs ys : List A) → map f (xs ++ ys) ≡ map f xs ++ map f ys

@@ -1,5 +1,5 @@
 -- The table of a paragraph as it is filled, place by place (own; no public clause speaks of it).
-use Rattle.std.specs.Prelude.{◌≡◌, ◌<◌, ◌≤◌, ◌+◌, ◌^◌, ℕ, ℤ, List, [], ◌∷◌, slice_get, Option, Some}
+use Rattle.std.specs.Prelude.{◌≡◌, ◌<◌, ◌≤◌, ◌+◌, ◌^◌, ℕ, ℤ, List, slice_get, Option, Some}
 use Rattle.node_core.specs.declared.params.Params.{Params}
 use Rattle.break_table.specs.declared.group.Group.{Group}
 use Rattle.break_table.specs.declared.state.State.{State}
@@ -10,9 +10,9 @@ use Rattle.break_table.specs.Live.{IsLive}
 use Rattle.break_table.specs.declared.answer.Least.{Least}
 use Rattle.break_table.specs.Chosen.{AdmitsNone, IsAnswer}
 use Rattle.break_core.specs.declared.broken.Pass.{Pass}
-use Rattle.break_core.specs.declared.cost.Judged.{Judged}
-use Rattle.break_core.specs.declared.cost.Bound.{Bound}
-use Rattle.break_core.specs.Costs.{line_of}
+use Rattle.break_cost.specs.declared.cost.Judged.{Judged}
+use Rattle.break_cost.specs.declared.cost.Bound.{Bound}
+use Rattle.break_cost.specs.Costs.{line_of}
 use Rattle.break_core.specs.Passes.{Facts, problem_of, bound_of, IsBefore}
 
 -- The entries of a group are of its place, and no lines are counted.

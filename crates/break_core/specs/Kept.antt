@@ -1,11 +1,11 @@
 -- What a line keeps of a list, and the sums over it (TeX: The Program, part 38, §822 and §837; part 39, §879 to §882).
-use Rattle.std.specs.Prelude.{◌≡◌, ◌+◌, ◌-◌, ◌+ℤ◌, ◌-ℤ◌, ◌++◌, map, length, ℕ, zero, suc, ℤ, pos, Bool, not, List, [], ◌∷◌, take, drop, slice_get, Option, Some, None, if◌then◌else◌}
+use Rattle.std.specs.Prelude.{◌<◌, ◌+◌, ◌-◌, ◌+ℤ◌, ◌-ℤ◌, ◌++◌, map, length, ℕ, pos, List, [], ◌∷◌, take, drop, slice_get, Option, Some, None, if◌then◌else◌}
 use Rattle.node_core.specs.declared.tree.Node.{Node}
 use Rattle.node_core.specs.declared.tree.Node.TheVariants as nodes
 use Rattle.node_core.specs.declared.tree.Order.TheVariants.{Normal, Fil, Fill, Filll}
 use Rattle.pack_core.specs.Items.{across, stretch_in, shrink_in}
 use Rattle.pack_core.specs.Totals.{total}
-use Rattle.break_core.specs.declared.sums.Sums.{Sums}
+use Rattle.break_cost.specs.declared.sums.Sums.{Sums}
 use Rattle.break_core.specs.Legal.{is_dropped, up_to}
 
 -- What a line keeps of the item that it ends at: glue vanishes, a kern has no width any more, and a penalty stays.
@@ -24,6 +24,11 @@ without_first (node ∷ rest) = if is_dropped node then without_first rest else 
 abbrev pub kept : List Node → (from : Option ℕ) → (b : ℕ) → List Node
 kept list None b = take b list ++ at_break (slice_get list b)
 kept list (Some a) b = without_first (drop (a + 1) (take b list)) ++ at_break (slice_get list b)
+
+-- A line begins before its end.
+abbrev pub BeginsBefore : (from : Option ℕ) → (b : ℕ) → Type 0
+BeginsBefore None b = Unit {0}
+BeginsBefore (Some a) b = a < b
 
 -- The sums over the items of a line: their widths, how much they stretch in each order, and how much they shrink.
 unfoldable pub sums_of : List Node → Sums
@@ -81,7 +86,15 @@ minus a b =
 abbrev pub prefix_sums : List Node → List Sums
 prefix_sums list = map (λ n. sums_of (take n list)) (up_to (length list + 1))
 
+-- Where the first item stands, from item k on, that is not dropped; the end, where there is none.
+abbrev pub next_kept : List Node → (k : ℕ) → ℕ
+next_kept list k = k + lead (drop k list)
+
+-- The same for the end, for the last item, and so on back to the first.
+abbrev pub all_next_kept : List Node → List ℕ
+all_next_kept list = map (λ n. next_kept list (length list - n)) (up_to (length list + 1))
+
 -- Where the items of a line begin that are not dropped first.
 abbrev pub first_kept : List Node → Option ℕ → ℕ
 first_kept list None = 0
-first_kept list (Some a) = (a + 1) + lead (drop (a + 1) list)
+first_kept list (Some a) = next_kept list (a + 1)

@@ -1,26 +1,21 @@
 -- The legal places of a finished horizontal list (TeX: The Program, part 38, §816 and §866 to §869).
-use Rattle.std.specs.Prelude.{◌≡◌, ◌+◌, ◌-◌, ◌<◌, ◌++◌, ℕ, zero, suc, ℤ, pos, negsuc, Bool, true, false, not, int_lt, int_le, nat_lt, List, [], ◌∷◌, length, slice_get, Option, Some, None, filter, if◌then◌else◌}
+use Rattle.std.specs.Prelude.{◌+◌, ◌++◌, ℕ, zero, suc, ℤ, pos, negsuc, Bool, true, false, not, int_lt, int_le, List, [], ◌∷◌, length, slice_get, Option, Some, None, filter, if◌then◌else◌}
 use Rattle.node_core.specs.declared.tree.Node.{Node}
 use Rattle.node_core.specs.declared.tree.Node.TheVariants as nodes
 use Rattle.node_core.specs.declared.tree.Order.TheVariants.{Normal}
-use Rattle.node_core.specs.declared.tree.Glue.{Glue}
+use Rattle.node_core.specs.declared.tree.Kind.TheVariants.{Horizontal}
+use Rattle.node_core.specs.Classes.{class_of, is_discardable, precedes_break}
 use Rattle.pack_core.specs.Items.{is_order}
 use Rattle.pack_core.specs.Glue.{is_zero}
 
 -- Glue, explicit kerns and penalties are dropped at the beginning of a line (TeX: The Program, part 10, §148).
 unfoldable pub is_dropped : Node → Bool
-is_dropped (nodes.Glue glue) = true
-is_dropped (nodes.Kern width) = true
-is_dropped (nodes.Penalty penalty) = true
-is_dropped (nodes.Glyph glyph) = false
-is_dropped (nodes.FontKern width) = false
-is_dropped (nodes.Rule rule) = false
-is_dropped (nodes.Box shift b) = false
+is_dropped node = is_discardable (class_of node)
 
--- There is an item, and it is none of these.
+-- There is an item, and glue behind it is a legal place.
 abbrev pub is_kept : Option Node → Bool
 is_kept None = false
-is_kept (Some node) = not (is_dropped node)
+is_kept (Some node) = precedes_break Horizontal (class_of node)
 
 -- There is an item, and it is glue.
 unfoldable pub is_glue : Option Node → Bool

@@ -1,6 +1,6 @@
 -- The passes over a paragraph, and the list of breaks that is chosen (TeX: The Program, part 38, §863 and §874; own: the last pass admits each line,
 -- the least overhang counts first, and ties are decided).
-use Rattle.std.specs.Prelude.{◌≡◌, ◌<◌, ◌+◌, ◌-◌, ℕ, zero, suc, ℤ, Bool, true, false, List, [], ◌∷◌, length, map, reverse, get_or, slice_get, nat_lt, Option, Some, None, if◌then◌else◌}
+use Rattle.std.specs.Prelude.{◌≡◌, ◌-◌, ℕ, zero, suc, ℤ, List, length, map, reverse, get_or, slice_get, nat_lt, Option, Some, None, if◌then◌else◌}
 use Rattle.std.specs.List.{list_any}
 use Rattle.node_core.specs.declared.tree.Node.{Node}
 use Rattle.node_core.specs.declared.params.Params.{Params}
@@ -8,9 +8,9 @@ use Rattle.break_table.specs.declared.state.State.{State}
 use Rattle.break_table.specs.Problems.{Problem, Path, ends_of, places_of}
 use Rattle.break_table.specs.Chosen.{IsChosen, AdmitsNone}
 use Rattle.break_table.specs.Tables.{most_places}
-use Rattle.break_core.specs.declared.sums.Sums.{Sums}
-use Rattle.break_core.specs.declared.cost.Bound.{Bound}
-use Rattle.break_core.specs.declared.cost.Bound.TheVariants.{Any, AtMost}
+use Rattle.break_cost.specs.declared.sums.Sums.{Sums}
+use Rattle.break_cost.specs.declared.cost.Bound.{Bound}
+use Rattle.break_cost.specs.declared.cost.Bound.TheVariants.{Any, AtMost}
 use Rattle.break_core.specs.declared.broken.Pass.{Pass}
 use Rattle.break_core.specs.declared.broken.Pass.TheVariants.{First, Second, Third}
 use Rattle.break_core.specs.declared.broken.Breaks.{Breaks}
@@ -19,7 +19,7 @@ use Rattle.break_core.specs.declared.fault.BreakFault.{BreakFault}
 use Rattle.break_core.specs.declared.fault.BreakFault.TheVariants as faults
 use Rattle.break_core.specs.Legal.{legal_places, penalty_of, is_forced, shrinks_forever}
 use Rattle.break_core.specs.Kept.{kept, sums_of}
-use Rattle.break_core.specs.Costs.{judged, line_of}
+use Rattle.break_cost.specs.Costs.{judged, line_of}
 
 -- What is known of a paragraph: its legal places are numbered from 1, and 0 is its start.
 pub record Facts : Type 0 where

@@ -1,21 +1,9 @@
 -- Numbers of lines are small (own; no public clause speaks of it).
-use Rattle.std.specs.Prelude.{◌≡◌, ◌≤◌, ◌^◌, ◌*◌, ℕ, List, slice_get, Some}
+use Rattle.std.specs.Prelude.{◌≡◌, ◌^◌, ◌*◌, ℕ, List, slice_get, Some}
 use Rattle.node_core.specs.Nodes.{most_nodes}
 use Rattle.scaled_core.specs.Dimensions.{Within}
-use Rattle.break_table.specs.Tables.{most_overhang}
-use Rattle.break_core.specs.declared.sums.Sums.{Sums}
-use Rattle.break_core.specs.declared.cost.Judged.{Judged}
-
--- Sums over at most 131,072 items.
-pub record IsSmallSums (sums : Sums) : Type 0 where
-  pub width : Within (2 ^ 49) sums.width
-  pub stretch : Within (2 ^ 48) sums.stretch
-  pub shrink : Within (2 ^ 48) sums.shrink
-
--- A line is at most as bad as a line can be.
-pub record IsSmallJudged (line : Judged) : Type 0 where
-  pub badness : line.badness ≤ 10000
-  pub overhang : Within most_overhang line.overhang
+use Rattle.break_cost.specs.declared.sums.Sums.{Sums}
+pub use Rattle.break_cost.specs.Small.{IsSmallSums, IsSmallJudged}
 
 -- Sums over the first n items.
 pub record IsPrefix (n : ℕ) (sums : Sums) : Type 0 where

@@ -21,7 +21,7 @@ fn measured(alloc: Global, nodes: &[Node], params: &Params) -> Result<Breaks, Al
     requires few { length (legal_places nodes.now) ≤ most_places }
     ensures { IfOk result (IsBroken (facts_of nodes.now) params.now) }
 {
-    let mut meter = ListMeter::new(alloc, nodes)?;
+    let mut meter = ListMeter::of(alloc, nodes)?;
     breaks_of(alloc, &mut meter, params)
 }
 

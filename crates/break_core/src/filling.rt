@@ -6,14 +6,14 @@ ghost use Rattle.break_core.specs.Passes.{problem_of};
 ghost use Rattle.break_core.specs.Small.{IsSmallJudged};
 ghost use Rattle.break_core.specs.Filling.{IsOf, IsOffering, IsFilled, IsGrown, AreFew};
 
-use crate::cost::{Bound, Judged, judge, line_from};
 use crate::meter::{Meter, Place};
+use break_cost::{Bound, Judged, judge, line_from};
 use break_table::{Best, Group, empty_row, improve, keep};
 use node_core::Params;
 use std::alloc::{AllocError, Global};
 
 /// Offers the entries of a group for a place, by lines that are judged so.
-fn offer_group(
+pub fn offer_group(
     row: &mut Vec<Option<Best>>,
     table: &[Best],
     group: Group,
@@ -71,7 +71,7 @@ fn row_at<M: Meter>(
 }
 
 /// Begins a group of live entries; those of earlier places stay, unless a line must end here.
-fn begin_group(live: &mut Vec<Group>, forced: bool, group: Group) -> Result<(), AllocError>
+pub fn begin_group(live: &mut Vec<Group>, forced: bool, group: Group) -> Result<(), AllocError>
     ensures { OnOk result (live.new.items ≡ (if forced then group ∷ [] else (live.old.items ++ group ∷ []))) }
 {
     if forced {

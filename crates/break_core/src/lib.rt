@@ -6,20 +6,21 @@
 
 mod breaking;
 mod broken;
-mod cost;
 mod fault;
 mod filling;
+pub mod laws;
 mod list;
 mod list_meter;
 mod meter;
 mod passes;
 mod sums;
 
+pub use break_cost::{Bound, Judged, Sums, judge, line_from};
 pub use break_table::Class;
 pub use breaking::breaks;
 pub use broken::{Breaks, LineEnd, Pass};
 pub use fault::BreakFault;
+pub use filling::{begin_group, offer_group};
 pub use list_meter::ListMeter;
 pub use meter::{Meter, Place};
-pub use passes::breaks_of;
-pub use sums::Sums;
+pub use passes::{bound_of, breaks_of, line_ends};

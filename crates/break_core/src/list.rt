@@ -1,12 +1,12 @@
 //! The meter of a list of nodes.
 
 ghost use Rattle.std.specs.Prelude.{◌≡◌, ◌+◌, ◌<◌, ◌≤◌, ◌^◌, ◌++◌, [], ◌∷◌, ℕ, length, take, drop, replicate, slice_get, get_or, if◌then◌else◌, IfOk, OnOk};
-ghost use Rattle.break_core.specs.Kept.{lead};
+ghost use Rattle.break_core.specs.Kept.{next_kept, all_next_kept};
 ghost use Rattle.std.specs.List.{list_any};
 ghost use Rattle.node_core.specs.Nodes.{most_nodes};
 ghost use Rattle.break_core.specs.Legal.{is_dropped, is_kept, is_glue, is_break, node_before, is_legal, legal_places, penalty_of, shrinks_forever};
 
-use node_core::{Node, Order};
+use node_core::{Kind, Node, Order};
 use std::alloc::{AllocError, Global};
 
 /// Whether an item is dropped at the beginning of a line.
@@ -14,7 +14,7 @@ use std::alloc::{AllocError, Global};
 fn is_dropped(node: &Node) -> bool
     ensures { result ≡ is_dropped node.now }
 {
-    matches!(node, Node::Glue(_) | Node::Kern(_) | Node::Penalty(_))
+    node.class().is_discardable()
 }
 
 /// Whether the item behind a place is glue.
@@ -28,7 +28,7 @@ fn is_glue(nodes: &[Node], index: usize) -> bool
     }
 }
 
-/// Whether there is an item in front of a place that is not dropped at the beginning of a line.
+/// Whether there is an item in front of a place behind which glue is a legal place.
 fn is_kept_before(nodes: &[Node], index: usize) -> bool
     ensures { result ≡ is_kept (node_before nodes.now index) }
 {
@@ -36,7 +36,7 @@ fn is_kept_before(nodes: &[Node], index: usize) -> bool
         return false;
     }
     match nodes.get(index - 1) {
-        Some(node) => !is_dropped(node),
+        Some(node) => node.class().precedes_break(Kind::Horizontal),
         None => false,
     }
 }
@@ -99,18 +99,30 @@ pub fn penalty_at(nodes: &[Node], index: usize) -> i32
     }
 }
 
-/// Where the first item behind the first ones stands that is not dropped at the beginning of a line; where there is none, the end.
-pub fn first_kept(nodes: &[Node], begin: usize) -> usize
-    requires { begin ≤ length nodes.now }
-    ensures value { result ≡ begin + lead (drop begin nodes.now) }
-    ensures within { result ≤ length nodes.now }
+/// Where the first item stands, from an item on, that is not dropped at the beginning of a line; that from the next item on is known.
+fn next_kept(nodes: &[Node], index: usize, behind: usize) -> usize
+    requires within { index < length nodes.now }
+    requires behind { behind ≡ next_kept nodes.now (index + 1) }
+    ensures { result ≡ next_kept nodes.now index }
 {
-    for index in begin..nodes.len() {
-        if !is_dropped(&nodes[index]) {
-            return index;
-        }
+    if is_dropped(&nodes[index]) {
+        return behind;
     }
-    nodes.len()
+    index
+}
+
+/// Where the first item stands that is not dropped at the beginning of a line, from the end on, from the last item on, and so on back to the first.
+pub fn all_next_kept(alloc: Global, nodes: &[Node]) -> Result<Vec<usize>, AllocError>
+    ensures { IfOk result (λ firsts. firsts.items ≡ all_next_kept nodes.now) }
+{
+    let mut firsts = Vec::new(alloc);
+    let mut first = nodes.len();
+    firsts.push(first)?;
+    for count in 0..nodes.len() {
+        first = next_kept(nodes, nodes.len() - count - 1, first);
+        firsts.push(first)?;
+    }
+    Ok(firsts)
 }
 
 /// Puts a number behind others, if it is wanted.

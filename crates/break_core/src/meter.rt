@@ -1,10 +1,11 @@
 //! Meters: what the breaker knows of a paragraph.
 
-ghost use Rattle.std.specs.Prelude.{◌≡◌, ◌≢◌, ◌+◌, ◌<◌, ◌≤◌, ◌^◌, ◌<ℤ◌, pos, ℕ};
+ghost use Rattle.std.specs.Prelude.{◌≡◌, ◌≢◌, ◌+◌, ◌<◌, ◌≤◌, ◌^◌, ◌<ℤ◌, pos, ℕ, true};
 ghost use Rattle.break_table.specs.Tables.{most_places};
 ghost use Rattle.break_core.specs.Legal.{is_forced};
 ghost use Rattle.break_core.specs.Passes.{Facts};
 ghost use Rattle.break_core.specs.Small.{IsSmallSums};
+ghost use Rattle.break_core.specs.Steady.{IsSteady};
 
 use crate::sums::Sums;
 
@@ -45,6 +46,11 @@ pub trait Meter {
         ensures position { result.position ≡ (facts self.now).position number }
         ensures penalty { result.penalty ≡ (facts self.now).penalty number }
         ensures small { result.penalty <ℤ pos 10000 };
+
+    /// Whether no line gets narrower, neither as it is nor shrunk as far as it goes, by going on to the next place.
+    fn steady(&self) -> bool
+        ensures steady { result ≡ true → IsSteady (facts self.now) }
+        ensures unsteady { IsSteady (facts self.now) → result ≡ true };
 
     /// The sums over the items of a line.
     fn try_line(&mut self, from: usize, to: usize) -> Sums

@@ -7,15 +7,15 @@ ghost use Rattle.break_core.specs.Passes.{Facts, problem_of, bound_of, line_end,
 ghost use Rattle.break_core.specs.Filling.{IsGrown, AreFew, AreWithin, IsDecided};
 
 use crate::broken::{Breaks, LineEnd, Pass};
-use crate::cost::Bound;
 use crate::filling::fill;
 use crate::meter::Meter;
+use break_cost::Bound;
 use break_table::{Least, State, chosen_list};
 use node_core::Params;
 use std::alloc::{AllocError, Global};
 
 /// What a pass admits.
-fn bound_of(params: &Params, pass: Pass) -> Bound
+pub fn bound_of(params: &Params, pass: Pass) -> Bound
     ensures { result ≡ bound_of params.now pass }
 {
     match pass {
@@ -86,7 +86,11 @@ fn decide<M: Meter>(
 }
 
 /// The ends of lines, by where they stand in the list.
-fn line_ends<M: Meter>(alloc: Global, meter: &M, ends: &[State]) -> Result<Vec<LineEnd>, AllocError>
+pub fn line_ends<M: Meter>(
+    alloc: Global,
+    meter: &M,
+    ends: &[State],
+) -> Result<Vec<LineEnd>, AllocError>
     requires within { AreWithin (M.facts meter.now) ends.now }
     ensures { IfOk result (λ lines. lines.items ≡ map (line_end (M.facts meter.now)) ends.now) }
 {

@@ -6,32 +6,10 @@ ghost use Rattle.break_core.specs.Legal.{up_to};
 ghost use Rattle.break_core.specs.Kept.{sums_of, amounts_of, plus, minus, prefix_sums};
 ghost use Rattle.break_core.specs.Small.{IsPrefix, IsSmallSums, ArePrefixes};
 
+pub use break_cost::Sums;
 use node_core::{Kind, Node, Order};
 use pack_core::{advance_of, shrink_of, stretch_of};
 use std::alloc::{AllocError, Global};
-
-/// The sums over the items of a line, in scaled points: their widths, how much they stretch in each order, and how much they shrink in order normal.
-#[derive(Clone, Copy, Debug, PartialEq, Eq)]
-pub struct Sums {
-    pub width: i64,
-    pub stretch: i64,
-    pub fil: i64,
-    pub fill: i64,
-    pub filll: i64,
-    pub shrink: i64,
-}
-
-impl Sums {
-    /// The sums over no items.
-    pub const ZERO: Sums = Sums {
-        width: 0,
-        stretch: 0,
-        fil: 0,
-        fill: 0,
-        filll: 0,
-        shrink: 0,
-    };
-}
 
 /// What an item adds to the sums.
 fn amounts_of(node: &Node) -> Sums

@@ -1,25 +1,21 @@
 -- The table grows by the row of a place, and the best entry of the end is the list that is chosen.
-use Rattle.std.proofs.Common.{◌≡◌, ◌≢◌, ◌∙◌, ℕ, zero, suc, ◌+◌, ◌*◌, ◌<◌, ◌≤◌, min, Bool, true, false, cond, List, [], ◌∷◌, ◌++◌, length, append_assoc, reverse, refl, ap, sym, subst, arith, Option, Some, None}
-use Rattle.std.specs.Prelude.{ℤ, pos, nat_le, slice_get}
+use Rattle.std.proofs.Common.{◌≡◌, ◌∙◌, ℕ, zero, suc, ◌+◌, ◌<◌, ◌≤◌, List, [], ◌∷◌, ◌++◌, length, append_assoc, reverse, refl, ap, sym, subst, arith, Option, Some}
+use Rattle.std.specs.Prelude.{slice_get}
 use Rattle.std.proofs.Math.Logic.{◌⊎◌, inl, inr}
-use Rattle.std.proofs.lemmas.Bool.{cases_Bool, cases_eq, cases_lt, cond-true, cond-false, leb-true}
+use Rattle.std.proofs.lemmas.Bool.{cases_lt}
 use Rattle.std.proofs.lemmas.Option.{same_Some, slice_get_within}
 use Rattle.std.proofs.lemmas.List.{reverse-reverse}
 use Rattle.break_table.specs.declared.answer.Least.{Least}
-use Rattle.break_table.specs.declared.group.Group.{Group}
 use Rattle.break_table.specs.declared.state.State.{State}
-use Rattle.break_table.specs.declared.state.Line.{Line}
 use Rattle.break_table.specs.Orders.{NotAfter}
-use Rattle.break_table.specs.Problems.{Problem, Path, start, first_path, with_line, path_of, ends_of, places_of, key}
+use Rattle.break_table.specs.Problems.{Problem, Path, first_path, path_of, ends_of, places_of, key}
 use Rattle.break_table.specs.Chosen.{IsBreakList, IsChosen, AdmitsNone, IsAnswer}
-use Rattle.break_table.specs.Ways.{since, Way, starts, goes, IsLeast}
-use Rattle.break_table.specs.Tables.{Entry, first_entry, short, slot, IsReached, way_to, IsLinked, IsBest, IsTable, offer_of, offer, IsOffered, IsHeld, IsMet, IsRow, held_in, IsBestEnd, HasNoEnd, IsRead, IsReading}
-use Rattle.break_table.specs.Live.{IsGroup, IsSilent, IsLive}
+use Rattle.break_table.specs.Ways.{Way, starts, goes, IsLeast}
+use Rattle.break_table.specs.Tables.{Entry, first_entry, short, slot, IsReached, way_to, IsLinked, IsBest, IsTable, IsOffered, IsHeld, IsRow, held_in, IsBestEnd, HasNoEnd, IsRead, IsReading}
 use Rattle.break_table.proofs.Entries.{get_left, get_right, get_cases}
-use Rattle.break_table.proofs.Dictionary.{not_after_refl, not_after_trans}
-use Rattle.break_table.proofs.Since.{since_grows, since_below}
+use Rattle.break_table.proofs.Dictionary.{not_after_trans}
 use Rattle.break_table.proofs.Lists.{way_of_break_list, break_list_of_way}
-use Rattle.break_table.proofs.Reached.{least_once, IsExtended, extended_is, IsRight, right, reached_by, offered_reached, matches, best_is_least, short_decides, way_ends, least_start}
+use Rattle.break_table.proofs.Reached.{least_once, IsExtended, extended_is, right, offered_reached, matches, best_is_least, short_decides, way_ends, least_start}
 use Rattle.break_table.proofs.Rows.{offered_at, held_has, held_from}
 
 -- Before any place there is the start.

@@ -1,7 +1,7 @@
 -- Entries are compared number by number.
-use Rattle.std.proofs.Common.{◌≡◌, ◌∙◌, ℕ, List, [], ◌∷◌, ◌++◌, length, refl, ap, sym, subst, arith}
-use Rattle.std.proofs.Math.Logic.{◌⊎◌, inl, inr}
-use Rattle.std.specs.Prelude.{ℤ, ◌<ℤ◌}
+use Rattle.std.proofs.Common.{◌≡◌, [], ◌∷◌, subst}
+use Rattle.std.proofs.Math.Logic.{inl, inr}
+use Rattle.std.specs.Prelude.{◌<ℤ◌}
 use Rattle.break_table.specs.declared.state.State.{State}
 use Rattle.break_table.specs.Orders.{NotAfter}
 use Rattle.break_table.specs.Problems.{numbers_of}

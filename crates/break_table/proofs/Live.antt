@@ -1,15 +1,15 @@
 -- The groups from which a line may still go on, as the table grows.
-use Rattle.std.proofs.Common.{◌≡◌, ◌∙◌, ℕ, zero, suc, ◌+◌, ◌<◌, ◌≤◌, Bool, true, false, List, [], ◌∷◌, ◌++◌, length, length-append, refl, ap, sym, subst, arith, Option, Some, None}
+use Rattle.std.proofs.Common.{◌≡◌, ◌∙◌, ℕ, zero, suc, ◌+◌, ◌<◌, ◌≤◌, true, false, List, [], ◌∷◌, ◌++◌, length, length-append, ap, sym, subst, arith, Option, Some, None}
 use Rattle.std.specs.Prelude.{nat_le, slice_get}
 use Rattle.std.proofs.Math.Logic.{◌⊎◌, inl, inr}
-use Rattle.std.proofs.lemmas.Bool.{cases_Bool, cases_lt, cond-true, cond-false, leb-true}
+use Rattle.std.proofs.lemmas.Bool.{cases_Bool, cond-false, leb-true}
 use Rattle.std.proofs.lemmas.Option.{same_Some, slice_get_within}
 use Rattle.break_table.specs.declared.group.Group.{Group}
 use Rattle.break_table.specs.Problems.{Problem}
 use Rattle.break_table.specs.Ways.{since}
-use Rattle.break_table.specs.Tables.{Entry, first_entry, IsTable, offer_of, offer, IsRow, IsHeld, held_in}
+use Rattle.break_table.specs.Tables.{Entry, first_entry, IsTable, offer_of, offer, IsRow, held_in}
 use Rattle.break_table.specs.Live.{IsGroup, IsSilent, IsLive}
-use Rattle.break_table.proofs.Entries.{get_left, get_cases}
+use Rattle.break_table.proofs.Entries.{get_cases}
 use Rattle.break_table.proofs.Since.{since_grows, since_below, since_free, forced_within}
 use Rattle.break_table.proofs.Rows.{offered_at, held_from}
 

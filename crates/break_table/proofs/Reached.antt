@@ -1,15 +1,15 @@
 -- What entries stand for, and which of two stands for the lesser way.
-use Rattle.std.proofs.Common.{◌≡◌, ◌∙◌, ℕ, zero, suc, ◌+◌, ◌<◌, ◌≤◌, Bool, true, false, cond, List, [], ◌∷◌, ◌++◌, length, refl, ap, sym, subst, arith, Option, Some, None}
-use Rattle.std.specs.Prelude.{ℤ, pos, ◌+ℤ◌, nat_le, slice_get}
+use Rattle.std.proofs.Common.{◌≡◌, ◌∙◌, ℕ, zero, suc, ◌<◌, ◌≤◌, true, false, List, [], ◌∷◌, ◌++◌, refl, ap, sym, subst, arith, Option, Some, None}
+use Rattle.std.specs.Prelude.{◌+ℤ◌, nat_le, slice_get}
 use Rattle.std.proofs.Math.Logic.{◌⊎◌, inl, inr}
 use Rattle.std.proofs.lemmas.Bool.{cases_Bool, cond-true, cond-false, leb-true, le-leb}
 use Rattle.std.proofs.lemmas.Option.{same_Some}
 use Rattle.break_table.specs.declared.state.State.{State}
 use Rattle.break_table.specs.declared.state.Line.{Line}
 use Rattle.break_table.specs.Orders.{NotAfter}
-use Rattle.break_table.specs.Problems.{Problem, Path, start, first_path, with_line, state_after, numbers_of, key}
+use Rattle.break_table.specs.Problems.{Problem, Path, start, first_path, state_after, numbers_of, key}
 use Rattle.break_table.specs.Ways.{since, Way, starts, goes, IsLeast}
-use Rattle.break_table.specs.Tables.{Entry, first_entry, extended, short, IsReached, way_to, IsLinked, IsBest, IsTable, offer_of, offer, IsOffered}
+use Rattle.break_table.specs.Tables.{Entry, first_entry, extended, short, IsReached, way_to, IsTable, offer_of, offer, IsOffered}
 use Rattle.break_table.proofs.Dictionary.{not_after_refl, not_after_trans, not_after_antisym, not_after_front, longer_not_after, state_apart, key_apart}
 
 -- There is one least way to a state.

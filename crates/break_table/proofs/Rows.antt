@@ -1,17 +1,16 @@
 -- Rows: the offers for a place, one after another.
-use Rattle.std.proofs.Common.{◌≡◌, ◌≢◌, ◌∙◌, ℕ, zero, suc, ◌+◌, ◌*◌, ◌<◌, ◌≤◌, min, Bool, true, false, cond, List, [], ◌∷◌, ◌++◌, length, take, get_or, set, replicate, refl, ap, sym, subst, arith, length-set, Option, Some, None}
-use Rattle.std.specs.Prelude.{ℤ, pos, nat_le, slice_get}
+use Rattle.std.proofs.Common.{◌≡◌, ◌∙◌, ℕ, zero, suc, ◌+◌, ◌<◌, ◌≤◌, min, List, [], ◌∷◌, ◌++◌, length, take, get_or, set, replicate, refl, ap, sym, subst, arith, length-set, Option, Some, None}
+use Rattle.std.specs.Prelude.{slice_get}
 use Rattle.std.proofs.Math.Logic.{◌⊎◌, inl, inr}
 use Rattle.std.proofs.lemmas.Bool.{cases_eq, cases_lt}
 use Rattle.std.proofs.lemmas.List.{length-replicate, take_more}
 use Rattle.std.proofs.lemmas.Option.{same_Some}
 use Rattle.break_table.specs.declared.state.State.{State}
-use Rattle.break_table.specs.Orders.{NotAfter}
-use Rattle.break_table.specs.Problems.{Problem, rank, state_after}
-use Rattle.break_table.specs.Tables.{Entry, short, slot, slots, extended, offer, IsOffered, IsHeld, IsMet, IsRow, IsKept, held_in}
+use Rattle.break_table.specs.Problems.{Problem}
+use Rattle.break_table.specs.Tables.{Entry, short, slot, slots, offer, IsOffered, IsHeld, IsMet, IsRow, IsKept, held_in}
 use Rattle.break_table.specs.Live.{IsSilent}
 use Rattle.break_table.proofs.Dictionary.{state_same, rank_few, rank_apart, not_after_trans}
-use Rattle.break_table.proofs.Reached.{IsExtended, extended_is}
+use Rattle.break_table.proofs.Reached.{extended_is}
 use Rattle.break_table.proofs.Entries.{get-set_same, get-set_other, get-replicate}
 
 -- States of one place with one slot are the same.

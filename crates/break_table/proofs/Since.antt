@@ -1,5 +1,5 @@
 -- Places that must be taken.
-use Rattle.std.proofs.Common.{◌≡◌, ◌∙◌, ℕ, zero, suc, ◌+◌, ◌<◌, ◌≤◌, Bool, true, false, cond, refl, ap, sym, arith}
+use Rattle.std.proofs.Common.{◌≡◌, ◌∙◌, ℕ, zero, suc, ◌+◌, ◌<◌, ◌≤◌, true, false, ap, sym, arith}
 use Rattle.std.proofs.Math.Logic.{◌⊎◌, inl, inr}
 use Rattle.std.proofs.lemmas.Bool.{cases_Bool, cases_eq, cases_lt, cond-true, cond-false}
 use Rattle.break_table.specs.Problems.{Problem}

@@ -1,10 +1,10 @@
 -- The table of the best ways so far, one to each state that can be reached (own; no public clause of the crates above speaks of it).
-use Rattle.std.specs.Prelude.{◌≡◌, ◌<◌, ◌≤◌, ◌⊎◌, ◌+◌, ◌*◌, ◌^◌, ◌+ℤ◌, ◌++◌, ℕ, ℤ, pos, min, nat_le, if◌then◌else◌, List, [], ◌∷◌, length, slice_get, Option, Some, None}
+use Rattle.std.specs.Prelude.{◌≡◌, ◌<◌, ◌≤◌, ◌⊎◌, ◌+◌, ◌*◌, ◌^◌, ◌+ℤ◌, ◌++◌, ℕ, ℤ, pos, nat_le, if◌then◌else◌, List, [], ◌∷◌, length, slice_get, Option, Some, None}
 use Rattle.scaled_core.specs.Dimensions.{Within}
 use Rattle.break_table.specs.declared.state.State.{State}
 use Rattle.break_table.specs.declared.state.Line.{Line}
 use Rattle.break_table.specs.Orders.{NotAfter}
-use Rattle.break_table.specs.Problems.{Problem, Path, rank, start, state_after, first_path, with_line, numbers_of, key, ends_of}
+use Rattle.break_table.specs.Problems.{Problem, Path, rank, start, state_after, with_line, numbers_of, ends_of}
 use Rattle.break_table.specs.Ways.{since, Way, IsLeast}
 
 -- A paragraph has at most so many legal places.

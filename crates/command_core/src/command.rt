@@ -153,6 +153,14 @@ pub struct Unboxing {
     pub taking: Taking,
 }
 
+/// Which register's box is split, how high its front is to be, in scaled points, and the register that the front goes into.
+#[derive(Clone, Copy, Debug, PartialEq, Eq)]
+pub struct Splitting {
+    pub register: Register,
+    pub height: Dimen,
+    pub into: Register,
+}
+
 /// A parameter and a value for it.
 #[derive(Clone, Copy, Debug, PartialEq, Eq)]
 pub enum Parameter {
@@ -164,6 +172,28 @@ pub enum Parameter {
     LineSkip(Glue),
     /// How near boxes may come, in scaled points: lineskiplimit.
     LineSkipLimit(Dimen),
+    /// How deep the front of a box that is split may be, in scaled points: splitmaxdepth.
+    SplitMaxDepth(Dimen),
+    /// The glue at the top of what is left of a box that is split: splittopskip.
+    SplitTopSkip(Glue),
+    /// How wide the lines of a paragraph are, in scaled points: hsize.
+    Hsize(Dimen),
+    /// The glue at the end of a paragraph: parfillskip.
+    ParFillSkip(Glue),
+    /// How bad a line may be in the first pass over a paragraph; below 0 there is no such pass: pretolerance.
+    Pretolerance(Number),
+    /// How bad a line may be in the second pass: tolerance.
+    Tolerance(Number),
+    /// What counts for each line beside its badness: linepenalty.
+    LinePenalty(Number),
+    /// What a line costs that does not go with the line before: adjdemerits.
+    AdjDemerits(Number),
+    /// The penalty behind the first line of a paragraph: clubpenalty.
+    ClubPenalty(Number),
+    /// The penalty behind the last line but one: widowpenalty.
+    WidowPenalty(Number),
+    /// The penalty behind each line but the last: interlinepenalty.
+    InterlinePenalty(Number),
 }
 
 /// A command to a job.
@@ -196,6 +226,8 @@ pub enum Command {
     Unbox(Unboxing),
     /// Takes the last item of the innermost open list, if it is a box, into a register, which else becomes void.
     LastBox(Register),
+    /// Splits the vbox of a register into a front of a wanted height, which goes into a register, and what is left, which goes back first.
+    Split(Splitting),
     /// Tells what a register holds.
     Measure(Register),
     /// Makes a register void.
@@ -226,9 +258,20 @@ pub enum Answer {
     /// The register is void.
     MeasuredVoid,
     /// How many items characters added to the open list, and how many of them are missing in the font.
-    Shaped { items: usize, missing: usize },
+    Shaped {
+        items: usize,
+        missing: usize,
+    },
     /// How many items were added to the open list.
     Added(usize),
+    /// The sizes of the front of a split and the badness of its setting, and the sizes of what is left, if something is.
+    Split {
+        front: Sizes,
+        badness: u32,
+        rest: Option<Sizes>,
+    },
+    /// The register whose box was to be split is void.
+    SplitVoid,
     /// The number of pages that were shipped so far.
     Shipped(u32),
 }
@@ -256,6 +299,8 @@ pub enum Refusal {
     ListTooLong,
     #[error("more than 64 lists would be open, or a box is deeper than 200")]
     TooDeep,
+    #[error("a list that is split shrinks without limit")]
+    InfiniteShrink,
     #[error("a place or size of the page does not fit")]
     HugePage,
     #[error("as many pages as there can be are shipped already")]

@@ -7,7 +7,7 @@ pub mod limits;
 
 pub use command::{
     Answer, BoxForm, BoxUse, Characters, Command, FontLoad, Opening, Parameter, Refusal, Register,
-    Reply, Sizes, Summary, Taking, Unboxing,
+    Reply, Sizes, Splitting, Summary, Taking, Unboxing,
 };
 pub use pack_core::Target;
 pub use tfm_core::{FontName, FontSize, TfmCause};

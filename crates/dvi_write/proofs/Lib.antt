@@ -1,4 +1,1 @@
-pub mod Spelled
-pub mod PageBytes
-pub mod FreshFonts
-pub mod DefinedFonts
+pub mod Writings

@@ -1,69 +1,14 @@
--- What the writer keeps of the pages that were shipped, and the bytes that it writes (own).
-use Rattle.std.specs.Prelude.{◌+◌, ◌%◌, ◌++◌, ◌==◌, ◌&&◌, not, max, [], ◌∷◌, ℕ, zero, suc, ℤ, pos, negsuc, Bool, false, List, Option, Some, None, is_some, filter, length, replicate}
+-- What the job's draft of a file keeps of the pages that were shipped, and the bytes that it writes (own).
+use Rattle.std.specs.Prelude.{◌+◌, ◌%◌, ◌++◌, max, [], ◌∷◌, ℕ, ℤ, pos, negsuc, List, length, replicate}
 use Rattle.std.specs.Int.{int_max}
-use Rattle.std.specs.Ordering.{int_eq}
-use Rattle.std.specs.List.{flat_map, list_any}
 use Rattle.dvi_ops.specs.declared.opcodes.TheConstants.{FORMAT, PADDING}
-use Rattle.dvi_ops.specs.Instruction.{Definition, FontNum, Instruction, Do, Post, PostPost, Postamble}
+use Rattle.dvi_ops.specs.Instruction.{Instruction, Post, PostPost, Postamble}
 use Rattle.dvi_ops.specs.Forest.{flat, nests}
-use Rattle.dvi_ops.specs.Layout.{Sheet, bytes_of, define, preamble, scaled_points, sheet_from, padding_after}
-use Rattle.dvi_write.specs.declared.fonts.LoadedFont.{LoadedFont}
-use Rattle.dvi_write.specs.Fonts.{Slots, font_in}
+use Rattle.dvi_ops.specs.Layout.{bytes_of, define, preamble, scaled_points, sheet_from, padding_after}
 use Rattle.ship_core.specs.Marks.{Page}
 use Rattle.ship_core.specs.Pages.{reach_down, reach_right}
-use Rattle.ship_core.specs.Drawing.{body_of}
-
--- The definition of a font: its number is its slot, and its name has no area (DVItype, 18).
-abbrev pub definition_of : ℕ → LoadedFont → Definition
-definition_of slot loaded =
-    record {
-      number = pos slot;
-      check_sum = loaded.font.check_sum;
-      size = loaded.font.size;
-      design_size = loaded.font.design_size;
-      area = [];
-      name = loaded.name;
-    }
-
--- The definition of the font in a slot, if it has one.
-abbrev pub definition_by : ℕ → Option LoadedFont → List Definition
-definition_by slot None = []
-definition_by slot (Some loaded) = definition_of slot loaded ∷ []
-
--- The definitions of the fonts in these slots, in order.
-abbrev pub definitions_of : Slots → List ℕ → List Definition
-definitions_of fonts slots = flat_map (λ slot. definition_by slot (font_in fonts slot)) slots
-
--- The numbers below n, rising.
-abbrev pub numbers_below : ℕ → List ℕ
-numbers_below zero = []
-numbers_below (suc n) = numbers_below n ++ n ∷ []
-
--- Whether an instruction selects the font of a slot.
-abbrev pub selects : ℕ → Instruction → Bool
-selects slot (Do (FontNum font)) = int_eq font (pos slot)
-selects slot i = false
-
--- Whether a slot is among others.
-abbrev pub is_among : ℕ → List ℕ → Bool
-is_among slot slots = list_any (λ other. other == slot) slots
-
--- The font of a slot is selected by these instructions, and is not defined yet.
-unfoldable pub is_fresh : Slots → (defined : List ℕ) → List Instruction → ℕ → Bool
-is_fresh fonts defined is slot = is_some (font_in fonts slot) && (not (is_among slot defined) && list_any (selects slot) is)
-
--- The slots of the fonts that are selected by these instructions and not defined yet, rising.
-unfoldable pub fresh_slots : Slots → (defined : List ℕ) → List Instruction → List ℕ
-fresh_slots fonts defined is = filter (is_fresh fonts defined is) (numbers_below 256)
-
--- The slots of the fonts that are defined, rising.
-unfoldable pub in_rising_order : (defined : List ℕ) → List ℕ
-in_rising_order defined = filter (λ slot. is_among slot defined) (numbers_below 256)
-
--- What is written for a page, where the fonts of these slots are defined before it.
-abbrev pub sheet_of : Slots → (defined : List ℕ) → Page → Sheet
-sheet_of fonts defined page =
-    record { counts = page.counts; fresh = definitions_of fonts (fresh_slots fonts defined (flat (body_of page))); body = body_of page }
+use Rattle.dvi_layout.specs.Fonts.{Slots}
+use Rattle.dvi_layout.specs.Sheets.{written_body, definitions_of, fresh_slots, in_rising_order, sheet_of}
 
 -- What the writer keeps: the bytes up to the last eop; the slots of the fonts that they define, in order; the place of the last bop, or -1; the
 -- greatest reaches of the pages, at least 0; and the most pushes that are open at once in a page.
@@ -84,11 +29,11 @@ unfoldable pub with_page : Slots → Draft → Page → Draft
 with_page fonts draft page =
     record {
       bytes = draft.bytes ++ bytes_of (sheet_from draft.last (sheet_of fonts draft.defined page));
-      defined = draft.defined ++ fresh_slots fonts draft.defined (flat (body_of page));
+      defined = draft.defined ++ fresh_slots fonts draft.defined (flat (written_body page));
       last = pos (length draft.bytes + length (bytes_of (define (sheet_of fonts draft.defined page).fresh)));
       tall = int_max draft.tall (reach_down page);
       wide = int_max draft.wide (reach_right page);
-      deep = max draft.deep (nests (body_of page));
+      deep = max draft.deep (nests (written_body page));
     }
 
 -- A draft with these pages more, in order.

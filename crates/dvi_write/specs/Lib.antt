@@ -1,2 +1,3 @@
-pub mod Fonts
 pub mod Draft
+pub mod Writing
+pub mod WritingCode

@@ -1,8 +1,10 @@
-//! The draft of a DVI file: the fonts of a job by their slots, and the bytes of its pages.
+//! The writer of DVI files, which sends each page to a device as it comes, and the draft of a file whose pages are kept to the end. Jobs stand above it.
 #![tactic(auto)]
 
-pub mod fonts;
+mod dvi_writer;
 pub mod writer;
 
-pub use fonts::{Fonts, LoadedFont};
+pub use device_core::{Device, DeviceFault, Memory};
+pub use dvi_layout::{Fonts, LoadedFont, MOST_DEEP, MOST_PAGES, MOST_SHIPPED, Offsets, WriteFault};
+pub use dvi_writer::{DviWriter, WrittenFile};
 pub use writer::Writer;

@@ -13,11 +13,16 @@ ghost use Rattle.std.specs.List.{AllByRecursion, list_any};
 ghost use Rattle.scaled_core.specs.Dimensions.{fits};
 ghost use Rattle.ship_core.specs.Marks.{is_huge};
 ghost use Rattle.ship_core.specs.Pages.{page_of, reach_down, reach_right};
-ghost use Rattle.dvi_write.specs.Draft.{Draft, closing, closing_ops, definition_of, definitions_of, first_draft, fresh_slots, is_among, is_fresh, in_rising_order, selects, whole, with_page};
+ghost use Rattle.dvi_layout.specs.Sheets.{definition_of, definitions_of, fresh_slots, is_among, is_fresh, in_rising_order, selects};
+ghost use Rattle.dvi_write.specs.Draft.{Draft, closing, closing_ops, first_draft, whole, with_page};
 ghost use Rattle.ship_core.specs.Drawing.{body_of};
 
-use crate::fonts::{Fonts, LoadedFont};
-use dvi_ops::{FontDefinition, Op, Postamble, Units, opcodes, spell};
+use dvi_layout::Fonts;
+use dvi_layout::layout::{
+    SCALED_POINTS, append_all, append_both, append_definitions, append_padding, fresh_slots,
+    in_rising_order, page_ops,
+};
+use dvi_ops::{Op, Postamble, opcodes};
 use node_core::BoxNode;
 use scaled_core::Dimen;
 use ship_core::{PagePoint, draw_page, push_depth};
@@ -42,176 +47,6 @@ impl Model for Writer {
     ghost Value = { Draft };
 
     ghost view = { λ writer. record { bytes = writer.bytes.items; defined = writer.defined.items; last = writer.last; tall = writer.tall; wide = writer.wide; deep = writer.deep } };
-}
-
-/// The units of a file: a scaled point.
-const SCALED_POINTS: Units = Units {
-    num: 25_400_000,
-    den: 473_628_672,
-    mag: 1000,
-};
-
-/// Appends the spellings of instructions, or nothing.
-fn append_all(bytes: &mut Vec<u8>, ops: &[Op<'_>]) -> Result<(), AllocError>
-    requires { AllByRecursion HasSpelling (map view ops.now) }
-    ensures ok { OnOk result (bytes.new.items ≡ bytes.old.items ++ bytes_of (map view ops.now)) }
-    ensures err { OnErr result (bytes.new.items ≡ bytes.old.items) }
-{
-    let held = bytes.len();
-    for op in ops {
-        if spell(op, bytes).is_err() {
-            bytes.truncate(held);
-            return Err(AllocError);
-        }
-    }
-    Ok(())
-}
-
-/// The instructions of a page, from bop to eop, behind a bop at a place (or -1).
-fn page_ops(alloc: Global, body: &[Op<'static>], last: i32) -> Result<Vec<Op<'static>>, AllocError>
-    ensures { IfOk result (λ ops. map view ops.items ≡ Bop (replicate 10 (pos 0)) last ∷ (map view body.now ++ Eop ∷ [])) }
-{
-    let mut ops = Vec::new(alloc);
-    ops.push(Op::Bop {
-        counts: [0; 10],
-        pointer: last,
-    })?;
-    ops.extend_from_slice(body)?;
-    ops.push(Op::Eop)?;
-    Ok(ops)
-}
-
-/// Whether an instruction selects the font of a slot.
-fn selects(slot: u8, op: &Op<'_>) -> bool
-    ensures { result ≡ selects slot (view op.now) }
-{
-    match op {
-        Op::FontNum(font) => *font == i32::from(slot),
-        _ => false,
-    }
-}
-
-/// Whether one of these instructions selects the font of a slot.
-fn is_selected(slot: u8, ops: &[Op<'_>]) -> bool
-    ensures { result ≡ list_any (λ op. selects slot (view op)) ops.now }
-{
-    ops.iter().any(|op| selects(slot, op))
-}
-
-/// Whether a slot is among others.
-fn is_among(slot: u8, slots: &[u8]) -> bool
-    ensures { result ≡ is_among slot slots.now }
-{
-    slots.iter().any(|other| *other == slot)
-}
-
-/// Whether the font of a slot is selected by these instructions and not defined yet.
-#[tactic(auto, using(crate::proofs::FreshFonts::views), unfolding(crate::specs::Draft::is_fresh))]
-fn is_fresh(fonts: &Fonts, defined: &[u8], ops: &[Op<'_>], slot: u8) -> bool
-    ensures { result ≡ is_fresh fonts.now defined.now (map view ops.now) slot }
-{
-    if fonts.get(slot).is_none() {
-        return false;
-    }
-    if is_among(slot, defined) {
-        return false;
-    }
-    is_selected(slot, ops)
-}
-
-/// The slots of the fonts that are selected by these instructions and not defined yet, rising.
-fn fresh_slots(
-    alloc: Global,
-    fonts: &Fonts,
-    defined: &[u8],
-    ops: &[Op<'_>],
-) -> Result<Vec<u8>, AllocError>
-    ensures { IfOk result (λ slots. slots.items ≡ fresh_slots fonts.now defined.now (map view ops.now)) }
-{
-    let mut slots = Vec::new(alloc);
-    for slot in 0..256usize {
-        if is_fresh(fonts, defined, ops, slot as u8) {
-            slots.push(slot as u8)?;
-        }
-    }
-    Ok(slots)
-}
-
-/// The slots of the fonts that are defined, rising.
-fn in_rising_order(alloc: Global, defined: &[u8]) -> Result<Vec<u8>, AllocError>
-    ensures { IfOk result (λ slots. slots.items ≡ in_rising_order defined.now) }
-{
-    let mut slots = Vec::new(alloc);
-    for slot in 0..256usize {
-        if is_among(slot as u8, defined) {
-            slots.push(slot as u8)?;
-        }
-    }
-    Ok(slots)
-}
-
-/// The definition of the font in a slot.
-fn definition_of(slot: u8, loaded: &LoadedFont) -> FontDefinition<'_>
-    ensures value { view (ops.FontDef result) ≡ Do (FontDef (definition_of slot loaded.now)) }
-    ensures few { HasSpelling (view (ops.FontDef result)) }
-{
-    FontDefinition {
-        number: i32::from(slot),
-        check_sum: loaded.font.check_sum(),
-        size: loaded.font.size().get(),
-        design_size: loaded.font.design_size().get(),
-        area: &[],
-        name: loaded.name.as_bytes(),
-    }
-}
-
-/// Appends the definitions of the fonts in these slots, or a front of them.
-fn append_definitions<'a>(
-    fonts: &'a Fonts,
-    slots: &[u8],
-    ops: &mut Vec<Op<'a>>,
-) -> Result<(), AllocError>
-    requires { AllByRecursion HasSpelling (map view ops.old.items) }
-    ensures ok { OnOk result (map view ops.new.items ≡ map view ops.old.items ++ define (definitions_of fonts.now slots.now)) }
-    ensures few { OnOk result (AllByRecursion HasSpelling (map view ops.new.items)) }
-{
-    for slot in slots {
-        if let Some(loaded) = fonts.get(*slot) {
-            ops.push(Op::FontDef(definition_of(*slot, loaded)))?;
-        }
-    }
-    Ok(())
-}
-
-/// Appends the spellings of instructions and of others behind them, and tells where the others begin; or appends nothing.
-fn append_both(
-    bytes: &mut Vec<u8>,
-    first: &[Op<'_>],
-    second: &[Op<'_>],
-) -> Result<usize, AllocError>
-    requires first { AllByRecursion HasSpelling (map view first.now) }
-    requires second { AllByRecursion HasSpelling (map view second.now) }
-    ensures ok { OnOk result (bytes.new.items ≡ bytes.old.items ++ bytes_of (map view first.now ++ map view second.now)) }
-    ensures place { IfOk result (λ place. place ≡ length bytes.old.items + length (bytes_of (map view first.now))) }
-    ensures err { OnErr result (bytes.new.items ≡ bytes.old.items) }
-{
-    let held = bytes.len();
-    append_all(bytes, first)?;
-    let place = bytes.len();
-    if append_all(bytes, second).is_err() {
-        bytes.truncate(held);
-        return Err(AllocError);
-    }
-    Ok(place)
-}
-
-/// Appends four to seven padding bytes, so that the length is a multiple of 4, or nothing.
-fn append_padding(bytes: &mut Vec<u8>) -> Result<(), AllocError>
-    ensures ok { OnOk result (bytes.new.items ≡ bytes.old.items ++ replicate (padding_after (length bytes.old.items)) PADDING) }
-    ensures err { OnErr result (bytes.new.items ≡ bytes.old.items) }
-{
-    let padding = 7 - (bytes.len() + 3) % 4;
-    bytes.extend_from_slice(&[opcodes::PADDING; 7][..padding])
 }
 
 /// The instructions of the page of a box.
@@ -274,7 +109,7 @@ impl Writer {
         let alloc = *self.bytes.allocator();
         let mut definitions = Vec::new(alloc);
         append_definitions(fonts, slots, &mut definitions)?;
-        let page = page_ops(alloc, body, self.last)?;
+        let page = page_ops(alloc, &[0; 10], body, self.last)?;
         append_both(&mut self.bytes, &definitions, &page)
     }
 
@@ -364,7 +199,7 @@ impl Writer {
         let held = self.bytes.len();
         let ops = self.closing_ops(fonts, pages)?;
         append_all(&mut self.bytes, &ops)?;
-        if append_padding(&mut self.bytes).is_err() {
+        if append_padding(0, &mut self.bytes).is_err() {
             self.bytes.truncate(held);
             return Err(AllocError);
         }

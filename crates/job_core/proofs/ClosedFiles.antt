@@ -16,16 +16,17 @@ use Rattle.dvi_ops.specs.Layout.{bytes_of, define, preamble, scaled_points, Shee
 use Rattle.dvi_ops.proofs.Appends.{all_append, definitions-append, instructions-append}
 use Rattle.dvi_ops.proofs.Layouts.{says-wrote, definitions-define, instructions-define, length-bytes_of-append, parts_of}
 use Rattle.dvi_ops.proofs.WholeFile.{frame_of, padding_low, padding_fills, size_of_front}
-use Rattle.dvi_write.specs.Fonts.{Slots}
+use Rattle.dvi_layout.specs.Fonts.{Slots}
 use Rattle.state_core.specs.Loaded.{AreLoaded}
 use Rattle.ship_core.specs.Marks.{Page}
 use Rattle.ship_core.specs.Pages.{reach_down, reach_right}
 use Rattle.ship_core.specs.Drawing.{body_of}
-use Rattle.dvi_write.specs.Draft.{first_draft, draft_of, definitions_of, fresh_slots, in_rising_order, sheet_of, closed, whole, file_of}
+use Rattle.dvi_layout.specs.Sheets.{definitions_of, fresh_slots, in_rising_order, sheet_of}
+use Rattle.dvi_write.specs.Draft.{first_draft, draft_of, closed, whole, file_of}
 use Rattle.job_core.specs.Jobs.{IsShipped}
 use Rattle.job_core.specs.Closing.{IsGreatestOf, IsOfJob, IsClosedFor}
 use Rattle.ship_core.proofs.DrawnPages.{definitions-page}
-use Rattle.dvi_write.proofs.DefinedFonts.{AreKnown, each_of, none_known, known_next}
+use Rattle.dvi_layout.proofs.DefinedFonts.{AreKnown, each_of, none_known, known_next}
 use Rattle.job_core.proofs.PageFonts.{table_of}
 use Rattle.job_core.proofs.FileLaws.{farthest, tall-is, wide-is, tall_fits, wide_fits, few_pushes, shipped_good, sheets_of, laid_out, whole-is, closing_tabled}
 

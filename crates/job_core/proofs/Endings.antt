@@ -4,8 +4,8 @@ use Rattle.std.specs.Prelude.{◌==◌, not, IfSome}
 use Rattle.std.proofs.lemmas.List.{append-nil, nil_from_length}
 use Rattle.command_core.specs.declared.command.Refusal.TheVariants.{OutOfMemory, Device, JobOver, ListsOpen}
 use Rattle.command_core.specs.declared.command.Summary.{Summary}
-use Rattle.job_core.specs.Told.{grown, GrowsByFront, IsFrontOf}
-use Rattle.dvi_write.specs.Fonts.{Slots}
+use Rattle.device_core.specs.Told.{grown, GrowsByFront, IsFrontOf}
+use Rattle.dvi_layout.specs.Fonts.{Slots}
 use Rattle.ship_core.specs.Marks.{Page}
 use Rattle.nest_core.specs.State.{State}
 use Rattle.nest_core.specs.Checks.{first_of}

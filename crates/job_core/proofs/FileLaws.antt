@@ -15,20 +15,21 @@ use Rattle.dvi_ops.specs.Spelling.{spelling, operand, NumberFits}
 use Rattle.dvi_ops.specs.Layout.{bytes_of, define, preamble, scaled_points, Sheet, Written, at_first, sheet_from, after, sheets_from, after_all, front_of, stop_of, ending_of, whole_of, padding_after, table_widths, IsGood, AreGood, IsTabled, IsClosing}
 use Rattle.dvi_ops.proofs.Layouts.{bytes_of-append}
 use Rattle.dvi_ops.proofs.WholeFile.{whole_file, padding_low}
-use Rattle.dvi_write.specs.Fonts.{Slots}
+use Rattle.dvi_layout.specs.Fonts.{Slots}
 use Rattle.state_core.specs.Loaded.{AreLoaded}
 use Rattle.state_core.specs.Sized.{IsSoundBox}
 use Rattle.ship_core.specs.Marks.{Page, marks_of_page, is_huge}
 use Rattle.ship_core.specs.Pages.{reach_down, reach_right}
 use Rattle.ship_core.specs.Drawing.{body_of}
 use Rattle.command_core.specs.declared.limits.TheConstants.{MOST_DEEP}
-use Rattle.dvi_write.specs.Draft.{Draft, first_draft, with_page, with_pages, draft_of, definitions_of, fresh_slots, in_rising_order, selects, sheet_of, closing, closed, whole, file_of}
+use Rattle.dvi_layout.specs.Sheets.{definitions_of, fresh_slots, in_rising_order, selects, sheet_of}
+use Rattle.dvi_write.specs.Draft.{Draft, first_draft, with_page, with_pages, draft_of, closing, closed, whole, file_of}
 use Rattle.job_core.specs.Jobs.{IsShipped}
 use Rattle.job_core.specs.Shown.{GivesFiles, shown_page, IsFileOf}
 use Rattle.scaled_core.proofs.Fitting.{fits_within}
 use Rattle.ship_core.proofs.DrawnMarks.{number_within}
 use Rattle.ship_core.proofs.DrawnPages.{drawn_page, writable_page, definitions-page, nests_page, fits_down, fits_right}
-use Rattle.dvi_write.proofs.DefinedFonts.{AreKnown, none_known, known_next, selected_known, each_selected, each_of, rising_among, listed_at, defined_among}
+use Rattle.dvi_layout.proofs.DefinedFonts.{AreKnown, none_known, known_next, selected_known, each_selected, each_of, rising_among, listed_at, defined_among}
 use Rattle.job_core.proofs.PageFonts.{table_of, tabled, IsSlot, selected_slots, font_measured, have_widths}
 
 counts_fit : (n : ℕ) → AllByRecursion NumberFits (replicate n (pos 0))

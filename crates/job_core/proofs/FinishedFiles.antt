@@ -3,7 +3,7 @@ use Rattle.std.proofs.Common.{◌≡◌, ◌≢◌, ℕ, ◌<◌, ◌^◌, List,
 use Rattle.std.specs.Prelude.{false, IfSome}
 use Rattle.std.proofs.lemmas.List.{nil_from_length}
 use Rattle.dvi_ops.specs.Fonts.{Metrics}
-use Rattle.job_core.specs.Told.{grown}
+use Rattle.device_core.specs.Told.{grown}
 use Rattle.nest_core.specs.State.{State}
 use Rattle.nest_core.specs.Machine.{Machine}
 use Rattle.dvi_write.specs.Draft.{Draft, draft_of, file_of, whole}

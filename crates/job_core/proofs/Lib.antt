@@ -1,4 +1,3 @@
-pub mod Tellings
 pub mod Moves
 pub mod Endings
 pub mod FileLaws

@@ -11,15 +11,15 @@ use Rattle.node_core.specs.declared.tree.Glyph as glyph_type
 use Rattle.node_core.specs.declared.tree.BoxNode.{BoxNode}
 use Rattle.node_core.specs.Items.{Leaf, glyph, font_kern, kern, glue, penalty, rule}
 use Rattle.dvi_ops.proofs.Appends.{all_append, all_weaker}
-use Rattle.dvi_write.specs.declared.fonts.LoadedFont.{LoadedFont}
+use Rattle.dvi_layout.specs.declared.fonts.LoadedFont.{LoadedFont}
 use Rattle.command_core.specs.declared.command.Command.{Command}
-use Rattle.command_core.specs.declared.command.Command.TheVariants.{LoadFont, UseFont, Open, End, Text, Character, Rule, Kern, Glue, Penalty, Append, Unbox, LastBox, Measure, Void, Set, Ship}
+use Rattle.command_core.specs.declared.command.Command.TheVariants.{LoadFont, UseFont, Open, End, Text, Character, Rule, Kern, Glue, Penalty, Append, Unbox, LastBox, Split, Measure, Void, Set, Ship}
 use Rattle.command_core.specs.declared.command.Refusal.{Refusal}
 use Rattle.command_core.specs.Reply.{Reply}
-use Rattle.dvi_write.specs.Fonts.{Slots, font_in}
+use Rattle.dvi_layout.specs.Fonts.{Slots, font_in}
 use Rattle.nest_core.specs.FontSlots.{font_of, with_font, glyph_by}
 use Rattle.state_core.specs.Sized.{IsSizedLeaf, IsSoundBox, HasSizedGlyphs}
-use Rattle.state_core.proofs.Leaves.{each_leaf}
+use Rattle.dvi_layout.proofs.Leaves.{each_leaf}
 use Rattle.state_core.proofs.KeptRest.{KeepsRest, end_keeps, append_keeps, unbox_keeps}
 use Rattle.ship_core.specs.Marks.{Page}
 use Rattle.nest_core.specs.State.{State, font_for, held_in}
@@ -28,7 +28,7 @@ use Rattle.nest_core.specs.Effects.{after, pages_of, new_pages}
 use Rattle.nest_core.specs.Machine.{Machine, first_machine, state_by}
 use Rattle.nest_core.specs.Runs.{Steps, Replies, LacksMemory, LosesDevice, Run}
 use Rattle.job_core.specs.GlyphWidths.{HasFileWidth, IsMeasured, IsMeasuredPage}
-use Rattle.state_core.proofs.EachOf.{each_set, each_copy, each_held}
+use Rattle.dvi_layout.proofs.EachOf.{each_set, each_copy, each_held}
 use Rattle.state_core.proofs.SizedGlyphs.{sized_first, sized_after, sized_held, stays_sized}
 use Rattle.state_core.proofs.LoadedFonts.{read_again, widths_in}
 
@@ -70,6 +70,7 @@ read_after s (Penalty n) all = all
 read_after s (Append taken) all = still_read s (after s (Append taken)) (append_keeps s taken) all
 read_after s (Unbox taken) all = still_read s (after s (Unbox taken)) (unbox_keeps s taken) all
 read_after s (LastBox r) all = all
+read_after s (Split splitting) all = all
 read_after s (Measure r) all = all
 read_after s (Void r) all = all
 read_after s (Set parameter) all = all
@@ -96,6 +97,7 @@ new_sized s (Penalty n) sized = tt
 new_sized s (Append taken) sized = tt
 new_sized s (Unbox taken) sized = tt
 new_sized s (LastBox r) sized = tt
+new_sized s (Split splitting) sized = tt
 new_sized s (Measure r) sized = tt
 new_sized s (Void r) sized = tt
 new_sized s (Set parameter) sized = tt

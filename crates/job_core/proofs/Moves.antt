@@ -12,7 +12,7 @@ use Rattle.dvi_ops.specs.Forest.{flat, nests}
 use Rattle.dvi_ops.specs.Layout.{bytes_of, define, sheet_from, table_widths}
 use Rattle.dvi_ops.proofs.Appends.{all_append, all_weaker}
 use Rattle.command_core.specs.declared.command.Command.{Command}
-use Rattle.command_core.specs.declared.command.Command.TheVariants.{LoadFont, UseFont, Open, End, Text, Character, Rule, Kern, Glue, Penalty, Append, Unbox, LastBox, Measure, Void, Set, Ship}
+use Rattle.command_core.specs.declared.command.Command.TheVariants.{LoadFont, UseFont, Open, End, Text, Character, Rule, Kern, Glue, Penalty, Append, Unbox, LastBox, Split, Measure, Void, Set, Ship}
 use Rattle.command_core.specs.declared.command.Refusal.{Refusal}
 use Rattle.command_core.specs.declared.command.Refusal.TheVariants.{OutOfMemory, JobOver, VoidBox, TooManyPages, TooMuchShipped, HugePage}
 use Rattle.command_core.specs.Reply.{Reply}
@@ -20,7 +20,8 @@ use Rattle.tfm_core.specs.NamedBytes.{NamedBytes}
 use Rattle.dvi_ops.specs.Spelling.{spelling, operand}
 use Rattle.ship_core.specs.Marks.{Page}
 use Rattle.ship_core.specs.Pages.{page_of, reach_down, reach_right}
-use Rattle.dvi_write.specs.Draft.{Draft, definitions_of, fresh_slots, sheet_of, with_page, with_pages, first_draft, draft_of}
+use Rattle.dvi_layout.specs.Sheets.{definitions_of, fresh_slots, sheet_of}
+use Rattle.dvi_write.specs.Draft.{Draft, with_page, with_pages, first_draft, draft_of}
 use Rattle.command_core.specs.declared.limits.TheConstants.{MOST_PAGES, MOST_SHIPPED}
 use Rattle.nest_core.specs.State.{State, held_in, count_in, first_state}
 use Rattle.nest_core.specs.Checks.{checks, own_checks, first_of, is_huge_in}
@@ -31,15 +32,15 @@ use Rattle.ship_core.specs.Drawing.{body_of}
 use Rattle.nest_core.specs.Runs.{TakesMemory, early_checks, Steps, Replies, LacksMemory, Run}
 use Rattle.job_core.specs.Jobs.{draft_after, IsShipped, Seen, Holds, KeepsTo, RunsTo}
 use Rattle.job_core.specs.Room.{HasRoom}
-use Rattle.dvi_write.specs.Fonts.{Slots}
+use Rattle.dvi_layout.specs.Fonts.{Slots}
 use Rattle.state_core.specs.Loaded.{AreLoaded, GivesNumbersFor}
 use Rattle.state_core.specs.Sized.{IsSizedHeld, HasSizedGlyphs}
 use Rattle.state_core.proofs.KeptRest.{end_keeps, append_keeps, unbox_keeps, job_kept}
 use Rattle.state_core.proofs.SizedGlyphs.{sized_first, sized_after, sized_held, stays_sized, stays_loaded}
 use Rattle.state_core.proofs.LoadedFonts.{loaded_first, loaded_after}
-use Rattle.dvi_write.proofs.DefinedFonts.{Extends, HasSelected, fresh_same, definitions_same, fresh_parts, among_fresh, defined_once, few_defined, none_rising}
+use Rattle.dvi_layout.proofs.DefinedFonts.{Extends, HasSelected, fresh_same, definitions_same, fresh_parts, among_fresh, defined_once, few_defined, none_rising}
 use Rattle.job_core.proofs.PageFonts.{table_of, short_names, has_selected, have_widths}
-use Rattle.dvi_write.proofs.PageBytes.{page_bytes}
+use Rattle.dvi_layout.proofs.PageBytes.{page_bytes}
 use Rattle.ship_core.proofs.DrawnPages.{nests_page}
 
 -- The draft of pages, and of more pages behind them.
@@ -88,6 +89,7 @@ after-pages s (Penalty n) none = omega arith
 after-pages s (Append taken) none = omega (arith, (append_keeps s taken).pages)
 after-pages s (Unbox taken) none = omega (arith, (unbox_keeps s taken).pages)
 after-pages s (LastBox r) none = omega arith
+after-pages s (Split splitting) none = omega arith
 after-pages s (Measure r) none = omega arith
 after-pages s (Void r) none = omega arith
 after-pages s (Set parameter) none = omega arith
@@ -166,6 +168,7 @@ new_shipped s (Penalty n) none sized = tt
 new_shipped s (Append taken) none sized = tt
 new_shipped s (Unbox taken) none sized = tt
 new_shipped s (LastBox r) none sized = tt
+new_shipped s (Split splitting) none sized = tt
 new_shipped s (Measure r) none sized = tt
 new_shipped s (Void r) none sized = tt
 new_shipped s (Set parameter) none sized = tt
@@ -325,6 +328,7 @@ roomy s draft (Penalty n) numbers room = steady_room s draft (Penalty n) (first_
 roomy s draft (Append taken) numbers room = steady_room s draft (Append taken) (first_of (checks s (Append taken))) refl numbers (append_keeps s taken).shipped (append_keeps s taken).pages refl room
 roomy s draft (Unbox taken) numbers room = steady_room s draft (Unbox taken) (first_of (checks s (Unbox taken))) refl numbers (unbox_keeps s taken).shipped (unbox_keeps s taken).pages refl room
 roomy s draft (LastBox r) numbers room = steady_room s draft (LastBox r) (first_of (checks s (LastBox r))) refl numbers refl refl refl room
+roomy s draft (Split splitting) numbers room = steady_room s draft (Split splitting) (first_of (checks s (Split splitting))) refl numbers refl refl refl room
 roomy s draft (Measure r) numbers room = steady_room s draft (Measure r) (first_of (checks s (Measure r))) refl numbers refl refl refl room
 roomy s draft (Void r) numbers room = steady_room s draft (Void r) (first_of (checks s (Void r))) refl numbers refl refl refl room
 roomy s draft (Set parameter) numbers room = steady_room s draft (Set parameter) (first_of (checks s (Set parameter))) refl numbers refl refl refl room
@@ -361,6 +365,7 @@ small_after s draft (Penalty n) room = steady_bytes s draft (Penalty n) (first_o
 small_after s draft (Append taken) room = steady_bytes s draft (Append taken) (first_of (checks s (Append taken))) refl room
 small_after s draft (Unbox taken) room = steady_bytes s draft (Unbox taken) (first_of (checks s (Unbox taken))) refl room
 small_after s draft (LastBox r) room = steady_bytes s draft (LastBox r) (first_of (checks s (LastBox r))) refl room
+small_after s draft (Split splitting) room = steady_bytes s draft (Split splitting) (first_of (checks s (Split splitting))) refl room
 small_after s draft (Measure r) room = steady_bytes s draft (Measure r) (first_of (checks s (Measure r))) refl room
 small_after s draft (Void r) room = steady_bytes s draft (Void r) (first_of (checks s (Void r))) refl room
 small_after s draft (Set parameter) room = steady_bytes s draft (Set parameter) (first_of (checks s (Set parameter))) refl room

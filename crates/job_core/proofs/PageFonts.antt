@@ -12,21 +12,21 @@ use Rattle.dvi_ops.specs.Forest.{flat}
 use Rattle.dvi_ops.specs.Fonts.{Metrics, selections, font_in as font_by, width_in}
 use Rattle.dvi_ops.specs.Spelling.{NumberFits}
 use Rattle.dvi_ops.specs.Layout.{Table, table_widths, IsTabled}
-use Rattle.dvi_write.specs.declared.fonts.LoadedFont.{LoadedFont}
-use Rattle.dvi_write.specs.Fonts.{Slots, font_in}
+use Rattle.dvi_layout.specs.declared.fonts.LoadedFont.{LoadedFont}
+use Rattle.dvi_layout.specs.Fonts.{Slots, font_in}
 use Rattle.nest_core.specs.FontSlots.{glyph_by}
 use Rattle.state_core.specs.Loaded.{AreLoaded}
 use Rattle.state_core.specs.Sized.{IsSizedLeaf}
 use Rattle.ship_core.specs.Marks.{Page}
 use Rattle.ship_core.specs.Drawing.{body_of}
-use Rattle.dvi_write.specs.Draft.{definition_of}
+use Rattle.dvi_layout.specs.Sheets.{definition_of}
 use Rattle.job_core.specs.Shown.{GivesFiles}
 use Rattle.state_core.proofs.LoadedFonts.{loaded_in, widths-loaded, code_small}
 use Rattle.ship_core.specs.Shown.{HasWidth}
 use Rattle.ship_core.proofs.DrawnPages.{HasFont, selections_page}
-use Rattle.state_core.proofs.Leaves.{each_leaf}
-use Rattle.dvi_write.proofs.PageBytes.{HasShortNames}
-use Rattle.dvi_write.proofs.DefinedFonts.{HasSelected, holds_selected}
+use Rattle.dvi_layout.proofs.Leaves.{each_leaf}
+use Rattle.dvi_layout.proofs.PageBytes.{HasShortNames}
+use Rattle.dvi_layout.proofs.DefinedFonts.{HasSelected, holds_selected}
 
 -- The definitions of a job's fonts by their numbers.
 abbrev pub table_of : Slots → Table

@@ -7,11 +7,11 @@ use Rattle.dvi_ops.specs.Tokens.{says}
 use Rattle.dvi_ops.specs.File.{Part, instructions, depth_of, Frame}
 use Rattle.command_core.specs.declared.command.Refusal.{Refusal}
 use Rattle.command_core.specs.declared.command.Summary.{Summary}
-use Rattle.dvi_write.specs.declared.fonts.LoadedFont.{LoadedFont}
-use Rattle.dvi_write.specs.Fonts.{Slots, font_in}
+use Rattle.dvi_layout.specs.declared.fonts.LoadedFont.{LoadedFont}
+use Rattle.dvi_layout.specs.Fonts.{Slots, font_in}
 use Rattle.ship_core.specs.Marks.{Page}
 use Rattle.ship_core.specs.Pages.{reach_down, reach_right}
-use Rattle.dvi_write.specs.Draft.{definition_of}
+use Rattle.dvi_layout.specs.Sheets.{definition_of}
 use Rattle.nest_core.specs.Machine.{Machine}
 use Rattle.job_core.specs.Jobs.{Seen, Holds}
 

@@ -3,8 +3,8 @@ use Rattle.std.specs.Prelude.{◌≡◌, ℤ, pos, Option, Some}
 use Rattle.tfm_core.specs.FileWidths.{file_widths}
 use Rattle.node_core.specs.declared.tree.Glyph.{Glyph}
 use Rattle.node_core.specs.Items.{Leaf, IfGlyph, EachLeaf}
-use Rattle.dvi_write.specs.declared.fonts.LoadedFont.{LoadedFont}
-use Rattle.dvi_write.specs.Fonts.{font_in}
+use Rattle.dvi_layout.specs.declared.fonts.LoadedFont.{LoadedFont}
+use Rattle.dvi_layout.specs.Fonts.{font_in}
 use Rattle.ship_core.specs.Marks.{Page}
 use Rattle.nest_core.specs.State.{State}
 

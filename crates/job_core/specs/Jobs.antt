@@ -7,7 +7,7 @@ use Rattle.command_core.specs.declared.command.Summary.{Summary}
 use Rattle.command_core.specs.Reply.{Reply}
 use Rattle.ship_core.specs.Marks.{Page, is_huge}
 use Rattle.ship_core.specs.Pages.{page_of}
-use Rattle.dvi_write.specs.Fonts.{Slots}
+use Rattle.dvi_layout.specs.Fonts.{Slots}
 use Rattle.state_core.specs.Sized.{IsSoundBox}
 use Rattle.dvi_write.specs.Draft.{Draft, draft_of, with_pages}
 use Rattle.nest_core.specs.State.{State}

@@ -1,5 +1,3 @@
-pub mod Told
-pub mod Held
 pub mod Jobs
 pub mod SeenCode
 pub mod Room

@@ -3,7 +3,8 @@
 use Rattle.std.specs.Prelude.{◌≡◌, ◌+◌, ◌*◌, ◌≤◌, length}
 use Rattle.command_core.specs.declared.limits.TheConstants.{MOST_DEEP, MOST_PAGES, MOST_SHIPPED}
 use Rattle.nest_core.specs.State.{State}
-use Rattle.dvi_write.specs.Draft.{Draft, in_rising_order}
+use Rattle.dvi_layout.specs.Sheets.{in_rising_order}
+use Rattle.dvi_write.specs.Draft.{Draft}
 use Rattle.state_core.specs.Sized.{HasSizedGlyphs}
 use Rattle.state_core.specs.Loaded.{AreLoaded}
 

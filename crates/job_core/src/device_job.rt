@@ -11,8 +11,8 @@ ghost use Rattle.job_core.specs.Jobs.{draft_after, Holds, KeepsTo, RunsTo, Finis
 ghost use Rattle.job_core.specs.Shown.{FilesPages};
 ghost use Rattle.job_core.specs.Closing.{ClosesFile};
 
-use crate::device::{Device, write_all};
 use command_core::{Answer, Command, Refusal, Register, Reply, Summary};
+use device_core::{Device, write_all};
 use dvi_write::Writer;
 use node_core::Node;
 use state_core::kept::Kept;
@@ -71,6 +71,7 @@ fn obey(kept: &mut Kept, writer: &mut Writer, command: &Command) -> Result<Reply
         Command::Append(taken) => kept.append_register_box(taken),
         Command::Unbox(taken) => kept.unbox(taken),
         Command::LastBox(register) => Ok(kept.last_box(*register)),
+        Command::Split(splitting) => kept.split(splitting),
         Command::Measure(register) => Ok(kept.measure(*register)),
         Command::Void(register) => Ok(kept.void(*register)),
         Command::Set(parameter) => Ok(kept.set(*parameter)),
@@ -105,7 +106,7 @@ impl<D: Device> Job<D> {
     ghost use Rattle.std.specs.Prelude.{◌≡◌, ◌≢◌, ◌<◌, ◌+◌, ◌^◌, ◌++◌, [], true, List, IfOk, IfErr, OnOk, OnErr, IfSome, Err, length};
     ghost use Rattle.nest_core.specs.Machine.{Machine, first_machine};
     ghost use Rattle.dvi_write.specs.Draft.{file_of};
-    ghost use Rattle.job_core.specs.Told.{grown, GrowsByFront, IsFrontOf};
+    ghost use Rattle.device_core.specs.Told.{grown, GrowsByFront, IsFrontOf};
     ghost use Rattle.command_core.specs.declared.command.Refusal.{Refusal};
     ghost use Rattle.command_core.specs.Reply.{Reply as AReply};
     ghost use Rattle.job_core.specs.Jobs.{Holds, KeepsTo, RunsTo, FinishesTo};

@@ -2,7 +2,6 @@
 //! no other crate for them. The programs stand above it.
 #![tactic(auto)]
 
-mod device;
 mod device_job;
 pub mod laws;
 
@@ -10,7 +9,7 @@ pub use command_core::{
     Answer, BoxForm, BoxUse, Characters, Command, FontLoad, Opening, Parameter, Refusal, Register,
     Reply, Sizes, Summary, Taking, Unboxing,
 };
-pub use device::{Device, DeviceFault, Memory};
+pub use device_core::{Device, DeviceFault, Memory};
 pub use device_job::Job;
 pub use pack_core::Target;
 pub use state_core::totality;

@@ -26,6 +26,12 @@ module _ {A : Type 0} where
   set_back (z ∷ xs) zero x y is = ap (λ first. first ∷ xs) (sym (some_same z x is))
   set_back (z ∷ xs) (suc i) x y is = ap (λ rest. z ∷ rest) (set_back xs i x y is)
 
+  -- An element that is changed twice.
+  pub set_again : (xs : List A) (i : ℕ) (x y : A) → set (set xs i x) i y ≡ set xs i y
+  set_again [] i x y = refl
+  set_again (z ∷ xs) zero x y = refl
+  set_again (z ∷ xs) (suc i) x y = ap (λ rest. z ∷ rest) (set_again xs i x y)
+
   pub set_same : (xs : List A) (i : ℕ) (x : A) → slice_get xs i ≡ Some x → set xs i x ≡ xs
   set_same [] i x is = refl
   set_same (y ∷ xs) zero x is = ap (λ first. first ∷ xs) (sym (some_same y x is))

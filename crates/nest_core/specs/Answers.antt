@@ -1,14 +1,19 @@
 -- What a command that is accepted answers: a row a command (own).
-use Rattle.std.specs.Prelude.{◌+◌, ℕ, pos, length, Option, Some, None}
+use Rattle.std.specs.Prelude.{◌+◌, ℕ, ℤ, pos, length, Option, Some, None}
 use Rattle.node_core.specs.declared.tree.BoxNode.{BoxNode}
+use Rattle.std.specs.Option.{option_map}
 use Rattle.node_core.specs.declared.params.Params.{Params}
+use Rattle.node_core.specs.declared.params.SplitParams.{SplitParams}
+use Rattle.node_core.specs.Nodes.{nodes_of}
 use Rattle.nest_core.specs.declared.nest.OpenList.{OpenList}
 use Rattle.command_core.specs.declared.command.Sizes.{Sizes}
 use Rattle.command_core.specs.declared.command.Command.{Command}
-use Rattle.command_core.specs.declared.command.Command.TheVariants.{LoadFont, UseFont, Open, End, Text, Character, Rule, Kern, Glue, Penalty, Append, Unbox, LastBox, Measure, Void, Set, Ship}
+use Rattle.command_core.specs.declared.command.Command.TheVariants.{LoadFont, UseFont, Open, End, Text, Character, Rule, Kern, Glue, Penalty, Append, Unbox, LastBox, Split, Measure, Void, Set, Ship}
 use Rattle.command_core.specs.declared.command.Answer.{Answer}
-use Rattle.command_core.specs.declared.command.Answer.TheVariants.{Done, Packed, Measured, MeasuredVoid, Shaped, Added, Shipped}
+use Rattle.command_core.specs.declared.command.Answer.TheVariants as answers
+use Rattle.command_core.specs.declared.command.Answer.TheVariants.{Done, Packed, Measured, MeasuredVoid, Shaped, Added, SplitVoid, Shipped}
 use Rattle.pack_core.specs.declared.pack.Packed as packs
+use Rattle.split_core.specs.Split.{front_of, rest_of}
 use Rattle.nest_core.specs.FontSlots.{CharacterItems, text_shaped, character_shaped}
 use Rattle.nest_core.specs.State.{State, innermost, held_in, nodes_in}
 use Rattle.nest_core.specs.OpenLists.{box_items, packed_list}
@@ -26,6 +31,15 @@ packed_answer (Some packed) = Packed (sizes_of packed.box_node) packed.badness
 abbrev pub measured_answer : Option BoxNode → Answer
 measured_answer None = MeasuredVoid
 measured_answer (Some b) = Measured b.kind (sizes_of b)
+
+-- The answer to a split into these parts: the sizes of each, and the badness of the front.
+abbrev pub parts_answer : (front : packs.Packed) → (rest : Option packs.Packed) → Answer
+parts_answer front rest = answers.Split (sizes_of front.box_node) front.badness (option_map (λ (p : packs.Packed). sizes_of p.box_node) rest)
+
+-- The answer to a split of the box of a register.
+abbrev pub split_answer : SplitParams → (height : ℤ) → Option BoxNode → Answer
+split_answer params height None = SplitVoid
+split_answer params height (Some b) = parts_answer (front_of params height (nodes_of b.list)) (rest_of params height (nodes_of b.list))
 
 -- The answer to characters that come to these items.
 abbrev pub shaped_answer : CharacterItems → Answer
@@ -52,6 +66,7 @@ answer_of m (Penalty n) = Done
 answer_of m (Append taken) = Added (box_count_in m.params (innermost m.nest) (held_in m.registers taken.register))
 answer_of m (Unbox taken) = Added (length (nodes_in (held_in m.registers taken.register)))
 answer_of m (LastBox r) = Done
+answer_of m (Split splitting) = split_answer m.params.split splitting.height (held_in m.registers splitting.register)
 answer_of m (Measure r) = measured_answer (held_in m.registers r)
 answer_of m (Void r) = Done
 answer_of m (Set parameter) = Done

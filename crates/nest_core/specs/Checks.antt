@@ -1,5 +1,6 @@
 -- When a command is refused, and with which refusal: a row a command (own; after TeX: The Program, parts 16, 32, 33 and 47).
-use Rattle.std.specs.Prelude.{◌+◌, ◌==◌, ◌++◌, ◌∷◌, ◌&&◌, ◌||◌, [], ℕ, pos, Bool, true, false, not, nat_le, nat_lt, if◌then◌else◌, List, length, Option, Some, None, is_none, is_some, Result, Ok, Err, is_ok}
+use Rattle.std.specs.List.{list_all, list_any}
+use Rattle.std.specs.Prelude.{◌+◌, ◌==◌, ◌++◌, ◌∷◌, ◌&&◌, ◌||◌, [], ℕ, ℤ, pos, Bool, true, false, not, nat_le, nat_lt, if◌then◌else◌, List, length, Option, Some, None, is_none, is_some, Result, Ok, Err, is_ok}
 use Rattle.node_core.specs.declared.tree.Node.{Node}
 use Rattle.node_core.specs.declared.tree.Kind.{Kind}
 use Rattle.node_core.specs.declared.tree.Kind.TheVariants.{Horizontal, Vertical}
@@ -8,18 +9,21 @@ use Rattle.node_core.specs.declared.tree.RuleSize.{RuleSize}
 use Rattle.node_core.specs.declared.tree.RuleSize.TheVariants.{Running, Fixed}
 use Rattle.node_core.specs.declared.tree.BoxNode.{BoxNode}
 use Rattle.node_core.specs.declared.params.Params.{Params}
+use Rattle.node_core.specs.declared.params.SplitParams.{SplitParams}
 use Rattle.node_core.specs.Nodes.{nodes_of, box_depth}
 use Rattle.nest_core.specs.declared.nest.OpenList.{OpenList}
 use Rattle.ship_core.specs.Pages.{page_of}
 use Rattle.command_core.specs.declared.command.Command.{Command}
-use Rattle.command_core.specs.declared.command.Command.TheVariants.{LoadFont, UseFont, Open, End, Text, Character, Rule, Kern, Glue, Penalty, Append, Unbox, LastBox, Measure, Void, Set, Ship}
+use Rattle.command_core.specs.declared.command.Command.TheVariants.{LoadFont, UseFont, Open, End, Text, Character, Rule, Kern, Glue, Penalty, Append, Unbox, LastBox, Split, Measure, Void, Set, Ship}
 use Rattle.command_core.specs.declared.command.Refusal.{Refusal}
-use Rattle.command_core.specs.declared.command.Refusal.TheVariants.{DimensionTooLarge, NoFont, SlotTaken, NoOpenList, WrongMode, WrongKind, ListTooLong, TooDeep, HugePage, TooManyPages, TooMuchShipped, JobOver, VoidBox}
+use Rattle.command_core.specs.declared.command.Refusal.TheVariants.{DimensionTooLarge, NoFont, SlotTaken, NoOpenList, WrongMode, WrongKind, ListTooLong, TooDeep, InfiniteShrink, HugePage, TooManyPages, TooMuchShipped, JobOver, VoidBox}
 use Rattle.command_core.specs.declared.limits.TheConstants.{MOST_OPEN, MOST_ITEMS, MOST_DEEP, MOST_PAGES, MOST_SHIPPED}
 use Rattle.pack_core.specs.declared.pack.Packed as packs
+use Rattle.scaled_core.specs.Dimensions.{fits}
+use Rattle.split_core.specs.Split.{shrinks_infinitely, split_numbers}
 use Rattle.ship_core.specs.Marks.{is_huge}
 use Rattle.tfm_core.specs.Fonts.{SizedFont}
-use Rattle.dvi_write.specs.Fonts.{font_in}
+use Rattle.dvi_layout.specs.Fonts.{font_in}
 use Rattle.nest_core.specs.FontSlots.{current_font, CharacterItems, text_shaped, character_shaped}
 use Rattle.nest_core.specs.State.{State, innermost, outer, items_in, open_count, held_in, count_in, font_for}
 use Rattle.nest_core.specs.OpenLists.{kind_in, is_vertical, register_of, glue_in, box_items, packed_list}
@@ -117,6 +121,14 @@ inner_checks kind open_list held =
 abbrev pub unbox_checks : State → Kind → (register : ℕ) → List (Bool × Refusal)
 unbox_checks m kind r = (length m.nest == 0, NoOpenList) ∷ inner_checks kind (innermost m.nest) (held_in m.registers r)
 
+-- The refusals of a split of the box of a register: it is an hbox, glue of its list shrinks in an infinite order, or a number of the parts does
+-- not fit; a void register has no parts.
+abbrev pub split_checks : SplitParams → (height : ℤ) → Option BoxNode → List (Bool × Refusal)
+split_checks params height None = []
+split_checks params height (Some b) =
+    (is_other Vertical b.kind, WrongKind) ∷ (list_any shrinks_infinitely (nodes_of b.list), InfiniteShrink)
+    ∷ (not (list_all fits (split_numbers params height (nodes_of b.list))), DimensionTooLarge) ∷ []
+
 -- Whether a size of a rule is running.
 abbrev pub is_running : RuleSize → Bool
 is_running Running = true
@@ -149,6 +161,7 @@ own_checks m (Penalty n) = item_checks m
 own_checks m (Append taken) = append_checks m taken.register
 own_checks m (Unbox taken) = unbox_checks m taken.kind taken.register
 own_checks m (LastBox r) = (length m.nest == 0, NoOpenList) ∷ []
+own_checks m (Split splitting) = split_checks m.params.split splitting.height (held_in m.registers splitting.register)
 own_checks m (Measure r) = []
 own_checks m (Void r) = []
 own_checks m (Set parameter) = []

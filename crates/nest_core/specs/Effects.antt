@@ -4,18 +4,22 @@ use Rattle.node_core.specs.declared.tree.Node.{Node}
 use Rattle.node_core.specs.declared.tree.Node.TheVariants as nodes
 use Rattle.node_core.specs.declared.tree.Rule as rules
 use Rattle.node_core.specs.declared.tree.BoxNode.{BoxNode}
+use Rattle.std.specs.Option.{option_map}
 use Rattle.node_core.specs.declared.params.Params.{Params}
+use Rattle.node_core.specs.declared.params.SplitParams.{SplitParams}
 use Rattle.node_core.specs.Nodes.{items_of, nodes_of, last_box, without}
 use Rattle.vert_core.specs.Interline.{ignored_depth}
 use Rattle.nest_core.specs.declared.nest.OpenList.{OpenList}
 use Rattle.ship_core.specs.Pages.{page_of}
 use Rattle.command_core.specs.declared.command.Parameter.{Parameter}
-use Rattle.command_core.specs.declared.command.Parameter.TheVariants.{BoxMaxDepth, BaselineSkip, LineSkip, LineSkipLimit}
+use Rattle.command_core.specs.declared.command.Parameter.TheVariants.{BoxMaxDepth, BaselineSkip, LineSkip, LineSkipLimit, SplitMaxDepth, SplitTopSkip, Hsize, ParFillSkip, Pretolerance, Tolerance, LinePenalty, AdjDemerits, ClubPenalty, WidowPenalty, InterlinePenalty}
+use Rattle.command_core.specs.declared.command.Splitting.{Splitting}
 use Rattle.command_core.specs.declared.command.Taking.{Taking}
 use Rattle.command_core.specs.declared.command.Taking.TheVariants.{Moved, Copied}
 use Rattle.command_core.specs.declared.command.Command.{Command}
-use Rattle.command_core.specs.declared.command.Command.TheVariants.{LoadFont, UseFont, Open, End, Text, Character, Rule, Kern, Glue, Penalty, Append, Unbox, LastBox, Measure, Void, Set, Ship}
+use Rattle.command_core.specs.declared.command.Command.TheVariants.{LoadFont, UseFont, Open, End, Text, Character, Rule, Kern, Glue, Penalty, Append, Unbox, LastBox, Split, Measure, Void, Set, Ship}
 use Rattle.pack_core.specs.declared.pack.Packed as packs
+use Rattle.split_core.specs.Split.{front_of, rest_of}
 use Rattle.ship_core.specs.Marks.{Page}
 use Rattle.nest_core.specs.FontSlots.{with_font, text_shaped, character_shaped}
 use Rattle.nest_core.specs.State.{State, innermost, outer, with_innermost, items_in, held_in, count_in, font_for}
@@ -66,6 +70,17 @@ with_parameter params (BoxMaxDepth depth) = record params { box_max_depth = dept
 with_parameter params (BaselineSkip glue) = record params { baseline_skip = glue }
 with_parameter params (LineSkip glue) = record params { line_skip = glue }
 with_parameter params (LineSkipLimit limit) = record params { line_skip_limit = limit }
+with_parameter params (SplitMaxDepth depth) = record params { split = record params.split { split_max_depth = depth } }
+with_parameter params (SplitTopSkip glue) = record params { split = record params.split { split_top_skip = glue } }
+with_parameter params (Hsize size) = record params { hsize = size }
+with_parameter params (ParFillSkip glue) = record params { par_fill_skip = glue }
+with_parameter params (Pretolerance number) = record params { pretolerance = number }
+with_parameter params (Tolerance number) = record params { tolerance = number }
+with_parameter params (LinePenalty number) = record params { line_penalty = number }
+with_parameter params (AdjDemerits number) = record params { adj_demerits = number }
+with_parameter params (ClubPenalty number) = record params { club_penalty = number }
+with_parameter params (WidowPenalty number) = record params { widow_penalty = number }
+with_parameter params (InterlinePenalty number) = record params { interline_penalty = number }
 
 -- The state when the box of a closed list went into its register, or behind the innermost of the lists around.
 abbrev pub with_home : State → (around : List OpenList) → (into : Option ℕ) → BoxNode → State
@@ -90,6 +105,18 @@ with_unboxed m taking r None = m
 with_unboxed m taking r (Some b) =
     record m { nest = with_nodes m.nest (nodes_of b.list) (innermost m.nest); registers = with_taken taking m.registers r }
 
+-- The registers when a box was split into these parts: what is left goes back into its register, and then the front into the other one, where it
+-- stays also if the two are one (TeX: The Program, part 44, §977 to §979).
+abbrev pub with_parts : List (Option BoxNode) → Splitting → (front : packs.Packed) → (rest : Option packs.Packed) → List (Option BoxNode)
+with_parts registers splitting front rest =
+    slice_set (slice_set registers splitting.register (option_map (λ (p : packs.Packed). p.box_node) rest)) splitting.into (Some front.box_node)
+
+-- The registers when the box of one is split; where it is void, so is then the one for the front.
+abbrev pub with_split : SplitParams → List (Option BoxNode) → Splitting → Option BoxNode → List (Option BoxNode)
+with_split params registers splitting None = slice_set registers splitting.into None
+with_split params registers splitting (Some b) =
+    with_parts registers splitting (front_of params splitting.height (nodes_of b.list)) (rest_of params splitting.height (nodes_of b.list))
+
 -- The state after a command that is accepted.
 abbrev pub after : State → Command → State
 after m (LoadFont load) = record m { fonts = with_font m.fonts load.slot load.name (font_for m load) }
@@ -109,6 +136,7 @@ after m (LastBox r) =
       nest = without_last m.nest (innermost m.nest);
       registers = slice_set m.registers r (last_box (nodes_of (items_in (innermost m.nest))));
     }
+after m (Split splitting) = record m { registers = with_split m.params.split m.registers splitting (held_in m.registers splitting.register) }
 after m (Measure r) = m
 after m (Void r) = record m { registers = slice_set m.registers r None }
 after m (Set parameter) = record m { params = with_parameter m.params parameter }

@@ -10,8 +10,8 @@ use Rattle.shape_core.specs.Shaping.{shaped_items, shaped_missing}
 use Rattle.shape_core.specs.Texts.{text_items, text_missing}
 use Rattle.shape_core.specs.Spaces.{space_glue}
 use Rattle.node_core.specs.declared.tree.Node.{Node}
-use Rattle.dvi_write.specs.declared.fonts.LoadedFont.{LoadedFont}
-use Rattle.dvi_write.specs.Fonts.{Slots, font_in}
+use Rattle.dvi_layout.specs.declared.fonts.LoadedFont.{LoadedFont}
+use Rattle.dvi_layout.specs.Fonts.{Slots, font_in}
 use Rattle.command_core.specs.declared.command.Refusal.{Refusal}
 use Rattle.command_core.specs.declared.command.Refusal.TheVariants.{NoFont, BadTfm, DimensionTooLarge}
 

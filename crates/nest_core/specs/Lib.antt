@@ -8,3 +8,4 @@ pub mod FontSlots
 pub mod Runs
 pub mod EmptiedNest
 pub mod Lending
+pub mod SplitFaults

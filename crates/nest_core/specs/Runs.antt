@@ -1,20 +1,20 @@
 -- Runs of the machine, with what it does not choose: want of memory and a device that fails (own).
 use Rattle.std.specs.Prelude.{◌≡◌, ◌≢◌, ◌<◌, ◌==◌, [], ◌∷◌, ℕ, Bool, not, List, length, Some, None, is_none, is_some, IsSome, Result, Ok, Err}
 use Rattle.command_core.specs.declared.command.Command.{Command}
-use Rattle.command_core.specs.declared.command.Command.TheVariants.{LoadFont, UseFont, Open, End, Text, Character, Rule, Kern, Glue, Penalty, Append, Unbox, LastBox, Measure, Void, Set, Ship}
+use Rattle.command_core.specs.declared.command.Command.TheVariants.{LoadFont, UseFont, Open, End, Text, Character, Rule, Kern, Glue, Penalty, Append, Unbox, LastBox, Split, Measure, Void, Set, Ship}
 use Rattle.command_core.specs.declared.command.Refusal.{Refusal}
 use Rattle.command_core.specs.declared.command.Refusal.TheVariants.{OutOfMemory, NoFont, SlotTaken, Device, ListsOpen, JobOver}
 use Rattle.command_core.specs.declared.command.Summary.{Summary}
 use Rattle.command_core.specs.Reply.{Reply}
 use Rattle.tfm_core.specs.NamedBytes.{file_named}
-use Rattle.dvi_write.specs.Fonts.{font_in}
+use Rattle.dvi_layout.specs.Fonts.{font_in}
 use Rattle.nest_core.specs.State.{State, innermost, held_in}
 use Rattle.nest_core.specs.OpenLists.{GoesIntoList}
 use Rattle.nest_core.specs.Checks.{checks, character_checks, first_of}
 use Rattle.nest_core.specs.Machine.{Machine, reply_to, step, stopped_machine}
 
 -- The commands for which memory may be wanted. The end of a list wants none where the box goes into a register; a command that takes the box
--- of a register wants none where the register is void.
+-- of a register, or splits it, wants none where the register is void.
 abbrev pub TakesMemory : State → Command → Type 0
 TakesMemory m (LoadFont load) = Unit {0}
 TakesMemory m (UseFont slot) = ⊥
@@ -29,6 +29,7 @@ TakesMemory m (Penalty n) = Unit {0}
 TakesMemory m (Append taken) = IsSome (held_in m.registers taken.register)
 TakesMemory m (Unbox taken) = IsSome (held_in m.registers taken.register)
 TakesMemory m (LastBox r) = ⊥
+TakesMemory m (Split splitting) = IsSome (held_in m.registers splitting.register)
 TakesMemory m (Measure r) = ⊥
 TakesMemory m (Void r) = ⊥
 TakesMemory m (Set parameter) = ⊥

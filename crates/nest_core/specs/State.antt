@@ -12,8 +12,8 @@ use Rattle.command_core.specs.declared.limits.TheConstants.{REGISTERS}
 use Rattle.command_core.specs.declared.command.Refusal.{Refusal}
 use Rattle.tfm_core.specs.NamedBytes.{NamedBytes, file_named}
 use Rattle.tfm_core.specs.Fonts.{SizedFont}
-use Rattle.dvi_write.specs.Fonts.{Slots}
-use Rattle.dvi_write.specs.declared.fonts.TheConstants.{FONT_SLOTS}
+use Rattle.dvi_layout.specs.Fonts.{Slots}
+use Rattle.dvi_layout.specs.declared.fonts.TheConstants.{FONT_SLOTS}
 use Rattle.nest_core.specs.FontSlots.{font_of}
 
 -- What commands read and change: the font files; the fonts by slot, and the slot of the current one; the parameters; the open lists, the

@@ -1,6 +1,6 @@
 //! Reading a font of a job from its file.
 
-ghost use Rattle.std.specs.Prelude.{◌≡◌, List, Option, Some, None, IfOk, option_copied, replicate, slice_set};
+ghost use Rattle.std.specs.Prelude.{◌≡◌, Some, IfOk};
 ghost use Rattle.tfm_core.specs.Fonts.{HasNumbers};
 ghost use Rattle.nest_core.specs.FontSlots.{font_of};
 

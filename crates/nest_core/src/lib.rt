@@ -5,3 +5,4 @@
 pub mod fonts;
 pub mod nest;
 pub mod registers;
+mod splits;

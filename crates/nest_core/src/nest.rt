@@ -101,7 +101,7 @@ fn pack_for(purpose: ListPurpose, params: &Params, list: NodeList) -> Result<Pac
 }
 
 /// Whether two kinds are not the same.
-fn is_other(a: Kind, b: Kind) -> bool
+pub(crate) fn is_other(a: Kind, b: Kind) -> bool
     ensures { result ≡ is_other a b }
 {
     a != b

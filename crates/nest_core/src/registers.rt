@@ -1,13 +1,19 @@
 //! The box registers of a job.
 
-ghost use Rattle.std.specs.Prelude.{◌≡◌, ◌<◌, List, Option, None, IfOk, option_copied, replicate, slice_set};
+ghost use Rattle.std.specs.Prelude.{◌≡◌, ◌<◌, List, Option, None, Some, IfOk, OnOk, OnErr, IsSome, option_copied, replicate, slice_set};
 ghost use Rattle.nest_core.specs.State.{held_in};
+ghost use Rattle.nest_core.specs.Checks.{split_checks, first_of};
+ghost use Rattle.nest_core.specs.Answers.{sizes_of, parts_answer, split_answer};
+ghost use Rattle.nest_core.specs.Effects.{with_parts, with_split};
+ghost use Rattle.nest_core.specs.Machine.{reply_by, state_by};
 
-use command_core::Register;
+use crate::splits::split_box;
 use command_core::limits::REGISTERS;
-use node_core::BoxNode;
+use command_core::{Answer, Register, Reply, Sizes, Splitting};
+use node_core::{BoxNode, SplitParams};
 use std::alloc::{AllocError, Global};
 use std::marker::Model;
+use vert_core::Split;
 
 /// What each register holds: a box, or nothing.
 #[derive(Debug, Drop)]
@@ -63,5 +69,61 @@ impl Registers {
         ensures { self.new ≡ slice_set self.old register held }
     {
         self.boxes[register.number()] = held;
+    }
+
+    /// Puts what is left of a box that was split back into its register, and then the front into the other one.
+    fn put_parts(&mut self, splitting: &Splitting, parts: Split) -> Answer
+        ensures answer { result ≡ parts_answer parts.front parts.rest }
+        ensures parts { self.new ≡ with_parts self.old splitting.now parts.front parts.rest }
+    {
+        let Split { front, rest } = parts;
+        let answer = Answer::Split {
+            front: sizes_of(&front.box_node),
+            badness: front.badness,
+            rest: rest.as_ref().map(|rest| sizes_of(&rest.box_node)),
+        };
+        self.put(splitting.register, rest.map(|rest| rest.box_node));
+        self.put(splitting.into, Some(front.box_node));
+        answer
+    }
+
+    /// Splits the vbox of a register: what is left goes back into it, and then the front into the other one. Where it is void, so is then the
+    /// other one. Where the split or memory is refused, all is as it was.
+    pub fn split(
+        &mut self,
+        splitting: &Splitting,
+        params: &SplitParams,
+    ) -> Result<Reply, AllocError>
+        ensures reply { IfOk result (λ reply. reply ≡ reply_by (first_of (split_checks params.now splitting.now.height (held_in self.old splitting.now.register))) (split_answer params.now splitting.now.height (held_in self.old splitting.now.register))) }
+        ensures state { OnOk result (self.new ≡ state_by (first_of (split_checks params.now splitting.now.height (held_in self.old splitting.now.register))) self.old (with_split params.now self.old splitting.now (held_in self.old splitting.now.register))) }
+        ensures err { OnErr result (self.new ≡ self.old) }
+        ensures admitted { OnErr result (first_of (split_checks params.now splitting.now.height (held_in self.old splitting.now.register)) ≡ None) }
+        ensures takes { OnErr result (IsSome (held_in self.old splitting.now.register)) }
+    {
+        let Some(box_node) = self.take(splitting.register) else {
+            self.put(splitting.into, None);
+            return Ok(Ok(Answer::SplitVoid));
+        };
+        match split_box(box_node, splitting.height, params) {
+            Ok(parts) => Ok(Ok(self.put_parts(splitting, parts))),
+            Err(unsplit) => {
+                self.put(splitting.register, Some(unsplit.box_node));
+                match unsplit.refusal {
+                    Some(refusal) => Ok(Err(refusal)),
+                    None => Err(AllocError),
+                }
+            }
+        }
+    }
+}
+
+/// The sizes of a box.
+pub fn sizes_of(box_node: &BoxNode) -> Sizes
+    ensures { result ≡ sizes_of box_node.now }
+{
+    Sizes {
+        width: box_node.width,
+        height: box_node.height,
+        depth: box_node.depth,
     }
 }

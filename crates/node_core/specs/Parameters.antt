@@ -3,13 +3,18 @@ use Rattle.std.specs.Prelude.{ℤ, pos}
 use Rattle.node_core.specs.declared.tree.Glue.{Glue}
 use Rattle.node_core.specs.declared.tree.Order.TheVariants.{Normal, Fil}
 use Rattle.node_core.specs.declared.params.Params.{Params}
+use Rattle.node_core.specs.declared.params.SplitParams.{SplitParams}
 
 -- Glue of a width that neither stretches nor shrinks (own).
 abbrev pub rigid : (width : ℤ) → Glue
 rigid width = record { width = width; stretch = pos 0; stretch_order = Normal; shrink = pos 0; shrink_order = Normal }
 
+-- splitmaxdepth is the greatest dimension, and splittopskip 10pt.
+abbrev pub first_split_params : SplitParams
+first_split_params = record { split_max_depth = pos 1073741823; split_top_skip = rigid (pos 655360) }
+
 -- boxmaxdepth is the greatest dimension, baselineskip 12pt, lineskip 1pt, lineskiplimit 0pt, hsize 6.5in and parfillskip 0pt plus 1fil; then the
--- numbers.
+-- numbers, and the parameters of splits.
 abbrev pub first_params : Params
 first_params =
     record {
@@ -26,4 +31,5 @@ first_params =
       club_penalty = pos 150;
       widow_penalty = pos 150;
       interline_penalty = pos 0;
+      split = first_split_params;
     }

@@ -3,7 +3,7 @@
 ghost use Rattle.std.specs.Prelude.{◌≡◌};
 ghost use Rattle.std.specs.Option.{SomeIff};
 ghost use Rattle.scaled_core.specs.Dimensions.{Within};
-ghost use Rattle.node_core.specs.Parameters.{rigid, first_params};
+ghost use Rattle.node_core.specs.Parameters.{rigid, first_params, first_split_params};
 
 use crate::tree::{Glue, Order};
 use scaled_core::Dimen;
@@ -82,6 +82,8 @@ pub struct Params {
     pub widow_penalty: Number,
     /// The penalty behind each line but the last: interlinepenalty.
     pub interline_penalty: Number,
+    /// The parameters of the splits of vertical lists.
+    pub split: SplitParams,
 }
 
 /// Glue of a width that neither stretches nor shrinks.
@@ -121,6 +123,28 @@ impl Params {
             club_penalty: Number { value: 150 },
             widow_penalty: Number { value: 150 },
             interline_penalty: Number { value: 0 },
+            split: SplitParams::first(),
+        }
+    }
+}
+
+/// The parameters of the splits of vertical lists.
+#[derive(Clone, Copy, Debug, PartialEq, Eq)]
+pub struct SplitParams {
+    /// How deep the front of a list that is split may be, in scaled points: splitmaxdepth.
+    pub split_max_depth: Dimen,
+    /// The glue at the top of the rest of a list that is split: splittopskip.
+    pub split_top_skip: Glue,
+}
+
+impl SplitParams {
+    /// The parameters of a new job: the front may be as deep as a dimension can be, and the first baseline of the rest is 10pt below its top.
+    pub fn first() -> SplitParams
+        ensures { result ≡ first_split_params }
+    {
+        SplitParams {
+            split_max_depth: Dimen::MAX,
+            split_top_skip: rigid(Dimen::points(10)),
         }
     }
 }

@@ -1,6 +1,7 @@
 -- Lemmas on sums, greatest sizes and the setting of glue.
 pub mod Sums
 pub mod Passing
+pub mod Topped
 pub mod Steps
 pub mod Walks
 pub mod Edge

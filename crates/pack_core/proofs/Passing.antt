@@ -39,6 +39,15 @@ totals-more kind nodes i node within is =
     ∙ ap (λ (x : Node). totals_of kind (take i nodes ++ x ∷ [])) is
     ∙ sym (ap (totals_of kind) (take_more nodes i node within))
 
+-- One more item of a list that stands below another item.
+pub totals-more-below :
+    (kind : Kind) (top : Node) (nodes : List Node) (i : ℕ) (node : Node) → i < length nodes → node ≡ get_or nodes i node
+    → with_item (totals_of kind (top ∷ take i nodes)) node ≡ totals_of kind (top ∷ take (i + 1) nodes)
+totals-more-below kind top nodes i node within is =
+    with_item-totals kind (top ∷ take i nodes) node
+    ∙ ap (λ (x : Node). totals_of kind (top ∷ (take i nodes ++ x ∷ []))) is
+    ∙ sym (ap (λ (xs : List Node). totals_of kind (top ∷ xs)) (take_more nodes i node within))
+
 -- Amounts within a bound are within a greater one.
 pub within-more : (m n : ℕ) (amounts : OrderAmounts) → m ≤ n → AreWithin m amounts → AreWithin n amounts
 within-more m n amounts less small = record {

@@ -1,7 +1,8 @@
 -- The steps from the totals of a list to its box fit together.
 use Rattle.std.proofs.Common.{◌≡◌, ◌∙◌, ℕ, ◌==◌, length, List, [], ◌∷◌, Bool, true, false, refl, sym, ap, arith}
-use Rattle.std.specs.Prelude.{◌-ℤ◌, ℤ, pos, negsuc, zero, suc, Option, Some, None}
+use Rattle.std.specs.Prelude.{◌-ℤ◌, ℤ, pos, negsuc, zero, suc, Option, Some, None, if◌then◌else◌}
 use Rattle.std.specs.List.{list_all}
+use Rattle.std.specs.Option.{is_some}
 use Rattle.std.proofs.Math.Path.{fun_ext}
 use Rattle.std.proofs.lemmas.Bool.Decides.{nat_tests}
 use Rattle.node_core.specs.declared.tree.Kind.TheVariants.{Horizontal, Vertical}
@@ -23,7 +24,7 @@ use Rattle.pack_core.specs.declared.pack.Shell.{Shell}
 use Rattle.std.proofs.Math.Bool.{and-true, and-false}
 use Rattle.scaled_core.proofs.Fitting.{dimension_fits, dimension_found, dimension_missing}
 use Rattle.std.proofs.lemmas.List.Folds.{list_all-append}
-use Rattle.pack_core.specs.Orders.{by_order, order_dimens, order_amounts, each_order}
+use Rattle.pack_core.specs.Orders.{by_order, order_dimens, order_amounts, amounts_listed, each_order}
 use Rattle.pack_core.specs.Steps.{some_if, dimens_of, shrink_ratio, shrink_setting, stretch_setting, set_to, stretching_badness, shrinking_badness, excess_badness, list_badness, glue_set, hbox_shell, vbox_shell, vtop_shell}
 
 -- A value where a test holds: it is there exactly where the test holds.
@@ -44,6 +45,24 @@ pub some_if-none : {A : Type 0} (b : Bool) (x : A) → some_if b x ≡ None → 
 unfolding some_if
 some_if-none true x e = absurd (cc)
 some_if-none false x e = refl
+
+pub some_if-is_some : {A : Type 0} (b : Bool) (x : A) → is_some (some_if b x) ≡ b
+unfolding some_if
+some_if-is_some true x = refl
+some_if-is_some false x = refl
+
+-- A dimension is there exactly where its number fits.
+pub dimension-is_some : (z : ℤ) → is_some (dimension_of z) ≡ fits z
+unfolding dimension_of
+dimension-is_some z = here (fits z)
+  where
+    here : (fit : Bool) → is_some (if fit then Some z else None) ≡ fit
+    here true = refl
+    here false = refl
+
+pub dimens-is_some : (amounts : OrderAmounts) → is_some (dimens_of amounts) ≡ list_all fits (amounts_listed amounts)
+unfolding dimens_of
+dimens-is_some amounts = some_if-is_some _ _
 
 -- The advances of a horizontal and of a vertical list.
 pub total-across : (nodes : List Node) → total (advance Horizontal) nodes ≡ total across nodes

@@ -77,6 +77,14 @@ pub fn vpack(list: NodeList, target: Target, depth_limit: Dimen) -> Result<Packe
     boxed_list(list, shell)
 }
 
+/// Whether `vpack` packs these nodes so: whether each of their numbers fits.
+#[tactic(auto, using(crate::proofs::Steps::steps))]
+pub fn vbox_fits(target: Target, depth_limit: Dimen, nodes: &[Node]) -> bool
+    ensures { result ≡ list_all fits (vbox_numbers target depth_limit nodes.now) }
+{
+    vbox_shell(target, depth_limit, nodes).is_some()
+}
+
 /// The vtop of a vertical list: the vbox with its baseline at that of its first item, where that is a rule or a box, and else at its top
 /// (TeX: The Program, part 47, §1087). It is refused exactly where one of its numbers does not fit, and the list comes back. It takes no memory.
 #[tactic(auto, using(crate::proofs::Packing::packing))]
@@ -122,7 +130,7 @@ fn natural_width(totals: &Totals) -> Option<Dimen>
 }
 
 /// The depth of a vbox: no more than the limit.
-fn at_most(depth: Dimen, limit: Dimen) -> Dimen
+pub fn at_most(depth: Dimen, limit: Dimen) -> Dimen
     ensures value { result ≡ int_min depth limit }
     ensures fits { Fits result }
 {
@@ -130,7 +138,7 @@ fn at_most(depth: Dimen, limit: Dimen) -> Dimen
 }
 
 /// The natural height of a vertical list whose box is that deep, where it fits.
-fn height_above(depth: Dimen, totals: &Totals) -> Option<Dimen>
+pub fn height_above(depth: Dimen, totals: &Totals) -> Option<Dimen>
     ensures { result ≡ dimension_of (totals.now.advance -ℤ depth) }
 {
     Dimen::from_wide(totals.advance() - i128::from(depth.get()))

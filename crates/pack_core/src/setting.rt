@@ -25,7 +25,7 @@ pub struct GlueSet {
 
 /// Totals as dimensions, where they fit.
 #[tactic(auto, using(crate::proofs::Steps::steps))]
-fn dimens_of(amounts: OrderAmounts) -> Option<OrderDimens>
+pub fn dimens_of(amounts: OrderAmounts) -> Option<OrderDimens>
     ensures { result ≡ dimens_of amounts }
 {
     let normal = Dimen::from_wide(amounts.normal)?;

@@ -1,6 +1,6 @@
 //! The exact totals of lists.
 
-ghost use Rattle.std.specs.Prelude.{◌≡◌, ◌<◌, ◌+◌, ◌^◌, ◌++◌, ◌∷◌, [], List, pos, length};
+ghost use Rattle.std.specs.Prelude.{◌≡◌, ◌<◌, ◌+◌, ◌*◌, ◌^◌, ◌++◌, ◌∷◌, [], List, pos, length};
 ghost use Rattle.scaled_core.specs.Dimensions.{Within};
 ghost use Rattle.node_core.specs.declared.tree.Node.{Node};
 ghost use Rattle.pack_core.specs.Items.{advance};
@@ -88,6 +88,7 @@ impl Totals {
     /// How far the items move.
     pub fn advance(&self) -> i128
         ensures value { result ≡ self.now.advance }
+        ensures bound { Within (2 ^ 31 * self.now.passed) result }
         ensures small { Within (2 ^ 95) result }
     {
         self.advance
@@ -96,6 +97,7 @@ impl Totals {
     /// How much the glue can stretch, in each order.
     pub fn stretch(&self) -> OrderAmounts
         ensures value { result ≡ self.now.stretch }
+        ensures bound { AreWithin (2 ^ 31 * self.now.passed) result }
         ensures small { AreWithin (2 ^ 95) result }
     {
         self.stretch
@@ -104,6 +106,7 @@ impl Totals {
     /// How much the glue can shrink, in each order.
     pub fn shrink(&self) -> OrderAmounts
         ensures value { result ≡ self.now.shrink }
+        ensures bound { AreWithin (2 ^ 31 * self.now.passed) result }
         ensures small { AreWithin (2 ^ 95) result }
     {
         self.shrink

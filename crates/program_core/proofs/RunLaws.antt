@@ -6,13 +6,13 @@ use Rattle.command_core.specs.declared.command.Refusal.TheVariants as refusals
 use Rattle.command_core.specs.declared.command.Summary.{Summary}
 use Rattle.command_core.specs.Reply.{Reply}
 use Rattle.tfm_core.specs.NamedBytes.{NamedBytes}
-use Rattle.job_core.specs.Told.{IsFrontOf}
+use Rattle.device_core.specs.Told.{IsFrontOf}
 use Rattle.dvi_write.specs.Draft.{file_of}
 use Rattle.job_core.specs.Shown.{GivesFiles, FilesPages}
 use Rattle.job_core.specs.Closing.{ClosesFile}
 use Rattle.nest_core.specs.Machine.{Machine, first_machine}
 use Rattle.job_core.specs.Jobs.{Seen, Holds, RunsTo, FinishesTo}
-use Rattle.job_core.specs.Held.{Held}
+use Rattle.device_core.specs.Held.{Held}
 use Rattle.job_core.proofs.WholeRuns.{files_kept}
 use Rattle.std.specs.Io.KnownBytes.{Keeps}
 use Rattle.std.proofs.lemmas.List.{append-nil}

@@ -8,12 +8,12 @@ use Rattle.command_core.specs.declared.command.Refusal.TheVariants as refusals
 use Rattle.command_core.specs.declared.command.Summary.{Summary}
 use Rattle.command_core.specs.Reply.{Reply}
 use Rattle.tfm_core.specs.NamedBytes.{NamedBytes}
-use Rattle.job_core.specs.Told.{IsFrontOf}
+use Rattle.device_core.specs.Told.{IsFrontOf}
 use Rattle.dvi_ops.specs.Fonts.{Metrics}
 use Rattle.dvi_write.specs.Draft.{file_of}
 use Rattle.job_core.specs.Shown.{GivesFiles, IsFileOf}
 use Rattle.job_core.specs.Closing.{IsClosedFor}
-use Rattle.job_core.specs.Held.{Held}
+use Rattle.device_core.specs.Held.{Held}
 use Rattle.nest_core.specs.Machine.{Machine, first_machine}
 use Rattle.nest_core.specs.Runs.{Run, Finishes}
 use Rattle.script_core.specs.declared.cause.Cause.{Cause}

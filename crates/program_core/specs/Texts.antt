@@ -1,14 +1,14 @@
 -- The texts of answers (own).
-use Rattle.std.specs.Prelude.{◌==◌, ℕ, ℤ, ◌+◌, ◌/◌, ◌%◌, Bool, ◌||◌, if◌then◌else◌, List, [], ◌∷◌, ◌++◌, Result, Ok, Err, codes, decimal, length, nat_lt}
+use Rattle.std.specs.Prelude.{◌==◌, ℕ, ℤ, ◌+◌, ◌/◌, ◌%◌, Bool, ◌||◌, if◌then◌else◌, List, [], ◌∷◌, ◌++◌, Result, Ok, Err, codes, decimal, length, nat_lt, Option, Some, None}
 use Rattle.std.specs.List.{flat_map, zip, enumerate_from}
 use Rattle.scaled_core.specs.PrintedDimensions.{dimension_text}
 use Rattle.node_core.specs.declared.tree.Kind.{Kind}
 use Rattle.node_core.specs.declared.tree.Kind.TheVariants.{Horizontal, Vertical}
 use Rattle.command_core.specs.declared.command.Sizes.{Sizes}
 use Rattle.command_core.specs.declared.command.Answer.{Answer}
-use Rattle.command_core.specs.declared.command.Answer.TheVariants.{Done, Packed, Measured, MeasuredVoid, Shaped, Added, Shipped}
+use Rattle.command_core.specs.declared.command.Answer.TheVariants.{Done, Packed, Measured, MeasuredVoid, Shaped, Added, Split, SplitVoid, Shipped}
 use Rattle.command_core.specs.declared.command.Refusal.{Refusal}
-use Rattle.command_core.specs.declared.command.Refusal.TheVariants.{OutOfMemory, DimensionTooLarge, NoFont, BadTfm, SlotTaken, NoOpenList, WrongMode, WrongKind, ListTooLong, TooDeep, HugePage, TooManyPages, TooMuchShipped, ListsOpen, Device, JobOver, VoidBox}
+use Rattle.command_core.specs.declared.command.Refusal.TheVariants.{OutOfMemory, DimensionTooLarge, NoFont, BadTfm, SlotTaken, NoOpenList, WrongMode, WrongKind, ListTooLong, TooDeep, InfiniteShrink, HugePage, TooManyPages, TooMuchShipped, ListsOpen, Device, JobOver, VoidBox}
 use Rattle.command_core.specs.declared.command.Summary.{Summary}
 use Rattle.tfm_core.specs.declared.fault.TfmCause.{TfmCause}
 use Rattle.tfm_core.specs.declared.fault.TfmCause.TheVariants.{TooShort, Counts, DesignSize, CharInfo, FixWord, LigKern}
@@ -37,6 +37,7 @@ refusal_row WrongMode = (8, codes "WrongMode")
 refusal_row WrongKind = (9, codes "WrongKind")
 refusal_row ListTooLong = (10, codes "ListTooLong")
 refusal_row TooDeep = (11, codes "TooDeep")
+refusal_row InfiniteShrink = (12, codes "InfiniteShrink")
 refusal_row HugePage = (14, codes "HugePage")
 refusal_row TooManyPages = (15, codes "TooManyPages")
 refusal_row TooMuchShipped = (16, codes "TooMuchShipped")
@@ -72,6 +73,11 @@ points_text dimension = dimension_text dimension ++ codes "pt"
 unfoldable pub sizes_text : Sizes → List ℕ
 sizes_text sizes = points_text sizes.width ++ (codes " " ++ (points_text sizes.height ++ (codes " " ++ points_text sizes.depth)))
 
+-- what is left of a box that was split: its sizes, or that nothing is left
+unfoldable pub rest_text : Option Sizes → List ℕ
+rest_text None = codes "void"
+rest_text (Some sizes) = sizes_text sizes
+
 -- a refusal with its number and its name
 unfoldable pub refusal_text : Refusal → List ℕ
 refusal_text refusal = codes "refused " ++ (decimal (refusal_row refusal).0 ++ (codes " " ++ (refusal_row refusal).1))
@@ -84,6 +90,9 @@ answer_text (Measured kind sizes) = codes "measured " ++ (kind_name kind ++ (cod
 answer_text MeasuredVoid = codes "measured void"
 answer_text (Shaped items missing) = codes "added " ++ (decimal items ++ (codes " missing " ++ decimal missing))
 answer_text (Added items) = codes "added " ++ decimal items
+answer_text (Split front badness rest) =
+    codes "split " ++ (sizes_text front ++ (codes " badness " ++ (decimal badness ++ (codes " rest " ++ rest_text rest))))
+answer_text SplitVoid = codes "split void"
 answer_text (Shipped pages) = codes "shipped " ++ decimal pages
 
 -- an answer or a refusal

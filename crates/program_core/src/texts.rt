@@ -1,7 +1,7 @@
 //! The texts of answers.
 
 ghost use Rattle.std.specs.Prelude.{◌≡◌, ◌++◌, ◌+◌, ◌*◌, ◌<◌, decimal, OnOk, OnErr, IfOk};
-ghost use Rattle.program_core.specs.Texts.{refusal_row, metric_refusal_name, cause_name, kind_name, points_text, sizes_text, refusal_text, answer_text, reply_text, answer_line, summary_text, end_line, answer_lines, answers_text, script_refusal_text};
+ghost use Rattle.program_core.specs.Texts.{refusal_row, metric_refusal_name, cause_name, kind_name, points_text, sizes_text, rest_text, refusal_text, answer_text, reply_text, answer_line, summary_text, end_line, answer_lines, answers_text, script_refusal_text};
 
 use itoa::Buffer;
 use job_core::{Answer, Refusal, Reply, Sizes, Summary, TfmCause};
@@ -40,6 +40,7 @@ fn refusal_row(refusal: Refusal) -> (u32, &'static str)
         Refusal::WrongKind => (9, "WrongKind"),
         Refusal::ListTooLong => (10, "ListTooLong"),
         Refusal::TooDeep => (11, "TooDeep"),
+        Refusal::InfiniteShrink => (12, "InfiniteShrink"),
         Refusal::HugePage => (14, "HugePage"),
         Refusal::TooManyPages => (15, "TooManyPages"),
         Refusal::TooMuchShipped => (16, "TooMuchShipped"),
@@ -167,6 +168,35 @@ fn push_added(items: usize, out: &mut Vec<u8>) -> Result<(), AllocError>
     push_number(items as u64, out)
 }
 
+/// Appends what is left of a box that was split: its sizes, or that nothing is left.
+#[tactic(auto, unfolding(crate::specs::Texts::rest_text))]
+fn push_rest(rest: &Option<Sizes>, out: &mut Vec<u8>) -> Result<(), AllocError>
+    ensures { OnOk result (out.new.items ≡ out.old.items ++ rest_text rest.now) }
+{
+    match rest {
+        None => push_text("void", out),
+        Some(sizes) => push_sizes(sizes, out),
+    }
+}
+
+/// Appends the parts of a box that was split: the sizes of the front, its badness, and what is left.
+#[tactic(auto, unfolding(crate::specs::Texts::answer_text))]
+fn push_split(
+    front: &Sizes,
+    badness: u32,
+    rest: &Option<Sizes>,
+    out: &mut Vec<u8>,
+) -> Result<(), AllocError>
+    ensures { OnOk result (out.new.items ≡ out.old.items ++ answer_text (Answer.Split front.now badness rest.now)) }
+{
+    push_text("split ", out)?;
+    push_sizes(front, out)?;
+    push_text(" badness ", out)?;
+    push_number(u64::from(badness), out)?;
+    push_text(" rest ", out)?;
+    push_rest(rest, out)
+}
+
 /// Appends the number of pages that were shipped.
 #[tactic(auto, unfolding(crate::specs::Texts::answer_text))]
 fn push_shipped(pages: u32, out: &mut Vec<u8>) -> Result<(), AllocError>
@@ -188,6 +218,12 @@ fn push_answer(answer: &Answer, out: &mut Vec<u8>) -> Result<(), AllocError>
         Answer::MeasuredVoid => push_text("measured void", out),
         Answer::Shaped { items, missing } => push_shaped(*items, *missing, out),
         Answer::Added(items) => push_added(*items, out),
+        Answer::Split {
+            front,
+            badness,
+            rest,
+        } => push_split(front, *badness, rest, out),
+        Answer::SplitVoid => push_text("split void", out),
         Answer::Shipped(pages) => push_shipped(*pages, out),
     }
 }

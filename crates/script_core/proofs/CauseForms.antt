@@ -158,6 +158,9 @@ zero_penalty = refl
 pub at_is_word : IsWord (codes "at")
 at_is_word = inr (0, omega arith, refl)
 
+pub to_is_word : IsWord (codes "to")
+to_is_word = inr (1, omega arith, refl)
+
 pub into_is_word : IsWord (codes "into")
 into_is_word = inr (3, omega arith, refl)
 

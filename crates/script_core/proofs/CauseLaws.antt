@@ -20,6 +20,7 @@ use Rattle.script_core.proofs.CauseForms.{missing, has_bad_elsewhere, extra, as_
 use Rattle.script_core.proofs.FontCauses.{font_cause, font_reads}
 use Rattle.script_core.proofs.OpeningCauses.{opening_cause}
 use Rattle.script_core.proofs.BoxCauses.{append_cause}
+use Rattle.script_core.proofs.SplitCauses.{split_cause}
 use Rattle.script_core.proofs.GlueCauses.{glue_cause}
 use Rattle.script_core.proofs.ParameterCauses.{set_reads, set_cause}
 
@@ -164,6 +165,7 @@ named_cause names.Penalty rest cause h = penalties_cause rest cause h
 named_cause (names.Append taking) rest cause h = append_cause taking rest cause (named (names.Append taking) rest ∙ h)
 named_cause (names.Unbox kind taking) rest cause h = alone_cause register_count (omega arith) (names.Unbox kind taking) (unboxing kind taking) rest cause (λ fields. refl) h
 named_cause names.LastBox rest cause h = alone_cause register_count (omega arith) names.LastBox LastBox rest cause (λ fields. refl) h
+named_cause names.Split rest cause h = split_cause rest cause (named names.Split rest ∙ h)
 named_cause names.Measure rest cause h = alone_cause register_count (omega arith) names.Measure Measure rest cause (λ fields. refl) h
 named_cause names.Void rest cause h = alone_cause register_count (omega arith) names.Void Void rest cause (λ fields. refl) h
 named_cause names.Set rest cause h = set_cause rest cause (set_reads rest ∙ h)

@@ -1,5 +1,5 @@
 -- The function that reads a command gives the commands of the grammar.
-use Rattle.std.proofs.Common.{◌≡◌, ℕ, ℤ, Bool, true, false, if◌then◌else◌, List, [], ◌∷◌, ◌++◌, Option, Some, None, Ok, Err, codes, refl, ap, sym, subst}
+use Rattle.std.proofs.Common.{◌≡◌, ℕ, ℤ, Bool, true, false, if◌then◌else◌, List, [], ◌∷◌, ◌++◌, Option, Some, None, Result, Ok, Err, codes, refl, ap, sym, ◌∙◌, subst}
 use Rattle.std.specs.Str.{bytes_eq}
 use Rattle.node_core.specs.declared.tree.Glue as glues
 use Rattle.pack_core.specs.declared.pack.Target.{Target}
@@ -7,17 +7,25 @@ use Rattle.pack_core.specs.declared.pack.Target.TheVariants.{Natural, To, Spread
 use Rattle.command_core.specs.declared.command.BoxForm.{BoxForm}
 use Rattle.command_core.specs.declared.command.Taking.{Taking}
 use Rattle.command_core.specs.declared.command.Parameter.{Parameter}
-use Rattle.command_core.specs.declared.command.Parameter.TheVariants.{BoxMaxDepth, BaselineSkip, LineSkip, LineSkipLimit}
 use Rattle.command_core.specs.declared.command.Command.{Command}
 use Rattle.command_core.specs.declared.command.Command.TheVariants.{UseFont, End, Character, Kern, Glue, Penalty, LastBox, Measure, Void, Set, Ship}
+use Rattle.script_core.specs.declared.cause.Cause.{Cause}
 use Rattle.script_core.specs.declared.cause.Cause.TheVariants.{Word}
 use Rattle.script_core.specs.declared.name.Name.{Name}
 use Rattle.script_core.specs.declared.name.Name.TheVariants as names
+use Rattle.script_core.specs.declared.parameter.SizeParameter.{SizeParameter}
+use Rattle.script_core.specs.declared.parameter.SizeParameter.TheVariants as sizes
+use Rattle.script_core.specs.declared.parameter.SkipParameter.{SkipParameter}
+use Rattle.script_core.specs.declared.parameter.SkipParameter.TheVariants as skips
+use Rattle.script_core.specs.declared.parameter.NumberParameter.{NumberParameter}
+use Rattle.script_core.specs.declared.parameter.NumberParameter.TheVariants as numbers
 use Rattle.script_core.specs.Names.{name_of}
-use Rattle.script_core.specs.Grammar.{register_count, slot_count, character_count, IsNumberAmong, IsDimension, form_text, IsTarget, taking_text, unboxing_text, IsGlue, Says}
-use Rattle.script_core.specs.Reading.{rest_of, number_first, dimension_first, map_ok, no_field_left, last_number, last_dimension, right_and, font_of, rule_of, last_penalty, opening, opening_with_register, opening_into, opening_with_size, opening_of, append, shift_of, append_of, unboxing, glue_of, parameter_of, command_named, named_by, command_of}
+use Rattle.script_core.specs.ParameterNames.{size_name, skip_name, number_name, with_size, with_skip, with_number}
+use Rattle.script_core.specs.Grammar.{register_count, slot_count, character_count, IsNumberAmong, IsPenalty, IsDimension, form_text, IsTarget, taking_text, unboxing_text, IsGlue, Says}
+use Rattle.script_core.specs.Reading.{rest_of, number_first, dimension_first, map_ok, no_field_left, last_number, last_dimension, right_and, font_of, rule_of, last_penalty, opening, opening_with_register, opening_into, opening_with_size, opening_of, append, shift_of, append_of, unboxing, split, split_into, split_height, split_to, split_of, glue_of, parameter_by, parameter_of, command_named, named_by, command_of}
 use Rattle.script_core.proofs.FieldLaws.{same_bytes}
 use Rattle.script_core.proofs.NameLaws.{name_text, name_written}
+use Rattle.script_core.proofs.ParameterNameLaws.{size_text, skip_text, number_text, size_written, skip_written, number_written}
 use Rattle.script_core.proofs.ReadFields.{number_last, dimension_last, number_read, font_name_read, two_fields, chosen_size_read, size_read, nothing_left, rule_read, font_read, made, then_read, dimension_first_read, shift_read, glue_read, penalty_last}
 
 along : (fields : List (List ℕ)) (c d : Command) → c ≡ d → Says fields c → Says fields d
@@ -82,6 +90,51 @@ says_append taking rest command h =
     let m = made (append taking read.0) (shift_of (rest_of rest)) command read.2 in
     along _ _ _ m.2 (r.0, rest_of rest, ap (λ (xs : List (List ℕ)). taking_text taking ∷ xs) r.1, r.2, shift_read (rest_of rest) m.0 m.1)
 
+split_into_by : (r : ℕ) (z : ℤ) (w : List ℕ) (rest : List (List ℕ)) (command : Command) (b : Bool) → bytes_eq w (codes "into") ≡ b → split_into r z (w ∷ rest) ≡ Ok command
+    → (q : ℕ) × (split r z q ≡ command) × (f : List ℕ) × (w ∷ rest ≡ codes "into" ∷ f ∷ []) × IsNumberAmong register_count f q
+unfolding split_into
+split_into_by r z w rest command true e h =
+    let m = made (split r z) (last_number register_count rest) command (rw e at h) in
+    let last = number_last register_count rest m.0 m.1 in
+    (m.0, m.2, last.0, two_fields w (codes "into") rest last.0 (same_bytes w (codes "into") e) last.1, last.2)
+split_into_by r z w rest command false e h = let s : Err Word ≡ Ok command = rw e at h in absurd (cc)
+
+split_into_read : (r : ℕ) (z : ℤ) (rest : List (List ℕ)) (command : Command) → split_into r z rest ≡ Ok command
+    → (q : ℕ) × (split r z q ≡ command) × (f : List ℕ) × (rest ≡ codes "into" ∷ f ∷ []) × IsNumberAmong register_count f q
+unfolding split_into
+split_into_read r z [] command h = absurd (cc)
+split_into_read r z (w ∷ rest) command h = split_into_by r z w rest command (bytes_eq w (codes "into")) refl h
+
+says_height : (f : List ℕ) (r : ℕ) (rest : List (List ℕ)) (command : Command) → IsNumberAmong register_count f r → split_height r rest ≡ Ok command → Says (codes "vsplit" ∷ f ∷ codes "to" ∷ rest) command
+unfolding split_height
+says_height f r rest command is h =
+    let read = then_read (dimension_first rest) (λ z. split_into r z (rest_of rest)) command h in
+    let d = dimension_first_read rest read.0 read.1 in
+    let into = split_into_read r read.0 (rest_of rest) command read.2 in
+    let all : rest ≡ d.0 ∷ codes "into" ∷ into.2 ∷ [] = d.1 ∙ ap (λ (xs : List (List ℕ)). d.0 ∷ xs) into.3 in
+    along _ _ _ into.1 (f, d.0, into.2, ap (λ (xs : List (List ℕ)). codes "vsplit" ∷ f ∷ codes "to" ∷ xs) all, is, d.2, into.4)
+
+split_to_by : (f : List ℕ) (r : ℕ) (w : List ℕ) (rest : List (List ℕ)) (command : Command) (b : Bool) → IsNumberAmong register_count f r → bytes_eq w (codes "to") ≡ b → split_to r (w ∷ rest) ≡ Ok command
+    → Says (codes "vsplit" ∷ f ∷ w ∷ rest) command
+unfolding split_to
+split_to_by f r w rest command true is e h =
+    let P : List ℕ → Type 0 = λ x. Says (codes "vsplit" ∷ f ∷ x ∷ rest) command in
+    subst P (sym (same_bytes w (codes "to") e)) (says_height f r rest command is (rw e at h))
+split_to_by f r w rest command false is e h = let s : Err Word ≡ Ok command = rw e at h in absurd (cc)
+
+says_to : (f : List ℕ) (r : ℕ) (rest : List (List ℕ)) (command : Command) → IsNumberAmong register_count f r → split_to r rest ≡ Ok command → Says (codes "vsplit" ∷ f ∷ rest) command
+unfolding split_to
+says_to f r [] command is h = absurd (cc)
+says_to f r (w ∷ rest) command is h = split_to_by f r w rest command (bytes_eq w (codes "to")) is refl h
+
+says_split : (rest : List (List ℕ)) (command : Command) → split_of rest ≡ Ok command → Says (codes "vsplit" ∷ rest) command
+unfolding split_of
+says_split rest command h =
+    let read = then_read (number_first register_count rest) (λ register. split_to register (rest_of rest)) command h in
+    let r = number_read register_count rest read.0 read.1 in
+    let P : List (List ℕ) → Type 0 = λ xs. Says (codes "vsplit" ∷ xs) command in
+    subst P (sym r.1) (says_to r.0 read.0 (rest_of rest) command r.2 read.2)
+
 says_glue : (rest : List (List ℕ)) (command : Command) → map_ok Glue (glue_of rest) ≡ Ok command → Says (codes "glue" ∷ rest) command
 says_glue rest command h =
     let m = made Glue (glue_of rest) command h in
@@ -93,49 +146,62 @@ says_penalty rest command h =
     let last = penalty_last rest m.0 m.1 in
     along (codes "penalty" ∷ rest) (Penalty m.0) command m.2 (last.0, ap (λ (xs : List (List ℕ)). codes "penalty" ∷ xs) last.1, last.2)
 
--- a parameter of a dimension was read
-says_dimension : (w word : List ℕ) (rest : List (List ℕ)) (make : ℤ → Parameter) (p : Parameter) → ((d : List ℕ) (z : ℤ) → IsDimension d z → Says (codes "set" ∷ word ∷ d ∷ []) (Set (make z)))
-    → bytes_eq w word ≡ true → map_ok make (last_dimension rest) ≡ Ok p → Says (codes "set" ∷ w ∷ rest) (Set p)
-says_dimension w word rest make p says e h =
-    let m = made make (last_dimension rest) p h in
+-- a parameter that is a dimension was read
+says_size : (name : SizeParameter) (d : List ℕ) (z : ℤ) → IsDimension d z → Says (codes "set" ∷ size_text name ∷ d ∷ []) (Set (with_size name z))
+says_size sizes.BoxMaxDepth d z is = (d, refl, is)
+says_size sizes.LineSkipLimit d z is = (d, refl, is)
+says_size sizes.SplitMaxDepth d z is = (d, refl, is)
+says_size sizes.Hsize d z is = (d, refl, is)
+
+says_skip : (name : SkipParameter) (more : List (List ℕ)) (g : glues.Glue) → IsGlue more g → Says (codes "set" ∷ skip_text name ∷ more) (Set (with_skip name g))
+says_skip skips.BaselineSkip more g is = (more, refl, is)
+says_skip skips.LineSkip more g is = (more, refl, is)
+says_skip skips.SplitTopSkip more g is = (more, refl, is)
+says_skip skips.ParFillSkip more g is = (more, refl, is)
+
+says_number : (name : NumberParameter) (f : List ℕ) (z : ℤ) → IsPenalty f z → Says (codes "set" ∷ number_text name ∷ f ∷ []) (Set (with_number name z))
+says_number numbers.Pretolerance f z is = (f, refl, is)
+says_number numbers.Tolerance f z is = (f, refl, is)
+says_number numbers.LinePenalty f z is = (f, refl, is)
+says_number numbers.AdjDemerits f z is = (f, refl, is)
+says_number numbers.ClubPenalty f z is = (f, refl, is)
+says_number numbers.WidowPenalty f z is = (f, refl, is)
+says_number numbers.InterlinePenalty f z is = (f, refl, is)
+
+by_size : (w : List ℕ) (rest : List (List ℕ)) (p : Parameter) (name : SizeParameter) → w ≡ size_text name → map_ok (with_size name) (last_dimension rest) ≡ Ok p
+    → Says (codes "set" ∷ w ∷ rest) (Set p)
+by_size w rest p name written h =
+    let m = made (with_size name) (last_dimension rest) p h in
     let last = dimension_last rest m.0 m.1 in
-    let P : List (List ℕ) → Type 0 = λ xs. Says (codes "set" ∷ xs) (Set (make m.0)) in
-    along _ _ _ (ap (λ (x : Parameter). Set x) m.2) (subst P (sym (two_fields w word rest last.0 (same_bytes w word e) last.1)) (says last.0 m.0 last.2))
+    let P : List (List ℕ) → Type 0 = λ xs. Says (codes "set" ∷ xs) (Set (with_size name m.0)) in
+    along _ _ _ (ap (λ (x : Parameter). Set x) m.2) (subst P (sym (two_fields w (size_text name) rest last.0 written last.1)) (says_size name last.0 m.0 last.2))
 
--- one of a glue was read
-says_skip : (w word : List ℕ) (rest : List (List ℕ)) (make : glues.Glue → Parameter) (p : Parameter) → ((more : List (List ℕ)) (g : glues.Glue) → IsGlue more g → Says (codes "set" ∷ word ∷ more) (Set (make g)))
-    → bytes_eq w word ≡ true → map_ok make (glue_of rest) ≡ Ok p → Says (codes "set" ∷ w ∷ rest) (Set p)
-says_skip w word rest make p says e h =
-    let m = made make (glue_of rest) p h in
-    let P : List ℕ → Type 0 = λ x. Says (codes "set" ∷ x ∷ rest) (Set (make m.0)) in
-    along _ _ _ (ap (λ (x : Parameter). Set x) m.2) (subst P (sym (same_bytes w word e)) (says rest m.0 (glue_read rest m.0 m.1)))
-
-limit_by : (w : List ℕ) (rest : List (List ℕ)) (p : Parameter) (b : Bool) → bytes_eq w (codes "lineskiplimit") ≡ b → (if b then map_ok LineSkipLimit (last_dimension rest) else Err Word) ≡ Ok p → Says (codes "set" ∷ w ∷ rest) (Set p)
-limit_by w rest p true e h = says_dimension w (codes "lineskiplimit") rest LineSkipLimit p (λ d z is. (d, refl, is)) e h
-limit_by w rest p false e h = absurd (cc)
-
-line_skip_by : (w : List ℕ) (rest : List (List ℕ)) (p : Parameter) (b : Bool) → bytes_eq w (codes "lineskip") ≡ b
-    → (if b then map_ok LineSkip (glue_of rest) else (if bytes_eq w (codes "lineskiplimit") then map_ok LineSkipLimit (last_dimension rest) else Err Word)) ≡ Ok p
+by_skip : (w : List ℕ) (rest : List (List ℕ)) (p : Parameter) (name : SkipParameter) → w ≡ skip_text name → map_ok (with_skip name) (glue_of rest) ≡ Ok p
     → Says (codes "set" ∷ w ∷ rest) (Set p)
-line_skip_by w rest p true e h = says_skip w (codes "lineskip") rest LineSkip p (λ more g is. (more, refl, is)) e h
-line_skip_by w rest p false e h = limit_by w rest p (bytes_eq w (codes "lineskiplimit")) refl h
+by_skip w rest p name written h =
+    let m = made (with_skip name) (glue_of rest) p h in
+    let P : List ℕ → Type 0 = λ x. Says (codes "set" ∷ x ∷ rest) (Set (with_skip name m.0)) in
+    along _ _ _ (ap (λ (x : Parameter). Set x) m.2) (subst P (sym written) (says_skip name rest m.0 (glue_read rest m.0 m.1)))
 
-baseline_skip_by : (w : List ℕ) (rest : List (List ℕ)) (p : Parameter) (b : Bool) → bytes_eq w (codes "baselineskip") ≡ b
-    → (if b then map_ok BaselineSkip (glue_of rest)
-    else (if bytes_eq w (codes "lineskip") then map_ok LineSkip (glue_of rest) else (if bytes_eq w (codes "lineskiplimit") then map_ok LineSkipLimit (last_dimension rest) else Err Word))) ≡ Ok p
+by_number : (w : List ℕ) (rest : List (List ℕ)) (p : Parameter) (name : NumberParameter) → w ≡ number_text name → map_ok (with_number name) (last_penalty rest) ≡ Ok p
     → Says (codes "set" ∷ w ∷ rest) (Set p)
-baseline_skip_by w rest p true e h = says_skip w (codes "baselineskip") rest BaselineSkip p (λ more g is. (more, refl, is)) e h
-baseline_skip_by w rest p false e h = line_skip_by w rest p (bytes_eq w (codes "lineskip")) refl h
+by_number w rest p name written h =
+    let m = made (with_number name) (last_penalty rest) p h in
+    let last = penalty_last rest m.0 m.1 in
+    let P : List (List ℕ) → Type 0 = λ xs. Says (codes "set" ∷ xs) (Set (with_number name m.0)) in
+    along _ _ _ (ap (λ (x : Parameter). Set x) m.2) (subst P (sym (two_fields w (number_text name) rest last.0 written last.1)) (says_number name last.0 m.0 last.2))
 
-depth_by : (w : List ℕ) (rest : List (List ℕ)) (p : Parameter) (b : Bool) → bytes_eq w (codes "boxmaxdepth") ≡ b → parameter_of (w ∷ rest) ≡ Ok p → Says (codes "set" ∷ w ∷ rest) (Set p)
-unfolding parameter_of
-depth_by w rest p true e h = says_dimension w (codes "boxmaxdepth") rest BoxMaxDepth p (λ d z is. (d, refl, is)) e (rw e at h)
-depth_by w rest p false e h = baseline_skip_by w rest p (bytes_eq w (codes "baselineskip")) refl (rw e at h)
+by_names : (w : List ℕ) (rest : List (List ℕ)) (p : Parameter) (size : Option SizeParameter) (skip : Option SkipParameter) (number : Option NumberParameter)
+    → size_name w ≡ size → skip_name w ≡ skip → number_name w ≡ number → parameter_by size skip number rest ≡ Ok p → Says (codes "set" ∷ w ∷ rest) (Set p)
+by_names w rest p (Some name) skip number a b c h = by_size w rest p name (size_written w name a) h
+by_names w rest p None (Some name) number a b c h = by_skip w rest p name (skip_written w name b) h
+by_names w rest p None None (Some name) a b c h = by_number w rest p name (number_written w name c) h
+by_names w rest p None None None a b c h = absurd (cc)
 
 says_parameter : (rest : List (List ℕ)) (p : Parameter) → parameter_of rest ≡ Ok p → Says (codes "set" ∷ rest) (Set p)
 unfolding parameter_of
 says_parameter [] p h = absurd (cc)
-says_parameter (w ∷ rest) p h = depth_by w rest p (bytes_eq w (codes "boxmaxdepth")) refl h
+says_parameter (w ∷ rest) p h = by_names w rest p (size_name w) (skip_name w) (number_name w) refl refl refl h
 
 says_set : (rest : List (List ℕ)) (command : Command) → map_ok Set (parameter_of rest) ≡ Ok command → Says (codes "set" ∷ rest) command
 says_set rest command h =
@@ -193,6 +259,7 @@ says_named names.Penalty rest command h = says_penalty rest command h
 says_named (names.Append taking) rest command h = says_append taking rest command h
 says_named (names.Unbox kind taking) rest command h = says_alone register_count (unboxing_text kind taking) rest (unboxing kind taking) command (λ r n is. (r, refl, is)) h
 says_named names.LastBox rest command h = says_alone register_count (codes "lastbox") rest LastBox command (λ r n is. (r, refl, is)) h
+says_named names.Split rest command h = says_split rest command h
 says_named names.Measure rest command h = says_alone register_count (codes "measure") rest Measure command (λ r n is. (r, refl, is)) h
 says_named names.Void rest command h = says_alone register_count (codes "void") rest Void command (λ r n is. (r, refl, is)) h
 says_named names.Set rest command h = says_set rest command h

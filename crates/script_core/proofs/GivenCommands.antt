@@ -6,13 +6,14 @@ use Rattle.pack_core.specs.declared.pack.Target.{Target}
 use Rattle.pack_core.specs.declared.pack.Target.TheVariants.{Natural, To, Spread}
 use Rattle.command_core.specs.declared.command.BoxForm.{BoxForm}
 use Rattle.command_core.specs.declared.command.Taking.{Taking}
-use Rattle.command_core.specs.declared.command.Parameter.TheVariants.{BoxMaxDepth, BaselineSkip, LineSkip, LineSkipLimit}
+use Rattle.command_core.specs.declared.command.Parameter.TheVariants.{BoxMaxDepth, BaselineSkip, LineSkip, LineSkipLimit, SplitMaxDepth, SplitTopSkip, Hsize, ParFillSkip, Pretolerance, Tolerance, LinePenalty, AdjDemerits, ClubPenalty, WidowPenalty, InterlinePenalty}
 use Rattle.command_core.specs.declared.command.Command.{Command}
-use Rattle.command_core.specs.declared.command.Command.TheVariants.{LoadFont, UseFont, Open, End, Text, Character, Rule, Kern, Glue, Penalty, Append, Unbox, LastBox, Measure, Void, Set, Ship}
+use Rattle.command_core.specs.declared.command.Command.TheVariants.{LoadFont, UseFont, Open, End, Text, Character, Rule, Kern, Glue, Penalty, Append, Unbox, LastBox, Split, Measure, Void, Set, Ship}
 use Rattle.script_core.specs.declared.name.Name.TheVariants as names
 use Rattle.script_core.specs.declared.amounts.Amount.{Amount}
-use Rattle.script_core.specs.Grammar.{register_count, slot_count, character_count, IsNumberAmong, IsRegister, IsChosenSize, IsTarget, IsDestination, IsShift, IsAmount, IsPart, IsGlue, Says}
-use Rattle.script_core.specs.Reading.{number_first, dimension_first, size_of_font_first, name_first, map_ok, size_first, last_number, last_dimension, chosen_size_of, font_of, rule_of, penalty_first, last_penalty, amount, amount_first, last_amount, opening, opening_with_register, opening_into, opening_with_size, opening_of, append, shift_of, append_of, unboxing, no_amount, glue, last_shrink_of, shrink_of, parts_of, glue_of, parameter_of, command_named, command_of}
+use Rattle.script_core.specs.Grammar.{register_count, slot_count, character_count, IsNumberAmong, IsRegister, IsChosenSize, IsTarget, IsDestination, IsShift, IsDimension, IsAmount, IsPart, IsGlue, Says}
+use Rattle.script_core.specs.ParameterNames.{size_name, skip_name, number_name}
+use Rattle.script_core.specs.Reading.{number_first, dimension_first, size_of_font_first, name_first, map_ok, size_first, last_number, last_dimension, chosen_size_of, font_of, rule_of, penalty_first, last_penalty, amount, amount_first, last_amount, opening, opening_with_register, opening_into, opening_with_size, opening_of, append, shift_of, append_of, unboxing, split, split_into, split_height, split_to, split_of, no_amount, glue, last_shrink_of, shrink_of, parts_of, glue_of, parameter_of, command_named, command_of}
 use Rattle.script_core.proofs.AmountLaws.{amount_given}
 use Rattle.script_core.proofs.FieldLaws.{number_written, penalty_written, dimension_read, size_given, font_named, size_of_font_is}
 use Rattle.script_core.proofs.NameLaws.{named}
@@ -55,6 +56,11 @@ append_given : (taking : Taking) (r : List ℕ) (n : ℕ) (fields : List (List �
 unfolding append_of number_first
 append_given taking r n fields z h is = rw (number_written register_count r n h, shift_given fields z is) refl
 
+split_given : (r : List ℕ) (n : ℕ) (d : List ℕ) (z : ℤ) (q : List ℕ) (m : ℕ) → IsRegister r n → IsDimension d z → IsRegister q m
+    → split_of (r ∷ codes "to" ∷ d ∷ codes "into" ∷ q ∷ []) ≡ Ok (split n z m)
+unfolding split_of split_to split_height split_into number_first dimension_first
+split_given r n d z q m h is at = rw (number_written register_count r n h, dimension_read d z is) (number_alone register_count (split n z) q m at)
+
 last_amount_given : (make : Amount → glues.Glue) (x : List ℕ) (order : Order) (z : ℤ) → IsAmount x order z → map_ok make (last_amount (x ∷ [])) ≡ Ok (make (amount order z))
 unfolding last_amount amount_first
 last_amount_given make x order z h = rw (amount_given x order z h) refl
@@ -85,7 +91,7 @@ glue_given fields g (d, plus, minus, e, width, stretch, shrink) =
 
 -- the fields of a command are read as it
 pub complete : (fields : List (List ℕ)) (command : Command) → Says fields command → command_of fields ≡ Ok command
-unfolding command_named font_of number_first name_first rule_of parameter_of size_first last_dimension dimension_first last_penalty penalty_first
+unfolding command_named font_of number_first name_first rule_of parameter_of size_name skip_name number_name size_first last_dimension dimension_first last_penalty penalty_first
 complete fields (LoadFont load) (s, more, e, slot, name, size) =
     rw e (named names.Font (s ∷ load.name ∷ more) ∙ (rw (number_written slot_count s load.slot slot, font_named load.name name, chosen_size_given more load.size size) refl))
 complete fields (UseFont n) (s, e, h) = rw e (named names.Use (s ∷ []) ∙ number_alone slot_count UseFont s n h)
@@ -102,10 +108,23 @@ complete fields (Penalty z) (p, e, h) = rw e (named names.Penalty (p ∷ []) ∙
 complete fields (Append taken) (r, more, e, h, is) = rw e (named (names.Append taken.taking) (r ∷ more) ∙ append_given taken.taking r taken.register more taken.shift h is)
 complete fields (Unbox unboxed) (r, e, h) = rw e (named (names.Unbox unboxed.kind unboxed.taking) (r ∷ []) ∙ number_alone register_count (unboxing unboxed.kind unboxed.taking) r unboxed.register h)
 complete fields (LastBox n) (r, e, h) = rw e (named names.LastBox (r ∷ []) ∙ number_alone register_count LastBox r n h)
+complete fields (Split splitting) (r, d, q, e, from, height, into) =
+    rw e (named names.Split (r ∷ codes "to" ∷ d ∷ codes "into" ∷ q ∷ []) ∙ split_given r splitting.register d splitting.height q splitting.into from height into)
 complete fields (Measure n) (r, e, h) = rw e (named names.Measure (r ∷ []) ∙ number_alone register_count Measure r n h)
 complete fields (Void n) (r, e, h) = rw e (named names.Void (r ∷ []) ∙ number_alone register_count Void r n h)
 complete fields (Set (BoxMaxDepth z)) (d, e, h) = rw e (named names.Set (codes "boxmaxdepth" ∷ d ∷ []) ∙ (rw (dimension_read d z h) refl))
 complete fields (Set (BaselineSkip g)) (more, e, h) = rw e (named names.Set (codes "baselineskip" ∷ more) ∙ (rw (glue_given more g h) refl))
 complete fields (Set (LineSkip g)) (more, e, h) = rw e (named names.Set (codes "lineskip" ∷ more) ∙ (rw (glue_given more g h) refl))
 complete fields (Set (LineSkipLimit z)) (d, e, h) = rw e (named names.Set (codes "lineskiplimit" ∷ d ∷ []) ∙ (rw (dimension_read d z h) refl))
+complete fields (Set (SplitMaxDepth z)) (d, e, h) = rw e (named names.Set (codes "splitmaxdepth" ∷ d ∷ []) ∙ (rw (dimension_read d z h) refl))
+complete fields (Set (SplitTopSkip g)) (more, e, h) = rw e (named names.Set (codes "splittopskip" ∷ more) ∙ (rw (glue_given more g h) refl))
+complete fields (Set (Hsize z)) (d, e, h) = rw e (named names.Set (codes "hsize" ∷ d ∷ []) ∙ (rw (dimension_read d z h) refl))
+complete fields (Set (ParFillSkip g)) (more, e, h) = rw e (named names.Set (codes "parfillskip" ∷ more) ∙ (rw (glue_given more g h) refl))
+complete fields (Set (Pretolerance z)) (p, e, h) = rw e (named names.Set (codes "pretolerance" ∷ p ∷ []) ∙ (rw (penalty_written p z h) refl))
+complete fields (Set (Tolerance z)) (p, e, h) = rw e (named names.Set (codes "tolerance" ∷ p ∷ []) ∙ (rw (penalty_written p z h) refl))
+complete fields (Set (LinePenalty z)) (p, e, h) = rw e (named names.Set (codes "linepenalty" ∷ p ∷ []) ∙ (rw (penalty_written p z h) refl))
+complete fields (Set (AdjDemerits z)) (p, e, h) = rw e (named names.Set (codes "adjdemerits" ∷ p ∷ []) ∙ (rw (penalty_written p z h) refl))
+complete fields (Set (ClubPenalty z)) (p, e, h) = rw e (named names.Set (codes "clubpenalty" ∷ p ∷ []) ∙ (rw (penalty_written p z h) refl))
+complete fields (Set (WidowPenalty z)) (p, e, h) = rw e (named names.Set (codes "widowpenalty" ∷ p ∷ []) ∙ (rw (penalty_written p z h) refl))
+complete fields (Set (InterlinePenalty z)) (p, e, h) = rw e (named names.Set (codes "interlinepenalty" ∷ p ∷ []) ∙ (rw (penalty_written p z h) refl))
 complete fields (Ship n) (r, e, h) = rw e (named names.Ship (r ∷ []) ∙ number_alone register_count Ship r n h)

@@ -5,6 +5,7 @@ pub mod Numbers
 pub mod FieldLaws
 pub mod AmountLaws
 pub mod NameLaws
+pub mod ParameterNameLaws
 pub mod GivenCommands
 pub mod ReadFields
 pub mod CommandLaws
@@ -12,6 +13,7 @@ pub mod CauseForms
 pub mod FontCauses
 pub mod OpeningCauses
 pub mod BoxCauses
+pub mod SplitCauses
 pub mod GlueCauses
 pub mod SharedCauses
 pub mod ParameterCauses

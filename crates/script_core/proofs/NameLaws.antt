@@ -25,6 +25,7 @@ name_text names.Penalty = codes "penalty"
 name_text (names.Append taking) = taking_text taking
 name_text (names.Unbox kind taking) = unboxing_text kind taking
 name_text names.LastBox = codes "lastbox"
+name_text names.Split = codes "vsplit"
 name_text names.Measure = codes "measure"
 name_text names.Void = codes "void"
 name_text names.Set = codes "set"
@@ -56,7 +57,8 @@ register_name_written word name h =
     (one_name _ word (codes "unhcopy") (names.Unbox Horizontal Copied) _ name refl refl
     (one_name _ word (codes "unvbox") (names.Unbox Vertical Moved) _ name refl refl
     (one_name _ word (codes "unvcopy") (names.Unbox Vertical Copied) _ name refl refl
-    (one_name _ word (codes "lastbox") names.LastBox None name refl refl (λ e. absurd (cc)))))))) h
+    (one_name _ word (codes "lastbox") names.LastBox _ name refl refl
+    (one_name _ word (codes "vsplit") names.Split None name refl refl (λ e. absurd (cc))))))))) h
 
 item_name_written : (word : List ℕ) (name : Name) → item_name word ≡ Some name → word ≡ name_text name
 unfolding item_name
@@ -103,6 +105,7 @@ name_read (names.Unbox Horizontal Copied) = refl
 name_read (names.Unbox Vertical Moved) = refl
 name_read (names.Unbox Vertical Copied) = refl
 name_read names.LastBox = refl
+name_read names.Split = refl
 name_read names.Measure = refl
 name_read names.Void = refl
 name_read names.Set = refl

@@ -1,18 +1,21 @@
 -- The cause that the function names holds of the fields behind `set`.
-use Rattle.std.proofs.Common.{◌≡◌, ℕ, ℤ, pos, Bool, true, false, List, [], ◌∷◌, Ok, Err, codes, refl, sym, ◌∙◌, subst}
-use Rattle.std.specs.Str.{bytes_eq}
+use Rattle.std.proofs.Common.{◌≡◌, ℕ, ℤ, pos, List, [], ◌∷◌, Option, Some, None, Ok, Err, codes, refl, sym, ◌∙◌, subst}
 use Rattle.node_core.specs.declared.tree.Glue as glues
 use Rattle.command_core.specs.declared.command.Command.{Command}
 use Rattle.command_core.specs.declared.command.Command.TheVariants.{Glue, Set}
-use Rattle.command_core.specs.declared.command.Parameter.TheVariants.{BoxMaxDepth, BaselineSkip, LineSkip, LineSkipLimit}
 use Rattle.script_core.specs.declared.cause.Cause.{Cause}
 use Rattle.script_core.specs.declared.cause.Cause.TheVariants.{Word, Missing}
 use Rattle.script_core.specs.declared.name.Name.TheVariants as names
+use Rattle.script_core.specs.declared.parameter.SizeParameter.{SizeParameter}
+use Rattle.script_core.specs.declared.parameter.SizeParameter.TheVariants as sizes
+use Rattle.script_core.specs.declared.parameter.SkipParameter.{SkipParameter}
+use Rattle.script_core.specs.declared.parameter.NumberParameter.{NumberParameter}
 use Rattle.script_core.specs.Causes.{IsWord, IsFieldCause}
-use Rattle.script_core.specs.Reading.{dimension_first, last_dimension, map_ok, no_amount, glue, parts_of, glue_of, parameter_of, command_named, command_of}
-use Rattle.script_core.proofs.FieldLaws.{same_bytes}
+use Rattle.script_core.specs.ParameterNames.{size_name, skip_name, number_name, with_size, with_skip, with_number}
+use Rattle.script_core.specs.Reading.{dimension_first, last_dimension, last_penalty, map_ok, no_amount, glue, parts_of, glue_of, parameter_by, parameter_of, command_named, command_of}
 use Rattle.script_core.proofs.NameLaws.{named}
-use Rattle.script_core.proofs.CauseForms.{missing, has_bad_elsewhere, as_cause, not_made, twice, zero_dimension, depth_is_word, letter, dimension_cause}
+use Rattle.script_core.proofs.ParameterNameLaws.{size_text, skip_text, number_text, size_written, skip_written, number_written, size_read, skip_read, number_read, skip_no_size, number_no_size, number_no_skip}
+use Rattle.script_core.proofs.CauseForms.{missing, has_bad_elsewhere, as_cause, not_made, twice, zero_dimension, depth_is_word, letter, dimension_cause, penalty_cause}
 use Rattle.script_core.proofs.GlueCauses.{glue_reads, glue_cause}
 use Rattle.script_core.proofs.SharedCauses.{shared_cause}
 
@@ -24,52 +27,58 @@ set_lacks : command_of (codes "set" ∷ []) ≡ Err Missing
 unfolding parameter_of
 set_lacks = set_reads []
 
-no_parameter : (w : List ℕ) (rest : List (List ℕ)) → bytes_eq w (codes "boxmaxdepth") ≡ false → bytes_eq w (codes "baselineskip") ≡ false → bytes_eq w (codes "lineskip") ≡ false → bytes_eq w (codes "lineskiplimit") ≡ false
-    → command_of (codes "set" ∷ w ∷ rest) ≡ Err Word
+no_parameter : (w : List ℕ) (rest : List (List ℕ)) → size_name w ≡ None → skip_name w ≡ None → number_name w ≡ None → command_of (codes "set" ∷ w ∷ rest) ≡ Err Word
 unfolding parameter_of
-no_parameter w rest a b c d = set_reads (w ∷ rest) ∙ (rw (a, b, c, d) refl)
+no_parameter w rest a b c = set_reads (w ∷ rest) ∙ (rw (a, b, c) refl)
+
+letter_no_size : size_name letter ≡ None
+unfolding size_name
+letter_no_size = refl
+
+letter_no_skip : skip_name letter ≡ None
+unfolding skip_name
+letter_no_skip = refl
+
+letter_no_number : number_name letter ≡ None
+unfolding number_name
+letter_no_number = refl
 
 -- a dimension
-abbrev depth : ℤ → Command
-depth z = Set (BoxMaxDepth z)
+abbrev set_size : SizeParameter → ℤ → Command
+set_size name z = Set (with_size name z)
 
-abbrev limit : ℤ → Command
-limit z = Set (LineSkipLimit z)
-
-depth_reads : (rest : List (List ℕ)) → command_of (codes "set" ∷ codes "boxmaxdepth" ∷ rest) ≡ map_ok depth (last_dimension rest)
+size_reads : (name : SizeParameter) (rest : List (List ℕ)) → command_of (codes "set" ∷ size_text name ∷ rest) ≡ map_ok (set_size name) (last_dimension rest)
 unfolding parameter_of
-depth_reads rest = set_reads (codes "boxmaxdepth" ∷ rest) ∙ twice Set BoxMaxDepth (last_dimension rest)
+size_reads name rest = set_reads (size_text name ∷ rest) ∙ (rw (size_read name) (twice Set (with_size name) (last_dimension rest)))
 
-limit_reads : (rest : List (List ℕ)) → command_of (codes "set" ∷ codes "lineskiplimit" ∷ rest) ≡ map_ok limit (last_dimension rest)
-unfolding parameter_of
-limit_reads rest = set_reads (codes "lineskiplimit" ∷ rest) ∙ twice Set LineSkipLimit (last_dimension rest)
-
-depth_zero : command_of (codes "set" ∷ codes "boxmaxdepth" ∷ codes "0sp" ∷ []) ≡ Ok (depth (pos 0))
+depth_zero : command_of (codes "set" ∷ codes "boxmaxdepth" ∷ codes "0sp" ∷ []) ≡ Ok (set_size sizes.BoxMaxDepth (pos 0))
 unfolding last_dimension dimension_first
-depth_zero = depth_reads (codes "0sp" ∷ []) ∙ (rw zero_dimension refl)
+depth_zero = size_reads sizes.BoxMaxDepth (codes "0sp" ∷ []) ∙ (rw zero_dimension refl)
 
-depth_cause : (rest : List (List ℕ)) (cause : Cause) → command_of (codes "set" ∷ codes "boxmaxdepth" ∷ rest) ≡ Err cause → IsFieldCause cause (codes "set" ∷ codes "boxmaxdepth" ∷ rest)
-depth_cause rest cause h =
-    dimension_cause (codes "set" ∷ codes "boxmaxdepth" ∷ []) depth depth_reads rest cause (not_made depth (last_dimension rest) cause (sym (depth_reads rest) ∙ h))
+size_cause : (name : SizeParameter) (rest : List (List ℕ)) (cause : Cause) → command_of (codes "set" ∷ size_text name ∷ rest) ≡ Err cause → IsFieldCause cause (codes "set" ∷ size_text name ∷ rest)
+size_cause name rest cause h =
+    dimension_cause (codes "set" ∷ size_text name ∷ []) (set_size name) (size_reads name) rest cause (not_made (set_size name) (last_dimension rest) cause (sym (size_reads name rest) ∙ h))
 
-limit_cause : (rest : List (List ℕ)) (cause : Cause) → command_of (codes "set" ∷ codes "lineskiplimit" ∷ rest) ≡ Err cause → IsFieldCause cause (codes "set" ∷ codes "lineskiplimit" ∷ rest)
-limit_cause rest cause h =
-    dimension_cause (codes "set" ∷ codes "lineskiplimit" ∷ []) limit limit_reads rest cause (not_made limit (last_dimension rest) cause (sym (limit_reads rest) ∙ h))
+-- a number
+abbrev set_number : NumberParameter → ℤ → Command
+set_number name z = Set (with_number name z)
+
+number_reads : (name : NumberParameter) (rest : List (List ℕ)) → command_of (codes "set" ∷ number_text name ∷ rest) ≡ map_ok (set_number name) (last_penalty rest)
+unfolding parameter_of
+number_reads name rest =
+    set_reads (number_text name ∷ rest) ∙ (rw (number_no_size name, number_no_skip name, number_read name) (twice Set (with_number name) (last_penalty rest)))
+
+number_cause : (name : NumberParameter) (rest : List (List ℕ)) (cause : Cause) → command_of (codes "set" ∷ number_text name ∷ rest) ≡ Err cause → IsFieldCause cause (codes "set" ∷ number_text name ∷ rest)
+number_cause name rest cause h =
+    penalty_cause (codes "set" ∷ number_text name ∷ []) (set_number name) (number_reads name) rest cause (not_made (set_number name) (last_penalty rest) cause (sym (number_reads name rest) ∙ h))
 
 -- a glue
-abbrev baseline_skip : glues.Glue → Command
-baseline_skip g = Set (BaselineSkip g)
+abbrev set_skip : SkipParameter → glues.Glue → Command
+set_skip name g = Set (with_skip name g)
 
-abbrev line_skip : glues.Glue → Command
-line_skip g = Set (LineSkip g)
-
-baseline_skip_reads : (rest : List (List ℕ)) → command_of (codes "set" ∷ codes "baselineskip" ∷ rest) ≡ map_ok baseline_skip (glue_of rest)
+skip_reads : (name : SkipParameter) (rest : List (List ℕ)) → command_of (codes "set" ∷ skip_text name ∷ rest) ≡ map_ok (set_skip name) (glue_of rest)
 unfolding parameter_of
-baseline_skip_reads rest = set_reads (codes "baselineskip" ∷ rest) ∙ twice Set BaselineSkip (glue_of rest)
-
-line_skip_reads : (rest : List (List ℕ)) → command_of (codes "set" ∷ codes "lineskip" ∷ rest) ≡ map_ok line_skip (glue_of rest)
-unfolding parameter_of
-line_skip_reads rest = set_reads (codes "lineskip" ∷ rest) ∙ twice Set LineSkip (glue_of rest)
+skip_reads name rest = set_reads (skip_text name ∷ rest) ∙ (rw (skip_no_size name, skip_read name) (twice Set (with_skip name) (glue_of rest)))
 
 zero_glue : glue_of (codes "0sp" ∷ []) ≡ Ok (glue (pos 0) no_amount no_amount)
 unfolding glue_of dimension_first parts_of
@@ -81,38 +90,30 @@ of_glue rest make cause h =
     let fault = not_made make (glue_of rest) cause h in
     glue_cause rest cause (glue_reads rest ∙ (rw fault refl))
 
-baseline_skip_cause : (rest : List (List ℕ)) (cause : Cause) → command_of (codes "set" ∷ codes "baselineskip" ∷ rest) ≡ Err cause → IsFieldCause cause (codes "set" ∷ codes "baselineskip" ∷ rest)
-baseline_skip_cause rest cause h =
-    shared_cause glues.Glue glue_of (codes "glue") (codes "set") (codes "baselineskip") Glue baseline_skip glue_reads baseline_skip_reads (codes "0sp" ∷ []) _ zero_glue cause rest
-    (of_glue rest baseline_skip cause (sym (baseline_skip_reads rest) ∙ h))
+skip_cause : (name : SkipParameter) (rest : List (List ℕ)) (cause : Cause) → command_of (codes "set" ∷ skip_text name ∷ rest) ≡ Err cause → IsFieldCause cause (codes "set" ∷ skip_text name ∷ rest)
+skip_cause name rest cause h =
+    shared_cause glues.Glue glue_of (codes "glue") (codes "set") (skip_text name) Glue (set_skip name) glue_reads (skip_reads name) (codes "0sp" ∷ []) _ zero_glue cause rest
+    (of_glue rest (set_skip name) cause (sym (skip_reads name rest) ∙ h))
 
-line_skip_cause : (rest : List (List ℕ)) (cause : Cause) → command_of (codes "set" ∷ codes "lineskip" ∷ rest) ≡ Err cause → IsFieldCause cause (codes "set" ∷ codes "lineskip" ∷ rest)
-line_skip_cause rest cause h =
-    shared_cause glues.Glue glue_of (codes "glue") (codes "set") (codes "lineskip") Glue line_skip glue_reads line_skip_reads (codes "0sp" ∷ []) _ zero_glue cause rest
-    (of_glue rest line_skip cause (sym (line_skip_reads rest) ∙ h))
-
--- what holds behind a word holds behind its bytes
-along_word : (w word : List ℕ) (rest : List (List ℕ)) (cause : Cause) → bytes_eq w word ≡ true → (command_of (codes "set" ∷ word ∷ rest) ≡ Err cause → IsFieldCause cause (codes "set" ∷ word ∷ rest)) → command_of (codes "set" ∷ w ∷ rest) ≡ Err cause → IsFieldCause cause (codes "set" ∷ w ∷ rest)
-along_word w word rest cause e there h =
-    let is : w ≡ word = same_bytes w word e in
+-- what holds behind a word holds behind another one that is the same
+along_word : (w word : List ℕ) (rest : List (List ℕ)) (cause : Cause) → w ≡ word → (command_of (codes "set" ∷ word ∷ rest) ≡ Err cause → IsFieldCause cause (codes "set" ∷ word ∷ rest)) → command_of (codes "set" ∷ w ∷ rest) ≡ Err cause → IsFieldCause cause (codes "set" ∷ w ∷ rest)
+along_word w word rest cause is there h =
     let P : List ℕ → Type 0 = λ x. IsFieldCause cause (codes "set" ∷ x ∷ rest) in
     let Q : List ℕ → Type 0 = λ x. command_of (codes "set" ∷ x ∷ rest) ≡ Err cause in
     subst P (sym is) (there (subst Q is h))
 
-by_word : (w : List ℕ) (rest : List (List ℕ)) (deep base line most : Bool) (cause : Cause) → bytes_eq w (codes "boxmaxdepth") ≡ deep → bytes_eq w (codes "baselineskip") ≡ base → bytes_eq w (codes "lineskip") ≡ line → bytes_eq w (codes "lineskiplimit") ≡ most
-    → command_of (codes "set" ∷ w ∷ rest) ≡ Err cause → IsFieldCause cause (codes "set" ∷ w ∷ rest)
-by_word w rest true base line most cause a b c d h = along_word w (codes "boxmaxdepth") rest cause a (depth_cause rest cause) h
-by_word w rest false true line most cause a b c d h = along_word w (codes "baselineskip") rest cause b (baseline_skip_cause rest cause) h
-by_word w rest false false true most cause a b c d h = along_word w (codes "lineskip") rest cause c (line_skip_cause rest cause) h
-by_word w rest false false false true cause a b c d h = along_word w (codes "lineskiplimit") rest cause d (limit_cause rest cause) h
-by_word w rest false false false false cause a b c d h =
-    as_cause _ Word cause (let no = no_parameter w rest a b c d in cc)
-    (has_bad_elsewhere IsWord (codes "set" ∷ []) w rest (codes "boxmaxdepth") (codes "0sp" ∷ []) (depth (pos 0)) depth_is_word depth_zero
-    (λ later. (Word, no_parameter w later a b c d)) (λ later. (Word, no_parameter letter later refl refl refl refl)))
+by_word : (w : List ℕ) (rest : List (List ℕ)) (size : Option SizeParameter) (skip : Option SkipParameter) (number : Option NumberParameter) (cause : Cause)
+    → size_name w ≡ size → skip_name w ≡ skip → number_name w ≡ number → command_of (codes "set" ∷ w ∷ rest) ≡ Err cause → IsFieldCause cause (codes "set" ∷ w ∷ rest)
+by_word w rest (Some name) skip number cause a b c h = along_word w (size_text name) rest cause (size_written w name a) (size_cause name rest cause) h
+by_word w rest None (Some name) number cause a b c h = along_word w (skip_text name) rest cause (skip_written w name b) (skip_cause name rest cause) h
+by_word w rest None None (Some name) cause a b c h = along_word w (number_text name) rest cause (number_written w name c) (number_cause name rest cause) h
+by_word w rest None None None cause a b c h =
+    as_cause _ Word cause (let no = no_parameter w rest a b c in cc)
+    (has_bad_elsewhere IsWord (codes "set" ∷ []) w rest (codes "boxmaxdepth") (codes "0sp" ∷ []) (set_size sizes.BoxMaxDepth (pos 0)) depth_is_word depth_zero
+    (λ later. (Word, no_parameter w later a b c)) (λ later. (Word, no_parameter letter later letter_no_size letter_no_skip letter_no_number)))
 
 pub set_cause : (rest : List (List ℕ)) (cause : Cause) → command_of (codes "set" ∷ rest) ≡ Err cause → IsFieldCause cause (codes "set" ∷ rest)
 set_cause [] cause h =
     as_cause _ Missing cause (let lacks = set_lacks in cc)
-    (missing (codes "set" ∷ []) (codes "boxmaxdepth" ∷ codes "0sp" ∷ []) (depth (pos 0)) (Missing, set_lacks) depth_zero)
-set_cause (w ∷ rest) cause h =
-    by_word w rest (bytes_eq w (codes "boxmaxdepth")) (bytes_eq w (codes "baselineskip")) (bytes_eq w (codes "lineskip")) (bytes_eq w (codes "lineskiplimit")) cause refl refl refl refl h
+    (missing (codes "set" ∷ []) (codes "boxmaxdepth" ∷ codes "0sp" ∷ []) (set_size sizes.BoxMaxDepth (pos 0)) (Missing, set_lacks) depth_zero)
+set_cause (w ∷ rest) cause h = by_word w rest (size_name w) (skip_name w) (number_name w) cause refl refl refl h

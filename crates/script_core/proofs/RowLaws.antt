@@ -10,6 +10,7 @@ use Rattle.script_core.specs.declared.cause.Cause.TheVariants.{Missing, Extra, N
 use Rattle.script_core.specs.declared.script.ScriptFault.TheVariants.{BadScript}
 use Rattle.script_core.specs.Names.{box_name, register_name, item_name, name_of}
 use Rattle.script_core.specs.ScriptLines.{fields_of}
+use Rattle.script_core.specs.ParameterNames.{size_name, skip_name, number_name}
 use Rattle.script_core.specs.Reading.{name_first, size_of_font_first, chosen_size_of, font_of, number_of, number_first, dimension_first, size_of, size_first, last_number, last_dimension, penalty_of, penalty_first, last_penalty, before_unit, amount_in, amount_of, amount_first, last_amount, opening_with_register, opening_into, opening_with_size, opening_of, last_shrink_of, shrink_of, parts_of, glue_of, parameter_of, rule_of, command_named, command_of, text_of, line_of, reads}
 use Rattle.script_core.specs.Rows.{one_rule_lines, OneRuleScript, UnitlessRow, text_lines, TextScript, NoSizeRow, StrokeInNameRow, tall_box_lines, TallBoxScript, NoRegisterRow, LateStretchRow}
 use Rattle.script_core.proofs.ScriptLaws.{script_read, script_refused}
@@ -50,7 +51,7 @@ pub stroke_named : StrokeInNameRow
 stroke_named = (script_refused (codes "font 0 a/b at 0pt") (BadScript 1 causes.Name) stroke_read).0
 
 tall_box_read : reads 1 (lines (codes "set boxmaxdepth 1pt\nvbox to 20pt into 0\nglue 0pt plus 1fil\npenalty -10000\nend\n")) ≡ Ok tall_box_lines
-unfolding line_of text_of fields_of command_of command_named name_of box_name register_name item_name parameter_of opening_of opening_with_register opening_into opening_with_size glue_of parts_of shrink_of amount_first amount_of amount_in before_unit last_penalty penalty_first penalty_of number_first number_of last_number last_dimension dimension_first read_dimension dimension_value parsed_value written_value unit_named is_negative behind_sign front_digits behind_digits point_digits behind_fraction decimal_fraction nearest of_points
+unfolding line_of text_of fields_of command_of command_named name_of box_name register_name item_name parameter_of size_name skip_name number_name opening_of opening_with_register opening_into opening_with_size glue_of parts_of shrink_of amount_first amount_of amount_in before_unit last_penalty penalty_first penalty_of number_first number_of last_number last_dimension dimension_first read_dimension dimension_value parsed_value written_value unit_named is_negative behind_sign front_digits behind_digits point_digits behind_fraction decimal_fraction nearest of_points
 tall_box_read = refl
 
 pub tall_box_said : TallBoxScript

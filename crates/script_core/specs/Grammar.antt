@@ -18,9 +18,9 @@ use Rattle.command_core.specs.declared.command.BoxForm.{BoxForm}
 use Rattle.command_core.specs.declared.command.BoxForm.TheVariants.{Hbox, Vbox, Vtop}
 use Rattle.command_core.specs.declared.command.Taking.{Taking}
 use Rattle.command_core.specs.declared.command.Taking.TheVariants.{Moved, Copied}
-use Rattle.command_core.specs.declared.command.Parameter.TheVariants.{BoxMaxDepth, BaselineSkip, LineSkip, LineSkipLimit}
+use Rattle.command_core.specs.declared.command.Parameter.TheVariants.{BoxMaxDepth, BaselineSkip, LineSkip, LineSkipLimit, SplitMaxDepth, SplitTopSkip, Hsize, ParFillSkip, Pretolerance, Tolerance, LinePenalty, AdjDemerits, ClubPenalty, WidowPenalty, InterlinePenalty}
 use Rattle.command_core.specs.declared.command.Command.{Command}
-use Rattle.command_core.specs.declared.command.Command.TheVariants.{LoadFont, UseFont, Open, End, Text, Character, Rule, Kern, Glue, Penalty, Append, Unbox, LastBox, Measure, Void, Set, Ship}
+use Rattle.command_core.specs.declared.command.Command.TheVariants.{LoadFont, UseFont, Open, End, Text, Character, Rule, Kern, Glue, Penalty, Append, Unbox, LastBox, Split, Measure, Void, Set, Ship}
 
 -- a field that writes this whole number by an optional sign and digits
 pub record IsInteger (field : List ℕ) (z : ℤ) : Type 0 where
@@ -56,7 +56,7 @@ IsSlot field n = IsNumberAmong slot_count field n
 abbrev pub IsCharacterCode : List ℕ → ℕ → Type 0
 IsCharacterCode field n = IsNumberAmong character_count field n
 
--- a field that writes this whole number, of absolute value at most 500,000,000: that of a penalty
+-- a field that writes this whole number, of absolute value at most 500,000,000: that of a penalty or of a parameter
 pub record IsPenalty (field : List ℕ) (z : ℤ) : Type 0 where
   pub written : IsInteger field z
   pub small : Within 500000000 z
@@ -175,10 +175,24 @@ Says fields (Append box_use) =
     (r : List ℕ) × (shift : List (List ℕ)) × (fields ≡ taking_text box_use.taking ∷ r ∷ shift) × IsRegister r box_use.register × IsShift shift box_use.shift
 Says fields (Unbox unboxing) = (r : List ℕ) × (fields ≡ unboxing_text unboxing.kind unboxing.taking ∷ r ∷ []) × IsRegister r unboxing.register
 Says fields (LastBox n) = (r : List ℕ) × (fields ≡ codes "lastbox" ∷ r ∷ []) × IsRegister r n
+Says fields (Split splitting) =
+    (r : List ℕ) × (d : List ℕ) × (q : List ℕ) × (fields ≡ codes "vsplit" ∷ r ∷ codes "to" ∷ d ∷ codes "into" ∷ q ∷ [])
+    × IsRegister r splitting.register × IsDimension d splitting.height × IsRegister q splitting.into
 Says fields (Measure n) = (r : List ℕ) × (fields ≡ codes "measure" ∷ r ∷ []) × IsRegister r n
 Says fields (Void n) = (r : List ℕ) × (fields ≡ codes "void" ∷ r ∷ []) × IsRegister r n
 Says fields (Set (BoxMaxDepth z)) = (d : List ℕ) × (fields ≡ codes "set" ∷ codes "boxmaxdepth" ∷ d ∷ []) × IsDimension d z
 Says fields (Set (BaselineSkip glue)) = (more : List (List ℕ)) × (fields ≡ codes "set" ∷ codes "baselineskip" ∷ more) × IsGlue more glue
 Says fields (Set (LineSkip glue)) = (more : List (List ℕ)) × (fields ≡ codes "set" ∷ codes "lineskip" ∷ more) × IsGlue more glue
 Says fields (Set (LineSkipLimit z)) = (d : List ℕ) × (fields ≡ codes "set" ∷ codes "lineskiplimit" ∷ d ∷ []) × IsDimension d z
+Says fields (Set (SplitMaxDepth z)) = (d : List ℕ) × (fields ≡ codes "set" ∷ codes "splitmaxdepth" ∷ d ∷ []) × IsDimension d z
+Says fields (Set (SplitTopSkip glue)) = (more : List (List ℕ)) × (fields ≡ codes "set" ∷ codes "splittopskip" ∷ more) × IsGlue more glue
+Says fields (Set (Hsize z)) = (d : List ℕ) × (fields ≡ codes "set" ∷ codes "hsize" ∷ d ∷ []) × IsDimension d z
+Says fields (Set (ParFillSkip glue)) = (more : List (List ℕ)) × (fields ≡ codes "set" ∷ codes "parfillskip" ∷ more) × IsGlue more glue
+Says fields (Set (Pretolerance z)) = (p : List ℕ) × (fields ≡ codes "set" ∷ codes "pretolerance" ∷ p ∷ []) × IsPenalty p z
+Says fields (Set (Tolerance z)) = (p : List ℕ) × (fields ≡ codes "set" ∷ codes "tolerance" ∷ p ∷ []) × IsPenalty p z
+Says fields (Set (LinePenalty z)) = (p : List ℕ) × (fields ≡ codes "set" ∷ codes "linepenalty" ∷ p ∷ []) × IsPenalty p z
+Says fields (Set (AdjDemerits z)) = (p : List ℕ) × (fields ≡ codes "set" ∷ codes "adjdemerits" ∷ p ∷ []) × IsPenalty p z
+Says fields (Set (ClubPenalty z)) = (p : List ℕ) × (fields ≡ codes "set" ∷ codes "clubpenalty" ∷ p ∷ []) × IsPenalty p z
+Says fields (Set (WidowPenalty z)) = (p : List ℕ) × (fields ≡ codes "set" ∷ codes "widowpenalty" ∷ p ∷ []) × IsPenalty p z
+Says fields (Set (InterlinePenalty z)) = (p : List ℕ) × (fields ≡ codes "set" ∷ codes "interlinepenalty" ∷ p ∷ []) × IsPenalty p z
 Says fields (Ship n) = (r : List ℕ) × (fields ≡ codes "ship" ∷ r ∷ []) × IsRegister r n

@@ -1,5 +1,6 @@
 pub mod ScriptLines
 pub mod Names
+pub mod ParameterNames
 pub mod Grammar
 pub mod Causes
 pub mod Script

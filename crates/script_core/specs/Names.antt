@@ -5,7 +5,7 @@ use Rattle.node_core.specs.declared.tree.Kind.TheVariants.{Horizontal, Vertical}
 use Rattle.command_core.specs.declared.command.BoxForm.TheVariants.{Hbox, Vbox, Vtop}
 use Rattle.command_core.specs.declared.command.Taking.TheVariants.{Moved, Copied}
 use Rattle.script_core.specs.declared.name.Name.{Name}
-use Rattle.script_core.specs.declared.name.Name.TheVariants.{Font, Use, Open, End, Character, Rule, Kern, Glue, Penalty, Append, Unbox, LastBox, Measure, Void, Set, Ship}
+use Rattle.script_core.specs.declared.name.Name.TheVariants.{Font, Use, Open, End, Character, Rule, Kern, Glue, Penalty, Append, Unbox, LastBox, Split, Measure, Void, Set, Ship}
 
 -- the name of a command of lists and whole boxes that a word is
 unfoldable pub box_name : List ℕ → Option Name
@@ -19,7 +19,7 @@ box_name word =
     else (if bytes_eq word (codes "ship") then Some Ship
     else None))))))
 
--- the name of a command that a word is, of those that take the box of a register into a list or the last one out of it
+-- the name of a command that a word is, of those that take the box of a register into a list or the last one out of it, or split one
 unfoldable pub register_name : List ℕ → Option Name
 register_name word =
     if bytes_eq word (codes "box") then Some (Append Moved)
@@ -29,7 +29,8 @@ register_name word =
     else (if bytes_eq word (codes "unvbox") then Some (Unbox Vertical Moved)
     else (if bytes_eq word (codes "unvcopy") then Some (Unbox Vertical Copied)
     else (if bytes_eq word (codes "lastbox") then Some LastBox
-    else None))))))
+    else (if bytes_eq word (codes "vsplit") then Some Split
+    else None)))))))
 
 -- the name of a command of fonts, items and parameters that a word is
 unfoldable pub item_name : List ℕ → Option Name

@@ -17,9 +17,8 @@ use Rattle.pack_core.specs.declared.pack.Target.TheVariants.{Natural, To, Spread
 use Rattle.command_core.specs.declared.command.BoxForm.{BoxForm}
 use Rattle.command_core.specs.declared.command.Taking.{Taking}
 use Rattle.command_core.specs.declared.command.Parameter.{Parameter}
-use Rattle.command_core.specs.declared.command.Parameter.TheVariants.{BoxMaxDepth, BaselineSkip, LineSkip, LineSkipLimit}
 use Rattle.command_core.specs.declared.command.Command.{Command}
-use Rattle.command_core.specs.declared.command.Command.TheVariants.{LoadFont, UseFont, Open, End, Text, Character, Rule, Kern, Glue, Penalty, Append, Unbox, LastBox, Measure, Void, Set, Ship}
+use Rattle.command_core.specs.declared.command.Command.TheVariants.{LoadFont, UseFont, Open, End, Text, Character, Rule, Kern, Glue, Penalty, Append, Unbox, LastBox, Split, Measure, Void, Set, Ship}
 use Rattle.script_core.specs.declared.cause.Cause.{Cause}
 use Rattle.script_core.specs.declared.cause.Cause.TheVariants as causes
 use Rattle.script_core.specs.declared.cause.Cause.TheVariants.{Byte, Word, Missing, Extra, Number, Dimension}
@@ -29,7 +28,11 @@ use Rattle.script_core.specs.declared.script.ScriptFault.{ScriptFault}
 use Rattle.script_core.specs.declared.script.ScriptFault.TheVariants.{BadScript}
 use Rattle.script_core.specs.declared.name.Name.{Name}
 use Rattle.script_core.specs.declared.name.Name.TheVariants as names
+use Rattle.script_core.specs.declared.parameter.SizeParameter.{SizeParameter}
+use Rattle.script_core.specs.declared.parameter.SkipParameter.{SkipParameter}
+use Rattle.script_core.specs.declared.parameter.NumberParameter.{NumberParameter}
 use Rattle.script_core.specs.Names.{name_of}
+use Rattle.script_core.specs.ParameterNames.{size_name, skip_name, number_name, with_size, with_skip, with_number}
 use Rattle.script_core.specs.ScriptLines.{is_space, is_printable, is_passed_over, fields_of}
 use Rattle.script_core.specs.Grammar.{register_count, slot_count, character_count, is_name_byte}
 
@@ -288,6 +291,29 @@ append_of taking fields = and_then (number_first register_count fields) (λ regi
 abbrev pub unboxing : Kind → Taking → ℕ → Command
 unboxing kind taking register = Unbox (record { kind = kind; register = register; taking = taking })
 
+-- the command that splits the box of a register to that height, with its front for another one
+abbrev pub split : (register : ℕ) → (height : ℤ) → (into : ℕ) → Command
+split register height into = Split (record { register = register; height = height; into = into })
+
+-- what stands behind the height of a split: `into` and a register
+unfoldable pub split_into : (register : ℕ) → (height : ℤ) → List (List ℕ) → Result Command Cause
+split_into register height [] = Err Missing
+split_into register height (word ∷ rest) =
+    if bytes_eq word (codes "into") then map_ok (split register height) (last_number register_count rest) else Err Word
+
+-- the height of a split, and what stands behind it
+unfoldable pub split_height : (register : ℕ) → List (List ℕ) → Result Command Cause
+split_height register fields = and_then (dimension_first fields) (λ height. split_into register height (rest_of fields))
+
+-- what stands behind the register of a split: `to`, and a height
+unfoldable pub split_to : (register : ℕ) → List (List ℕ) → Result Command Cause
+split_to register [] = Err Missing
+split_to register (word ∷ rest) = if bytes_eq word (codes "to") then split_height register rest else Err Word
+
+-- what the fields behind `vsplit` say
+unfoldable pub split_of : List (List ℕ) → Result Command Cause
+split_of fields = and_then (number_first register_count fields) (λ register. split_to register (rest_of fields))
+
 -- no stretch or shrink: 0 of order normal
 abbrev pub no_amount : Amount
 no_amount = amount Normal (pos 0)
@@ -318,15 +344,17 @@ parts_of width (word ∷ rest) =
 unfoldable pub glue_of : List (List ℕ) → Result glues.Glue Cause
 glue_of fields = and_then (dimension_first fields) (λ width. parts_of width (rest_of fields))
 
+-- what stands behind the name of a parameter, by the kind of value that it takes: a dimension, glue or a number; the cause is Word where there is no name
+abbrev pub parameter_by : Option SizeParameter → Option SkipParameter → Option NumberParameter → List (List ℕ) → Result Parameter Cause
+parameter_by (Some name) skip number rest = map_ok (with_size name) (last_dimension rest)
+parameter_by None (Some name) number rest = map_ok (with_skip name) (glue_of rest)
+parameter_by None None (Some name) rest = map_ok (with_number name) (last_penalty rest)
+parameter_by None None None rest = Err Word
+
 -- what the fields behind `set` say: the name of a parameter and its value
 unfoldable pub parameter_of : List (List ℕ) → Result Parameter Cause
 parameter_of [] = Err Missing
-parameter_of (word ∷ rest) =
-    if bytes_eq word (codes "boxmaxdepth") then map_ok BoxMaxDepth (last_dimension rest)
-    else (if bytes_eq word (codes "baselineskip") then map_ok BaselineSkip (glue_of rest)
-    else (if bytes_eq word (codes "lineskip") then map_ok LineSkip (glue_of rest)
-    else (if bytes_eq word (codes "lineskiplimit") then map_ok LineSkipLimit (last_dimension rest)
-    else Err Word)))
+parameter_of (word ∷ rest) = parameter_by (size_name word) (skip_name word) (number_name word) rest
 
 -- the size behind the name of a font: none, or `at` and a size
 unfoldable pub chosen_size_of : List (List ℕ) → Result (Option ℤ) Cause
@@ -371,6 +399,7 @@ command_named names.Penalty fields = map_ok Penalty (last_penalty fields)
 command_named (names.Append taking) fields = append_of taking fields
 command_named (names.Unbox kind taking) fields = map_ok (unboxing kind taking) (last_number register_count fields)
 command_named names.LastBox fields = map_ok LastBox (last_number register_count fields)
+command_named names.Split fields = split_of fields
 command_named names.Measure fields = map_ok Measure (last_number register_count fields)
 command_named names.Void fields = map_ok Void (last_number register_count fields)
 command_named names.Set fields = map_ok Set (parameter_of fields)

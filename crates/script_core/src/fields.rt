@@ -7,15 +7,16 @@ ghost use Rattle.tfm_core.specs.NamedBytes.{IsFontName};
 ghost use Rattle.command_core.specs.declared.command.Command.TheVariants as commands;
 ghost use Rattle.script_core.specs.Grammar.{register_count, slot_count, character_count, IsInteger, is_name_byte};
 ghost use Rattle.script_core.specs.ScriptLines.{fields_of};
-ghost use Rattle.script_core.specs.Reading.{first_of, rest_of, number_among, number_of, number_first, dimension_first, size_of_font, size_of_font_first, is_short, is_name, name_first, size_of, size_first, no_field_left, last_number, last_dimension, map_ok, chosen_size_of, font_of, penalty_of, penalty_first, last_penalty, amount_first, last_amount, opening, opening_with_register, opening_into, opening_of, shift_of, append_of, unboxing, glue, shrink_of, last_shrink_of, parts_of, glue_of, parameter_of, rule_of, command_named, command_of};
+ghost use Rattle.script_core.specs.Reading.{first_of, rest_of, number_among, number_of, number_first, dimension_first, size_of_font, size_of_font_first, is_short, is_name, name_first, size_of, size_first, no_field_left, last_number, last_dimension, map_ok, chosen_size_of, font_of, penalty_of, penalty_first, last_penalty, amount_first, last_amount, opening, opening_with_register, opening_into, opening_of, shift_of, append_of, unboxing, split_into, split_height, split_to, split_of, glue, shrink_of, last_shrink_of, parts_of, glue_of, parameter_of, rule_of, command_named, command_of};
 
 use crate::amounts::{Amount, amount_of};
 use crate::cause::Cause;
 use crate::lines::first_field;
 use crate::name::Name;
+use crate::parameter::{number_name, size_name, skip_name, with_number, with_size, with_skip};
 use command_core::{
-    BoxForm, BoxUse, Command, FontLoad, FontName, FontSize, Opening, Parameter, Register, Taking,
-    Target, Unboxing,
+    BoxForm, BoxUse, Command, FontLoad, FontName, FontSize, Opening, Parameter, Register,
+    Splitting, Taking, Target, Unboxing,
 };
 use node_core::{Glue, Kind, Number, Rule, RuleSize};
 use scaled_core::{Dimen, parse_dimen};
@@ -326,6 +327,55 @@ impl<'a> Fields<'a> {
         }))
     }
 
+    /// What stands behind `vsplit`: a register, `to` and a height, and `into` and a register.
+    #[tactic(auto, unfolding(crate::specs::Reading::split_of))]
+    fn split(&mut self) -> Result<Command, Cause>
+        ensures { result ≡ split_of (fields_of self.old.rest.now) }
+    {
+        let register = self.register()?;
+        self.split_to(register)
+    }
+
+    /// What stands behind the register of a split: `to`, and a height.
+    #[tactic(auto, unfolding(crate::specs::Reading::split_to))]
+    fn split_to(&mut self, register: Register) -> Result<Command, Cause>
+        ensures { result ≡ split_to register (fields_of self.old.rest.now) }
+    {
+        match self.field() {
+            Ok(b"to") => self.split_height(register),
+            Ok(_) => Err(Cause::Word),
+            Err(cause) => Err(cause),
+        }
+    }
+
+    /// The height of a split, and what stands behind it.
+    #[tactic(auto, unfolding(crate::specs::Reading::split_height))]
+    fn split_height(&mut self, register: Register) -> Result<Command, Cause>
+        ensures { result ≡ split_height register (fields_of self.old.rest.now) }
+    {
+        let height = self.dimen()?;
+        self.split_into(register, height)
+    }
+
+    /// What stands behind the height of a split: `into` and a register.
+    #[tactic(auto, unfolding(crate::specs::Reading::split_into))]
+    fn split_into(&mut self, register: Register, height: Dimen) -> Result<Command, Cause>
+        ensures { result ≡ split_into register height (fields_of self.old.rest.now) }
+    {
+        match self.field() {
+            Ok(b"into") => {
+                let into = self.last_register()?;
+                Ok(Command::Split(Splitting {
+                    register,
+                    height,
+                    into,
+                }))
+            }
+            Ok(_) => Err(Cause::Word),
+            Err(cause) => Err(cause),
+        }
+    }
+
     /// A glue as the last fields: its width, and its stretch, its shrink or both.
     #[tactic(auto, unfolding(crate::specs::Reading::glue_of))]
     fn glue(&mut self) -> Result<Glue, Cause>
@@ -378,19 +428,19 @@ impl<'a> Fields<'a> {
         ensures { result ≡ parameter_of (fields_of self.old.rest.now) }
     {
         let word = self.field()?;
-        if word == b"boxmaxdepth".as_slice() {
-            return self.last_dimen().map(Parameter::BoxMaxDepth);
+        if let Some(name) = size_name(word) {
+            let size = self.last_dimen()?;
+            return Ok(with_size(name, size));
         }
-        if word == b"baselineskip".as_slice() {
-            return self.glue().map(Parameter::BaselineSkip);
+        if let Some(name) = skip_name(word) {
+            let glue = self.glue()?;
+            return Ok(with_skip(name, glue));
         }
-        if word == b"lineskip".as_slice() {
-            return self.glue().map(Parameter::LineSkip);
-        }
-        if word == b"lineskiplimit".as_slice() {
-            return self.last_dimen().map(Parameter::LineSkipLimit);
-        }
-        Err(Cause::Word)
+        let Some(name) = number_name(word) else {
+            return Err(Cause::Word);
+        };
+        let number = self.last_penalty()?;
+        Ok(with_number(name, number))
     }
 
     /// What stands behind `rule`.
@@ -431,6 +481,7 @@ impl<'a> Fields<'a> {
             Name::Append(taking) => Ok(self.append(taking)),
             Name::Unbox(kind, taking) => Ok(self.unboxing(kind, taking)),
             Name::LastBox => Ok(self.last_register().map(Command::LastBox)),
+            Name::Split => Ok(self.split()),
             Name::Measure => Ok(self.last_register().map(Command::Measure)),
             Name::Void => Ok(self.last_register().map(Command::Void)),
             Name::Set => Ok(self.parameter().map(Command::Set)),

@@ -9,6 +9,7 @@ mod fields;
 pub mod laws;
 mod lines;
 mod name;
+mod parameter;
 mod script;
 
 pub use cause::Cause;

@@ -24,6 +24,7 @@ pub enum Name {
     /// `unhbox`, `unhcopy`, `unvbox` or `unvcopy`.
     Unbox(Kind, Taking),
     LastBox,
+    Split,
     Measure,
     Void,
     Set,
@@ -63,7 +64,7 @@ fn box_name(word: &[u8]) -> Option<Name>
     }
 }
 
-/// The name of a command that a word is, or None, of those that take the box of a register into a list or the last one out of it.
+/// The name of a command that a word is, or None, of those that take the box of a register into a list or the last one out of it, or split one.
 #[tactic(auto, unfolding(crate::specs::Names::register_name))]
 fn register_name(word: &[u8]) -> Option<Name>
     ensures { result ≡ register_name word.now }
@@ -76,6 +77,7 @@ fn register_name(word: &[u8]) -> Option<Name>
         b"unvbox" => Some(Name::Unbox(Kind::Vertical, Taking::Moved)),
         b"unvcopy" => Some(Name::Unbox(Kind::Vertical, Taking::Copied)),
         b"lastbox" => Some(Name::LastBox),
+        b"vsplit" => Some(Name::Split),
         _ => None,
     }
 }

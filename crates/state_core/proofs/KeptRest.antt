@@ -14,7 +14,7 @@ use Rattle.command_core.specs.declared.command.BoxUse.{BoxUse}
 use Rattle.command_core.specs.declared.command.Unboxing.{Unboxing}
 use Rattle.command_core.specs.declared.command.Refusal.{Refusal}
 use Rattle.command_core.specs.declared.command.Command.{Command}
-use Rattle.command_core.specs.declared.command.Command.TheVariants.{LoadFont, UseFont, Open, End, Text, Character, Rule, Kern, Glue, Penalty, Append, Unbox, LastBox, Measure, Void, Set, Ship}
+use Rattle.command_core.specs.declared.command.Command.TheVariants.{LoadFont, UseFont, Open, End, Text, Character, Rule, Kern, Glue, Penalty, Append, Unbox, LastBox, Split, Measure, Void, Set, Ship}
 
 pub record KeepsRest (s t : State) : Type 0 where
   pub files : t.files ≡ s.files
@@ -74,6 +74,7 @@ after_kept s (Penalty n) = record { files = refl; over = refl }
 after_kept s (Append taken) = by_rest s (after s (Append taken)) (append_keeps s taken)
 after_kept s (Unbox taken) = by_rest s (after s (Unbox taken)) (unbox_keeps s taken)
 after_kept s (LastBox r) = record { files = refl; over = refl }
+after_kept s (Split splitting) = record { files = refl; over = refl }
 after_kept s (Measure r) = record { files = refl; over = refl }
 after_kept s (Void r) = record { files = refl; over = refl }
 after_kept s (Set parameter) = record { files = refl; over = refl }

@@ -1,7 +1,9 @@
-pub mod EachOf
-pub mod Leaves
 pub mod KeptRest
 pub mod Refusals
+pub mod SplitParts
+pub mod SplitBoxes
 pub mod SizedGlyphs
 pub mod LoadedFonts
 pub mod TakenBoxes
+pub mod ShapedItems
+pub mod ShippedPages

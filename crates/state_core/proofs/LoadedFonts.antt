@@ -11,19 +11,19 @@ use Rattle.tfm_core.specs.Rules.{metric_file}
 use Rattle.tfm_core.specs.Fonts.{SizedFont, HasNumbers, chosen_size, fits_at, font_at, glyph_of}
 use Rattle.tfm_core.specs.FileWidths.{file_widths, widths_of_file, widths_by, width_at}
 use Rattle.tfm_core.proofs.ByteLemmas.{byte-glyph_of}
-use Rattle.dvi_write.specs.declared.fonts.LoadedFont.{LoadedFont}
+use Rattle.dvi_layout.specs.declared.fonts.LoadedFont.{LoadedFont}
 use Rattle.command_core.specs.declared.command.Command.{Command}
-use Rattle.command_core.specs.declared.command.Command.TheVariants.{LoadFont, UseFont, Open, End, Text, Character, Rule, Kern, Glue, Penalty, Append, Unbox, LastBox, Measure, Void, Set, Ship}
+use Rattle.command_core.specs.declared.command.Command.TheVariants.{LoadFont, UseFont, Open, End, Text, Character, Rule, Kern, Glue, Penalty, Append, Unbox, LastBox, Split, Measure, Void, Set, Ship}
 use Rattle.command_core.specs.declared.command.Refusal.{Refusal}
 use Rattle.command_core.specs.declared.command.Refusal.TheVariants.{DimensionTooLarge}
-use Rattle.dvi_write.specs.Fonts.{Slots, font_in}
+use Rattle.dvi_layout.specs.Fonts.{Slots, font_in}
 use Rattle.nest_core.specs.FontSlots.{sized_font, font_of, with_font}
 use Rattle.state_core.proofs.KeptRest.{KeepsRest, end_keeps, append_keeps, unbox_keeps}
 use Rattle.state_core.specs.Loaded.{IsLoaded, AreLoaded, GivesNumbersFor}
 use Rattle.nest_core.specs.State.{State, font_for}
 use Rattle.nest_core.specs.Checks.{checks, first_of}
 use Rattle.nest_core.specs.Effects.{after}
-use Rattle.state_core.proofs.EachOf.{each_set, each_copy, each_held, held_within}
+use Rattle.dvi_layout.proofs.EachOf.{each_set, each_copy, each_held, held_within}
 
 -- What a metric file gives: a font of its sizes, which fit.
 given_by : (b : Bool) (font other : SizedFont) → cond b (Ok font) (Err DimensionTooLarge) ≡ Ok other → (b ≡ true) × (font ≡ other)
@@ -77,6 +77,7 @@ loaded_after s (Penalty n) may gives loaded = loaded
 loaded_after s (Append taken) may gives loaded = still_loaded s (after s (Append taken)) (append_keeps s taken) loaded
 loaded_after s (Unbox taken) may gives loaded = still_loaded s (after s (Unbox taken)) (unbox_keeps s taken) loaded
 loaded_after s (LastBox r) may gives loaded = loaded
+loaded_after s (Split splitting) may gives loaded = loaded
 loaded_after s (Measure r) may gives loaded = loaded
 loaded_after s (Void r) may gives loaded = loaded
 loaded_after s (Set parameter) may gives loaded = loaded

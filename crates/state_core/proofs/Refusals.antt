@@ -8,20 +8,21 @@ use Rattle.tfm_core.specs.Rules.{metric_file}
 use Rattle.tfm_core.specs.Fonts.{SizedFont, chosen_size, fits_at, font_at}
 use Rattle.nest_core.specs.FontSlots.{font_of, sized_font}
 use Rattle.command_core.specs.declared.command.Command.{Command}
-use Rattle.command_core.specs.declared.command.Command.TheVariants.{LoadFont, UseFont, Open, End, Text, Character, Rule, Kern, Glue, Penalty, Append, Unbox, LastBox, Measure, Void, Set, Ship}
+use Rattle.command_core.specs.declared.command.Command.TheVariants.{LoadFont, UseFont, Open, End, Text, Character, Rule, Kern, Glue, Penalty, Append, Unbox, LastBox, Split, Measure, Void, Set, Ship}
 use Rattle.command_core.specs.declared.command.Answer.{Answer}
 use Rattle.command_core.specs.declared.command.Refusal.{Refusal}
 use Rattle.command_core.specs.declared.command.Refusal.TheVariants.{OutOfMemory, DimensionTooLarge, Device, JobOver}
 use Rattle.command_core.specs.declared.command.Summary.{Summary}
 use Rattle.command_core.specs.Reply.{Reply}
 use Rattle.node_core.specs.declared.params.Params.{Params}
+use Rattle.node_core.specs.declared.params.SplitParams.{SplitParams}
 use Rattle.node_core.specs.declared.tree.Kind.{Kind}
 use Rattle.node_core.specs.declared.tree.BoxNode.{BoxNode}
 use Rattle.pack_core.specs.declared.pack.Packed as packs
 use Rattle.nest_core.specs.declared.nest.OpenList.{OpenList}
 use Rattle.nest_core.specs.State.{State, innermost, outer, open_count, held_in}
 use Rattle.nest_core.specs.OpenLists.{register_of, packed_list}
-use Rattle.nest_core.specs.Checks.{box_checks, held_checks, home_checks, packed_checks, close_checks, items_checks, checks, first_of, refusal_in}
+use Rattle.nest_core.specs.Checks.{box_checks, held_checks, home_checks, packed_checks, close_checks, items_checks, split_checks, checks, first_of, refusal_in}
 use Rattle.nest_core.specs.Answers.{answer_of}
 use Rattle.nest_core.specs.Machine.{Machine, reply_by, reply_to, step}
 use Rattle.nest_core.specs.Runs.{early_checks, finish_checks, Finishes, Finished, Refuses, WantsMemory, LostDevice, TakesMemory, Steps, Replies, LacksMemory, LosesDevice, Run}
@@ -81,6 +82,10 @@ chosen_by_items : (kind : Kind) (count : ℕ) (held : Option BoxNode) → AreCho
 chosen_by_items kind count None = tt
 chosen_by_items kind count (Some b) = (tt, (tt, tt))
 
+chosen_by_split : (params : SplitParams) (height : ℤ) (held : Option BoxNode) → AreChosen (split_checks params height held)
+chosen_by_split params height None = tt
+chosen_by_split params height (Some b) = (tt, (tt, (tt, tt)))
+
 all_chosen : (s : State) (command : Command) → AreChosen (checks s command)
 all_chosen s (LoadFont load) = (tt, (tt, chosen_by_font (file_named load.name s.files) load.size))
 all_chosen s (UseFont slot) = (tt, (tt, tt))
@@ -95,6 +100,7 @@ all_chosen s (Penalty n) = (tt, (tt, (tt, tt)))
 all_chosen s (Append taken) = (tt, (tt, chosen_by_held s.params (innermost s.nest) (held_in s.registers taken.register)))
 all_chosen s (Unbox taken) = (tt, (tt, (tt, chosen_by_items taken.kind (open_count s) (held_in s.registers taken.register))))
 all_chosen s (LastBox r) = (tt, (tt, tt))
+all_chosen s (Split splitting) = (tt, chosen_by_split s.params.split splitting.height (held_in s.registers splitting.register))
 all_chosen s (Measure r) = (tt, tt)
 all_chosen s (Void r) = (tt, tt)
 all_chosen s (Set parameter) = (tt, tt)
@@ -150,6 +156,7 @@ over_early s (Penalty n) over = rw over refl
 over_early s (Append taken) over = rw over refl
 over_early s (Unbox taken) over = rw over refl
 over_early s (LastBox r) over = rw over refl
+over_early s (Split splitting) over = rw over refl
 over_early s (Measure r) over = rw over refl
 over_early s (Void r) over = rw over refl
 over_early s (Set parameter) over = rw over refl

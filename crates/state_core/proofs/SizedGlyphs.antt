@@ -24,26 +24,28 @@ use Rattle.dvi_ops.proofs.Appends.{all_append, all_weaker}
 use Rattle.pack_core.specs.declared.pack.Packed as packs
 use Rattle.pack_core.specs.declared.pack.TooLarge.{TooLarge}
 use Rattle.nest_core.specs.declared.nest.OpenList.{OpenList}
-use Rattle.dvi_write.specs.declared.fonts.LoadedFont.{LoadedFont}
+use Rattle.dvi_layout.specs.declared.fonts.LoadedFont.{LoadedFont}
 use Rattle.command_core.specs.declared.command.Command.{Command}
-use Rattle.command_core.specs.declared.command.Command.TheVariants.{LoadFont, UseFont, Open, End, Text, Character, Rule, Kern, Glue, Penalty, Append, Unbox, LastBox, Measure, Void, Set, Ship}
+use Rattle.command_core.specs.declared.command.Command.TheVariants.{LoadFont, UseFont, Open, End, Text, Character, Rule, Kern, Glue, Penalty, Append, Unbox, LastBox, Split, Measure, Void, Set, Ship}
 use Rattle.command_core.specs.declared.command.FontLoad.{FontLoad}
 use Rattle.command_core.specs.declared.command.Refusal.{Refusal}
 use Rattle.command_core.specs.declared.command.Refusal.TheVariants.{SlotTaken, TooDeep, JobOver}
-use Rattle.dvi_write.specs.Fonts.{Slots, font_in}
+use Rattle.dvi_layout.specs.Fonts.{Slots, font_in}
 use Rattle.nest_core.specs.FontSlots.{with_font, glyph_by, text_in, character_in, text_shaped, character_shaped}
-use Rattle.state_core.proofs.EachOf.{each_taken, each_set, each_at, each_copy, each_held}
-use Rattle.state_core.proofs.Leaves.{each_leaf}
+use Rattle.dvi_layout.proofs.EachOf.{each_taken, each_set, each_at, each_copy, each_held}
+use Rattle.dvi_layout.proofs.Leaves.{each_leaf}
 use Rattle.state_core.proofs.KeptRest.{KeepsRest, end_keeps, append_keeps, unbox_keeps}
 use Rattle.nest_core.proofs.PackedItems.{packed_items}
+use Rattle.state_core.proofs.SplitParts.{inner_nodes, rest_sound, front_sound}
 use Rattle.state_core.specs.Sized.{HasSizes, IsSizedLeaf, IsSoundBox, IsSized, AreSized, IsSizedList, IsSizedHeld, HasSizedGlyphs}
+use Rattle.command_core.specs.declared.command.Splitting.{Splitting}
 use Rattle.command_core.specs.declared.command.Taking.{Taking}
 use Rattle.command_core.specs.declared.command.Taking.TheVariants.{Moved, Copied}
 use Rattle.command_core.specs.declared.limits.TheConstants.{REGISTERS, MOST_DEEP}
 use Rattle.nest_core.specs.State.{State, first_state, innermost, outer, items_in, held_in, font_for}
 use Rattle.nest_core.specs.OpenLists.{glue_in, box_items, register_of, if_packed, packed_by, packed_list}
 use Rattle.nest_core.specs.Checks.{home_checks, packed_checks, close_checks, checks, first_of, refusal_in}
-use Rattle.nest_core.specs.Effects.{with_nodes, with_rule, with_items, with_box, without_last, with_taken, with_home, with_closed, with_used, with_unboxed, after}
+use Rattle.nest_core.specs.Effects.{with_nodes, with_rule, with_items, with_box, without_last, with_taken, with_home, with_closed, with_used, with_unboxed, with_split, after}
 
 -- A slot that has a font keeps it where another one is given a font.
 font_kept : (fonts : Slots) (other : ℕ) (font : LoadedFont) (slot : ℕ) (loaded : LoadedFont) → font_in fonts other ≡ None
@@ -96,6 +98,7 @@ stays_loaded s (Penalty n) may slot loaded is = is
 stays_loaded s (Append taken) may slot loaded is = still_loaded s (after s (Append taken)) slot loaded (append_keeps s taken) is
 stays_loaded s (Unbox taken) may slot loaded is = still_loaded s (after s (Unbox taken)) slot loaded (unbox_keeps s taken) is
 stays_loaded s (LastBox r) may slot loaded is = is
+stays_loaded s (Split splitting) may slot loaded is = is
 stays_loaded s (Measure r) may slot loaded is = is
 stays_loaded s (Void r) may slot loaded is = is
 stays_loaded s (Set parameter) may slot loaded is = is
@@ -329,6 +332,20 @@ closed_sized s (Some l) is may sized =
     packed_sized s l (packed_by l.purpose s.params l.list) (packed_items l.purpose s.params l.list) may sized
     (each_at (IsSizedList s.fonts) s.nest (length s.nest - 1) l sized.nest is)
 
+-- The parts of a box that is split.
+split_sized : (s : State) (splitting : Splitting) (held : Option BoxNode) → held_in s.registers splitting.register ≡ held → HasSizedGlyphs s
+    → HasSizedGlyphs (record s { registers = with_split s.params.split s.registers splitting held })
+split_sized s splitting None is sized = record { nest = sized.nest; registers = each_set (IsSizedHeld s.fonts) s.registers splitting.into None sized.registers tt }
+split_sized s splitting (Some b) is sized =
+    let inner = inner_nodes s.fonts b (sized_held s splitting.register b sized is) in
+    record {
+      nest = sized.nest;
+      registers =
+          each_set (IsSizedHeld s.fonts) _ splitting.into _
+          (each_set (IsSizedHeld s.fonts) s.registers splitting.register _ sized.registers (rest_sound s.fonts s.params.split splitting.height (nodes_of b.list) inner))
+          (front_sound s.fonts s.params.split splitting.height (nodes_of b.list) inner);
+    }
+
 -- A new job has no glyph.
 pub sized_first : (files : List NamedBytes) → HasSizedGlyphs (first_state files)
 sized_first files = record { nest = tt; registers = each_copy (IsSizedHeld (first_state files).fonts) REGISTERS None tt }
@@ -358,6 +375,7 @@ sized_after s (LastBox r) may sized =
       nest = nest_without_last s.fonts s.nest (innermost s.nest) sized.nest refl;
       registers = each_set (IsSizedHeld s.fonts) s.registers r _ sized.registers (last_of_nest s.fonts s.nest (innermost s.nest) sized.nest refl);
     }
+sized_after s (Split splitting) may sized = split_sized s splitting (held_in s.registers splitting.register) refl sized
 sized_after s (Measure r) may sized = sized
 sized_after s (Void r) may sized = record { nest = sized.nest; registers = each_set (IsSizedHeld s.fonts) s.registers r None sized.registers tt }
 sized_after s (Set parameter) may sized = record { nest = sized.nest; registers = sized.registers }

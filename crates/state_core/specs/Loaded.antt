@@ -3,12 +3,12 @@ use Rattle.std.specs.Prelude.{◌≡◌, List, length, Some, Ok, IfOk, IfSome}
 use Rattle.std.specs.List.{AllByRecursion}
 use Rattle.tfm_core.specs.NamedBytes.{NamedBytes, IsFontName, file_named}
 use Rattle.tfm_core.specs.Fonts.{HasNumbers}
-use Rattle.dvi_write.specs.declared.fonts.LoadedFont.{LoadedFont}
+use Rattle.dvi_layout.specs.declared.fonts.LoadedFont.{LoadedFont}
 use Rattle.command_core.specs.declared.command.FontLoad.{FontLoad}
 use Rattle.command_core.specs.declared.command.Command.{Command}
 use Rattle.command_core.specs.declared.command.Command.TheVariants.{LoadFont}
-use Rattle.dvi_write.specs.Fonts.{Slots}
-use Rattle.dvi_write.specs.declared.fonts.TheConstants.{FONT_SLOTS}
+use Rattle.dvi_layout.specs.Fonts.{Slots}
+use Rattle.dvi_layout.specs.declared.fonts.TheConstants.{FONT_SLOTS}
 use Rattle.nest_core.specs.FontSlots.{font_of}
 use Rattle.nest_core.specs.State.{State, font_for}
 

@@ -8,7 +8,7 @@ use Rattle.node_core.specs.declared.tree.BoxNode.{BoxNode}
 use Rattle.node_core.specs.Items.{Leaf, IfGlyph, EachLeaf}
 use Rattle.node_core.specs.Nodes.{nodes_of, box_depth}
 use Rattle.nest_core.specs.declared.nest.OpenList.{OpenList}
-use Rattle.dvi_write.specs.Fonts.{Slots, font_in}
+use Rattle.dvi_layout.specs.Fonts.{Slots, font_in}
 use Rattle.nest_core.specs.FontSlots.{glyph_by}
 use Rattle.command_core.specs.declared.limits.TheConstants.{MOST_DEEP}
 use Rattle.nest_core.specs.State.{State}

@@ -8,8 +8,8 @@ use Rattle.node_core.specs.contracts.params.Params as params_code
 use Rattle.nest_core.specs.declared.nest.OpenList.{OpenList}
 use Rattle.nest_core.specs.contracts.nest.OpenList as open_list
 use Rattle.tfm_core.specs.NamedBytes.{NamedBytes}
-use Rattle.dvi_write.specs.declared.fonts.LoadedFont.{LoadedFont}
-use Rattle.dvi_write.specs.contracts.fonts.LoadedFont as loaded_font
+use Rattle.dvi_layout.specs.declared.fonts.LoadedFont.{LoadedFont}
+use Rattle.dvi_layout.specs.contracts.fonts.LoadedFont as loaded_font
 use Rattle.nest_core.specs.State.{State}
 
 -- How a font file is stored: its name and its bytes.

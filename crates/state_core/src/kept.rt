@@ -2,7 +2,7 @@
 
 ghost use Rattle.std.specs.Prelude.{◌≡◌, ◌==◌, ◌<◌, ◌≤◌, ◌+◌, ◌∷◌, [], not, true, false, None, Some, IfOk, IfErr, OnOk, OnErr, IsSome, length};
 ghost use Rattle.command_core.specs.declared.command.Command.TheVariants as commands;
-ghost use Rattle.dvi_write.specs.Fonts.{font_in};
+ghost use Rattle.dvi_layout.specs.Fonts.{font_in};
 ghost use Rattle.state_core.specs.Loaded.{GivesNumbers};
 ghost use Rattle.node_core.specs.Nodes.{most_nodes, nodes_of};
 ghost use Rattle.nest_core.specs.EmptiedNest.{refilled_nest};
@@ -16,13 +16,13 @@ ghost use Rattle.nest_core.specs.Runs.{early_checks};
 
 use command_core::limits::{MOST_DEEP, MOST_ITEMS, MOST_OPEN, MOST_PAGES, MOST_SHIPPED};
 use command_core::{
-    Answer, BoxUse, Characters, FontLoad, Opening, Parameter, Refusal, Register, Reply, Sizes,
+    Answer, BoxUse, Characters, FontLoad, Opening, Parameter, Refusal, Register, Reply, Splitting,
     Taking, Unboxing,
 };
-use dvi_write::{Fonts, LoadedFont};
+use dvi_layout::{Fonts, LoadedFont};
 use nest_core::fonts::read_font;
 use nest_core::nest::Nest;
-use nest_core::registers::Registers;
+use nest_core::registers::{Registers, sizes_of};
 use node_core::{BoxNode, Kind, Node, Params, Rule, RuleSize};
 use pack_core::Packed;
 use scaled_core::Dimen;
@@ -434,6 +434,18 @@ impl Kept {
         Ok(Answer::Done)
     }
 
+    /// Splits the vbox of a register: what is left goes back into it, and then the front into the other one.
+    pub fn split(&mut self, splitting: &Splitting) -> Result<Reply, AllocError>
+        requires { self.old.over ≡ false }
+        ensures reply { IfOk result (λ reply. reply ≡ reply_to self.old (commands.Split splitting.now)) }
+        ensures state { OnOk result (self.new ≡ state_after self.old (commands.Split splitting.now)) }
+        ensures err { OnErr result (self.new ≡ self.old) }
+        ensures admitted { OnErr result (first_of (checks self.old (commands.Split splitting.now)) ≡ None) }
+        ensures takes { OnErr result (IsSome (held_in self.old.registers splitting.now.register)) }
+    {
+        self.registers.split(splitting, &self.params.split)
+    }
+
     /// Packs the innermost list, and puts the box into its register or behind the list around it.
     pub fn end(&mut self) -> Result<Reply, AllocError>
         requires { self.old.over ≡ false }
@@ -535,6 +547,17 @@ impl Kept {
             Parameter::BaselineSkip(glue) => self.params.baseline_skip = glue,
             Parameter::LineSkip(glue) => self.params.line_skip = glue,
             Parameter::LineSkipLimit(limit) => self.params.line_skip_limit = limit,
+            Parameter::SplitMaxDepth(depth) => self.params.split.split_max_depth = depth,
+            Parameter::SplitTopSkip(glue) => self.params.split.split_top_skip = glue,
+            Parameter::Hsize(size) => self.params.hsize = size,
+            Parameter::ParFillSkip(glue) => self.params.par_fill_skip = glue,
+            Parameter::Pretolerance(number) => self.params.pretolerance = number,
+            Parameter::Tolerance(number) => self.params.tolerance = number,
+            Parameter::LinePenalty(number) => self.params.line_penalty = number,
+            Parameter::AdjDemerits(number) => self.params.adj_demerits = number,
+            Parameter::ClubPenalty(number) => self.params.club_penalty = number,
+            Parameter::WidowPenalty(number) => self.params.widow_penalty = number,
+            Parameter::InterlinePenalty(number) => self.params.interline_penalty = number,
         }
         Ok(Answer::Done)
     }
@@ -574,17 +597,6 @@ impl Kept {
         self.pages += 1;
         self.registers.put(register, None);
         self.pages
-    }
-}
-
-/// The sizes of a box.
-fn sizes_of(box_node: &BoxNode) -> Sizes
-    ensures { result ≡ sizes_of box_node.now }
-{
-    Sizes {
-        width: box_node.width,
-        height: box_node.height,
-        depth: box_node.depth,
     }
 }
 

@@ -3,8 +3,8 @@
 ghost use Rattle.std.specs.Prelude.{Some};
 
 use job_core::{
-    Answer, BoxForm, Command, Device, DeviceFault, FontFile, Job, Opening, Refusal, Register,
-    Summary, Target,
+    BoxForm, Command, Device, DeviceFault, FontFile, Job, Opening, Refusal, Register, Summary,
+    Target,
 };
 use node_core::{Rule, RuleSize};
 use scaled_core::Dimen;
@@ -60,24 +60,31 @@ fn hbox() -> Command {
     })
 }
 
-/// A page of a rule 1pt wide and high is shipped.
-fn ship_a_rule(job: &mut Job<Dripping>, point: Dimen) -> Result<Answer, Refusal> {
+/// Whether a command of a job is taken.
+fn is_taken(job: &mut Job<Dripping>, command: &Command) -> bool {
+    job.step(command).is_ok()
+}
+
+/// Whether a page of a rule 1pt wide and high is shipped.
+fn ships_a_rule(job: &mut Job<Dripping>, point: Dimen) -> bool {
     let rule = Rule {
         width: RuleSize::Fixed(point),
         height: RuleSize::Fixed(point),
         depth: RuleSize::Fixed(Dimen::ZERO),
     };
-    job.step(&hbox())?;
-    job.step(&Command::Rule(rule))?;
-    job.step(&Command::End)?;
-    job.step(&Command::Ship(Register::FIRST))
+    is_taken(job, &hbox())
+        && is_taken(job, &Command::Rule(rule))
+        && is_taken(job, &Command::End)
+        && is_taken(job, &Command::Ship(Register::FIRST))
 }
 
 /// A job with that page on a device that fails at one call: how it ended, and how many bytes went out.
 fn end_and_bytes(alloc: Global, fails_at: u64) -> Option<(Result<Summary, Refusal>, usize)> {
     let point = Dimen::try_new(65_536)?;
     let mut job = job(alloc, &[], fails_at)?;
-    ship_a_rule(&mut job, point).ok()?;
+    if !ships_a_rule(&mut job, point) {
+        return None;
+    }
     let end = job.finish();
     Some((end, job.into_device().bytes.len()))
 }

@@ -2,8 +2,14 @@
 #![tactic(auto)]
 
 #[cfg(test)]
+mod all_breaks;
+#[cfg(test)]
 mod bitmaps;
 pub mod changed_bytes;
+#[cfg(test)]
+mod counted_breaks;
+#[cfg(test)]
+mod driver;
 #[cfg(test)]
 mod font_files;
 #[cfg(test)]
@@ -13,11 +19,17 @@ mod interline;
 #[cfg(test)]
 mod jobs;
 #[cfg(test)]
+mod listings;
+#[cfg(test)]
 mod nodes;
 #[cfg(test)]
 mod packing;
 #[cfg(test)]
 mod pages;
+#[cfg(test)]
+mod paragraph_lines;
+#[cfg(test)]
+mod paragraphs;
 #[cfg(test)]
 mod reused_bodies;
 #[cfg(test)]
@@ -28,3 +40,5 @@ mod scaled_values;
 mod scripts;
 #[cfg(test)]
 mod shaped_texts;
+#[cfg(test)]
+mod splitting;

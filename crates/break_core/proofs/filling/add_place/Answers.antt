@@ -1,4 +1,4 @@
-use Rattle.std.proofs.Common.{◌≡◌, ◌∙◌, ◌≤◌, ◌+◌, ◌++◌, [], ◌∷◌, length, cond, refl, ap, sym, subst, arith, rules}
+use Rattle.std.proofs.Common.{◌≡◌, ◌∙◌, ◌+◌, ◌++◌, [], ◌∷◌, length, cond, refl, ap, sym, subst, rules}
 use Rattle.break_table.specs.declared.group.Group.{Group}
 use Rattle.break_table.specs.Tables.{IsRow, held_in}
 use Rattle.break_core.specs.Legal.{is_forced}

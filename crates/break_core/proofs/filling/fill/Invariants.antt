@@ -1,4 +1,4 @@
-use Rattle.std.proofs.Common.{◌≡◌, ◌≤◌, ◌+◌, ℕ}
+use Rattle.std.proofs.Common.{◌≡◌, ◌+◌}
 use Rattle.break_core.specs.Passes.{problem_of}
 use Rattle.break_core.specs.Filling.{IsFilled, IsGrown}
 use Rattle.break_core.proofs.filling.fill.Given as goal

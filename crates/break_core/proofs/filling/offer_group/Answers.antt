@@ -2,7 +2,7 @@ use Rattle.std.proofs.Common.{◌≡◌, ◌∙◌, ◌≤◌, to_z, of_z, w32, 
 use Rattle.std.proofs.lemmas.Int.{ints}
 use Rattle.std.proofs.lemmas.Option.{slice_get_read}
 use Rattle.break_table.specs.Ways.{since}
-use Rattle.break_core.specs.Costs.{line_of}
+use Rattle.break_cost.specs.Costs.{line_of}
 use Rattle.break_core.specs.Filling.{IsOffering}
 use Rattle.break_core.proofs.filling.offer_group.Goals as goal
 

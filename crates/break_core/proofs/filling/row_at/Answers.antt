@@ -1,8 +1,6 @@
-use Rattle.std.proofs.Common.{◌≡◌, ◌∙◌, ◌≤◌, ◌+◌, length, refl, ap, sym, subst, arith}
+use Rattle.std.proofs.Common.{◌∙◌, length, refl, ap, sym, subst, arith}
 use Rattle.std.specs.Prelude.{slice_index_or}
 use Rattle.std.proofs.lemmas.Option.{slice_get-get_or}
-use Rattle.break_table.specs.declared.group.Group.{Group}
-use Rattle.break_table.specs.Problems.{Problem}
 use Rattle.break_table.specs.Tables.{IsRow}
 use Rattle.break_table.proofs.Rows.{row_empty, row_silent}
 use Rattle.break_core.specs.Passes.{problem_of}

@@ -1,4 +1,4 @@
-use Rattle.std.proofs.Common.{◌≡◌, ◌≤◌, ℕ, length, drop}
+use Rattle.std.proofs.Common.{◌≡◌, ℕ, length, drop}
 use Rattle.break_table.specs.Tables.{slots, IsRow}
 use Rattle.break_table.specs.Live.{IsLive}
 use Rattle.break_core.specs.Passes.{problem_of}

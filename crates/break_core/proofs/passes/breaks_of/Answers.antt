@@ -1,4 +1,4 @@
-use Rattle.std.proofs.Common.{◌≡◌, ◌∙◌, refl, ap, sym, subst}
+use Rattle.std.proofs.Common.{sym, subst}
 use Rattle.break_core.specs.Passes.{bound_of}
 use Rattle.break_core.specs.Filling.{AreWithin}
 use Rattle.break_core.proofs.Admitting.{answer_within}

@@ -1,5 +1,4 @@
 use Rattle.std.proofs.Common.{◌≡◌, ◌∙◌, ◌+◌, ◌++◌, [], ◌∷◌, take, map, refl, ap, sym, subst, arith}
-use Rattle.node_core.specs.Nodes.{most_nodes}
 use Rattle.break_core.specs.Legal.{up_to}
 use Rattle.break_core.specs.Kept.{sums_of, plus}
 use Rattle.break_core.specs.Small.{IsPrefix, ArePrefixes}

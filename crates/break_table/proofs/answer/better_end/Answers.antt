@@ -1,5 +1,4 @@
-use Rattle.std.proofs.Common.{◌≡◌, ◌<◌, ◌∙◌, Some, None, length, refl, ap, sym, subst, arith, rules, MatchOption}
-use Rattle.std.specs.Prelude.{slice_get}
+use Rattle.std.proofs.Common.{◌<◌, ◌∙◌, length, refl, ap, sym, subst, rules}
 use Rattle.std.proofs.lemmas.Option.{slice_get_read, slice_get_within, same_Some, MatchOption-at_some, MatchOption-at_none}
 use Rattle.break_table.specs.Orders.{NotAfter}
 use Rattle.break_table.specs.Tables.{short, IsBestEnd, HasNoEnd}

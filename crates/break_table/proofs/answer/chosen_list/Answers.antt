@@ -1,9 +1,7 @@
-use Rattle.std.proofs.Common.{◌≡◌, ◌<◌, ◌∙◌, ◌+◌, Some, None, length, reverse, refl, ap, sym, subst, arith, rules}
-use Rattle.std.specs.Prelude.{slice_get}
-use Rattle.std.proofs.lemmas.Option.{slice_get_read, slice_get_within, same_Some}
-use Rattle.std.proofs.lemmas.List.{reverse-reverse}
+use Rattle.std.proofs.Common.{◌<◌, ◌+◌, length, refl, sym, subst, arith, rules}
+use Rattle.std.proofs.lemmas.Option.{slice_get_read, slice_get_within}
 use Rattle.std.proofs.lemmas.Int.{ints}
-use Rattle.break_table.specs.Tables.{IsTable, IsBestEnd, HasNoEnd}
+use Rattle.break_table.specs.Tables.{IsTable, HasNoEnd}
 use Rattle.break_table.proofs.Bellman.{answered, admits_none}
 use Rattle.std.specs.Int.{w64}
 use Rattle.std.proofs.Common.{to_z, of_z}

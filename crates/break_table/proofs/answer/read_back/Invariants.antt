@@ -1,4 +1,4 @@
-use Rattle.std.proofs.Common.{◌≡◌, ◌<◌, length}
+use Rattle.std.proofs.Common.{◌<◌, length}
 use Rattle.break_table.specs.Tables.{IsReading}
 use Rattle.break_table.proofs.answer.read_back.Given as goal
 

@@ -1,4 +1,4 @@
-use Rattle.std.proofs.Common.{◌≡◌, ◌∙◌, ◌+◌, ◌++◌, List, [], ◌∷◌, Option, Some, None, take, refl, ap, sym}
+use Rattle.std.proofs.Common.{◌≡◌, ◌∙◌, ◌++◌, List, [], ◌∷◌, Option, Some, None, take, refl, ap, sym}
 use Rattle.std.proofs.lemmas.List.{append_assoc}
 use Rattle.break_table.specs.Tables.{Entry, held_in}
 use Rattle.break_table.proofs.Rows.{held_in_more}

@@ -38,3 +38,10 @@ returns-in-lastbox c =
     let word : c.args.word.now ≡ codes "lastbox" =
     seven c.args.word.now 108 97 115 116 98 111 120 (omega arith) (omega arith) (omega arith) (omega arith) (omega arith) (omega arith) (omega arith) (omega arith) in
     rw word refl
+
+pub returns-in-vsplit : goal.returns-in-vsplit
+unfolding register_name
+returns-in-vsplit c =
+    let word : c.args.word.now ≡ codes "vsplit" =
+    six c.args.word.now 118 115 112 108 105 116 (omega arith) (omega arith) (omega arith) (omega arith) (omega arith) (omega arith) (omega arith) in
+    rw word refl

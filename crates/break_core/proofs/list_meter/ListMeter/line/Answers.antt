@@ -1,5 +1,5 @@
-use Rattle.std.proofs.Common.{◌≡◌, ◌∙◌, ◌+◌, ◌<◌, ◌≤◌, length, take, refl, ap, sym, subst, arith, rules}
-use Rattle.break_core.specs.Kept.{first_kept, kept, sums_of, minus}
+use Rattle.std.proofs.Common.{◌∙◌, ◌<◌, length, take, ap, sym, arith, rules}
+use Rattle.break_core.specs.Kept.{sums_of, minus}
 use Rattle.break_core.specs.Passes.{begins_at, position_of}
 use Rattle.break_core.proofs.KeptSums.{kept_nothing, kept_some}
 use Rattle.break_core.proofs.Places.{begins_before}

@@ -1,6 +1,6 @@
 use Rattle.std.proofs.Common.{◌≢◌, length, refl, ap, ap₂, sym, ◌∙◌, arith}
 use Rattle.job_core.proofs.Endings.{may_finish, over_refused, open_refused, finished, losing, sent_all, sent_part, sent_none}
-use Rattle.job_core.specs.Told.{grown}
+use Rattle.device_core.specs.Told.{grown}
 use Rattle.dvi_write.specs.Draft.{whole}
 use Rattle.job_core.proofs.Moves.{small_enough}
 use Rattle.job_core.proofs.FinishedFiles.{filed_pages, filed_end, no_pages}

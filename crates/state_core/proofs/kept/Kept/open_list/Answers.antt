@@ -1,4 +1,7 @@
-use Rattle.std.proofs.Common.{rules, ◌≡◌, ◌++◌, ◌∷◌, [], false, None, List, ◌∙◌, ap, refl}
+use Rattle.std.proofs.Common.{◌≡◌, ◌==◌, ◌++◌, ◌∷◌, [], ℕ, Bool, true, false, Option, Some, None, List, length, ◌∙◌, ap, sym, refl, arith}
+use Rattle.std.specs.Prelude.{◌&&◌, not, is_none, is_some, nat_le}
+use Rattle.std.proofs.lemmas.Bool.{ne_eqb, lt-leb}
+use Rattle.command_core.specs.declared.limits.TheConstants.{MOST_OPEN}
 use Rattle.command_core.specs.declared.command.Opening.{Opening}
 use Rattle.command_core.specs.declared.command.Command.TheVariants as commands
 use Rattle.nest_core.specs.declared.nest.OpenList.{OpenList}
@@ -7,6 +10,20 @@ use Rattle.nest_core.specs.OpenLists.{opened_list}
 use Rattle.nest_core.specs.Checks.{open_checks, first_of}
 use Rattle.nest_core.specs.Machine.{state_after}
 use Rattle.state_core.proofs.kept.Kept.open_list.Goals as goal
+use Rattle.state_core.proofs.kept.Kept.open_list.Goals.{else-is_none-via-then-is_none+else-count-eq0, else-is_none-via-else-is_none}
+
+-- Nothing speaks against a list that is opened.
+opened_free : (nest : List OpenList) (into : Option ℕ) (count : ℕ) → count ≡ length nest → (is_none into && (count == 0)) ≡ false → nat_le MOST_OPEN count ≡ false
+    → first_of (open_checks nest into) ≡ None
+opened_free nest into count is here few = rw (sym is, here, few) refl
+
+none_and_some : (into : Option ℕ) (count : ℕ) → (count == 0) ≡ false → (is_none into && (count == 0)) ≡ false
+none_and_some None count is = is
+none_and_some (Some r) count is = refl
+
+some_into : (into : Option ℕ) (count : ℕ) (none : Bool) → is_some into ≡ not none → none ≡ false → (is_none into && (count == 0)) ≡ false
+some_into None count none tells is = absurd (let e : false ≡ not none = tells in let f : false ≡ true = e ∙ ap not is in cc)
+some_into (Some r) count none tells is = refl
 
 -- A list that nothing refuses is opened behind the others.
 opened : (s : State) (opening : Opening) (now : List OpenList) → s.over ≡ false → first_of (open_checks s.nest opening.into) ≡ None
@@ -17,7 +34,10 @@ pub returns-clause-state : goal.returns-clause-state
 returns-clause-state c =
     let s = c.args.self.now in
     let nest : c.self.inside.nest ≡ s.nest = ap (λ (t : State). t.nest) c.self.view_is in
-    let none : first_of (open_checks s.nest c.args.opening.into) ≡ None = search rules in
+    let none : first_of (open_checks s.nest c.args.opening.into) ≡ None =
+    opened_free s.nest c.args.opening.into c.len-count.result (c.len-count.ensures.value ∙ ap length nest)
+    (elim c.else-is_none.branch [ else-is_none-via-then-is_none+else-count-eq0 w ↦ none_and_some c.args.opening.into c.len-count.result (ne_eqb c.len-count.result 0 w.if-count-eq0.false) | else-is_none-via-else-is_none w ↦ some_into c.args.opening.into c.len-count.result c.is_none.result c.is_none.ensures w.if-is_none.false ])
+    (lt-leb MOST_OPEN c.len-count.result (omega (arith, c.if-count-ge-MOST_OPEN.false))) in
     ap (λ (t : State). record t { nest = c.begin.new.self }) c.self.view_is
     ∙ opened s c.args.opening c.begin.new.self c.requires none
     (c.in_ok-begin.ensures.ok ∙ ap (λ (lists : List OpenList). lists ++ opened_list c.args.opening ∷ []) nest)

@@ -1,0 +1,13 @@
+use Rattle.std.proofs.Common.{sym, subst}
+use Rattle.break_core.specs.Passes.{bound_of}
+use Rattle.break_core.specs.Filling.{AreWithin}
+use Rattle.break_core.proofs.Admitting.{answer_within}
+use Rattle.active_breaks.proofs.passes.active_breaks.Goals as goal
+
+pub line_ends-requires : goal.line_ends-requires
+line_ends-requires g c =
+    let is = answer_within (g.M.Meter.facts c.args.meter.now) c.args.params.now (bound_of c.args.params.now c.in_ok-pass.pass) c.in_ok-pass.least c.in_ok-pass.ensures.decided.answer in
+    record {
+      within = subst (λ f. AreWithin f c.deref.result.now) (sym c.in_ok-pass.ensures.facts)
+          (subst (λ xs. AreWithin (g.M.Meter.facts c.args.meter.now) xs) (sym c.deref.ensures.value) is);
+    }

@@ -1,0 +1,32 @@
+-- Lists whose lines are known (own).
+use Rattle.std.specs.Prelude.{ℕ, pos, negsuc, List, [], ◌∷◌}
+use Rattle.node_core.specs.declared.tree.Node.{Node}
+use Rattle.node_core.specs.declared.tree.Node.TheVariants as nodes
+use Rattle.node_core.specs.declared.tree.Order.TheVariants.{Normal}
+use Rattle.node_core.specs.declared.tree.RuleSize.TheVariants.{Fixed}
+use Rattle.node_core.specs.Parameters.{first_params}
+use Rattle.break_cost.specs.Examples.{points}
+
+-- A rule that is so many points wide and 1pt high.
+abbrev pub rule : (width : ℕ) → Node
+rule width = nodes.Rule (record { width = Fixed (points width); height = Fixed (points 1); depth = Fixed (pos 0) })
+
+-- Glue of 5pt that stretches by 15pt.
+abbrev pub space : Node
+space = nodes.Glue (record { width = points 5; stretch = points 15; stretch_order = Normal; shrink = pos 0; shrink_order = Normal })
+
+-- The end of a paragraph of a new job.
+abbrev pub paragraph_end : List Node
+paragraph_end = nodes.Penalty (pos 10000) ∷ nodes.Glue first_params.par_fill_skip ∷ []
+
+-- Five rules with glue between them.
+abbrev pub five_rules : List Node
+five_rules = rule 10 ∷ space ∷ rule 10 ∷ space ∷ rule 10 ∷ space ∷ rule 25 ∷ space ∷ rule 30 ∷ paragraph_end
+
+-- Two rules with a kern and glue between them.
+abbrev pub kern_and_glue : List Node
+kern_and_glue = rule 40 ∷ nodes.Kern (points 5) ∷ space ∷ rule 40 ∷ paragraph_end
+
+-- Two rules, and between them glue with a penalty before and behind it that breaks a line.
+abbrev pub glue_among_penalties : List Node
+glue_among_penalties = rule 40 ∷ nodes.Penalty (negsuc 9999) ∷ space ∷ nodes.Penalty (negsuc 9999) ∷ rule 10 ∷ paragraph_end

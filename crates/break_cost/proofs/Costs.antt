@@ -1,0 +1,57 @@
+-- What a line costs.
+use Rattle.std.proofs.Common.{◌≡◌, ◌∙◌, zero, suc, ◌*◌, ◌≤◌, refl, ap, sym, arith}
+use Rattle.std.specs.Prelude.{ℤ, pos, negsuc, neg_ℤ, ◌+ℤ◌, ◌-ℤ◌, ◌*ℤ◌, ◌<ℤ◌, ◌≤ℤ◌}
+use Rattle.std.proofs.lemmas.Int.{ints}
+use Rattle.std.proofs.Math.Nat.{mul-le-mul}
+use Rattle.std.proofs.Math.IntN.{pos-*ℤ-pos, negsuc-*ℤ-negsuc}
+use Rattle.scaled_core.specs.Dimensions.{Within}
+use Rattle.node_core.specs.declared.params.Params.{Params}
+use Rattle.break_table.specs.declared.state.Class.{Class}
+use Rattle.break_cost.specs.declared.sums.Sums.{Sums}
+use Rattle.break_cost.specs.declared.cost.Judged.{Judged}
+use Rattle.break_cost.specs.Costs.{judged_short, judged_long, judged_by, judged, base_demerits, penalty_demerits, adjacent_demerits, demerits_of}
+
+pub by_short : (sums : Sums) (s : ℤ) → pos 0 <ℤ s → judged_by sums s ≡ judged_short sums s
+unfolding judged_by
+by_short sums (pos (suc n)) h = refl
+by_short sums (pos zero) h = absurd (omega (arith, ints))
+by_short sums (negsuc n) h = absurd (omega (arith, ints))
+
+pub by_long : (sums : Sums) (s t : ℤ) → s ≤ℤ pos 0 → t ≡ neg_ℤ s → judged_by sums s ≡ judged_long sums t
+unfolding judged_by
+by_long sums (pos (suc n)) t h is = absurd (omega (arith, ints))
+by_long sums (pos zero) t h is = ap (judged_long sums) (sym is)
+by_long sums (negsuc n) t h is = ap (judged_long sums) (sym is)
+
+pub square_small : (z : ℤ) → Within 10000 z → Within 100000000 (z *ℤ z)
+square_small (pos n) h =
+    let low : n ≤ 10000 = omega (arith, ints, h.high) in
+    let most : n * n ≤ 10000 * 10000 = mul-le-mul low low in
+    let same = pos-*ℤ-pos n n in
+    record { low = omega (arith, ints, same, most); high = omega (arith, ints, same, most) }
+square_small (negsuc n) h =
+    let low : suc n ≤ 10000 = omega (arith, ints, h.low) in
+    let most : suc n * suc n ≤ 10000 * 10000 = mul-le-mul low low in
+    let same = negsuc-*ℤ-negsuc n n in
+    record { low = omega (arith, ints, same, most); high = omega (arith, ints, same, most) }
+
+pub sum_is :
+    (params : Params) (penalty p : ℤ) (before : Class) (line : Judged) (b x a : ℤ)
+    → b ≡ base_demerits params line.badness → x ≡ penalty_demerits p → p ≡ penalty → a ≡ adjacent_demerits params before line.class
+    → (b +ℤ x) +ℤ a ≡ demerits_of params penalty before line
+unfolding demerits_of
+sum_is params penalty p before line b x a is_b is_x is_p is_a =
+    ap (λ y. (y +ℤ x) +ℤ a) is_b ∙ ap (λ y. (base_demerits params line.badness +ℤ y) +ℤ a) (is_x ∙ ap penalty_demerits is_p)
+    ∙ ap (λ y. (base_demerits params line.badness +ℤ penalty_demerits penalty) +ℤ y) is_a
+
+pub short_is :
+    (sums : Sums) (size x : ℤ) (r : Judged) → r ≡ judged_short sums x → x ≡ (size -ℤ sums.width) → pos 0 <ℤ x → r ≡ judged sums size
+unfolding judged
+short_is sums size x r is same some =
+    is ∙ sym (by_short sums x some) ∙ ap (judged_by sums) same
+
+pub long_is :
+    (sums : Sums) (size x : ℤ) (r : Judged)
+    → r ≡ judged_long sums x → x ≡ neg_ℤ (size -ℤ sums.width) → (size -ℤ sums.width) ≤ℤ pos 0 → r ≡ judged sums size
+unfolding judged
+long_is sums size x r is same none = is ∙ sym (by_long sums (size -ℤ sums.width) x none same)

@@ -1,0 +1,3 @@
+-- Lemmas on the cost of a line.
+pub mod Costs
+pub mod Bounds

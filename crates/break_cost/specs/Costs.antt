@@ -1,0 +1,95 @@
+-- What a line costs: how bad it is, its class, its overhang and its demerits (TeX: The Program, part 38, §851 to §853 and §859).
+use Rattle.std.specs.Prelude.{◌+◌, ◌+ℤ◌, ◌-ℤ◌, ◌*ℤ◌, neg_ℤ, ℕ, zero, suc, ℤ, pos, negsuc, Bool, true, false, not, ◌&&◌, ◌||◌, nat_lt, nat_le, int_lt, int_le, unsigned_abs, Option, Some, None, if◌then◌else◌}
+use Rattle.scaled_core.specs.Badness.{badness_of}
+use Rattle.pack_core.specs.Glue.{is_zero}
+use Rattle.node_core.specs.declared.params.Params.{Params}
+use Rattle.break_table.specs.declared.state.Class.{Class}
+use Rattle.break_table.specs.declared.state.Class.TheVariants.{VeryLoose, Loose, Decent, Tight}
+use Rattle.break_table.specs.declared.state.Line.{Line}
+use Rattle.break_table.specs.Problems.{rank}
+use Rattle.break_cost.specs.declared.sums.Sums.{Sums}
+use Rattle.break_cost.specs.declared.cost.Judged.{Judged}
+use Rattle.break_cost.specs.declared.cost.Bound.{Bound}
+use Rattle.break_cost.specs.declared.cost.Bound.TheVariants.{Any, AtMost}
+
+-- The class of a line that is stretched, by its badness.
+unfoldable pub stretched_class : (badness : ℕ) → Class
+stretched_class badness = if nat_lt 99 badness then VeryLoose else (if nat_lt 12 badness then Loose else Decent)
+
+-- The class of a line that is shrunk, by its badness.
+unfoldable pub shrunk_class : (badness : ℕ) → Class
+shrunk_class badness = if nat_lt 12 badness then Tight else Decent
+
+-- Whether there is stretch of an infinite order.
+unfoldable pub stretches_forever : Sums → Bool
+stretches_forever sums = not (is_zero sums.fil) || (not (is_zero sums.fill) || not (is_zero sums.filll))
+
+-- A line that is too short by an amount above 0: stretch of an infinite order fills it.
+unfoldable pub judged_short : Sums → (amount : ℤ) → Judged
+judged_short sums amount =
+    if stretches_forever sums then record { overfull = false; badness = 0; class = Decent; overhang = pos 0 }
+    else record {
+      overfull = false;
+      badness = badness_of amount sums.stretch;
+      class = stretched_class (badness_of amount sums.stretch);
+      overhang = pos 0;
+    }
+
+-- A line that is too long by an amount, or fits: it is overfull if it can't shrink by so much, and then hangs over by the rest (own: the badness and the
+-- class of an overfull line).
+unfoldable pub judged_long : Sums → (amount : ℤ) → Judged
+judged_long sums amount =
+    if int_lt sums.shrink amount then record { overfull = true; badness = 10000; class = Tight; overhang = amount -ℤ sums.shrink }
+    else record {
+      overfull = false;
+      badness = badness_of amount sums.shrink;
+      class = shrunk_class (badness_of amount sums.shrink);
+      overhang = pos 0;
+    }
+
+-- How a line is set whose items have these sums, by how much it is too short.
+unfoldable pub judged_by : Sums → (shortfall : ℤ) → Judged
+judged_by sums (pos (suc n)) = judged_short sums (pos (suc n))
+judged_by sums (pos zero) = judged_long sums (pos 0)
+judged_by sums (negsuc n) = judged_long sums (pos (suc n))
+
+-- How a line of that size is set whose items have these sums.
+unfoldable pub judged : Sums → (size : ℤ) → Judged
+judged sums size = judged_by sums (size -ℤ sums.width)
+
+-- The demerits of a line by its badness: the square of it and linepenalty together, and at most 10 ^ 8.
+unfoldable pub base_demerits : Params → (badness : ℕ) → ℤ
+base_demerits params badness =
+    if nat_le 10000 (unsigned_abs (params.line_penalty +ℤ pos badness)) then pos 100000000
+    else (params.line_penalty +ℤ pos badness) *ℤ (params.line_penalty +ℤ pos badness)
+
+-- The demerits of a break by its penalty: the square of it, less if it is below 0, and none if the break is forced.
+unfoldable pub penalty_demerits : (penalty : ℤ) → ℤ
+penalty_demerits penalty =
+    if int_lt (pos 0) penalty then penalty *ℤ penalty
+    else (if int_lt (negsuc 9999) penalty then neg_ℤ (penalty *ℤ penalty) else pos 0)
+
+-- Two classes that do not go together: they differ by more than 1.
+unfoldable pub is_apart : Class → Class → Bool
+is_apart before class = nat_lt (rank before + 1) (rank class) || nat_lt (rank class + 1) (rank before)
+
+-- The demerits of two lines that do not go together.
+unfoldable pub adjacent_demerits : Params → (before class : Class) → ℤ
+adjacent_demerits params before class = if is_apart before class then params.adj_demerits else pos 0
+
+-- The demerits of a line behind one of a class, to a break of a penalty.
+unfoldable pub demerits_of : Params → (penalty : ℤ) → (before : Class) → Judged → ℤ
+demerits_of params penalty before line =
+    (base_demerits params line.badness +ℤ penalty_demerits penalty) +ℤ adjacent_demerits params before line.class
+
+-- Whether a bound admits a line: any line, or one that is not overfull and no worse than so much.
+unfoldable pub admits : Bound → Judged → Bool
+admits Any line = true
+admits (AtMost most) line = not line.overfull && int_le (pos line.badness) most
+
+-- The line, if the bound admits it.
+unfoldable pub line_of : Params → Bound → (penalty : ℤ) → (before : Class) → Judged → Option Line
+line_of params bound penalty before line =
+    if admits bound line
+    then Some (record { class = line.class; overhang = line.overhang; demerits = demerits_of params penalty before line })
+    else None

@@ -1,0 +1,4 @@
+-- What a line costs: its badness, class, overhang and demerits.
+pub mod Costs
+pub mod Small
+pub mod Examples

@@ -1,0 +1,24 @@
+//! Sums over the items of a line.
+
+/// The sums over the items of a line, in scaled points: their widths, how much they stretch in each order, and how much they shrink in order normal.
+#[derive(Clone, Copy, Debug, PartialEq, Eq)]
+pub struct Sums {
+    pub width: i64,
+    pub stretch: i64,
+    pub fil: i64,
+    pub fill: i64,
+    pub filll: i64,
+    pub shrink: i64,
+}
+
+impl Sums {
+    /// The sums over no items.
+    pub const ZERO: Sums = Sums {
+        width: 0,
+        stretch: 0,
+        fil: 0,
+        fill: 0,
+        filll: 0,
+        shrink: 0,
+    };
+}

@@ -1,0 +1,13 @@
+use Rattle.std.proofs.Common.{◌≡◌, ◌≤◌, ◌-◌, take, length}
+use Rattle.device_core.specs.Told.{grown}
+use Rattle.device_core.proofs.device.write_all.Given as goal
+
+abbrev pub invariant-loop-sent : goal.invariant-loop-sent
+invariant-loop-sent g l = record {
+  within : l.sent ≤ length l.bytes;
+  taken : g.D.Device.told l.device ≡ grown (g.D.Device.told l.initial.device) (take l.sent l.bytes);
+  stands : g.D.Device.failed l.device ≡ g.D.Device.failed l.initial.device;
+}
+
+abbrev pub decreases-loop-sent : goal.decreases-loop-sent
+decreases-loop-sent g l = length l.bytes - l.sent

@@ -1,0 +1,111 @@
+//! Where the bytes of a DVI file go.
+
+ghost use Rattle.std.specs.Prelude.{◌≡◌, ◌≤◌, ◌<◌, ◌+◌, ◌^◌, [], length, take, Option, Some, IfOk, OnOk, OnErr};
+ghost use Rattle.device_core.specs.Told.{grown, GrowsByFront};
+
+use std::alloc::Global;
+use std::marker::Model;
+use thiserror::Error;
+
+/// A device did not take a piece.
+#[derive(Clone, Copy, Debug, PartialEq, Eq, Error)]
+#[error("the device did not take the bytes")]
+pub struct DeviceFault;
+
+/// A device takes bytes in order, a piece or a part of it a call, and counts the calls that failed.
+pub trait Device {
+    ghost use Rattle.std.specs.Prelude.{◌≡◌, ◌≤◌, ◌<◌, ◌+◌, ◌^◌, ℕ, List, Option, length, take, IfOk, OnOk, OnErr};
+    ghost use Rattle.device_core.specs.Told.{grown};
+
+    /// The bytes that it took since it was made, in order, where it tells them.
+    ghost told: { Self → Option (List ℕ) };
+
+    /// How many writes have failed.
+    ghost failed: { Self → ℕ };
+
+    /// Takes the piece or a beginning of it, and answers how many bytes it took, at least one.
+    /// An Err took nothing and counts as a failure.
+    fn write(&mut self, piece: &[u8]) -> Result<usize, DeviceFault>
+        requires some { 0 < length piece.now }
+        requires countable { failed self.old + 1 < 2 ^ 64 }
+        ensures within { IfOk result (λ n. (1 ≤ n) × (n ≤ length piece.now)) }
+        ensures taken { IfOk result (λ n. told self.new ≡ grown (told self.old) (take n piece.now)) }
+        ensures stands { OnOk result (failed self.new ≡ failed self.old) }
+        ensures none_taken { OnErr result (told self.new ≡ told self.old) }
+        ensures counted { OnErr result (failed self.new ≡ failed self.old + 1) };
+
+    /// How many writes have failed.
+    fn failures(&self) -> u64
+        ensures { result ≡ failed self.now };
+}
+
+/// A device that keeps its bytes in memory. A refused growth is its failure.
+#[derive(Debug, Drop)]
+pub struct Memory {
+    bytes: Vec<u8>,
+    failures: u64,
+}
+
+impl Model for Memory {
+    ghost use Rattle.device_core.specs.Held.{Held};
+
+    ghost Value = { Held };
+
+    ghost view = { λ memory. record { bytes = memory.bytes.items; failures = memory.failures } };
+}
+
+impl Memory {
+    /// A device without bytes, which has not failed. It takes no memory.
+    pub fn new(alloc: Global) -> Memory
+        ensures { result ≡ record { bytes = []; failures = 0 } }
+    {
+        Memory {
+            bytes: Vec::new(alloc),
+            failures: 0,
+        }
+    }
+
+    /// The bytes that it took, in order.
+    pub fn bytes(&self) -> &[u8]
+        ensures { result.now ≡ self.now.bytes }
+    {
+        &self.bytes
+    }
+}
+
+impl Device for Memory {
+    ghost use Rattle.std.specs.Prelude.{Some};
+
+    ghost told = { λ memory. Some memory.bytes };
+
+    ghost failed = { λ memory. memory.failures };
+
+    fn write(&mut self, piece: &[u8]) -> Result<usize, DeviceFault> {
+        match self.bytes.extend_from_slice(piece) {
+            Ok(()) => Ok(piece.len()),
+            Err(_) => {
+                self.failures += 1;
+                Err(DeviceFault)
+            }
+        }
+    }
+
+    fn failures(&self) -> u64 {
+        self.failures
+    }
+}
+
+/// Hands the device all bytes, piece after piece. Where it fails, what it took is a beginning of them that is not all.
+pub fn write_all<D: Device>(device: &mut D, bytes: &[u8]) -> Result<(), DeviceFault>
+    requires { D.failed device.old + 1 < 2 ^ 64 }
+    ensures taken { OnOk result (D.told device.new ≡ grown (D.told device.old) bytes.now) }
+    ensures stands { OnOk result (D.failed device.new ≡ D.failed device.old) }
+    ensures front { OnErr result (GrowsByFront (D.told device.old) (D.told device.new) bytes.now) }
+    ensures counted { OnErr result (D.failed device.new ≡ D.failed device.old + 1) }
+{
+    let mut sent = 0;
+    while sent < bytes.len() {
+        sent += device.write(&bytes[sent..])?;
+    }
+    Ok(())
+}

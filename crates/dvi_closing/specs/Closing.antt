@@ -1,0 +1,67 @@
+-- The instructions between post and post_post: nops and definitions of fonts (DVItype, 18 and 19).
+use Rattle.std.specs.Prelude.{◌≡◌, ◌≤◌, ◌<◌, ◌-◌, ◌++◌, ◌⊎◌, [], List, drop, slice_index, take, ℕ}
+use Rattle.std.specs.List.{AllByRecursion}
+use Rattle.dvi_ops.specs.File.{IsIdle}
+use Rattle.dvi_ops.specs.Fonts.{FontsAreRight, IsRightAfter, definition_of, definitions}
+use Rattle.dvi_ops.specs.Instruction.{Definition, FontDef, Instruction, Do}
+use Rattle.dvi_ops.specs.Table.{Spells}
+use Rattle.dvi_ops.specs.Tokens.{Token, IsSpelled, says, written}
+use Rattle.dvi_frame.specs.Ends.{StandsAt}
+use Rattle.dvi_frame.specs.declared.fault.BadDvi.{BadDvi}
+use Rattle.dvi_frame.specs.declared.fault.DviCause.{DviCause}
+use Rattle.dvi_frame.specs.declared.fault.DviCause.TheVariants.{Opcode, Truncated, Font}
+use Rattle.dvi_frame.specs.declared.fault.FrameFault.{FrameFault}
+use Rattle.dvi_frame.specs.declared.fault.FrameFault.TheVariants as frames
+use Rattle.dvi_pass.specs.declared.turning.PassFault.{PassFault}
+use Rattle.dvi_pass.specs.declared.turning.PassFault.TheVariants as faults
+
+-- A definition is not right behind those that are known, and the fault says so; want of memory may come at any time.
+abbrev pub IsDefinitionFault : List Definition → Definition → PassFault → Type 0
+IsDefinitionFault known d faults.OutOfMemory = Unit {0}
+IsDefinitionFault known d (faults.Broken cause) = (cause ≡ Font) × (IsRightAfter known (Do (FontDef d)) → ⊥)
+
+-- Between two places there are nops and definitions, which are right behind those that are known.
+pub record Closes (bytes : List ℕ) (from to : ℕ) (known : List Definition) (tail : List Token) : Type 0 where
+  pub spelled : AllByRecursion IsSpelled tail
+  pub whole : written tail ≡ take (to - from) (drop from bytes)
+  pub idle : AllByRecursion IsIdle (says tail)
+  pub fonts : FontsAreRight known (says tail)
+
+-- Such instructions stand there, and their definitions are behind the others.
+abbrev pub ClosesTo : List ℕ → (from to : ℕ) → (old new : List Definition) → Type 0
+ClosesTo bytes from to old new = (tail : List Token) × Closes bytes from to old tail × (new ≡ old ++ definitions (says tail))
+
+-- One such instruction.
+pub record ClosesOne (bytes : List ℕ) (at to : ℕ) (old new : List Definition) (next : ℕ) : Type 0 where
+  pub forward : at < next
+  pub within : next ≤ to
+  pub here : Instruction
+  pub spelled : Spells here (take (next - at) (drop at bytes))
+  pub idle : IsIdle here
+  pub right : IsRightAfter old here
+  pub new_is : new ≡ old ++ definition_of here
+
+-- A rule is broken at a place, behind these definitions: an instruction is cut off; a byte begins none, or begins one that is no nop and no definition; a definition
+-- has no size, or differs from one of its number.
+abbrev pub BreaksClosing : List ℕ → (place to : ℕ) → (known : List Definition) → DviCause → Type 0
+BreaksClosing bytes place to known Truncated = (i : Instruction) → StandsAt bytes place to i → ⊥
+BreaksClosing bytes place to known Opcode =
+    (250 ≤ slice_index bytes place) × ((i : Instruction) → StandsAt bytes place to i → ⊥) ⊎ (i : Instruction) × StandsAt bytes place to i × (IsIdle i → ⊥)
+BreaksClosing bytes place to known Font = (d : Definition) × StandsAt bytes place to (Do (FontDef d)) × (IsRightAfter known (Do (FontDef d)) → ⊥)
+BreaksClosing bytes place to known cause = ⊥
+
+-- A fault at a place, which leaves the definitions as they were.
+abbrev pub IsFaultAt : List ℕ → (at to : ℕ) → (old new : List Definition) → FrameFault → Type 0
+IsFaultAt bytes at to old new frames.OutOfMemory = Unit {0}
+IsFaultAt bytes at to old new (frames.Bad fault) = (fault.place ≡ at) × (new ≡ old) × BreaksClosing bytes at to old fault.cause
+
+-- A fault on the way: right instructions stand up to its place, and their definitions are behind the others.
+abbrev pub IsClosingFault : List ℕ → (from to : ℕ) → (old new : List Definition) → FrameFault → Type 0
+IsClosingFault bytes from to old new frames.OutOfMemory = Unit {0}
+IsClosingFault bytes from to old new (frames.Bad fault) =
+    (from ≤ fault.place) × (fault.place < to) × ClosesTo bytes from fault.place old new × BreaksClosing bytes fault.place to new fault.cause
+
+-- The definitions up to the first thing that is wrong.
+abbrev pub IsLookedAhead : List ℕ → (from to : ℕ) → (table : List Definition) → Type 0
+IsLookedAhead bytes from to table =
+    ClosesTo bytes from to [] table ⊎ (fault : BadDvi) × IsClosingFault bytes from to [] table (frames.Bad fault)

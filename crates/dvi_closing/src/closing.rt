@@ -1,0 +1,98 @@
+//! The instructions between post and post_post (DVItype, 18 and 19).
+
+ghost use Rattle.std.specs.Prelude.{◌≡◌, ◌≤◌, ◌<◌, [], length, map, OnOk, IfErr, IfOk};
+ghost use Rattle.dvi_ops.specs.View.{definition};
+ghost use Rattle.dvi_closing.specs.Closing.{ClosesOne, ClosesTo, IsClosingFault, IsFaultAt, IsLookedAhead};
+
+use crate::known::define;
+use dvi_frame::{BadDvi, DviCause, FrameFault, read_at};
+use dvi_ops::{FontDefinition, Op, OpFault};
+use dvi_pass::PassFault;
+use std::alloc::Global;
+
+/// Why no instruction stands at a place.
+fn fault_at(place: usize, fault: OpFault) -> FrameFault
+    ensures opcode { fault ≡ OpFault.Opcode → result ≡ FrameFault.Bad (record { place = place; cause = DviCause.Opcode }) }
+    ensures truncated { fault ≡ OpFault.Truncated → result ≡ FrameFault.Bad (record { place = place; cause = DviCause.Truncated }) }
+{
+    let cause = match fault {
+        OpFault::Opcode => DviCause::Opcode,
+        OpFault::Truncated => DviCause::Truncated,
+    };
+    FrameFault::Bad(BadDvi { place, cause })
+}
+
+/// One instruction, which is a nop or a right definition, and the place behind it.
+fn close_one<'a>(
+    bytes: &'a [u8],
+    at: usize,
+    to: usize,
+    known: &mut Vec<FontDefinition<'a>>,
+) -> Result<usize, FrameFault>
+    requires low { at < to }
+    requires high { to ≤ length bytes.now }
+    ensures ok { IfOk result (ClosesOne bytes.now at to (map definition known.old.items) (map definition known.new.items)) }
+    ensures bad { IfErr result (IsFaultAt bytes.now at to (map definition known.old.items) (map definition known.new.items)) }
+{
+    let (op, next) = match read_at(bytes, at, to) {
+        Ok(found) => found,
+        Err(fault) => return Err(fault_at(at, fault)),
+    };
+    match op {
+        Op::Nop => Ok(next),
+        Op::FontDef(font) => match define(known, &font) {
+            Ok(()) => Ok(next),
+            Err(PassFault::Broken(cause)) => Err(FrameFault::Bad(BadDvi { place: at, cause })),
+            Err(PassFault::OutOfMemory) => Err(FrameFault::OutOfMemory),
+        },
+        _ => Err(FrameFault::Bad(BadDvi {
+            place: at,
+            cause: DviCause::Opcode,
+        })),
+    }
+}
+
+/// Puts the definitions between two places behind those that are known: only nops and right definitions stand there (DVItype, 18 and 19). It takes memory for them.
+///
+/// A fault names the place of the first instruction that is wrong, and the definitions before it are behind the others: Truncated, Opcode or Font.
+pub fn close<'a>(
+    bytes: &'a [u8],
+    from: usize,
+    to: usize,
+    known: &mut Vec<FontDefinition<'a>>,
+) -> Result<(), FrameFault>
+    requires low { from ≤ to }
+    requires high { to ≤ length bytes.now }
+    ensures ok { OnOk result (ClosesTo bytes.now from to (map definition known.old.items) (map definition known.new.items)) }
+    ensures bad { IfErr result (IsClosingFault bytes.now from to (map definition known.old.items) (map definition known.new.items)) }
+{
+    let mut at = from;
+    while at < to {
+        at = match close_one(bytes, at, to, known) {
+            Ok(next) => next,
+            Err(fault) => return Err(fault),
+        };
+    }
+    Ok(())
+}
+
+/// The definitions between two places, up to the first thing that is wrong there (own). It takes memory for them.
+pub fn look_ahead<'a>(
+    alloc: Global,
+    bytes: &'a [u8],
+    from: usize,
+    to: usize,
+) -> Result<Vec<FontDefinition<'a>>, FrameFault>
+    requires low { from ≤ to }
+    requires high { to ≤ length bytes.now }
+    ensures ok { IfOk result (λ fonts. IsLookedAhead bytes.now from to (map definition fonts.items)) }
+    // Only memory may be wanting.
+    ensures memory { IfErr result (λ fault. fault ≡ FrameFault.OutOfMemory) }
+{
+    let mut fonts = Vec::new(alloc);
+    match close(bytes, from, to, &mut fonts) {
+        Ok(()) => Ok(fonts),
+        Err(FrameFault::Bad(_)) => Ok(fonts),
+        Err(FrameFault::OutOfMemory) => Err(FrameFault::OutOfMemory),
+    }
+}

@@ -1,0 +1,9 @@
+pub mod EachOf
+pub mod Leaves
+pub mod Spelled
+pub mod PageBytes
+pub mod FreshFonts
+pub mod DefinedFonts
+pub mod NextPages
+pub mod Rooms
+pub mod Files

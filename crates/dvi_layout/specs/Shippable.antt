@@ -1,0 +1,58 @@
+-- Pages that may be written: what the callers of the writer keep to (own; the widths: TeX: The Program, part 30; DVItype, 18).
+use Rattle.std.specs.Prelude.{◌≡◌, ◌≤◌, ◌+ℤ◌, [], ◌∷◌, ℕ, ℤ, pos, negsuc, false, List, length, map, Option, Some, None}
+use Rattle.std.specs.List.{AllByRecursion}
+use Rattle.tfm_core.specs.FileWidths.{width_at}
+use Rattle.node_core.specs.declared.tree.BoxNode.{BoxNode}
+use Rattle.node_core.specs.Items.{EachLeaf}
+use Rattle.node_core.specs.Nodes.{box_depth}
+use Rattle.dvi_ops.specs.Body.{Widths}
+use Rattle.dvi_ops.specs.Fonts.{Metrics, width_in}
+use Rattle.dvi_ops.specs.File.{MarkedPage, IsFile}
+use Rattle.dvi_ops.specs.Spelling.{NumberFits}
+use Rattle.ship_core.specs.Marks.{Page, marks_of_page, is_huge}
+use Rattle.ship_core.specs.Pages.{page_at}
+use Rattle.ship_core.specs.Shown.{HasWidth}
+use Rattle.dvi_layout.specs.declared.fonts.LoadedFont.{LoadedFont}
+use Rattle.dvi_layout.specs.declared.progress.Offsets.{Offsets}
+use Rattle.dvi_layout.specs.declared.progress.TheConstants.{MOST_DEEP}
+use Rattle.dvi_layout.specs.Fonts.{Slots, font_in}
+
+-- The widths of a font's characters, if there is a font.
+abbrev pub widths_by : Option LoadedFont → Option (ℤ → Option ℤ)
+widths_by None = None
+widths_by (Some loaded) = Some (width_at loaded.font)
+
+-- The width of each character of the font in each slot.
+abbrev pub slot_widths : Slots → Widths
+slot_widths fonts (pos slot) c = width_in (widths_by (font_in fonts slot)) c
+slot_widths fonts (negsuc n) c = None
+
+-- A box is at most `MOST_DEEP` deep, and each glyph in it, in its inner boxes too, has the width of its character in the font of its slot.
+pub record IsShippable (fonts : Slots) (b : BoxNode) : Type 0 where
+  pub glyphs : EachLeaf (HasWidth (slot_widths fonts)) b.list
+  pub depth : box_depth b ≤ MOST_DEEP
+
+-- The page of a box with these counts: its reference point is `offsets.h` to the right of the origin, and its height and `offsets.v` below it
+-- (TeX: The Program, part 32, §640 and §641).
+abbrev pub page_with : (counts : List ℤ) → Offsets → BoxNode → Page
+page_with counts offsets b = page_at counts offsets.h (b.height +ℤ offsets.v) b
+
+-- A page that was written: it has ten counts, which fit four bytes, is not huge, and its box is one that may be shipped.
+pub record IsRightPage (fonts : Slots) (page : Page) : Type 0 where
+  pub ten : length page.counts ≡ 10
+  pub counts_fit : AllByRecursion NumberFits page.counts
+  pub small : is_huge page ≡ false
+  pub sound : IsShippable fonts page.box_node
+
+-- Metrics that give the widths of these fonts, each by its name and its size.
+abbrev pub GivesFonts : Metrics → Slots → Type 0
+GivesFonts metrics fonts = (slot : ℕ) (loaded : LoadedFont) → font_in fonts slot ≡ Some loaded → metrics loaded.name loaded.font.size ≡ Some (width_at loaded.font)
+
+-- A page as it is read from a file: its ten counts, and the marks of its box at its reference point, in order.
+abbrev pub read_page : Page → MarkedPage
+read_page page = record { counts = page.counts; marks = marks_of_page page }
+
+-- The bytes are a DVI file of exactly these pages, in order; where there are no pages, there are no bytes.
+abbrev pub IsFileOfPages : Metrics → List ℕ → List Page → Type 0
+IsFileOfPages metrics bytes [] = bytes ≡ []
+IsFileOfPages metrics bytes (page ∷ pages) = IsFile metrics bytes (map read_page (page ∷ pages))

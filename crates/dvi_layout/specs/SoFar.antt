@@ -1,0 +1,84 @@
+-- What the writer keeps of the pages that it has sent, and what it sends next (own; DVItype, 13 to 20).
+use Rattle.std.specs.Prelude.{◌+◌, ◌%◌, ◌++◌, max, [], ◌∷◌, zero, suc, ℕ, ℤ, pos, negsuc, List, length, replicate}
+use Rattle.std.specs.Int.{int_max}
+use Rattle.dvi_ops.specs.declared.opcodes.TheConstants.{FORMAT, PADDING}
+use Rattle.dvi_ops.specs.Forest.{nests}
+use Rattle.dvi_ops.specs.Instruction.{Instruction, Post, PostPost, Postamble}
+use Rattle.dvi_ops.specs.Layout.{at_first, after_all, bytes_of, define, preamble, scaled_points, sheet_from, padding_after}
+use Rattle.node_core.specs.Nodes.{box_count}
+use Rattle.ship_core.specs.Marks.{Page}
+use Rattle.ship_core.specs.Pages.{reach_down, reach_right}
+use Rattle.dvi_layout.specs.Fonts.{Slots}
+use Rattle.dvi_layout.specs.Sheets.{written_body, definitions_of, in_rising_order, sheet_of}
+use Rattle.dvi_layout.specs.Layout.{slots_after, slots_behind, sheets_of, greatest, nodes_on, front}
+
+-- The place of the last bop, or -1; how many bytes there are up to the last eop; the slots of the fonts that they define, in order; the greatest
+-- reaches of the pages, at least 0; the most pushes that are open at once in a page; and how many pages and nodes there are.
+pub record SoFar : Type 0 where
+  pub last : ℤ
+  pub size : ℕ
+  pub defined : List ℕ
+  pub tall : ℤ
+  pub wide : ℤ
+  pub deep : ℕ
+  pub pages : ℕ
+  pub nodes : ℕ
+
+-- What is kept of no page.
+abbrev pub nothing_so_far : SoFar
+nothing_so_far = record { last = negsuc 0; size = 0; defined = []; tall = pos 0; wide = pos 0; deep = 0; pages = 0; nodes = 0 }
+
+-- What is kept of these pages: the numbers of their layout.
+abbrev pub so_far_of : Slots → List Page → SoFar
+so_far_of fonts pages =
+    record {
+      last = (after_all at_first (sheets_of fonts [] pages)).last;
+      size = length (front fonts pages);
+      defined = slots_behind fonts [] pages;
+      tall = greatest reach_down pages;
+      wide = greatest reach_right pages;
+      deep = (after_all at_first (sheets_of fonts [] pages)).depth;
+      pages = length pages;
+      nodes = nodes_on pages;
+    }
+
+-- What stands before a page and its definitions, when there are that many pages: the preamble before the first.
+abbrev pub opening : ℕ → List Instruction
+opening zero = preamble ∷ []
+opening (suc n) = []
+
+-- The bytes up to the bop of the next page.
+abbrev pub bytes_before : Slots → SoFar → Page → List ℕ
+bytes_before fonts s page = bytes_of (opening s.pages ++ define (sheet_of fonts s.defined page).fresh)
+
+-- The bytes of the next page, with what stands before it.
+unfoldable pub next_bytes : Slots → SoFar → Page → List ℕ
+next_bytes fonts s page = bytes_of (opening s.pages ++ sheet_from s.last (sheet_of fonts s.defined page))
+
+-- What is kept with one page more.
+unfoldable pub with_next : Slots → SoFar → Page → SoFar
+with_next fonts s page =
+    record {
+      last = pos (s.size + length (bytes_before fonts s page));
+      size = s.size + length (next_bytes fonts s page);
+      defined = slots_after fonts s.defined page;
+      tall = int_max s.tall (reach_down page);
+      wide = int_max s.wide (reach_right page);
+      deep = max s.deep (nests (written_body page));
+      pages = s.pages + 1;
+      nodes = s.nodes + box_count page.box_node;
+    }
+
+-- What post says (TeX: The Program, part 32, §642).
+abbrev pub stop_so_far : SoFar → Postamble
+stop_so_far s =
+    record { last_bop = s.last; units = scaled_points; height_plus_depth = s.tall; width = s.wide; stack_depth = s.deep; pages = s.pages % 65536 }
+
+-- The instructions of the postamble: post, all font definitions in rising order, and post_post, which names post's place.
+abbrev pub closing_so_far : Slots → SoFar → List Instruction
+closing_so_far fonts s = Post (stop_so_far s) ∷ (define (definitions_of fonts (in_rising_order s.defined)) ++ PostPost (pos s.size) FORMAT ∷ [])
+
+-- The bytes from post to the end of the file.
+unfoldable pub last_bytes : Slots → SoFar → List ℕ
+last_bytes fonts s =
+    bytes_of (closing_so_far fonts s) ++ replicate (padding_after (s.size + length (bytes_of (closing_so_far fonts s)))) PADDING

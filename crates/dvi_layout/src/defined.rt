@@ -1,0 +1,62 @@
+//! The slots of the fonts that a file defines.
+
+ghost use Rattle.std.specs.Prelude.{◌≡◌, ◌<◌, ◌≤◌, ◌+◌, ◌++◌, [], ◌∷◌, length};
+
+use crate::fonts::FONT_SLOTS;
+use std::marker::Model;
+
+/// The slots of the fonts that are defined, in the order of their definitions: as many as there are slots at most. They take no memory.
+#[derive(Drop)]
+pub struct DefinedSlots {
+    slots: [u8; FONT_SLOTS],
+    count: usize,
+}
+
+impl Model for DefinedSlots {
+    ghost use Rattle.std.specs.Prelude.{◌≤◌, ℕ, List, take};
+    ghost use Rattle.dvi_layout.specs.declared.fonts.TheConstants.{FONT_SLOTS};
+
+    ghost Value = { List ℕ };
+
+    ghost view = { λ defined. take defined.count defined.slots };
+
+    ghost invariant = { λ defined. defined.count ≤ FONT_SLOTS };
+}
+
+impl DefinedSlots {
+    /// No slot.
+    pub fn new() -> DefinedSlots
+        ensures { result ≡ [] }
+    {
+        DefinedSlots {
+            slots: [0; FONT_SLOTS],
+            count: 0,
+        }
+    }
+
+    /// The slots, in the order of their definitions.
+    pub fn as_slice(&self) -> &[u8]
+        ensures { result.now ≡ self.now }
+    {
+        &self.slots[..self.count]
+    }
+
+    /// Adds a slot behind the others.
+    fn push(&mut self, slot: u8)
+        requires { length self.old < 256 }
+        ensures { self.new ≡ self.old ++ slot ∷ [] }
+    {
+        self.slots[self.count] = slot;
+        self.count += 1;
+    }
+
+    /// Adds slots behind the others, in order.
+    pub fn append(&mut self, slots: &[u8])
+        requires { length self.old + length slots.now ≤ 256 }
+        ensures { self.new ≡ self.old ++ slots.now }
+    {
+        for slot in slots {
+            self.push(*slot);
+        }
+    }
+}

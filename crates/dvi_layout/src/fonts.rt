@@ -1,0 +1,87 @@
+//! The fonts of a job by their slots.
+
+ghost use Rattle.std.specs.Prelude.{◌≡◌, List, Option, Some, None, IfOk, OnOk, option_copied, replicate, slice_set};
+ghost use Rattle.dvi_layout.specs.Fonts.{font_in, IsDefinable, AreDefinable};
+
+use std::alloc::{AllocError, Global};
+use std::marker::Model;
+use tfm_core::{Font, FontName};
+
+/// How many slots there are for fonts.
+pub const FONT_SLOTS: usize = 256;
+
+/// A font that was read, with the name of its file.
+#[derive(Debug, Drop)]
+pub struct LoadedFont {
+    pub name: FontName,
+    pub font: Font,
+}
+
+impl LoadedFont {
+    /// The font can be defined in a file: names and sizes of fonts always can. It does nothing.
+    fn can_be_defined(&self)
+        ensures { IsDefinable self.now }
+    {
+        let _name = self.name.as_bytes();
+        let _size = self.font.size().get();
+        let _design_size = self.font.design_size().get();
+        let _check_sum = self.font.check_sum();
+    }
+}
+
+/// What each slot has: a font, or nothing.
+#[derive(Debug, Drop)]
+pub struct Fonts {
+    slots: Vec<Option<LoadedFont>>,
+}
+
+impl Model for Fonts {
+    ghost use Rattle.std.specs.Prelude.{List, Option};
+    ghost use Rattle.std.specs.Coded.{coded_list, coded_option};
+    ghost use Rattle.dvi_layout.specs.declared.fonts.LoadedFont.{LoadedFont};
+    ghost use Rattle.dvi_layout.specs.Fonts.{AreDefinable};
+    ghost use Rattle.dvi_layout.specs.contracts.fonts.LoadedFont as loaded_font;
+
+    ghost Value = { List (Option LoadedFont) };
+
+    ghost coded = { coded_list (coded_option loaded_font.the_row.coded) };
+
+    ghost view = { λ fonts. fonts.slots.items };
+
+    ghost invariant = { λ fonts. AreDefinable fonts.slots.items };
+}
+
+impl Fonts {
+    /// No slot has a font.
+    pub fn new(alloc: Global) -> Result<Fonts, AllocError>
+        ensures { IfOk result (λ fonts. fonts ≡ replicate FONT_SLOTS None) }
+    {
+        let mut slots = Vec::with_capacity(alloc, FONT_SLOTS)?;
+        for _ in 0..FONT_SLOTS {
+            slots.push(None)?;
+        }
+        Ok(Fonts { slots })
+    }
+
+    /// The font of a slot; None where it has none.
+    pub fn get(&self, slot: u8) -> Option<&LoadedFont>
+        ensures { option_copied result ≡ font_in self.now slot }
+    {
+        self.slots[usize::from(slot)].as_ref()
+    }
+
+    /// The font of each slot can be defined in a file. It does nothing.
+    pub fn can_be_defined(&self)
+        ensures { AreDefinable self.now }
+    {
+        let _slots = &self.slots;
+    }
+
+    /// Gives a slot a font.
+    pub fn put(&mut self, slot: u8, loaded: LoadedFont)
+        ensures { self.new ≡ slice_set self.old slot (Some loaded) }
+    {
+        loaded.can_be_defined();
+        self.slots[usize::from(slot)] = Some(loaded);
+    }
+}

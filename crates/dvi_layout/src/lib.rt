@@ -1,0 +1,11 @@
+//! How the writer lays a DVI file out: the fonts of a job by their slots, the bytes of pages, of font definitions and of the end, and what is kept from
+//! page to page. The writer that sends them stands above it.
+#![tactic(auto)]
+
+pub mod defined;
+pub mod fonts;
+pub mod layout;
+pub mod progress;
+
+pub use fonts::{Fonts, LoadedFont};
+pub use progress::{MOST_DEEP, MOST_PAGES, MOST_SHIPPED, Offsets, Progress, WriteFault};

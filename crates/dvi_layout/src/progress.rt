@@ -1,0 +1,359 @@
+//! What the writer keeps of the pages that it has sent, and the bytes that it sends next (DVItype, 13 to 20).
+
+ghost use Rattle.std.specs.Prelude.{◌≡◌, ◌<◌, ◌≤◌, ◌+◌, ◌^◌, ◌++◌, ◌+ℤ◌, [], ◌∷◌, ℤ, List, None, Some, true, false, max, pos, length, map, OnOk, OnErr, IfOk, IfErr};
+ghost use Rattle.std.specs.Int.{int_max};
+ghost use Rattle.std.specs.List.{AllByRecursion};
+ghost use Rattle.dvi_ops.specs.Instruction.{Bop, Eop, Post};
+ghost use Rattle.dvi_ops.specs.declared.op.Op.TheVariants as ops;
+ghost use Rattle.dvi_ops.specs.Forest.{Forest, flat, nests};
+ghost use Rattle.dvi_ops.specs.Layout.{bytes_of, define};
+ghost use Rattle.dvi_ops.specs.Spelling.{HasSpelling};
+ghost use Rattle.dvi_ops.specs.View.{view};
+ghost use Rattle.node_core.specs.Nodes.{box_count};
+ghost use Rattle.scaled_core.specs.Dimensions.{fits};
+ghost use Rattle.ship_core.specs.Marks.{is_huge};
+ghost use Rattle.ship_core.specs.Pages.{page_at, reach_down, reach_right};
+ghost use Rattle.dvi_layout.specs.Sheets.{definitions_of, written_body};
+ghost use Rattle.dvi_layout.specs.SoFar.{closing_so_far, last_bytes, next_bytes, nothing_so_far, opening, stop_so_far, with_next};
+ghost use Rattle.dvi_layout.specs.Limits.{HasRoom, limit_of};
+
+use crate::defined::DefinedSlots;
+use crate::fonts::Fonts;
+use crate::layout::{
+    SCALED_POINTS, append_all, append_both, append_definitions, append_padding, fresh_slots,
+    in_rising_order, page_ops,
+};
+use dvi_ops::{Op, Postamble, opcodes};
+use node_core::BoxNode;
+use scaled_core::Dimen;
+use ship_core::{PagePoint, draw_page, is_huge, push_depth};
+use std::alloc::{AllocError, Global};
+use std::marker::Model;
+use thiserror::Error;
+
+/// How many pages a file may have.
+pub const MOST_PAGES: u32 = 65_535;
+
+/// How many nodes the boxes of all pages may have together.
+pub const MOST_SHIPPED: u64 = 16_777_216;
+
+/// How deep boxes may nest in the box of a page, that box counted.
+pub const MOST_DEEP: u64 = 200;
+
+/// Why a page was not taken, or a file not ended.
+#[derive(Clone, Copy, Debug, PartialEq, Eq, Error)]
+pub enum WriteFault {
+    /// The file was ended, or its device failed before.
+    #[error("the file is over")]
+    JobOver,
+    /// The file has 65,535 pages.
+    #[error("there are too many pages")]
+    TooManyPages,
+    /// The boxes of all pages would have more than 16,777,216 nodes.
+    #[error("too much is shipped")]
+    TooMuchShipped,
+    /// A place or a size on the page is more than 2^30 - 1 sp or less than -(2^30 - 1) sp.
+    #[error("a place or size of the page does not fit")]
+    HugePage,
+    /// Memory was refused.
+    #[error("a growth of memory was refused")]
+    OutOfMemory,
+    /// The device failed during the call.
+    #[error("the device did not take the bytes")]
+    Device,
+}
+
+/// How far a page is moved to the right and down (TeX: The Program, part 32, §617: hoffset and voffset).
+#[derive(Clone, Copy, Debug, PartialEq, Eq)]
+pub struct Offsets {
+    pub h: Dimen,
+    pub v: Dimen,
+}
+
+impl Offsets {
+    /// The reference point of the page of a box: its height below the origin, moved.
+    pub fn point_of(self, box_node: &BoxNode) -> PagePoint
+        ensures { result ≡ record { h = self.h; v = box_node.now.height +ℤ self.v } }
+    {
+        PagePoint {
+            h: self.h.get(),
+            v: box_node.height.get() + self.v.get(),
+        }
+    }
+}
+
+/// What the writer keeps of the pages that it has sent.
+#[derive(Drop)]
+pub struct Progress {
+    last: i32,
+    size: usize,
+    defined: DefinedSlots,
+    tall: Dimen,
+    wide: Dimen,
+    deep: usize,
+    pages: u32,
+    nodes: u64,
+}
+
+impl Model for Progress {
+    ghost use Rattle.dvi_layout.specs.SoFar.{SoFar};
+
+    ghost Value = { SoFar };
+
+    ghost view = { λ p. record { last = p.last; size = p.size; defined = p.defined; tall = p.tall; wide = p.wide; deep = p.deep; pages = p.pages; nodes = p.nodes } };
+}
+
+/// The bytes of a page with what stands before it, and the place of its bop among them.
+#[derive(Drop)]
+struct LaidPage {
+    bytes: Vec<u8>,
+    bop: usize,
+}
+
+/// The instructions of the body of a page as it is written.
+#[tactic(auto, unfolding(ship_core::specs::Marks::is_huge))]
+fn written_body(
+    alloc: Global,
+    box_node: &BoxNode,
+    at: PagePoint,
+    counts: &[i32; 10],
+) -> Result<Vec<Op<'static>>, AllocError>
+    requires { is_huge (page_at counts.now at.h at.v box_node.now) ≡ false }
+    ensures { IfOk result (λ ops. map view ops.items ≡ flat (written_body (page_at counts.now at.h at.v box_node.now))) }
+{
+    let _counts = *counts;
+    draw_page(alloc, box_node, at)
+}
+
+/// What stands before a page and its definitions, when there are that many pages: the preamble before the first.
+fn opening(alloc: Global, pages: u32) -> Result<Vec<Op<'static>>, AllocError>
+    ensures ok { IfOk result (λ ops. map view ops.items ≡ opening pages) }
+    ensures few { IfOk result (λ ops. AllByRecursion HasSpelling (map view ops.items)) }
+{
+    let mut ops = Vec::new(alloc);
+    if pages == 0 {
+        ops.push(Op::Pre {
+            id: opcodes::FORMAT,
+            units: SCALED_POINTS,
+            comment: &[],
+        })?;
+    }
+    Ok(ops)
+}
+
+/// How far down the page of a box reaches.
+#[tactic(auto, unfolding(scaled_core::specs::Dimensions::dimension_of))]
+fn reach_down(box_node: &BoxNode, at: PagePoint) -> Dimen
+    requires { fits (at.v +ℤ box_node.now.depth) ≡ true }
+    ensures { result ≡ at.v +ℤ box_node.now.depth }
+{
+    match Dimen::try_new(i64::from(at.v) + i64::from(box_node.depth.get())) {
+        Some(end) => end,
+        None => unreachable!(),
+    }
+}
+
+/// How far to the right the page of a box reaches.
+#[tactic(auto, unfolding(scaled_core::specs::Dimensions::dimension_of))]
+fn reach_right(box_node: &BoxNode, at: PagePoint) -> Dimen
+    requires { fits (at.h +ℤ box_node.now.width) ≡ true }
+    ensures { result ≡ at.h +ℤ box_node.now.width }
+{
+    match Dimen::try_new(i64::from(at.h) + i64::from(box_node.width.get())) {
+        Some(end) => end,
+        None => unreachable!(),
+    }
+}
+
+impl Progress {
+    /// Nothing was sent.
+    pub fn new() -> Progress
+        ensures { result ≡ nothing_so_far }
+    {
+        Progress {
+            last: -1,
+            size: 0,
+            defined: DefinedSlots::new(),
+            tall: Dimen::ZERO,
+            wide: Dimen::ZERO,
+            deep: 0,
+            pages: 0,
+            nodes: 0,
+        }
+    }
+
+    /// How many pages there are.
+    pub fn pages(&self) -> u32
+        ensures { result ≡ self.now.pages }
+    {
+        self.pages
+    }
+
+    /// How many bytes there are up to the last eop.
+    pub fn size(&self) -> usize
+        ensures { result ≡ self.now.size }
+    {
+        self.size
+    }
+
+    /// The slots whose fonts are defined, in the order of their definitions.
+    fn defined(&self) -> &[u8]
+        ensures { result.now ≡ self.now.defined }
+    {
+        self.defined.as_slice()
+    }
+
+    /// How many nodes the page of a box has that may be sent next, or why it may not.
+    pub fn admit(&self, box_node: &BoxNode, at: PagePoint) -> Result<u64, WriteFault>
+        ensures nodes { IfOk result (λ nodes. nodes ≡ box_count box_node.now) }
+        ensures ok { OnOk result ((counts : List ℤ) → limit_of self.now (page_at counts at.h at.v box_node.now) ≡ None) }
+        ensures err { IfErr result (λ fault. (counts : List ℤ) → limit_of self.now (page_at counts at.h at.v box_node.now) ≡ Some fault) }
+    {
+        if self.pages >= MOST_PAGES {
+            return Err(WriteFault::TooManyPages);
+        }
+        let nodes = box_node.count();
+        if self.nodes.saturating_add(nodes) > MOST_SHIPPED {
+            return Err(WriteFault::TooMuchShipped);
+        }
+        if is_huge(box_node, at) {
+            return Err(WriteFault::HugePage);
+        }
+        Ok(nodes)
+    }
+
+    /// The bytes of a page with this body, behind the definitions of the fonts in these slots.
+    fn lay_out(
+        &self,
+        alloc: Global,
+        fonts: &Fonts,
+        slots: &[u8],
+        counts: &[i32; 10],
+        body: &[Op<'static>],
+    ) -> Result<LaidPage, AllocError>
+        requires { AllByRecursion HasSpelling (map view body.now) }
+        ensures bytes { IfOk result (λ page. page.bytes.items ≡ bytes_of ((opening self.now.pages ++ define (definitions_of fonts.now slots.now)) ++ (Bop counts.now self.now.last ∷ (map view body.now ++ Eop ∷ [])))) }
+        ensures bop { IfOk result (λ page. page.bop ≡ length (bytes_of (opening self.now.pages ++ define (definitions_of fonts.now slots.now)))) }
+    {
+        let mut before = opening(alloc, self.pages)?;
+        append_definitions(fonts, slots, &mut before)?;
+        let page = page_ops(alloc, counts, body, self.last)?;
+        let mut bytes = Vec::new(alloc);
+        let bop = append_both(&mut bytes, &before, &page)?;
+        Ok(LaidPage { bytes, bop })
+    }
+
+    /// Keeps that the fonts of these slots are defined behind the others.
+    fn keep_fonts(&mut self, slots: &[u8])
+        requires { length self.old.defined + length slots.now ≤ 256 }
+        ensures { self.new ≡ record self.old { defined = self.old.defined ++ slots.now } }
+    {
+        self.defined.append(slots);
+    }
+
+    /// Keeps where the bop of a page stands among its bytes, and how many bytes and nodes it has.
+    fn keep_size(&mut self, bop: usize, size: usize, nodes: u64)
+        requires within { bop ≤ size }
+        requires room { self.old.size + size < 2 ^ 31 }
+        requires pages { self.old.pages < MOST_PAGES }
+        requires nodes { self.old.nodes + nodes ≤ MOST_SHIPPED }
+        ensures { self.new ≡ record self.old { last = pos (self.old.size + bop); size = self.old.size + size; pages = self.old.pages + 1; nodes = self.old.nodes + nodes } }
+    {
+        self.last = (self.size + bop) as i32;
+        self.size += size;
+        self.pages += 1;
+        self.nodes += nodes;
+    }
+
+    /// Keeps how far a page reaches.
+    fn keep_reach(&mut self, box_node: &BoxNode, at: PagePoint, counts: &[i32; 10])
+        requires { is_huge (page_at counts.now at.h at.v box_node.now) ≡ false }
+        ensures { self.new ≡ record self.old { tall = int_max self.old.tall (reach_down (page_at counts.now at.h at.v box_node.now)); wide = int_max self.old.wide (reach_right (page_at counts.now at.h at.v box_node.now)) } }
+    {
+        let _counts = *counts;
+        self.tall = self.tall.max(reach_down(box_node, at));
+        self.wide = self.wide.max(reach_right(box_node, at));
+    }
+
+    /// Keeps how many pushes are open at once in a page with this body, where no page before it has more.
+    fn keep_depth(&mut self, body: &[Op<'static>])
+        ensures { (forest : Forest) → map view body.now ≡ flat forest → self.new ≡ record self.old { deep = max self.old.deep (nests forest) } }
+    {
+        self.deep = self.deep.max(push_depth(body));
+    }
+
+    /// The bytes of the page of a box, with what stands before it; and keeps what is to be kept of it.
+    #[tactic(auto, unfolding(crate::specs::SoFar::with_next, crate::specs::SoFar::next_bytes))]
+    pub fn add_page(
+        &mut self,
+        alloc: Global,
+        box_node: &BoxNode,
+        at: PagePoint,
+        counts: &[i32; 10],
+        fonts: &Fonts,
+        nodes: u64,
+    ) -> Result<Vec<u8>, AllocError>
+        requires huge { is_huge (page_at counts.now at.h at.v box_node.now) ≡ false }
+        requires nodes { nodes ≡ box_count box_node.now }
+        requires room { HasRoom (with_next fonts.now self.old (page_at counts.now at.h at.v box_node.now)) }
+        ensures ok { IfOk result (λ bytes. bytes.items ≡ next_bytes fonts.now self.old (page_at counts.now at.h at.v box_node.now)) }
+        ensures kept { OnOk result (self.new ≡ with_next fonts.now self.old (page_at counts.now at.h at.v box_node.now)) }
+        ensures err { OnErr result (self.new ≡ self.old) }
+    {
+        let body = written_body(alloc, box_node, at, counts)?;
+        let fresh = fresh_slots(alloc, fonts, self.defined(), &body)?;
+        let page = self.lay_out(alloc, fonts, &fresh, counts, &body)?;
+        self.keep_fonts(&fresh);
+        self.keep_size(page.bop, page.bytes.len(), nodes);
+        self.keep_reach(box_node, at, counts);
+        self.keep_depth(&body);
+        Ok(page.bytes)
+    }
+
+    /// What post says.
+    fn postamble(&self) -> Postamble
+        requires { self.now.deep < 2 ^ 16 }
+        ensures { view (ops.Post result) ≡ Post (stop_so_far self.now) }
+    {
+        Postamble {
+            last_bop: self.last,
+            units: SCALED_POINTS,
+            height_plus_depth: self.tall.get(),
+            width: self.wide.get(),
+            stack_depth: self.deep as u16,
+            pages: (self.pages % 65536) as u16,
+        }
+    }
+
+    /// The instructions of the postamble.
+    fn closing_ops<'a>(&self, alloc: Global, fonts: &'a Fonts) -> Result<Vec<Op<'a>>, AllocError>
+        requires room { self.now.size < 2 ^ 31 }
+        requires deep { self.now.deep < 2 ^ 16 }
+        ensures ok { IfOk result (λ ops. map view ops.items ≡ closing_so_far fonts.now self.now) }
+        ensures few { IfOk result (λ ops. AllByRecursion HasSpelling (map view ops.items)) }
+    {
+        let slots = in_rising_order(alloc, self.defined())?;
+        let mut ops = Vec::new(alloc);
+        ops.push(Op::Post(self.postamble()))?;
+        append_definitions(fonts, &slots, &mut ops)?;
+        ops.push(Op::PostPost {
+            place: self.size as i32,
+            id: opcodes::FORMAT,
+        })?;
+        Ok(ops)
+    }
+
+    /// The bytes from post to the end of the file.
+    #[tactic(auto, unfolding(crate::specs::SoFar::last_bytes))]
+    pub fn last_bytes(&self, alloc: Global, fonts: &Fonts) -> Result<Vec<u8>, AllocError>
+        requires room { self.now.size < 2 ^ 31 }
+        requires deep { self.now.deep < 2 ^ 16 }
+        ensures { IfOk result (λ bytes. bytes.items ≡ last_bytes fonts.now self.now) }
+    {
+        let ops = self.closing_ops(alloc, fonts)?;
+        let mut bytes = Vec::new(alloc);
+        append_all(&mut bytes, &ops)?;
+        append_padding(self.size, &mut bytes)?;
+        Ok(bytes)
+    }
+}

@@ -1,0 +1,63 @@
+-- What is found in a file before its pages, and the rules that a refusal names, in the order of the checks (DVItype, 15 to 20; the order is own).
+use Rattle.std.specs.Prelude.{◌≡◌, ◌⊎◌, ◌-◌, ◌%◌, List, length, ℕ}
+use Rattle.dvi_closing.specs.Closing.{IsClosingFault, IsLookedAhead}
+use Rattle.dvi_frame.specs.Chain.{BreaksChain}
+use Rattle.dvi_frame.specs.Ends.{BreaksEnd, Ends}
+use Rattle.dvi_frame.specs.Preamble.{HasPreamble, IsPreambleFault}
+use Rattle.dvi_frame.specs.declared.fault.BadDvi.{BadDvi}
+use Rattle.dvi_frame.specs.declared.fault.FrameFault.TheVariants as frames
+use Rattle.dvi_ops.specs.Instruction.{Definition, Postamble}
+use Rattle.dvi_ops.specs.View.{postamble}
+use Rattle.dvi_pass.specs.Passed.{IsFramed}
+use Rattle.dvi_read.specs.declared.before_pages.Front.{Front}
+use Rattle.dvi_walk.specs.Steps.{known_of}
+use Rattle.dvi_walk.specs.Walks.{HasEnded, IsUnended, IsWalkFault, IsWalked}
+use Rattle.dvi_walk.specs.declared.fault.DviFault.{DviFault}
+use Rattle.dvi_walk.specs.declared.fault.DviFault.TheVariants.{Bad, OutOfMemory}
+use Rattle.dvi_walk.specs.declared.walk.Walk.{Walk}
+use Rattle.tfm_core.specs.FileWidths.{file_widths}
+use Rattle.tfm_core.specs.NamedBytes.{NamedBytes}
+
+-- The end of a file and the places of its pages, as many as post says: the rules of the first four checks hold.
+pub record HasChain (bytes : List ℕ) (post behind last : ℕ) (stop : Postamble) (chain : List ℕ) : Type 0 where
+  pub framed : IsFramed bytes post behind last stop chain
+  pub count : stop.pages ≡ length chain % 65536
+
+-- These and the preamble, up to a place.
+pub record StartsAt (bytes : List ℕ) (post behind last : ℕ) (stop : Postamble) (chain : List ℕ) (from : ℕ) : Type 0 where
+  pub chained : HasChain bytes post behind last stop chain
+  pub preamble : HasPreamble bytes post stop from
+
+-- What was found before the pages.
+abbrev pub HasFront : List ℕ → Front → Type 0
+HasFront bytes f = StartsAt bytes f.ending.post f.ending.behind f.ending.last (postamble f.ending.stop) f.chain.items f.from
+
+-- All up to post is right, and the walk holds what it gives; `table` are the definitions of the postamble.
+pub record HasPages (files : List NamedBytes) (bytes : List ℕ) (post behind last : ℕ) (stop : Postamble) (chain : List ℕ) (from : ℕ) (table : List Definition) (walk : Walk) : Type 0 where
+  pub starts : StartsAt bytes post behind last stop chain from
+  pub ahead : IsLookedAhead bytes behind (last - 5) table
+  pub walked : IsWalked (file_widths files) table bytes stop chain post walk
+
+-- Why a file is refused. Each choice says that the rules of the checks before it hold, and which rule is broken at the place that the fault names:
+-- of the end; of the chain of pages; of the preamble; of the pages; of post's place, where no page is open and none still to come; of what is behind post.
+-- Want of memory may come at any time.
+pub data IsDviFault (files : List NamedBytes) (bytes : List ℕ) (fault : DviFault) : Type 0 where
+  LacksMemory : fault ≡ OutOfMemory → IsDviFault files bytes fault
+  AtTheEnd : (bad : BadDvi) → fault ≡ Bad bad → BreaksEnd bytes bad.place bad.cause → IsDviFault files bytes fault
+  InTheChain : (bad : BadDvi) (post e : ℕ) (stop : Postamble) → fault ≡ Bad bad → Ends bytes post e stop → BreaksChain bytes post stop bad.place bad.cause → IsDviFault files bytes fault
+  InThePreamble : (bad : BadDvi) (post behind last : ℕ) (stop : Postamble) (chain : List ℕ) → fault ≡ Bad bad → HasChain bytes post behind last stop chain
+      → IsPreambleFault bytes post stop bad → IsDviFault files bytes fault
+  InThePages : (post behind last : ℕ) (stop : Postamble) (chain : List ℕ) (from : ℕ) (table : List Definition) → StartsAt bytes post behind last stop chain from
+      → IsLookedAhead bytes behind (last - 5) table → IsWalkFault files table bytes stop chain post fault → IsDviFault files bytes fault
+  AtPost : (bad : BadDvi) (post behind last : ℕ) (stop : Postamble) (chain : List ℕ) (from : ℕ) (table : List Definition) (walk : Walk) → fault ≡ Bad bad
+      → HasPages files bytes post behind last stop chain from table walk → IsUnended walk post bad → IsDviFault files bytes fault
+  BehindPost : (bad : BadDvi) (post behind last : ℕ) (stop : Postamble) (chain : List ℕ) (from : ℕ) (table new : List Definition) (walk : Walk) → fault ≡ Bad bad
+      → HasPages files bytes post behind last stop chain from table walk → HasEnded walk → IsClosingFault bytes behind (last - 5) (known_of walk) new (frames.Bad bad)
+      → IsDviFault files bytes fault
+
+-- Why a walk does not end at post's place, or what is behind post is wrong.
+abbrev pub IsFinishFault : List ℕ → (post behind last : ℕ) → Walk → DviFault → Type 0
+IsFinishFault bytes post behind last walk OutOfMemory = Unit {0}
+IsFinishFault bytes post behind last walk (Bad bad) =
+    IsUnended walk post bad ⊎ HasEnded walk × (new : List Definition) × IsClosingFault bytes behind (last - 5) (known_of walk) new (frames.Bad bad)
+IsFinishFault bytes post behind last walk fault = ⊥

@@ -1,0 +1,4 @@
+pub mod FoundLemmas
+pub mod SelectLemmas
+pub mod StepLemmas
+pub mod WalkLemmas

@@ -1,0 +1,173 @@
+-- One instruction of the pages: its width is that of the file's fonts, and the font that is selected behind it was read.
+use Rattle.std.proofs.Common.{◌≡◌, ◌++◌, [], ◌∷◌, List, map, ℕ, ℤ, Bool, true, false, Option, Some, None, nat_lt, length, if◌then◌else◌, refl, sym, ◌∙◌, ap, ap₂, subst, subst₂, inl, inr}
+use Rattle.std.specs.Prelude.{◌⊎◌, IsSome}
+use Rattle.std.specs.List.{AllByRecursion}
+use Rattle.dvi_frame.specs.declared.fault.DviCause.{DviCause}
+use Rattle.dvi_frame.specs.declared.fault.DviCause.TheVariants.{Glyph, Range}
+use Rattle.dvi_ops.specs.Body.{Mark, Place, State, Meaning, Widths, acts, glyph, glyph_of, kept, kept_in, place_after, put_glyph, right, rule_at, set_glyph, start}
+use Rattle.dvi_ops.specs.File.{MarkedPage}
+use Rattle.dvi_ops.specs.Fonts.{Metrics, IsRightAfter, definition_of, widths_of, width_in as width_of_font}
+use Rattle.dvi_ops.specs.Instruction.{Definition, Leaf, SetChar, PutChar, SetRule, PutRule, Nop, Move, FontNum, FontDef, Xxx, Instruction, Do, Push, Pop, Bop, Eop}
+use Rattle.dvi_pass.specs.Drawing.{always}
+use Rattle.dvi_pass.specs.Pass.{Pass, Between, Inside, drawn, turn}
+use Rattle.dvi_pass.specs.Turning.{BreaksTurn, IsAsked, pass_at}
+use Rattle.dvi_pass.specs.View.{page_of}
+use Rattle.dvi_pass.specs.declared.turning.Stand.{Stand}
+use Rattle.dvi_pass.specs.declared.turning.Stand.TheVariants as stands
+use Rattle.dvi_pass.proofs.WidthLemmas.{one_width}
+use Rattle.dvi_walk.specs.ReadFonts.{IsCurrent, IsSound, asked_width, code_in, read_of, selected_in, width_in}
+use Rattle.dvi_walk.specs.Steps.{BreaksNote, BreaksPass, BreaksRest, BreaksStep, Notes, PassesOn, Steps, stand_of}
+use Rattle.dvi_walk.specs.declared.fault.StepFault.{StepFault}
+use Rattle.dvi_walk.specs.declared.fault.StepFault.TheVariants.{OutOfMemory, Broken, Refused}
+use Rattle.dvi_walk.specs.declared.read_fonts.ReadFont.{ReadFont}
+use Rattle.dvi_walk.specs.declared.walk.Walk.{Walk}
+use Rattle.dvi_walk.proofs.SelectLemmas.{read_widths, some_is}
+use Rattle.tfm_core.specs.FileWidths.{file_widths}
+use Rattle.tfm_core.specs.NamedBytes.{NamedBytes}
+
+-- The width of a character in a read font is that of the file's font.
+width_of_read : (metrics : Metrics) (table : List Definition) (fonts : List ReadFont) (selected : Option ℤ) (c : ℤ) → AllByRecursion (IsSound metrics table) fonts
+    → ((f : ℤ) → selected ≡ Some f → IsSome (read_of f fonts)) → (f : ℤ) → selected ≡ Some f → asked_width fonts selected (Some c) ≡ widths_of metrics table f c
+width_of_read metrics table fonts None c sound current f e = absurd cc
+width_of_read metrics table fonts (Some g) c sound current f e =
+    let same : g ≡ f = cc in
+    let (read, is) = some_is (read_of f fonts) (current f e) in
+    ap (λ (n : ℤ). width_in (read_of n fonts) c) same
+    ∙ (ap (λ (o : Option ReadFont). width_in o c) is
+    ∙ sym (ap (λ (o : Option (ℤ → Option ℤ)). width_of_font o c) (read_widths metrics table f fonts read sound is)))
+
+pub asked_is : (metrics : Metrics) (table : List Definition) (fonts : List ReadFont) (pages : List MarkedPage) (i : Instruction) (stand : Stand) → AllByRecursion (IsSound metrics table) fonts → IsCurrent fonts stand
+    → IsAsked (widths_of metrics table) i (pass_at pages stand) (asked_width fonts (selected_in stand) (code_in i))
+asked_is metrics table fonts pages (Do (SetChar c)) (stands.Inside page) sound current = width_of_read metrics table fonts page.state.font c sound current
+asked_is metrics table fonts pages (Do (PutChar c)) (stands.Inside page) sound current = width_of_read metrics table fonts page.state.font c sound current
+asked_is metrics table fonts pages i stand sound current = tt
+
+-- What is broken with the width that is asked for is broken with the widths of the fonts.
+same_glyph : (widths : Widths) (width : Option ℤ) (c : ℤ) (p : Place) (font : Option ℤ) → ((f : ℤ) → font ≡ Some f → width ≡ widths f c) → glyph (always width) c p font ≡ glyph widths c p font
+same_glyph widths width c p None asked = refl
+same_glyph widths width c p (Some f) asked = ap (λ (w : Option ℤ). glyph_of f c p w) (asked f refl)
+
+same_act : (widths : Widths) (width : Option ℤ) (leaf : Leaf) (pages : List MarkedPage) (counts : List ℤ) (marks : List Mark) (stack : List Place) (s : State)
+    → IsAsked widths (Do leaf) (Inside pages counts marks stack s) width → acts (always width) leaf s ≡ acts widths leaf s
+same_act widths width (SetChar c) pages counts marks stack s asked = ap (λ (g : Option (Mark × ℤ)). set_glyph g s) (same_glyph widths width c s.place s.font asked)
+same_act widths width (PutChar c) pages counts marks stack s asked = ap (λ (g : Option (Mark × ℤ)). put_glyph g s) (same_glyph widths width c s.place s.font asked)
+same_act widths width leaf pages counts marks stack s asked = refl
+
+breaks_same : (widths : Widths) (width : Option ℤ) (most : ℕ) (i : Instruction) (p : Pass) (cause : DviCause) → IsAsked widths i p width → BreaksTurn (acts (always width)) most i p cause → BreaksTurn (acts widths) most i p cause
+breaks_same widths width most (Do leaf) (Inside pages counts marks stack s) Glyph asked b =
+    subst (λ (m : Meaning). m ≡ None) (same_act widths width leaf pages counts marks stack s asked) b
+breaks_same widths width most (Do leaf) (Inside pages counts marks stack s) Range asked b =
+    subst (λ (m : Meaning). IsSome m × (kept_in m ≡ None)) (same_act widths width leaf pages counts marks stack s asked) b
+breaks_same widths width most i p cause asked b = b
+
+-- The font that is selected where a pass stands.
+abbrev pub current_of : Pass → Option ℤ
+current_of (Between pages) = None
+current_of (Inside pages counts marks stack s) = s.font
+
+current_same : (pages : List MarkedPage) (stand : Stand) → current_of (pass_at pages stand) ≡ selected_in stand
+current_same pages stands.Between = refl
+current_same pages (stands.Inside page) = refl
+
+-- Behind an instruction of a body the font is as it was, or it was selected.
+abbrev ranged : Bool → Meaning → Meaning
+ranged b m = if b then m else None
+
+by_range : (b : Bool) (marks more : List Mark) (s t : State) → ranged b (Some (marks, s)) ≡ Some (more, t) → s ≡ t
+by_range true marks more s t e =
+    let pair : ◌≡◌ {A = List Mark × State} (marks, s) (more, t) = cc in ap (λ (p : List Mark × State). p.1) pair
+by_range false marks more s t e = absurd cc
+
+set_font : (g : Option (Mark × ℤ)) (s t : State) (marks : List Mark) → kept_in (set_glyph g s) ≡ Some (marks, t) → s.font ≡ t.font
+set_font None s t marks e = absurd cc
+set_font (Some (mark, width)) s t marks e = ap (λ (s : State). s.font) (by_range _ (mark ∷ []) marks (right s width) t e)
+
+put_font : (g : Option (Mark × ℤ)) (s t : State) (marks : List Mark) → kept_in (put_glyph g s) ≡ Some (marks, t) → s.font ≡ t.font
+put_font None s t marks e = absurd cc
+put_font (Some (mark, width)) s t marks e = ap (λ (s : State). s.font) (by_range _ (mark ∷ []) marks s t e)
+
+same_font : (b : Bool) (marks more : List Mark) (s u t : State) → s.font ≡ u.font → ranged b (Some (marks, u)) ≡ Some (more, t) → s.font ≡ t.font
+same_font b marks more s u t same e = same ∙ ap (λ (s : State). s.font) (by_range b marks more u t e)
+
+act_font : (widths : Widths) (leaf : Leaf) (s t : State) (marks : List Mark) → kept_in (acts widths leaf s) ≡ Some (marks, t) → (s.font ≡ t.font) ⊎ ((f : ℤ) × (leaf ≡ FontNum f) × (t.font ≡ Some f))
+act_font widths (SetChar c) s t marks e = inl (set_font (glyph widths c s.place s.font) s t marks e)
+act_font widths (PutChar c) s t marks e = inl (put_font (glyph widths c s.place s.font) s t marks e)
+act_font widths (SetRule height width) s t marks e = inl (same_font _ (rule_at height width s.place) marks s (right s width) t refl e)
+act_font widths (PutRule height width) s t marks e = inl (same_font _ (rule_at height width s.place) marks s s t refl e)
+act_font widths Nop s t marks e = inl (same_font _ [] marks s s t refl e)
+act_font widths (Move axis step) s t marks e = inl (same_font _ [] marks s (record s { place = place_after axis step s.place }) t refl e)
+act_font widths (FontNum f) s t marks e = inr (f, refl, ap (λ (s : State). s.font) (sym (by_range _ [] marks (record s { font = Some f }) t e)))
+act_font widths (FontDef d) s t marks e = inl (same_font _ [] marks s s t refl e)
+act_font widths (Xxx text) s t marks e = inl (same_font _ [] marks s s t refl e)
+
+drawn_font : (widths : Widths) (leaf : Leaf) (pages : List MarkedPage) (counts : List ℤ) (marks : List Mark) (stack : List Place) (s : State) (m : Meaning) (q : Pass) (f : ℤ) → kept_in (acts widths leaf s) ≡ m
+    → drawn pages counts marks stack m ≡ Some q → current_of q ≡ Some f → (s.font ≡ Some f) ⊎ (Do leaf ≡ Do (FontNum f))
+drawn_font widths leaf pages counts marks stack s None q f is e at = absurd cc
+drawn_font widths leaf pages counts marks stack s (Some (more, t)) q f is e at =
+    let same : Inside pages counts (marks ++ more) stack t ≡ q = cc in
+    by_font (act_font widths leaf s t more is) (ap current_of same ∙ at)
+  where
+    by_font : (s.font ≡ t.font) ⊎ ((g : ℤ) × (leaf ≡ FontNum g) × (t.font ≡ Some g)) → t.font ≡ Some f → (s.font ≡ Some f) ⊎ (Do leaf ≡ Do (FontNum f))
+    by_font (inl kept) font = inl (kept ∙ font)
+    by_font (inr (g, leaf_is, font_is)) font =
+        let same : Some g ≡ Some f = sym font_is ∙ font in let equal : g ≡ f = cc in inr (ap (λ (l : Leaf). Do l) leaf_is ∙ ap (λ (n : ℤ). Do (FontNum n)) equal)
+
+push_font : (b : Bool) (p q : Pass) (f : ℤ) → (if b then Some p else None) ≡ Some q → current_of q ≡ Some f → current_of p ≡ Some f
+push_font true p q f e at = let same : p ≡ q = cc in ap current_of same ∙ at
+push_font false p q f e at = absurd cc
+
+turn_font : (widths : Widths) (most : ℕ) (i : Instruction) (p q : Pass) (f : ℤ) → turn (kept (acts widths)) most i p ≡ Some q → current_of q ≡ Some f → (current_of p ≡ Some f) ⊎ (i ≡ Do (FontNum f))
+turn_font widths most (Do Nop) (Between pages) q f e at = let same : Between pages ≡ q = cc in let none : None ≡ Some f = ap current_of same ∙ at in absurd cc
+turn_font widths most (Do (FontDef d)) (Between pages) q f e at = let same : Between pages ≡ q = cc in let none : None ≡ Some f = ap current_of same ∙ at in absurd cc
+turn_font widths most (Bop counts pointer) (Between pages) q f e at = let same : Inside pages counts [] [] start ≡ q = cc in let none : None ≡ Some f = ap current_of same ∙ at in absurd cc
+turn_font widths most i (Between pages) q f e at = absurd cc
+turn_font widths most (Do leaf) (Inside pages counts marks stack s) q f e at = drawn_font widths leaf pages counts marks stack s (kept_in (acts widths leaf s)) q f refl e at
+turn_font widths most Push (Inside pages counts marks stack s) q f e at = inl (push_font (nat_lt (length stack) most) (Inside pages counts marks (s.place ∷ stack) s) q f e at)
+turn_font widths most Pop (Inside pages counts marks [] s) q f e at = absurd cc
+turn_font widths most Pop (Inside pages counts marks (p ∷ stack) s) q f e at =
+    let same : Inside pages counts marks stack (record { place = p; font = s.font }) ≡ q = cc in inl (ap current_of same ∙ at)
+turn_font widths most Eop (Inside pages counts marks [] s) q f e at =
+    let same : Between (pages ++ record { counts = counts; marks = marks } ∷ []) ≡ q = cc in let none : None ≡ Some f = ap current_of same ∙ at in absurd cc
+turn_font widths most Eop (Inside pages counts marks (p ∷ stack) s) q f e at = absurd cc
+turn_font widths most i (Inside pages counts marks stack s) q f e at = absurd cc
+
+-- One instruction more.
+pub stepped : (files : List NamedBytes) (table : List Definition) (most at : ℕ) (i : Instruction) (old mid new : Walk) → AllByRecursion (IsSound (file_widths files) table) old.fonts.items
+    → IsCurrent old.fonts.items old.stand → PassesOn most i old mid → Notes (file_widths files) table at i mid new → Steps (file_widths files) table most at i old new
+stepped files table most at i old mid new sound current passes notes =
+    let metrics : Metrics = file_widths files in
+    let asked = asked_is metrics table old.fonts.items (map page_of old.done.items) i old.stand sound current in
+    let same_stand : stand_of new ≡ stand_of mid = ap₂ (λ (pages : List MarkedPage) (stand : Stand). pass_at pages stand) notes.pages notes.stand in
+    let goes_on : turn (kept (acts (widths_of metrics table))) most i (stand_of old) ≡ Some (stand_of new) =
+    sym (one_width (widths_of metrics table) (asked_width old.fonts.items (selected_in old.stand) (code_in i)) most i (stand_of old) asked) ∙ (passes.goes_on ∙ ap (λ (p : Pass). Some p) (sym same_stand)) in
+    record {
+      goes_on = goes_on;
+      bop = notes.bop ∙ passes.left;
+      right = subst (λ (ds : List Definition). IsRightAfter ds i) passes.known notes.right;
+      known_is = notes.known_is ∙ ap (λ (ds : List Definition). ds ++ definition_of i) passes.known;
+      widths = notes.widths;
+      sound = notes.sound;
+      current = λ f at_new.
+          by_font f
+          (turn_font (widths_of metrics table) most i (stand_of old) (stand_of new) f goes_on (current_same (map page_of new.done.items) new.stand ∙ at_new));
+    }
+  where
+    by_font : (f : ℤ) → (current_of (stand_of old) ≡ Some f) ⊎ (i ≡ Do (FontNum f)) → IsSome (read_of f new.fonts.items)
+    by_font f (inl before) =
+        notes.kept f (subst (λ (fonts : List ReadFont). IsSome (read_of f fonts)) (sym passes.fonts) (current f (sym (current_same (map page_of old.done.items) old.stand) ∙ before)))
+    by_font f (inr selected) = notes.read f selected
+
+-- A fault of the pass, and one of what is noted.
+pub pass_fault : (files : List NamedBytes) (table : List Definition) (most at : ℕ) (i : Instruction) (old : Walk) (fault : StepFault) → AllByRecursion (IsSound (file_widths files) table) old.fonts.items
+    → IsCurrent old.fonts.items old.stand → BreaksPass most i old fault → BreaksStep files table most at i old fault
+pass_fault files table most at i old OutOfMemory sound current b = tt
+pass_fault files table most at i old (Broken cause) sound current b =
+    inl (breaks_same (widths_of (file_widths files) table) (asked_width old.fonts.items (selected_in old.stand) (code_in i)) most i (stand_of old) cause
+    (asked_is (file_widths files) table old.fonts.items (map page_of old.done.items) i old.stand sound current) b)
+pass_fault files table most at i old (Refused refusal) sound current b = absurd b
+
+pub note_fault : (files : List NamedBytes) (table : List Definition) (most at : ℕ) (i : Instruction) (old mid : Walk) (fault : StepFault) → PassesOn most i old mid → BreaksNote files table at i mid fault
+    → BreaksStep files table most at i old fault
+note_fault files table most at i old mid OutOfMemory passes b = tt
+note_fault files table most at i old mid (Broken cause) passes b = inr (subst₂ (λ (ds : List Definition) (left : List ℕ). BreaksRest table ds at left i cause) passes.known passes.left b)
+note_fault files table most at i old mid (Refused refusal) passes b = b

@@ -1,0 +1,3 @@
+pub mod ReadFonts
+pub mod Steps
+pub mod Walks

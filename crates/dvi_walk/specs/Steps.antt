@@ -1,0 +1,124 @@
+-- One instruction of the pages, with the fonts of the file (own).
+use Rattle.std.specs.Prelude.{◌≡◌, ◌≢◌, ◌++◌, ◌⊎◌, List, map, reverse, ℕ, ℤ, Option, Some, None, IsSome}
+use Rattle.std.specs.List.{AllByRecursion}
+use Rattle.dvi_fonts.specs.Widths.{IsFontRefusal}
+use Rattle.dvi_fonts.specs.declared.widths.FontRefusal.{FontRefusal}
+use Rattle.dvi_fonts.specs.declared.widths.FontRefusal.TheVariants as refusals
+use Rattle.dvi_frame.specs.declared.fault.DviCause.{DviCause}
+use Rattle.dvi_frame.specs.declared.fault.DviCause.TheVariants.{Pointer, Font}
+use Rattle.dvi_ops.specs.Body.{acts, kept}
+use Rattle.dvi_ops.specs.Fonts.{Metrics, IsRightAfter, defined, definition_of, selection_of, widths_of}
+use Rattle.dvi_ops.specs.Instruction.{Definition, FontNum, Instruction, Do}
+use Rattle.dvi_ops.specs.Tokens.{place_of}
+use Rattle.dvi_ops.specs.View.{definition}
+use Rattle.dvi_pass.specs.Drawing.{always}
+use Rattle.dvi_pass.specs.Pass.{Pass, turn}
+use Rattle.dvi_pass.specs.Reached.{HasWidths}
+use Rattle.dvi_pass.specs.Turning.{BreaksTurn, pass_at}
+use Rattle.dvi_pass.specs.View.{page_of}
+use Rattle.dvi_walk.specs.ReadFonts.{IsCurrent, IsSound, asked_width, code_in, read_of, selected_in}
+use Rattle.dvi_walk.specs.declared.fault.StepFault.{StepFault}
+use Rattle.dvi_walk.specs.declared.fault.StepFault.TheVariants.{OutOfMemory, Broken, Refused}
+use Rattle.dvi_walk.specs.declared.read_fonts.ReadFont.{ReadFont}
+use Rattle.dvi_walk.specs.declared.walk.Walk.{Walk}
+use Rattle.tfm_core.specs.FileWidths.{file_widths}
+use Rattle.tfm_core.specs.NamedBytes.{NamedBytes}
+
+-- A font was selected: it is defined before, has widths among the definitions of the postamble, and was read.
+pub record Selects (metrics : Metrics) (table known : List Definition) (f : ℤ) (old new : List ReadFont) : Type 0 where
+  pub before : IsSome (defined f known)
+  pub widths : HasWidths metrics table f
+  pub read : IsSome (read_of f new)
+  pub sound : AllByRecursion (IsSound metrics table) new
+  pub kept : (g : ℤ) → IsSome (read_of g old) → IsSome (read_of g new)
+
+-- A selected font is not defined before, or not in the postamble.
+abbrev pub IsUndefined : (table known : List Definition) → ℤ → Type 0
+IsUndefined table known f = (defined f known ≡ None) ⊎ (defined f table ≡ None)
+
+-- What is said of the font that the postamble defines: no file of its name was handed in, or that file is bad, or does not fit at that size.
+pub record IsUnread (files : List NamedBytes) (table : List Definition) (f : ℤ) (refusal : FontRefusal) : Type 0 where
+  pub font : Definition
+  pub found : defined f table ≡ Some font
+  pub other : refusal ≢ refusals.OutOfMemory
+  pub refused : IsFontRefusal files font refusal
+
+-- Why a font was not selected; want of memory may come at any time.
+abbrev pub IsSelectFault : List NamedBytes → (table known : List Definition) → ℤ → StepFault → Type 0
+IsSelectFault files table known f OutOfMemory = Unit {0}
+IsSelectFault files table known f (Broken cause) = (cause ≡ Font) × IsUndefined table known f
+IsSelectFault files table known f (Refused refusal) = IsUnread files table f refusal
+
+-- Where a walk stands in the pass, and the definitions that it knows.
+abbrev pub stand_of : Walk → Pass
+stand_of walk = pass_at (map page_of walk.done.items) walk.stand
+
+abbrev pub known_of : Walk → List Definition
+known_of walk = map definition walk.known.items
+
+-- The places of the pages that are still to come.
+abbrev pub places_left : Walk → List ℕ
+places_left walk = reverse walk.left.items
+
+-- What an instruction says of pages and fonts is right, and was kept: a bop is the next page, a definition is behind the others, a selected font was read.
+pub record Notes (metrics : Metrics) (table : List Definition) (at : ℕ) (i : Instruction) (old new : Walk) : Type 0 where
+  pub bop : place_of at i ++ places_left new ≡ places_left old
+  pub right : IsRightAfter (known_of old) i
+  pub known_is : known_of new ≡ known_of old ++ definition_of i
+  pub widths : AllByRecursion (HasWidths metrics table) (selection_of i)
+  pub read : (f : ℤ) → i ≡ Do (FontNum f) → IsSome (read_of f new.fonts.items)
+  pub kept : (g : ℤ) → IsSome (read_of g old.fonts.items) → IsSome (read_of g new.fonts.items)
+  pub sound : AllByRecursion (IsSound metrics table) new.fonts.items
+  pub pages : map page_of new.done.items ≡ map page_of old.done.items
+  pub stand : new.stand ≡ old.stand
+
+-- What an instruction says of pages or fonts is not right: a bop is not the next page; a definition has no size or differs; a selected font is not defined
+-- before, or not in the postamble.
+abbrev pub BreaksRest : (table known : List Definition) → (at : ℕ) → (left : List ℕ) → Instruction → DviCause → Type 0
+BreaksRest table known at left i Pointer = (later : List ℕ) → place_of at i ++ later ≡ left → ⊥
+BreaksRest table known at left i Font = (IsRightAfter known i → ⊥) ⊎ (f : ℤ) × (i ≡ Do (FontNum f)) × (defined f table ≡ None)
+BreaksRest table known at left i cause = ⊥
+
+-- The same of a fault; a selected font may have no widths, and want of memory may come at any time.
+abbrev pub BreaksNote : List NamedBytes → (table : List Definition) → (at : ℕ) → Instruction → Walk → StepFault → Type 0
+BreaksNote files table at i walk OutOfMemory = Unit {0}
+BreaksNote files table at i walk (Broken cause) = BreaksRest table (known_of walk) at (places_left walk) i cause
+BreaksNote files table at i walk (Refused refusal) = (f : ℤ) × (i ≡ Do (FontNum f)) × IsUnread files table f refusal
+
+-- The width of the character that an instruction sets or puts, in the font that is selected.
+abbrev pub asked_of : Walk → Instruction → Option ℤ
+asked_of walk i = asked_width walk.fonts.items (selected_in walk.stand) (code_in i)
+
+-- The pass goes on, and all else stays.
+pub record PassesOn (most : ℕ) (i : Instruction) (old new : Walk) : Type 0 where
+  pub goes_on : turn (kept (acts (always (asked_of old i)))) most i (stand_of old) ≡ Some (stand_of new)
+  pub known : known_of new ≡ known_of old
+  pub fonts : new.fonts.items ≡ old.fonts.items
+  pub left : places_left new ≡ places_left old
+
+-- It does not go on.
+abbrev pub BreaksPass : (most : ℕ) → Instruction → Walk → StepFault → Type 0
+BreaksPass most i walk OutOfMemory = Unit {0}
+BreaksPass most i walk (Broken cause) = BreaksTurn (acts (always (asked_of walk i))) most i (stand_of walk) cause
+BreaksPass most i walk (Refused refusal) = ⊥
+
+-- One instruction more: the pass goes on, and what it says is right and was kept.
+pub record Steps (metrics : Metrics) (table : List Definition) (most at : ℕ) (i : Instruction) (old new : Walk) : Type 0 where
+  pub goes_on : turn (kept (acts (widths_of metrics table))) most i (stand_of old) ≡ Some (stand_of new)
+  pub bop : place_of at i ++ places_left new ≡ places_left old
+  pub right : IsRightAfter (known_of old) i
+  pub known_is : known_of new ≡ known_of old ++ definition_of i
+  pub widths : AllByRecursion (HasWidths metrics table) (selection_of i)
+  pub sound : AllByRecursion (IsSound metrics table) new.fonts.items
+  pub current : IsCurrent new.fonts.items new.stand
+
+-- A rule that an instruction breaks: of the pass, of the pages or of the fonts.
+abbrev pub BreaksRule : (metrics : Metrics) → (table : List Definition) → (most at : ℕ) → Instruction → Walk → DviCause → Type 0
+BreaksRule metrics table most at i walk cause =
+    BreaksTurn (acts (widths_of metrics table)) most i (stand_of walk) cause ⊎ BreaksRest table (known_of walk) at (places_left walk) i cause
+
+-- The same of a fault.
+abbrev pub BreaksStep : List NamedBytes → (table : List Definition) → (most at : ℕ) → Instruction → Walk → StepFault → Type 0
+BreaksStep files table most at i walk OutOfMemory = Unit {0}
+BreaksStep files table most at i walk (Broken cause) = BreaksRule (file_widths files) table most at i walk cause
+BreaksStep files table most at i walk (Refused refusal) = (f : ℤ) × (i ≡ Do (FontNum f)) × IsUnread files table f refusal

@@ -1,0 +1,116 @@
+//! One instruction of the pages, with the fonts of the file (DVItype, 15 and 18).
+
+ghost use Rattle.std.specs.Prelude.{◌≡◌, ◌++◌, ◌∷◌, false, List, map, reverse, true, ℕ, IfErr, OnOk};
+ghost use Rattle.std.specs.List.{AllByRecursion};
+ghost use Rattle.dvi_ops.specs.Fonts.{IsSize};
+ghost use Rattle.dvi_ops.specs.View.{definition, view};
+ghost use Rattle.dvi_walk.specs.ReadFonts.{HasByteCodes, IsCurrent, IsSound};
+ghost use Rattle.dvi_walk.specs.Steps.{BreaksNote, BreaksPass, BreaksStep, Notes, PassesOn, Steps};
+ghost use Rattle.tfm_core.specs.FileWidths.{file_widths};
+
+use crate::fault::StepFault;
+use crate::read_fonts::width_asked;
+use crate::selecting::select;
+use crate::walk::Walk;
+use dvi_closing::define;
+use dvi_fonts::Number;
+use dvi_frame::DviCause;
+use dvi_ops::{FontDefinition, Op};
+use dvi_pass::{PassFault, Stand, turn};
+use std::alloc::Global;
+use std::mem;
+use tfm_core::FontFile;
+
+/// Takes the next place of a page, if it is this one. The places that are still to come stand with the last one first.
+fn is_next(left: &mut Vec<usize>, at: usize) -> bool
+    ensures yes { result ≡ true → at ∷ reverse left.new.items ≡ reverse left.old.items }
+    ensures no { result ≡ false → (later : List ℕ) → at ∷ later ≡ reverse left.old.items → ⊥ }
+{
+    match left.pop() {
+        Some(place) => place == at,
+        None => false,
+    }
+}
+
+/// What an instruction of the pages says of pages and fonts: a bop is the next page, a definition is right, a selected font is there.
+fn note<'a>(
+    alloc: Global,
+    files: &[FontFile],
+    table: &[FontDefinition<'_>],
+    walk: &mut Walk<'a>,
+    at: usize,
+    op: &Op<'a>,
+) -> Result<(), StepFault>
+    requires sizes { AllByRecursion (λ d. IsSize d.size) (map definition table.now) }
+    requires sound { AllByRecursion (IsSound (file_widths files.now) (map definition table.now)) walk.old.fonts.items }
+    ensures ok { OnOk result (Notes (file_widths files.now) (map definition table.now) at (view op.now) walk.old walk.new) }
+    ensures bad { IfErr result (BreaksNote files.now (map definition table.now) at (view op.now) walk.old) }
+{
+    match *op {
+        Op::Bop { .. } => {
+            if is_next(&mut walk.left, at) {
+                Ok(())
+            } else {
+                Err(StepFault::Broken(DviCause::Pointer))
+            }
+        }
+        Op::FontDef(font) => match define(&mut walk.known, &font) {
+            Ok(()) => Ok(()),
+            Err(PassFault::Broken(cause)) => Err(StepFault::Broken(cause)),
+            Err(PassFault::OutOfMemory) => Err(StepFault::OutOfMemory),
+        },
+        Op::FontNum(value) => select(
+            alloc,
+            files,
+            table,
+            &walk.known,
+            &mut walk.fonts,
+            Number { value },
+        ),
+        _ => Ok(()),
+    }
+}
+
+/// Takes an instruction where the pass stands.
+fn pass_on(alloc: Global, most: usize, op: &Op<'_>, walk: &mut Walk<'_>) -> Result<(), StepFault>
+    requires { AllByRecursion HasByteCodes walk.old.fonts.items }
+    ensures ok { OnOk result (PassesOn most (view op.now) walk.old walk.new) }
+    ensures bad { IfErr result (BreaksPass most (view op.now) walk.old) }
+{
+    let width = width_asked(&walk.stand, &walk.fonts, op);
+    let stand = mem::replace(&mut walk.stand, Stand::Between);
+    match turn(alloc, stand, &mut walk.done, most, op, width) {
+        Ok(next) => {
+            walk.stand = next;
+            Ok(())
+        }
+        Err(PassFault::Broken(cause)) => Err(StepFault::Broken(cause)),
+        Err(PassFault::OutOfMemory) => Err(StepFault::OutOfMemory),
+    }
+}
+
+/// Takes an instruction of the pages at a place, at most so many pushes being open (DVItype, 15 and 18). It takes memory for marks, pages, places, definitions and fonts.
+pub fn step<'a>(
+    alloc: Global,
+    files: &[FontFile],
+    table: &[FontDefinition<'_>],
+    most: usize,
+    at: usize,
+    op: &Op<'a>,
+    walk: &mut Walk<'a>,
+) -> Result<(), StepFault>
+    requires sizes { AllByRecursion (λ d. IsSize d.size) (map definition table.now) }
+    requires sound { AllByRecursion (IsSound (file_widths files.now) (map definition table.now)) walk.old.fonts.items }
+    requires current { IsCurrent walk.old.fonts.items walk.old.stand }
+    ensures ok { OnOk result (Steps (file_widths files.now) (map definition table.now) most at (view op.now) walk.old walk.new) }
+    // The rule that a fault names is broken.
+    ensures bad { IfErr result (BreaksStep files.now (map definition table.now) most at (view op.now) walk.old) }
+{
+    if let Err(fault) = pass_on(alloc, most, op, walk) {
+        return Err(fault);
+    }
+    match note(alloc, files, table, walk, at, op) {
+        Ok(()) => Ok(()),
+        Err(fault) => Err(fault),
+    }
+}

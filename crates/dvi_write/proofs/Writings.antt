@@ -1,0 +1,138 @@
+-- A writer, and the pages that it has written.
+use Rattle.std.proofs.Common.{◌≡◌, ◌≢◌, ℕ, ◌+◌, ◌<◌, ◌^◌, List, [], ◌∷◌, ◌++◌, length, take, refl, ap, sym, ◌∙◌, arith, append-nil, length-append}
+use Rattle.std.specs.Prelude.{false, Option, Some, None, Result, Ok, Err, OnOk, OnErr}
+use Rattle.std.proofs.Math.Seq.{take-append-add}
+use Rattle.std.proofs.lemmas.List.{nil_from_length}
+use Rattle.dvi_ops.proofs.Appends.{all_append}
+use Rattle.device_core.specs.Told.{grown, GrowsByFront}
+use Rattle.device_core.proofs.Tellings.{grown-grown}
+use Rattle.ship_core.specs.Marks.{Page}
+use Rattle.dvi_layout.specs.declared.progress.WriteFault.{WriteFault}
+use Rattle.dvi_layout.specs.declared.progress.WriteFault.TheVariants.{Device}
+use Rattle.dvi_layout.specs.Fonts.{Slots}
+use Rattle.dvi_layout.specs.Layout.{front, whole}
+use Rattle.dvi_layout.specs.Shippable.{IsRightPage}
+use Rattle.dvi_layout.specs.SoFar.{SoFar, nothing_so_far, next_bytes, with_next, last_bytes}
+use Rattle.dvi_layout.specs.Limits.{HasRoom}
+use Rattle.dvi_write.specs.Writing.{Writing, HasWritten}
+use Rattle.dvi_layout.proofs.Rooms.{small}
+use Rattle.dvi_layout.proofs.NextPages.{front-append, so_far-append, whole-is}
+
+grown-none : (told : Option (List ℕ)) → told ≡ grown told []
+grown-none None = refl
+grown-none (Some bytes) = ap Some (sym (append-nil bytes))
+
+-- A new writer has written no page.
+pub written_none : (fonts : Slots) (w : Writing) → w.so_far ≡ nothing_so_far → w.over ≡ false → HasWritten fonts w.told w []
+unfolding front
+written_none fonts w nothing running = record { told = grown-none w.told; so_far = nothing; right = tt; running = running }
+
+-- What was sent of a page behind others is front of all of them.
+sent_front : (fonts : Slots) (before : Option (List ℕ)) (w : Writing) (pages : List Page) (page : Page) (more : List ℕ) → HasWritten fonts before w pages
+    → grown w.told more ≡ grown before (front fonts pages ++ more)
+sent_front fonts before w pages page more written = ap (λ told. grown told more) written.told ∙ grown-grown before (front fonts pages) more
+
+next-same : (fonts : Slots) (before : Option (List ℕ)) (w : Writing) (pages : List Page) (page : Page) → HasWritten fonts before w pages
+    → front fonts pages ++ next_bytes fonts w.so_far page ≡ front fonts (pages ++ page ∷ [])
+next-same fonts before w pages page written =
+    ap (λ s. front fonts pages ++ next_bytes fonts s page) written.so_far ∙ sym (front-append fonts pages page)
+
+-- A writer that has sent a page has written it behind the others.
+pub written_more : (fonts : Slots) (before : Option (List ℕ)) (old new : Writing) (pages : List Page) (page : Page) → HasWritten fonts before old pages
+    → IsRightPage fonts page → new.so_far ≡ with_next fonts old.so_far page → new.told ≡ grown old.told (next_bytes fonts old.so_far page) → new.over ≡ false
+    → HasWritten fonts before new (pages ++ page ∷ [])
+written_more fonts before old new pages page written right kept told running =
+    record {
+      told =
+          told ∙ (sent_front fonts before old pages page (next_bytes fonts old.so_far page) written ∙ ap (grown before) (next-same fonts before old pages page written));
+      so_far = kept ∙ (ap (λ s. with_next fonts s page) written.so_far ∙ sym (so_far-append fonts pages page));
+      right = all_append (IsRightPage fonts) pages (page ∷ []) written.right (right, tt);
+      running = running;
+    }
+
+-- A beginning of what stands behind other bytes.
+front_behind : (before old new : Option (List ℕ)) (front more whole : List ℕ) → old ≡ grown before front → front ++ more ≡ whole → GrowsByFront old new more → GrowsByFront before new whole
+front_behind before old new front more whole told same grows =
+    let n = grows.0 in (
+      length front + n,
+      omega (arith, ap length same, length-append front more, grows.1),
+      grows.2
+          ∙ (ap (λ told. grown told (take n more)) told
+          ∙ (grown-grown before front (take n more)
+          ∙ ap (grown before) (sym (take-append-add front more n) ∙ ap (take (length front + n)) same))),
+    )
+
+-- A device that failed in a page has taken a beginning of the front with this page.
+pub part_more : (fonts : Slots) (before new : Option (List ℕ)) (old : Writing) (pages : List Page) (page : Page) → HasWritten fonts before old pages
+    → GrowsByFront old.told new (next_bytes fonts old.so_far page) → GrowsByFront before new (front fonts (pages ++ page ∷ []))
+part_more fonts before new old pages page written grows =
+    front_behind before old.told new (front fonts pages) (next_bytes fonts old.so_far page) (front fonts (pages ++ page ∷ [])) written.told
+    (next-same fonts before old pages page written) grows
+
+-- There are pages where they are counted.
+pub some_pages : (fonts : Slots) (before : Option (List ℕ)) (w : Writing) (pages : List Page) → HasWritten fonts before w pages → w.so_far.pages ≢ 0 → pages ≢ []
+some_pages fonts before w pages written some none = some (ap (λ (s : SoFar). s.pages) written.so_far ∙ ap length none)
+
+pub no_pages : (fonts : Slots) (before : Option (List ℕ)) (w : Writing) (pages : List Page) → HasWritten fonts before w pages → w.so_far.pages ≡ 0 → pages ≡ []
+no_pages fonts before w pages written none = nil_from_length pages (sym (ap (λ (s : SoFar). s.pages) written.so_far) ∙ none)
+
+whole-same : (fonts : Slots) (before : Option (List ℕ)) (w : Writing) (pages : List Page) → HasWritten fonts before w pages → w.so_far.pages ≢ 0
+    → front fonts pages ++ last_bytes fonts w.so_far ≡ whole fonts pages
+whole-same fonts before w pages written some =
+    ap (λ s. front fonts pages ++ last_bytes fonts s) written.so_far ∙ sym (whole-is fonts pages (some_pages fonts before w pages written some))
+
+-- What the device took is the whole file behind the end.
+pub ended_all : (fonts : Slots) (before new : Option (List ℕ)) (old : Writing) (pages : List Page) → HasWritten fonts before old pages → old.so_far.pages ≢ 0
+    → new ≡ grown old.told (last_bytes fonts old.so_far) → new ≡ grown before (whole fonts pages)
+ended_all fonts before new old pages written some told =
+    told
+    ∙ (ap (λ told. grown told (last_bytes fonts old.so_far)) written.told
+    ∙ (grown-grown before (front fonts pages) (last_bytes fonts old.so_far) ∙ ap (grown before) (whole-same fonts before old pages written some)))
+
+-- It is nothing where there are no pages.
+pub ended_none : (fonts : Slots) (before : Option (List ℕ)) (old : Writing) (pages : List Page) → HasWritten fonts before old pages → old.so_far.pages ≡ 0
+    → old.told ≡ grown before (whole fonts pages)
+unfolding front whole
+ended_none fonts before old pages written none =
+    let empty = no_pages fonts before old pages written none in
+    written.told ∙ (ap (λ pages. grown before (front fonts pages)) empty ∙ sym (ap (λ pages. grown before (whole fonts pages)) empty))
+
+-- It is a beginning of it where the device failed.
+pub ended_part : (fonts : Slots) (before new : Option (List ℕ)) (old : Writing) (pages : List Page) → HasWritten fonts before old pages → old.so_far.pages ≢ 0
+    → GrowsByFront old.told new (last_bytes fonts old.so_far) → GrowsByFront before new (whole fonts pages)
+ended_part fonts before new old pages written some grows =
+    front_behind before old.told new (front fonts pages) (last_bytes fonts old.so_far) (whole fonts pages) written.told (whole-same fonts before old pages written some) grows
+
+-- The length of the file, and the number of its pages.
+pub ended_size : (fonts : Slots) (before : Option (List ℕ)) (w : Writing) (pages : List Page) → HasWritten fonts before w pages → w.so_far.pages ≢ 0
+    → length (whole fonts pages) ≡ w.so_far.size + length (last_bytes fonts w.so_far)
+ended_size fonts before w pages written some =
+    omega (
+      arith,
+      ap length (whole-same fonts before w pages written some),
+      length-append (front fonts pages) (last_bytes fonts w.so_far),
+      ap (λ (s : SoFar). s.size) written.so_far,
+    )
+
+pub ended_count : (fonts : Slots) (before : Option (List ℕ)) (w : Writing) (pages : List Page) → HasWritten fonts before w pages → w.so_far.pages ≡ length pages
+ended_count fonts before w pages written = ap (λ (s : SoFar). s.pages) written.so_far
+
+-- What holds of a page behind the call of the device.
+pub sent_written : {A E : Type 0} (result : Result A E) (fonts : Slots) (old new : Writing) (page : Page) → IsRightPage fonts page → new.so_far ≡ with_next fonts old.so_far page
+    → OnOk result (new.told ≡ grown old.told (next_bytes fonts old.so_far page)) → OnOk result (new.over ≡ false)
+    → OnOk result ((before : Option (List ℕ)) (pages : List Page) → HasWritten fonts before old pages → HasWritten fonts before new (pages ++ page ∷ []))
+sent_written (Ok x) fonts old new page right kept told running = λ before pages written. written_more fonts before old new pages page written right kept told running
+sent_written (Err e) fonts old new page right kept told running = tt
+
+pub lost_page : {A : Type 0} (result : Result A WriteFault) (fonts : Slots) (old : Writing) (new : Option (List ℕ)) (page : Page)
+    → OnErr result (GrowsByFront old.told new (next_bytes fonts old.so_far page)) → result ≡ Err Device
+    → (before : Option (List ℕ)) (pages : List Page) → HasWritten fonts before old pages → GrowsByFront before new (front fonts (pages ++ page ∷ []))
+lost_page (Ok x) fonts old new page grows is = cc
+lost_page (Err e) fonts old new page grows is = λ before pages written. part_more fonts before new old pages page written grows
+
+pub none_ended : (fonts : Slots) (before : Option (List ℕ)) (w : Writing) (pages : List Page) → HasWritten fonts before w pages → w.so_far.pages ≡ 0 → 0 ≡ length (whole fonts pages)
+unfolding whole
+none_ended fonts before w pages written none = sym (ap (λ pages. length (whole fonts pages)) (no_pages fonts before w pages written none))
+
+pub written_small : (fonts : Slots) (before : Option (List ℕ)) (w : Writing) (pages : List Page) → HasWritten fonts before w pages → HasRoom w.so_far → length (front fonts pages) < 2 ^ 31
+written_small fonts before w pages written room = omega (arith, small w.so_far room, ap (λ (s : SoFar). s.size) written.so_far)

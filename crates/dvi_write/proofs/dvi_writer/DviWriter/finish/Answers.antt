@@ -1,0 +1,50 @@
+use Rattle.std.proofs.Common.{◌≢◌, ap, sym, ◌∙◌, length, arith}
+use Rattle.dvi_write.specs.Writing.{Writing}
+use Rattle.dvi_layout.proofs.Files.{file_shows}
+use Rattle.dvi_layout.proofs.Rooms.{small}
+use Rattle.dvi_write.proofs.Writings.{ended_all, ended_none, ended_part, ended_size, none_ended, written_small}
+use Rattle.dvi_write.proofs.dvi_writer.DviWriter.finish.Goals as goal
+
+pub returns-then-pages-eq0-clause-whole : goal.returns-then-pages-eq0-clause-whole
+returns-then-pages-eq0-clause-whole g c =
+    rw (← c.self.view_is) (λ before pages written. ended_none c.args.fonts.now before _ pages written (sym (sym c.if-pages-eq0.true ∙ c.pages-pages.ensures)))
+
+pub returns-then-pages-eq0-clause-size : goal.returns-then-pages-eq0-clause-size
+returns-then-pages-eq0-clause-size g c =
+    rw (← c.self.view_is) (λ before pages written. none_ended c.args.fonts.now before _ pages written (sym (sym c.if-pages-eq0.true ∙ c.pages-pages.ensures)))
+
+pub last_bytes-requires-clause-room : goal.last_bytes-requires-clause-room
+last_bytes-requires-clause-room g c = small c.self.inside.progress c.self.invariant.0
+
+pub returns-in_err-send-clause-part : goal.returns-in_err-send-clause-part
+returns-in_err-send-clause-part g c is =
+    let some : c.self.inside.progress.pages ≢ 0 = λ none. c.if-pages-eq0.false (c.pages-pages.ensures ∙ none) in
+    let front = rw (c.deref.ensures.value, c.in-Ok.ensures) at c.in_err-send.ensures.front in
+    rw (← c.self.view_is) (λ before pages written. ended_part c.args.fonts.now before c.send.new.self.told _ pages written some (rw (← c.self.view_is) at front))
+
+pub returns-clause-whole : goal.returns-clause-whole
+returns-clause-whole g c =
+    let some : c.self.inside.progress.pages ≢ 0 = λ none. c.if-pages-eq0.false (c.pages-pages.ensures ∙ none) in
+    let told = rw (c.deref.ensures.value, c.in-Ok.ensures) at c.in_ok-send.ensures.told in
+    rw (← c.self.view_is) (λ before pages written. ended_all c.args.fonts.now before _ _ pages written some (ap (λ (w : Writing). w.told) c.self-2.view_is ∙ (rw (← c.self.view_is) at told)))
+
+pub returns-clause-size : goal.returns-clause-size
+returns-clause-size g c =
+    let some : c.self.inside.progress.pages ≢ 0 = λ none. c.if-pages-eq0.false (c.pages-pages.ensures ∙ none) in
+    rw (← c.self.view_is)
+    (λ before pages written. omega (arith, ended_size c.args.fonts.now before _ pages written some, c.size.ensures, c.len.ensures, ap length c.in-Ok.ensures))
+
+pub returns-then-pages-eq0-clause-file : goal.returns-then-pages-eq0-clause-file
+returns-then-pages-eq0-clause-file g c =
+    rw (← c.self.view_is)
+    (λ before pages metrics written gives. file_shows metrics c.args.fonts.now pages gives c.can_be_defined.ensures written.right
+    (written_small c.args.fonts.now before _ pages written c.self.invariant.0))
+
+pub returns-clause-file : goal.returns-clause-file
+returns-clause-file g c =
+    rw (← c.self.view_is)
+    (λ before pages metrics written gives. file_shows metrics c.args.fonts.now pages gives c.can_be_defined.ensures written.right
+    (written_small c.args.fonts.now before _ pages written c.self.invariant.0))
+
+pub overflow_add-size : goal.overflow_add-size
+overflow_add-size g c = record { fits = omega (arith, small c.self.inside.progress c.self.invariant.0, c.size.ensures, c.len.ensures, c.in-Ok.bytes.small) }

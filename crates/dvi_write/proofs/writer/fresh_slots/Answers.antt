@@ -1,6 +1,0 @@
-use Rattle.std.proofs.Common.{◌∙◌, arith}
-use Rattle.dvi_write.proofs.FreshFonts.{fresh-is}
-use Rattle.dvi_write.proofs.writer.fresh_slots.Goals as goal
-
-pub returns : goal.returns
-returns c = c.loop-slot.invariant ∙ fresh-is _ _ _ c.loop-slot.slot (omega (arith, c.loop-slot-test.false, c.loop-slot.auto.slot-end))

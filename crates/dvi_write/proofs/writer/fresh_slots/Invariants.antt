@@ -1,8 +1,0 @@
-use Rattle.std.proofs.Common.{◌≡◌, map}
-use Rattle.std.specs.Prelude.{filter}
-use Rattle.dvi_ops.specs.View.{view}
-use Rattle.dvi_write.specs.Draft.{numbers_below, is_fresh}
-use Rattle.dvi_write.proofs.writer.fresh_slots.Given as goal
-
-abbrev pub invariant-loop-slot : goal.invariant-loop-slot
-invariant-loop-slot l = l.slots.items ≡ filter (is_fresh l.fonts l.defined (map view l.ops)) (numbers_below l.slot)

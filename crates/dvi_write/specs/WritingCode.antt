@@ -1,0 +1,19 @@
+-- How the logic stores what a writer is seen as (own; the model of `DviWriter` alone, no public clause speaks of it).
+use Rattle.std.specs.Prelude.{ℕ, ℤ, Bool, List, Option, refl}
+use Rattle.std.specs.Coded.{Coded, code_by, coded×, coded_ℕ, coded_ℤ, coded_bool, coded_list, coded_option}
+use Rattle.dvi_layout.specs.SoFar.{SoFar}
+use Rattle.dvi_write.specs.Writing.{Writing}
+
+-- How what is kept is stored: the place of the last bop, the length and the slots; the reaches and the depth; the numbers of pages and nodes.
+abbrev pub coded_so_far : Coded SoFar
+coded_so_far =
+    code_by (((ℤ × ℕ) × List ℕ) × (((ℤ × ℤ) × ℕ) × (ℕ × ℕ)))
+    (coded× (coded× (coded× coded_ℤ coded_ℕ) (coded_list coded_ℕ)) (coded× (coded× (coded× coded_ℤ coded_ℤ) coded_ℕ) (coded× coded_ℕ coded_ℕ)))
+    (λ s. (((s.last, s.size), s.defined), (((s.tall, s.wide), s.deep), (s.pages, s.nodes))))
+    (λ p. record { last = p.0.0.0; size = p.0.0.1; defined = p.0.1; tall = p.1.0.0.0; wide = p.1.0.0.1; deep = p.1.0.1; pages = p.1.1.0; nodes = p.1.1.1 }) (λ _. refl)
+
+-- How what a writer is seen as is stored: what it keeps, what its device tells, how often it failed, and whether it is over.
+abbrev pub coded_writing : Coded Writing
+coded_writing =
+    code_by ((SoFar × Option (List ℕ)) × (ℕ × Bool)) (coded× (coded× coded_so_far (coded_option (coded_list coded_ℕ))) (coded× coded_ℕ coded_bool))
+    (λ w. ((w.so_far, w.told), (w.failed, w.over))) (λ p. record { so_far = p.0.0; told = p.0.1; failed = p.1.0; over = p.1.1 }) (λ _. refl)

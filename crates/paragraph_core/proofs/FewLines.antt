@@ -1,0 +1,102 @@
+-- A paragraph has few lines, and they bring few items.
+use Rattle.std.proofs.Common.{◌≡◌, ℕ, zero, suc, ◌+◌, ◌*◌, ◌≤◌, Bool, true, false, cond, List, [], ◌∷◌, ◌++◌, length, length-append, reverse, refl, ap, arith, Option, Some, None}
+use Rattle.std.specs.Prelude.{ℤ, pos, flat_map, nat_lt}
+use Rattle.std.specs.List.{list_any}
+use Rattle.std.proofs.lemmas.Bool.Decides.{nat_tests}
+use Rattle.std.proofs.lemmas.List.{length-map, length-reverse}
+use Rattle.std.proofs.lemmas.List.Concat.{flat_map-append}
+use Rattle.node_core.specs.declared.params.Params.{Params}
+use Rattle.node_core.specs.declared.tree.BoxNode.{BoxNode}
+use Rattle.node_core.specs.declared.tree.Glue.{Glue}
+use Rattle.node_core.specs.declared.tree.Node.{Node}
+use Rattle.node_core.specs.declared.tree.Node.TheVariants as nodes
+use Rattle.pack_core.specs.Glue.{is_zero}
+use Rattle.break_table.specs.declared.state.State.{State}
+use Rattle.break_table.specs.Problems.{ends_of, places_of}
+use Rattle.break_table.specs.Chosen.{top, IsFalling}
+use Rattle.break_table.specs.Tables.{most_places}
+use Rattle.break_core.specs.declared.broken.Breaks.{Breaks}
+use Rattle.break_core.specs.Legal.{up_to, legal_places, shrinks_forever}
+use Rattle.break_core.specs.Passes.{facts_of, line_end, refusal, IsBroken}
+use Rattle.vert_core.specs.Interline.{interline, glue_of, appended}
+use Rattle.paragraph_core.specs.Lines.{BrokenParagraph, penalty_nodes, penalty_behind, behind_line, brought_by, depth_before, line_box, vertical_items}
+
+-- A falling list has no more places than its first one says.
+falling_length : (places : List ℕ) → IsFalling places → length places ≤ top places
+falling_length [] falls = omega arith
+falling_length (b ∷ rest) falls = omega (arith, falling_length rest falls.1, falls.0)
+
+as_many : (ends : List State) → length (places_of ends) ≡ length ends
+as_many [] = refl
+as_many (s ∷ ends) = ap suc (as_many ends)
+
+second_fails : {A : Type 0} (a b : Bool) (x y : A) → cond a (Some x) (cond b (Some y) None) ≡ None → b ≡ false
+second_fails true b x y is = absurd (cc)
+second_fails false true x y is = absurd (cc)
+second_fails false false x y is = refl
+
+-- A list that is not refused has few legal places.
+pub few_places : (list : List Node) → refusal list ≡ None → length (legal_places list) ≤ most_places
+few_places list is =
+    let test : nat_lt most_places (length (legal_places list)) ≡ false =
+    second_fails (list_any shrinks_forever list) (nat_lt most_places (length (legal_places list))) _ _ is in
+    grind (arith, nat_tests)
+
+-- And so it has few lines.
+pub few_lines : (list : List Node) (params : Params) (breaks : Breaks) → refusal list ≡ None → IsBroken (facts_of list) params breaks → length breaks.lines.items ≤ most_places
+few_lines list params breaks fits is =
+    let ends = ends_of is.path in
+    let is_list = is.chosen.is_list in
+    omega (
+      arith,
+      few_places list fits,
+      ap length is.lines,
+      length-map (reverse ends) (line_end (facts_of list)),
+      length-reverse ends,
+      as_many ends,
+      falling_length (places_of ends) is_list.falls,
+      is_list.ends,
+    )
+
+box_and_glue : (glue : Option Glue) (shift : ℤ) (b : BoxNode) → length (appended glue shift b) ≤ 2
+box_and_glue None shift b = omega arith
+box_and_glue (Some glue) shift b = omega arith
+
+one_node : (b : Bool) (x : Node) → length (cond b [] (x ∷ [])) ≤ 1
+one_node true x = omega arith
+one_node false x = omega arith
+
+one_penalty : (params : Params) (count line : ℕ) → length (behind_line params count line) ≤ 1
+one_penalty params count line = cases (nat_lt (line + 1) count)
+  where
+    cases : (b : Bool) → length (cond b (penalty_nodes (penalty_behind params count line)) []) ≤ 1
+    cases true = one_node (is_zero (penalty_behind params count line)) (nodes.Penalty (penalty_behind params count line))
+    cases false = omega arith
+
+brings_three : (p : BrokenParagraph) (line : ℕ) → length (brought_by p line) ≤ 3
+unfolding brought_by
+brings_three p line =
+    let glue = glue_of (interline p.params (depth_before p line) (line_box p line).height) in
+    omega (
+      arith,
+      length-append (appended glue (pos 0) (line_box p line)) (behind_line p.params (length p.places) line),
+      box_and_glue glue (pos 0) (line_box p line),
+      one_penalty p.params (length p.places) line,
+    )
+
+joined_short : {A : Type 0} (f : ℕ → List A) → ((i : ℕ) → length (f i) ≤ 3) → (n : ℕ) → length (flat_map f (up_to n)) ≤ 3 * n
+joined_short f short zero = omega arith
+joined_short f short (suc n) =
+    omega (
+      arith,
+      ap length (flat_map-append f (up_to n) (n ∷ [])),
+      length-append (flat_map f (up_to n)) (f n ++ []),
+      length-append (f n) [],
+      short n,
+      joined_short f short n,
+    )
+
+-- The lines bring at most three items each.
+pub few_items : (p : BrokenParagraph) → length (vertical_items p) ≤ 3 * length p.places
+unfolding vertical_items
+few_items p = joined_short (brought_by p) (brings_three p) (length p.places)

@@ -1,0 +1,91 @@
+//! The list of a paragraph is finished before it is broken into lines (TeX: The Program, part 38, §816).
+
+ghost use Rattle.std.specs.Prelude.{◌≡◌, ◌<◌, ◌++◌, ◌∷◌, [], List, length, slice_set, OnOk, OnErr, IfOk};
+ghost use Rattle.node_core.specs.declared.tree.Glue.{Glue};
+ghost use Rattle.node_core.specs.declared.tree.Node.{Node};
+ghost use Rattle.paragraph_core.specs.Finished.{final_glue, finished};
+
+use node_core::{Glue, Node};
+use std::alloc::AllocError;
+
+/// The penalty at the end of a paragraph: no line ends there.
+const NO_BREAK: i32 = 10_000;
+
+/// The glue at the end of a list, if its last item is glue.
+fn final_glue(nodes: &[Node]) -> Option<Glue>
+    ensures { result ≡ final_glue nodes.now }
+{
+    match nodes.last() {
+        Some(Node::Glue(glue)) => Some(*glue),
+        _ => None,
+    }
+}
+
+/// Puts a node behind others. A refused growth leaves them as they were.
+fn push_one(nodes: &mut Vec<Node>, node: Node) -> Result<(), AllocError>
+    ensures ok { OnOk result (nodes.new.items ≡ nodes.old.items ++ node ∷ []) }
+    ensures err { OnErr result (nodes.new.items ≡ nodes.old.items) }
+{
+    match nodes.push(node) {
+        Ok(()) => Ok(()),
+        Err(_) => Err(AllocError),
+    }
+}
+
+/// Puts two nodes behind others. A refused growth leaves them as they were.
+fn push_two(nodes: &mut Vec<Node>, first: Node, second: Node) -> Result<(), AllocError>
+    ensures ok { OnOk result (nodes.new.items ≡ nodes.old.items ++ first ∷ second ∷ []) }
+    ensures err { OnErr result (nodes.new.items ≡ nodes.old.items) }
+{
+    push_one(nodes, first)?;
+    match push_one(nodes, second) {
+        Ok(()) => Ok(()),
+        Err(AllocError) => {
+            nodes.pop();
+            Err(AllocError)
+        }
+    }
+}
+
+/// Puts a node in the place of one of others.
+fn put_at(nodes: &mut Vec<Node>, index: usize, node: Node)
+    requires { index < length nodes.old.items }
+    ensures { nodes.new.items ≡ slice_set nodes.old.items index node }
+{
+    nodes[index] = node;
+}
+
+/// Finishes the list of a paragraph that is not empty: glue at its end is replaced by a penalty of 10000, or else this penalty is put behind it, and then
+/// parfillskip. It answers the glue that it replaced. A refused growth leaves the list as it was.
+pub fn finish_paragraph(
+    nodes: &mut Vec<Node>,
+    par_fill_skip: Glue,
+) -> Result<Option<Glue>, AllocError>
+    ensures ok { OnOk result (nodes.new.items ≡ finished nodes.old.items par_fill_skip) }
+    ensures replaced { IfOk result (λ glue. glue ≡ final_glue nodes.old.items) }
+    ensures err { OnErr result (nodes.new.items ≡ nodes.old.items) }
+{
+    let count = nodes.len();
+    let Some(glue) = final_glue(nodes) else {
+        push_two(nodes, Node::Penalty(NO_BREAK), Node::Glue(par_fill_skip))?;
+        return Ok(None);
+    };
+    push_one(nodes, Node::Glue(par_fill_skip))?;
+    put_at(nodes, count - 1, Node::Penalty(NO_BREAK));
+    Ok(Some(glue))
+}
+
+/// Makes a finished list what it was before it was finished: the glue comes back that was replaced, if there was some.
+pub fn unfinish_paragraph(nodes: &mut Vec<Node>, replaced: Option<Glue>)
+    requires { (list : List Node) × (par_fill_skip : Glue) × (nodes.old.items ≡ finished list par_fill_skip) × (replaced ≡ final_glue list) }
+    ensures { (list : List Node) → (par_fill_skip : Glue) → nodes.old.items ≡ finished list par_fill_skip → replaced ≡ final_glue list → nodes.new.items ≡ list }
+{
+    let count = nodes.len();
+    match replaced {
+        None => nodes.truncate(count.saturating_sub(2)),
+        Some(glue) => {
+            nodes.truncate(count.saturating_sub(1));
+            put_at(nodes, count - 2, Node::Glue(glue));
+        }
+    }
+}

@@ -1,0 +1,58 @@
+//! Laws of the definitions, each on a function that does nothing.
+
+ghost use Rattle.std.specs.Prelude.{◌≡◌, ◌≢◌, ◌<◌, ◌+ℤ◌, ◌++◌, ℕ, ℤ, pos, List, [], ◌∷◌, flat_map, length, None, Ok, Err};
+ghost use Rattle.node_core.specs.declared.params.Params.{Params};
+ghost use Rattle.node_core.specs.declared.tree.Node.{Node};
+ghost use Rattle.node_core.specs.Parameters.{first_params};
+ghost use Rattle.vert_core.specs.Interline.{interline, glue_of, appended};
+ghost use Rattle.paragraph_core.specs.Lines.{line_box, penalty_nodes, vertical_items, last_depth};
+ghost use Rattle.break_core.specs.Passes.{refusal};
+ghost use Rattle.paragraph_core.specs.declared.paragraph.SetParagraph.{SetParagraph};
+ghost use Rattle.paragraph_core.specs.declared.paragraph.ParagraphFault.{ParagraphFault};
+ghost use Rattle.paragraph_core.specs.declared.paragraph.ParagraphFault.TheVariants.{OutOfMemory};
+ghost use Rattle.paragraph_core.specs.Finished.{finished};
+ghost use Rattle.paragraph_core.specs.Paragraphs.{IsSetParagraph, IsUnset};
+ghost use Rattle.paragraph_core.specs.Setting.{setting};
+ghost use Rattle.paragraph_core.specs.Rows.{penalties_of, with_penalties, greatest_penalties, in_two, two_short_lines, numbers_in};
+
+/// Behind a line of two stand all three penalties, added; of more lines clubpenalty behind the first one and widowpenalty behind the last but one.
+/// Nothing stands behind the last line, nor where the sum is 0.
+pub fn penalties_between_lines()
+    ensures one { penalties_of with_penalties 1 ≡ [] }
+    ensures two { penalties_of with_penalties 2 ≡ pos 111 ∷ [] }
+    ensures three { penalties_of with_penalties 3 ≡ pos 11 ∷ pos 101 ∷ [] }
+    ensures four { penalties_of with_penalties 4 ≡ pos 11 ∷ pos 1 ∷ pos 101 ∷ [] }
+    ensures first { penalties_of first_params 4 ≡ pos 150 ∷ pos 150 ∷ [] }
+    ensures greatest { penalties_of greatest_penalties 2 ≡ pos 1500000000 ∷ [] }
+{}
+
+/// Two lines: each box stands behind glue by the depth in front of it, the first one by that of the list around, and the penalty stands between.
+#[tactic(auto, unfolding(crate::specs::Lines::vertical_items, crate::specs::Lines::brought_by, crate::specs::Lines::last_depth))]
+pub fn two_lines()
+    ensures items { (list : List Node) → (first last : ℕ) → (params : Params) → (previous : ℤ) →
+        vertical_items (in_two list first last params previous) ≡
+        appended (glue_of (interline params previous (line_box (in_two list first last params previous) 0).height)) (pos 0) (line_box (in_two list first last params previous) 0)
+        ++ (penalty_nodes ((params.interline_penalty +ℤ params.club_penalty) +ℤ params.widow_penalty)
+        ++ appended (glue_of (interline params (line_box (in_two list first last params previous) 0).depth (line_box (in_two list first last params previous) 1).height)) (pos 0)
+        (line_box (in_two list first last params previous) 1)) }
+    ensures depth { (list : List Node) → (first last : ℕ) → (params : Params) → (previous : ℤ) →
+        last_depth (in_two list first last params previous) ≡ (line_box (in_two list first last params previous) 1).depth }
+{}
+
+/// A paragraph of three rules in two lines of 40pt: two boxes, each 1pt high, whose baselines are 12pt apart, and the penalties for a first line and for
+/// the last line but one between them.
+#[tactic(auto, unfolding(crate::specs::Lines::last_depth, crate::specs::Lines::line_box, crate::specs::Lines::boxed_line, pack_core::specs::Boxes::hbox))]
+pub fn two_lines_of_rules()
+    ensures items { flat_map numbers_in (vertical_items two_short_lines) ≡
+        pos 2621440 ∷ pos 65536 ∷ pos 0 ∷ pos 300 ∷ pos 720896 ∷ pos 2621440 ∷ pos 65536 ∷ pos 0 ∷ [] }
+    ensures depth { last_depth two_short_lines ≡ pos 0 }
+    ensures finished { length two_short_lines.nodes ≡ 8 }
+{}
+
+/// A paragraph is set in one way, if it is set, or there is one cause why it is not; but memory may be wanted at any time.
+pub fn one_setting()
+    ensures set { (list : List Node) → (params : Params) → (previous : ℤ) → (set : SetParagraph) →
+        (0 < length list → refusal (finished list params.par_fill_skip) ≡ None) → IsSetParagraph list params previous set → setting list params previous ≡ Ok set }
+    ensures unset { (list : List Node) → (params : Params) → (previous : ℤ) → (fault : ParagraphFault) → 0 < length list → fault ≢ OutOfMemory →
+        IsUnset (finished list params.par_fill_skip) params previous fault → setting list params previous ≡ Err fault }
+{}

@@ -1,0 +1,139 @@
+//! The boxes of the lines of a paragraph.
+
+ghost use Rattle.std.specs.Prelude.{◌≡◌, ◌≤◌, ◌+◌, ◌++◌, [], true, false, length, drop, slice_get, IfOk, IfErr, OnOk};
+ghost use Rattle.std.specs.List.{cons_option};
+ghost use Rattle.std.specs.Result.{is_ok};
+ghost use Rattle.node_core.specs.Nodes.{most_nodes, items_of, nodes_of};
+ghost use Rattle.break_core.specs.Kept.{at_break, without_first, kept};
+ghost use Rattle.paragraph_core.specs.Lines.{boxed_line, items_fit};
+
+use node_core::{BoxNode, Node, NodeList, Params};
+use pack_core::{Target, hpack};
+use scaled_core::Dimen;
+use std::alloc::{AllocError, Global};
+use thiserror::Error;
+
+/// Why the lines of a paragraph were not put together.
+#[derive(Clone, Copy, Debug, PartialEq, Eq, Error)]
+pub enum LinesFault {
+    /// A number of the box of a line, or the glue in front of it, does not fit.
+    #[error("a size of a line is too large")]
+    DimensionTooLarge,
+    /// A growth was refused.
+    #[error("out of memory")]
+    OutOfMemory,
+}
+
+/// The items of a list without those that are dropped at the beginning of a line.
+fn without_first(nodes: &[Node]) -> &[Node]
+    ensures { result.now ≡ without_first nodes.now }
+{
+    for index in 0..nodes.len() {
+        if !nodes[index].class().is_discardable() {
+            return &nodes[index..];
+        }
+    }
+    &[]
+}
+
+/// The items behind a place.
+fn behind(nodes: &[Node], place: usize) -> &[Node]
+    ensures { result.now ≡ drop (place + 1) nodes.now }
+{
+    if place >= nodes.len() {
+        return &[];
+    }
+    &nodes[place + 1..]
+}
+
+/// The items that a line keeps in front of the place where it ends.
+fn front_of(nodes: &[Node], begin: Option<usize>, end: usize) -> &[Node]
+    ensures { result.now ++ at_break (slice_get nodes.now end) ≡ kept nodes.now begin end }
+{
+    let front = &nodes[..end.min(nodes.len())];
+    match begin {
+        None => front,
+        Some(begin) => without_first(behind(front, begin)),
+    }
+}
+
+/// What a line keeps of the item that it ends at, if there is one.
+fn kept_at(nodes: &[Node], end: usize) -> Option<Node>
+    ensures { cons_option result [] ≡ at_break (slice_get nodes.now end) }
+{
+    match nodes.get(end) {
+        Some(Node::Kern(_)) => Some(Node::Kern(Dimen::ZERO)),
+        Some(Node::Penalty(penalty)) => Some(Node::Penalty(*penalty)),
+        _ => None,
+    }
+}
+
+/// Equal nodes in memory of their own.
+fn copies(alloc: Global, nodes: &[Node]) -> Result<Vec<Node>, AllocError>
+    ensures { IfOk result (λ copies. copies.items ≡ nodes.now) }
+{
+    let mut copies = Vec::with_capacity(alloc, nodes.len())?;
+    for node in nodes {
+        copies.push(node.copy(alloc)?)?;
+    }
+    Ok(copies)
+}
+
+/// Puts a node behind others, if there is one.
+fn push_some(nodes: &mut Vec<Node>, node: Option<Node>) -> Result<(), AllocError>
+    ensures { OnOk result (nodes.new.items ≡ nodes.old.items ++ cons_option node []) }
+{
+    if let Some(node) = node {
+        nodes.push(node)?;
+    }
+    Ok(())
+}
+
+/// The items that a line keeps, in memory of their own.
+#[tactic(auto, using(crate::proofs::KeptItems::length_kept))]
+fn line_list(
+    alloc: Global,
+    nodes: &[Node],
+    begin: Option<usize>,
+    end: usize,
+) -> Result<NodeList, AllocError>
+    requires { length nodes.now ≤ most_nodes }
+    ensures { IfOk result (λ list. list ≡ items_of (kept nodes.now begin end)) }
+{
+    let mut items = copies(alloc, front_of(nodes, begin, end))?;
+    push_some(&mut items, kept_at(nodes, end))?;
+    Ok(NodeList::from_vec(items))
+}
+
+/// The box of a line, as wide as hsize.
+#[tactic(auto, using(node_core::proofs::NodeLemmas::nodes), unfolding(crate::specs::Lines::boxed_line, crate::specs::Lines::items_fit))]
+fn pack_line(list: NodeList, params: &Params) -> Result<BoxNode, LinesFault>
+    ensures ok { IfOk result (λ line. line ≡ boxed_line params.now (nodes_of list)) }
+    ensures fits { is_ok result ≡ items_fit params.now (nodes_of list) }
+    ensures fault { IfErr result (λ fault. fault ≡ LinesFault.DimensionTooLarge) }
+{
+    match hpack(list, Target::To(params.hsize)) {
+        Ok(packed) => Ok(packed.box_node),
+        Err(_) => Err(LinesFault::DimensionTooLarge),
+    }
+}
+
+/// The box of the line from one place to another.
+#[tactic(auto, using(node_core::proofs::NodeLemmas::nodes))]
+pub fn set_line(
+    alloc: Global,
+    nodes: &[Node],
+    begin: Option<usize>,
+    end: usize,
+    params: &Params,
+) -> Result<BoxNode, LinesFault>
+    requires { length nodes.now ≤ most_nodes }
+    ensures ok { IfOk result (λ line. line ≡ boxed_line params.now (kept nodes.now begin end)) }
+    ensures fits { OnOk result (items_fit params.now (kept nodes.now begin end) ≡ true) }
+    ensures refused { IfErr result (λ fault. fault ≡ LinesFault.DimensionTooLarge → items_fit params.now (kept nodes.now begin end) ≡ false) }
+{
+    match line_list(alloc, nodes, begin, end) {
+        Ok(list) => pack_line(list, params),
+        Err(_) => Err(LinesFault::OutOfMemory),
+    }
+}

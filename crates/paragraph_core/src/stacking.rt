@@ -1,0 +1,142 @@
+//! The lines of a paragraph are put together, as they stand in a vertical list (TeX: The Program, part 39, §877 to §890).
+
+ghost use Rattle.std.specs.Prelude.{◌≡◌, ◌≤◌, ◌<◌, ◌++◌, pos, true, false, length, get_or, OnOk, IfOk, IfErr};
+ghost use Rattle.std.specs.Result.{is_ok};
+ghost use Rattle.node_core.specs.Nodes.{most_nodes};
+ghost use Rattle.vert_core.specs.Interline.{interline};
+ghost use Rattle.paragraph_core.specs.Lines.{places_of, broken_list, line_begin, line_items, boxed_line, line_brings, fits_behind, vertical_items, last_depth, lines_fit};
+
+use crate::line_boxes::{LinesFault, set_line};
+use crate::penalties::push_behind_line;
+use break_core::{Breaks, LineEnd};
+use node_core::{BoxNode, Node, Params};
+use scaled_core::Dimen;
+use std::alloc::Global;
+use vert_core::{AppendFault, append_box};
+
+/// What the lines of a paragraph bring to a vertical list, and the depth that is then previous.
+#[derive(Debug, Drop)]
+pub struct VerticalItems {
+    pub nodes: Vec<Node>,
+    pub depth: Dimen,
+}
+
+/// Where a line begins: None at the start of the list.
+fn line_begin(ends: &[LineEnd], line: usize) -> Option<usize>
+    requires { line ≤ length ends.now }
+    ensures { result ≡ line_begin (places_of ends.now) line }
+{
+    if line == 0 {
+        return None;
+    }
+    Some(ends[line - 1].place)
+}
+
+/// Where a line ends.
+fn line_end(ends: &[LineEnd], line: usize) -> usize
+    requires { line < length ends.now }
+    ensures { result ≡ get_or (places_of ends.now) line 0 }
+{
+    ends[line].place
+}
+
+/// Puts the box of a line, of so many, behind a list, with the glue in front of it and the penalty behind it, and answers its depth.
+fn stack_line(
+    list: &mut Vec<Node>,
+    line_box: BoxNode,
+    previous_depth: Dimen,
+    params: &Params,
+    count: usize,
+    line: usize,
+) -> Result<Dimen, LinesFault>
+    requires { line < count }
+    ensures ok { OnOk result (list.new.items ≡ list.old.items ++ line_brings params.now count line previous_depth line_box) }
+    ensures depth { IfOk result (λ depth. depth ≡ line_box.depth) }
+    ensures fits { OnOk result (is_ok (interline params.now previous_depth line_box.height) ≡ true) }
+    ensures refused { IfErr result (λ fault. fault ≡ LinesFault.DimensionTooLarge → is_ok (interline params.now previous_depth line_box.height) ≡ false) }
+{
+    match append_box(list, line_box, Dimen::ZERO, previous_depth, params) {
+        Err(unappended) => match unappended.fault {
+            AppendFault::DimensionTooLarge => Err(LinesFault::DimensionTooLarge),
+            AppendFault::OutOfMemory => Err(LinesFault::OutOfMemory),
+        },
+        Ok(depth) => match push_behind_line(list, params, count, line) {
+            Err(_) => Err(LinesFault::OutOfMemory),
+            Ok(()) => Ok(depth),
+        },
+    }
+}
+
+/// Puts a line behind a list whose last depth is given, and answers its depth.
+fn add_line(
+    alloc: Global,
+    list: &mut Vec<Node>,
+    nodes: &[Node],
+    ends: &[LineEnd],
+    params: &Params,
+    previous_depth: Dimen,
+    line: usize,
+) -> Result<Dimen, LinesFault>
+    requires short { length nodes.now ≤ most_nodes }
+    requires within { line < length ends.now }
+    ensures ok { OnOk result (list.new.items ≡ list.old.items
+        ++ line_brings params.now (length ends.now) line previous_depth (boxed_line params.now (line_items (broken_list nodes.now ends.now params.now previous_depth) line))) }
+    ensures depth { IfOk result (λ depth. depth ≡ (boxed_line params.now (line_items (broken_list nodes.now ends.now params.now previous_depth) line)).depth) }
+    ensures fits { OnOk result (fits_behind params.now previous_depth (line_items (broken_list nodes.now ends.now params.now previous_depth) line) ≡ true) }
+    ensures refused { IfErr result (λ fault. fault ≡ LinesFault.DimensionTooLarge →
+        fits_behind params.now previous_depth (line_items (broken_list nodes.now ends.now params.now previous_depth) line) ≡ false) }
+{
+    let line_box = set_line(
+        alloc,
+        nodes,
+        line_begin(ends, line),
+        line_end(ends, line),
+        params,
+    )?;
+    stack_line(list, line_box, previous_depth, params, ends.len(), line)
+}
+
+/// What the lines with these ends bring to a vertical list whose last depth is given.
+fn stack_lines(
+    alloc: Global,
+    nodes: &[Node],
+    ends: &[LineEnd],
+    params: &Params,
+    previous_depth: Dimen,
+) -> Result<VerticalItems, LinesFault>
+    requires { length nodes.now ≤ most_nodes }
+    ensures ok { IfOk result (λ items. items.nodes.items ≡ vertical_items (broken_list nodes.now ends.now params.now previous_depth)) }
+    ensures depth { IfOk result (λ items. items.depth ≡ last_depth (broken_list nodes.now ends.now params.now previous_depth)) }
+    ensures fits { OnOk result (lines_fit (broken_list nodes.now ends.now params.now previous_depth) ≡ true) }
+    ensures refused { IfErr result (λ fault. fault ≡ LinesFault.DimensionTooLarge →
+        lines_fit (broken_list nodes.now ends.now params.now previous_depth) ≡ false) }
+{
+    let mut list = Vec::new(alloc);
+    let mut depth = previous_depth;
+    for line in 0..ends.len() {
+        match add_line(alloc, &mut list, nodes, ends, params, depth, line) {
+            Ok(line_depth) => depth = line_depth,
+            Err(fault) => return Err(fault),
+        }
+    }
+    Ok(VerticalItems { nodes: list, depth })
+}
+
+/// What the lines of a paragraph bring to a vertical list whose last depth is given: the finished list of at most 131,072 nodes, and its breaks, or other
+/// places, in order. It is refused where a number of the box of a line or the glue in front of it does not fit, or where a growth is refused.
+pub fn lines(
+    alloc: Global,
+    nodes: &[Node],
+    breaks: &Breaks,
+    params: &Params,
+    previous_depth: Dimen,
+) -> Result<VerticalItems, LinesFault>
+    requires short { length nodes.now ≤ most_nodes }
+    ensures ok { IfOk result (λ items. items.nodes.items ≡ vertical_items (broken_list nodes.now breaks.now.lines.items params.now previous_depth)) }
+    ensures depth { IfOk result (λ items. items.depth ≡ last_depth (broken_list nodes.now breaks.now.lines.items params.now previous_depth)) }
+    ensures fits { OnOk result (lines_fit (broken_list nodes.now breaks.now.lines.items params.now previous_depth) ≡ true) }
+    ensures refused { IfErr result (λ fault. fault ≡ LinesFault.DimensionTooLarge →
+        lines_fit (broken_list nodes.now breaks.now.lines.items params.now previous_depth) ≡ false) }
+{
+    stack_lines(alloc, nodes, &breaks.lines, params, previous_depth)
+}

@@ -1,0 +1,137 @@
+-- A vertical list is split: its front fills a height, and its rest is left (TeX: The Program, part 44, §968 and §970 to §979, vert_break and vsplit).
+use Rattle.std.specs.Prelude.{◌-ℤ◌, ◌+◌, ◌++◌, ℕ, ℤ, pos, Bool, false, int_lt, not, ◌&&◌, if◌then◌else◌}
+use Rattle.std.specs.Prelude.{List, [], ◌∷◌, length, take, drop, Option, Some, None}
+use Rattle.std.specs.Int.{int_max}
+use Rattle.std.specs.List.{list_all, list_any, filter_map, range_with_len}
+use Rattle.std.specs.Option.{option_map}
+use Rattle.node_core.specs.declared.params.SplitParams.{SplitParams}
+use Rattle.node_core.specs.declared.tree.Glue.{Glue}
+use Rattle.node_core.specs.declared.tree.Node.{Node}
+use Rattle.node_core.specs.declared.tree.Node.TheVariants as nodes
+use Rattle.node_core.specs.declared.tree.Order.TheVariants.{Normal}
+use Rattle.node_core.specs.Nodes.{items_of}
+use Rattle.scaled_core.specs.Dimensions.{fits}
+use Rattle.pack_core.specs.declared.pack.Target.{Target}
+use Rattle.pack_core.specs.declared.pack.Target.TheVariants.{Natural, To}
+use Rattle.pack_core.specs.declared.pack.Packed.{Packed}
+use Rattle.pack_core.specs.Boxes.{vbox, vbox_badness, vbox_numbers}
+use Rattle.pack_core.specs.Glue.{is_zero}
+use Rattle.pack_core.specs.Items.{first_above, is_order}
+use Rattle.split_core.specs.declared.trials.Trial.{Trial}
+use Rattle.split_core.specs.declared.parts.SplitFault.{SplitFault}
+use Rattle.split_core.specs.declared.parts.SplitFault.TheVariants.{InfiniteShrink, DimensionTooLarge, OutOfMemory}
+use Rattle.split_core.specs.Places.{is_box_or_rule, penalty_at}
+use Rattle.split_core.specs.Costs.{cost, front_badness, is_last}
+
+-- The trial of the place in front of item i, where a split is allowed there: its penalty, and the badness of the items before it.
+abbrev pub trial_at : SplitParams → (goal : ℤ) → List Node → ℕ → Option Trial
+trial_at params goal items i =
+    option_map (λ (penalty : ℤ). record { place = i; penalty = penalty; badness = front_badness params goal (take i items) }) (penalty_at items i)
+
+-- The trials of all places where a split is allowed, in order, the end included.
+abbrev pub trials : SplitParams → (goal : ℤ) → List Node → List Trial
+trials params goal items = filter_map (trial_at params goal items) (range_with_len 0 (length items + 1))
+
+-- The trials up to and with the first that is the last one.
+abbrev pub up_to_last : List Trial → List Trial
+up_to_last [] = []
+up_to_last (t ∷ ts) = if is_last t then t ∷ [] else t ∷ up_to_last ts
+
+-- Whether a trial costs less than another.
+abbrev pub is_cheaper : Trial → Trial → Bool
+is_cheaper t other = int_lt (cost t) (cost other)
+
+-- The last of the trials that cost least: the first that is cheaper than each one behind it.
+abbrev pub last_cheapest : List Trial → Option Trial
+last_cheapest [] = None
+last_cheapest (t ∷ ts) = if list_all (is_cheaper t) ts then Some t else last_cheapest ts
+
+-- The place of a trial; with no trial the beginning (own: there is one, since a split is allowed at the end).
+abbrev pub place_of : Option Trial → ℕ
+place_of None = 0
+place_of (Some t) = t.place
+
+-- The place of the split: of the places tried, the last of least cost (TeX: The Program, part 44, §970 to §976, vert_break).
+unfoldable pub split_place : SplitParams → (goal : ℤ) → List Node → ℕ
+split_place params goal items = place_of (last_cheapest (up_to_last (trials params goal items)))
+
+-- The items before the place of the split.
+abbrev pub front_items : SplitParams → (goal : ℤ) → List Node → List Node
+front_items params goal items = take (split_place params goal items) items
+
+-- The items from the first box or rule on; glue, kerns and penalties before it are dropped (TeX: The Program, part 44, §968, prune_page_top).
+abbrev pub from_box_or_rule : List Node → List Node
+from_box_or_rule [] = []
+from_box_or_rule (x ∷ xs) = if is_box_or_rule x then x ∷ xs else from_box_or_rule xs
+
+-- The items that are left behind the place of the split.
+abbrev pub rest_items : SplitParams → (goal : ℤ) → List Node → List Node
+rest_items params goal items = from_box_or_rule (drop (split_place params goal items) items)
+
+-- The width of the glue above a box or a rule of that height: that of splittopskip less the height, and not below 0
+-- (TeX: The Program, part 44, §969).
+abbrev pub top_width : SplitParams → (height : ℤ) → ℤ
+top_width params height = int_max (pos 0) (params.split_top_skip.width -ℤ height)
+
+-- The glue above a box or a rule of that height: it stretches and shrinks as splittopskip does.
+abbrev pub top_glue : SplitParams → (height : ℤ) → Glue
+top_glue params height = record params.split_top_skip { width = top_width params height }
+
+-- What is left with the glue above its first item, if there is one.
+abbrev pub topped : SplitParams → List Node → List Node
+topped params [] = []
+topped params (x ∷ xs) = nodes.Glue (top_glue params (first_above x)) ∷ x ∷ xs
+
+-- A vertical list in its vbox, and how bad that is: what `vpack` packs where all numbers fit.
+abbrev pub packed_as : Target → (limit : ℤ) → List Node → Packed
+packed_as target limit items = record { box_node = vbox target limit (items_of items); badness = vbox_badness target limit items }
+
+-- The greatest dimension: the depth of a box with that limit has none (TeX: The Program, part 33, §668, vpack).
+abbrev pub no_limit : ℤ
+no_limit = pos 1073741823
+
+-- The front of a split: what stands before the place, in a vbox of just that height, no deeper than splitmaxdepth
+-- (TeX: The Program, part 44, §977, vsplit).
+unfoldable pub front_of : SplitParams → (goal : ℤ) → List Node → Packed
+front_of params goal items = packed_as (To goal) params.split_max_depth (front_items params goal items)
+
+-- What is left, below its glue, in a vbox of its natural height; none where nothing is left.
+abbrev pub packed_rest : List Node → Option Packed
+packed_rest [] = None
+packed_rest (x ∷ xs) = Some (packed_as Natural no_limit (x ∷ xs))
+
+-- The rest of a split (TeX: The Program, part 44, §977, vsplit).
+unfoldable pub rest_of : SplitParams → (goal : ℤ) → List Node → Option Packed
+rest_of params goal items = packed_rest (topped params (rest_items params goal items))
+
+-- Whether an item is glue that shrinks in an infinite order.
+abbrev pub shrinks_infinitely : Node → Bool
+shrinks_infinitely (nodes.Glue glue) = not (is_zero glue.shrink) && not (is_order Normal glue.shrink_order)
+shrinks_infinitely (nodes.Glyph glyph) = false
+shrinks_infinitely (nodes.FontKern width) = false
+shrinks_infinitely (nodes.Kern width) = false
+shrinks_infinitely (nodes.Penalty penalty) = false
+shrinks_infinitely (nodes.Rule rule) = false
+shrinks_infinitely (nodes.Box shift b) = false
+
+-- The numbers of what is left that have to fit: the width of the glue above it, and those of its vbox (own: TeX looks at none).
+abbrev pub rest_numbers : SplitParams → List Node → List ℤ
+rest_numbers params [] = []
+rest_numbers params (x ∷ xs) = top_width params (first_above x) ∷ vbox_numbers Natural no_limit (topped params (x ∷ xs))
+
+-- The numbers of a split that have to fit: those of the front and those of the rest (own).
+unfoldable pub split_numbers : SplitParams → (goal : ℤ) → List Node → List ℤ
+split_numbers params goal items =
+    vbox_numbers (To goal) params.split_max_depth (front_items params goal items) ++ rest_numbers params (rest_items params goal items)
+
+-- Why a list is not split, if so. Glue anywhere in the list that shrinks in an infinite order, glue by glue and no total: what else shrinks or
+-- stretches does not make up for it (TeX: The Program, part 44, §976; own: TeX looks no further than the split). Else a number that does not fit (own).
+unfoldable pub refusal : SplitParams → (goal : ℤ) → List Node → Option SplitFault
+refusal params goal items =
+    if list_any shrinks_infinitely items then Some InfiniteShrink
+    else (if list_all fits (split_numbers params goal items) then None else Some DimensionTooLarge)
+
+-- The fault that is answered where a list was not split: why it cannot be, and else want of memory (own).
+abbrev pub fault_of : Option SplitFault → SplitFault
+fault_of (Some fault) = fault
+fault_of None = OutOfMemory

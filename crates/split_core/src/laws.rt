@@ -1,0 +1,88 @@
+//! Laws of the definitions, each on a function that does nothing.
+
+ghost use Rattle.std.specs.Prelude.{◌≡◌, ◌↔◌, ◌++◌, ◌∷◌, [], ℕ, ℤ, pos, negsuc, List, Some, None, Ok, Err, if◌then◌else◌};
+ghost use Rattle.std.specs.List.{list_all};
+ghost use Rattle.scaled_core.specs.Dimensions.{fits};
+ghost use Rattle.node_core.specs.declared.params.SplitParams.{SplitParams};
+ghost use Rattle.node_core.specs.declared.tree.Node.{Node};
+ghost use Rattle.node_core.specs.Nodes.{items_of};
+ghost use Rattle.node_core.specs.Parameters.{first_split_params};
+ghost use Rattle.pack_core.specs.declared.pack.Target.{Target};
+ghost use Rattle.pack_core.specs.Boxes.{vbox_numbers, vpacked};
+ghost use Rattle.split_core.specs.declared.parts.SplitFault.TheVariants.{InfiniteShrink, DimensionTooLarge};
+ghost use Rattle.split_core.specs.Split.{split_place, front_of, refusal, packed_as};
+ghost use Rattle.split_core.specs.Chosen.{IsSplitPlace};
+ghost use Rattle.split_core.specs.Laws.{points, rule, space, shrinking, front_height, badness_of_front, rest_height, rest_nodes};
+ghost use Rattle.split_core.specs.Laws.{forced, spaced, high, sunken, hanging, mixed, places, stretching_top};
+
+/// A penalty of -10000 is where the list is split, however bad the front is there. Above the rest, a rule 5pt high, stand 5pt.
+pub fn forced_place()
+    ensures place { split_place first_split_params (points 20) forced ≡ 3 }
+    ensures height { front_height first_split_params (points 20) forced ≡ points 20 }
+    ensures badness { badness_of_front first_split_params (points 20) forced ≡ 10000 }
+    ensures rest { rest_height first_split_params (points 20) forced ≡ Some (points 10) }
+{}
+
+/// Of two places that cost the same the later one is taken; the end is awful, and costs more.
+pub fn later_of_two_places()
+    ensures place { split_place first_split_params (points 15) spaced ≡ 3 }
+    ensures badness { badness_of_front first_split_params (points 15) spaced ≡ 10000 }
+    ensures rest { rest_height first_split_params (points 15) spaced ≡ Some (points 10) }
+{}
+
+/// Where the first place is awful it is taken. Above a rule that is higher than splittopskip stands glue of no width.
+pub fn awful_first_place()
+    ensures place { split_place first_split_params (points 20) high ≡ 1 }
+    ensures badness { badness_of_front first_split_params (points 20) high ≡ 1000000 }
+    ensures rest { rest_height first_split_params (points 20) high ≡ Some (points 30) }
+{}
+
+/// A list without any other place is split at its end, and nothing is left; nor is where only glue is left.
+pub fn nothing_is_left()
+    ensures end { rest_height first_split_params (points 20) (rule (points 5) ∷ []) ≡ None }
+    ensures glue { rest_height first_split_params (points 5) (rule (points 5) ∷ space (points 2) ∷ []) ≡ None }
+{}
+
+/// Glue that shrinks in an infinite order refuses the split, also behind the place, and also where other glue shrinks by as much less.
+pub fn infinite_shrink_refuses()
+    ensures behind { refusal first_split_params (points 20) (forced ++ shrinking (pos 1) ∷ []) ≡ Some InfiniteShrink }
+    ensures no_total { refusal first_split_params (points 20) (shrinking (pos 1) ∷ shrinking (negsuc 0) ∷ []) ≡ Some InfiniteShrink }
+    ensures none { refusal first_split_params (points 20) (shrinking (pos 0) ∷ []) ≡ None }
+{}
+
+/// Above a rule of a height below 0 the glue is more than splittopskip, and may be too much, also where the rest itself is not.
+pub fn too_large_a_top_skip()
+    ensures place { split_place first_split_params (points 5) sunken ≡ 1 }
+    ensures refused { refusal first_split_params (points 5) sunken ≡ Some DimensionTooLarge }
+{}
+
+/// A split is allowed in front of glue behind a box or a rule, in front of a kern that glue follows, in front of a penalty below 10000, and
+/// at the end.
+pub fn allowed_places()
+    ensures { places mixed ≡ 4 ∷ 8 ∷ 10 ∷ 11 ∷ [] }
+{}
+
+/// What the last rule is deeper than splitmaxdepth counts as height.
+pub fn depth_counts_as_height()
+    ensures cut { badness_of_front (record first_split_params { split_max_depth = pos 0 }) (points 8) hanging ≡ 0 }
+    ensures whole { badness_of_front first_split_params (points 8) hanging ≡ 10000 }
+    ensures depth { ((front_of (record first_split_params { split_max_depth = pos 0 }) (points 8) hanging).box_node).depth ≡ pos 0 }
+{}
+
+/// The glue above the rest stretches as splittopskip does.
+pub fn top_skip_stretches()
+    ensures { rest_nodes (stretching_top (points 10)) (points 20) forced ≡
+        Some (Node.Glue (stretching_top (points 5)).split_top_skip ∷ rule (points 5) ∷ []) }
+{}
+
+/// The place of a split is the one that is chosen: of the places tried none costs less, and each that is tried behind it costs more.
+pub fn chosen_place()
+    ensures { (params : SplitParams) → (goal : ℤ) → (items : List Node) → (place : ℕ) →
+        ((split_place params goal items ≡ place) ↔ IsSplitPlace params goal items place) }
+{}
+
+/// The parts of a split are what `vpack` packs of their items.
+pub fn parts_are_packed()
+    ensures { (target : Target) → (limit : ℤ) → (items : List Node) → vpacked target limit (items_of items) ≡
+        (if list_all fits (vbox_numbers target limit items) then Ok (packed_as target limit items) else Err (record { list = items_of items })) }
+{}

@@ -1,0 +1,492 @@
+//! Breaks of random lists, compared with the least of all lists of their places. What a list of places costs is computed here from the definition.
+
+use crate::paragraphs::expect_same;
+use break_core::{Breaks, Class, Pass, breaks};
+use node_core::{Glue, Node, Number, Order, Params, Rule, RuleSize};
+use scaled_core::{Dimen, badness};
+use std::alloc::Global;
+use std::process::Abort;
+
+const POINT: i64 = 65_536;
+
+/// An item, in points.
+#[derive(Clone, Copy)]
+enum Item {
+    Rule(i64),
+    Glue(Amounts),
+    Kern(i64),
+    Penalty(i64),
+}
+
+/// Widths, stretch, stretch of order fil and shrink.
+#[derive(Clone, Copy)]
+struct Amounts {
+    width: i64,
+    stretch: i64,
+    fil: i64,
+    shrink: i64,
+}
+
+/// The parameters.
+#[derive(Clone, Copy)]
+struct Setting {
+    hsize: i64,
+    pretolerance: i64,
+    tolerance: i64,
+    line_penalty: i64,
+    adj_demerits: i64,
+}
+
+/// How a line is set.
+#[derive(Clone, Copy)]
+struct Line {
+    overfull: bool,
+    badness: i64,
+    class: i64,
+    overhang: i64,
+}
+
+/// Random numbers: a linear congruential generator.
+#[derive(Drop)]
+struct Random(u64);
+
+impl Random {
+    /// A number of a list.
+    fn one_of(&mut self, numbers: &[i64]) -> i64 {
+        self.0 = self
+            .0
+            .wrapping_mul(6_364_136_223_846_793_005)
+            .wrapping_add(1_442_695_040_888_963_407);
+        let index = (self.0 / 8_589_934_592)
+            .checked_rem(numbers.len() as u64)
+            .unwrap_or(0);
+        match numbers.get(index as usize) {
+            Some(number) => *number,
+            None => 0,
+        }
+    }
+
+    /// Glue, of one order.
+    fn glue(&mut self) -> Amounts {
+        let fil = self.one_of(&[0, 0, 0, 0, 0, 0, 0, 1, -1]);
+        let stretch = self.one_of(&[0, 5, 10, 15]);
+        Amounts {
+            width: self.one_of(&[-5, 0, 5, 5]),
+            stretch: if fil == 0 { stretch } else { 0 },
+            fil,
+            shrink: self.one_of(&[0, 0, 2, 5, -1]),
+        }
+    }
+
+    /// An item.
+    fn item(&mut self) -> Item {
+        match self.one_of(&[0, 0, 0, 0, 1, 1, 1, 2, 3]) {
+            0 => Item::Rule(self.one_of(&[5, 10, 15, 20, 30])),
+            1 => Item::Glue(self.glue()),
+            2 => Item::Kern(self.one_of(&[-15, 5])),
+            _ => { Item::Penalty(self.one_of(&[0, 50, -50, 9_999, 10_000, -9_999, -10_000])) }
+        }
+    }
+
+    /// Parameters.
+    fn setting(&mut self) -> Setting {
+        Setting {
+            hsize: self.one_of(&[20, 30, 40]),
+            pretolerance: self.one_of(&[-1, 100, 10]),
+            tolerance: self.one_of(&[200, 10_000, 12]),
+            line_penalty: self.one_of(&[10, 0, -20, 9_990]),
+            adj_demerits: self.one_of(&[10_000, 0, -500]),
+        }
+    }
+}
+
+/// The legal places of a list.
+fn legal_places(rt: &impl Abort, alloc: Global, items: &[Item]) -> Vec<usize> {
+    let mut places = Vec::new(alloc);
+    let mut ruled = false;
+    for (place, item) in items.iter().enumerate() {
+        let legal = match *item {
+            Item::Rule(_) => false,
+            Item::Glue(_) => ruled,
+            Item::Kern(_) => matches!(items.get(place.saturating_add(1)), Some(Item::Glue(_))),
+            Item::Penalty(penalty) => penalty < 10_000,
+        };
+        ruled = matches!(item, Item::Rule(_));
+        if legal {
+            places.push(place).ok().expect(rt, "there is memory");
+        }
+    }
+    places.push(items.len()).ok().expect(rt, "there is memory");
+    places
+}
+
+/// The penalty of a break.
+fn penalty_at(items: &[Item], place: usize) -> i64 {
+    match items.get(place) {
+        None => -10_000,
+        Some(Item::Penalty(penalty)) => *penalty,
+        Some(_) => 0,
+    }
+}
+
+/// The amounts of an item that a line keeps.
+fn amounts_of(item: &Item) -> Amounts {
+    let mut kept = Amounts {
+        width: 0,
+        stretch: 0,
+        fil: 0,
+        shrink: 0,
+    };
+    match item {
+        Item::Rule(width) | Item::Kern(width) => kept.width = *width,
+        Item::Glue(glue) => kept = *glue,
+        Item::Penalty(_) => {}
+    }
+    kept
+}
+
+/// The amounts of the line from a place, or from the start, to another place, in points. What the line keeps of the item at its end counts nothing.
+fn line_amounts(items: &[Item], from: Option<usize>, to: usize) -> Amounts {
+    let begin = match from {
+        Some(place) => place.saturating_add(1),
+        None => 0,
+    };
+    let mut sums = Amounts {
+        width: 0,
+        stretch: 0,
+        fil: 0,
+        shrink: 0,
+    };
+    let mut dropping = from.is_some();
+    for (index, item) in items.iter().enumerate() {
+        dropping = dropping && !(index >= begin && matches!(item, Item::Rule(_)));
+        if index >= begin && index < to && !dropping {
+            let more = amounts_of(item);
+            sums.width = sums.width.saturating_add(more.width);
+            sums.stretch = sums.stretch.saturating_add(more.stretch);
+            sums.fil = sums.fil.saturating_add(more.fil);
+            sums.shrink = sums.shrink.saturating_add(more.shrink);
+        }
+    }
+    sums
+}
+
+/// How a line is set that is stretched: by the badness, if it has no stretch of order fil.
+fn stretched(badness: i64) -> Line {
+    let class = if badness > 99 {
+        0
+    } else if badness > 12 {
+        1
+    } else {
+        2
+    };
+    Line {
+        overfull: false,
+        badness,
+        class,
+        overhang: 0,
+    }
+}
+
+/// How a line of these amounts is set.
+fn judge(sums: &Amounts, hsize: i64) -> Line {
+    let shortfall = hsize.saturating_sub(sums.width);
+    if shortfall > 0 {
+        if sums.fil != 0 {
+            return stretched(0);
+        }
+        let badness = badness(
+            shortfall.saturating_mul(POINT),
+            sums.stretch.saturating_mul(POINT),
+        );
+        return stretched(i64::from(badness));
+    }
+    let excess = sums.width.saturating_sub(hsize);
+    if excess > sums.shrink {
+        return Line {
+            overfull: true,
+            badness: 10_000,
+            class: 3,
+            overhang: excess.saturating_sub(sums.shrink).saturating_mul(POINT),
+        };
+    }
+    let amount = if excess > 0 {
+        excess.saturating_mul(POINT)
+    } else {
+        0
+    };
+    let badness = i64::from(badness(amount, sums.shrink.saturating_mul(POINT)));
+    Line {
+        overfull: false,
+        badness,
+        class: if badness > 12 { 3 } else { 2 },
+        overhang: 0,
+    }
+}
+
+/// The demerits of a line behind one of a class.
+fn demerits(setting: &Setting, penalty: i64, before: i64, line: &Line) -> i64 {
+    let cost = setting.line_penalty.saturating_add(line.badness);
+    let base = if cost >= 10_000 || cost <= -10_000 {
+        100_000_000
+    } else {
+        cost.saturating_mul(cost)
+    };
+    let square = penalty.saturating_mul(penalty);
+    let broken = if penalty > 0 {
+        square
+    } else if penalty > -10_000 {
+        0_i64.saturating_sub(square)
+    } else {
+        0
+    };
+    let apart = before.saturating_sub(line.class);
+    let adjacent = if apart > 1 || apart < -1 {
+        setting.adj_demerits
+    } else {
+        0
+    };
+    base.saturating_add(broken).saturating_add(adjacent)
+}
+
+/// A place as a number that is the lower the later it is.
+fn fallen(place: usize) -> i64 {
+    0_i64.saturating_sub(i64::try_from(place).unwrap_or(i64::MAX))
+}
+
+/// The numbers by which lists of places are compared, the last one first, if the pass of that bound admits the list; with no bound each list is admitted.
+/// Of the legal places those are taken that the digits of `mask` say, and the end.
+fn numbers_of(
+    rt: &impl Abort,
+    alloc: Global,
+    items: &[Item],
+    legal: &[usize],
+    setting: &Setting,
+    bound: Option<i64>,
+    mask: u32,
+) -> Option<Vec<i64>> {
+    let mut numbers = Vec::new(alloc);
+    numbers.push(1).ok().expect(rt, "there is memory");
+    let mut from = None;
+    let mut before = 2;
+    let mut overhang: i64 = 0;
+    let mut total: i64 = 0;
+    let mut digits = mask;
+    for place in legal {
+        let penalty = penalty_at(items, *place);
+        let taken = digits % 2 == 1 || *place == items.len();
+        digits /= 2;
+        if !taken && penalty <= -10_000 {
+            return None;
+        }
+        if taken {
+            let line = judge(&line_amounts(items, from, *place), setting.hsize);
+            if let Some(most) = bound {
+                if line.overfull || line.badness > most {
+                    return None;
+                }
+            }
+            total = total.saturating_add(demerits(setting, penalty, before, &line));
+            overhang = overhang.saturating_add(line.overhang);
+            before = line.class;
+            from = Some(*place);
+            numbers.push(line.class).ok().expect(rt, "there is memory");
+            numbers
+                .push(fallen(*place))
+                .ok()
+                .expect(rt, "there is memory");
+        }
+    }
+    numbers.push(total).ok().expect(rt, "there is memory");
+    numbers.push(overhang).ok().expect(rt, "there is memory");
+    Some(numbers)
+}
+
+/// Whether numbers come before others, from the last one on.
+fn is_before(numbers: &[i64], others: &[i64]) -> bool {
+    for (number, other) in numbers.iter().rev().zip(others.iter().rev()) {
+        if *number != *other {
+            return *number < *other;
+        }
+    }
+    false
+}
+
+/// The numbers of the list that is chosen in a pass, if it admits any.
+fn chosen(
+    rt: &impl Abort,
+    alloc: Global,
+    items: &[Item],
+    setting: &Setting,
+    bound: Option<i64>,
+) -> Option<Vec<i64>> {
+    let legal = legal_places(rt, alloc, items);
+    let mut lists: u32 = 1;
+    for _ in 1..legal.len() {
+        lists = lists.saturating_mul(2);
+    }
+    let mut best: Option<Vec<i64>> = None;
+    for mask in 0..lists {
+        if let Some(numbers) = numbers_of(rt, alloc, items, &legal, setting, bound, mask) {
+            let better = match &best {
+                Some(old) => is_before(&numbers, old),
+                None => true,
+            };
+            if better {
+                best = Some(numbers);
+            }
+        }
+    }
+    best
+}
+
+/// The pass that decides, as a number, and the numbers of the list that is chosen.
+fn expected(rt: &impl Abort, alloc: Global, items: &[Item], setting: &Setting) -> (i64, Vec<i64>) {
+    if let Some(numbers) = chosen(rt, alloc, items, setting, Some(setting.pretolerance)) {
+        return (1, numbers);
+    }
+    if let Some(numbers) = chosen(rt, alloc, items, setting, Some(setting.tolerance)) {
+        return (2, numbers);
+    }
+    let last = chosen(rt, alloc, items, setting, None);
+    (3, last.expect(rt, "the last pass admits each list"))
+}
+
+/// So many points.
+fn points(rt: &impl Abort, number: i64) -> Dimen {
+    Dimen::try_new(number.saturating_mul(POINT)).expect(rt, "it fits")
+}
+
+/// A number.
+fn number(rt: &impl Abort, value: i64) -> Number {
+    Number::try_new(value).expect(rt, "it fits")
+}
+
+/// An item as a node.
+fn node(rt: &impl Abort, item: &Item) -> Node {
+    match item {
+        Item::Rule(width) => Node::Rule(Rule {
+            width: RuleSize::Fixed(points(rt, *width)),
+            height: RuleSize::Fixed(points(rt, 1)),
+            depth: RuleSize::Fixed(Dimen::ZERO),
+        }),
+        Item::Glue(glue) => Node::Glue(Glue {
+            width: points(rt, glue.width),
+            stretch: points(
+                rt,
+                if glue.fil == 0 {
+                    glue.stretch
+                } else {
+                    glue.fil
+                },
+            ),
+            stretch_order: if glue.fil == 0 {
+                Order::Normal
+            } else {
+                Order::Fil
+            },
+            shrink: points(rt, glue.shrink),
+            shrink_order: Order::Normal,
+        }),
+        Item::Kern(width) => Node::Kern(points(rt, *width)),
+        Item::Penalty(penalty) => Node::Penalty(i32::try_from(*penalty).ok().expect(rt, "it fits")),
+    }
+}
+
+/// The parameters as the breaker takes them.
+fn params_of(rt: &impl Abort, setting: &Setting) -> Params {
+    let mut params = Params::first();
+    params.hsize = points(rt, setting.hsize);
+    params.pretolerance = number(rt, setting.pretolerance);
+    params.tolerance = number(rt, setting.tolerance);
+    params.line_penalty = number(rt, setting.line_penalty);
+    params.adj_demerits = number(rt, setting.adj_demerits);
+    params
+}
+
+/// The numbers of the breaks that were found, the last one first, as those of a list of places.
+fn found_numbers(rt: &impl Abort, alloc: Global, found: &Breaks) -> Vec<i64> {
+    let mut numbers = Vec::new(alloc);
+    numbers.push(1).ok().expect(rt, "there is memory");
+    for line in &found.lines {
+        let class = match line.class {
+            Class::VeryLoose => 0,
+            Class::Loose => 1,
+            Class::Decent => 2,
+            Class::Tight => 3,
+        };
+        numbers.push(class).ok().expect(rt, "there is memory");
+        numbers
+            .push(fallen(line.place))
+            .ok()
+            .expect(rt, "there is memory");
+    }
+    numbers
+        .push(found.demerits)
+        .ok()
+        .expect(rt, "there is memory");
+    numbers
+        .push(found.overhang)
+        .ok()
+        .expect(rt, "there is memory");
+    numbers
+}
+
+/// Asserts that the breaks of a list are those of the definition, by both breakers.
+fn expect_chosen(rt: &impl Abort, alloc: Global, items: &[Item], setting: &Setting) {
+    let mut nodes = Vec::new(alloc);
+    for item in items {
+        nodes
+            .push(node(rt, item))
+            .ok()
+            .expect(rt, "there is memory");
+    }
+    assert!(rt; nodes.len() <= 131_072);
+    let params = params_of(rt, setting);
+    let found = breaks(alloc, &nodes, &params).expect(rt, "not refused");
+    expect_same(rt, alloc, &nodes, &params, &found);
+    let (pass, numbers) = expected(rt, alloc, items, setting);
+    let named = match found.pass {
+        Pass::First => 1,
+        Pass::Second => 2,
+        Pass::Third => 3,
+    };
+    assert_eq!(rt; named, pass);
+    assert!(rt; found_numbers(rt, alloc, &found) == numbers);
+}
+
+/// A random finished list of up to 22 items.
+fn random_items(rt: &impl Abort, alloc: Global, random: &mut Random) -> Vec<Item> {
+    let mut items = Vec::new(alloc);
+    for _ in 0..random.one_of(&[2, 4, 6, 8, 10, 12, 14, 16, 18, 20]) {
+        items.push(random.item()).ok().expect(rt, "there is memory");
+    }
+    items
+        .push(Item::Penalty(10_000))
+        .ok()
+        .expect(rt, "there is memory");
+    let fill = Item::Glue(Amounts {
+        width: 0,
+        stretch: 0,
+        fil: random.one_of(&[0, 1, 1, 1]),
+        shrink: 0,
+    });
+    items.push(fill).ok().expect(rt, "there is memory");
+    items
+}
+
+#[test]
+fn random_lists(rt: HostRuntime) {
+    let alloc = rt.alloc();
+    let mut random = Random(1);
+    let mut compared: u64 = 0;
+    for _ in 0..240 {
+        let items = random_items(&rt, alloc, &mut random);
+        let setting = random.setting();
+        if legal_places(&rt, alloc, &items).len() <= 12 {
+            expect_chosen(&rt, alloc, &items, &setting);
+            compared = compared.saturating_add(1);
+        }
+    }
+    assert!(&rt; compared >= 200);
+}

@@ -1,0 +1,109 @@
+//! The counted breaker: how many lines it tries.
+
+use crate::paragraphs::{finished, glue, narrow, points, rule};
+use active_breaks::active_breaks;
+use break_core::{ListMeter, Meter, Pass};
+use node_core::{Node, Number, Params};
+use std::alloc::Global;
+use std::process::Abort;
+
+/// Lines of 40pt, as bad as they may be, in the second pass.
+fn very_narrow(rt: &impl Abort) -> Params {
+    let mut params = narrow(rt);
+    params.pretolerance = Number::try_new(-1).expect(rt, "it fits");
+    params.tolerance = Number::try_new(10_000).expect(rt, "it fits");
+    params
+}
+
+/// 8,192 words of 1pt with glue between them: 8,191 legal places, and the end. Where words begin with a kern, it goes back by 1pt.
+fn words(rt: &impl Abort, alloc: Global, kerned: bool) -> Vec<Node> {
+    let mut items = Vec::new(alloc);
+    for word in 0..8_192 {
+        if word > 0 {
+            let between = items.push(glue(rt, 0, 1));
+            between.ok().expect(rt, "there is memory");
+        }
+        if kerned {
+            let kern = items.push(Node::Kern(points(rt, -1)));
+            kern.ok().expect(rt, "there is memory");
+        }
+        let shown = items.push(rule(rt, if kerned { 2 } else { 1 }));
+        shown.ok().expect(rt, "there is memory");
+    }
+    items
+}
+
+/// Asserts how many lines 8,192 words are broken into, and how often lines from a place were tried.
+fn expect_counts(
+    rt: &impl Abort,
+    alloc: Global,
+    kerned: bool,
+    lines: usize,
+    each: u64,
+    trials: u128,
+) {
+    let params = very_narrow(rt);
+    let nodes = finished(rt, words(rt, alloc, kerned), &params);
+    assert!(rt; nodes.len() <= 131_072);
+    let mut meter = ListMeter::new(alloc, &nodes).expect(rt, "not refused");
+    let found = active_breaks(alloc, &mut meter, &params);
+    let found = found.ok().expect(rt, "there is memory");
+    assert_eq!(rt; found.lines.len(), lines);
+    assert!(rt; found.pass == Pass::Second && found.overhang == 0);
+    assert_eq!(rt;
+        found.demerits,
+        i64::try_from(lines).unwrap_or(0).saturating_mul(100)
+    );
+    assert_eq!(rt; meter.trials(0), 41);
+    for place in 1..8_193 {
+        assert!(rt; meter.trials(place) <= each);
+    }
+    assert_eq!(rt; meter.all_trials(), trials);
+}
+
+#[test]
+fn many_words(rt: HostRuntime) {
+    // (41 for each of 8,192 places, but for the last 40; 41 from the start and 40 from other places, but for the last 39)
+    expect_counts(&rt, rt.alloc(), false, 205, 41, 335_052);
+    expect_counts(&rt, rt.alloc(), true, 211, 40, 326_901);
+}
+
+/// Asserts how many lines are tried from the start and from each place of a list, and whether the list is steady.
+fn expect_trials(rt: &impl Abort, alloc: Global, items: Vec<Node>, steady: bool, trials: &[u64]) {
+    let params = narrow(rt);
+    let nodes = finished(rt, items, &params);
+    assert!(rt; nodes.len() <= 131_072);
+    let mut meter = ListMeter::new(alloc, &nodes).expect(rt, "not refused");
+    assert!(rt; meter.steady() == steady);
+    let found = active_breaks(alloc, &mut meter, &params);
+    assert!(rt; found.is_ok());
+    for (place, wanted) in trials.iter().enumerate() {
+        assert_eq!(rt; meter.trials(place), *wanted);
+    }
+}
+
+#[test]
+fn trials_of_each_place(rt: HostRuntime) {
+    let alloc = rt.alloc();
+    // an overfull word: lines end trying behind it in two passes, and not in the third
+    let items = [
+        rule(&rt, 10),
+        glue(&rt, 5, 15),
+        rule(&rt, 50),
+        glue(&rt, 5, 15),
+        rule(&rt, 10),
+    ];
+    let items = Vec::from_array(alloc, items).expect(&rt, "there is memory");
+    expect_trials(&rt, alloc, items, true, &[7, 4, 3, 0, 0]);
+    // a kern that goes back behind an overfull line: one pass, and lines to all later places
+    let items = [
+        rule(&rt, 50),
+        glue(&rt, 0, 0),
+        Node::Kern(points(&rt, -15)),
+        rule(&rt, 5),
+        glue(&rt, 0, 0),
+        rule(&rt, 10),
+    ];
+    let items = Vec::from_array(alloc, items).expect(&rt, "there is memory");
+    expect_trials(&rt, alloc, items, false, &[3, 2, 1, 0, 0]);
+}

@@ -1,0 +1,357 @@
+//! Breaks of paragraphs, by both breakers.
+
+use active_breaks::active_breaks;
+use break_core::{BreakFault, Breaks, Class, LineEnd, ListMeter, Pass, breaks};
+use node_core::{Glue, Node, Number, Order, Params, Rule, RuleSize};
+use scaled_core::Dimen;
+use std::alloc::Global;
+use std::process::Abort;
+
+const POINT: i64 = 65_536;
+
+/// So many points.
+pub(crate) fn points(rt: &impl Abort, number: i64) -> Dimen {
+    Dimen::try_new(number.saturating_mul(POINT)).expect(rt, "it fits")
+}
+
+/// A rule of so many points, 1pt high.
+pub(crate) fn rule(rt: &impl Abort, width: i64) -> Node {
+    Node::Rule(Rule {
+        width: RuleSize::Fixed(points(rt, width)),
+        height: RuleSize::Fixed(points(rt, 1)),
+        depth: RuleSize::Fixed(Dimen::ZERO),
+    })
+}
+
+/// Glue of so many points that can stretch by so many.
+pub(crate) fn glue(rt: &impl Abort, width: i64, stretch: i64) -> Node {
+    Node::Glue(Glue {
+        width: points(rt, width),
+        stretch: points(rt, stretch),
+        stretch_order: Order::Normal,
+        shrink: Dimen::ZERO,
+        shrink_order: Order::Normal,
+    })
+}
+
+/// The parameters of a new job, but for lines of 40pt.
+pub(crate) fn narrow(rt: &impl Abort) -> Params {
+    let mut params = Params::first();
+    params.hsize = points(rt, 40);
+    params
+}
+
+/// A paragraph of these items, finished.
+pub(crate) fn finished(rt: &impl Abort, mut items: Vec<Node>, params: &Params) -> Vec<Node> {
+    items
+        .push(Node::Penalty(10_000))
+        .ok()
+        .expect(rt, "there is memory");
+    items
+        .push(Node::Glue(params.par_fill_skip))
+        .ok()
+        .expect(rt, "there is memory");
+    items
+}
+
+/// Asserts that two lists of lines end at the same places, by lines of the same classes.
+fn expect_lines(rt: &impl Abort, lines: &[LineEnd], others: &[LineEnd]) {
+    assert_eq!(rt; lines.len(), others.len());
+    for (line, other) in lines.iter().zip(others) {
+        assert!(rt; *line == *other);
+    }
+}
+
+/// Asserts that the counted breaker finds the same breaks of a finished list; gives how many lines it tried.
+pub(crate) fn expect_same(
+    rt: &impl Abort,
+    alloc: Global,
+    nodes: &[Node],
+    params: &Params,
+    found: &Breaks,
+) -> u128 {
+    assert!(rt; nodes.len() <= 131_072);
+    let mut meter = ListMeter::new(alloc, nodes).expect(rt, "not refused");
+    let counted = active_breaks(alloc, &mut meter, params);
+    let counted = counted.ok().expect(rt, "there is memory");
+    expect_lines(rt, &found.lines, &counted.lines);
+    assert!(rt; found.pass == counted.pass);
+    assert_eq!(rt; found.overhang, counted.overhang);
+    assert_eq!(rt; found.demerits, counted.demerits);
+    meter.all_trials()
+}
+
+/// Asserts what the breaks of a finished list are: the places, the pass, the overhang and the demerits.
+fn expect_breaks(
+    rt: &impl Abort,
+    alloc: Global,
+    nodes: &[Node],
+    params: &Params,
+    places: &[usize],
+    costs: (Pass, i64, i64),
+) {
+    assert!(rt; nodes.len() <= 131_072);
+    let found = breaks(alloc, nodes, params).expect(rt, "not refused");
+    expect_same(rt, alloc, nodes, params, &found);
+    assert_eq!(rt; found.lines.len(), places.len());
+    for (line, place) in found.lines.iter().zip(places) {
+        assert_eq!(rt; line.place, *place);
+    }
+    assert!(rt; found.pass == costs.0);
+    assert_eq!(rt; found.overhang, costs.1);
+    assert_eq!(rt; found.demerits, costs.2);
+}
+
+#[test]
+fn least_demerits_paragraph(rt: HostRuntime) {
+    let mut params = narrow(&rt);
+    params.pretolerance = Number::try_new(-1).expect(&rt, "it fits");
+    params.tolerance = Number::try_new(10_000).expect(&rt, "it fits");
+    let items = Vec::from_array(
+        rt.alloc(),
+        [
+            rule(&rt, 10),
+            glue(&rt, 5, 15),
+            rule(&rt, 10),
+            glue(&rt, 5, 15),
+            rule(&rt, 10),
+            glue(&rt, 5, 15),
+            rule(&rt, 25),
+            glue(&rt, 5, 15),
+            rule(&rt, 30),
+        ],
+    )
+    .expect(&rt, "there is memory");
+    let nodes = finished(&rt, items, &params);
+    expect_breaks(
+        &rt,
+        rt.alloc(),
+        &nodes,
+        &params,
+        &[3, 7, 11],
+        (Pass::Second, 0, 32_300),
+    );
+}
+
+#[test]
+fn ties_and_rescues(rt: HostRuntime) {
+    let params = narrow(&rt);
+    let items = Vec::from_array(
+        rt.alloc(),
+        [
+            rule(&rt, 40),
+            glue(&rt, -5, 0),
+            rule(&rt, 5),
+            glue(&rt, 0, 0),
+            rule(&rt, 10),
+        ],
+    );
+    let nodes = finished(&rt, items.expect(&rt, "there is memory"), &params);
+    expect_breaks(
+        &rt,
+        rt.alloc(),
+        &nodes,
+        &params,
+        &[3, 7],
+        (Pass::First, 0, 200),
+    );
+    let items = Vec::from_array(
+        rt.alloc(),
+        [
+            rule(&rt, 10),
+            glue(&rt, 5, 15),
+            rule(&rt, 50),
+            glue(&rt, 5, 15),
+            rule(&rt, 10),
+        ],
+    );
+    let nodes = finished(&rt, items.expect(&rt, "there is memory"), &params);
+    expect_breaks(
+        &rt,
+        rt.alloc(),
+        &nodes,
+        &params,
+        &[1, 3, 7],
+        (Pass::Third, 655_360, 200_020_100),
+    );
+    let kern = Node::Kern(points(&rt, -15));
+    let items = Vec::from_array(
+        rt.alloc(),
+        [
+            rule(&rt, 50),
+            glue(&rt, 0, 0),
+            kern,
+            rule(&rt, 5),
+            glue(&rt, 0, 0),
+            rule(&rt, 10),
+        ],
+    );
+    let nodes = finished(&rt, items.expect(&rt, "there is memory"), &params);
+    expect_breaks(
+        &rt,
+        rt.alloc(),
+        &nodes,
+        &params,
+        &[4, 8],
+        (Pass::First, 0, 200),
+    );
+    let items = Vec::from_array(rt.alloc(), [glue(&rt, 5, 0), rule(&rt, 40)]);
+    let nodes = finished(&rt, items.expect(&rt, "there is memory"), &params);
+    expect_breaks(
+        &rt,
+        rt.alloc(),
+        &nodes,
+        &params,
+        &[4],
+        (Pass::Third, 327_680, 100_000_000),
+    );
+}
+
+/// Glue of no width that can shrink by so many points of order fil.
+fn shrinking(rt: &impl Abort, number: i64) -> Node {
+    Node::Glue(Glue {
+        width: Dimen::ZERO,
+        stretch: Dimen::ZERO,
+        stretch_order: Order::Normal,
+        shrink: points(rt, number),
+        shrink_order: Order::Fil,
+    })
+}
+
+/// So many penalties.
+fn penalties(rt: &impl Abort, alloc: Global, count: usize, penalty: i32) -> Vec<Node> {
+    let mut items = Vec::new(alloc);
+    for _ in 0..count {
+        items
+            .push(Node::Penalty(penalty))
+            .ok()
+            .expect(rt, "there is memory");
+    }
+    items
+}
+
+/// Asserts why a list is not broken.
+fn expect_fault(rt: &impl Abort, alloc: Global, nodes: &[Node], fault: BreakFault) {
+    assert!(rt; nodes.len() <= 131_072);
+    let found = breaks(alloc, nodes, &narrow(rt));
+    assert!(rt; found.err() == Some(fault));
+    assert!(rt; ListMeter::new(alloc, nodes).err() == Some(fault));
+}
+
+#[test]
+fn lists_that_are_refused(rt: HostRuntime) {
+    let alloc = rt.alloc();
+    let params = narrow(&rt);
+    let forever = Vec::from_array(
+        alloc,
+        [rule(&rt, 10), shrinking(&rt, 1), shrinking(&rt, -1)],
+    );
+    let nodes = finished(&rt, forever.expect(&rt, "there is memory"), &params);
+    expect_fault(&rt, alloc, &nodes, BreakFault::InfiniteShrink);
+    let nowhere = Vec::from_array(alloc, [rule(&rt, 10), shrinking(&rt, 0)]);
+    let nodes = finished(&rt, nowhere.expect(&rt, "there is memory"), &params);
+    expect_breaks(&rt, alloc, &nodes, &params, &[4], (Pass::First, 0, 100));
+    let nodes = finished(&rt, penalties(&rt, alloc, 8_192, -10_000), &params);
+    expect_fault(&rt, alloc, &nodes, BreakFault::TooManyBreaks);
+}
+
+#[test]
+fn the_most_places(rt: HostRuntime) {
+    let alloc = rt.alloc();
+    let params = narrow(&rt);
+    let nodes = finished(&rt, penalties(&rt, alloc, 8_191, -10_000), &params);
+    assert!(&rt; nodes.len() <= 131_072);
+    let found = breaks(alloc, &nodes, &params).expect(&rt, "not refused");
+    // (each place, the start too, is left behind one line in each of three passes)
+    assert_eq!(&rt; expect_same(&rt, alloc, &nodes, &params, &found), 24_576);
+    assert_eq!(&rt; found.lines.len(), 8_192);
+    assert!(&rt; found.pass == Pass::Third);
+    assert_eq!(&rt; found.overhang, 0);
+    assert_eq!(&rt; found.demerits, 819_200_010_000);
+}
+
+#[test]
+fn a_tie_by_class_alone(rt: HostRuntime) {
+    let alloc = rt.alloc();
+    let mut params = narrow(&rt);
+    params.par_fill_skip.stretch = Dimen::ZERO;
+    let items = [
+        rule(&rt, 40),
+        glue(&rt, -8, 4),
+        rule(&rt, 5),
+        glue(&rt, -8, 4),
+        rule(&rt, 40),
+    ];
+    let items = Vec::from_array(alloc, items).expect(&rt, "there is memory");
+    let nodes = finished(&rt, items, &params);
+    expect_breaks(
+        &rt,
+        alloc,
+        &nodes,
+        &params,
+        &[1, 7],
+        (Pass::First, 0, 2_804),
+    );
+    assert!(&rt; nodes.len() <= 131_072);
+    let found = breaks(alloc, &nodes, &params).expect(&rt, "not refused");
+    let classes = [Class::Decent, Class::Loose];
+    for (line, class) in found.lines.iter().zip(&classes) {
+        assert!(&rt; line.class == *class);
+    }
+}
+
+/// Asserts what the breaks of two rules are, with an item between them.
+fn expect_between(
+    rt: &impl Abort,
+    alloc: Global,
+    width: i64,
+    item: Node,
+    places: &[usize],
+    costs: (Pass, i64, i64),
+) {
+    let items = Vec::from_array(alloc, [rule(rt, width), item, rule(rt, width)]);
+    let params = narrow(rt);
+    let nodes = finished(rt, items.expect(rt, "there is memory"), &params);
+    expect_breaks(rt, alloc, &nodes, &params, places, costs);
+}
+
+#[test]
+fn penalties_as_places(rt: HostRuntime) {
+    let costs = (Pass::Third, 2_621_440, 100_000_000);
+    expect_between(&rt, rt.alloc(), 40, Node::Penalty(10_000), &[5], costs);
+    let costs = (Pass::First, 0, 99_980_201);
+    expect_between(&rt, rt.alloc(), 40, Node::Penalty(9_999), &[1, 5], costs);
+    let costs = (Pass::First, 0, -99_979_801);
+    expect_between(&rt, rt.alloc(), 40, Node::Penalty(-9_999), &[1, 5], costs);
+    let costs = (Pass::First, 0, 200);
+    expect_between(&rt, rt.alloc(), 40, Node::Penalty(-10_000), &[1, 5], costs);
+    let costs = (Pass::First, 0, 100);
+    expect_between(&rt, rt.alloc(), 10, Node::Penalty(-9_999), &[5], costs);
+    let costs = (Pass::Third, 0, 100_020_100);
+    expect_between(&rt, rt.alloc(), 10, Node::Penalty(-10_000), &[1, 5], costs);
+}
+
+#[test]
+fn kerns_and_dropped_items(rt: HostRuntime) {
+    let alloc = rt.alloc();
+    let params = narrow(&rt);
+    let kern = Node::Kern(points(&rt, 5));
+    let items = Vec::from_array(alloc, [rule(&rt, 40), kern, glue(&rt, 0, 0), rule(&rt, 40)]);
+    let nodes = finished(&rt, items.expect(&rt, "there is memory"), &params);
+    expect_breaks(&rt, alloc, &nodes, &params, &[1, 6], (Pass::First, 0, 200));
+    let kern = Node::FontKern(points(&rt, 5));
+    let items = Vec::from_array(alloc, [rule(&rt, 35), kern, glue(&rt, 0, 0), rule(&rt, 40)]);
+    let nodes = finished(&rt, items.expect(&rt, "there is memory"), &params);
+    expect_breaks(&rt, alloc, &nodes, &params, &[2, 6], (Pass::First, 0, 200));
+    let items = [
+        rule(&rt, 40),
+        Node::Penalty(-10_000),
+        glue(&rt, 40, 0),
+        Node::Penalty(-10_000),
+        rule(&rt, 10),
+    ];
+    let items = Vec::from_array(alloc, items);
+    let nodes = finished(&rt, items.expect(&rt, "there is memory"), &params);
+    let costs = (Pass::Third, 0, 100_020_200);
+    expect_breaks(&rt, alloc, &nodes, &params, &[1, 3, 7], costs);
+}

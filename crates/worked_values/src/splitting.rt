@@ -1,0 +1,96 @@
+//! Vertical lists are split.
+
+use node_core::{Glue, Node, NodeList, Order, Rule, RuleSize, SplitParams};
+use pack_core::Packed;
+use scaled_core::Dimen;
+use std::process::Abort;
+use std::test::Fail;
+use vert_core::{Split, SplitFault, split, split_list};
+
+/// The dimension of so many points.
+fn points(rt: &impl Abort, number: i64) -> Dimen {
+    if number > 16_383 {
+        panic!(rt; "too many points");
+    }
+    if number < -16_383 {
+        panic!(rt; "too many points");
+    }
+    Dimen::try_new(65_536 * number).expect(rt, "it fits")
+}
+
+/// A rule, 10pt wide, so many points high, with no depth.
+fn rule(rt: &impl Abort, height: i64) -> Node {
+    Node::Rule(Rule {
+        width: RuleSize::Fixed(points(rt, 10)),
+        height: RuleSize::Fixed(points(rt, height)),
+        depth: RuleSize::Fixed(Dimen::ZERO),
+    })
+}
+
+/// Glue, so many points wide, that shrinks by so many times 1fil.
+fn glue(rt: &impl Abort, width: i64, shrink: i64) -> Node {
+    Node::Glue(Glue {
+        width: points(rt, width),
+        stretch: Dimen::ZERO,
+        stretch_order: Order::Normal,
+        shrink: points(rt, shrink),
+        shrink_order: Order::Fil,
+    })
+}
+
+/// Asserts the size and the badness of a box, 10pt wide, with no depth.
+fn expect_box(rt: &impl Abort, packed: &Packed, height: i64, badness: u32) {
+    assert_eq!(rt; packed.box_node.width, points(rt, 10));
+    assert_eq!(rt; packed.box_node.height, points(rt, height));
+    assert_eq!(rt; packed.box_node.depth, Dimen::ZERO);
+    assert_eq!(rt; packed.badness, badness);
+}
+
+/// Asserts that a list is split to a height with that badness, and that the rest is so high, if something is left.
+fn expect_split(rt: &impl Abort, parts: &Split, height: i64, badness: u32, rest: Option<i64>) {
+    expect_box(rt, &parts.front, height, badness);
+    match (&parts.rest, rest) {
+        (None, None) => (),
+        (Some(packed), Some(height)) => expect_box(rt, packed, height, 0),
+        _ => panic!(rt; "another rest"),
+    }
+}
+
+#[test]
+fn three_lists_are_split(rt: HostRuntime) -> Result<(), Fail> {
+    let alloc = rt.alloc();
+    let params = SplitParams::first();
+    let (a, b, c) = (rule(&rt, 5), rule(&rt, 5), rule(&rt, 5));
+    let forced = Vec::from_array(alloc, [a, glue(&rt, 2, 0), b, Node::Penalty(-10_000), c])?;
+    let parts = split(alloc, &forced, points(&rt, 20), &params);
+    let parts = parts.expect(&rt, "its numbers fit");
+    expect_split(&rt, &parts, 20, 10_000, Some(10));
+    let (a, b, c) = (rule(&rt, 5), rule(&rt, 5), rule(&rt, 5));
+    let spaced = Vec::from_array(alloc, [a, glue(&rt, 1, 0), b, glue(&rt, 1, 0), c])?;
+    let parts = split_list(NodeList::from_vec(spaced), points(&rt, 15), &params);
+    let parts = parts.expect(&rt, "its numbers fit");
+    expect_split(&rt, &parts, 15, 10_000, Some(10));
+    let high = Vec::from_array(alloc, [rule(&rt, 30), glue(&rt, 1, 0), rule(&rt, 30)])?;
+    let parts = split_list(NodeList::from_vec(high), points(&rt, 20), &params);
+    let parts = parts.expect(&rt, "its numbers fit");
+    expect_split(&rt, &parts, 20, 1_000_000, Some(30));
+    Ok(())
+}
+
+#[test]
+fn rests_and_refusals(rt: HostRuntime) -> Result<(), Fail> {
+    let alloc = rt.alloc();
+    let params = SplitParams::first();
+    let ends = Vec::from_array(alloc, [rule(&rt, 5), glue(&rt, 2, 0)])?;
+    let parts = split(alloc, &ends, points(&rt, 5), &params);
+    let parts = parts.expect(&rt, "its numbers fit");
+    expect_split(&rt, &parts, 5, 0, None);
+    let shrinks = Vec::from_array(alloc, [rule(&rt, 5), glue(&rt, 2, 1), glue(&rt, 2, -1)])?;
+    let unsplit = split_list(NodeList::from_vec(shrinks), points(&rt, 5), &params);
+    let Err(unsplit) = unsplit else {
+        panic!(rt; "it was split");
+    };
+    assert_eq!(rt; unsplit.fault, SplitFault::InfiniteShrink);
+    assert_eq!(rt; unsplit.list.len(), 3);
+    Ok(())
+}
