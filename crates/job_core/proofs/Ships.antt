@@ -1,12 +1,14 @@
 -- What holds where a job ships a box.
 use Rattle.std.proofs.Common.{◌≡◌, ℕ, ◌+◌, ◌≤◌, Bool, true, false, List, [], ◌∷◌, ◌++◌, replicate, Option, Some, None, refl, ap, sym, ◌∙◌, subst, arith, inl, inr}
-use Rattle.std.specs.Prelude.{ℤ, pos, ◌+ℤ◌, ◌⊎◌, nat_le, nat_lt, if◌then◌else◌}
+use Rattle.std.specs.Prelude.{◌≢◌, Ok, Err, IfErr, ℤ, pos, ◌+ℤ◌, ◌⊎◌, nat_le, nat_lt, if◌then◌else◌}
 use Rattle.std.proofs.lemmas.Bool.{leb-true, leb-false}
 use Rattle.std.proofs.lemmas.Int.{ints}
 use Rattle.node_core.specs.declared.tree.BoxNode.{BoxNode}
 use Rattle.node_core.specs.Nodes.{box_count}
 use Rattle.command_core.specs.declared.command.Command.TheVariants.{Ship}
 use Rattle.command_core.specs.declared.command.Refusal.{Refusal}
+use Rattle.command_core.specs.declared.command.Refusal.TheVariants.{Device}
+use Rattle.command_core.specs.Reply.{Reply}
 use Rattle.ship_core.specs.Marks.{Page, is_huge}
 use Rattle.dvi_layout.specs.declared.progress.Offsets.{Offsets}
 use Rattle.dvi_layout.specs.declared.progress.WriteFault.{WriteFault}
@@ -21,11 +23,13 @@ use Rattle.nest_core.specs.State.{State, held_in, count_in}
 use Rattle.nest_core.specs.Checks.{checks, first_of}
 use Rattle.nest_core.specs.NextPages.{offsets_of, page_in, pages_of, is_huge_in}
 use Rattle.nest_core.specs.Effects.{after, new_pages}
-use Rattle.nest_core.specs.Machine.{state_by}
+use Rattle.nest_core.specs.Machine.{state_by, state_after}
 use Rattle.state_core.proofs.SizedGlyphs.{sized_held}
 use Rattle.job_core.specs.Jobs.{GoesOn}
 use Rattle.job_core.specs.Together.{HoldsTogether}
-use Rattle.job_core.proofs.Moves.{Admits, admitted}
+use Rattle.state_core.proofs.KeptRest.{job_kept}
+use Rattle.job_core.proofs.Moves.{Admits, admitted, together_after}
+use Rattle.job_core.proofs.NewJobs.{parts_are}
 use Rattle.job_core.proofs.PageFonts.{shippable}
 
 -- The page that a job ships is that of its box, under its counts and moved by its offsets.
@@ -49,6 +53,25 @@ ship_goes_on s r b page old new none is same on before pages written =
 pub refused_goes_on : (s : State) (r : ℕ) (refusal : Refusal) (w : Writing) → first_of (checks s (Ship r)) ≡ Some refusal → GoesOn s (Ship r) w w
 refused_goes_on s r refusal w is before pages written =
     subst (HasWritten s.fonts before w) (ap (λ refused. state_by refused pages (pages ++ pages_of s (held_in s.registers r))) (sym is)) written
+
+-- How a writer and a state are seen together as what is written.
+pub goes_on_seen : (s t : State) (r : ℕ) (old new : Writing) → old.over ≡ false → s.over ≡ false → new.over ≡ false → t ≡ state_after s (Ship r) → GoesOn s (Ship r) old new
+    → GoesOn s (Ship r) (record { so_far = old.so_far; told = old.told; failed = old.failed; over = s.over }) (record { so_far = new.so_far; told = new.told; failed = new.failed; over = t.over })
+goes_on_seen s t r old new old_runs running new_runs after on =
+    let behind : t.over ≡ false = ap (λ (s : State). s.over) after ∙ ((job_kept s (Ship r)).over ∙ running) in
+    subst (λ w. GoesOn s (Ship r) w (record { so_far = new.so_far; told = new.told; failed = new.failed; over = t.over })) (parts_are old s.over (old_runs ∙ sym running))
+    (subst (λ w. GoesOn s (Ship r) old w) (parts_are new t.over (new_runs ∙ sym behind)) on)
+
+-- Where a ship is refused, what the device tells is as it was.
+pub unsent_where : (reply : Reply) (old new : Writing) → IfErr reply (λ refusal. new ≡ old) → IfErr reply (λ refusal. refusal ≢ Device → new.told ≡ old.told)
+unsent_where (Ok answer) old new same = tt
+unsent_where (Err refusal) old new same = λ other. ap (λ (w : Writing). w.told) same
+
+-- State and writer hold together behind a ship.
+pub together_shipped : (s t : State) (r : ℕ) (old new : Writing) → t ≡ state_after s (Ship r) → new.so_far.pages ≡ t.pages → new.so_far.nodes ≡ t.shipped → new.over ≡ false → HoldsTogether s old → HoldsTogether t new
+together_shipped s t r old new after pages nodes running held =
+    subst (λ t. HoldsTogether t new) (sym after)
+    (together_after s old new (Ship r) (λ none. tt) (pages ∙ ap (λ (s : State). s.pages) after) (nodes ∙ ap (λ (s : State). s.shipped) after) running held)
 
 -- The writer counts the page and its nodes.
 pub next_pages : (fonts : Slots) (s : SoFar) (page : Page) → (with_next fonts s page).pages ≡ s.pages + 1

@@ -45,6 +45,7 @@ fn ship_page<D: Device>(
     ensures nodes { OnOk result (writer.new.so_far.nodes ≡ kept.new.shipped) }
     ensures running { OnOk result (writer.new.over ≡ false) }
     ensures stands { OnOk result (writer.new.failed ≡ writer.old.failed) }
+    ensures unsent { IfOk result (λ reply. IfErr reply (λ refusal. writer.new ≡ writer.old)) }
     ensures admitted { OnErr result (first_of (checks kept.old (commands.Ship register)) ≡ None) }
     ensures err { OnErr result (kept.new ≡ kept.old) }
     ensures faults { IfErr result (λ fault. (fault ≡ WriteFault.OutOfMemory) ⊎ (fault ≡ WriteFault.Device)) }
