@@ -175,11 +175,13 @@ impl<D: Device> Job<D> {
         }
         match ship_page(&mut self.kept, &mut self.writer, self.alloc, register) {
             Ok(reply) => reply,
-            Err(WriteFault::Device) => {
-                self.kept.stop();
-                Err(Refusal::Device)
+            Err(fault) => {
+                if fault == WriteFault::Device {
+                    self.kept.stop();
+                    return Err(Refusal::Device);
+                }
+                Err(Refusal::OutOfMemory)
             }
-            Err(_) => Err(Refusal::OutOfMemory),
         }
     }
 

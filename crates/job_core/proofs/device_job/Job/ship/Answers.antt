@@ -15,9 +15,6 @@ invariant_of-self g c =
     λ runs. together_shipped c.self.inside.kept c.ship_page.new.kept c.args.register c.self.inside.writer c.ship_page.new.writer c.in-Ok.ensures.state c.in-Ok.ensures.pages c.in-Ok.ensures.nodes
     c.in-Ok.ensures.running (c.self.invariant running)
 
-pub invariant_of-self-in-Err : goal.invariant_of-self-in-Err
-invariant_of-self-in-Err g c = ?
-
 pub returns-in-Ok-clause-keeps : goal.returns-in-Ok-clause-keeps
 returns-in-Ok-clause-keeps g c =
     let running = sym c.is_over.ensures ∙ c.if-is_over.false in
@@ -29,9 +26,3 @@ returns-in-Ok-clause-keeps g c =
 
 pub returns-in-Ok-clause-unsent : goal.returns-in-Ok-clause-unsent
 returns-in-Ok-clause-unsent g c = rw (← c.self.view_is) (unsent_where c.in-Ok.reply c.self.inside.writer c.ship_page.new.writer c.in-Ok.ensures.unsent)
-
-pub returns-in-Err-Device-clause-keeps : goal.returns-in-Err-Device-clause-keeps
-returns-in-Err-Device-clause-keeps g c =
-    let more = c.ship_page.ensures.failed (c.in-Err-Device.is ∙ ap (λ (f : WriteFault). Err f) c.in-Err-Device.field-0-is) in
-    rw (← c.self.view_is)
-    (losing_page _ _ c.args.register c.in-Err-Device.ensures.admitted (c.stop.ensures ∙ ap (λ (s : State). record s { over = true }) c.in-Err-Device.ensures.err) (omega (arith, more)))
