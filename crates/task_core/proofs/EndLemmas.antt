@@ -1,10 +1,14 @@
 -- Texts that go out one behind another, and what is said behind a task.
-use Rattle.std.proofs.Common.{◌≡◌, ◌++◌, ◌+◌, ◌<◌, ℕ, Bool, List, [], length, take, Option, Some, None, Result, Ok, Err, OnOk, OnErr, inl, inr, sym, ◌∙◌, subst, arith}
+use Rattle.std.proofs.Common.{◌≡◌, ◌⊎◌, ap, true, false, ◌++◌, ◌+◌, ◌<◌, ℕ, Bool, List, [], length, take, Option, Some, None, Result, Ok, Err, OnOk, OnErr, inl, inr, sym, ◌∙◌, subst, arith}
 use Rattle.std.proofs.Math.Seq.{take-append-add}
 use Rattle.std.proofs.lemmas.List.{take-append-le, length-append}
 use Rattle.std.specs.Borrow.{Bor}
 use Rattle.std.specs.Io.KnownBytes.{Appends, Keeps}
-use Rattle.program_core.specs.Runs.{WritesFront, memory_line}
+use Rattle.std.specs.Prelude.{◌==◌}
+use Rattle.host_core.specs.Hosts.{told_by}
+use Rattle.tfm_core.specs.NamedBytes.{NamedBytes}
+use Rattle.task_core.specs.Typesets.{IsToFile}
+use Rattle.program_core.specs.Runs.{RanScript, RefusedScript, WritesFront, memory_line}
 use Rattle.program_core.proofs.WritingLemmas.{appends_both, appends_keeps, keeps_appends, keeps_front}
 use Rattle.task_core.specs.Ends.{EndsOutput, EndsTask, Takes, TellsOutput}
 use Rattle.task_core.specs.declared.task_end.TaskEnd.{TaskEnd}
@@ -58,3 +62,14 @@ output_then A U L Unwritten old mid new ended told = (ended.0, ended.1, ended.2,
 output_then A U L OutOfMemory old mid new ended told = keeps_takes old mid new memory_line ended told
 output_then A U L (Unreadable path) old mid new ended told = (ended.0, keeps_twice old mid new ended.1 told)
 output_then A U L NoSuchPage old mid new ended told = (ended.0, keeps_twice old mid new ended.1 told)
+
+-- what a device that writes a file tells, in the words of a script that was typeset
+pub answered_to_file : (text : List ℕ) (files : List NamedBytes) (start : ℕ) (open : Bool) (failures : ℕ) (back : Option (List ℕ)) (Same : Type 0) (answer : List ℕ) (fine created done : Bool) (written : Option (List ℕ))
+    → start ≡ 0 → created ≡ open → done ≡ (failures == 0) → written ≡ back → (Same → open ≡ false) → (Same → failures ≡ 0)
+    → RanScript text files start failures (told_by open back) answer fine ⊎ (RefusedScript text answer fine × Same) → IsToFile text files written created done answer fine
+answered_to_file text files start open failures back Same answer fine created done written fresh opened counted kept closed none (inl ran) =
+    let at_start = subst (λ (n : ℕ). RanScript text files n failures (told_by open back) answer fine) fresh ran in
+    let at_open = subst (λ (is : Bool). RanScript text files 0 failures (told_by is back) answer fine) (sym opened) at_start in
+    inl (failures, subst (λ (bytes : Option (List ℕ)). RanScript text files 0 failures (told_by created bytes) answer fine) (sym kept) at_open, counted)
+answered_to_file text files start open failures back Same answer fine created done written fresh opened counted kept closed none (inr refused) =
+    inr (refused.0, opened ∙ closed refused.1, counted ∙ ap (λ (n : ℕ). n == 0) (none refused.1))

@@ -1,6 +1,6 @@
 //! What `list` and `paint` print of a DVI file.
 
-ghost use Rattle.std.specs.Prelude.{◌≡◌, ◌≢◌, ◌≤◌, ℕ, Bool, List, Err, IfErr, IfOk};
+ghost use Rattle.std.specs.Prelude.{◌≡◌, ◌≢◌, ◌≤◌, ℕ, Bool, List, Err, IfOk};
 ghost use Rattle.std.specs.Io.KnownBytes.{Appends, Keeps};
 ghost use Rattle.dvi_print.specs.Outputs.{IsListed, IsPainted, LacksPage};
 ghost use Rattle.program_core.specs.Runs.{WritesFront};
@@ -65,7 +65,8 @@ pub fn paint_file<W: Write>(
         × Appends (W.contents writer.old) (W.contents writer.new) text) }
     ensures unwritten { result ≡ Err PrintFault.Unwritten → (text : List ℕ) × (fine : Bool)
         × IsPainted files.now dvi.now sheet.page sheet.dpi sheet.width sheet.height text fine × WritesFront (W.contents writer.old) (W.contents writer.new) text }
-    ensures silent { result ≢ Err PrintFault.Unwritten → IfErr result (λ fault. Keeps (W.contents writer.old) (W.contents writer.new)) }
+    ensures silent { result ≡ Err PrintFault.OutOfMemory → Keeps (W.contents writer.old) (W.contents writer.new) }
+    ensures unpainted { result ≡ Err PrintFault.NoSuchPage → Keeps (W.contents writer.old) (W.contents writer.new) }
     ensures missing { result ≡ Err PrintFault.NoSuchPage → LacksPage files.now dvi.now sheet.page }
 {
     let Sheet {

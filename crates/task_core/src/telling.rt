@@ -39,9 +39,9 @@ pub fn tell<W: Write>(writer: &mut W, what: &str, name: &str)
 
 /// Says how a task ended, and answers the status: 0 where its text was printed and all was accepted, 2 where there is no such page, and else 1.
 pub fn finish<W: Write, E: Write>(end: TaskEnd<'_>, output: &mut W, errors: &mut E) -> u8
-    ensures output { TellsOutput end (W.contents output.old) (W.contents output.new) }
-    ensures errors { TellsErrors end (E.contents errors.old) (E.contents errors.new) }
-    ensures status { result ≡ status_of end }
+    ensures output { TellsOutput end.entry (W.contents output.old) (W.contents output.new) }
+    ensures errors { TellsErrors end.entry (E.contents errors.old) (E.contents errors.new) }
+    ensures status { result ≡ status_of end.entry }
 {
     match end {
         TaskEnd::Printed(true) => 0,

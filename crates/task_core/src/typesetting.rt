@@ -43,7 +43,7 @@ pub fn typeset_file<'a, H: Host, W: Write>(
 
 /// An end, and what became of the file.
 fn end_with<'a, H: Host>(end: TaskEnd<'a>, device: FileDevice<'_, H>) -> TypesetEnd<'a, H>
-    ensures end { result.end ≡ end }
+    ensures end { result.end ≡ end.entry }
     ensures created { result.created ≡ device.entry.is_open }
     ensures written { result.written ≡ (device.entry.failures == 0) }
     ensures host { result.host ≡ device.entry.host }
