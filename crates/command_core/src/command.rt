@@ -4,7 +4,7 @@ ghost use Rattle.std.specs.Prelude.{◌≡◌, ◌<◌};
 ghost use Rattle.std.specs.Option.{SomeIff};
 ghost use Rattle.command_core.specs.BoxForms.{kind_of};
 
-use crate::limits::REGISTERS;
+use crate::limits::{COUNTS, REGISTERS};
 use node_core::{Glue, Kind, Number, Rule};
 use pack_core::Target;
 use scaled_core::Dimen;
@@ -52,6 +52,48 @@ impl Register {
     pub fn number(self) -> usize
         ensures value { result ≡ self }
         ensures small { result < REGISTERS }
+    {
+        self.number as usize
+    }
+}
+
+/// The number of a count: 0 to 9.
+#[derive(Clone, Copy, Debug, PartialEq, Eq)]
+pub struct CountNumber {
+    number: u8,
+}
+
+impl Model for CountNumber {
+    ghost use Rattle.std.specs.Prelude.{ℕ, ◌<◌};
+    ghost use Rattle.command_core.specs.declared.limits.TheConstants.{COUNTS};
+
+    ghost Value = { ℕ };
+
+    ghost view = { λ count. count.number };
+
+    ghost invariant = { λ count. count.number < COUNTS };
+
+    ghost inverse = { λ n. record { number = n } };
+}
+
+impl CountNumber {
+    /// The count of that number, or None exactly where there is none.
+    pub fn try_new(number: u64) -> Option<CountNumber>
+        ensures { SomeIff result (number < COUNTS) number }
+    {
+        if number < COUNTS as u64 {
+            Some(CountNumber {
+                number: number as u8,
+            })
+        } else {
+            None
+        }
+    }
+
+    /// The number of the count.
+    pub fn number(self) -> usize
+        ensures value { result ≡ self }
+        ensures small { result < COUNTS }
     {
         self.number as usize
     }
@@ -161,6 +203,13 @@ pub struct Splitting {
     pub into: Register,
 }
 
+/// Which count is set, and its new value.
+#[derive(Clone, Copy, Debug, PartialEq, Eq)]
+pub struct Counting {
+    pub count: CountNumber,
+    pub value: i32,
+}
+
 /// A parameter and a value for it.
 #[derive(Clone, Copy, Debug, PartialEq, Eq)]
 pub enum Parameter {
@@ -194,6 +243,10 @@ pub enum Parameter {
     WidowPenalty(Number),
     /// The penalty behind each line but the last: interlinepenalty.
     InterlinePenalty(Number),
+    /// How far pages are moved to the right, in scaled points: hoffset.
+    Hoffset(Dimen),
+    /// How far pages are moved down, in scaled points: voffset.
+    Voffset(Dimen),
 }
 
 /// A command to a job.
@@ -234,6 +287,8 @@ pub enum Command {
     Void(Register),
     /// Gives a parameter a value.
     Set(Parameter),
+    /// Gives a count of the pages that follow a value.
+    Count(Counting),
     /// Makes a page of the box in a register, which becomes void.
     Ship(Register),
 }

@@ -1,5 +1,5 @@
 -- The end of a job and of its machine.
-use Rattle.std.proofs.Common.{◌≡◌, ◌≢◌, ℕ, ◌<◌, Bool, true, false, List, [], ◌∷◌, ◌++◌, length, take, Option, Some, None, Ok, Err, refl, ap, subst, sym, ◌∙◌}
+use Rattle.std.proofs.Common.{◌≡◌, ◌≢◌, inl, inr, ℕ, ◌<◌, Bool, true, false, List, [], ◌∷◌, ◌++◌, length, take, Option, Some, None, Ok, Err, refl, ap, subst, sym, ◌∙◌}
 use Rattle.std.specs.Prelude.{◌==◌, not, IfSome}
 use Rattle.command_core.specs.declared.command.Refusal.TheVariants.{OutOfMemory, Device, JobOver, ListsOpen}
 use Rattle.command_core.specs.declared.command.Summary.{Summary}
@@ -8,7 +8,8 @@ use Rattle.dvi_ops.specs.Fonts.{Metrics}
 use Rattle.dvi_layout.specs.Fonts.{Slots}
 use Rattle.dvi_layout.specs.SoFar.{SoFar}
 use Rattle.dvi_layout.specs.Shippable.{GivesFonts, IsFileOfPages}
-use Rattle.dvi_write.specs.Writing.{Writing, HasWritten}
+use Rattle.dvi_layout.specs.declared.progress.WriteFault.{WriteFault}
+use Rattle.dvi_write.specs.Writing.{Writing, HasWritten, MayFail}
 use Rattle.ship_core.specs.Marks.{Page}
 use Rattle.nest_core.specs.State.{State}
 use Rattle.nest_core.specs.Checks.{first_of}
@@ -29,6 +30,24 @@ may_finish s running closed = rw (running, closed) refl
 pub has_written : (old : Seen) (m : Machine) (w : Writing) → Holds old m → old.state.over ≡ false → w ≡ writing_of old → HasWritten m.state.fonts (untold old.told) w m.pages
 has_written old m w holds running is =
     subst (λ w. HasWritten m.state.fonts (untold old.told) w m.pages) (sym is) (holds.written (sym (ap (λ (s : State). s.over) holds.state) ∙ running))
+
+-- It has written them by the fonts that it keeps.
+pub has_written_by : (old : Seen) (m : Machine) (w : Writing) (fonts : Slots) → Holds old m → old.state.over ≡ false → w ≡ writing_of old → fonts ≡ old.state.fonts
+    → HasWritten fonts (untold old.told) w m.pages
+has_written_by old m w fonts holds running is same =
+    subst (λ f. HasWritten f (untold old.told) w m.pages) (sym (same ∙ ap (λ (s : State). s.fonts) holds.state)) (has_written old m w holds running is)
+
+-- The fonts that a job keeps are those of its machine.
+pub fonts_are : (old : Seen) (m : Machine) (fonts : Slots) → Holds old m → fonts ≡ old.state.fonts → fonts ≡ m.state.fonts
+fonts_are old m fonts holds same = same ∙ ap (λ (s : State). s.fonts) holds.state
+
+true_and_false : {b : Bool} → b ≡ true → b ≡ false → ⊥
+true_and_false t f = cc
+
+-- There are pages where the end of a file that is not over fails.
+pub some_where : (w : Writing) (fault : WriteFault) → w.over ≡ false → MayFail w fault → w.so_far.pages ≢ 0
+some_where w fault running (inl h) = absurd (true_and_false h.0 running)
+some_where w fault running (inr h) = h.1
 
 some_pages : (old : Seen) (m : Machine) → Holds old m → old.state.over ≡ false → old.so_far.pages ≢ 0 → m.pages ≢ []
 some_pages old m holds running some none =

@@ -1,7 +1,7 @@
 pub mod Moves
 pub mod Endings
 pub mod PageFonts
-pub mod Ships
 pub mod NewJobs
+pub mod Ships
 pub mod WholeRuns
 pub mod MeasuredPages

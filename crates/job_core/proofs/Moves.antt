@@ -3,7 +3,7 @@ use Rattle.std.proofs.Common.{◌≡◌, ℕ, ◌+◌, ◌<◌, Bool, true, fals
 use Rattle.std.specs.Prelude.{is_none, if◌then◌else◌, IfOk, nat_le, nat_lt}
 use Rattle.node_core.specs.declared.tree.BoxNode.{BoxNode}
 use Rattle.command_core.specs.declared.command.Command.{Command}
-use Rattle.command_core.specs.declared.command.Command.TheVariants.{LoadFont, UseFont, Open, End, Text, Character, Rule, Kern, Glue, Penalty, Append, Unbox, LastBox, Split, Measure, Void, Set, Ship}
+use Rattle.command_core.specs.declared.command.Command.TheVariants.{LoadFont, UseFont, Open, End, Text, Character, Rule, Kern, Glue, Penalty, Append, Unbox, LastBox, Split, Measure, Void, Set, Count, Ship}
 use Rattle.command_core.specs.declared.command.Refusal.{Refusal}
 use Rattle.command_core.specs.declared.command.Refusal.TheVariants.{OutOfMemory, Device, JobOver, VoidBox, TooManyPages, TooMuchShipped, HugePage}
 use Rattle.command_core.specs.Reply.{Reply}
@@ -17,9 +17,10 @@ use Rattle.dvi_layout.specs.Layout.{front}
 use Rattle.dvi_write.specs.Writing.{Writing, HasWritten}
 use Rattle.dvi_write.proofs.Writings.{written_with_more}
 use Rattle.nest_core.specs.State.{State, held_in, count_in}
-use Rattle.nest_core.specs.Checks.{checks, own_checks, first_of, is_huge_in}
+use Rattle.nest_core.specs.Checks.{checks, own_checks, first_of}
+use Rattle.nest_core.specs.NextPages.{is_huge_in, pages_of}
 use Rattle.nest_core.specs.Answers.{answer_of}
-use Rattle.nest_core.specs.Effects.{after, new_pages, pages_of}
+use Rattle.nest_core.specs.Effects.{after, new_pages}
 use Rattle.nest_core.specs.Machine.{Machine, reply_by, reply_to, state_by, state_after, step, stopped_machine}
 use Rattle.nest_core.specs.Runs.{IsShip, TakesMemory, early_checks, Steps, Replies, LacksMemory, LosesDevice, Run}
 use Rattle.job_core.specs.Jobs.{GoesOn, Seen, writing_of, untold, pages_after, Holds, KeepsTo, RunsTo}
@@ -47,12 +48,12 @@ pub record Admits (s : State) (r : ℕ) : Type 0 where
   pub held : is_none (held_in s.registers r) ≡ false
   pub pages : nat_le MOST_PAGES s.pages ≡ false
   pub nodes : nat_lt MOST_SHIPPED (s.shipped + count_in (held_in s.registers r)) ≡ false
-  pub small : is_huge_in (held_in s.registers r) ≡ false
+  pub small : is_huge_in s (held_in s.registers r) ≡ false
 
 pub admitted : (s : State) (r : ℕ) → first_of (checks s (Ship r)) ≡ None → Admits s r
 admitted s r none =
     let all = all_fail s.over (is_none (held_in s.registers r)) (nat_le MOST_PAGES s.pages)
-    (nat_lt MOST_SHIPPED (s.shipped + count_in (held_in s.registers r))) (is_huge_in (held_in s.registers r))
+    (nat_lt MOST_SHIPPED (s.shipped + count_in (held_in s.registers r))) (is_huge_in s (held_in s.registers r))
     JobOver VoidBox TooManyPages TooMuchShipped HugePage none in
     record { held = all.0; pages = all.1.0; nodes = all.1.1.0; small = all.1.1.1 }
 
@@ -80,13 +81,14 @@ keeps_pages s (Split splitting) other = record { none = refl; pages = refl; ship
 keeps_pages s (Measure r) other = record { none = refl; pages = refl; shipped = refl }
 keeps_pages s (Void r) other = record { none = refl; pages = refl; shipped = refl }
 keeps_pages s (Set parameter) other = record { none = refl; pages = refl; shipped = refl }
+keeps_pages s (Count counting) other = record { none = refl; pages = refl; shipped = refl }
 keeps_pages s (Ship r) other = absurd (other tt)
 
 -- A command counts the pages that it adds.
 after-pages : (s : State) (command : Command) → first_of (checks s command) ≡ None → (after s command).pages ≡ s.pages + length (new_pages s command)
 after-pages s (Ship r) none = cases (held_in s.registers r) (admitted s r none).held
   where
-    cases : (held : Option BoxNode) → is_none held ≡ false → s.pages + 1 ≡ s.pages + length (pages_of held)
+    cases : (held : Option BoxNode) → is_none held ≡ false → s.pages + 1 ≡ s.pages + length (pages_of s held)
     cases None isnt = cc
     cases (Some b) isnt = refl
 after-pages s (LoadFont load) none = omega arith
@@ -106,6 +108,7 @@ after-pages s (Split splitting) none = omega arith
 after-pages s (Measure r) none = omega arith
 after-pages s (Void r) none = omega arith
 after-pages s (Set parameter) none = omega arith
+after-pages s (Count counting) none = omega arith
 
 -- After a step there are as many pages as the state counts.
 pub counted :

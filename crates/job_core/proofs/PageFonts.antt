@@ -1,5 +1,5 @@
 -- The glyphs of a box that a job ships have the widths of their fonts.
-use Rattle.std.proofs.Common.{◌≡◌, ℕ, ◌<◌, List, ap}
+use Rattle.std.proofs.Common.{◌≡◌, ℕ, ◌<◌, List, refl, ap}
 use Rattle.std.specs.Prelude.{ℤ, pos, Option, Some, None}
 use Rattle.std.specs.Option.{option_map}
 use Rattle.tfm_core.specs.declared.font.GlyphSize.{GlyphSize}

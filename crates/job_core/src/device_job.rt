@@ -1,6 +1,6 @@
 //! The job: commands are run, and each page goes to a device when it is shipped.
 
-ghost use Rattle.std.specs.Prelude.{◌≡◌, ◌≢◌, ◌<◌, ◌+◌, ◌^◌, ◌++◌, ◌⊎◌, [], ⊥, true, false, ℕ, None, Err, List, Option, length, IfOk, IfErr, OnOk, OnErr, IfSome};
+ghost use Rattle.std.specs.Prelude.{◌≡◌, ◌≢◌, ◌<◌, ◌+◌, ◌^◌, ◌++◌, ◌⊎◌, [], true, false, ℕ, None, Err, List, Option, length, IfOk, IfErr, OnOk, OnErr, IfSome};
 ghost use Rattle.command_core.specs.declared.command.Command.TheVariants as commands;
 ghost use Rattle.command_core.specs.declared.command.Refusal.{Refusal};
 ghost use Rattle.command_core.specs.Reply.{Reply as AReply};
@@ -21,10 +21,9 @@ ghost use Rattle.job_core.specs.Closing.{ClosesFile};
 
 use command_core::{Answer, Command, Refusal, Register, Reply, Summary};
 use device_core::Device;
-use dvi_layout::{Offsets, WriteFault};
+use dvi_layout::WriteFault;
 use dvi_write::DviWriter;
 use node_core::Node;
-use scaled_core::Dimen;
 use state_core::kept::Kept;
 use std::alloc::{AllocError, Global};
 use std::marker::Model;
@@ -46,6 +45,7 @@ fn ship_page<D: Device>(
     ensures nodes { OnOk result (writer.new.so_far.nodes ≡ kept.new.shipped) }
     ensures running { OnOk result (writer.new.over ≡ false) }
     ensures stands { OnOk result (writer.new.failed ≡ writer.old.failed) }
+    ensures unsent { IfOk result (λ reply. IfErr reply (λ refusal. writer.new ≡ writer.old)) }
     ensures admitted { OnErr result (first_of (checks kept.old (commands.Ship register)) ≡ None) }
     ensures err { OnErr result (kept.new ≡ kept.old) }
     ensures faults { IfErr result (λ fault. (fault ≡ WriteFault.OutOfMemory) ⊎ (fault ≡ WriteFault.Device)) }
@@ -57,11 +57,13 @@ fn ship_page<D: Device>(
     let nodes = match kept.box_to_ship(register) {
         Err(refusal) => return Ok(Err(refusal)),
         Ok(found) => {
-            let offsets = Offsets {
-                h: Dimen::ZERO,
-                v: Dimen::ZERO,
-            };
-            writer.page(alloc, found.box_node, offsets, &[0; 10], kept.fonts())?;
+            writer.page(
+                alloc,
+                found.box_node,
+                kept.offsets(),
+                kept.counts(),
+                kept.fonts(),
+            )?;
             found.nodes
         }
     };
@@ -100,6 +102,7 @@ fn obey(kept: &mut Kept, command: &Command) -> Result<Reply, AllocError>
         Command::Measure(register) => Ok(kept.measure(*register)),
         Command::Void(register) => Ok(kept.void(*register)),
         Command::Set(parameter) => Ok(kept.set(*parameter)),
+        Command::Count(counting) => Ok(kept.count(*counting)),
         Command::Ship(_) => unreachable!(),
     }
 }

@@ -8,7 +8,7 @@ use Rattle.node_core.specs.Nodes.{nodes_of}
 use Rattle.nest_core.specs.declared.nest.OpenList.{OpenList}
 use Rattle.command_core.specs.declared.command.Sizes.{Sizes}
 use Rattle.command_core.specs.declared.command.Command.{Command}
-use Rattle.command_core.specs.declared.command.Command.TheVariants.{LoadFont, UseFont, Open, End, Text, Character, Rule, Kern, Glue, Penalty, Append, Unbox, LastBox, Split, Measure, Void, Set, Ship}
+use Rattle.command_core.specs.declared.command.Command.TheVariants.{LoadFont, UseFont, Open, End, Text, Character, Rule, Kern, Glue, Penalty, Append, Unbox, LastBox, Split, Measure, Void, Set, Count, Ship}
 use Rattle.command_core.specs.declared.command.Answer.{Answer}
 use Rattle.command_core.specs.declared.command.Answer.TheVariants as answers
 use Rattle.command_core.specs.declared.command.Answer.TheVariants.{Done, Packed, Measured, MeasuredVoid, Shaped, Added, SplitVoid, Shipped}
@@ -70,4 +70,5 @@ answer_of m (Split splitting) = split_answer m.params.split splitting.height (he
 answer_of m (Measure r) = measured_answer (held_in m.registers r)
 answer_of m (Void r) = Done
 answer_of m (Set parameter) = Done
+answer_of m (Count counting) = Done
 answer_of m (Ship r) = Shipped (m.pages + 1)

@@ -12,20 +12,19 @@ use Rattle.node_core.specs.declared.params.Params.{Params}
 use Rattle.node_core.specs.declared.params.SplitParams.{SplitParams}
 use Rattle.node_core.specs.Nodes.{nodes_of, box_depth}
 use Rattle.nest_core.specs.declared.nest.OpenList.{OpenList}
-use Rattle.ship_core.specs.Pages.{page_of}
 use Rattle.command_core.specs.declared.command.Command.{Command}
-use Rattle.command_core.specs.declared.command.Command.TheVariants.{LoadFont, UseFont, Open, End, Text, Character, Rule, Kern, Glue, Penalty, Append, Unbox, LastBox, Split, Measure, Void, Set, Ship}
+use Rattle.command_core.specs.declared.command.Command.TheVariants.{LoadFont, UseFont, Open, End, Text, Character, Rule, Kern, Glue, Penalty, Append, Unbox, LastBox, Split, Measure, Void, Set, Count, Ship}
 use Rattle.command_core.specs.declared.command.Refusal.{Refusal}
 use Rattle.command_core.specs.declared.command.Refusal.TheVariants.{DimensionTooLarge, NoFont, SlotTaken, NoOpenList, WrongMode, WrongKind, ListTooLong, TooDeep, InfiniteShrink, HugePage, TooManyPages, TooMuchShipped, JobOver, VoidBox}
 use Rattle.command_core.specs.declared.limits.TheConstants.{MOST_OPEN, MOST_ITEMS, MOST_DEEP, MOST_PAGES, MOST_SHIPPED}
 use Rattle.pack_core.specs.declared.pack.Packed as packs
 use Rattle.scaled_core.specs.Dimensions.{fits}
 use Rattle.split_core.specs.Split.{shrinks_infinitely, split_numbers}
-use Rattle.ship_core.specs.Marks.{is_huge}
 use Rattle.tfm_core.specs.Fonts.{SizedFont}
 use Rattle.dvi_layout.specs.Fonts.{font_in}
 use Rattle.nest_core.specs.FontSlots.{current_font, CharacterItems, text_shaped, character_shaped}
 use Rattle.nest_core.specs.State.{State, innermost, outer, items_in, open_count, held_in, count_in, font_for}
+use Rattle.nest_core.specs.NextPages.{is_huge_in}
 use Rattle.nest_core.specs.OpenLists.{kind_in, is_vertical, register_of, glue_in, box_items, packed_list}
 
 -- The first refusal whose condition holds.
@@ -139,11 +138,6 @@ abbrev pub is_misplaced : Kind → rules.Rule → Bool
 is_misplaced Horizontal rule = is_running rule.width
 is_misplaced Vertical rule = is_running rule.height || is_running rule.depth
 
--- Whether the page of the box of a register is huge, if there is one.
-abbrev pub is_huge_in : Option BoxNode → Bool
-is_huge_in None = false
-is_huge_in (Some b) = is_huge (page_of b)
-
 -- The refusals of each command in their order, each with the condition under which it is given.
 abbrev pub own_checks : State → Command → List (Bool × Refusal)
 own_checks m (LoadFont load) = (is_some (font_in m.fonts load.slot), SlotTaken) ∷ refusal_in (font_for m load)
@@ -165,10 +159,11 @@ own_checks m (Split splitting) = split_checks m.params.split splitting.height (h
 own_checks m (Measure r) = []
 own_checks m (Void r) = []
 own_checks m (Set parameter) = []
+own_checks m (Count counting) = []
 own_checks m (Ship r) =
     (is_none (held_in m.registers r), VoidBox) ∷ (nat_le MOST_PAGES m.pages, TooManyPages)
     ∷ (nat_lt MOST_SHIPPED (m.shipped + count_in (held_in m.registers r)), TooMuchShipped)
-    ∷ (is_huge_in (held_in m.registers r), HugePage) ∷ []
+    ∷ (is_huge_in m (held_in m.registers r), HugePage) ∷ []
 
 -- A job that is over refuses each command for that.
 abbrev pub checks : State → Command → List (Bool × Refusal)

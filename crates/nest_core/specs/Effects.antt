@@ -10,19 +10,19 @@ use Rattle.node_core.specs.declared.params.SplitParams.{SplitParams}
 use Rattle.node_core.specs.Nodes.{items_of, nodes_of, last_box, without}
 use Rattle.vert_core.specs.Interline.{ignored_depth}
 use Rattle.nest_core.specs.declared.nest.OpenList.{OpenList}
-use Rattle.ship_core.specs.Pages.{page_of}
 use Rattle.command_core.specs.declared.command.Parameter.{Parameter}
-use Rattle.command_core.specs.declared.command.Parameter.TheVariants.{BoxMaxDepth, BaselineSkip, LineSkip, LineSkipLimit, SplitMaxDepth, SplitTopSkip, Hsize, ParFillSkip, Pretolerance, Tolerance, LinePenalty, AdjDemerits, ClubPenalty, WidowPenalty, InterlinePenalty}
+use Rattle.command_core.specs.declared.command.Parameter.TheVariants.{BoxMaxDepth, BaselineSkip, LineSkip, LineSkipLimit, SplitMaxDepth, SplitTopSkip, Hsize, ParFillSkip, Pretolerance, Tolerance, LinePenalty, AdjDemerits, ClubPenalty, WidowPenalty, InterlinePenalty, Hoffset, Voffset}
 use Rattle.command_core.specs.declared.command.Splitting.{Splitting}
 use Rattle.command_core.specs.declared.command.Taking.{Taking}
 use Rattle.command_core.specs.declared.command.Taking.TheVariants.{Moved, Copied}
 use Rattle.command_core.specs.declared.command.Command.{Command}
-use Rattle.command_core.specs.declared.command.Command.TheVariants.{LoadFont, UseFont, Open, End, Text, Character, Rule, Kern, Glue, Penalty, Append, Unbox, LastBox, Split, Measure, Void, Set, Ship}
+use Rattle.command_core.specs.declared.command.Command.TheVariants.{LoadFont, UseFont, Open, End, Text, Character, Rule, Kern, Glue, Penalty, Append, Unbox, LastBox, Split, Measure, Void, Set, Count, Ship}
 use Rattle.pack_core.specs.declared.pack.Packed as packs
 use Rattle.split_core.specs.Split.{front_of, rest_of}
 use Rattle.ship_core.specs.Marks.{Page}
 use Rattle.nest_core.specs.FontSlots.{with_font, text_shaped, character_shaped}
 use Rattle.nest_core.specs.State.{State, innermost, outer, with_innermost, items_in, held_in, count_in, font_for}
+use Rattle.nest_core.specs.NextPages.{pages_of}
 use Rattle.nest_core.specs.OpenLists.{opened_list, register_of, box_items, packed_list}
 
 -- The nest with more nodes at the end of its innermost list.
@@ -81,6 +81,8 @@ with_parameter params (AdjDemerits number) = record params { adj_demerits = numb
 with_parameter params (ClubPenalty number) = record params { club_penalty = number }
 with_parameter params (WidowPenalty number) = record params { widow_penalty = number }
 with_parameter params (InterlinePenalty number) = record params { interline_penalty = number }
+with_parameter params (Hoffset size) = record params { hoffset = size }
+with_parameter params (Voffset size) = record params { voffset = size }
 
 -- The state when the box of a closed list went into its register, or behind the innermost of the lists around.
 abbrev pub with_home : State → (around : List OpenList) → (into : Option ℕ) → BoxNode → State
@@ -140,6 +142,7 @@ after m (Split splitting) = record m { registers = with_split m.params.split m.r
 after m (Measure r) = m
 after m (Void r) = record m { registers = slice_set m.registers r None }
 after m (Set parameter) = record m { params = with_parameter m.params parameter }
+after m (Count counting) = record m { counts = slice_set m.counts counting.count counting.value }
 after m (Ship r) =
     record m {
       registers = slice_set m.registers r None;
@@ -147,12 +150,7 @@ after m (Ship r) =
       pages = m.pages + 1;
     }
 
--- The page of the box of a register, if there is one (TeX: The Program, part 32).
-abbrev pub pages_of : Option BoxNode → List Page
-pages_of None = []
-pages_of (Some b) = page_of b ∷ []
-
 -- The pages that an accepted command adds.
 abbrev pub new_pages : State → Command → List Page
-new_pages m (Ship r) = pages_of (held_in m.registers r)
+new_pages m (Ship r) = pages_of m (held_in m.registers r)
 new_pages m command = []

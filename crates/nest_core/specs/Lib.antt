@@ -1,4 +1,5 @@
 pub mod State
+pub mod NextPages
 pub mod OpenLists
 pub mod Checks
 pub mod Answers

@@ -1,7 +1,7 @@
 -- Runs of the machine, with what it does not choose: want of memory and a device that fails (own).
 use Rattle.std.specs.Prelude.{◌≡◌, ◌≢◌, ◌<◌, ◌==◌, [], ◌∷◌, ℕ, Bool, not, List, length, Some, None, is_none, is_some, IsSome, Result, Ok, Err}
 use Rattle.command_core.specs.declared.command.Command.{Command}
-use Rattle.command_core.specs.declared.command.Command.TheVariants.{LoadFont, UseFont, Open, End, Text, Character, Rule, Kern, Glue, Penalty, Append, Unbox, LastBox, Split, Measure, Void, Set, Ship}
+use Rattle.command_core.specs.declared.command.Command.TheVariants.{LoadFont, UseFont, Open, End, Text, Character, Rule, Kern, Glue, Penalty, Append, Unbox, LastBox, Split, Measure, Void, Set, Count, Ship}
 use Rattle.command_core.specs.declared.command.Refusal.{Refusal}
 use Rattle.command_core.specs.declared.command.Refusal.TheVariants.{OutOfMemory, NoFont, SlotTaken, Device, ListsOpen, JobOver}
 use Rattle.command_core.specs.declared.command.Summary.{Summary}
@@ -33,6 +33,7 @@ TakesMemory m (Split splitting) = IsSome (held_in m.registers splitting.register
 TakesMemory m (Measure r) = ⊥
 TakesMemory m (Void r) = ⊥
 TakesMemory m (Set parameter) = ⊥
+TakesMemory m (Count counting) = ⊥
 TakesMemory m (Ship r) = Unit {0}
 
 -- The refusals that are found before any memory is taken, in their order: all but those that a font file's bytes, its size or the number of

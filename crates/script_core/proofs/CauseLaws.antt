@@ -21,6 +21,7 @@ use Rattle.script_core.proofs.FontCauses.{font_cause, font_reads}
 use Rattle.script_core.proofs.OpeningCauses.{opening_cause}
 use Rattle.script_core.proofs.BoxCauses.{append_cause}
 use Rattle.script_core.proofs.SplitCauses.{split_cause}
+use Rattle.script_core.proofs.CountCauses.{count_cause}
 use Rattle.script_core.proofs.GlueCauses.{glue_cause}
 use Rattle.script_core.proofs.ParameterCauses.{set_reads, set_cause}
 
@@ -169,6 +170,7 @@ named_cause names.Split rest cause h = split_cause rest cause (named names.Split
 named_cause names.Measure rest cause h = alone_cause register_count (omega arith) names.Measure Measure rest cause (λ fields. refl) h
 named_cause names.Void rest cause h = alone_cause register_count (omega arith) names.Void Void rest cause (λ fields. refl) h
 named_cause names.Set rest cause h = set_cause rest cause (set_reads rest ∙ h)
+named_cause names.Count rest cause h = count_cause rest cause (named names.Count rest ∙ h)
 named_cause names.Ship rest cause h = alone_cause register_count (omega arith) names.Ship Ship rest cause (λ fields. refl) h
 
 no_name : (word : List ℕ) (rest : List (List ℕ)) → name_of word ≡ None → command_of (word ∷ rest) ≡ Err Word

@@ -29,6 +29,7 @@ name_text names.Split = codes "vsplit"
 name_text names.Measure = codes "measure"
 name_text names.Void = codes "void"
 name_text names.Set = codes "set"
+name_text names.Count = codes "count"
 name_text names.Ship = codes "ship"
 
 one_name : (b : Bool) (word text : List ℕ) (here : Name) (later : Option Name) (name : Name) → bytes_eq word text ≡ b → text ≡ name_text here → (later ≡ Some name → word ≡ name_text name) → (if b then Some here else later) ≡ Some name → word ≡ name_text name
@@ -70,7 +71,8 @@ item_name_written word name h =
     (one_name _ word (codes "kern") names.Kern _ name refl refl
     (one_name _ word (codes "glue") names.Glue _ name refl refl
     (one_name _ word (codes "penalty") names.Penalty _ name refl refl
-    (one_name _ word (codes "set") names.Set None name refl refl (λ e. absurd (cc))))))))) h
+    (one_name _ word (codes "set") names.Set _ name refl refl
+    (one_name _ word (codes "count") names.Count None name refl refl (λ e. absurd (cc)))))))))) h
 
 name_by_rest : (word : List ℕ) (name : Name) (o : Option Name) → register_name word ≡ o → name_or o (item_name word) ≡ Some name → word ≡ name_text name
 name_by_rest word name None e h = item_name_written word name h
@@ -109,6 +111,7 @@ name_read names.Split = refl
 name_read names.Measure = refl
 name_read names.Void = refl
 name_read names.Set = refl
+name_read names.Count = refl
 name_read names.Ship = refl
 
 -- the command that a name begins

@@ -28,6 +28,7 @@ pub enum Name {
     Measure,
     Void,
     Set,
+    Count,
     Ship,
 }
 
@@ -82,7 +83,7 @@ fn register_name(word: &[u8]) -> Option<Name>
     }
 }
 
-/// The name of a command of fonts, items and parameters that a word is, or None.
+/// The name of a command of fonts, items, parameters and counts that a word is, or None.
 #[tactic(auto, unfolding(crate::specs::Names::item_name))]
 fn item_name(word: &[u8]) -> Option<Name>
     ensures { result ≡ item_name word.now }
@@ -96,6 +97,7 @@ fn item_name(word: &[u8]) -> Option<Name>
         b"glue" => Some(Name::Glue),
         b"penalty" => Some(Name::Penalty),
         b"set" => Some(Name::Set),
+        b"count" => Some(Name::Count),
         _ => None,
     }
 }

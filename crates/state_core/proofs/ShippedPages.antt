@@ -7,7 +7,8 @@ use Rattle.command_core.specs.declared.command.Refusal.{Refusal}
 use Rattle.command_core.specs.declared.command.Refusal.TheVariants.{JobOver, VoidBox, TooManyPages, TooMuchShipped, HugePage}
 use Rattle.command_core.specs.declared.limits.TheConstants.{MOST_PAGES, MOST_SHIPPED}
 use Rattle.nest_core.specs.State.{State, held_in, count_in}
-use Rattle.nest_core.specs.Checks.{checks, first_of, is_huge_in}
+use Rattle.nest_core.specs.Checks.{checks, first_of}
+use Rattle.nest_core.specs.NextPages.{is_huge_in}
 
 third_and_fourth_fail : (a b c d : Bool) (p q r t : Refusal) (rest : List (Bool × Refusal))
     → first_of ((a, p) ∷ (b, q) ∷ (c, r) ∷ (d, t) ∷ rest) ≡ None → (c ≡ false) × (d ≡ false)
@@ -26,5 +27,5 @@ pub room_to_ship : (s : State) (r : ℕ) → first_of (checks s (Ship r)) ≡ No
 room_to_ship s r none =
     let fail =
     third_and_fourth_fail s.over (is_none (held_in s.registers r)) (nat_le MOST_PAGES s.pages) (nat_lt MOST_SHIPPED (s.shipped + count_in (held_in s.registers r)))
-    JobOver VoidBox TooManyPages TooMuchShipped ((is_huge_in (held_in s.registers r), HugePage) ∷ []) none in
+    JobOver VoidBox TooManyPages TooMuchShipped ((is_huge_in s (held_in s.registers r), HugePage) ∷ []) none in
     record { shipped = ltb-false MOST_SHIPPED (s.shipped + count_in (held_in s.registers r)) fail.1; pages = omega (arith, leb-false MOST_PAGES s.pages fail.0) }

@@ -26,7 +26,7 @@ use Rattle.pack_core.specs.declared.pack.TooLarge.{TooLarge}
 use Rattle.nest_core.specs.declared.nest.OpenList.{OpenList}
 use Rattle.dvi_layout.specs.declared.fonts.LoadedFont.{LoadedFont}
 use Rattle.command_core.specs.declared.command.Command.{Command}
-use Rattle.command_core.specs.declared.command.Command.TheVariants.{LoadFont, UseFont, Open, End, Text, Character, Rule, Kern, Glue, Penalty, Append, Unbox, LastBox, Split, Measure, Void, Set, Ship}
+use Rattle.command_core.specs.declared.command.Command.TheVariants.{LoadFont, UseFont, Open, End, Text, Character, Rule, Kern, Glue, Penalty, Append, Unbox, LastBox, Split, Measure, Void, Set, Count, Ship}
 use Rattle.command_core.specs.declared.command.FontLoad.{FontLoad}
 use Rattle.command_core.specs.declared.command.Refusal.{Refusal}
 use Rattle.command_core.specs.declared.command.Refusal.TheVariants.{SlotTaken, TooDeep, JobOver}
@@ -102,6 +102,7 @@ stays_loaded s (Split splitting) may slot loaded is = is
 stays_loaded s (Measure r) may slot loaded is = is
 stays_loaded s (Void r) may slot loaded is = is
 stays_loaded s (Set parameter) may slot loaded is = is
+stays_loaded s (Count counting) may slot loaded is = is
 stays_loaded s (Ship r) may slot loaded is = is
 
 -- What is sized stays so where each slot that has a font keeps it.
@@ -379,4 +380,5 @@ sized_after s (Split splitting) may sized = split_sized s splitting (held_in s.r
 sized_after s (Measure r) may sized = sized
 sized_after s (Void r) may sized = record { nest = sized.nest; registers = each_set (IsSizedHeld s.fonts) s.registers r None sized.registers tt }
 sized_after s (Set parameter) may sized = record { nest = sized.nest; registers = sized.registers }
+sized_after s (Count counting) may sized = record { nest = sized.nest; registers = sized.registers }
 sized_after s (Ship r) may sized = record { nest = sized.nest; registers = each_set (IsSizedHeld s.fonts) s.registers r None sized.registers tt }

@@ -1,6 +1,6 @@
 -- How the logic stores the state of a machine (own; the models of `Kept` and `Job` alone, no public clause speaks of it).
-use Rattle.std.specs.Prelude.{ℕ, Bool, List, Option, refl}
-use Rattle.std.specs.Coded.{Coded, code_by, coded×, coded_ℕ, coded_bool, coded_list, coded_option}
+use Rattle.std.specs.Prelude.{ℕ, ℤ, Bool, List, Option, refl}
+use Rattle.std.specs.Coded.{Coded, code_by, coded×, coded_ℕ, coded_ℤ, coded_bool, coded_list, coded_option}
 use Rattle.node_core.specs.declared.tree.BoxNode.{BoxNode}
 use Rattle.node_core.specs.contracts.tree.BoxNode as box_node
 use Rattle.node_core.specs.declared.params.Params.{Params}
@@ -19,7 +19,7 @@ coded_named =
 
 -- The parts of a state, as a pair of pairs.
 abbrev pub Parts : Type 0
-Parts = ((List NamedBytes × (List (Option LoadedFont) × Option ℕ)) × (Params × List OpenList)) × (List (Option BoxNode) × ((ℕ × ℕ) × Bool))
+Parts = ((List NamedBytes × (List (Option LoadedFont) × Option ℕ)) × (Params × List OpenList)) × ((List (Option BoxNode) × List ℤ) × ((ℕ × ℕ) × Bool))
 
 -- How the fonts of the slots are stored, with the slot of the current one.
 abbrev pub coded_fonts : Coded (List (Option LoadedFont) × Option ℕ)
@@ -29,10 +29,10 @@ coded_fonts = coded× (coded_list (coded_option loaded_font.the_row.coded)) (cod
 abbrev pub coded_parts : Coded Parts
 coded_parts =
     coded× (coded× (coded× (coded_list coded_named) coded_fonts) (coded× params_code.the_row.coded (coded_list open_list.the_row.coded)))
-    (coded× (coded_list (coded_option box_node.the_row.coded)) (coded× (coded× coded_ℕ coded_ℕ) coded_bool))
+    (coded× (coded× (coded_list (coded_option box_node.the_row.coded)) (coded_list coded_ℤ)) (coded× (coded× coded_ℕ coded_ℕ) coded_bool))
 
 -- How a state is stored: by its parts.
 abbrev pub coded_state : Coded State
 coded_state =
-    code_by Parts coded_parts (λ s. (((s.files, (s.fonts, s.current)), (s.params, s.nest)), (s.registers, ((s.shipped, s.pages), s.over))))
-    (λ p. record { files = p.0.0.0; fonts = p.0.0.1.0; current = p.0.0.1.1; params = p.0.1.0; nest = p.0.1.1; registers = p.1.0; shipped = p.1.1.0.0; pages = p.1.1.0.1; over = p.1.1.1 }) (λ _. refl)
+    code_by Parts coded_parts (λ s. (((s.files, (s.fonts, s.current)), (s.params, s.nest)), ((s.registers, s.counts), ((s.shipped, s.pages), s.over))))
+    (λ p. record { files = p.0.0.0; fonts = p.0.0.1.0; current = p.0.0.1.1; params = p.0.1.0; nest = p.0.1.1; registers = p.1.0.0; counts = p.1.0.1; shipped = p.1.1.0.0; pages = p.1.1.0.1; over = p.1.1.1 }) (λ _. refl)

@@ -7,6 +7,7 @@ ghost use Rattle.state_core.specs.Loaded.{GivesNumbers};
 ghost use Rattle.node_core.specs.Nodes.{most_nodes, nodes_of};
 ghost use Rattle.nest_core.specs.EmptiedNest.{refilled_nest};
 ghost use Rattle.nest_core.specs.State.{first_state, innermost, outer, items_in, held_in, count_in, nodes_in};
+ghost use Rattle.nest_core.specs.NextPages.{offsets_of};
 ghost use Rattle.nest_core.specs.OpenLists.{GoesIntoList};
 ghost use Rattle.nest_core.specs.Checks.{checks, first_of, character_checks, item_checks, length_checks, held_checks, home_checks, place_checks, is_running, is_misplaced};
 ghost use Rattle.nest_core.specs.Answers.{sizes_of, shaped_answer};
@@ -14,12 +15,12 @@ ghost use Rattle.nest_core.specs.Effects.{after, with_items, with_used, with_unb
 ghost use Rattle.nest_core.specs.Machine.{reply_by, reply_to, state_by, state_after};
 ghost use Rattle.nest_core.specs.Runs.{early_checks};
 
-use command_core::limits::{MOST_DEEP, MOST_ITEMS, MOST_OPEN, MOST_PAGES, MOST_SHIPPED};
+use command_core::limits::{COUNTS, MOST_DEEP, MOST_ITEMS, MOST_OPEN, MOST_PAGES, MOST_SHIPPED};
 use command_core::{
-    Answer, BoxUse, Characters, FontLoad, Opening, Parameter, Refusal, Register, Reply, Splitting,
-    Taking, Unboxing,
+    Answer, BoxUse, Characters, Counting, FontLoad, Opening, Parameter, Refusal, Register, Reply,
+    Splitting, Taking, Unboxing,
 };
-use dvi_layout::{Fonts, LoadedFont};
+use dvi_layout::{Fonts, LoadedFont, Offsets};
 use nest_core::fonts::read_font;
 use nest_core::nest::Nest;
 use nest_core::registers::{Registers, sizes_of};
@@ -27,7 +28,7 @@ use node_core::{BoxNode, Kind, Node, Params, Rule, RuleSize};
 use pack_core::Packed;
 use scaled_core::Dimen;
 use shape_core::{Missing, shape_character, shape_text};
-use ship_core::{PagePoint, is_huge};
+use ship_core::is_huge;
 use std::alloc::{AllocError, Global};
 use std::marker::Model;
 use tfm_core::{FontFile, file_named};
@@ -41,6 +42,7 @@ pub struct Kept {
     params: Params,
     nest: Nest,
     registers: Registers,
+    counts: [i32; COUNTS],
     shipped: u64,
     pages: u32,
     over: bool,
@@ -56,7 +58,7 @@ impl Model for Kept {
 
     ghost coded = { coded_state };
 
-    ghost view = { λ kept. record { files = kept.files.items; fonts = kept.fonts; current = kept.current; params = kept.params; nest = kept.nest; registers = kept.registers; shipped = kept.shipped; pages = kept.pages; over = kept.over } };
+    ghost view = { λ kept. record { files = kept.files.items; fonts = kept.fonts; current = kept.current; params = kept.params; nest = kept.nest; registers = kept.registers; counts = kept.counts; shipped = kept.shipped; pages = kept.pages; over = kept.over } };
 
     ghost invariant = { λ kept. (kept.shipped ≤ MOST_SHIPPED) × (kept.pages ≤ MOST_PAGES) };
 }
@@ -94,6 +96,7 @@ impl Kept {
             params: Params::first(),
             nest: Nest::new(alloc),
             registers,
+            counts: [0; COUNTS],
             shipped: 0,
             pages: 0,
             over: false,
@@ -558,8 +561,37 @@ impl Kept {
             Parameter::ClubPenalty(number) => self.params.club_penalty = number,
             Parameter::WidowPenalty(number) => self.params.widow_penalty = number,
             Parameter::InterlinePenalty(number) => self.params.interline_penalty = number,
+            Parameter::Hoffset(size) => self.params.hoffset = size,
+            Parameter::Voffset(size) => self.params.voffset = size,
         }
         Ok(Answer::Done)
+    }
+
+    /// Gives a count of the pages that follow a value.
+    pub fn count(&mut self, counting: Counting) -> Reply
+        requires { self.old.over ≡ false }
+        ensures reply { result ≡ reply_to self.old (commands.Count counting) }
+        ensures state { self.new ≡ state_after self.old (commands.Count counting) }
+    {
+        self.counts[counting.count.number()] = counting.value;
+        Ok(Answer::Done)
+    }
+
+    /// The counts of the pages that follow.
+    pub fn counts(&self) -> &[i32; COUNTS]
+        ensures { result.now ≡ self.now.counts }
+    {
+        &self.counts
+    }
+
+    /// How far pages are moved.
+    pub fn offsets(&self) -> Offsets
+        ensures { result ≡ offsets_of self.now.params }
+    {
+        Offsets {
+            h: self.params.hoffset,
+            v: self.params.voffset,
+        }
     }
 
     /// The box in a register that may be shipped now, or why it may not.
@@ -580,7 +612,7 @@ impl Kept {
         if self.shipped.saturating_add(nodes) > MOST_SHIPPED {
             return Err(Refusal::TooMuchShipped);
         }
-        if is_huge(box_node, PagePoint::of_box(box_node)) {
+        if is_huge(box_node, self.offsets().point_of(box_node)) {
             return Err(Refusal::HugePage);
         }
         Ok(BoxToShip { box_node, nodes })

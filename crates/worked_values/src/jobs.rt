@@ -3,7 +3,7 @@
 ghost use Rattle.std.specs.Prelude.{Some};
 
 use job_core::{
-    Answer, BoxForm, Command, Device, DeviceFault, FontFile, Job, Opening, Refusal, Register,
+    Answer, BoxForm, Command, Device, DeviceFault, FontFile, Job, Opening, Refusal, Register, Reply,
     Summary, Target,
 };
 use node_core::{Rule, RuleSize};
@@ -73,13 +73,13 @@ fn ship_a_rule(job: &mut Job<Dripping>, point: Dimen) -> Result<Answer, Refusal>
     job.step(&Command::Ship(Register::FIRST))
 }
 
-/// A job with that page on a device that fails at one call: how it ended, and how many bytes went out.
-fn end_and_bytes(alloc: Global, fails_at: u64) -> Option<(Result<Summary, Refusal>, usize)> {
+/// A job with that page on a device that fails at one call: how the page was answered, how the job ended, and how many bytes went out.
+fn end_and_bytes(alloc: Global, fails_at: u64) -> Option<(Reply, Result<Summary, Refusal>, usize)> {
     let point = Dimen::try_new(65_536)?;
     let mut job = job(alloc, &[], fails_at)?;
-    ship_a_rule(&mut job, point).ok()?;
+    let shipped = ship_a_rule(&mut job, point);
     let end = job.finish();
-    Some((end, job.into_device().bytes.len()))
+    Some((shipped, end, job.into_device().bytes.len()))
 }
 
 #[test]
@@ -88,9 +88,14 @@ fn a_device_takes_one_byte_a_call_and_may_fail(rt: HostRuntime) {
         pages: 1,
         bytes: 116,
     };
-    assert_eq!(rt; end_and_bytes(rt.alloc(), 0), Some((Ok(summary), 116)));
+    let shipped = Ok(Answer::Shipped(1));
+    assert_eq!(rt; end_and_bytes(rt.alloc(), 0), Some((shipped, Ok(summary), 116)));
     assert_eq!(rt;
         end_and_bytes(rt.alloc(), 75),
-        Some((Err(Refusal::Device), 74))
+        Some((shipped, Err(Refusal::Device), 74))
+    );
+    assert_eq!(rt;
+        end_and_bytes(rt.alloc(), 74),
+        Some((Err(Refusal::Device), Err(Refusal::JobOver), 73))
     );
 }

@@ -1,10 +1,13 @@
-//! Files of many pages, by the writer alone.
+//! Files of many pages, by the writer alone and by a job.
 
-ghost use Rattle.std.specs.Prelude.{IfOk};
+ghost use Rattle.std.specs.Prelude.{IfOk, None};
 ghost use Rattle.dvi_layout.specs.Fonts.{Slots};
 ghost use Rattle.dvi_layout.specs.Shippable.{IsShippable};
 
 use dvi_write::{DviWriter, Fonts, Memory, Offsets, WriteFault, WrittenFile};
+use job_core::{
+    Answer, BoxForm, Command, Device, DeviceFault, Job, Opening, Refusal, Register, Summary, Target,
+};
 use node_core::{BoxNode, Kind, Node, NodeList, Rule, RuleSize, Setting};
 use scaled_core::Dimen;
 use std::alloc::Global;
@@ -100,5 +103,54 @@ fn no_pages_and_a_page_behind_the_end(rt: HostRuntime) -> Result<(), Fail> {
     writer.finish(alloc, &fonts)?;
     let late = writer.page(alloc, &box_node, offsets(0, 0), &[0; 10], &fonts);
     assert_eq!(rt; late, Err(WriteFault::JobOver));
+    Ok(())
+}
+
+/// A device that counts what it takes, and keeps no byte.
+#[derive(Drop)]
+struct Tally {
+    taken: u64,
+}
+
+impl Device for Tally {
+    ghost told = { λ tally. None };
+
+    ghost failed = { λ tally. 0 };
+
+    fn write(&mut self, piece: &[u8]) -> Result<usize, DeviceFault> {
+        self.taken = self.taken.saturating_add(piece.len() as u64);
+        Ok(piece.len())
+    }
+
+    fn failures(&self) -> u64 {
+        0
+    }
+}
+
+/// A page of an empty box is shipped.
+fn ship_an_empty_box(job: &mut Job<Tally>) -> Result<Answer, Refusal> {
+    job.step(&Command::Open(Opening {
+        form: BoxForm::Hbox,
+        target: Target::Natural,
+        into: Some(Register::FIRST),
+    }))?;
+    job.step(&Command::End)?;
+    job.step(&Command::Ship(Register::FIRST))
+}
+
+#[test]
+fn a_job_ships_65535_pages_and_no_more(rt: HostRuntime) -> Result<(), Fail> {
+    let Ok(mut job) = Job::new(rt.alloc(), Tally { taken: 0 }, &[]) else {
+        return Err(Fail::new("memory was refused"));
+    };
+    let mut last = Ok(Answer::Done);
+    for _ in 0..65_535 {
+        last = ship_an_empty_box(&mut job);
+    }
+    assert_eq!(rt; last, Ok(Answer::Shipped(65_535)));
+    assert_eq!(rt; ship_an_empty_box(&mut job), Err(Refusal::TooManyPages));
+    let summary = Summary { pages: 65_535, bytes: 3_014_664 };
+    assert_eq!(rt; job.finish(), Ok(summary));
+    assert_eq!(rt; job.into_device().taken, 3_014_664);
     Ok(())
 }
