@@ -71,6 +71,17 @@ fn ship_page<D: Device>(
     Ok(Ok(Answer::Shipped(pages)))
 }
 
+/// Whether the device failed.
+fn is_of_device(fault: WriteFault) -> bool
+    ensures yes { result ≡ true → fault ≡ WriteFault.Device }
+    ensures no { result ≡ false → fault ≢ WriteFault.Device }
+{
+    match fault {
+        WriteFault::Device => true,
+        _ => false,
+    }
+}
+
 /// Does what a command says that ships nothing.
 fn obey(kept: &mut Kept, command: &Command) -> Result<Reply, AllocError>
     requires { IsShip command.now → ⊥ }
@@ -176,7 +187,7 @@ impl<D: Device> Job<D> {
         match ship_page(&mut self.kept, &mut self.writer, self.alloc, register) {
             Ok(reply) => reply,
             Err(fault) => {
-                if fault == WriteFault::Device {
+                if is_of_device(fault) {
                     self.kept.stop();
                     return Err(Refusal::Device);
                 }
