@@ -1,5 +1,5 @@
 -- The whole program: what its words ask for, what it prints and says, and its status (own).
-use Rattle.std.specs.Prelude.{◌≡◌, ◌⊎◌, ℕ, Bool, List, [], Option, codes, string_bytes}
+use Rattle.std.specs.Prelude.{◌≡◌, ◌≤◌, ◌⊎◌, ⊤, ℕ, Bool, List, [], Option, codes, string_bytes}
 use Rattle.std.specs.Borrow.{Bor}
 use Rattle.std.specs.Io.KnownBytes.{Keeps}
 use Rattle.host_core.specs.Readings.{IsReading, IsUnreadable}
@@ -9,6 +9,7 @@ use Rattle.program_core.specs.Runs.{IsAnswerInMemory, memory_line}
 use Rattle.word_core.specs.Tasks.{IsRefused, IsTask}
 use Rattle.word_core.specs.declared.fonts.WordFault.{WordFault}
 use Rattle.word_core.specs.declared.fonts.WordFault.TheVariants as faults
+use Rattle.word_core.specs.declared.task.Sheet.{Sheet}
 use Rattle.word_core.specs.declared.task.Task.{Task}
 use Rattle.word_core.specs.declared.task.Task.TheVariants as tasks
 use Rattle.task_core.specs.Ends.{HasEnded, Takes, line_of}
@@ -22,6 +23,18 @@ use Rattle.task_core.specs.declared.task_end.TaskEnd.TheVariants.{OutOfMemory, U
 abbrev pub end_of : Unread → TaskEnd
 end_of WantsMemory = OutOfMemory
 end_of (File path) = Unreadable path
+
+-- the numbers of a sheet are in the ranges that painting wants
+abbrev pub IsRanged : Sheet → Type 0
+IsRanged sheet =
+    (1 ≤ sheet.page) × (sheet.dpi ≤ 10000) × ((1 ≤ sheet.width) × (sheet.width ≤ 10000)) × ((1 ≤ sheet.height) × (sheet.height ≤ 10000))
+
+-- the numbers of a task are in range
+abbrev pub HasRanges : Task → Type 0
+HasRanges tasks.Memory = ⊤
+HasRanges (tasks.Typeset out fonts) = ⊤
+HasRanges (tasks.Listing dvi fonts) = ⊤
+HasRanges (tasks.Painting sheet dvi fonts) = IsRanged sheet
 
 -- standard input was read, and run without fonts on a device in memory: this text has the answers and the bytes of the device
 abbrev pub IsAnsweredInput : (input : Option (List ℕ)) → (answer : List ℕ) → (fine : Bool) → Type 0

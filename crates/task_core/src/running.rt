@@ -1,7 +1,7 @@
 //! The program: its words are read, and what they ask for is done.
 
 ghost use Rattle.std.specs.Prelude.{map, string_bytes};
-ghost use Rattle.task_core.specs.Programs.{HasDone, HasRun, RefusesWords};
+ghost use Rattle.task_core.specs.Programs.{HasDone, HasRanges, HasRun, RefusesWords};
 
 use crate::tasks::{list, paint, run_input, typeset};
 use crate::telling::{finish, say, tell};
@@ -34,18 +34,25 @@ fn do_task<H: Host, W: Write, E: Write>(
     output: &mut W,
     errors: &mut E,
 ) -> (u8, H)
+    requires { HasRanges task }
     ensures { HasDone (H.file host) (H.input host) (H.written result.1) task.entry (W.contents output.old) (W.contents output.new)
         (E.contents errors.old) (E.contents errors.new) result.0 }
 {
-    let end = match task {
-        Task::Typeset { out, fonts } => {
-            return typeset(alloc, host, out, &fonts, output, errors);
+    match task {
+        Task::Memory => {
+            let end = run_input(alloc, &host, output);
+            (finish(end, output, errors), host)
         }
-        Task::Memory => run_input(alloc, &host, output),
-        Task::Listing { dvi, fonts } => list(alloc, &host, dvi, &fonts, output),
-        Task::Painting { sheet, dvi, fonts } => paint(alloc, &host, sheet, dvi, &fonts, output),
-    };
-    (finish(end, output, errors), host)
+        Task::Typeset { out, fonts } => typeset(alloc, host, out, &fonts, output, errors),
+        Task::Listing { dvi, fonts } => {
+            let end = list(alloc, &host, dvi, &fonts, output);
+            (finish(end, output, errors), host)
+        }
+        Task::Painting { sheet, dvi, fonts } => {
+            let end = paint(alloc, &host, sheet, dvi, &fonts, output);
+            (finish(end, output, errors), host)
+        }
+    }
 }
 
 /// Reads words and does what they ask for, with the files and the standard input of a host, which comes back. What is printed goes to the output, what
