@@ -1,6 +1,6 @@
 -- How a job and the machine that it stands for move together.
 use Rattle.std.proofs.Common.{◌≡◌, ℕ, ◌+◌, ◌<◌, Bool, true, false, List, [], ◌∷◌, ◌++◌, length, length-append, Option, Some, None, Err, refl, ap, ap₂, sym, ◌∙◌, subst, arith, append-nil}
-use Rattle.std.specs.Prelude.{is_none, if◌then◌else◌, IfOk, nat_le, nat_lt}
+use Rattle.std.specs.Prelude.{◌≢◌, Ok, is_none, if◌then◌else◌, IfOk, IfErr, nat_le, nat_lt}
 use Rattle.node_core.specs.declared.tree.BoxNode.{BoxNode}
 use Rattle.command_core.specs.declared.command.Command.{Command}
 use Rattle.command_core.specs.declared.command.Command.TheVariants.{LoadFont, UseFont, Open, End, Text, Character, Rule, Kern, Glue, Penalty, Append, Unbox, LastBox, Split, Measure, Void, Set, Count, Ship}
@@ -27,6 +27,7 @@ use Rattle.job_core.specs.Jobs.{GoesOn, Seen, writing_of, untold, pages_after, H
 use Rattle.job_core.specs.Together.{HoldsTogether}
 use Rattle.state_core.specs.Loaded.{AreLoaded, GivesNumbersFor}
 use Rattle.state_core.specs.Sized.{HasSizedGlyphs}
+use Rattle.state_core.proofs.Refusals.{counted_fault}
 use Rattle.state_core.proofs.KeptRest.{end_keeps, append_keeps, unbox_keeps, job_kept}
 use Rattle.state_core.proofs.SizedGlyphs.{sized_after, stays_loaded}
 use Rattle.state_core.proofs.LoadedFonts.{loaded_after}
@@ -168,6 +169,24 @@ lacking old command reply says takes accepted m holds =
 
 true_or_false : {b : Bool} → b ≡ true → b ≡ false → ⊥
 true_or_false t f = cc
+
+-- A command that is over changes nothing.
+pub over_stays : (s : State) (command : Command) → s.over ≡ true → state_after s command ≡ s
+over_stays s command over =
+    let refused : first_of (checks s command) ≡ Some JobOver = ap (λ over. if over then Some JobOver else first_of (own_checks s command)) over in
+    ap (λ refused. state_by refused s (after s command)) refused
+
+-- No reply of the machine says that the device failed.
+pub never_device : (s : State) (command : Command) (reply : Reply) → reply ≡ reply_to s command → reply ≡ Err Device → ⊥
+never_device s command reply says is =
+    let m : Machine = record { state = s; pages = [] } in
+    let less : 0 < 0 = counted_fault m (step m command) 0 0 command (Replies (sym is ∙ says) refl refl) in
+    omega (arith, less)
+
+-- A device that was not called tells what it told.
+pub told_stays : (reply : Reply) (told : Option (List ℕ)) → IfErr reply (λ refusal. refusal ≢ Device → told ≡ told)
+told_stays (Ok answer) told = tt
+told_stays (Err refusal) told = λ other. refl
 
 -- A job that is over answers so, and stays.
 pub over_replies : (old : Seen) (command : Command) → old.state.over ≡ true → KeepsTo old command (Err JobOver) old

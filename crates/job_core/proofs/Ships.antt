@@ -112,3 +112,8 @@ fails w page fault none (inl (inl some)) = absurd (never (sym none ∙ some))
     never e = cc
 fails w page fault none (inl (inr (may, is))) = inl is
 fails w page fault none (inr (may, is)) = inr is
+
+-- Where the device did not fail, memory was refused.
+pub memory_alone : (fault : WriteFault) → (fault ≡ faults.OutOfMemory) ⊎ (fault ≡ faults.Device) → (fault ≡ faults.Device → ⊥) → fault ≡ faults.OutOfMemory
+memory_alone fault (inl is) other = is
+memory_alone fault (inr is) other = absurd (other is)

@@ -71,6 +71,17 @@ fn ship_page<D: Device>(
     Ok(Ok(Answer::Shipped(pages)))
 }
 
+/// Whether the device failed.
+fn is_of_device(fault: WriteFault) -> bool
+    ensures yes { result ≡ true → fault ≡ WriteFault.Device }
+    ensures no { result ≡ false → fault ≢ WriteFault.Device }
+{
+    match fault {
+        WriteFault::Device => true,
+        _ => false,
+    }
+}
+
 /// Does what a command says that ships nothing.
 fn obey(kept: &mut Kept, command: &Command) -> Result<Reply, AllocError>
     requires { IsShip command.now → ⊥ }
@@ -175,11 +186,13 @@ impl<D: Device> Job<D> {
         }
         match ship_page(&mut self.kept, &mut self.writer, self.alloc, register) {
             Ok(reply) => reply,
-            Err(WriteFault::Device) => {
-                self.kept.stop();
-                Err(Refusal::Device)
+            Err(fault) => {
+                if is_of_device(fault) {
+                    self.kept.stop();
+                    return Err(Refusal::Device);
+                }
+                Err(Refusal::OutOfMemory)
             }
-            Err(_) => Err(Refusal::OutOfMemory),
         }
     }
 

@@ -4,6 +4,7 @@ use Rattle.ship_core.specs.Marks.{Page}
 use Rattle.node_core.specs.Nodes.{box_count}
 use Rattle.dvi_layout.specs.SoFar.{SoFar, with_next}
 use Rattle.dvi_layout.specs.Shippable.{page_with}
+use Rattle.dvi_write.specs.Writing.{EndsWith}
 use Rattle.nest_core.specs.State.{State, count_in}
 use Rattle.nest_core.specs.NextPages.{page_in}
 use Rattle.job_core.proofs.Ships.{page_is, may_ship, ship_goes_on, next_pages, next_nodes, takes, fails}
@@ -19,7 +20,8 @@ returns-in_err-page-in-Ok-clause-faults g c =
     let same = page_is s c.counts.result.now c.offsets.result b c.counts.ensures c.offsets.ensures in
     let none = takes s c.args.writer.now c.args.register b (page_with c.counts.result.now c.offsets.result b) c.requires.together c.in-Ok.ensures.held same c.in-Ok.ensures.ok in
     let p = err_from_is_err_and c.from_residual.result c.from_residual.ensures.1 in
-    rw p.1 (fails c.args.writer.now (page_with c.counts.result.now c.offsets.result b) p.0 none (rw (sym p.2) c.in_err-page-in-Ok.ensures.refused))
+    rw p.1 (fails c.args.writer.now (page_with c.counts.result.now c.offsets.result b) p.0 none
+    (subst (EndsWith c.args.writer.now (page_with c.counts.result.now c.offsets.result b)) (sym p.2) c.in_err-page-in-Ok.ensures.refused))
 
 pub returns-clause-goes_on : goal.returns-clause-goes_on
 returns-clause-goes_on g c =

@@ -22,7 +22,7 @@ returns-in-Ok-clause-finished g c =
     let running = sym c.is_over.ensures ∙ c.if-is_over.false in
     let is = parts_are c.self.inside.writer c.self.inside.kept.over ((c.self.invariant running).running ∙ sym running) in
     rw (← c.self.view_is)
-    (finished _ _ _ (may_finish _ running (sym c.is_open.ensures ∙ c.if-is_open.false)) c.stop.ensures
+    (finished _ _ _ (may_finish c.self.inside.kept running (sym c.is_open.ensures ∙ c.if-is_open.false)) c.stop.ensures
     (λ m holds. c.in-Ok.ensures.pages _ m.pages (has_written_by _ m c.self.inside.writer c.fonts.result.now holds running is c.fonts.ensures)) c.in-Ok.ensures.stands)
 
 pub returns-in-Ok-clause-dvi : goal.returns-in-Ok-clause-dvi
@@ -53,5 +53,5 @@ returns-in-Err-Device-clause-finished g c =
     let running = sym c.is_over.ensures ∙ c.if-is_over.false in
     let more = c.finish.ensures.failed (c.in-Err-Device.is ∙ ap (λ (f : WriteFault). Err f) c.in-Err-Device.field-0-is) in
     rw (← c.self.view_is)
-    (losing _ _ (may_finish _ running (sym c.is_open.ensures ∙ c.if-is_open.false)) running
+    (losing _ _ (may_finish c.self.inside.kept running (sym c.is_open.ensures ∙ c.if-is_open.false)) running
     (some_where c.self.inside.writer _ (c.self.invariant running).running c.in-Err-Device.ensures.refused) c.stop-in-Err-Device.ensures (omega (arith, more)))
