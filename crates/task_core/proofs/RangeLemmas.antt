@@ -1,9 +1,8 @@
 -- The numbers of a sheet that words ask for are in range.
-use Rattle.std.proofs.Common.{◌≡◌, List, Option, Some, None, sym, subst}
+use Rattle.std.proofs.Common.{List, Option, Some, None, sym, subst}
 use Rattle.clap.specs.Words.{Row, Text, subcommand_of}
 use Rattle.word_core.specs.CommandLine.{boxglue}
 use Rattle.word_core.specs.Tasks.{Asks, IsRequest, IsTask, IsTaskOf, Request, nothing, typesets, lists, paints}
-use Rattle.word_core.specs.declared.fonts.NamedPath.{NamedPath}
 use Rattle.word_core.specs.declared.task.Sheet.{Sheet}
 use Rattle.word_core.specs.declared.task.Task.{Task}
 use Rattle.word_core.specs.declared.task.Task.TheVariants.{Memory, Typeset, Listing, Painting}
