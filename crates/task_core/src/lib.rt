@@ -14,6 +14,7 @@ mod typesetting;
 pub use host_core::{
     FileDevice, HeldFile, Host, HostFault, MemoryHost, READ_LIMIT, Unread, read_all, read_fonts,
 };
+pub use inputs::{Inputs, read_dvi_inputs, read_script_inputs};
 pub use printing::{PrintFault, list_file, paint_file};
 pub use program_core::{FontFile, FontName, ProgramFault, refuse_memory, run_memory, run_script};
 pub use running::program;
