@@ -49,7 +49,7 @@ pub was_run : (files : List NamedBytes) (commands : List Command) (replies : Lis
     → ClosesFile run end done
     → (end ≡ Err refusals.Device → (m : Machine) → Holds run m → IfSome done.told (λ bytes. IsFrontOf bytes (whole m.state.fonts m.pages)))
     → WasRun files job.failed commands replies end done.failed done.told
-was_run files commands replies end job run done holds runs finishes dvi file size closed front =
+was_run files commands replies end job run done holds runs finishes dvi file size closed part =
     let middle = runs (first_machine files) holds in
     let last = finishes middle.0 middle.2 in
     let same : middle.0.state.files ≡ files = files_kept (first_machine files) job.failed commands replies middle.0 run.failed middle.1 in
@@ -63,7 +63,7 @@ was_run files commands replies end job run done holds runs finishes dvi file siz
       file = file middle.0 middle.2;
       size = size_at end done.told run middle.0 middle.2 size;
       closed = closed middle.0 middle.2;
-      front = λ e. front e middle.0 middle.2;
+      front = λ e. part e middle.0 middle.2;
       sent = λ running. said done.told done.told (front last.0.state.fonts last.0.pages) (λ bytes. bytes ≡ front last.0.state.fonts last.0.pages) (last.2.written running).told refl;
     }
 

@@ -49,8 +49,8 @@ pub record WasRun (files : List NamedBytes) (n : ℕ) (commands : List Command) 
   pub file : OnOk end (IfSome told (λ bytes. bytes ≡ whole middle.state.fonts middle.pages))
   pub size : IfOk end (λ summary. IfSome told (λ bytes. summary.bytes ≡ length bytes))
   pub closed : middle.pages ≢ [] → OnOk end (IfSome told (λ bytes. IsClosedFor middle.state.fonts bytes middle.pages))
-  pub front : end ≡ Err refusals.Device → IfSome told (λ bytes. IsFrontOf bytes (whole middle.state.fonts middle.pages))
   pub sent : last.state.over ≡ false → IfSome told (λ bytes. bytes ≡ front last.state.fonts last.pages)
+  pub front : end ≡ Err refusals.Device → IfSome told (λ bytes. IsFrontOf bytes (whole middle.state.fonts middle.pages))
 
 -- a script was run, and this is the text of its answers
 pub record RanScript (text : List ℕ) (files : List NamedBytes) (n k : ℕ) (told : Option (List ℕ)) (answer : List ℕ) (fine : Bool) : Type 0 where
