@@ -63,11 +63,7 @@ fn body_of(alloc: Global, seed: &mut u64) -> Result<Vec<Op<'static>>, Fail> {
 }
 
 /// The listing of a file of one page with this body, which has no fonts and no specials, and how many bytes the file has.
-fn listed(
-    rt: &impl Abort,
-    alloc: Global,
-    ops: &[Op<'static>],
-) -> Result<(Vec<u8>, usize), Fail> {
+fn listed(rt: &impl Abort, alloc: Global, ops: &[Op<'static>]) -> Result<(Vec<u8>, usize), Fail> {
     let mut body = Vec::new(alloc);
     for op in ops {
         match op {
