@@ -3,8 +3,8 @@
 ghost use Rattle.std.specs.Prelude.{Some};
 
 use job_core::{
-    Answer, BoxForm, Command, Device, DeviceFault, FontFile, Job, Opening, Refusal, Register, Reply,
-    Summary, Target,
+    Answer, BoxForm, Command, Device, DeviceFault, FontFile, Job, Opening, Refusal, Register,
+    Reply, Summary, Target,
 };
 use node_core::{Rule, RuleSize};
 use scaled_core::Dimen;
@@ -89,7 +89,10 @@ fn a_device_takes_one_byte_a_call_and_may_fail(rt: HostRuntime) {
         bytes: 116,
     };
     let shipped = Ok(Answer::Shipped(1));
-    assert_eq!(rt; end_and_bytes(rt.alloc(), 0), Some((shipped, Ok(summary), 116)));
+    assert_eq!(rt;
+        end_and_bytes(rt.alloc(), 0),
+        Some((shipped, Ok(summary), 116))
+    );
     assert_eq!(rt;
         end_and_bytes(rt.alloc(), 75),
         Some((shipped, Err(Refusal::Device), 74))

@@ -71,7 +71,13 @@ fn two_pages_point_back(rt: HostRuntime) -> Result<(), Fail> {
     assert_eq!(rt; two.bytes().len(), 133);
     let (whole, file) = written(alloc, 2, offsets(0, 0), true)?;
     let bytes = whole.bytes();
-    assert_eq!(rt; file, Some(WrittenFile { pages: 2, bytes: 172 }));
+    assert_eq!(rt;
+        file,
+        Some(WrittenFile {
+            pages: 2,
+            bytes: 172
+        })
+    );
     assert_eq!(rt; bytes.len(), 172);
     assert!(rt; bytes.get(15) == Some(&139) && bytes.get(74) == Some(&139));
     assert!(rt; bytes.get(115..119) == Some(&[0, 0, 0, 15]));
@@ -85,7 +91,13 @@ fn two_pages_point_back(rt: HostRuntime) -> Result<(), Fail> {
 fn offsets_move_a_page(rt: HostRuntime) -> Result<(), Fail> {
     let (whole, file) = written(rt.alloc(), 1, offsets(2, 3), true)?;
     let bytes = whole.bytes();
-    assert_eq!(rt; file, Some(WrittenFile { pages: 1, bytes: 120 }));
+    assert_eq!(rt;
+        file,
+        Some(WrittenFile {
+            pages: 1,
+            bytes: 120
+        })
+    );
     assert!(rt; bytes.get(60..68) == Some(&[145, 2, 0, 0, 159, 4, 0, 0]));
     assert!(rt; bytes.get(95..103) == Some(&[0, 4, 0, 0, 0, 3, 0, 0]));
     Ok(())
@@ -149,7 +161,10 @@ fn a_job_ships_65535_pages_and_no_more(rt: HostRuntime) -> Result<(), Fail> {
     }
     assert_eq!(rt; last, Ok(Answer::Shipped(65_535)));
     assert_eq!(rt; ship_an_empty_box(&mut job), Err(Refusal::TooManyPages));
-    let summary = Summary { pages: 65_535, bytes: 3_014_664 };
+    let summary = Summary {
+        pages: 65_535,
+        bytes: 3_014_664,
+    };
     assert_eq!(rt; job.finish(), Ok(summary));
     assert_eq!(rt; job.into_device().taken, 3_014_664);
     Ok(())
