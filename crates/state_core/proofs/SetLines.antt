@@ -40,6 +40,10 @@ HasGlyphs fonts (nodes.Penalty p) = Unit {0}
 HasGlyphs fonts (nodes.Rule sizes) = Unit {0}
 HasGlyphs fonts (nodes.Box shift b) = EachLeaf (IsSizedLeaf fonts) b.list
 
+-- A paragraph that is set.
+abbrev set_as : SetParagraph → Result SetParagraph ParagraphFault
+set_as set = Ok set
+
 abbrev HaveGlyphs : Slots → List Node → Type 0
 HaveGlyphs fonts items = AllByRecursion (HasGlyphs fonts) items
 
@@ -140,7 +144,7 @@ module _ (fonts : Slots) where
   fit_have list params previous chosen true set all is =
       subst (λ (s : SetParagraph). EachLeaf (IsSizedLeaf fonts) s.items) (ok_same is) (vertical_have (lined list params previous chosen) all)
     where
-      ok_same : {s t : SetParagraph} → Ok {E = ParagraphFault} s ≡ Ok t → s ≡ t
+      ok_same : {s t : SetParagraph} → set_as s ≡ set_as t → s ≡ t
       ok_same e = cc
   fit_have list params previous chosen false set all is = cc
 
@@ -167,7 +171,7 @@ module _ (fonts : Slots) where
   unfolding setting
   set_have [] params previous set all is = subst (λ (s : SetParagraph). EachLeaf (IsSizedLeaf fonts) s.items) (ok_same is) tt
     where
-      ok_same : {s t : SetParagraph} → Ok {E = ParagraphFault} s ≡ Ok t → s ≡ t
+      ok_same : {s t : SetParagraph} → set_as s ≡ set_as t → s ≡ t
       ok_same e = cc
   set_have (x ∷ rest) params previous set all is =
       list_have (finished (x ∷ rest) params.par_fill_skip) params previous set (finished_have (x ∷ rest) params.par_fill_skip all) is
