@@ -11,7 +11,6 @@ ghost use Rattle.job_core.specs.Jobs.{draft_after, Holds, KeepsTo, RunsTo, Finis
 ghost use Rattle.job_core.specs.Shown.{FilesPages};
 ghost use Rattle.job_core.specs.Closing.{ClosesFile};
 
-
 use command_core::{Answer, Command, Refusal, Register, Reply, Summary};
 use device_core::{Device, write_all};
 use dvi_write::Writer;
