@@ -1,6 +1,6 @@
 -- The active list as the table grows.
 use Rattle.std.proofs.Common.{◌≡◌, ◌∙◌, ℕ, suc, ◌+◌, ◌<◌, ◌≤◌, Bool, true, false, cond, List, [], ◌∷◌, ◌++◌, length, length-append, drop, drop-cons, drop_of_length-le, get_or, refl, ap, sym, subst, arith, Option, Some, None}
-use Rattle.std.specs.Prelude.{slice_get, if◌then◌else◌}
+use Rattle.std.specs.Prelude.{slice_get, if◌then◌else◌, ◌==◌}
 use Rattle.std.proofs.Math.Logic.{◌⊎◌, inl, inr}
 use Rattle.std.proofs.lemmas.Bool.{cases_Bool, cases_lt}
 use Rattle.std.proofs.lemmas.Option.{slice_get_within, get_or_from_slice_get}
@@ -12,7 +12,7 @@ use Rattle.break_table.proofs.Entries.{get_cases}
 use Rattle.break_table.proofs.Since.{since_free}
 use Rattle.break_table.proofs.Bellman.{first_table, next_table}
 use Rattle.break_table.proofs.Live.{live_forced, new_group, first_live}
-use Rattle.active_breaks.specs.Active.{IsQuiet, IsNext, IsActive, IsFilled}
+use Rattle.active_breaks.specs.Active.{with_group, IsQuiet, IsNext, IsActive, IsFilled}
 
 -- The next group, and those behind it.
 pub next_active :
@@ -221,29 +221,84 @@ active_one p stop table b g live place =
       record { gap = last.0; quiet = λ k e low high at l behind within. last.1 k e low high at l behind; lower = omega (arith, place) },
     )
 
+-- The groups stay where the next place has no entries.
+active_higher :
+    (p : Problem) (stop : ℕ → ℕ → Bool) (table : List Entry) (b high at low : ℕ) (groups : List Group)
+    → IsActive p stop table b high at low groups → IsActive p stop table b (high + 1) at low groups
+active_higher p stop table b high at low [] is = record { gap = is.gap; quiet = is.quiet; lower = omega (arith, is.lower) }
+active_higher p stop table b high at low (g ∷ groups) is = (is.0, active_higher p stop table b high g.end (g.place + 1) groups is.1)
+
+-- Where the next place has no entries and a line must end there, all entries are quiet.
+active_none :
+    (p : Problem) (stop : ℕ → ℕ → Bool) (table : List Entry) (b : ℕ) (g : Group)
+    → IsLive p table (b + 1) 0 (g ∷ []) → g.start ≡ length table → IsActive p stop table (b + 1) (b + 1) 0 0 []
+active_none p stop table b g live start =
+    record {
+      gap = omega arith;
+      quiet = λ k e low high at l behind within. live.1 k e low (omega (arith, high, start)) at l behind;
+      lower = omega arith;
+    }
+
+-- A list of no length is empty.
+no_more : (table more : List Entry) → length (table ++ more) ≡ length table → table ++ more ≡ table
+no_more table more same = cases more (omega (arith, same, length-append table more))
+  where
+    all : (xs : List Entry) → xs ++ [] ≡ xs
+    all [] = refl
+    all (x ∷ xs) = ap (λ ys. x ∷ ys) (all xs)
+
+    cases : (more : List Entry) → length more ≡ 0 → table ++ more ≡ table
+    cases [] none = all table
+    cases (x ∷ xs) none = absurd (omega (arith, none))
+
 -- The table, the row of the next place and the groups are filled up to behind that place.
 pub filled_more :
     (p : Problem) (stop : ℕ → ℕ → Bool) (b : ℕ) (table : List Entry) (row : List (Option Entry)) (live next new : List Group) (g : Group)
     → 0 < b → IsFilled p stop b table live → IsRow p table b (length table) row
     → (p.forced b ≡ false → IsActive p stop table (b + 1) b 0 0 next)
     → g.place ≡ b → g.start ≡ length table → g.end ≡ length (table ++ held_in row)
-    → new ≡ (if p.forced b then g ∷ [] else (next ++ g ∷ []))
+    → new ≡ with_group (if p.forced b then [] else next) g
     → IsFilled p stop (b + 1) (table ++ held_in row) new
 filled_more p stop b table row live next new g some is full active place start end made =
-    record { is_table = next_table p b table row some is.is_table full; is_active = cases (cases_Bool (p.forced b)) }
+    record { is_table = next_table p b table row some is.is_table full; is_active = cases (cases_Bool (p.forced b)) (cases_Bool (g.start == g.end)) }
   where
-    group : IsGroup p (table ++ held_in row) (b + 1) g
+    more : List Entry
+    more = held_in row
+
+    group : IsGroup p (table ++ more) (b + 1) g
     group = new_group p table row b g full some place start end
 
-    cases : (p.forced b ≡ true) ⊎ (p.forced b ≡ false) → IsActive p stop (table ++ held_in row) (b + 1) (b + 1) 0 0 new
-    cases (inl forced) =
-        let same : new ≡ g ∷ [] = made ∙ ap (λ t. cond t (g ∷ []) (next ++ g ∷ [])) forced in
-        subst (λ groups. IsActive p stop (table ++ held_in row) (b + 1) (b + 1) 0 0 groups) (sym same)
-        (active_one p stop (table ++ held_in row) b g (live_forced p table (held_in row) b g forced is.is_table start group end) place)
-    cases (inr free) =
-        let same : new ≡ next ++ g ∷ [] = made ∙ ap (λ t. cond t (g ∷ []) (next ++ g ∷ [])) free in
-        subst (λ groups. IsActive p stop (table ++ held_in row) (b + 1) (b + 1) 0 0 groups) (sym same)
-        (active_more p stop table (held_in row) b 0 0 next g (active free) place start group end)
+    alone : p.forced b ≡ true → IsLive p (table ++ more) (b + 1) 0 (g ∷ [])
+    alone forced = live_forced p table more b g forced is.is_table start group end
+
+    front : (t : Bool) → p.forced b ≡ t → (if p.forced b then [] else next) ≡ cond t [] next
+    front t same = ap (λ x. cond x [] next) same
+
+    put : (t u : Bool) → p.forced b ≡ t → (g.start == g.end) ≡ u → new ≡ cond u (cond t [] next) (cond t [] next ++ g ∷ [])
+    put t u forced empty =
+        made ∙ ap (λ x. cond x (if p.forced b then [] else next) ((if p.forced b then [] else next) ++ g ∷ [])) empty
+        ∙ ap (λ xs. cond u xs (xs ++ g ∷ [])) (front t forced)
+
+    same_table : (g.start == g.end) ≡ true → table ++ more ≡ table
+    same_table empty = no_more table more (sym end ∙ sym (by_eq empty) ∙ start)
+      where
+        by_eq : (g.start == g.end) ≡ true → g.start ≡ g.end
+        by_eq is_same = grind arith
+
+    cases : (p.forced b ≡ true) ⊎ (p.forced b ≡ false) → ((g.start == g.end) ≡ true) ⊎ ((g.start == g.end) ≡ false)
+        → IsActive p stop (table ++ more) (b + 1) (b + 1) 0 0 new
+    cases (inl forced) (inl empty) =
+        subst (λ groups. IsActive p stop (table ++ more) (b + 1) (b + 1) 0 0 groups) (sym (put true true forced empty))
+        (active_none p stop (table ++ more) b g (alone forced) (start ∙ ap length (sym (same_table empty))))
+    cases (inl forced) (inr some_entries) =
+        subst (λ groups. IsActive p stop (table ++ more) (b + 1) (b + 1) 0 0 groups) (sym (put true false forced some_entries))
+        (active_one p stop (table ++ more) b g (alone forced) place)
+    cases (inr free) (inl empty) =
+        subst (λ groups. IsActive p stop (table ++ more) (b + 1) (b + 1) 0 0 groups) (sym (put false true free empty))
+        (subst (λ t. IsActive p stop t (b + 1) (b + 1) 0 0 next) (sym (same_table empty)) (active_higher p stop table (b + 1) b 0 0 next (active free)))
+    cases (inr free) (inr some_entries) =
+        subst (λ groups. IsActive p stop (table ++ more) (b + 1) (b + 1) 0 0 groups) (sym (put false false free some_entries))
+        (active_more p stop table more b 0 0 next g (active free) place start group end)
 
 -- The start alone.
 pub filled_first :

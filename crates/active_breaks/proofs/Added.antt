@@ -6,9 +6,10 @@ use Rattle.node_core.specs.declared.params.Params.{Params}
 use Rattle.break_table.specs.Tables.{most_places}
 use Rattle.break_core.specs.declared.broken.Pass.{Pass}
 use Rattle.break_core.specs.declared.broken.Pass.TheVariants.{First, Second, Third}
-use Rattle.break_core.specs.Legal.{is_forced}
-use Rattle.break_core.specs.Passes.{Facts, bound_of}
-use Rattle.break_core.specs.Steady.{IsSteady}
+use Rattle.line_meter.specs.Legal.{is_forced}
+use Rattle.line_meter.specs.Facts.{Facts}
+use Rattle.break_core.specs.Passes.{bound_of}
+use Rattle.line_meter.specs.Steady.{IsSteady}
 use Rattle.break_core.specs.Filling.{IsGrown}
 use Rattle.active_breaks.specs.Trials.{is_overfull, is_bounded, passes_run, places_up_to, AreBounded, HasNoTrials}
 use Rattle.active_breaks.specs.Active.{stops, is_limit, MayDrop, IsCounted, IsWithin, AreAdded}

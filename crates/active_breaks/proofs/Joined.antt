@@ -10,9 +10,10 @@ use Rattle.break_table.proofs.Dictionary.{not_after_antisym, key_apart}
 use Rattle.break_core.specs.declared.broken.Pass.{Pass}
 use Rattle.break_core.specs.declared.broken.Pass.TheVariants.{First, Second, Third}
 use Rattle.break_core.specs.declared.broken.Breaks.{Breaks}
-use Rattle.break_core.specs.Legal.{is_forced}
-use Rattle.break_core.specs.Passes.{Facts, problem_of, bound_of, line_end, IsBefore, IsBroken}
-use Rattle.break_core.specs.Steady.{IsSteady}
+use Rattle.line_meter.specs.Legal.{is_forced}
+use Rattle.line_meter.specs.Facts.{Facts}
+use Rattle.break_core.specs.Passes.{problem_of, bound_of, line_end, IsBefore, IsBroken}
+use Rattle.line_meter.specs.Steady.{IsSteady}
 use Rattle.active_breaks.specs.Trials.{is_overfull, is_bounded, IsStop, places_up_to, AreBounded, AreSame}
 
 -- One path is chosen.

@@ -16,9 +16,10 @@ use Rattle.break_cost.specs.declared.cost.Bound.{Bound}
 use Rattle.break_cost.specs.declared.cost.Bound.TheVariants.{Any, AtMost}
 use Rattle.break_cost.specs.Costs.{stretches_forever, judged_short, judged_long, judged, admits, line_of}
 use Rattle.break_cost.proofs.Costs.{by_short, by_long}
-use Rattle.break_core.specs.Legal.{is_forced}
-use Rattle.break_core.specs.Passes.{Facts, problem_of}
-use Rattle.break_core.specs.Steady.{IsNoNarrower, IsSteady}
+use Rattle.line_meter.specs.Legal.{is_forced}
+use Rattle.line_meter.specs.Facts.{Facts}
+use Rattle.break_core.specs.Passes.{problem_of}
+use Rattle.line_meter.specs.Steady.{IsNoNarrower, IsSteady}
 use Rattle.active_breaks.specs.Trials.{is_overfull}
 use Rattle.active_breaks.specs.Active.{stops, is_limit, MayDrop, IsQuiet}
 

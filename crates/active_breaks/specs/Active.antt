@@ -1,5 +1,5 @@
 -- The groups of entries from which lines are still tried, and how often they were (own; no public clause speaks of it).
-use Rattle.std.specs.Prelude.{◌≡◌, ◌<◌, ◌≤◌, ◌+◌, ◌-◌, ◌⊎◌, ℕ, Bool, true, false, ◌&&◌, ◌||◌, List, [], ◌∷◌, length, slice_get, Some, None}
+use Rattle.std.specs.Prelude.{◌≡◌, ◌<◌, ◌≤◌, ◌+◌, ◌-◌, ◌⊎◌, ℕ, Bool, true, false, ◌&&◌, ◌||◌, List, [], ◌∷◌, ◌++◌, ◌==◌, if◌then◌else◌, length, slice_get, Some, None}
 use Rattle.node_core.specs.declared.params.Params.{Params}
 use Rattle.break_table.specs.declared.group.Group.{Group}
 use Rattle.break_table.specs.Problems.{Problem}
@@ -8,9 +8,9 @@ use Rattle.break_table.specs.Live.{IsGroup}
 use Rattle.break_cost.specs.declared.cost.Bound.{Bound}
 use Rattle.break_cost.specs.declared.cost.Bound.TheVariants.{Any, AtMost}
 use Rattle.break_core.specs.declared.broken.Pass.{Pass}
-use Rattle.break_core.specs.Legal.{is_forced}
-use Rattle.break_core.specs.Passes.{Facts}
-use Rattle.break_core.specs.Steady.{IsSteady}
+use Rattle.line_meter.specs.Legal.{is_forced}
+use Rattle.line_meter.specs.Facts.{Facts}
+use Rattle.line_meter.specs.Steady.{IsSteady}
 use Rattle.active_breaks.specs.Trials.{is_overfull, IsStop, places_up_to}
 
 -- Whether lines from place a are tried no further than to place l, where overfull lines end trying or do not.
@@ -53,6 +53,10 @@ pub record IsLast (p : Problem) (table : List Entry) (b high at low : ℕ) : Typ
 abbrev pub IsActive : (p : Problem) (stop : ℕ → ℕ → Bool) (table : List Entry) (b high at low : ℕ) → List Group → Type 0
 IsActive p stop table b high at low [] = IsLast p table b high at low
 IsActive p stop table b high at low (g ∷ groups) = IsNext p stop table b at low g × IsActive p stop table b high g.end (g.place + 1) groups
+
+-- A group behind others, unless it has no entries.
+abbrev pub with_group : List Group → Group → List Group
+with_group groups g = if g.start == g.end then groups else groups ++ g ∷ []
 
 -- The table is filled up to a place.
 pub record IsFilled (p : Problem) (stop : ℕ → ℕ → Bool) (b : ℕ) (table : List Entry) (live : List Group) : Type 0 where

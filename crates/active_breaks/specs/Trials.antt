@@ -5,9 +5,9 @@ use Rattle.break_cost.specs.Costs.{judged}
 use Rattle.break_core.specs.declared.broken.Pass.{Pass}
 use Rattle.break_core.specs.declared.broken.Pass.TheVariants.{First, Second, Third}
 use Rattle.break_core.specs.declared.broken.Breaks.{Breaks}
-use Rattle.break_core.specs.Legal.{is_forced}
-use Rattle.break_core.specs.Passes.{Facts}
-use Rattle.break_core.specs.Steady.{IsSteady}
+use Rattle.line_meter.specs.Legal.{is_forced}
+use Rattle.line_meter.specs.Facts.{Facts}
+use Rattle.line_meter.specs.Steady.{IsSteady}
 
 -- Whether the line from a place to another one is overfull.
 abbrev pub is_overfull : Facts → Params → (a l : ℕ) → Bool

@@ -2,12 +2,12 @@
 
 ghost use Rattle.std.specs.Prelude.{◌≡◌, ◌+◌, ◌<◌, ◌≤◌, ◌++◌, ℕ, true, false, ◌&&◌, [], ◌∷◌, length, if◌then◌else◌, OnOk, IfOk};
 ghost use Rattle.break_table.specs.Tables.{most_places, IsTable, IsRow};
-ghost use Rattle.break_core.specs.Legal.{is_forced};
+ghost use Rattle.line_meter.specs.Legal.{is_forced};
 ghost use Rattle.break_core.specs.Passes.{problem_of};
 ghost use Rattle.break_core.specs.Filling.{AreFew};
-ghost use Rattle.active_breaks.specs.Active.{stops, MayDrop, IsActive, IsFilled, IsSwept, IsCounted};
+ghost use Rattle.active_breaks.specs.Active.{stops, with_group, MayDrop, IsActive, IsFilled, IsSwept, IsCounted};
 
-use break_core::{Bound, Judged, Meter, begin_group, judge, offer_group};
+use break_core::{Bound, Judged, Meter, judge, offer_group};
 use break_table::{Best, Group, empty_row, keep};
 use node_core::Params;
 use std::alloc::{AllocError, Global};
@@ -34,6 +34,16 @@ fn has_ended(drops: bool, line: &Judged) -> bool
     ensures { result ≡ (drops && line.now.overfull) }
 {
     drops && line.overfull
+}
+
+/// Puts the group of a place behind those of earlier places, unless it has no entries; those of earlier places stay, unless a line must end here.
+fn add_group(live: &mut Vec<Group>, forced: bool, group: Group) -> Result<(), AllocError>
+    ensures { OnOk result (live.new.items ≡ with_group (if forced then [] else live.old.items) group) }
+{
+    if forced {
+        live.clear();
+    }
+    keep_group(live, group.start == group.end, group)
 }
 
 /// Tries the line to a place from each live group once.
@@ -104,7 +114,7 @@ fn add_place<M: Meter>(
         start,
         end: table.len(),
     };
-    begin_group(&mut next, meter.place(place).is_forced(), group)?;
+    add_group(&mut next, meter.place(place).is_forced(), group)?;
     Ok(next)
 }
 

@@ -4,9 +4,10 @@ ghost use Rattle.std.specs.Prelude.{◌≡◌, ◌<◌, ◌≤◌, ℕ, true, Li
 ghost use Rattle.node_core.specs.declared.params.Params.{Params};
 ghost use Rattle.break_core.specs.declared.broken.Pass.{Pass};
 ghost use Rattle.break_core.specs.declared.broken.Breaks.{Breaks};
-ghost use Rattle.break_core.specs.Legal.{is_forced};
-ghost use Rattle.break_core.specs.Passes.{Facts, IsBroken};
-ghost use Rattle.break_core.specs.Steady.{IsSteady};
+ghost use Rattle.line_meter.specs.Legal.{is_forced};
+ghost use Rattle.line_meter.specs.Facts.{Facts};
+ghost use Rattle.break_core.specs.Passes.{IsBroken};
+ghost use Rattle.line_meter.specs.Steady.{IsSteady};
 ghost use Rattle.active_breaks.specs.Trials.{is_overfull, is_bounded, places_up_to, AreBounded, AreSame};
 
 /// A paragraph has one list of breaks: what `breaks` answers for a list, `active_breaks` answers for its meter.

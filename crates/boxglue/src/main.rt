@@ -1,32 +1,57 @@
 //! Boxglue: a typesetter of command scripts with TeX's model of boxes and glue.
 #![tactic(auto)]
 
-use program_core::{answer_input, refuse_memory};
+mod system_host;
+
+use std::fs::File;
 use std::io::ErrorKind;
 use std::process::ExitCode;
+use system_host::SystemHost;
+use task_core::{program, refuse_memory, write_text};
 
-/// The program takes no words: a script from standard input, answers to standard output. Its status is 0 where nothing was refused, 2 where there is
-/// a word, and else 1.
+/// What is said of a word that is no UTF-8.
+const NO_TEXT: &str = "\
+error: invalid UTF-8 was detected in one or more arguments
+
+Usage: boxglue [COMMAND]
+
+For more information, try '--help'.
+";
+
+/// Opened by the program before anything else, and read by nobody. A standard stream that is closed has its number given away to the file that is opened
+/// next, and what is meant for the stream would go into that file; so the numbers of all three are taken, and a closed stream fails.
+const PLACEHOLDER: &str = "/";
+
+/// The program takes no words, or `typeset`, `list` or `paint` with their own: a script from standard input, answers to standard output. Its status
+/// is 0 where nothing was refused, 2 where the words are refused or a page is asked for that is not there, and else 1.
 fn main(rt: HostRuntime) -> ExitCode {
-    let words = match std::env::args(&rt) {
-        Ok(words) => words.count(),
+    let alloc = rt.alloc();
+    let _input = File::open(&rt, PLACEHOLDER);
+    let _output = File::open(&rt, PLACEHOLDER);
+    let _errors = File::open(&rt, PLACEHOLDER);
+    let words: Vec<String> = match std::env::args(&rt) {
+        Ok(words) => match words.skip(1).collect(alloc) {
+            Ok(words) => words,
+            Err(_) => {
+                let _ = refuse_memory(&mut rt.stdout());
+                return ExitCode::from(1);
+            }
+        },
         Err(fault) if fault.kind() == ErrorKind::OutOfMemory => {
             let _ = refuse_memory(&mut rt.stdout());
             return ExitCode::from(1);
         }
-        Err(_) => return ExitCode::from(2), // a word that is no UTF-8
+        Err(_) => {
+            let _ = write_text(&mut rt.stderr(), NO_TEXT.as_bytes());
+            return ExitCode::from(2);
+        }
     };
-    if words > 1 {
-        return ExitCode::from(2);
-    }
-    let accepted = answer_input(
-        rt.alloc(),
-        &mut rt.reader(),
+    let (status, _) = program(
+        alloc,
+        &words,
+        SystemHost::new(&rt),
         &mut rt.stdout(),
         &mut rt.stderr(),
     );
-    match accepted {
-        Ok(true) => ExitCode::from(0),
-        Ok(false) | Err(_) => ExitCode::from(1),
-    }
+    ExitCode::from(status)
 }

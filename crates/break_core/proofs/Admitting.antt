@@ -20,7 +20,8 @@ use Rattle.break_cost.specs.declared.cost.Bound.TheVariants.{Any, AtMost}
 use Rattle.break_cost.specs.Costs.{judged, admits, line_of, demerits_of}
 use Rattle.break_core.specs.declared.broken.Pass.{Pass}
 use Rattle.break_core.specs.declared.broken.Pass.TheVariants.{First, Second, Third}
-use Rattle.break_core.specs.Passes.{Facts, problem_of, bound_of, IsBefore}
+use Rattle.line_meter.specs.Facts.{Facts}
+use Rattle.break_core.specs.Passes.{problem_of, bound_of, IsBefore}
 use Rattle.break_core.specs.Filling.{AreWithin, IsDecided}
 
 -- A bound below 0 admits no line.

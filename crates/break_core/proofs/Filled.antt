@@ -17,7 +17,8 @@ use Rattle.break_cost.specs.declared.sums.Sums.{Sums}
 use Rattle.break_cost.specs.declared.cost.Judged.{Judged}
 use Rattle.break_cost.specs.declared.cost.Bound.{Bound}
 use Rattle.break_cost.specs.Costs.{judged, line_of}
-use Rattle.break_core.specs.Passes.{Facts, problem_of}
+use Rattle.line_meter.specs.Facts.{Facts}
+use Rattle.break_core.specs.Passes.{problem_of}
 use Rattle.break_core.specs.Filling.{IsOf, IsJudged, AreRising, IsFilled, AreTried}
 
 -- The next live group, and those behind it.

@@ -1,8 +1,3 @@
--- Lemmas on lines of nodes.
+-- Lemmas on tables of paragraphs and on passes.
 pub mod Filled
 pub mod Admitting
-pub mod Places
-pub mod KeptSums
-pub mod Prefixes
-pub mod Steady
-pub mod Firsts

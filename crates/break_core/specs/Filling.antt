@@ -13,7 +13,8 @@ use Rattle.break_core.specs.declared.broken.Pass.{Pass}
 use Rattle.break_cost.specs.declared.cost.Judged.{Judged}
 use Rattle.break_cost.specs.declared.cost.Bound.{Bound}
 use Rattle.break_cost.specs.Costs.{line_of}
-use Rattle.break_core.specs.Passes.{Facts, problem_of, bound_of, IsBefore}
+use Rattle.line_meter.specs.Facts.{Facts}
+use Rattle.break_core.specs.Passes.{problem_of, bound_of, IsBefore}
 
 -- The entries of a group are of its place, and no lines are counted.
 abbrev pub IsOf : (table : List Entry) → Group → Type 0

@@ -1,9 +1,4 @@
--- Breaking paragraphs into lines: legal places, what a line keeps and costs, and the list of breaks that is chosen.
-pub mod Legal
-pub mod Kept
-pub mod Small
+-- Breaking paragraphs into lines: the passes, the table as it is filled, and the list of breaks that is chosen.
 pub mod Filling
-pub mod Ends
 pub mod Examples
 pub mod Passes
-pub mod Steady

@@ -3,12 +3,12 @@
 ghost use Rattle.std.specs.Prelude.{◌≡◌, ◌+◌, ◌<◌, ◌≤◌, ◌++◌, ◌<ℤ◌, ℕ, pos, [], ◌∷◌, length, if◌then◌else◌, OnOk, IfOk};
 ghost use Rattle.break_table.specs.Tables.{most_places, slots, IsTable, IsRow};
 ghost use Rattle.break_core.specs.Passes.{problem_of};
-ghost use Rattle.break_core.specs.Small.{IsSmallJudged};
+ghost use Rattle.break_cost.specs.Small.{IsSmallJudged};
 ghost use Rattle.break_core.specs.Filling.{IsOf, IsOffering, IsFilled, IsGrown, AreFew};
 
-use crate::meter::{Meter, Place};
 use break_cost::{Bound, Judged, judge, line_from};
 use break_table::{Best, Group, empty_row, improve, keep};
+use line_meter::{Meter, Place};
 use node_core::Params;
 use std::alloc::{AllocError, Global};
 

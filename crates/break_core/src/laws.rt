@@ -6,8 +6,8 @@ ghost use Rattle.node_core.specs.declared.tree.Node.TheVariants.{Kern, Penalty};
 ghost use Rattle.node_core.specs.declared.tree.Kind.TheVariants.{Horizontal};
 ghost use Rattle.pack_core.specs.ListTotals.{totals_of};
 ghost use Rattle.break_cost.specs.Examples.{sums_of_points};
-ghost use Rattle.break_core.specs.Legal.{legal_places};
-ghost use Rattle.break_core.specs.Kept.{BeginsBefore, kept, first_kept, sums_of, minus};
+ghost use Rattle.line_meter.specs.Legal.{legal_places};
+ghost use Rattle.line_meter.specs.Kept.{BeginsBefore, kept, first_kept, sums_of, minus};
 ghost use Rattle.break_core.specs.Examples.{rule, space, five_rules, kern_and_glue, glue_among_penalties};
 
 /// The sums over what a line keeps are a difference of sums over the first items of the list: those in front of its end, less those in front of its first

@@ -3,14 +3,15 @@
 ghost use Rattle.std.specs.Prelude.{◌≡◌, ◌+◌, ◌<◌, ◌≤◌, ℕ, map, List, IfOk, OnOk, MatchOption};
 ghost use Rattle.break_table.specs.declared.state.State.{State};
 ghost use Rattle.break_table.specs.Chosen.{AdmitsNone, IsAnswer};
-ghost use Rattle.break_core.specs.Passes.{Facts, problem_of, bound_of, line_end, IsBroken};
+ghost use Rattle.line_meter.specs.Facts.{Facts};
+ghost use Rattle.break_core.specs.Passes.{problem_of, bound_of, line_end, IsBroken};
 ghost use Rattle.break_core.specs.Filling.{IsGrown, AreFew, AreWithin, IsDecided};
 
 use crate::broken::{Breaks, LineEnd, Pass};
 use crate::filling::fill;
-use crate::meter::Meter;
 use break_cost::Bound;
 use break_table::{Least, State, chosen_list};
+use line_meter::Meter;
 use node_core::Params;
 use std::alloc::{AllocError, Global};
 

@@ -1,4 +1,4 @@
--- Numbers of lines are small (own; no public clause of `break_core` speaks of it).
+-- Numbers of lines are small (own; no public clause above speaks of it).
 use Rattle.std.specs.Prelude.{◌≤◌, ◌^◌}
 use Rattle.scaled_core.specs.Dimensions.{Within}
 use Rattle.break_table.specs.Tables.{most_overhang}

@@ -4,7 +4,7 @@ ghost use Rattle.std.specs.Prelude.{◌≡◌, ◌<◌};
 ghost use Rattle.std.specs.Option.{SomeIff};
 ghost use Rattle.command_core.specs.BoxForms.{kind_of};
 
-use crate::limits::REGISTERS;
+use crate::limits::{COUNTS, REGISTERS};
 use node_core::{Glue, Kind, Number, Rule};
 use pack_core::Target;
 use scaled_core::Dimen;
@@ -52,6 +52,48 @@ impl Register {
     pub fn number(self) -> usize
         ensures value { result ≡ self }
         ensures small { result < REGISTERS }
+    {
+        self.number as usize
+    }
+}
+
+/// The number of a count: 0 to 9.
+#[derive(Clone, Copy, Debug, PartialEq, Eq)]
+pub struct CountNumber {
+    number: u8,
+}
+
+impl Model for CountNumber {
+    ghost use Rattle.std.specs.Prelude.{ℕ, ◌<◌};
+    ghost use Rattle.command_core.specs.declared.limits.TheConstants.{COUNTS};
+
+    ghost Value = { ℕ };
+
+    ghost view = { λ count. count.number };
+
+    ghost invariant = { λ count. count.number < COUNTS };
+
+    ghost inverse = { λ n. record { number = n } };
+}
+
+impl CountNumber {
+    /// The count of that number, or None exactly where there is none.
+    pub fn try_new(number: u64) -> Option<CountNumber>
+        ensures { SomeIff result (number < COUNTS) number }
+    {
+        if number < COUNTS as u64 {
+            Some(CountNumber {
+                number: number as u8,
+            })
+        } else {
+            None
+        }
+    }
+
+    /// The number of the count.
+    pub fn number(self) -> usize
+        ensures value { result ≡ self }
+        ensures small { result < COUNTS }
     {
         self.number as usize
     }
@@ -161,6 +203,13 @@ pub struct Splitting {
     pub into: Register,
 }
 
+/// Which count is set, and its new value.
+#[derive(Clone, Copy, Debug, PartialEq, Eq)]
+pub struct Counting {
+    pub count: CountNumber,
+    pub value: i32,
+}
+
 /// A parameter and a value for it.
 #[derive(Clone, Copy, Debug, PartialEq, Eq)]
 pub enum Parameter {
@@ -194,6 +243,10 @@ pub enum Parameter {
     WidowPenalty(Number),
     /// The penalty behind each line but the last: interlinepenalty.
     InterlinePenalty(Number),
+    /// How far pages are moved to the right, in scaled points: hoffset.
+    Hoffset(Dimen),
+    /// How far pages are moved down, in scaled points: voffset.
+    Voffset(Dimen),
 }
 
 /// A command to a job.
@@ -205,7 +258,10 @@ pub enum Command {
     UseFont(u8),
     /// Opens a list.
     Open(Opening),
-    /// Packs the innermost open list and puts the box into its register or behind the enclosing list.
+    /// Opens a paragraph inside a vertical list.
+    Paragraph,
+    /// Packs the innermost open list and puts the box into its register or behind the enclosing list; or breaks a paragraph into lines, which go behind
+    /// the enclosing list.
     End,
     /// Appends a text in the current font to the innermost open list: words with their kerns and ligatures, and a glue for each run of
     /// spaces.
@@ -234,6 +290,8 @@ pub enum Command {
     Void(Register),
     /// Gives a parameter a value.
     Set(Parameter),
+    /// Gives a count of the pages that follow a value.
+    Count(Counting),
     /// Makes a page of the box in a register, which becomes void.
     Ship(Register),
 }
@@ -264,6 +322,14 @@ pub enum Answer {
     },
     /// How many items were added to the open list.
     Added(usize),
+    /// How many lines a paragraph has, the pass that decided, from 1, how far overfull lines hang over together, in scaled points, and the demerits of
+    /// its lines; all 0 where the paragraph is empty.
+    Paragraph {
+        lines: usize,
+        pass: u8,
+        overhang: i64,
+        demerits: i64,
+    },
     /// The sizes of the front of a split and the badness of its setting, and the sizes of what is left, if something is.
     Split {
         front: Sizes,
@@ -299,8 +365,10 @@ pub enum Refusal {
     ListTooLong,
     #[error("more than 64 lists would be open, or a box is deeper than 200")]
     TooDeep,
-    #[error("a list that is split shrinks without limit")]
+    #[error("a list that is split or a paragraph shrinks without limit")]
     InfiniteShrink,
+    #[error("a paragraph has more than 8192 places for breaks")]
+    TooManyBreaks,
     #[error("a place or size of the page does not fit")]
     HugePage,
     #[error("as many pages as there can be are shipped already")]

@@ -6,8 +6,8 @@ pub mod laws;
 pub mod limits;
 
 pub use command::{
-    Answer, BoxForm, BoxUse, Characters, Command, FontLoad, Opening, Parameter, Refusal, Register,
-    Reply, Sizes, Splitting, Summary, Taking, Unboxing,
+    Answer, BoxForm, BoxUse, Characters, Command, CountNumber, Counting, FontLoad, Opening,
+    Parameter, Refusal, Register, Reply, Sizes, Splitting, Summary, Taking, Unboxing,
 };
 pub use pack_core::Target;
 pub use tfm_core::{FontName, FontSize, TfmCause};

@@ -3,6 +3,9 @@
 /// How many box registers there are.
 pub const REGISTERS: usize = 256;
 
+/// How many counts a page has.
+pub const COUNTS: usize = 10;
+
 /// How many lists may be open at once.
 pub const MOST_OPEN: usize = 64;
 
@@ -13,7 +16,7 @@ pub const MOST_ITEMS: usize = 65_536;
 pub const MOST_DEEP: u64 = 200;
 
 /// How many pages a job may ship.
-pub const MOST_PAGES: u32 = 1;
+pub const MOST_PAGES: u32 = 65_535;
 
 /// How many nodes a job may ship, on all its pages together.
 pub const MOST_SHIPPED: u64 = 16_777_216;

@@ -1,12 +1,12 @@
 //! The instructions between post and post_post (DVItype, 18 and 19).
 
-ghost use Rattle.std.specs.Prelude.{◌≡◌, ◌≤◌, ◌<◌, [], length, map, OnOk, IfErr, IfOk};
-ghost use Rattle.dvi_ops.specs.View.{definition};
+ghost use Rattle.std.specs.Prelude.{◌≡◌, ◌≤◌, ◌<◌, [], length, OnOk, IfErr, IfOk};
 ghost use Rattle.dvi_closing.specs.Closing.{ClosesOne, ClosesTo, IsClosingFault, IsFaultAt, IsLookedAhead};
 
 use crate::known::define;
+use dvi_fonts::KnownFonts;
 use dvi_frame::{BadDvi, DviCause, FrameFault, read_at};
-use dvi_ops::{FontDefinition, Op, OpFault};
+use dvi_ops::{Op, OpFault};
 use dvi_pass::PassFault;
 use std::alloc::Global;
 
@@ -27,12 +27,12 @@ fn close_one<'a>(
     bytes: &'a [u8],
     at: usize,
     to: usize,
-    known: &mut Vec<FontDefinition<'a>>,
+    known: &mut KnownFonts<'a>,
 ) -> Result<usize, FrameFault>
     requires low { at < to }
     requires high { to ≤ length bytes.now }
-    ensures ok { IfOk result (ClosesOne bytes.now at to (map definition known.old.items) (map definition known.new.items)) }
-    ensures bad { IfErr result (IsFaultAt bytes.now at to (map definition known.old.items) (map definition known.new.items)) }
+    ensures ok { IfOk result (ClosesOne bytes.now at to known.old known.new) }
+    ensures bad { IfErr result (IsFaultAt bytes.now at to known.old known.new) }
 {
     let (op, next) = match read_at(bytes, at, to) {
         Ok(found) => found,
@@ -59,12 +59,12 @@ pub fn close<'a>(
     bytes: &'a [u8],
     from: usize,
     to: usize,
-    known: &mut Vec<FontDefinition<'a>>,
+    known: &mut KnownFonts<'a>,
 ) -> Result<(), FrameFault>
     requires low { from ≤ to }
     requires high { to ≤ length bytes.now }
-    ensures ok { OnOk result (ClosesTo bytes.now from to (map definition known.old.items) (map definition known.new.items)) }
-    ensures bad { IfErr result (IsClosingFault bytes.now from to (map definition known.old.items) (map definition known.new.items)) }
+    ensures ok { OnOk result (ClosesTo bytes.now from to known.old known.new) }
+    ensures bad { IfErr result (IsClosingFault bytes.now from to known.old known.new) }
 {
     let mut at = from;
     while at < to {
@@ -82,14 +82,14 @@ pub fn look_ahead<'a>(
     bytes: &'a [u8],
     from: usize,
     to: usize,
-) -> Result<Vec<FontDefinition<'a>>, FrameFault>
+) -> Result<KnownFonts<'a>, FrameFault>
     requires low { from ≤ to }
     requires high { to ≤ length bytes.now }
-    ensures ok { IfOk result (λ fonts. IsLookedAhead bytes.now from to (map definition fonts.items)) }
+    ensures ok { IfOk result (IsLookedAhead bytes.now from to) }
     // Only memory may be wanting.
     ensures memory { IfErr result (λ fault. fault ≡ FrameFault.OutOfMemory) }
 {
-    let mut fonts = Vec::new(alloc);
+    let mut fonts = KnownFonts::new(alloc);
     match close(bytes, from, to, &mut fonts) {
         Ok(()) => Ok(fonts),
         Err(FrameFault::Bad(_)) => Ok(fonts),

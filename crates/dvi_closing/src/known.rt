@@ -1,12 +1,12 @@
 //! The definitions that are known (DVItype, 18).
 
-ghost use Rattle.std.specs.Prelude.{◌≡◌, ◌++◌, ◌∷◌, [], false, true, map, IfErr, OnErr, OnOk};
+ghost use Rattle.std.specs.Prelude.{◌≡◌, ◌++◌, ◌∷◌, [], false, true, IfErr, OnErr, OnOk};
 ghost use Rattle.dvi_ops.specs.Fonts.{IsRightAfter, IsSize};
 ghost use Rattle.dvi_ops.specs.Instruction.{Do, FontDef};
 ghost use Rattle.dvi_ops.specs.View.{definition};
 ghost use Rattle.dvi_closing.specs.Closing.{IsDefinitionFault};
 
-use dvi_fonts::agrees;
+use dvi_fonts::KnownFonts;
 use dvi_frame::DviCause;
 use dvi_ops::FontDefinition;
 use dvi_pass::PassFault;
@@ -21,24 +21,21 @@ fn has_size(font: &FontDefinition<'_>) -> bool
 
 /// Puts a definition behind those that are known. It is refused where its size is out of range, or where another one of its number differs (DVItype, 18).
 /// It takes memory for the definition.
-pub fn define<'a>(
-    known: &mut Vec<FontDefinition<'a>>,
-    font: &FontDefinition<'a>,
-) -> Result<(), PassFault>
-    ensures ok { OnOk result (map definition known.new.items ≡ map definition known.old.items ++ definition font.now ∷ []) }
+pub fn define<'a>(known: &mut KnownFonts<'a>, font: &FontDefinition<'a>) -> Result<(), PassFault>
+    ensures ok { OnOk result (known.new ≡ known.old ++ definition font.now ∷ []) }
     // It was right.
-    ensures right { OnOk result (IsRightAfter (map definition known.old.items) (Do (FontDef (definition font.now)))) }
-    ensures err { OnErr result (map definition known.new.items ≡ map definition known.old.items) }
+    ensures right { OnOk result (IsRightAfter known.old (Do (FontDef (definition font.now)))) }
+    ensures err { OnErr result (known.new ≡ known.old) }
     // The fault is Font, and it was not right; or memory was wanting.
-    ensures bad { IfErr result (IsDefinitionFault (map definition known.old.items) (definition font.now)) }
+    ensures bad { IfErr result (IsDefinitionFault known.old (definition font.now)) }
 {
     if !has_size(font) {
         return Err(PassFault::Broken(DviCause::Font));
     }
-    if !agrees(known, font) {
+    if !known.agrees(font) {
         return Err(PassFault::Broken(DviCause::Font));
     }
-    if known.push(*font).is_err() {
+    if known.push(font).is_err() {
         return Err(PassFault::OutOfMemory);
     }
     Ok(())

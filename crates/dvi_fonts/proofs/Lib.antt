@@ -1,2 +1,3 @@
 pub mod FontLemmas
+pub mod KnownLemmas
 pub mod RefusalLemmas

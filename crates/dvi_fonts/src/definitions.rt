@@ -1,12 +1,17 @@
-//! Definitions of fonts (DVItype, 18).
+//! Definitions of fonts, and the first one of each number (DVItype, 18).
 
-ghost use Rattle.std.specs.Prelude.{◌≡◌, ◌≢◌, false, true, map, option_copied, option_map};
-ghost use Rattle.std.specs.List.{AllByRecursion, find};
-ghost use Rattle.std.specs.Ordering.{int_eq};
+ghost use Rattle.std.specs.Prelude.{◌≡◌, ◌≢◌, ◌++◌, ◌∷◌, [], false, true, map, option_copied, option_map, OnErr, OnOk};
+ghost use Rattle.std.specs.BTreeMap.{IsUnchanged, get as value_at};
+ghost use Rattle.std.specs.List.{AllByRecursion};
+ghost use Rattle.std.specs.Ordering.{int_cmp};
 ghost use Rattle.dvi_ops.specs.Fonts.{AgreesWith, defined};
 ghost use Rattle.dvi_ops.specs.View.{definition};
+ghost use Rattle.dvi_fonts.specs.Known.{AddsFirst};
 
 use dvi_ops::FontDefinition;
+use std::alloc::{AllocError, Global};
+use std::collections::BTreeMap;
+use std::marker::Model;
 
 /// The number of a font.
 #[derive(Clone, Copy, Debug, PartialEq, Eq)]
@@ -27,43 +32,95 @@ fn is_same(one: &FontDefinition<'_>, other: &FontDefinition<'_>) -> bool
         && one.name == other.name
 }
 
-/// Whether two definitions are the same, or of two numbers.
-fn agree(one: &FontDefinition<'_>, other: &FontDefinition<'_>) -> bool
-    ensures yes { result ≡ true → AgreesWith (definition one.now) (definition other.now) }
-    ensures no { result ≡ false → AgreesWith (definition one.now) (definition other.now) → ⊥ }
+/// The first definition of each number.
+type Firsts<'a> = BTreeMap<i32, FontDefinition<'a>>;
+
+/// Takes a definition where it is the first one of its number. It takes memory for it then.
+fn add_first<'a>(first: &mut Firsts<'a>, font: &FontDefinition<'a>) -> Result<(), AllocError>
+    ensures ok { OnOk result (AddsFirst first.old first.new font.now) }
+    ensures err { OnErr result (IsUnchanged first.old first.new) }
 {
-    one.number != other.number || is_same(one, other)
+    if first.contains_key(&font.number) {
+        return Ok(());
+    }
+    match first.insert(font.number, *font) {
+        Ok(_) => Ok(()),
+        Err(_) => Err(AllocError),
+    }
 }
 
-/// Whether a definition is the same as each one of its number (DVItype, 18). It takes no memory.
-pub fn agrees(fonts: &[FontDefinition<'_>], font: &FontDefinition<'_>) -> bool
-    ensures yes { result ≡ true → AllByRecursion (AgreesWith (definition font.now)) (map definition fonts.now) }
-    ensures no { result ≡ false → AllByRecursion (AgreesWith (definition font.now)) (map definition fonts.now) → ⊥ }
-{
-    for other in fonts {
-        if !agree(font, other) {
-            return false;
+/// The definitions of a file so far, in order: each agrees with those before it. The first one of a number is found in a search tree.
+#[derive(Drop)]
+pub struct KnownFonts<'a> {
+    all: Vec<FontDefinition<'a>>,
+    first: Firsts<'a>,
+}
+
+impl<'a> Model for KnownFonts<'a> {
+    ghost use Rattle.std.specs.Prelude.{List, map};
+    ghost use Rattle.dvi_ops.specs.Instruction.{Definition};
+    ghost use Rattle.dvi_ops.specs.View.{definition};
+
+    ghost Value = { List Definition };
+
+    ghost use Rattle.dvi_fonts.specs.Known.{AreKept};
+
+    ghost view = { λ known. map definition known.all.items };
+
+    ghost invariant = { λ known. AreKept known.first (map definition known.all.items) };
+}
+
+impl<'a> KnownFonts<'a> {
+    /// None yet.
+    pub fn new(alloc: Global) -> KnownFonts<'a>
+        ensures { result ≡ [] }
+    {
+        KnownFonts {
+            all: Vec::new(alloc),
+            first: BTreeMap::new(alloc),
         }
     }
-    true
-}
 
-/// The first definition of a number.
-fn first_of<'f, 'a>(
-    fonts: &'f [FontDefinition<'a>],
-    number: Number,
-) -> Option<&'f FontDefinition<'a>>
-    ensures { option_copied result ≡ find (λ font. int_eq font.number number.value) fonts.now }
-{
-    fonts.iter().find(|font| font.number == number.value)
-}
+    /// Whether a definition is the same as each one of its number (DVItype, 18). It takes no memory, and time by the logarithm of how many are known.
+    pub fn agrees(&self, font: &FontDefinition<'_>) -> bool
+        ensures yes { result ≡ true → AllByRecursion (AgreesWith (definition font.now)) self.now }
+        ensures no { result ≡ false → AllByRecursion (AgreesWith (definition font.now)) self.now → ⊥ }
+    {
+        match self.first.get(&font.number) {
+            Some(first) => is_same(font, first),
+            None => true,
+        }
+    }
 
-/// The first definition of a number (DVItype, 18). It takes no memory.
-pub fn definition_of<'f, 'a>(
-    fonts: &'f [FontDefinition<'a>],
-    number: Number,
-) -> Option<&'f FontDefinition<'a>>
-    ensures { option_map definition (option_copied result) ≡ defined number.value (map definition fonts.now) }
-{
-    first_of(fonts, number)
+    /// The first definition of a number (DVItype, 18). It takes no memory, and time by the logarithm of how many are known.
+    pub fn get(&self, number: Number) -> Option<&FontDefinition<'a>>
+        ensures { option_map definition (option_copied result) ≡ defined number.value self.now }
+    {
+        self.first.get(&number.value)
+    }
+
+    /// Puts a definition behind the others. It takes memory for it.
+    pub fn push(&mut self, font: &FontDefinition<'a>) -> Result<(), AllocError>
+        requires { AllByRecursion (AgreesWith (definition font.now)) self.old }
+        ensures ok { OnOk result (self.new ≡ self.old ++ definition font.now ∷ []) }
+        ensures err { OnErr result (self.new ≡ self.old) }
+    {
+        if self.all.push(*font).is_err() {
+            return Err(AllocError);
+        }
+        match add_first(&mut self.first, font) {
+            Ok(()) => Ok(()),
+            Err(refusal) => {
+                let _font = self.all.pop();
+                Err(refusal)
+            }
+        }
+    }
+
+    /// All of them, in order.
+    pub fn into_all(self) -> Vec<FontDefinition<'a>>
+        ensures { map definition result.items ≡ self.entry }
+    {
+        self.all
+    }
 }

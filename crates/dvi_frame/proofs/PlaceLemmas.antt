@@ -1,6 +1,6 @@
 -- What stands at a place, and what is read from the bytes between a place and a bound.
-use Rattle.std.proofs.Common.{◌≡◌, ◌≤◌, ◌<◌, ◌+◌, ◌-◌, List, length, take, drop, ℕ, zero, suc, sym, ◌∙◌, subst, arith}
-use Rattle.std.proofs.lemmas.List.{take-take, take-append-drop, length-drop, length-take-le}
+use Rattle.std.proofs.Common.{◌≡◌, ◌≤◌, ◌<◌, ◌+◌, ◌-◌, List, length, take, drop, slice_index, ℕ, zero, suc, sym, ◌∙◌, ap, subst, arith}
+use Rattle.std.proofs.lemmas.List.{get_or-drop, get_or-take, take-take, take-append-drop, length-drop, length-take-le}
 use Rattle.dvi_ops.specs.Instruction.{Instruction}
 use Rattle.dvi_ops.specs.Table.{Spells}
 use Rattle.dvi_ops.proofs.FrontLaws.{one_reading}
@@ -10,6 +10,12 @@ use Rattle.dvi_frame.specs.Ends.{StandsAt}
 -- The bytes from a place up to a bound.
 abbrev pub between : List ℕ → (place bound : ℕ) → List ℕ
 between bytes place bound = take (bound - place) (drop place bytes)
+
+-- They begin with the byte at the place.
+pub first_between : (bytes : List ℕ) (place bound : ℕ) → place < bound → slice_index (between bytes place bound) 0 ≡ slice_index bytes place
+first_between bytes place bound below =
+    let same : place + 0 ≡ place = omega arith in
+    get_or-take (bound - place) (drop place bytes) 0 0 (omega arith) ∙ (get_or-drop place bytes 0 0 ∙ ap (λ (n : ℕ). slice_index bytes n) same)
 
 -- Two spellings at the front of the same bytes are one.
 pub same_front : (i j : Instruction) (n m : ℕ) (bytes : List ℕ) → Spells i (take n bytes) → Spells j (take m bytes) → (i ≡ j) × (take n bytes ≡ take m bytes)

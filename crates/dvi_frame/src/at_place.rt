@@ -20,6 +20,8 @@ pub fn read_at(bytes: &[u8], place: usize, bound: usize) -> Result<(Op<'_>, usiz
     ensures none { OnErr result ((i : Instruction) → StandsAt bytes.now place bound i → ⊥) }
     // Opcode comes only where the first byte begins no instruction.
     ensures opcode { result ≡ Err OpFault.Opcode → 250 ≤ slice_index bytes.now place }
+    // Truncated comes only where it begins one.
+    ensures truncated { result ≡ Err OpFault.Truncated → place < bound → 250 ≤ slice_index bytes.now place → ⊥ }
 {
     match next(&bytes[place..bound]) {
         Ok((op, size)) => Ok((op, place + size)),

@@ -13,6 +13,7 @@ use Rattle.dvi_ops.specs.Layout.{define}
 use Rattle.dvi_ops.proofs.Appends.{all_append, all_weaker}
 use Rattle.dvi_layout.specs.declared.fonts.LoadedFont.{LoadedFont}
 use Rattle.dvi_layout.specs.Fonts.{Slots, font_in}
+use Rattle.dvi_layout.specs.MoreFonts.{Extends}
 use Rattle.dvi_layout.specs.Sheets.{numbers_below, definition_of, definition_by, definitions_of, selects, is_among, is_fresh, fresh_slots, in_rising_order}
 
 or_cases : {G : Type 0} (a b : Bool) → (a || b) ≡ true → (a ≡ true → G) → (b ≡ true → G) → G
@@ -345,10 +346,6 @@ holds_selected P [] has s e = cc
 holds_selected P (Do (FontNum f) ∷ is) (here, has) s e =
     or_cases (int_eq f (pos s)) (list_any (selects s) is) e (λ same. subst P ((Decides-int_eq f (pos s)).0 same) here) (λ later. holds_selected P is has s later)
 holds_selected P (i ∷ is) has s e = holds_selected P is has s e
-
--- More fonts beside those that are there.
-abbrev pub Extends : Slots → Slots → Type 0
-Extends fonts more = (s : ℕ) (l : LoadedFont) → font_in fonts s ≡ Some l → font_in more s ≡ Some l
 
 -- Selected fonts are there.
 abbrev pub HasSelected : Slots → List Instruction → Type 0

@@ -8,7 +8,6 @@ use Rattle.scaled_core.specs.Dimensions.{Within}
 use Rattle.scaled_core.proofs.Fitting.{fits_within}
 use Rattle.tfm_core.specs.FileWidths.{width_at}
 use Rattle.node_core.specs.Items.{Leaf, Items, glyph, font_kern, kern, glue, penalty, rule, EachLeaf}
-use Rattle.dvi_ops.specs.Body.{start}
 use Rattle.dvi_ops.specs.Forest.{flat}
 use Rattle.dvi_ops.specs.Instruction.{Definition}
 use Rattle.dvi_ops.specs.Fonts.{Metrics, selections, defined, known_after, font_in as font_by, width_in}
@@ -20,7 +19,7 @@ use Rattle.ship_core.specs.Marks.{Page, marks_of_page}
 use Rattle.ship_core.specs.Pages.{reach_down, reach_right}
 use Rattle.ship_core.specs.Shown.{HasWidth}
 use Rattle.ship_core.proofs.DrawnMarks.{number_within}
-use Rattle.ship_core.proofs.DrawnPages.{HasFont, selections_page, drawn_page, writable_page, definitions-page, nests_page, fits_down, fits_right}
+use Rattle.ship_core.proofs.DrawnPages.{HasFont, fits_down, fits_right}
 use Rattle.dvi_layout.specs.declared.fonts.LoadedFont.{LoadedFont}
 use Rattle.dvi_layout.specs.Fonts.{Slots, font_in, AreDefinable}
 use Rattle.dvi_layout.specs.Sheets.{written_body, definition_of, definitions_of, fresh_slots, in_rising_order, selects, sheet_of}
@@ -30,6 +29,7 @@ use Rattle.dvi_layout.proofs.DefinedFonts.{AreKnown, HasSelected, none_known, kn
 use Rattle.dvi_layout.proofs.Leaves.{each_leaf}
 use Rattle.dvi_layout.proofs.NextPages.{size-some}
 use Rattle.dvi_layout.proofs.Rooms.{definable_in}
+use Rattle.dvi_layout.proofs.WrittenBodies.{selections_written, shown_written, writable_written, definitions-written, nests_written}
 
 -- The definitions of the fonts in slots by their numbers.
 abbrev pub table_of : Slots → Table
@@ -37,7 +37,7 @@ table_of fonts (pos slot) = option_map (definition_of slot) (font_in fonts slot)
 table_of fonts (negsuc n) = None
 
 -- The definition of a font in a slot is right.
-tabled : (fonts : Slots) → AreDefinable fonts → (s : ℕ) (l : LoadedFont) → font_in fonts s ≡ Some l → IsTabled (table_of fonts) (definition_of s l)
+pub tabled : (fonts : Slots) → AreDefinable fonts → (s : ℕ) (l : LoadedFont) → font_in fonts s ≡ Some l → IsTabled (table_of fonts) (definition_of s l)
 tabled fonts definable s l has =
     let of = definable_in fonts s l definable has in
     let numbers = of.0.numbers in
@@ -77,7 +77,7 @@ has_font fonts (rule sizes) sized = tt
 -- Each font that a page selects is in its slot.
 selected_slots : (fonts : Slots) (page : Page) → EachLeaf (HasWidth (slot_widths fonts)) page.box_node.list → AllByRecursion (IsSlot fonts) (selections (flat (written_body page)))
 selected_slots fonts page sized =
-    selections_page (IsSlot fonts) page (each_leaf (HasWidth (slot_widths fonts)) (HasFont (IsSlot fonts)) (has_font fonts) page.box_node.list sized)
+    selections_written (IsSlot fonts) page (each_leaf (HasWidth (slot_widths fonts)) (HasFont (IsSlot fonts)) (has_font fonts) page.box_node.list sized)
 
 pub has_selected : (fonts : Slots) (page : Page) → EachLeaf (HasWidth (slot_widths fonts)) page.box_node.list → HasSelected fonts (flat (written_body page))
 has_selected fonts page sized s selected =
@@ -112,13 +112,13 @@ module _ (metrics : Metrics) (fonts : Slots) (gives : GivesFonts metrics fonts) 
     page_good slots known page knows right =
         let widths = have_widths page.box_node.list right.sound.glyphs in
         let is = flat (written_body page) in
-        let shown = drawn_page (table_widths metrics (table_of fonts)) start.place.held page right.small widths in
+        let shown = shown_written (table_widths metrics (table_of fonts)) page right.small widths in
         record {
           ten = right.ten;
           counts_fit = right.counts_fit;
           fresh = each_of (IsTabled (table_of fonts)) fonts (fresh_slots fonts slots is) (λ s l among has. tabled fonts definable s l has);
-          writable = writable_page (table_widths metrics (table_of fonts)) page right.small widths;
-          plain = definitions-page page;
+          writable = writable_written (table_widths metrics (table_of fonts)) page right.small widths;
+          plain = definitions-written page;
           chosen =
               each_selected (IsSlot fonts) (λ f. IsSome (defined f (known_after known (define (definitions_of fonts (fresh_slots fonts slots is)))))) is
               (λ s. list_any (selects s) is) (λ s e. e)
@@ -133,7 +133,7 @@ module _ (metrics : Metrics) (fonts : Slots) (gives : GivesFonts metrics fonts) 
               each_selected (IsSlot fonts) (λ f. IsSome (font_by metrics (table_of fonts f))) is (λ s. true) (λ s e. refl)
               (λ f of. (of.slot, of.is, λ e. ap (λ z. is_some (font_by metrics (table_of fonts z))) of.is ∙ ap is_some (font_measured of.slot of.loaded of.has)))
               (selected_slots fonts page right.sound.glyphs);
-          shallow = omega (arith, nests_page page, right.sound.depth);
+          shallow = omega (arith, nests_written page, right.sound.depth);
           last = shown.0;
           shows = shown.1;
         }
@@ -174,11 +174,11 @@ greatest_within fonts size (page ∷ pages) fits (here, all) =
     let others = greatest_within fonts size pages fits all in
     record { low = omega (arith, ints, clamps, one.low, others.low); high = omega (arith, ints, clamps, one.high, others.high) }
 
-tall_fits : (fonts : Slots) (pages : List Page) → AllByRecursion (IsRightPage fonts) pages → NumberFits (greatest reach_down pages)
+pub tall_fits : (fonts : Slots) (pages : List Page) → AllByRecursion (IsRightPage fonts) pages → NumberFits (greatest reach_down pages)
 tall_fits fonts pages all =
     number_within _ (greatest_within fonts reach_down pages (λ page right. fits_within (page.v +ℤ page.box_node.depth) (fits_down page right.small)) all)
 
-wide_fits : (fonts : Slots) (pages : List Page) → AllByRecursion (IsRightPage fonts) pages → NumberFits (greatest reach_right pages)
+pub wide_fits : (fonts : Slots) (pages : List Page) → AllByRecursion (IsRightPage fonts) pages → NumberFits (greatest reach_right pages)
 wide_fits fonts pages all =
     number_within _ (greatest_within fonts reach_right pages (λ page right. fits_within (page.h +ℤ page.box_node.width) (fits_right page right.small)) all)
 

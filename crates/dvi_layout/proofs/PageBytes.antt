@@ -19,9 +19,8 @@ use Rattle.dvi_layout.specs.Fonts.{Slots, font_in}
 use Rattle.ship_core.specs.Marks.{Page}
 use Rattle.dvi_layout.specs.Sheets.{written_body, definition_of, definition_by, definitions_of, fresh_slots, sheet_of}
 use Rattle.ship_core.specs.Pages.{page_of}
-use Rattle.ship_core.specs.Drawing.{body_of}
 use Rattle.ship_core.specs.Shown.{HasWidth}
-use Rattle.ship_core.proofs.DrawnBytes.{body_bytes}
+use Rattle.dvi_layout.proofs.WrittenBodies.{written_bytes}
 
 length-counts : (counts : List ℤ) → length (flat_map (operand 4) counts) ≡ 4 * length counts
 length-counts [] = refl
@@ -103,9 +102,9 @@ sheet_bytes widths fonts slots page last short ten sized =
       length-bytes_of-append inner (Eop ∷ []),
       length-append (spelling Eop) [],
       length-eop,
-      body_bytes widths page sized,
+      written_bytes widths page sized,
     )
 
 pub page_bytes : (widths : Widths) (fonts : Slots) (slots : List ℕ) (b : BoxNode) (last : ℤ) → HasShortNames fonts → EachLeaf (HasWidth widths) b.list
-    → length (bytes_of (sheet_from last (sheet_of fonts slots (page_of b)))) ≤ 46 + 19 * box_count b + 271 * length (fresh_slots fonts slots (flat (body_of (page_of b))))
+    → length (bytes_of (sheet_from last (sheet_of fonts slots (page_of b)))) ≤ 46 + 19 * box_count b + 271 * length (fresh_slots fonts slots (flat (written_body (page_of b))))
 page_bytes widths fonts slots b last short sized = sheet_bytes widths fonts slots (page_of b) last short refl sized

@@ -9,7 +9,6 @@ use Rattle.dvi_ops.specs.Spelling.{spelling, operand}
 use Rattle.dvi_ops.proofs.Layouts.{length-bytes_of-append}
 use Rattle.node_core.specs.Nodes.{box_count}
 use Rattle.ship_core.specs.Marks.{Page, is_huge}
-use Rattle.ship_core.proofs.DrawnPages.{nests_page}
 use Rattle.dvi_layout.specs.declared.progress.WriteFault.TheVariants.{TooManyPages, TooMuchShipped, HugePage}
 use Rattle.dvi_layout.specs.declared.progress.TheConstants.{MOST_PAGES, MOST_SHIPPED}
 use Rattle.dvi_layout.specs.declared.fonts.LoadedFont.{LoadedFont}
@@ -21,6 +20,7 @@ use Rattle.dvi_layout.specs.Limits.{HasRoom, limit_of}
 use Rattle.dvi_layout.proofs.DefinedFonts.{few_defined, none_rising, defined_once}
 use Rattle.dvi_layout.proofs.EachOf.{each_held, held_within}
 use Rattle.dvi_layout.proofs.PageBytes.{HasShortNames, sheet_bytes}
+use Rattle.dvi_layout.proofs.WrittenBodies.{nests_written}
 
 pub small : (s : SoFar) → HasRoom s → s.size < 2 ^ 31
 small s room = omega (arith, room.nodes, room.pages, room.size, few_defined s.defined room.defined)
@@ -95,7 +95,7 @@ room_next fonts s page definable sound ten none room =
     record {
       nodes = omega (arith, nodes);
       pages = omega (arith, pages);
-      deep = omega (arith, room.deep, nests_page page, sound.depth);
+      deep = omega (arith, room.deep, nests_written page, sound.depth);
       defined = defined_once fonts s.defined (flat (written_body page)) room.defined;
       size =
           omega (

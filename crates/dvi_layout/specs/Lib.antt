@@ -1,6 +1,8 @@
 pub mod Fonts
+pub mod MoreFonts
 pub mod Sheets
 pub mod Layout
 pub mod Shippable
 pub mod SoFar
 pub mod Limits
+pub mod Closing

@@ -7,12 +7,13 @@ use Rattle.dvi_ops.specs.Forest.{Forest, flat}
 use Rattle.dvi_ops.specs.Layout.{Sheet}
 use Rattle.ship_core.specs.Marks.{Page}
 use Rattle.ship_core.specs.Drawing.{body_of}
+use Rattle.move_core.specs.Reused.{reused}
 use Rattle.dvi_layout.specs.declared.fonts.LoadedFont.{LoadedFont}
 use Rattle.dvi_layout.specs.Fonts.{Slots, font_in}
 
--- The body of a page as it is written.
+-- The body of a page as it is written: without empty groups, and with its movements by w, x, y and z where their amounts come again.
 abbrev pub written_body : Page → Forest
-written_body page = body_of page
+written_body page = reused (body_of page)
 
 -- The definition of a font: its number is its slot, and its name has no area (DVItype, 18).
 abbrev pub definition_of : ℕ → LoadedFont → Definition

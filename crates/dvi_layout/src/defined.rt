@@ -41,6 +41,13 @@ impl DefinedSlots {
         &self.slots[..self.count]
     }
 
+    /// The same slots once more.
+    pub fn copied(&self) -> DefinedSlots
+        ensures { result ≡ self.now }
+    {
+        DefinedSlots { ..*self }
+    }
+
     /// Adds a slot behind the others.
     fn push(&mut self, slot: u8)
         requires { length self.old < 256 }

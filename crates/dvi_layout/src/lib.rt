@@ -8,4 +8,4 @@ pub mod layout;
 pub mod progress;
 
 pub use fonts::{Fonts, LoadedFont};
-pub use progress::{MOST_DEEP, MOST_PAGES, MOST_SHIPPED, Offsets, Progress, WriteFault};
+pub use progress::{MOST_DEEP, MOST_PAGES, MOST_SHIPPED, NextPage, Offsets, Progress, WriteFault};

@@ -24,6 +24,7 @@ use crate::layout::{
     in_rising_order, page_ops,
 };
 use dvi_ops::{Op, Postamble, opcodes};
+use move_core::reuse;
 use node_core::BoxNode;
 use scaled_core::Dimen;
 use ship_core::{PagePoint, draw_page, is_huge, push_depth};
@@ -103,11 +104,11 @@ impl Model for Progress {
     ghost view = { λ p. record { last = p.last; size = p.size; defined = p.defined; tall = p.tall; wide = p.wide; deep = p.deep; pages = p.pages; nodes = p.nodes } };
 }
 
-/// The bytes of a page with what stands before it, and the place of its bop among them.
+/// The bytes of a page with what stands before it, and what is kept once they are sent.
 #[derive(Drop)]
-struct LaidPage {
-    bytes: Vec<u8>,
-    bop: usize,
+pub struct NextPage {
+    pub bytes: Vec<u8>,
+    pub behind: Progress,
 }
 
 /// The instructions of the body of a page as it is written.
@@ -122,7 +123,8 @@ fn written_body(
     ensures { IfOk result (λ ops. map view ops.items ≡ flat (written_body (page_at counts.now at.h at.v box_node.now))) }
 {
     let _counts = *counts;
-    draw_page(alloc, box_node, at)
+    let drawn = draw_page(alloc, box_node, at)?;
+    reuse(drawn)
 }
 
 /// What stands before a page and its definitions, when there are that many pages: the preamble before the first.
@@ -196,11 +198,14 @@ impl Progress {
         self.size
     }
 
-    /// The slots whose fonts are defined, in the order of their definitions.
-    fn defined(&self) -> &[u8]
-        ensures { result.now ≡ self.now.defined }
+    /// The same once more.
+    fn copied(&self) -> Progress
+        ensures { result ≡ self.now }
     {
-        self.defined.as_slice()
+        Progress {
+            defined: self.defined.copied(),
+            ..*self
+        }
     }
 
     /// How many nodes the page of a box has that may be sent next, or why it may not.
@@ -222,7 +227,7 @@ impl Progress {
         Ok(nodes)
     }
 
-    /// The bytes of a page with this body, behind the definitions of the fonts in these slots.
+    /// The bytes of a page with this body, behind the definitions of the fonts in these slots, and the place of its bop among them.
     fn lay_out(
         &self,
         alloc: Global,
@@ -230,35 +235,29 @@ impl Progress {
         slots: &[u8],
         counts: &[i32; 10],
         body: &[Op<'static>],
-    ) -> Result<LaidPage, AllocError>
+    ) -> Result<(Vec<u8>, usize), AllocError>
         requires { AllByRecursion HasSpelling (map view body.now) }
-        ensures bytes { IfOk result (λ page. page.bytes.items ≡ bytes_of ((opening self.now.pages ++ define (definitions_of fonts.now slots.now)) ++ (Bop counts.now self.now.last ∷ (map view body.now ++ Eop ∷ [])))) }
-        ensures bop { IfOk result (λ page. page.bop ≡ length (bytes_of (opening self.now.pages ++ define (definitions_of fonts.now slots.now)))) }
+        ensures bytes { IfOk result (λ page. page.0.items ≡ bytes_of ((opening self.now.pages ++ define (definitions_of fonts.now slots.now)) ++ (Bop counts.now self.now.last ∷ (map view body.now ++ Eop ∷ [])))) }
+        ensures bop { IfOk result (λ page. page.1 ≡ length (bytes_of (opening self.now.pages ++ define (definitions_of fonts.now slots.now)))) }
     {
         let mut before = opening(alloc, self.pages)?;
         append_definitions(fonts, slots, &mut before)?;
         let page = page_ops(alloc, counts, body, self.last)?;
         let mut bytes = Vec::new(alloc);
         let bop = append_both(&mut bytes, &before, &page)?;
-        Ok(LaidPage { bytes, bop })
+        Ok((bytes, bop))
     }
 
-    /// Keeps that the fonts of these slots are defined behind the others.
-    fn keep_fonts(&mut self, slots: &[u8])
-        requires { length self.old.defined + length slots.now ≤ 256 }
-        ensures { self.new ≡ record self.old { defined = self.old.defined ++ slots.now } }
-    {
-        self.defined.append(slots);
-    }
-
-    /// Keeps where the bop of a page stands among its bytes, and how many bytes and nodes it has.
-    fn keep_size(&mut self, bop: usize, size: usize, nodes: u64)
+    /// Keeps the slots whose fonts a page defines, where its bop stands among its bytes, and how many bytes and nodes it has.
+    fn keep_size(&mut self, slots: &[u8], bop: usize, size: usize, nodes: u64)
+        requires few { length self.old.defined + length slots.now ≤ 256 }
         requires within { bop ≤ size }
         requires room { self.old.size + size < 2 ^ 31 }
         requires pages { self.old.pages < MOST_PAGES }
         requires nodes { self.old.nodes + nodes ≤ MOST_SHIPPED }
-        ensures { self.new ≡ record self.old { last = pos (self.old.size + bop); size = self.old.size + size; pages = self.old.pages + 1; nodes = self.old.nodes + nodes } }
+        ensures { self.new ≡ record self.old { last = pos (self.old.size + bop); size = self.old.size + size; defined = self.old.defined ++ slots.now; pages = self.old.pages + 1; nodes = self.old.nodes + nodes } }
     {
+        self.defined.append(slots);
         self.last = (self.size + bop) as i32;
         self.size += size;
         self.pages += 1;
@@ -282,32 +281,31 @@ impl Progress {
         self.deep = self.deep.max(push_depth(body));
     }
 
-    /// The bytes of the page of a box, with what stands before it; and keeps what is to be kept of it.
+    /// The page of a box that goes out next.
     #[tactic(auto, unfolding(crate::specs::SoFar::with_next, crate::specs::SoFar::next_bytes))]
-    pub fn add_page(
-        &mut self,
+    pub fn next_page(
+        &self,
         alloc: Global,
         box_node: &BoxNode,
         at: PagePoint,
         counts: &[i32; 10],
         fonts: &Fonts,
         nodes: u64,
-    ) -> Result<Vec<u8>, AllocError>
+    ) -> Result<NextPage, AllocError>
         requires huge { is_huge (page_at counts.now at.h at.v box_node.now) ≡ false }
         requires nodes { nodes ≡ box_count box_node.now }
-        requires room { HasRoom (with_next fonts.now self.old (page_at counts.now at.h at.v box_node.now)) }
-        ensures ok { IfOk result (λ bytes. bytes.items ≡ next_bytes fonts.now self.old (page_at counts.now at.h at.v box_node.now)) }
-        ensures kept { OnOk result (self.new ≡ with_next fonts.now self.old (page_at counts.now at.h at.v box_node.now)) }
-        ensures err { OnErr result (self.new ≡ self.old) }
+        requires room { HasRoom (with_next fonts.now self.now (page_at counts.now at.h at.v box_node.now)) }
+        ensures bytes { IfOk result (λ next. next.bytes.items ≡ next_bytes fonts.now self.now (page_at counts.now at.h at.v box_node.now)) }
+        ensures behind { IfOk result (λ next. next.behind ≡ with_next fonts.now self.now (page_at counts.now at.h at.v box_node.now)) }
     {
         let body = written_body(alloc, box_node, at, counts)?;
-        let fresh = fresh_slots(alloc, fonts, self.defined(), &body)?;
-        let page = self.lay_out(alloc, fonts, &fresh, counts, &body)?;
-        self.keep_fonts(&fresh);
-        self.keep_size(page.bop, page.bytes.len(), nodes);
-        self.keep_reach(box_node, at, counts);
-        self.keep_depth(&body);
-        Ok(page.bytes)
+        let fresh = fresh_slots(alloc, fonts, self.defined.as_slice(), &body)?;
+        let (bytes, bop) = self.lay_out(alloc, fonts, &fresh, counts, &body)?;
+        let mut behind = self.copied();
+        behind.keep_size(&fresh, bop, bytes.len(), nodes);
+        behind.keep_reach(box_node, at, counts);
+        behind.keep_depth(&body);
+        Ok(NextPage { bytes, behind })
     }
 
     /// What post says.
@@ -332,7 +330,7 @@ impl Progress {
         ensures ok { IfOk result (λ ops. map view ops.items ≡ closing_so_far fonts.now self.now) }
         ensures few { IfOk result (λ ops. AllByRecursion HasSpelling (map view ops.items)) }
     {
-        let slots = in_rising_order(alloc, self.defined())?;
+        let slots = in_rising_order(alloc, self.defined.as_slice())?;
         let mut ops = Vec::new(alloc);
         ops.push(Op::Post(self.postamble()))?;
         append_definitions(fonts, &slots, &mut ops)?;

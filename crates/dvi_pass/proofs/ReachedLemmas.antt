@@ -1,6 +1,6 @@
 -- The pass goes on by right instructions, and in a file each instruction is right.
-use Rattle.std.proofs.Common.{◌≡◌, ◌≤◌, ◌<◌, ◌+◌, ◌-◌, ◌++◌, min, [], ◌∷◌, List, length, reverse, take, drop, ℕ, Option, Some, None, refl, sym, ◌∙◌, ap, ap₂, subst, append_assoc, append-nil, length-append, arith}
-use Rattle.std.proofs.lemmas.List.{take-append-drop, take-take, take_at, length-drop, length-take-le, append_cancel_left}
+use Rattle.std.proofs.Common.{◌≡◌, ◌≤◌, ◌<◌, ◌+◌, ◌-◌, ◌++◌, min, [], ◌∷◌, false, List, length, reverse, take, drop, ℕ, Option, Some, None, refl, sym, ◌∙◌, ap, ap₂, subst, append_assoc, append-nil, length-append, arith}
+use Rattle.std.proofs.lemmas.List.{take-append-drop, take-take, take_at, length-drop, length-take-le}
 use Rattle.std.specs.List.{AllByRecursion}
 use Rattle.dvi_ops.specs.Instruction.{Definition, Instruction, Postamble, Pre}
 use Rattle.dvi_ops.specs.Table.{Spells}
@@ -12,7 +12,8 @@ use Rattle.dvi_ops.proofs.Appends.{all_append, all_front, all_back, says-append,
 use Rattle.dvi_ops.proofs.Frames.{begins, not_empty, one_list}
 use Rattle.dvi_pass.specs.Pass.{Pass, Between, turn, goes, passes}
 use Rattle.dvi_pass.specs.Passed.{IsPassed}
-use Rattle.dvi_pass.specs.Reached.{HasRight, HasWidths, IsReached, IsRightAt, IsTail}
+use Rattle.dvi_pass.specs.Reached.{HasRight, HasWidths, IsReached, IsRightAt, IsTail, Left, all_left, behind_bops}
+use Rattle.dvi_pass.proofs.LeftLemmas.{behind_bops-append, bops_met, none_missed}
 use Rattle.dvi_pass.proofs.PartLemmas.{passes-append}
 
 -- A list before two more, and cut at a place.
@@ -37,12 +38,16 @@ module _ (metrics : Metrics) (table : List Definition) (bytes : List ℕ) (stop 
   does = kept (acts (widths_of metrics table))
 
   -- One instruction more.
-  pub reached_next : (at next : ℕ) (p q : Pass) (known : List Definition) (left later : List ℕ) (i : Instruction) → at ≤ next → next ≤ length bytes → IsReached metrics table bytes stop chain at p known left
+  pub reached_next : (at next : ℕ) (p q : Pass) (known : List Definition) (left later : Left) (i : Instruction) → at ≤ next → next ≤ length bytes → IsReached metrics table bytes stop chain at p known left
       → Spells i (take (next - at) (drop at bytes)) → IsRightAt metrics table stop at p known left i q later → IsReached metrics table bytes stop chain next q (definition_of i ++ known) later
   reached_next at next p q known left later i low high r spelled right =
       let t = token i (take (next - at) (drop at bytes)) in
       let says_more : says (r.before ++ t ∷ []) ≡ says r.before ++ i ∷ [] = says-append r.before (t ∷ []) in
       let size : length (written r.before) ≡ at = ap (λ (x : List ℕ). length x) (r.whole) ∙ length-take-le at bytes (omega arith) in
+      let bops_are : places 0 (r.before ++ t ∷ []) ≡ places 0 r.before ++ place_of at i =
+      places-append 0 r.before (t ∷ [])
+      ∙ (ap (λ (n : ℕ). places 0 r.before ++ places n (t ∷ [])) (ap (λ (n : ℕ). 0 + n) size ∙ zero_first at)
+      ∙ ap (λ (ns : List ℕ). places 0 r.before ++ ns) (append-nil (place_of at i))) in
       let goes_on : passes (kept (acts (widths_of metrics table))) (min 1024 stop.stack_depth) (r.body ++ i ∷ []) (Between []) ≡ Some q =
       passes-append (kept (acts (widths_of metrics table))) (min 1024 stop.stack_depth) r.body (i ∷ []) (Between []) p r.passed ∙ ap (goes (λ p. Some p)) right.goes_on in
       record {
@@ -53,10 +58,7 @@ module _ (metrics : Metrics) (table : List Definition) (bytes : List ℕ) (stop 
         body = r.body ++ i ∷ [];
         front_is = says_more ∙ ap (λ (is : List Instruction). is ++ i ∷ []) r.front_is;
         passed = goes_on;
-        bops =
-            ap (λ (ns : List ℕ). ns ++ later) (places-append 0 r.before (t ∷ []) ∙ ap (λ (n : ℕ). places 0 r.before ++ places n (t ∷ [])) (ap (λ (n : ℕ). 0 + n) size ∙ zero_first at))
-            ∙ (append_assoc (places 0 r.before) (place_of at i ++ []) later
-            ∙ (ap (λ (ns : List ℕ). places 0 r.before ++ ns) (ap (λ (ns : List ℕ). ns ++ later) (append-nil (place_of at i)) ∙ right.bop) ∙ r.bops));
+        bops = ap (λ (ns : List ℕ). behind_bops ns (all_left chain)) bops_are ∙ (behind_bops-append (places 0 r.before) (place_of at i) (all_left chain) left r.bops ∙ right.bop);
         fonts =
             subst (λ (is : List Instruction). FontsAreRight [] is) (sym says_more)
             (fonts_append [] (says r.before) (i ∷ []) r.fonts (subst (λ (ds : List Definition). FontsAreRight ds (i ∷ [])) (sym r.known_is) (right.fonts, tt)));
@@ -70,7 +72,7 @@ module _ (metrics : Metrics) (table : List Definition) (bytes : List ℕ) (stop 
       zero_first n = omega arith
 
   -- The preamble.
-  pub reached_first : (next : ℕ) (comment : List ℕ) → next ≤ length bytes → Spells (Pre 2 stop.units comment) (take next bytes) → IsReached metrics table bytes stop chain next (Between []) [] (reverse chain)
+  pub reached_first : (next : ℕ) (comment : List ℕ) → next ≤ length bytes → Spells (Pre 2 stop.units comment) (take next bytes) → IsReached metrics table bytes stop chain next (Between []) [] (all_left chain)
   reached_first next comment high spelled =
       record {
         before = token (Pre 2 stop.units comment) (take next bytes) ∷ [];
@@ -96,7 +98,7 @@ first_turn does most i rest p end e = go (turn does most i p) e
 
 module _ (metrics : Metrics) (bytes : List ℕ) (post behind last : ℕ) (stop : Postamble) (chain : List ℕ) (pages : List MarkedPage)
     (f : IsPassed metrics bytes post behind last stop chain pages) (small : post ≤ length bytes)
-    (at : ℕ) (p : Pass) (known : List Definition) (left : List ℕ) (low : at ≤ post) (r : IsReached metrics (definitions (says f.tail)) bytes stop chain at p known left) where
+    (at : ℕ) (p : Pass) (known : List Definition) (left : Left) (low : at ≤ post) (r : IsReached metrics (definitions (says f.tail)) bytes stop chain at p known left) where
   -- The instructions that are still to come.
   pub record Rest : Type 0 where
     pub more : List Token
@@ -105,7 +107,7 @@ module _ (metrics : Metrics) (bytes : List ℕ) (post behind last : ℕ) (stop :
     pub whole : written more ≡ take (post - at) (drop at bytes)
     pub body : f.body ≡ r.body ++ says more
     pub passed : passes (kept (acts (widths_of metrics (definitions (says f.tail))))) (min 1024 stop.stack_depth) (says more) p ≡ Some (Between pages)
-    pub bops : places at more ≡ left
+    pub bops : left ≡ record { missed = false; places = places at more }
 
   pub rest : Rest
   rest =
@@ -116,9 +118,12 @@ module _ (metrics : Metrics) (bytes : List ℕ) (post behind last : ℕ) (stop :
       let all : Pre 2 stop.units f.comment ∷ f.body ≡ Pre 2 stop.units r.comment ∷ (r.body ++ says more) =
       sym f.front_is ∙ (ap (λ (ts : List Token). says ts) front ∙ (says-append r.before more ∙ ap (λ (is : List Instruction). is ++ says more) r.front_is)) in
       let body : f.body ≡ r.body ++ says more = cc in
-      let two : places 0 r.before ++ places at more ≡ places 0 r.before ++ left =
-      sym (places-append 0 r.before more ∙ ap (λ (n : ℕ). places 0 r.before ++ places n more) (ap (λ (n : ℕ). 0 + n) size ∙ zero_first at))
-      ∙ (ap (λ (ts : List Token). places 0 ts) (sym front) ∙ (f.bops ∙ sym r.bops)) in
+      let all_places : reverse chain ≡ places 0 r.before ++ places at more =
+      sym f.bops
+      ∙ (ap (λ (ts : List Token). places 0 ts) front
+      ∙ (places-append 0 r.before more ∙ ap (λ (n : ℕ). places 0 r.before ++ places n more) (ap (λ (n : ℕ). 0 + n) size ∙ zero_first at))) in
+      let still : Some left ≡ Some (record { missed = false; places = places at more }) =
+      sym r.bops ∙ (ap (λ (ns : List ℕ). behind_bops (places 0 r.before) (record { missed = false; places = ns })) all_places ∙ bops_met (places 0 r.before) (places at more)) in
       record {
         more = more;
         front = front;
@@ -127,7 +132,7 @@ module _ (metrics : Metrics) (bytes : List ℕ) (post behind last : ℕ) (stop :
         body = body;
         passed = sym (passes-append (kept (acts (widths_of metrics (definitions (says f.tail))))) (min 1024 stop.stack_depth) r.body (says more) (Between []) p r.passed)
             ∙ (ap (λ (is : List Instruction). passes (kept (acts (widths_of metrics (definitions (says f.tail))))) (min 1024 stop.stack_depth) is (Between [])) (sym body) ∙ f.passed);
-        bops = append_cancel_left (places 0 r.before) (places at more) left two;
+        bops = cc;
       }
     where
       zero_first : (n : ℕ) → 0 + n ≡ n
@@ -139,7 +144,7 @@ module _ (metrics : Metrics) (bytes : List ℕ) (post behind last : ℕ) (stop :
   next_right below = by_first rest.more rest.front rest.spelled rest.whole rest.passed rest.bops
     where
       by_first : (more : List Token) → f.front ≡ r.before ++ more → AllByRecursion IsSpelled more → written more ≡ take (post - at) (drop at bytes)
-          → passes (kept (acts (widths_of metrics (definitions (says f.tail))))) (min 1024 stop.stack_depth) (says more) p ≡ Some (Between pages) → places at more ≡ left
+          → passes (kept (acts (widths_of metrics (definitions (says f.tail))))) (min 1024 stop.stack_depth) (says more) p ≡ Some (Between pages) → left ≡ record { missed = false; places = places at more }
           → HasRight metrics (definitions (says f.tail)) bytes stop at post p known left
       by_first [] front spelled whole passed bops =
           let none : 0 ≡ length (take (post - at) (drop at bytes)) = ap (λ (x : List ℕ). length x) whole in
@@ -163,10 +168,10 @@ module _ (metrics : Metrics) (bytes : List ℕ) (post behind last : ℕ) (stop :
             here = t.says;
             spelled = subst (λ (x : List ℕ). Spells t.says x) (sym (ap (λ (n : ℕ). take n (drop at bytes)) span ∙ cut)) here;
             after = q;
-            later = places (at + length t.bytes) more;
+            later = record { missed = false; places = places (at + length t.bytes) more };
             right = record {
               goes_on = goes_on;
-              bop = bops;
+              bop = ap (behind_bops (place_of at t.says)) bops ∙ bops_met (place_of at t.says) (places (at + length t.bytes) more);
               fonts = subst (λ (ds : List Definition). IsRightAfter ds t.says) r.known_is fonts.0;
               closing = all_front (HasWidths metrics (definitions (says f.tail))) (selection_of t.says) (selections (says more)) selected;
             };
@@ -180,13 +185,13 @@ module _ (metrics : Metrics) (bytes : List ℕ) (post behind last : ℕ) (stop :
               by_bytes (x ∷ b) here = omega arith
 
   -- At post's place the pass stands between pages, and none is still to come.
-  pub end_right : at ≡ post → (p ≡ Between pages) × (left ≡ [])
+  pub end_right : at ≡ post → (p ≡ Between pages) × (left ≡ all_left [])
   unfolding rest
   end_right same = by_first rest.more rest.spelled rest.whole rest.passed rest.bops
     where
       by_first : (more : List Token) → AllByRecursion IsSpelled more → written more ≡ take (post - at) (drop at bytes)
-          → passes (kept (acts (widths_of metrics (definitions (says f.tail))))) (min 1024 stop.stack_depth) (says more) p ≡ Some (Between pages) → places at more ≡ left → (p ≡ Between pages) × (left ≡ [])
-      by_first [] spelled whole passed bops = let e : p ≡ Between pages = cc in (e, sym bops)
+          → passes (kept (acts (widths_of metrics (definitions (says f.tail))))) (min 1024 stop.stack_depth) (says more) p ≡ Some (Between pages) → left ≡ record { missed = false; places = places at more } → (p ≡ Between pages) × (left ≡ all_left [])
+      by_first [] spelled whole passed bops = let e : p ≡ Between pages = cc in (e, bops)
       by_first (t ∷ more) (here, spelled) whole passed bops =
           let none : take (post - at) (drop at bytes) ≡ [] = (let zero : post - at ≡ 0 = omega arith in ap (λ (n : ℕ). take n (drop at bytes)) zero) in
           absurd (by_bytes t.bytes here (whole ∙ none))
@@ -197,7 +202,7 @@ module _ (metrics : Metrics) (bytes : List ℕ) (post behind last : ℕ) (stop :
 
 -- The end of the pass.
 pub reached_end : (metrics : Metrics) (bytes : List ℕ) (post behind last : ℕ) (stop : Postamble) (chain : List ℕ) (pages : List MarkedPage) (known : List Definition) (tail : List Token) → AreUnits stop.units
-    → IsReached metrics (definitions (says tail)) bytes stop chain post (Between pages) known [] → IsTail bytes behind last known tail → IsPassed metrics bytes post behind last stop chain pages
+    → IsReached metrics (definitions (says tail)) bytes stop chain post (Between pages) known (all_left []) → IsTail bytes behind last known tail → IsPassed metrics bytes post behind last stop chain pages
 reached_end metrics bytes post behind last stop chain pages known tail units r t =
     record {
       front = r.before;
@@ -211,7 +216,7 @@ reached_end metrics bytes post behind last stop chain pages known tail units r t
       front_is = r.front_is;
       units = units;
       passed = r.passed;
-      bops = sym (append-nil (places 0 r.before)) ∙ r.bops;
+      bops = sym (append-nil (places 0 r.before)) ∙ (none_missed (places 0 r.before) (all_left chain) [] r.bops).1;
       tail_is = t.idle;
       fonts = fonts_append [] (says r.before) (says tail) r.fonts (subst (λ (ds : List Definition). FontsAreRight ds (says tail)) (sym r.known_is) t.fonts);
       closing = r.closing;
@@ -219,7 +224,7 @@ reached_end metrics bytes post behind last stop chain pages known tail units r t
 
 -- The tail of a file, behind the fonts that are known at post's place.
 pub tail_right : (metrics : Metrics) (bytes : List ℕ) (post behind last : ℕ) (stop : Postamble) (chain : List ℕ) (pages : List MarkedPage) (f : IsPassed metrics bytes post behind last stop chain pages)
-    → post ≤ length bytes → (p : Pass) (known : List Definition) (left : List ℕ) → IsReached metrics (definitions (says f.tail)) bytes stop chain post p known left → IsTail bytes behind last known f.tail
+    → post ≤ length bytes → (p : Pass) (known : List Definition) (left : Left) → IsReached metrics (definitions (says f.tail)) bytes stop chain post p known left → IsTail bytes behind last known f.tail
 tail_right metrics bytes post behind last stop chain pages f small p known left r =
     let same : f.front ≡ r.before = one_list f.front r.before f.front_spelled r.spelled (f.front_whole ∙ sym r.whole) in
     let fonts = fonts_back [] (says f.front) (says f.tail) f.fonts in

@@ -1,5 +1,5 @@
 -- Where a rule is broken that a fault names, the bytes are no file.
-use Rattle.std.proofs.Common.{◌≡◌, ◌≢◌, ◌≤◌, ◌-◌, [], ◌∷◌, List, length, map, reverse, take, ℕ, refl, sym, ◌∙◌, ap, subst, inl, inr, arith}
+use Rattle.std.proofs.Common.{◌≡◌, ◌≢◌, ◌≤◌, ◌-◌, [], ◌∷◌, List, true, false, length, map, reverse, take, ℕ, refl, sym, ◌∙◌, ap, subst, inl, inr, arith}
 use Rattle.std.specs.Prelude.{◌⊎◌}
 use Rattle.std.specs.List.{AllByRecursion}
 use Rattle.std.proofs.lemmas.List.{reverse-reverse}
@@ -19,7 +19,7 @@ use Rattle.dvi_ops.specs.Tokens.{Token, IsSpelled, says, written}
 use Rattle.dvi_ops.proofs.Appends.{fonts_back}
 use Rattle.dvi_pass.specs.Pass.{Between}
 use Rattle.dvi_pass.specs.Passed.{IsFramed, IsPassed}
-use Rattle.dvi_pass.specs.Reached.{IsReached}
+use Rattle.dvi_pass.specs.Reached.{IsReached, Left}
 use Rattle.dvi_pass.specs.Turning.{pass_at}
 use Rattle.dvi_pass.specs.View.{page_of}
 use Rattle.dvi_pass.specs.declared.turning.Stand.{Stand}
@@ -85,15 +85,16 @@ module _ (files : List NamedBytes) (bytes : List ℕ) (post behind last : ℕ) (
     pages_ended bad from table walk has (place, broken) =
         let r = reached_with table walk has.walked.known has.ahead has.walked.reached in
         let (p, left) = end_right (file_widths files) bytes post behind last stop chain pages f post_within post (stand_of walk) has.walked.known (places_left walk) (omega arith) r refl in
-        by_rule broken (between walk.stand p) (sym (reverse-reverse walk.left.items) ∙ ap (λ (ns : List ℕ). reverse ns) left)
+        by_rule broken (between walk.stand p) (ap (λ (l : Left). l.missed) left) (sym (reverse-reverse walk.left.items) ∙ ap (λ (l : Left). reverse l.places) left)
       where
         between : (stand : Stand) → pass_at (map page_of walk.done.items) stand ≡ Between pages → stand ≡ stands.Between
         between stands.Between e = refl
         between (stands.Inside page) e = absurd cc
 
-        by_rule : (bad.cause ≡ Opcode) × (walk.stand ≡ stands.Between → ⊥) ⊎ (bad.cause ≡ Pointer) × (walk.stand ≡ stands.Between) × (walk.left.items ≢ []) → walk.stand ≡ stands.Between → walk.left.items ≡ [] → ⊥
-        by_rule (inl (cause, inside)) none empty = inside none
-        by_rule (inr (cause, closed, some)) none empty = some empty
+        by_rule : (bad.cause ≡ Opcode) × (walk.stand ≡ stands.Between → ⊥) ⊎ (bad.cause ≡ Pointer) × (walk.stand ≡ stands.Between) × ((walk.missed ≡ true) ⊎ (walk.left.items ≢ [])) → walk.stand ≡ stands.Between → walk.missed ≡ false → walk.left.items ≡ [] → ⊥
+        by_rule (inl (cause, inside)) none met empty = inside none
+        by_rule (inr (cause, closed, inl missed)) none met empty = let both : true ≡ false = sym missed ∙ met in cc
+        by_rule (inr (cause, closed, inr some)) none met empty = some empty
 
     pub tail_is_right : (bad : BadDvi) (from : ℕ) (table new : List Definition) (walk : Walk) → HasPages files bytes post behind last stop chain from table walk
         → IsClosingFault bytes behind (last - 5) (known_of walk) new (frames.Bad bad) → ⊥

@@ -1,5 +1,5 @@
 -- A whole file: what was found makes a file, and each refusal says why.
-use Rattle.std.proofs.Common.{◌≡◌, ◌≢◌, ◌+◌, ◌-◌, ◌++◌, [], List, length, map, replicate, reverse, take, drop, ℕ, Result, Ok, Err, refl, sym, ◌∙◌, ap, ap₂, subst, subst₂, inl, inr, length-append, arith}
+use Rattle.std.proofs.Common.{◌≡◌, ◌≢◌, ◌+◌, ◌-◌, ◌++◌, [], Bool, List, length, map, replicate, reverse, take, drop, ℕ, Result, Ok, Err, refl, sym, ◌∙◌, ap, ap₂, subst, subst₂, inl, inr, length-append, arith}
 use Rattle.std.proofs.lemmas.List.{drop-drop, drop_at, take_at, length-drop, length-take-le}
 use Rattle.std.specs.Prelude.{IfOk, IfErr}
 use Rattle.std.proofs.lemmas.Grind.{flat_map-append}
@@ -22,7 +22,7 @@ use Rattle.dvi_ops.specs.Tokens.{Token, says, written}
 use Rattle.dvi_ops.proofs.Frames.{one_list, one_list_of_pages}
 use Rattle.dvi_pass.specs.Pass.{Pass, Between}
 use Rattle.dvi_pass.specs.Passed.{IsFramed}
-use Rattle.dvi_pass.specs.Reached.{IsReached, IsTail}
+use Rattle.dvi_pass.specs.Reached.{IsReached, IsTail, Left, all_left}
 use Rattle.dvi_pass.specs.Turning.{pass_at}
 use Rattle.dvi_pass.specs.View.{page_of}
 use Rattle.dvi_pass.specs.declared.turning.Stand.{Stand}
@@ -47,7 +47,7 @@ chain_refused files bytes post e stop (frames.Bad fault) result ends broken bad 
 
 -- What is behind the preamble begins the walk.
 pub starts_reached : (files : List NamedBytes) (bytes : List ℕ) (post behind last : ℕ) (stop : Postamble) (chain : List ℕ) (from : ℕ) (table : List Definition) → StartsAt bytes post behind last stop chain from
-    → IsReached (file_widths files) table bytes stop chain from (Between []) [] (reverse chain)
+    → IsReached (file_widths files) table bytes stop chain from (Between []) [] (all_left chain)
 starts_reached files bytes post behind last stop chain from table starts =
     let high = post_within files bytes post behind last stop chain starts.chained.framed in
     let within = starts.preamble.within in
@@ -65,10 +65,10 @@ opened files bytes post behind last stop chain from table new walk has ended (ta
     record { spelled = closes.spelled; whole = closes.whole; idle = closes.idle; fonts = fonts_fewer known [] (says tail) closes.idle (λ d none. absurd none) right } in
     let table_is = looked bytes behind (last - 5) table tail (behind_within files bytes post behind last stop chain framed) has.ahead alone in
     let stand : stand_of walk ≡ Between pages = ap (λ (stand : Stand). pass_at (map page_of walk.done.items) stand) ended.between in
-    let left : places_left walk ≡ [] = ap (λ (ns : List ℕ). reverse ns) ended.none in
+    let left : places_left walk ≡ all_left [] = ap₂ (λ (missed : Bool) (ns : List ℕ). record { missed = missed; places = reverse ns }) ended.met ended.none in
     let one = subst (λ (ds : List Definition). IsReached (file_widths files) ds bytes stop chain post (stand_of walk) known (places_left walk)) table_is has.walked.reached in
     let two = subst (λ (p : Pass). IsReached (file_widths files) (definitions (says tail)) bytes stop chain post p known (places_left walk)) stand one in
-    let three = subst (λ (ns : List ℕ). IsReached (file_widths files) (definitions (says tail)) bytes stop chain post (Between pages) known ns) left two in
+    let three = subst (λ (left : Left). IsReached (file_widths files) (definitions (says tail)) bytes stop chain post (Between pages) known left) left two in
     let is_tail : IsTail bytes behind last known tail = record { spelled = closes.spelled; whole = closes.whole; idle = closes.idle; fonts = right } in
     passed_file bytes post behind last stop chain framed (file_widths files) pages has.starts.chained.count
     (reached_end (file_widths files) bytes post behind last stop chain pages known tail has.starts.preamble.units three is_tail)

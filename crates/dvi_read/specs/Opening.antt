@@ -39,7 +39,7 @@ pub record HasPages (files : List NamedBytes) (bytes : List ℕ) (post behind la
   pub walked : IsWalked (file_widths files) table bytes stop chain post walk
 
 -- Why a file is refused. Each choice says that the rules of the checks before it hold, and which rule is broken at the place that the fault names:
--- of the end; of the chain of pages; of the preamble; of the pages; of post's place, where no page is open and none still to come; of what is behind post.
+-- of the end; of the chain of pages; of the preamble; of the pages; of post's place, where no page is open and each place of the chain was a bop; of what is behind post.
 -- Want of memory may come at any time.
 pub data IsDviFault (files : List NamedBytes) (bytes : List ℕ) (fault : DviFault) : Type 0 where
   LacksMemory : fault ≡ OutOfMemory → IsDviFault files bytes fault

@@ -41,13 +41,13 @@ impl<'a> Model for Dvi<'a> {
 
 /// What is kept of a walk over all pages.
 fn kept(units: Units, walk: Walk<'_>) -> Dvi<'_>
-    ensures { result ≡ record { units = view_units units; pages = map page_of walk.entry.done.items; fonts = map definition walk.entry.known.items } }
+    ensures { result ≡ record { units = view_units units; pages = map page_of walk.entry.done.items; fonts = walk.entry.known } }
 {
     let Walk { done, known, .. } = walk;
     Dvi {
         units,
         pages: done,
-        fonts: known,
+        fonts: known.into_all(),
     }
 }
 

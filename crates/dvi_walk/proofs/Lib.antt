@@ -1,4 +1,4 @@
-pub mod FoundLemmas
 pub mod SelectLemmas
 pub mod StepLemmas
+pub mod PointerLemmas
 pub mod WalkLemmas

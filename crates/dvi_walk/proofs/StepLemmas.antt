@@ -1,42 +1,43 @@
 -- One instruction of the pages: its width is that of the file's fonts, and the font that is selected behind it was read.
 use Rattle.std.proofs.Common.{◌≡◌, ◌++◌, [], ◌∷◌, List, map, ℕ, ℤ, Bool, true, false, Option, Some, None, nat_lt, length, if◌then◌else◌, refl, sym, ◌∙◌, ap, ap₂, subst, subst₂, inl, inr}
 use Rattle.std.specs.Prelude.{◌⊎◌, IsSome}
-use Rattle.std.specs.List.{AllByRecursion}
 use Rattle.dvi_frame.specs.declared.fault.DviCause.{DviCause}
 use Rattle.dvi_frame.specs.declared.fault.DviCause.TheVariants.{Glyph, Range}
 use Rattle.dvi_ops.specs.Body.{Mark, Place, State, Meaning, Widths, acts, glyph, glyph_of, kept, kept_in, place_after, put_glyph, right, rule_at, set_glyph, start}
 use Rattle.dvi_ops.specs.File.{MarkedPage}
 use Rattle.dvi_ops.specs.Fonts.{Metrics, IsRightAfter, definition_of, widths_of, width_in as width_of_font}
+use Rattle.dvi_ops.specs.Tokens.{place_of}
 use Rattle.dvi_ops.specs.Instruction.{Definition, Leaf, SetChar, PutChar, SetRule, PutRule, Nop, Move, FontNum, FontDef, Xxx, Instruction, Do, Push, Pop, Bop, Eop}
 use Rattle.dvi_pass.specs.Drawing.{always}
 use Rattle.dvi_pass.specs.Pass.{Pass, Between, Inside, drawn, turn}
+use Rattle.dvi_pass.specs.Reached.{Left, behind_bops}
 use Rattle.dvi_pass.specs.Turning.{BreaksTurn, IsAsked, pass_at}
 use Rattle.dvi_pass.specs.View.{page_of}
 use Rattle.dvi_pass.specs.declared.turning.Stand.{Stand}
 use Rattle.dvi_pass.specs.declared.turning.Stand.TheVariants as stands
 use Rattle.dvi_pass.proofs.WidthLemmas.{one_width}
-use Rattle.dvi_walk.specs.ReadFonts.{IsCurrent, IsSound, asked_width, code_in, read_of, selected_in, width_in}
+use Rattle.dvi_walk.specs.ReadFonts.{AreSound, IsCurrent, ReadFonts, asked_width, code_in, read_of, selected_in, width_in}
 use Rattle.dvi_walk.specs.Steps.{BreaksNote, BreaksPass, BreaksRest, BreaksStep, Notes, PassesOn, Steps, stand_of}
 use Rattle.dvi_walk.specs.declared.fault.StepFault.{StepFault}
 use Rattle.dvi_walk.specs.declared.fault.StepFault.TheVariants.{OutOfMemory, Broken, Refused}
-use Rattle.dvi_walk.specs.declared.read_fonts.ReadFont.{ReadFont}
 use Rattle.dvi_walk.specs.declared.walk.Walk.{Walk}
-use Rattle.dvi_walk.proofs.SelectLemmas.{read_widths, some_is}
+use Rattle.dvi_walk.proofs.SelectLemmas.{some_is}
 use Rattle.tfm_core.specs.FileWidths.{file_widths}
+use Rattle.tfm_core.specs.Fonts.{SizedFont}
 use Rattle.tfm_core.specs.NamedBytes.{NamedBytes}
 
 -- The width of a character in a read font is that of the file's font.
-width_of_read : (metrics : Metrics) (table : List Definition) (fonts : List ReadFont) (selected : Option ℤ) (c : ℤ) → AllByRecursion (IsSound metrics table) fonts
+width_of_read : (metrics : Metrics) (table : List Definition) (fonts : ReadFonts) (selected : Option ℤ) (c : ℤ) → AreSound metrics table fonts
     → ((f : ℤ) → selected ≡ Some f → IsSome (read_of f fonts)) → (f : ℤ) → selected ≡ Some f → asked_width fonts selected (Some c) ≡ widths_of metrics table f c
 width_of_read metrics table fonts None c sound current f e = absurd cc
 width_of_read metrics table fonts (Some g) c sound current f e =
     let same : g ≡ f = cc in
     let (read, is) = some_is (read_of f fonts) (current f e) in
     ap (λ (n : ℤ). width_in (read_of n fonts) c) same
-    ∙ (ap (λ (o : Option ReadFont). width_in o c) is
-    ∙ sym (ap (λ (o : Option (ℤ → Option ℤ)). width_of_font o c) (read_widths metrics table f fonts read sound is)))
+    ∙ (ap (λ (o : Option SizedFont). width_in o c) is
+    ∙ sym (ap (λ (o : Option (ℤ → Option ℤ)). width_of_font o c) (sound f read is).widths))
 
-pub asked_is : (metrics : Metrics) (table : List Definition) (fonts : List ReadFont) (pages : List MarkedPage) (i : Instruction) (stand : Stand) → AllByRecursion (IsSound metrics table) fonts → IsCurrent fonts stand
+pub asked_is : (metrics : Metrics) (table : List Definition) (fonts : ReadFonts) (pages : List MarkedPage) (i : Instruction) (stand : Stand) → AreSound metrics table fonts → IsCurrent fonts stand
     → IsAsked (widths_of metrics table) i (pass_at pages stand) (asked_width fonts (selected_in stand) (code_in i))
 asked_is metrics table fonts pages (Do (SetChar c)) (stands.Inside page) sound current = width_of_read metrics table fonts page.state.font c sound current
 asked_is metrics table fonts pages (Do (PutChar c)) (stands.Inside page) sound current = width_of_read metrics table fonts page.state.font c sound current
@@ -132,17 +133,17 @@ turn_font widths most Eop (Inside pages counts marks (p ∷ stack) s) q f e at =
 turn_font widths most i (Inside pages counts marks stack s) q f e at = absurd cc
 
 -- One instruction more.
-pub stepped : (files : List NamedBytes) (table : List Definition) (most at : ℕ) (i : Instruction) (old mid new : Walk) → AllByRecursion (IsSound (file_widths files) table) old.fonts.items
-    → IsCurrent old.fonts.items old.stand → PassesOn most i old mid → Notes (file_widths files) table at i mid new → Steps (file_widths files) table most at i old new
+pub stepped : (files : List NamedBytes) (table : List Definition) (most at : ℕ) (i : Instruction) (old mid new : Walk) → AreSound (file_widths files) table old.fonts
+    → IsCurrent old.fonts old.stand → PassesOn most i old mid → Notes (file_widths files) table at i mid new → Steps (file_widths files) table most at i old new
 stepped files table most at i old mid new sound current passes notes =
     let metrics : Metrics = file_widths files in
-    let asked = asked_is metrics table old.fonts.items (map page_of old.done.items) i old.stand sound current in
+    let asked = asked_is metrics table old.fonts (map page_of old.done.items) i old.stand sound current in
     let same_stand : stand_of new ≡ stand_of mid = ap₂ (λ (pages : List MarkedPage) (stand : Stand). pass_at pages stand) notes.pages notes.stand in
     let goes_on : turn (kept (acts (widths_of metrics table))) most i (stand_of old) ≡ Some (stand_of new) =
-    sym (one_width (widths_of metrics table) (asked_width old.fonts.items (selected_in old.stand) (code_in i)) most i (stand_of old) asked) ∙ (passes.goes_on ∙ ap (λ (p : Pass). Some p) (sym same_stand)) in
+    sym (one_width (widths_of metrics table) (asked_width old.fonts (selected_in old.stand) (code_in i)) most i (stand_of old) asked) ∙ (passes.goes_on ∙ ap (λ (p : Pass). Some p) (sym same_stand)) in
     record {
       goes_on = goes_on;
-      bop = notes.bop ∙ passes.left;
+      bop = ap (behind_bops (place_of at i)) (sym passes.left) ∙ notes.bop;
       right = subst (λ (ds : List Definition). IsRightAfter ds i) passes.known notes.right;
       known_is = notes.known_is ∙ ap (λ (ds : List Definition). ds ++ definition_of i) passes.known;
       widths = notes.widths;
@@ -152,22 +153,22 @@ stepped files table most at i old mid new sound current passes notes =
           (turn_font (widths_of metrics table) most i (stand_of old) (stand_of new) f goes_on (current_same (map page_of new.done.items) new.stand ∙ at_new));
     }
   where
-    by_font : (f : ℤ) → (current_of (stand_of old) ≡ Some f) ⊎ (i ≡ Do (FontNum f)) → IsSome (read_of f new.fonts.items)
+    by_font : (f : ℤ) → (current_of (stand_of old) ≡ Some f) ⊎ (i ≡ Do (FontNum f)) → IsSome (read_of f new.fonts)
     by_font f (inl before) =
-        notes.kept f (subst (λ (fonts : List ReadFont). IsSome (read_of f fonts)) (sym passes.fonts) (current f (sym (current_same (map page_of old.done.items) old.stand) ∙ before)))
+        notes.kept f (subst (λ (fonts : ReadFonts). IsSome (read_of f fonts)) (sym passes.fonts) (current f (sym (current_same (map page_of old.done.items) old.stand) ∙ before)))
     by_font f (inr selected) = notes.read f selected
 
 -- A fault of the pass, and one of what is noted.
-pub pass_fault : (files : List NamedBytes) (table : List Definition) (most at : ℕ) (i : Instruction) (old : Walk) (fault : StepFault) → AllByRecursion (IsSound (file_widths files) table) old.fonts.items
-    → IsCurrent old.fonts.items old.stand → BreaksPass most i old fault → BreaksStep files table most at i old fault
+pub pass_fault : (files : List NamedBytes) (table : List Definition) (most at : ℕ) (i : Instruction) (old : Walk) (fault : StepFault) → AreSound (file_widths files) table old.fonts
+    → IsCurrent old.fonts old.stand → BreaksPass most i old fault → BreaksStep files table most at i old fault
 pass_fault files table most at i old OutOfMemory sound current b = tt
 pass_fault files table most at i old (Broken cause) sound current b =
-    inl (breaks_same (widths_of (file_widths files) table) (asked_width old.fonts.items (selected_in old.stand) (code_in i)) most i (stand_of old) cause
-    (asked_is (file_widths files) table old.fonts.items (map page_of old.done.items) i old.stand sound current) b)
+    inl (breaks_same (widths_of (file_widths files) table) (asked_width old.fonts (selected_in old.stand) (code_in i)) most i (stand_of old) cause
+    (asked_is (file_widths files) table old.fonts (map page_of old.done.items) i old.stand sound current) b)
 pass_fault files table most at i old (Refused refusal) sound current b = absurd b
 
 pub note_fault : (files : List NamedBytes) (table : List Definition) (most at : ℕ) (i : Instruction) (old mid : Walk) (fault : StepFault) → PassesOn most i old mid → BreaksNote files table at i mid fault
     → BreaksStep files table most at i old fault
 note_fault files table most at i old mid OutOfMemory passes b = tt
-note_fault files table most at i old mid (Broken cause) passes b = inr (subst₂ (λ (ds : List Definition) (left : List ℕ). BreaksRest table ds at left i cause) passes.known passes.left b)
+note_fault files table most at i old mid (Broken cause) passes b = inr (subst₂ (λ (ds : List Definition) (left : Left). BreaksRest table ds at left i cause) passes.known passes.left b)
 note_fault files table most at i old mid (Refused refusal) passes b = b

@@ -1,7 +1,10 @@
 -- The walk over the pages: one instruction more, and why it stops.
-use Rattle.std.proofs.Common.{◌≡◌, ◌≢◌, ◌≤◌, ◌-◌, ◌++◌, min, [], ◌∷◌, List, length, reverse, ℕ, ℤ, Option, Some, None, map, refl, sym, ◌∙◌, ap, ap₂, subst, subst₂, inl, inr, arith}
+use Rattle.std.proofs.Common.{◌≡◌, ◌≢◌, ◌≤◌, ◌-◌, ◌++◌, min, [], ◌∷◌, Bool, List, length, reverse, ℕ, ℤ, Option, Some, None, map, refl, sym, ◌∙◌, ap, ap₂, subst, subst₂, inl, inr, arith}
 use Rattle.std.specs.Prelude.{IsSome}
+use Rattle.std.specs.BTreeMap.{is_at}
 use Rattle.std.specs.List.{AllByRecursion}
+use Rattle.std.specs.Map.{lookup}
+use Rattle.std.specs.Ordering.{int_cmp}
 use Rattle.dvi_closing.specs.Known.{HasSame}
 use Rattle.dvi_closing.proofs.KnownLemmas.{same_more, same_right, same_self, same_sym}
 use Rattle.dvi_fonts.specs.declared.widths.FontRefusal.{FontRefusal}
@@ -16,16 +19,13 @@ use Rattle.dvi_ops.specs.Fonts.{Metrics, defined, definition_of, definitions, fo
 use Rattle.dvi_ops.specs.Instruction.{Definition, FontNum, Instruction, Do, Push, Pop, Eop, Postamble}
 use Rattle.dvi_ops.specs.File.{MarkedPage}
 use Rattle.dvi_ops.specs.Tokens.{says}
-use Rattle.dvi_ops.specs.View.{definition}
-use Rattle.dvi_ops.specs.declared.op.FontDefinition.{FontDefinition}
 use Rattle.dvi_pass.specs.View.{page_of}
 use Rattle.dvi_pass.specs.declared.page.Page.{Page}
 use Rattle.dvi_pass.specs.declared.turning.Stand.{Stand}
-use Rattle.dvi_walk.specs.ReadFonts.{IsCurrent, IsSound}
-use Rattle.dvi_walk.specs.declared.read_fonts.ReadFont.{ReadFont}
+use Rattle.dvi_walk.specs.ReadFonts.{IsCurrent}
 use Rattle.dvi_pass.specs.Pass.{Pass, Between, Inside}
 use Rattle.dvi_pass.specs.Passed.{IsPassed}
-use Rattle.dvi_pass.specs.Reached.{HasWidths, IsReached, IsRightAt}
+use Rattle.dvi_pass.specs.Reached.{HasWidths, IsReached, IsRightAt, Left, all_left}
 use Rattle.dvi_pass.specs.Turning.{BreaksTurn, pass_at}
 use Rattle.dvi_pass.proofs.ReachedLemmas.{next_right, reached_next}
 use Rattle.dvi_pass.proofs.TurnLemmas.{broken_turn}
@@ -37,6 +37,7 @@ use Rattle.dvi_walk.specs.declared.fault.StepFault.{StepFault}
 use Rattle.dvi_walk.specs.declared.fault.StepFault.TheVariants.{OutOfMemory, Broken, Refused}
 use Rattle.dvi_walk.specs.declared.walk.Walk.{Walk}
 use Rattle.tfm_core.specs.FileWidths.{file_widths}
+use Rattle.tfm_core.specs.Fonts.{SizedFont}
 use Rattle.tfm_core.specs.NamedBytes.{NamedBytes}
 
 -- No instruction that stands there is cut off.
@@ -91,10 +92,10 @@ selected_widths : (metrics : Metrics) (table : List Definition) (f : ℤ) (i : I
 selected_widths metrics table f i is all =
     let there : AllByRecursion (HasWidths metrics table) (f ∷ []) = subst (λ (i : Instruction). AllByRecursion (HasWidths metrics table) (selection_of i)) is all in there.0
 
-module _ (metrics : Metrics) (table : List Definition) (stop : Postamble) (at : ℕ) (walk : Walk) (known : List Definition) (same : HasSame (known_of walk) known) (i : Instruction) (q : Pass) (later : List ℕ)
+module _ (metrics : Metrics) (table : List Definition) (stop : Postamble) (at : ℕ) (walk : Walk) (known : List Definition) (same : HasSame (known_of walk) known) (i : Instruction) (q : Pass) (later : Left)
     (right : IsRightAt metrics table stop at (stand_of walk) known (places_left walk) i q later) where
   rest_holds : (cause : DviCause) → BreaksRest table (known_of walk) at (places_left walk) i cause → ⊥
-  rest_holds Pointer b = b later right.bop
+  rest_holds Pointer b = let both : Some later ≡ None = sym right.bop ∙ b in cc
   rest_holds Font (inl wrong) = wrong (same_right known (known_of walk) i (same_sym (known_of walk) known same) right.fonts)
   rest_holds Font (inr (f, is, none)) = none_defined metrics table f none (selected_widths metrics table f i is right.closing)
   rest_holds cause b = b
@@ -106,7 +107,7 @@ module _ (metrics : Metrics) (table : List Definition) (stop : Postamble) (at : 
   rule_holds cause (inr b) = rest_holds cause b
 
 -- So where a rule is broken no right instruction stands there.
-pub nothing_right : (files : List NamedBytes) (table : List Definition) (bytes : List ℕ) (stop : Postamble) (at post : ℕ) (walk : Walk) (known : List Definition) (i : Instruction) (q : Pass) (later : List ℕ)
+pub nothing_right : (files : List NamedBytes) (table : List Definition) (bytes : List ℕ) (stop : Postamble) (at post : ℕ) (walk : Walk) (known : List Definition) (i : Instruction) (q : Pass) (later : Left)
     (fault : DviFault) → fault ≢ faults.OutOfMemory → HasSame (known_of walk) known → StandsAt bytes at post i
     → IsRightAt (file_widths files) table stop at (stand_of walk) known (places_left walk) i q later → IsPagesFault files table bytes (min 1024 stop.stack_depth) at post walk fault → ⊥
 nothing_right files table bytes stop at post walk known i q later fault other same stands right = by_fault fault other
@@ -153,17 +154,18 @@ walk_fault files table bytes post behind last stop chain pages fault high other 
 
 -- The walk before the first page.
 pub walked_first : (metrics : Metrics) (table : List Definition) (bytes : List ℕ) (stop : Postamble) (chain : List ℕ) (from : ℕ) (walk : Walk) → IsBegun chain walk
-    → IsReached metrics table bytes stop chain from (Between []) [] (reverse chain) → IsWalked metrics table bytes stop chain from walk
+    → IsReached metrics table bytes stop chain from (Between []) [] (all_left chain) → IsWalked metrics table bytes stop chain from walk
 walked_first metrics table bytes stop chain from walk begun reached =
-    let known : [] ≡ known_of walk = sym (ap (λ (fonts : List FontDefinition). map definition fonts) begun.known) in
+    let known : [] ≡ known_of walk = sym begun.known in
     let stand : Between [] ≡ stand_of walk = sym (ap₂ (λ (pages : List Page) (stand : Stand). pass_at (map page_of pages) stand) begun.done begun.stand) in
-    let left : reverse chain ≡ places_left walk = sym (ap (λ (ns : List ℕ). reverse ns) begun.left_is) in
+    let left : all_left chain ≡ places_left walk = ap₂ (λ (missed : Bool) (ns : List ℕ). record { missed = missed; places = reverse ns }) (sym begun.missed) (sym begun.left_is) in
     record {
       known = [];
       same = subst (λ (ds : List Definition). HasSame ds []) known (same_self []);
-      reached = subst₂ (λ (p : Pass) (ns : List ℕ). IsReached metrics table bytes stop chain from p [] ns) stand left reached;
-      sound = subst (λ (fonts : List ReadFont). AllByRecursion (IsSound metrics table) fonts) (sym begun.fonts) tt;
-      current = subst (λ (stand : Stand). IsCurrent walk.fonts.items stand) (sym begun.stand) (λ f none. absurd cc);
+      reached = subst₂ (λ (p : Pass) (left : Left). IsReached metrics table bytes stop chain from p [] left) stand left reached;
+      sound = λ f read there.
+          let none : None ≡ Some read = sym (ap (λ (fonts : List (ℤ × SizedFont)). lookup (is_at (int_cmp f)) fonts) begun.fonts) ∙ there in absurd cc;
+      current = subst (λ (stand : Stand). IsCurrent walk.fonts stand) (sym begun.stand) (λ f none. absurd cc);
     }
 
 -- The lesser of two, either way.

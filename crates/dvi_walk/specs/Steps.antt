@@ -10,26 +10,24 @@ use Rattle.dvi_ops.specs.Body.{acts, kept}
 use Rattle.dvi_ops.specs.Fonts.{Metrics, IsRightAfter, defined, definition_of, selection_of, widths_of}
 use Rattle.dvi_ops.specs.Instruction.{Definition, FontNum, Instruction, Do}
 use Rattle.dvi_ops.specs.Tokens.{place_of}
-use Rattle.dvi_ops.specs.View.{definition}
 use Rattle.dvi_pass.specs.Drawing.{always}
 use Rattle.dvi_pass.specs.Pass.{Pass, turn}
-use Rattle.dvi_pass.specs.Reached.{HasWidths}
+use Rattle.dvi_pass.specs.Reached.{HasWidths, Left, behind_bops}
 use Rattle.dvi_pass.specs.Turning.{BreaksTurn, pass_at}
 use Rattle.dvi_pass.specs.View.{page_of}
-use Rattle.dvi_walk.specs.ReadFonts.{IsCurrent, IsSound, asked_width, code_in, read_of, selected_in}
+use Rattle.dvi_walk.specs.ReadFonts.{AreSound, IsCurrent, ReadFonts, asked_width, code_in, read_of, selected_in}
 use Rattle.dvi_walk.specs.declared.fault.StepFault.{StepFault}
 use Rattle.dvi_walk.specs.declared.fault.StepFault.TheVariants.{OutOfMemory, Broken, Refused}
-use Rattle.dvi_walk.specs.declared.read_fonts.ReadFont.{ReadFont}
 use Rattle.dvi_walk.specs.declared.walk.Walk.{Walk}
 use Rattle.tfm_core.specs.FileWidths.{file_widths}
 use Rattle.tfm_core.specs.NamedBytes.{NamedBytes}
 
 -- A font was selected: it is defined before, has widths among the definitions of the postamble, and was read.
-pub record Selects (metrics : Metrics) (table known : List Definition) (f : ℤ) (old new : List ReadFont) : Type 0 where
+pub record Selects (metrics : Metrics) (table known : List Definition) (f : ℤ) (old new : ReadFonts) : Type 0 where
   pub before : IsSome (defined f known)
   pub widths : HasWidths metrics table f
   pub read : IsSome (read_of f new)
-  pub sound : AllByRecursion (IsSound metrics table) new
+  pub sound : AreSound metrics table new
   pub kept : (g : ℤ) → IsSome (read_of g old) → IsSome (read_of g new)
 
 -- A selected font is not defined before, or not in the postamble.
@@ -54,28 +52,28 @@ abbrev pub stand_of : Walk → Pass
 stand_of walk = pass_at (map page_of walk.done.items) walk.stand
 
 abbrev pub known_of : Walk → List Definition
-known_of walk = map definition walk.known.items
+known_of walk = walk.known
 
--- The places of the pages that are still to come.
-abbrev pub places_left : Walk → List ℕ
-places_left walk = reverse walk.left.items
+-- What is left of the chain of pages.
+abbrev pub places_left : Walk → Left
+places_left walk = record { missed = walk.missed; places = reverse walk.left.items }
 
--- What an instruction says of pages and fonts is right, and was kept: a bop is the next page, a definition is behind the others, a selected font was read.
+-- What an instruction says of pages and fonts is right, and was kept: a bop is among what is left of the chain, a definition is behind the others, a selected font was read.
 pub record Notes (metrics : Metrics) (table : List Definition) (at : ℕ) (i : Instruction) (old new : Walk) : Type 0 where
-  pub bop : place_of at i ++ places_left new ≡ places_left old
+  pub bop : behind_bops (place_of at i) (places_left old) ≡ Some (places_left new)
   pub right : IsRightAfter (known_of old) i
   pub known_is : known_of new ≡ known_of old ++ definition_of i
   pub widths : AllByRecursion (HasWidths metrics table) (selection_of i)
-  pub read : (f : ℤ) → i ≡ Do (FontNum f) → IsSome (read_of f new.fonts.items)
-  pub kept : (g : ℤ) → IsSome (read_of g old.fonts.items) → IsSome (read_of g new.fonts.items)
-  pub sound : AllByRecursion (IsSound metrics table) new.fonts.items
+  pub read : (f : ℤ) → i ≡ Do (FontNum f) → IsSome (read_of f new.fonts)
+  pub kept : (g : ℤ) → IsSome (read_of g old.fonts) → IsSome (read_of g new.fonts)
+  pub sound : AreSound metrics table new.fonts
   pub pages : map page_of new.done.items ≡ map page_of old.done.items
   pub stand : new.stand ≡ old.stand
 
--- What an instruction says of pages or fonts is not right: a bop is not the next page; a definition has no size or differs; a selected font is not defined
+-- What an instruction says of pages or fonts is not right: a bop is not among what is left of the chain; a definition has no size or differs; a selected font is not defined
 -- before, or not in the postamble.
-abbrev pub BreaksRest : (table known : List Definition) → (at : ℕ) → (left : List ℕ) → Instruction → DviCause → Type 0
-BreaksRest table known at left i Pointer = (later : List ℕ) → place_of at i ++ later ≡ left → ⊥
+abbrev pub BreaksRest : (table known : List Definition) → (at : ℕ) → (left : Left) → Instruction → DviCause → Type 0
+BreaksRest table known at left i Pointer = behind_bops (place_of at i) left ≡ None
 BreaksRest table known at left i Font = (IsRightAfter known i → ⊥) ⊎ (f : ℤ) × (i ≡ Do (FontNum f)) × (defined f table ≡ None)
 BreaksRest table known at left i cause = ⊥
 
@@ -87,13 +85,13 @@ BreaksNote files table at i walk (Refused refusal) = (f : ℤ) × (i ≡ Do (Fon
 
 -- The width of the character that an instruction sets or puts, in the font that is selected.
 abbrev pub asked_of : Walk → Instruction → Option ℤ
-asked_of walk i = asked_width walk.fonts.items (selected_in walk.stand) (code_in i)
+asked_of walk i = asked_width walk.fonts (selected_in walk.stand) (code_in i)
 
 -- The pass goes on, and all else stays.
 pub record PassesOn (most : ℕ) (i : Instruction) (old new : Walk) : Type 0 where
   pub goes_on : turn (kept (acts (always (asked_of old i)))) most i (stand_of old) ≡ Some (stand_of new)
   pub known : known_of new ≡ known_of old
-  pub fonts : new.fonts.items ≡ old.fonts.items
+  pub fonts : new.fonts ≡ old.fonts
   pub left : places_left new ≡ places_left old
 
 -- It does not go on.
@@ -105,12 +103,12 @@ BreaksPass most i walk (Refused refusal) = ⊥
 -- One instruction more: the pass goes on, and what it says is right and was kept.
 pub record Steps (metrics : Metrics) (table : List Definition) (most at : ℕ) (i : Instruction) (old new : Walk) : Type 0 where
   pub goes_on : turn (kept (acts (widths_of metrics table))) most i (stand_of old) ≡ Some (stand_of new)
-  pub bop : place_of at i ++ places_left new ≡ places_left old
+  pub bop : behind_bops (place_of at i) (places_left old) ≡ Some (places_left new)
   pub right : IsRightAfter (known_of old) i
   pub known_is : known_of new ≡ known_of old ++ definition_of i
   pub widths : AllByRecursion (HasWidths metrics table) (selection_of i)
-  pub sound : AllByRecursion (IsSound metrics table) new.fonts.items
-  pub current : IsCurrent new.fonts.items new.stand
+  pub sound : AreSound metrics table new.fonts
+  pub current : IsCurrent new.fonts new.stand
 
 -- A rule that an instruction breaks: of the pass, of the pages or of the fonts.
 abbrev pub BreaksRule : (metrics : Metrics) → (table : List Definition) → (most at : ℕ) → Instruction → Walk → DviCause → Type 0

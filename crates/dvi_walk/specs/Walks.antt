@@ -1,6 +1,6 @@
 -- The walk over the pages of a file (own): what was read of it, and why it stops.
-use Rattle.std.specs.Prelude.{◌≡◌, ◌≢◌, ◌≤◌, ◌<◌, ◌-◌, ◌⊎◌, min, [], List, drop, slice_index, take, ℕ, ℤ}
-use Rattle.std.specs.List.{AllByRecursion}
+use Rattle.std.specs.Prelude.{◌≡◌, ◌≢◌, ◌≤◌, ◌<◌, ◌-◌, ◌⊎◌, min, [], false, true, List, drop, slice_index, take, ℕ, ℤ}
+use Rattle.std.specs.BTreeMap.{IsEmpty}
 use Rattle.dvi_closing.specs.Known.{HasSame}
 use Rattle.dvi_fonts.specs.declared.widths.FontRefusal.{FontRefusal}
 use Rattle.dvi_fonts.specs.declared.widths.FontRefusal.TheVariants as refusals
@@ -13,7 +13,7 @@ use Rattle.dvi_ops.specs.Instruction.{Definition, FontNum, Instruction, Do, Post
 use Rattle.dvi_ops.specs.Table.{Spells}
 use Rattle.dvi_pass.specs.Reached.{IsReached}
 use Rattle.dvi_pass.specs.declared.turning.Stand.TheVariants as stands
-use Rattle.dvi_walk.specs.ReadFonts.{IsCurrent, IsSound}
+use Rattle.dvi_walk.specs.ReadFonts.{AreSound, IsCurrent}
 use Rattle.dvi_walk.specs.Steps.{BreaksRule, IsUnread, Steps, known_of, places_left, stand_of}
 use Rattle.dvi_walk.specs.declared.fault.DviFault.{DviFault}
 use Rattle.dvi_walk.specs.declared.fault.DviFault.TheVariants as faults
@@ -68,8 +68,8 @@ pub record IsWalked (metrics : Metrics) (table : List Definition) (bytes : List 
   pub known : List Definition
   pub same : HasSame (known_of walk) known
   pub reached : IsReached metrics table bytes stop chain at (stand_of walk) known (places_left walk)
-  pub sound : AllByRecursion (IsSound metrics table) walk.fonts.items
-  pub current : IsCurrent walk.fonts.items walk.stand
+  pub sound : AreSound metrics table walk.fonts
+  pub current : IsCurrent walk.fonts walk.stand
 
 -- Why a walk stops: at the fault's place, up to which all is right.
 pub record StopsAt (files : List NamedBytes) (table : List Definition) (bytes : List ℕ) (stop : Postamble) (chain : List ℕ) (at post : ℕ) (walk : Walk) (fault : DviFault) : Type 0 where
@@ -84,17 +84,19 @@ IsWalkFault files table bytes stop chain post fault = (at : ℕ) × (walk : Walk
 pub record IsBegun (left : List ℕ) (walk : Walk) : Type 0 where
   pub stand : walk.stand ≡ stands.Between
   pub done : walk.done.items ≡ []
-  pub known : walk.known.items ≡ []
-  pub fonts : walk.fonts.items ≡ []
+  pub known : walk.known ≡ []
+  pub fonts : IsEmpty walk.fonts
   pub left_is : walk.left.items ≡ left
+  pub missed : walk.missed ≡ false
 
--- At post's place no page is open, and none is still to come.
+-- At post's place no page is open, none of the chain is still to come, and none was missed.
 pub record HasEnded (walk : Walk) : Type 0 where
   pub between : walk.stand ≡ stands.Between
   pub none : walk.left.items ≡ []
+  pub met : walk.missed ≡ false
 
--- A page is open there, and the fault says Opcode; or none is open, some page is still to come, and it says Pointer.
+-- A page is open there, and the fault says Opcode; or none is open, some place of the chain was no bop, and it says Pointer.
 abbrev pub IsUnended : Walk → (post : ℕ) → BadDvi → Type 0
 IsUnended walk post fault =
     (fault.place ≡ post)
-    × ((fault.cause ≡ Opcode) × (walk.stand ≡ stands.Between → ⊥) ⊎ (fault.cause ≡ Pointer) × (walk.stand ≡ stands.Between) × (walk.left.items ≢ []))
+    × ((fault.cause ≡ Opcode) × (walk.stand ≡ stands.Between → ⊥) ⊎ (fault.cause ≡ Pointer) × (walk.stand ≡ stands.Between) × ((walk.missed ≡ true) ⊎ (walk.left.items ≢ [])))

@@ -1,14 +1,19 @@
-//! What a walk over the pages has to do with a file, as the contract of a function that does nothing.
+//! What a walk over the pages has to do with a file, as the contracts of functions that do nothing.
 
-ghost use Rattle.std.specs.Prelude.{◌≡◌, ◌≢◌, ◌≤◌, List, length, ℕ};
+ghost use Rattle.std.specs.Prelude.{◌≡◌, ◌≢◌, ◌≤◌, List, length, reverse, ℕ, ℤ};
+ghost use Rattle.dvi_frame.specs.Chain.{Links};
+ghost use Rattle.dvi_frame.specs.declared.fault.BadDvi.{BadDvi};
+ghost use Rattle.dvi_frame.specs.declared.fault.DviCause.TheVariants.{Pointer};
 ghost use Rattle.dvi_ops.specs.File.{MarkedPage};
-ghost use Rattle.dvi_ops.specs.Fonts.{definitions};
+ghost use Rattle.dvi_ops.specs.Fonts.{Metrics, definitions};
 ghost use Rattle.dvi_ops.specs.Instruction.{Definition, Postamble};
-ghost use Rattle.dvi_ops.specs.Tokens.{says};
+ghost use Rattle.dvi_ops.specs.Tokens.{places, says};
 ghost use Rattle.dvi_pass.specs.Passed.{IsPassed};
-ghost use Rattle.dvi_walk.specs.Walks.{IsWalkFault};
+ghost use Rattle.dvi_pass.specs.Reached.{IsIn};
+ghost use Rattle.dvi_walk.specs.Walks.{IsUnended, IsWalkFault, IsWalked};
 ghost use Rattle.dvi_walk.specs.declared.fault.DviFault.{DviFault};
-ghost use Rattle.dvi_walk.specs.declared.fault.DviFault.TheVariants.{OutOfMemory};
+ghost use Rattle.dvi_walk.specs.declared.fault.DviFault.TheVariants.{Bad, OutOfMemory};
+ghost use Rattle.dvi_walk.specs.declared.walk.Walk.{Walk};
 ghost use Rattle.tfm_core.specs.FileWidths.{file_widths};
 ghost use Rattle.tfm_core.specs.NamedBytes.{NamedBytes};
 
@@ -17,4 +22,13 @@ pub fn no_walk_stops_in_a_file()
     ensures { (files : List NamedBytes) (table : List Definition) (bytes : List ℕ) (post behind last : ℕ) (stop : Postamble) (chain : List ℕ) (pages : List MarkedPage) (fault : DviFault)
         → post ≤ length bytes → fault ≢ OutOfMemory → IsWalkFault files table bytes stop chain post fault
         → (f : IsPassed (file_widths files) bytes post behind last stop chain pages) → table ≡ definitions (says f.tail) → ⊥ }
+{}
+
+/// Where a walk stops at a pointer, a bop stands there that is not in the chain; where it says so at post's place, the bops are not the places of the chain.
+pub fn pointers_are_wrong()
+    ensures stray { (files : List NamedBytes) (table : List Definition) (bytes : List ℕ) (stop : Postamble) (chain : List ℕ) (post bound : ℕ) (pointer : ℤ) (bad : BadDvi)
+        → post ≤ length bytes → Links bytes bound pointer chain → bad.cause ≡ Pointer → IsWalkFault files table bytes stop chain post (Bad bad)
+        → IsIn bad.place (reverse chain) → ⊥ }
+    ensures unmet { (metrics : Metrics) (table : List Definition) (bytes : List ℕ) (stop : Postamble) (chain : List ℕ) (post : ℕ) (walk : Walk) (bad : BadDvi)
+        (walked : IsWalked metrics table bytes stop chain post walk) → bad.cause ≡ Pointer → IsUnended walk post bad → places 0 walked.reached.before ≢ reverse chain }
 {}

@@ -12,7 +12,7 @@ mod walk;
 mod walking;
 
 pub use fault::{DviFault, StepFault};
-pub use read_fonts::{Code, ReadFont, width_asked, width_of};
+pub use read_fonts::{Code, ReadFonts, width_asked, width_of};
 pub use selecting::select;
 pub use stepping::step;
 pub use walk::Walk;

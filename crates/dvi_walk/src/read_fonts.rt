@@ -1,24 +1,19 @@
 //! The fonts that were read, and the widths of their characters (DVItype, 18; TFtoPL, 11).
 
-ghost use Rattle.std.specs.Prelude.{◌≡◌, option_copied, option_map};
-ghost use Rattle.std.specs.List.{AllByRecursion, find};
-ghost use Rattle.std.specs.Ordering.{int_eq};
+ghost use Rattle.std.specs.Prelude.{◌≡◌, option_map};
 ghost use Rattle.dvi_fonts.specs.Widths.{HasBytes};
 ghost use Rattle.dvi_ops.specs.View.{view};
-ghost use Rattle.dvi_walk.specs.ReadFonts.{HasByteCodes, asked_width, code_in, read_of, selected_in, width_in};
+ghost use Rattle.dvi_walk.specs.ReadFonts.{HaveByteCodes, asked_width, code_in, read_of, selected_in, width_in};
 ghost use Rattle.tfm_core.specs.FileWidths.{width_at};
 
 use dvi_fonts::Number;
 use dvi_ops::Op;
 use dvi_pass::Stand;
+use std::collections::BTreeMap;
 use tfm_core::Font;
 
-/// A font that was read, with the number by which it is selected.
-#[derive(Drop)]
-pub struct ReadFont {
-    pub number: i32,
-    pub font: Font,
-}
+/// The fonts that were read, by the numbers by which they are selected. One of them is found in time by the logarithm of how many there are.
+pub type ReadFonts = BTreeMap<i32, Font>;
 
 /// The number of a character.
 #[derive(Clone, Copy, Debug, PartialEq, Eq)]
@@ -34,13 +29,6 @@ pub fn width_of(font: &Font, code: Code) -> Option<i32>
     let code = u8::try_from(code.value).ok()?;
     let size = font.glyph(code)?;
     Some(size.width.get())
-}
-
-/// The first read font of a number.
-pub(crate) fn read_of(fonts: &[ReadFont], number: Number) -> Option<&ReadFont>
-    ensures { option_copied result ≡ find (λ read. int_eq read.number number.value) fonts.now }
-{
-    fonts.iter().find(|read| read.number == number.value)
 }
 
 /// The character that an instruction sets or puts, if it does.
@@ -67,18 +55,18 @@ fn selected_in(stand: &Stand) -> Option<Number>
     }
 }
 
-/// The width of a character in the first read font of a number, if both are there.
-fn width_in(fonts: &[ReadFont], number: Number, code: Code) -> Option<i32>
-    requires { AllByRecursion HasByteCodes fonts.now }
+/// The width of a character in the read font of a number, if both are there.
+fn width_in(fonts: &ReadFonts, number: Number, code: Code) -> Option<i32>
+    requires { HaveByteCodes fonts.now }
     ensures { result ≡ width_in (read_of number.value fonts.now) code.value }
 {
-    let read = read_of(fonts, number)?;
-    width_of(&read.font, code)
+    let font = fonts.get(&number.value)?;
+    width_of(font, code)
 }
 
 /// The width of the character that an instruction sets or puts, in the font that is selected where the pass stands. It takes no memory.
-pub fn width_asked(stand: &Stand, fonts: &[ReadFont], op: &Op<'_>) -> Option<i32>
-    requires { AllByRecursion HasByteCodes fonts.now }
+pub fn width_asked(stand: &Stand, fonts: &ReadFonts, op: &Op<'_>) -> Option<i32>
+    requires { HaveByteCodes fonts.now }
     ensures { result ≡ asked_width fonts.now (selected_in stand.now) (code_in (view op.now)) }
 {
     let number = selected_in(stand)?;

@@ -1,92 +1,91 @@
 //! The selection of a font (DVItype, 18).
 
-ghost use Rattle.std.specs.Prelude.{◌≡◌, ◌++◌, ◌∷◌, ◌⊎◌, [], false, map, true, IfErr, IfSome, IsSome, None, OnOk, Some};
+ghost use Rattle.std.specs.Prelude.{◌≡◌, ◌⊎◌, false, true, IfErr, IfSome, IsSome, None, OnOk, Some};
+ghost use Rattle.std.specs.BTreeMap.{Updates};
 ghost use Rattle.std.specs.List.{AllByRecursion};
+ghost use Rattle.std.specs.Ordering.{int_cmp};
 ghost use Rattle.dvi_fonts.specs.Widths.{IsFontRefusal};
 ghost use Rattle.dvi_ops.specs.Fonts.{IsSize, defined};
 ghost use Rattle.dvi_ops.specs.View.{definition};
-ghost use Rattle.dvi_walk.specs.ReadFonts.{IsReadFor, IsSound, read_of};
+ghost use Rattle.dvi_walk.specs.ReadFonts.{AreSound, IsReadFor, read_of};
 ghost use Rattle.dvi_walk.specs.Steps.{IsSelectFault, Selects};
 ghost use Rattle.tfm_core.specs.FileWidths.{file_widths};
+ghost use Rattle.tfm_core.specs.Fonts.{SizedFont};
 
 use crate::fault::StepFault;
-use crate::read_fonts::{ReadFont, read_of};
-use dvi_fonts::{FontRefusal, Number, definition_of, read_font};
+use crate::read_fonts::ReadFonts;
+use dvi_fonts::{FontRefusal, KnownFonts, Number, read_font};
 use dvi_frame::DviCause;
 use dvi_ops::FontDefinition;
 use std::alloc::Global;
 use tfm_core::FontFile;
 
 /// Whether a number is defined.
-fn is_defined(fonts: &[FontDefinition<'_>], number: Number) -> bool
-    ensures yes { result ≡ true → IsSome (defined number.value (map definition fonts.now)) }
-    ensures no { result ≡ false → defined number.value (map definition fonts.now) ≡ None }
+fn is_defined(fonts: &KnownFonts<'_>, number: Number) -> bool
+    ensures yes { result ≡ true → IsSome (defined number.value fonts.now) }
+    ensures no { result ≡ false → defined number.value fonts.now ≡ None }
 {
-    definition_of(fonts, number).is_some()
+    fonts.get(number).is_some()
 }
 
-/// Reads the font of a definition, and puts it behind the others.
+/// Reads the font of a definition, and puts it at a number.
 fn read_more(
     alloc: Global,
     files: &[FontFile],
     font: &FontDefinition<'_>,
     number: Number,
-    fonts: &mut Vec<ReadFont>,
+    fonts: &mut ReadFonts,
 ) -> Result<(), FontRefusal>
     requires { IsSize font.now.size }
-    ensures ok { OnOk result ((read : ReadFont) × (fonts.new.items ≡ fonts.old.items ++ read ∷ []) × IsReadFor files.now (definition font.now) number.value read) }
+    ensures ok { OnOk result ((read : SizedFont) × Updates int_cmp fonts.old fonts.new number.value (Some read) × IsReadFor files.now (definition font.now) read) }
     ensures bad { IfErr result (IsFontRefusal files.now (definition font.now)) }
 {
     let font = match read_font(alloc, files, font) {
         Ok(font) => font,
         Err(refusal) => return Err(refusal),
     };
-    let read = ReadFont {
-        number: number.value,
-        font,
-    };
-    if fonts.push(read).is_err() {
+    if fonts.insert(number.value, font).is_err() {
         return Err(FontRefusal::OutOfMemory);
     }
     Ok(())
 }
 
 /// Whether a font of a number was read.
-fn is_read(fonts: &[ReadFont], number: Number) -> bool
+fn is_read(fonts: &ReadFonts, number: Number) -> bool
     ensures yes { result ≡ true → IsSome (read_of number.value fonts.now) }
     ensures no { result ≡ false → read_of number.value fonts.now ≡ None }
 {
-    read_of(fonts, number).is_some()
+    fonts.contains_key(&number.value)
 }
 
 /// The definition of a number in the postamble, where the number is defined before, too.
 fn definition_in<'f, 'a>(
-    table: &'f [FontDefinition<'a>],
-    known: &[FontDefinition<'_>],
+    table: &'f KnownFonts<'a>,
+    known: &KnownFonts<'_>,
     number: Number,
 ) -> Option<&'f FontDefinition<'a>>
-    ensures some { IfSome result (λ font. IsSome (defined number.value (map definition known.now)) × (defined number.value (map definition table.now) ≡ Some (definition font.now))) }
-    ensures none { result ≡ None → (defined number.value (map definition known.now) ≡ None) ⊎ (defined number.value (map definition table.now) ≡ None) }
+    ensures some { IfSome result (λ font. IsSome (defined number.value known.now) × (defined number.value table.now ≡ Some (definition font.now))) }
+    ensures none { result ≡ None → (defined number.value known.now ≡ None) ⊎ (defined number.value table.now ≡ None) }
 {
     if !is_defined(known, number) {
         return None;
     }
-    definition_of(table, number)
+    table.get(number)
 }
 
 /// Selects the font of a number: it is defined before and in the postamble, and its metric file was handed in and is good. The font is read where it was not.
 pub fn select(
     alloc: Global,
     files: &[FontFile],
-    table: &[FontDefinition<'_>],
-    known: &[FontDefinition<'_>],
-    fonts: &mut Vec<ReadFont>,
+    table: &KnownFonts<'_>,
+    known: &KnownFonts<'_>,
+    fonts: &mut ReadFonts,
     number: Number,
 ) -> Result<(), StepFault>
-    requires sizes { AllByRecursion (λ d. IsSize d.size) (map definition table.now) }
-    requires sound { AllByRecursion (IsSound (file_widths files.now) (map definition table.now)) fonts.old.items }
-    ensures ok { OnOk result (Selects (file_widths files.now) (map definition table.now) (map definition known.now) number.value fonts.old.items fonts.new.items) }
-    ensures bad { IfErr result (IsSelectFault files.now (map definition table.now) (map definition known.now) number.value) }
+    requires sizes { AllByRecursion (λ d. IsSize d.size) table.now }
+    requires sound { AreSound (file_widths files.now) table.now fonts.old }
+    ensures ok { OnOk result (Selects (file_widths files.now) table.now known.now number.value fonts.old fonts.new) }
+    ensures bad { IfErr result (IsSelectFault files.now table.now known.now number.value) }
 {
     let Some(font) = definition_in(table, known, number) else {
         return Err(StepFault::Broken(DviCause::Font));

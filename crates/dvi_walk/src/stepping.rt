@@ -1,10 +1,11 @@
 //! One instruction of the pages, with the fonts of the file (DVItype, 15 and 18).
 
-ghost use Rattle.std.specs.Prelude.{◌≡◌, ◌++◌, ◌∷◌, false, List, map, reverse, true, ℕ, IfErr, OnOk};
+ghost use Rattle.std.specs.Prelude.{◌≡◌, ◌++◌, ◌∷◌, false, List, reverse, true, ℕ, IfErr, None, OnOk, Some};
 ghost use Rattle.std.specs.List.{AllByRecursion};
 ghost use Rattle.dvi_ops.specs.Fonts.{IsSize};
-ghost use Rattle.dvi_ops.specs.View.{definition, view};
-ghost use Rattle.dvi_walk.specs.ReadFonts.{HasByteCodes, IsCurrent, IsSound};
+ghost use Rattle.dvi_ops.specs.View.{view};
+ghost use Rattle.dvi_pass.specs.Reached.{behind_bop};
+ghost use Rattle.dvi_walk.specs.ReadFonts.{AreSound, HaveByteCodes, IsCurrent};
 ghost use Rattle.dvi_walk.specs.Steps.{BreaksNote, BreaksPass, BreaksStep, Notes, PassesOn, Steps};
 ghost use Rattle.tfm_core.specs.FileWidths.{file_widths};
 
@@ -13,42 +14,45 @@ use crate::read_fonts::width_asked;
 use crate::selecting::select;
 use crate::walk::Walk;
 use dvi_closing::define;
-use dvi_fonts::Number;
+use dvi_fonts::{KnownFonts, Number};
 use dvi_frame::DviCause;
-use dvi_ops::{FontDefinition, Op};
+use dvi_ops::Op;
 use dvi_pass::{PassFault, Stand, turn};
 use std::alloc::Global;
 use std::mem;
 use tfm_core::FontFile;
 
-/// Takes the next place of a page, if it is this one. The places that are still to come stand with the last one first.
-fn is_next(left: &mut Vec<usize>, at: usize) -> bool
-    ensures yes { result ≡ true → at ∷ reverse left.new.items ≡ reverse left.old.items }
-    ensures no { result ≡ false → (later : List ℕ) → at ∷ later ≡ reverse left.old.items → ⊥ }
+/// Takes the place of a bop, if it is among those that are still to come; those before it are missed. They stand with the last one first.
+fn is_named(left: &mut Vec<usize>, missed: &mut bool, at: usize) -> bool
+    ensures yes { result ≡ true → behind_bop at missed.old (reverse left.old.items) ≡ Some (record { missed = missed.new; places = reverse left.new.items }) }
+    ensures no { result ≡ false → behind_bop at missed.old (reverse left.old.items) ≡ None }
 {
-    match left.pop() {
-        Some(place) => place == at,
-        None => false,
+    while let Some(place) = left.pop() {
+        if place == at {
+            return true;
+        }
+        *missed = true;
     }
+    false
 }
 
-/// What an instruction of the pages says of pages and fonts: a bop is the next page, a definition is right, a selected font is there.
+/// What an instruction of the pages says of pages and fonts: a bop is named by the chain, a definition is right, a selected font is there.
 fn note<'a>(
     alloc: Global,
     files: &[FontFile],
-    table: &[FontDefinition<'_>],
+    table: &KnownFonts<'_>,
     walk: &mut Walk<'a>,
     at: usize,
     op: &Op<'a>,
 ) -> Result<(), StepFault>
-    requires sizes { AllByRecursion (λ d. IsSize d.size) (map definition table.now) }
-    requires sound { AllByRecursion (IsSound (file_widths files.now) (map definition table.now)) walk.old.fonts.items }
-    ensures ok { OnOk result (Notes (file_widths files.now) (map definition table.now) at (view op.now) walk.old walk.new) }
-    ensures bad { IfErr result (BreaksNote files.now (map definition table.now) at (view op.now) walk.old) }
+    requires sizes { AllByRecursion (λ d. IsSize d.size) table.now }
+    requires sound { AreSound (file_widths files.now) table.now walk.old.fonts }
+    ensures ok { OnOk result (Notes (file_widths files.now) table.now at (view op.now) walk.old walk.new) }
+    ensures bad { IfErr result (BreaksNote files.now table.now at (view op.now) walk.old) }
 {
     match *op {
         Op::Bop { .. } => {
-            if is_next(&mut walk.left, at) {
+            if is_named(&mut walk.left, &mut walk.missed, at) {
                 Ok(())
             } else {
                 Err(StepFault::Broken(DviCause::Pointer))
@@ -73,7 +77,7 @@ fn note<'a>(
 
 /// Takes an instruction where the pass stands.
 fn pass_on(alloc: Global, most: usize, op: &Op<'_>, walk: &mut Walk<'_>) -> Result<(), StepFault>
-    requires { AllByRecursion HasByteCodes walk.old.fonts.items }
+    requires { HaveByteCodes walk.old.fonts }
     ensures ok { OnOk result (PassesOn most (view op.now) walk.old walk.new) }
     ensures bad { IfErr result (BreaksPass most (view op.now) walk.old) }
 {
@@ -93,18 +97,18 @@ fn pass_on(alloc: Global, most: usize, op: &Op<'_>, walk: &mut Walk<'_>) -> Resu
 pub fn step<'a>(
     alloc: Global,
     files: &[FontFile],
-    table: &[FontDefinition<'_>],
+    table: &KnownFonts<'_>,
     most: usize,
     at: usize,
     op: &Op<'a>,
     walk: &mut Walk<'a>,
 ) -> Result<(), StepFault>
-    requires sizes { AllByRecursion (λ d. IsSize d.size) (map definition table.now) }
-    requires sound { AllByRecursion (IsSound (file_widths files.now) (map definition table.now)) walk.old.fonts.items }
-    requires current { IsCurrent walk.old.fonts.items walk.old.stand }
-    ensures ok { OnOk result (Steps (file_widths files.now) (map definition table.now) most at (view op.now) walk.old walk.new) }
+    requires sizes { AllByRecursion (λ d. IsSize d.size) table.now }
+    requires sound { AreSound (file_widths files.now) table.now walk.old.fonts }
+    requires current { IsCurrent walk.old.fonts walk.old.stand }
+    ensures ok { OnOk result (Steps (file_widths files.now) table.now most at (view op.now) walk.old walk.new) }
     // The rule that a fault names is broken.
-    ensures bad { IfErr result (BreaksStep files.now (map definition table.now) most at (view op.now) walk.old) }
+    ensures bad { IfErr result (BreaksStep files.now table.now most at (view op.now) walk.old) }
 {
     if let Err(fault) = pass_on(alloc, most, op, walk) {
         return Err(fault);

@@ -1,23 +1,24 @@
 //! The walk over the pages of a file, from the preamble to post (DVItype, 15 and 18).
 
-ghost use Rattle.std.specs.Prelude.{◌≡◌, ◌≤◌, ◌<◌, [], length, map, reverse, IfErr, IfOk, OnOk};
+ghost use Rattle.std.specs.Prelude.{◌≡◌, ◌≤◌, ◌<◌, [], length, IfErr, IfOk, OnOk};
 ghost use Rattle.std.specs.List.{AllByRecursion};
 ghost use Rattle.dvi_ops.specs.Fonts.{IsSize};
-ghost use Rattle.dvi_ops.specs.View.{definition, postamble};
+ghost use Rattle.dvi_ops.specs.View.{postamble};
 ghost use Rattle.dvi_pass.specs.Pass.{Between};
-ghost use Rattle.dvi_pass.specs.Reached.{IsReached};
-ghost use Rattle.dvi_walk.specs.ReadFonts.{IsCurrent, IsSound};
+ghost use Rattle.dvi_pass.specs.Reached.{IsReached, all_left};
+ghost use Rattle.dvi_walk.specs.ReadFonts.{AreSound, IsCurrent};
 ghost use Rattle.dvi_walk.specs.Walks.{HasEnded, IsBegun, IsPagesFault, IsUnended, IsWalkFault, IsWalked, Reads, fault_in};
 ghost use Rattle.tfm_core.specs.FileWidths.{file_widths};
 
 use crate::fault::{DviFault, StepFault};
 use crate::stepping::step;
 use crate::walk::Walk;
-use dvi_fonts::FontRefusal;
+use dvi_fonts::{FontRefusal, KnownFonts};
 use dvi_frame::{BadDvi, DviCause, Ending, read_at};
-use dvi_ops::{FontDefinition, OpFault};
+use dvi_ops::OpFault;
 use dvi_pass::Stand;
 use std::alloc::Global;
+use std::collections::BTreeMap;
 use tfm_core::FontFile;
 
 /// Why no instruction stands at a place.
@@ -51,7 +52,7 @@ fn read_step<'a>(
     alloc: Global,
     bytes: &'a [u8],
     files: &[FontFile],
-    table: &[FontDefinition<'_>],
+    table: &KnownFonts<'_>,
     most: usize,
     at: usize,
     post: usize,
@@ -59,11 +60,11 @@ fn read_step<'a>(
 ) -> Result<usize, DviFault>
     requires low { at < post }
     requires high { post ≤ length bytes.now }
-    requires sizes { AllByRecursion (λ d. IsSize d.size) (map definition table.now) }
-    requires sound { AllByRecursion (IsSound (file_widths files.now) (map definition table.now)) walk.old.fonts.items }
-    requires current { IsCurrent walk.old.fonts.items walk.old.stand }
-    ensures ok { IfOk result (Reads (file_widths files.now) (map definition table.now) bytes.now most at post walk.old walk.new) }
-    ensures bad { IfErr result (IsPagesFault files.now (map definition table.now) bytes.now most at post walk.old) }
+    requires sizes { AllByRecursion (λ d. IsSize d.size) table.now }
+    requires sound { AreSound (file_widths files.now) table.now walk.old.fonts }
+    requires current { IsCurrent walk.old.fonts walk.old.stand }
+    ensures ok { IfOk result (Reads (file_widths files.now) table.now bytes.now most at post walk.old walk.new) }
+    ensures bad { IfErr result (IsPagesFault files.now table.now bytes.now most at post walk.old) }
 {
     let (op, next) = match read_at(bytes, at, post) {
         Ok(found) => found,
@@ -82,9 +83,10 @@ fn begun<'a>(alloc: Global, left: Vec<usize>) -> Walk<'a>
     Walk {
         stand: Stand::Between,
         done: Vec::new(alloc),
-        known: Vec::new(alloc),
-        fonts: Vec::new(alloc),
+        known: KnownFonts::new(alloc),
+        fonts: BTreeMap::new(alloc),
         left,
+        missed: false,
     }
 }
 
@@ -94,19 +96,19 @@ pub fn walk_pages<'a>(
     alloc: Global,
     bytes: &'a [u8],
     files: &[FontFile],
-    table: &[FontDefinition<'_>],
+    table: &KnownFonts<'_>,
     ending: &Ending,
     from: usize,
     left: Vec<usize>,
 ) -> Result<Walk<'a>, DviFault>
     requires low { from ≤ ending.now.post }
     requires high { ending.now.post ≤ length bytes.now }
-    requires sizes { AllByRecursion (λ d. IsSize d.size) (map definition table.now) }
-    requires reached { IsReached (file_widths files.now) (map definition table.now) bytes.now (postamble ending.now.stop) left.items from (Between []) [] (reverse left.items) }
+    requires sizes { AllByRecursion (λ d. IsSize d.size) table.now }
+    requires reached { IsReached (file_widths files.now) table.now bytes.now (postamble ending.now.stop) left.items from (Between []) [] (all_left left.items) }
     // All up to post is right, and the walk holds what it gives.
-    ensures ok { IfOk result (IsWalked (file_widths files.now) (map definition table.now) bytes.now (postamble ending.now.stop) left.items ending.now.post) }
+    ensures ok { IfOk result (IsWalked (file_widths files.now) table.now bytes.now (postamble ending.now.stop) left.items ending.now.post) }
     // Up to the place of a fault all is right, and there the rule that it names is broken.
-    ensures bad { IfErr result (IsWalkFault files.now (map definition table.now) bytes.now (postamble ending.now.stop) left.items ending.now.post) }
+    ensures bad { IfErr result (IsWalkFault files.now table.now bytes.now (postamble ending.now.stop) left.items ending.now.post) }
 {
     let most = usize::from(ending.stop.stack_depth).min(1024);
     let mut walk = begun(alloc, left);
@@ -120,7 +122,7 @@ pub fn walk_pages<'a>(
     Ok(walk)
 }
 
-/// Whether no page is open at post's place, and none is still to come.
+/// Whether no page is open at post's place, and each place of the chain was a bop.
 pub fn pages_end(walk: &Walk<'_>, post: usize) -> Result<(), BadDvi>
     ensures ok { OnOk result (HasEnded walk.now) }
     ensures bad { IfErr result (IsUnended walk.now post) }
@@ -131,7 +133,7 @@ pub fn pages_end(walk: &Walk<'_>, post: usize) -> Result<(), BadDvi>
             cause: DviCause::Opcode,
         });
     }
-    if !walk.left.is_empty() {
+    if walk.missed || !walk.left.is_empty() {
         return Err(BadDvi {
             place: post,
             cause: DviCause::Pointer,

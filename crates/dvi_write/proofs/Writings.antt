@@ -10,6 +10,7 @@ use Rattle.ship_core.specs.Marks.{Page}
 use Rattle.dvi_layout.specs.declared.progress.WriteFault.{WriteFault}
 use Rattle.dvi_layout.specs.declared.progress.WriteFault.TheVariants.{Device}
 use Rattle.dvi_layout.specs.Fonts.{Slots}
+use Rattle.dvi_layout.specs.MoreFonts.{Extends}
 use Rattle.dvi_layout.specs.Layout.{front, whole}
 use Rattle.dvi_layout.specs.Shippable.{IsRightPage}
 use Rattle.dvi_layout.specs.SoFar.{SoFar, nothing_so_far, next_bytes, with_next, last_bytes}
@@ -17,6 +18,7 @@ use Rattle.dvi_layout.specs.Limits.{HasRoom}
 use Rattle.dvi_write.specs.Writing.{Writing, HasWritten}
 use Rattle.dvi_layout.proofs.Rooms.{small}
 use Rattle.dvi_layout.proofs.NextPages.{front-append, so_far-append, whole-is}
+use Rattle.dvi_layout.proofs.MoreFonts.{front_more, so_far_more, pages_more}
 
 grown-none : (told : Option (List ℕ)) → told ≡ grown told []
 grown-none None = refl
@@ -118,12 +120,6 @@ pub ended_count : (fonts : Slots) (before : Option (List ℕ)) (w : Writing) (pa
 ended_count fonts before w pages written = ap (λ (s : SoFar). s.pages) written.so_far
 
 -- What holds of a page behind the call of the device.
-pub sent_written : {A E : Type 0} (result : Result A E) (fonts : Slots) (old new : Writing) (page : Page) → IsRightPage fonts page → new.so_far ≡ with_next fonts old.so_far page
-    → OnOk result (new.told ≡ grown old.told (next_bytes fonts old.so_far page)) → OnOk result (new.over ≡ false)
-    → OnOk result ((before : Option (List ℕ)) (pages : List Page) → HasWritten fonts before old pages → HasWritten fonts before new (pages ++ page ∷ []))
-sent_written (Ok x) fonts old new page right kept told running = λ before pages written. written_more fonts before old new pages page written right kept told running
-sent_written (Err e) fonts old new page right kept told running = tt
-
 pub lost_page : {A : Type 0} (result : Result A WriteFault) (fonts : Slots) (old : Writing) (new : Option (List ℕ)) (page : Page)
     → OnErr result (GrowsByFront old.told new (next_bytes fonts old.so_far page)) → result ≡ Err Device
     → (before : Option (List ℕ)) (pages : List Page) → HasWritten fonts before old pages → GrowsByFront before new (front fonts (pages ++ page ∷ []))
@@ -136,3 +132,14 @@ none_ended fonts before w pages written none = sym (ap (λ pages. length (whole 
 
 pub written_small : (fonts : Slots) (before : Option (List ℕ)) (w : Writing) (pages : List Page) → HasWritten fonts before w pages → HasRoom w.so_far → length (front fonts pages) < 2 ^ 31
 written_small fonts before w pages written room = omega (arith, small w.so_far room, ap (λ (s : SoFar). s.size) written.so_far)
+
+-- What was written stays so with more fonts.
+pub written_with_more : (fonts more : Slots) (before : Option (List ℕ)) (w : Writing) (pages : List Page) → Extends fonts more → HasWritten fonts before w pages
+    → HasWritten more before w pages
+written_with_more fonts more before w pages extends written =
+    record {
+      told = written.told ∙ ap (grown before) (front_more fonts more extends pages written.right);
+      so_far = written.so_far ∙ so_far_more fonts more extends pages written.right;
+      right = pages_more fonts more extends pages written.right;
+      running = written.running;
+    }

@@ -1,3 +1,2 @@
-pub mod Draft
 pub mod Writing
 pub mod WritingCode

@@ -5,7 +5,7 @@ ghost use Rattle.std.specs.List.{AllByRecursion};
 ghost use Rattle.dvi_ops.specs.Spelling.{NumberFits};
 
 use device_core::{Device, write_all};
-use dvi_layout::{Fonts, Offsets, Progress, WriteFault};
+use dvi_layout::{Fonts, NextPage, Offsets, Progress, WriteFault};
 use node_core::BoxNode;
 use std::alloc::Global;
 use std::marker::Model;
@@ -49,6 +49,8 @@ impl<D: Device> DviWriter<D> {
     ghost use Rattle.dvi_layout.specs.Fonts.{Slots};
     ghost use Rattle.dvi_layout.specs.SoFar.{next_bytes, with_next};
     ghost use Rattle.dvi_layout.specs.Layout.{front, whole};
+    ghost use Rattle.dvi_layout.specs.Limits.{HasRoom};
+    ghost use Rattle.dvi_layout.specs.Closing.{IsClosedFor};
     ghost use Rattle.dvi_layout.specs.Shippable.{GivesFonts, IsFileOfPages, IsRightPage, IsShippable, page_with};
     ghost use Rattle.dvi_write.specs.Writing.{EndsWith, HasWritten, MayFail, Refuses, refusal_of};
 
@@ -63,6 +65,20 @@ impl<D: Device> DviWriter<D> {
             device,
             over: false,
         }
+    }
+
+    /// Whether the file is over.
+    pub fn is_over(&self) -> bool
+        ensures { result ≡ self.now.over }
+    {
+        self.over
+    }
+
+    /// How many pages were sent.
+    pub fn pages(&self) -> u32
+        ensures { result ≡ self.now.so_far.pages }
+    {
+        self.progress.pages()
     }
 
     /// The device.
@@ -97,23 +113,23 @@ impl<D: Device> DviWriter<D> {
         Ok(())
     }
 
-    /// The bytes of a page that goes out next. It is kept as one of the pages.
+    /// The page that goes out next.
     fn prepare(
-        &mut self,
+        &self,
         alloc: Global,
         box_node: &BoxNode,
         offsets: Offsets,
         counts: &[i32; 10],
         fonts: &Fonts,
-    ) -> Result<Vec<u8>, WriteFault>
+    ) -> Result<NextPage, WriteFault>
         requires { IsShippable fonts.now box_node.now }
-        ensures bytes { IfOk result (λ bytes. bytes.items ≡ next_bytes fonts.now self.old.so_far (page_with counts.now offsets box_node.now)) }
-        ensures kept { OnOk result (self.new ≡ record self.old { so_far = with_next fonts.now self.old.so_far (page_with counts.now offsets box_node.now) }) }
+        ensures bytes { IfOk result (λ next. next.bytes.items ≡ next_bytes fonts.now self.now.so_far (page_with counts.now offsets box_node.now)) }
+        ensures behind { IfOk result (λ next. next.behind ≡ with_next fonts.now self.now.so_far (page_with counts.now offsets box_node.now)) }
+        ensures room { IfOk result (λ next. HasRoom next.behind) }
         ensures right { OnOk result (IsRightPage fonts.now (page_with counts.now offsets box_node.now)) }
-        ensures may { OnOk result (refusal_of self.old (page_with counts.now offsets box_node.now) ≡ None) }
-        ensures running { OnOk result (self.old.over ≡ false) }
-        ensures refused { IfErr result (Refuses self.old (page_with counts.now offsets box_node.now)) }
-        ensures err { OnErr result (self.new ≡ self.old) }
+        ensures may { OnOk result (refusal_of self.now (page_with counts.now offsets box_node.now) ≡ None) }
+        ensures running { OnOk result (self.now.over ≡ false) }
+        ensures refused { IfErr result (Refuses self.now (page_with counts.now offsets box_node.now)) }
     {
         if self.over {
             return Err(WriteFault::JobOver);
@@ -124,15 +140,15 @@ impl<D: Device> DviWriter<D> {
         fonts.can_be_defined();
         match self
             .progress
-            .add_page(alloc, box_node, at, counts, fonts, nodes)
+            .next_page(alloc, box_node, at, counts, fonts, nodes)
         {
-            Ok(bytes) => Ok(bytes),
+            Ok(next) => Ok(next),
             Err(_) => Err(WriteFault::OutOfMemory),
         }
     }
 
     /// Sends the page of a box under these counts: the preamble before the first page, the definitions of the fonts that no page before it uses,
-    /// and the page. All memory is taken before the device is called.
+    /// and the page. All memory is taken before the device is called. A page counts once all of it was sent.
     ///
     /// Refused with JobOver, TooManyPages, TooMuchShipped, HugePage (the first of them that holds) or OutOfMemory, it has sent nothing and changed
     /// nothing. With Device, the device has failed and the file is over.
@@ -149,15 +165,20 @@ impl<D: Device> DviWriter<D> {
             → HasWritten fonts.now before self.new (pages ++ page_with counts.now offsets box_node.now ∷ [])) }
         ensures part { result ≡ Err WriteFault.Device → (before : Option (List ℕ)) (pages : List Page) → HasWritten fonts.now before self.old pages
             → GrowsByFront before self.new.told (front fonts.now (pages ++ page_with counts.now offsets box_node.now ∷ [])) }
+        ensures kept { OnOk result (self.new.so_far ≡ with_next fonts.now self.old.so_far (page_with counts.now offsets box_node.now)) }
+        ensures running { OnOk result (self.new.over ≡ false) }
         ensures may { OnOk result (refusal_of self.old (page_with counts.now offsets box_node.now) ≡ None) }
         ensures refused { IfErr result (EndsWith self.old (page_with counts.now offsets box_node.now)) }
         ensures same { IfErr result (λ fault. fault ≢ WriteFault.Device → self.new ≡ self.old) }
         ensures stands { OnOk result (self.new.failed ≡ self.old.failed) }
         ensures failed { result ≡ Err WriteFault.Device → self.new.failed ≡ self.old.failed + 1 }
         ensures over { result ≡ Err WriteFault.Device → self.new.over ≡ true }
+        ensures so_far { result ≡ Err WriteFault.Device → self.new.so_far ≡ self.old.so_far }
     {
-        let bytes = self.prepare(alloc, box_node, offsets, counts, fonts)?;
-        self.send(&bytes)
+        let next = self.prepare(alloc, box_node, offsets, counts, fonts)?;
+        self.send(&next.bytes)?;
+        self.progress = next.behind;
+        Ok(())
     }
 
     /// Ends the file: where there are pages, the postamble with the definitions of all their fonts goes out, and what stands behind it. All memory
@@ -171,8 +192,11 @@ impl<D: Device> DviWriter<D> {
             → GrowsByFront before self.new.told (whole fonts.now pages) }
         ensures file { OnOk result ((before : Option (List ℕ)) (pages : List Page) (metrics : Metrics) → HasWritten fonts.now before self.old pages
             → GivesFonts metrics fonts.now → IsFileOfPages metrics (whole fonts.now pages) pages) }
+        ensures closed { OnOk result ((before : Option (List ℕ)) (pages : List Page) → HasWritten fonts.now before self.old pages → pages ≢ []
+            → IsClosedFor fonts.now (whole fonts.now pages) pages) }
         ensures pages { IfOk result (λ file. (before : Option (List ℕ)) (pages : List Page) → HasWritten fonts.now before self.old pages → file.pages ≡ length pages) }
         ensures size { IfOk result (λ file. (before : Option (List ℕ)) (pages : List Page) → HasWritten fonts.now before self.old pages → file.bytes ≡ length (whole fonts.now pages)) }
+        ensures so_far { self.new.so_far ≡ self.old.so_far }
         ensures may { OnOk result (self.old.over ≡ false) }
         ensures refused { IfErr result (MayFail self.old) }
         ensures same { IfErr result (λ fault. fault ≢ WriteFault.Device → self.new ≡ self.old) }

@@ -1,10 +1,9 @@
-//! The writer of DVI files, which sends each page to a device as it comes, and the draft of a file whose pages are kept to the end. Jobs stand above it.
+//! The writer of DVI files, which sends each page to a device as it comes. Jobs stand above it.
 #![tactic(auto)]
 
 mod dvi_writer;
-pub mod writer;
+pub mod laws;
 
 pub use device_core::{Device, DeviceFault, Memory};
 pub use dvi_layout::{Fonts, LoadedFont, MOST_DEEP, MOST_PAGES, MOST_SHIPPED, Offsets, WriteFault};
 pub use dvi_writer::{DviWriter, WrittenFile};
-pub use writer::Writer;

@@ -13,7 +13,7 @@ use Rattle.node_core.specs.Items.{Leaf, glyph, font_kern, kern, glue, penalty, r
 use Rattle.dvi_ops.proofs.Appends.{all_append, all_weaker}
 use Rattle.dvi_layout.specs.declared.fonts.LoadedFont.{LoadedFont}
 use Rattle.command_core.specs.declared.command.Command.{Command}
-use Rattle.command_core.specs.declared.command.Command.TheVariants.{LoadFont, UseFont, Open, End, Text, Character, Rule, Kern, Glue, Penalty, Append, Unbox, LastBox, Split, Measure, Void, Set, Ship}
+use Rattle.command_core.specs.declared.command.Command.TheVariants.{LoadFont, UseFont, Open, Paragraph, End, Text, Character, Rule, Kern, Glue, Penalty, Append, Unbox, LastBox, Split, Measure, Void, Set, Count, Ship}
 use Rattle.command_core.specs.declared.command.Refusal.{Refusal}
 use Rattle.command_core.specs.Reply.{Reply}
 use Rattle.dvi_layout.specs.Fonts.{Slots, font_in}
@@ -24,7 +24,8 @@ use Rattle.state_core.proofs.KeptRest.{KeepsRest, end_keeps, append_keeps, unbox
 use Rattle.ship_core.specs.Marks.{Page}
 use Rattle.nest_core.specs.State.{State, font_for, held_in}
 use Rattle.nest_core.specs.Checks.{checks, first_of}
-use Rattle.nest_core.specs.Effects.{after, pages_of, new_pages}
+use Rattle.nest_core.specs.NextPages.{pages_of}
+use Rattle.nest_core.specs.Effects.{after, new_pages}
 use Rattle.nest_core.specs.Machine.{Machine, first_machine, state_by}
 use Rattle.nest_core.specs.Runs.{Steps, Replies, LacksMemory, LosesDevice, Run}
 use Rattle.job_core.specs.GlyphWidths.{HasFileWidth, IsMeasured, IsMeasuredPage}
@@ -60,6 +61,7 @@ read_after : (s : State) (command : Command) → AreRead s → AreRead (after s 
 read_after s (LoadFont load) all = read_with s.files s.fonts load.slot load.name load.size (font_for s load) refl all
 read_after s (UseFont slot) all = all
 read_after s (Open opening) all = all
+read_after s Paragraph all = all
 read_after s End all = still_read s (after s End) (end_keeps s) all
 read_after s (Text text) all = all
 read_after s (Character code) all = all
@@ -74,12 +76,13 @@ read_after s (Split splitting) all = all
 read_after s (Measure r) all = all
 read_after s (Void r) all = all
 read_after s (Set parameter) all = all
+read_after s (Count counting) all = all
 read_after s (Ship r) all = all
 
 abbrev IsSizedPage : Slots → Page → Type 0
 IsSizedPage fonts page = IsSoundBox fonts page.box_node
 
-sized_page : (s : State) (r : ℕ) (held : Option BoxNode) → held_in s.registers r ≡ held → HasSizedGlyphs s → AllByRecursion (IsSizedPage s.fonts) (pages_of held)
+sized_page : (s : State) (r : ℕ) (held : Option BoxNode) → held_in s.registers r ≡ held → HasSizedGlyphs s → AllByRecursion (IsSizedPage s.fonts) (pages_of s held)
 sized_page s r None is sized = tt
 sized_page s r (Some b) is sized = (sized_held s r b sized is, tt)
 
@@ -87,6 +90,7 @@ new_sized : (s : State) (command : Command) → HasSizedGlyphs s → AllByRecurs
 new_sized s (LoadFont load) sized = tt
 new_sized s (UseFont slot) sized = tt
 new_sized s (Open opening) sized = tt
+new_sized s Paragraph sized = tt
 new_sized s End sized = tt
 new_sized s (Text text) sized = tt
 new_sized s (Character code) sized = tt
@@ -101,6 +105,7 @@ new_sized s (Split splitting) sized = tt
 new_sized s (Measure r) sized = tt
 new_sized s (Void r) sized = tt
 new_sized s (Set parameter) sized = tt
+new_sized s (Count counting) sized = tt
 new_sized s (Ship r) sized = sized_page s r (held_in s.registers r) refl sized
 
 known_step : (m : Machine) (command : Command) (refused : Option Refusal) → first_of (checks m.state command) ≡ refused → IsKnown m

@@ -1,142 +1,75 @@
 -- How a job and the machine that it stands for move together.
-use Rattle.std.proofs.Common.{◌≡◌, ℕ, ◌+◌, ◌<◌, ◌^◌, Bool, true, false, List, [], ◌∷◌, ◌++◌, length, length-append, Option, Some, None, Err, refl, ap, ap₂, sym, ◌∙◌, subst, arith, lit≤}
-use Rattle.std.specs.Int.{int_max}
-use Rattle.std.specs.Prelude.{pos, max, nat_le, nat_lt, is_none, if◌then◌else◌, IfOk}
-use Rattle.std.specs.List.{AllByRecursion}
-use Rattle.std.proofs.lemmas.Bool.{leb-false, ltb-false}
+use Rattle.std.proofs.Common.{◌≡◌, ℕ, ◌+◌, ◌<◌, Bool, true, false, List, [], ◌∷◌, ◌++◌, length, length-append, Option, Some, None, Err, refl, ap, sym, ◌∙◌, subst, arith, append-nil}
+use Rattle.std.specs.Prelude.{◌≢◌, Ok, is_none, if◌then◌else◌, IfOk, IfErr, nat_le, nat_lt}
 use Rattle.node_core.specs.declared.tree.BoxNode.{BoxNode}
-use Rattle.node_core.specs.Nodes.{box_count}
-use Rattle.tfm_core.specs.FileWidths.{file_widths}
-use Rattle.dvi_ops.specs.Instruction.{Definition}
-use Rattle.dvi_ops.specs.Forest.{flat, nests}
-use Rattle.dvi_ops.specs.Layout.{bytes_of, define, sheet_from, table_widths}
-use Rattle.dvi_ops.proofs.Appends.{all_append, all_weaker}
 use Rattle.command_core.specs.declared.command.Command.{Command}
-use Rattle.command_core.specs.declared.command.Command.TheVariants.{LoadFont, UseFont, Open, End, Text, Character, Rule, Kern, Glue, Penalty, Append, Unbox, LastBox, Split, Measure, Void, Set, Ship}
+use Rattle.command_core.specs.declared.command.Command.TheVariants.{LoadFont, UseFont, Open, Paragraph, End, Text, Character, Rule, Kern, Glue, Penalty, Append, Unbox, LastBox, Split, Measure, Void, Set, Count, Ship}
 use Rattle.command_core.specs.declared.command.Refusal.{Refusal}
-use Rattle.command_core.specs.declared.command.Refusal.TheVariants.{OutOfMemory, JobOver, VoidBox, TooManyPages, TooMuchShipped, HugePage}
+use Rattle.command_core.specs.declared.command.Refusal.TheVariants.{OutOfMemory, Device, JobOver, VoidBox, TooManyPages, TooMuchShipped, HugePage}
 use Rattle.command_core.specs.Reply.{Reply}
-use Rattle.tfm_core.specs.NamedBytes.{NamedBytes}
-use Rattle.dvi_ops.specs.Spelling.{spelling, operand}
-use Rattle.ship_core.specs.Marks.{Page}
-use Rattle.ship_core.specs.Pages.{page_of, reach_down, reach_right}
-use Rattle.dvi_layout.specs.Sheets.{definitions_of, fresh_slots, sheet_of}
-use Rattle.dvi_write.specs.Draft.{Draft, with_page, with_pages, first_draft, draft_of}
 use Rattle.command_core.specs.declared.limits.TheConstants.{MOST_PAGES, MOST_SHIPPED}
-use Rattle.nest_core.specs.State.{State, held_in, count_in, first_state}
-use Rattle.nest_core.specs.Checks.{checks, own_checks, first_of, is_huge_in}
-use Rattle.nest_core.specs.Answers.{answer_of}
-use Rattle.nest_core.specs.Effects.{after, new_pages, pages_of}
-use Rattle.nest_core.specs.Machine.{Machine, reply_by, reply_to, state_by, state_after, step}
-use Rattle.ship_core.specs.Drawing.{body_of}
-use Rattle.nest_core.specs.Runs.{TakesMemory, early_checks, Steps, Replies, LacksMemory, Run}
-use Rattle.job_core.specs.Jobs.{draft_after, IsShipped, Seen, Holds, KeepsTo, RunsTo}
-use Rattle.job_core.specs.Room.{HasRoom}
+use Rattle.ship_core.specs.Marks.{Page}
 use Rattle.dvi_layout.specs.Fonts.{Slots}
-use Rattle.state_core.specs.Loaded.{AreLoaded, GivesNumbersFor}
-use Rattle.state_core.specs.Sized.{IsSizedHeld, HasSizedGlyphs}
-use Rattle.state_core.proofs.KeptRest.{end_keeps, append_keeps, unbox_keeps, job_kept}
-use Rattle.state_core.proofs.SizedGlyphs.{sized_first, sized_after, sized_held, stays_sized, stays_loaded}
-use Rattle.state_core.proofs.LoadedFonts.{loaded_first, loaded_after}
-use Rattle.dvi_layout.proofs.DefinedFonts.{Extends, HasSelected, fresh_same, definitions_same, fresh_parts, among_fresh, defined_once, few_defined, none_rising}
-use Rattle.job_core.proofs.PageFonts.{table_of, short_names, has_selected, have_widths}
-use Rattle.dvi_layout.proofs.PageBytes.{page_bytes}
-use Rattle.ship_core.proofs.DrawnPages.{nests_page}
+use Rattle.device_core.specs.Told.{grown}
+use Rattle.dvi_layout.specs.Layout.{front}
+use Rattle.dvi_write.specs.Writing.{Writing, HasWritten}
+use Rattle.dvi_write.proofs.Writings.{written_with_more}
+use Rattle.nest_core.specs.State.{State, held_in, count_in}
+use Rattle.nest_core.specs.Checks.{checks, own_checks, first_of}
+use Rattle.nest_core.specs.NextPages.{is_huge_in, pages_of}
+use Rattle.nest_core.specs.Answers.{answer_of}
+use Rattle.nest_core.specs.Effects.{after, new_pages}
+use Rattle.nest_core.specs.Machine.{Machine, reply_by, reply_to, state_by, state_after, step, stopped_machine}
+use Rattle.nest_core.specs.Runs.{IsShip, TakesMemory, early_checks, Steps, Replies, LacksMemory, LosesDevice, Run}
+use Rattle.job_core.specs.Jobs.{GoesOn, Seen, writing_of, untold, pages_after, Holds, KeepsTo, RunsTo}
+use Rattle.job_core.specs.Sound.{IsSound, seen_by}
+use Rattle.state_core.specs.Loaded.{GivesNumbersFor}
+use Rattle.state_core.specs.Keeping.{Keeping, state_of, unshipped}
+use Rattle.state_core.proofs.Refusals.{counted_fault}
+use Rattle.state_core.proofs.KeptRest.{job_kept}
+use Rattle.state_core.proofs.Numbers.{numbered, apart, reply_apart, state_apart, pages_stay}
+use Rattle.state_core.proofs.SizedGlyphs.{sized_after, stays_loaded}
+use Rattle.state_core.proofs.LoadedFonts.{loaded_after}
 
--- The draft of pages, and of more pages behind them.
-pub with_pages-append : (fonts : Slots) (draft : Draft) (pages more : List Page) → with_pages fonts draft (pages ++ more) ≡ with_pages fonts (with_pages fonts draft pages) more
-with_pages-append fonts draft [] more = refl
-with_pages-append fonts draft (page ∷ pages) more = with_pages-append fonts (with_page fonts draft page) pages more
+-- Where a ship is accepted, its register holds a box.
+second_fails : (a b : Bool) (p q : Refusal) (rest : List (Bool × Refusal)) → first_of ((a, p) ∷ (b, q) ∷ rest) ≡ None → b ≡ false
+second_fails true b p q rest none = cc
+second_fails false true p q rest none = cc
+second_fails false false p q rest none = refl
 
--- Where the first refusal of a list is none, no condition holds.
-all_fail :
-    (a b c d e : Bool) (p q r t u : Refusal)
-    → first_of ((a, p) ∷ (b, q) ∷ (c, r) ∷ (d, t) ∷ (e, u) ∷ []) ≡ None
-    → (b ≡ false) × ((c ≡ false) × ((d ≡ false) × (e ≡ false)))
-all_fail true b c d e p q r t u none = cc
-all_fail false true c d e p q r t u none = cc
-all_fail false false true d e p q r t u none = cc
-all_fail false false false true e p q r t u none = cc
-all_fail false false false false true p q r t u none = cc
-all_fail false false false false false p q r t u none = (refl, (refl, (refl, refl)))
-
--- What holds where a ship is accepted.
-pub record Admits (s : State) (r : ℕ) : Type 0 where
-  pub held : is_none (held_in s.registers r) ≡ false
-  pub pages : nat_le MOST_PAGES s.pages ≡ false
-  pub nodes : nat_lt MOST_SHIPPED (s.shipped + count_in (held_in s.registers r)) ≡ false
-  pub small : is_huge_in (held_in s.registers r) ≡ false
-
-pub admitted : (s : State) (r : ℕ) → first_of (checks s (Ship r)) ≡ None → Admits s r
-admitted s r none =
-    let all = all_fail s.over (is_none (held_in s.registers r)) (nat_le MOST_PAGES s.pages)
-    (nat_lt MOST_SHIPPED (s.shipped + count_in (held_in s.registers r))) (is_huge_in (held_in s.registers r))
-    JobOver VoidBox TooManyPages TooMuchShipped HugePage none in
-    record { held = all.0; pages = all.1.0; nodes = all.1.1.0; small = all.1.1.1 }
+box_is_held : (s : State) (r : ℕ) → first_of (checks s (Ship r)) ≡ None → is_none (held_in s.registers r) ≡ false
+box_is_held s r none =
+    second_fails s.over (is_none (held_in s.registers r)) JobOver VoidBox
+    ((nat_le MOST_PAGES s.pages, TooManyPages) ∷ (nat_lt MOST_SHIPPED (s.shipped + count_in (held_in s.registers r)), TooMuchShipped)
+    ∷ (is_huge_in s (held_in s.registers r), HugePage) ∷ [])
+    none
 
 -- A command counts the pages that it adds.
 after-pages : (s : State) (command : Command) → first_of (checks s command) ≡ None → (after s command).pages ≡ s.pages + length (new_pages s command)
+after-pages s (Ship r) none = cases (held_in s.registers r) (box_is_held s r none)
+  where
+    cases : (held : Option BoxNode) → is_none held ≡ false → s.pages + 1 ≡ s.pages + length (pages_of s held)
+    cases None isnt = cc
+    cases (Some b) isnt = refl
 after-pages s (LoadFont load) none = omega arith
 after-pages s (UseFont slot) none = omega arith
 after-pages s (Open opening) none = omega arith
-after-pages s End none = omega (arith, (end_keeps s).pages)
+after-pages s Paragraph none = omega arith
+after-pages s End none = omega (arith, pages_stay s End (λ ships. ships))
 after-pages s (Text text) none = omega arith
 after-pages s (Character code) none = omega arith
 after-pages s (Rule rule) none = omega arith
 after-pages s (Kern width) none = omega arith
 after-pages s (Glue glue) none = omega arith
 after-pages s (Penalty n) none = omega arith
-after-pages s (Append taken) none = omega (arith, (append_keeps s taken).pages)
-after-pages s (Unbox taken) none = omega (arith, (unbox_keeps s taken).pages)
+after-pages s (Append taken) none = omega (arith, pages_stay s (Append taken) (λ ships. ships))
+after-pages s (Unbox taken) none = omega (arith, pages_stay s (Unbox taken) (λ ships. ships))
 after-pages s (LastBox r) none = omega arith
 after-pages s (Split splitting) none = omega arith
 after-pages s (Measure r) none = omega arith
 after-pages s (Void r) none = omega arith
 after-pages s (Set parameter) none = omega arith
-after-pages s (Ship r) none = cases (held_in s.registers r) (admitted s r none).held
-  where
-    cases : (held : Option BoxNode) → is_none held ≡ false → s.pages + 1 ≡ s.pages + length (pages_of held)
-    cases None isnt = cc
-    cases (Some b) isnt = refl
-
--- More fonts leave the draft of pages as it is.
-sheet-same : (fonts more : Slots) (draft : Draft) (page : Page) → Extends fonts more → HasSelected fonts (flat (body_of page)) → with_page fonts draft page ≡ with_page more draft page
-unfolding with_page
-sheet-same fonts more draft page extends has =
-    let is = flat (body_of page) in
-    let slots = fresh_slots fonts draft.defined is in
-    let same = fresh_same fonts more draft.defined is extends has in
-    let defined : definitions_of fonts slots ≡ definitions_of more (fresh_slots more draft.defined is) =
-    definitions_same fonts more slots extends (λ s among. (fresh_parts fonts draft.defined is s (among_fresh fonts draft.defined is s among).0).0) ∙ ap (definitions_of more) same in
-    ap₂ (λ (ds : List Definition) (fresh : List ℕ). record {
-      bytes = draft.bytes ++ bytes_of (sheet_from draft.last (record { counts = page.counts; fresh = ds; body = body_of page }));
-      defined = draft.defined ++ fresh;
-      last = pos (length draft.bytes + length (bytes_of (define ds)));
-      tall = int_max draft.tall (reach_down page);
-      wide = int_max draft.wide (reach_right page);
-      deep = max draft.deep (nests (body_of page));
-    }) defined same
-
-page_selects : (files : List NamedBytes) (fonts : Slots) (page : Page) → AreLoaded files fonts → IsShipped fonts page → HasSelected fonts (flat (body_of page))
-page_selects files fonts page loaded (is, small, sound) = has_selected files fonts loaded page sound.glyphs
-
-pages-same : (files : List NamedBytes) (fonts more : Slots) (draft : Draft) (pages : List Page) → AreLoaded files fonts → Extends fonts more → AllByRecursion (IsShipped fonts) pages
-    → with_pages fonts draft pages ≡ with_pages more draft pages
-pages-same files fonts more draft [] loaded extends all = refl
-pages-same files fonts more draft (page ∷ pages) loaded extends (here, all) =
-    pages-same files fonts more (with_page fonts draft page) pages loaded extends all
-    ∙ ap (λ d. with_pages more d pages) (sheet-same fonts more draft page extends (page_selects files fonts page loaded here))
-
--- The pages of a machine are those of its draft, also after a step.
-drafted :
-    (s : State) (command : Command) (pages : List Page) (refused : Option Refusal) → first_of (checks s command) ≡ refused → AreLoaded s.files s.fonts
-    → AllByRecursion (IsShipped s.fonts) (pages ++ new_pages s command)
-    → state_by refused (draft_of s.fonts pages) (with_pages s.fonts (draft_of s.fonts pages) (new_pages s command))
-    ≡ draft_of (state_by refused s (after s command)).fonts (state_by refused pages (pages ++ new_pages s command))
-drafted s command pages None is loaded all =
-    sym (with_pages-append s.fonts first_draft pages (new_pages s command))
-    ∙ pages-same s.files s.fonts (after s command).fonts first_draft (pages ++ new_pages s command) loaded (stays_loaded s command is) all
-drafted s command pages (Some refusal) is loaded all = refl
+after-pages s (Count counting) none = omega arith
 
 -- After a step there are as many pages as the state counts.
 pub counted :
@@ -145,100 +78,44 @@ pub counted :
 counted s command pages None is count = omega (arith, after-pages s command is, length-append pages (new_pages s command))
 counted s command pages (Some refusal) is count = count
 
-shipped_in : (fonts : Slots) (held : Option BoxNode) → is_huge_in held ≡ false → IsSizedHeld fonts held → AllByRecursion (IsShipped fonts) (pages_of held)
-shipped_in fonts None small sized = tt
-shipped_in fonts (Some b) small sized = ((refl, small, sized), tt)
+-- What was written stays so with the fonts behind a command.
+with_fonts : (s : State) (command : Command) (refused : Option Refusal) → first_of (checks s command) ≡ refused → (before : Option (List ℕ)) (w : Writing) (pages : List Page)
+    → HasWritten s.fonts before w pages → HasWritten (state_by refused s (after s command)).fonts before w pages
+with_fonts s command (Some refusal) is before w pages written = written
+with_fonts s command None is before w pages written = written_with_more s.fonts (after s command).fonts before w pages (stays_loaded s command is) written
 
-sized_in : (s : State) (r : ℕ) (held : Option BoxNode) → HasSizedGlyphs s → held_in s.registers r ≡ held → IsSizedHeld s.fonts held
-sized_in s r None sized is = tt
-sized_in s r (Some b) sized is = sized_held s r b sized is
+-- What a device told before it took bytes.
+untold-grown : (told : Option (List ℕ)) (bytes : List ℕ) → untold (grown (untold told) bytes) ≡ untold told
+untold-grown None bytes = refl
+untold-grown (Some told) bytes = refl
 
--- The pages that a command adds are those that ships make.
-new_shipped : (s : State) (command : Command) → first_of (checks s command) ≡ None → HasSizedGlyphs s → AllByRecursion (IsShipped s.fonts) (new_pages s command)
-new_shipped s (LoadFont load) none sized = tt
-new_shipped s (UseFont slot) none sized = tt
-new_shipped s (Open opening) none sized = tt
-new_shipped s End none sized = tt
-new_shipped s (Text text) none sized = tt
-new_shipped s (Character code) none sized = tt
-new_shipped s (Rule rule) none sized = tt
-new_shipped s (Kern width) none sized = tt
-new_shipped s (Glue glue) none sized = tt
-new_shipped s (Penalty n) none sized = tt
-new_shipped s (Append taken) none sized = tt
-new_shipped s (Unbox taken) none sized = tt
-new_shipped s (LastBox r) none sized = tt
-new_shipped s (Split splitting) none sized = tt
-new_shipped s (Measure r) none sized = tt
-new_shipped s (Void r) none sized = tt
-new_shipped s (Set parameter) none sized = tt
-new_shipped s (Ship r) none sized =
-    shipped_in s.fonts (held_in s.registers r) (admitted s r none).small (sized_in s r (held_in s.registers r) sized refl)
-
--- A job that is over accepts no command.
-runs_where : (s : State) (command : Command) → first_of (checks s command) ≡ None → s.over ≡ false
-runs_where s command none = by_over s.over none
-  where
-    by_over : (over : Bool) → (if over then Some JobOver else first_of (own_checks s command)) ≡ None → over ≡ false
-    by_over true none = cc
-    by_over false none = refl
-
--- What a job knows of its fonts and of its glyphs, until it is over.
-pub record KnowsFonts (s : State) : Type 0 where
-  pub fonts : AreLoaded s.files s.fonts
-  pub glyphs : HasSizedGlyphs s
-
-stays_shipped : (s : State) (command : Command) (pages : List Page) → first_of (checks s command) ≡ None → AllByRecursion (IsShipped s.fonts) pages → AllByRecursion (IsShipped (after s command).fonts) pages
-stays_shipped s command pages none all =
-    all_weaker (IsShipped s.fonts) (IsShipped (after s command).fonts) pages (λ page of. (of.0, of.1, stays_sized s command none page.box_node of.2)) all
-
-all_shipped :
-    (s : State) (command : Command) (pages : List Page) (refused : Option Refusal) → first_of (checks s command) ≡ refused → (s.over ≡ false → KnowsFonts s)
-    → AllByRecursion (IsShipped s.fonts) pages → AllByRecursion (IsShipped (state_by refused s (after s command)).fonts) (state_by refused pages (pages ++ new_pages s command))
-all_shipped s command pages None is knows all =
-    stays_shipped s command (pages ++ new_pages s command) is
-    (all_append (IsShipped s.fonts) pages (new_pages s command) all (new_shipped s command is (knows (runs_where s command is)).glyphs))
-all_shipped s command pages (Some refusal) is knows all = all
-
--- The draft of a machine's pages behind a command.
-goes_on :
-    (s : State) (command : Command) (pages : List Page) (refused : Option Refusal) → first_of (checks s command) ≡ refused → s.over ≡ false → KnowsFonts s
-    → AllByRecursion (IsShipped s.fonts) pages
-    → state_by refused (draft_of s.fonts pages) (with_pages s.fonts (draft_of s.fonts pages) (new_pages s command))
-    ≡ draft_of (state_by refused s (after s command)).fonts (state_by refused pages (pages ++ new_pages s command))
-goes_on s command pages None is running knows all =
-    drafted s command pages None is knows.fonts (all_append (IsShipped s.fonts) pages (new_pages s command) all (new_shipped s command is knows.glyphs))
-goes_on s command pages (Some refusal) is running knows all = refl
+-- What was written tells what was told before.
+told_before : (fonts : Slots) (told : Option (List ℕ)) (w : Writing) (pages : List Page) → HasWritten fonts (untold told) w pages → HasWritten fonts (untold w.told) w pages
+told_before fonts told w pages written =
+    subst (λ before. HasWritten fonts before w pages) (sym (ap untold written.told ∙ untold-grown told (front fonts pages))) written
 
 -- A job that replies as the table says keeps to the machine.
 pub replied :
     (old new : Seen) (command : Command) (reply : Reply)
     → reply ≡ reply_to old.state command
     → new.state ≡ state_after old.state command
-    → (old.state.over ≡ false → new.draft ≡ draft_after old.state old.draft command)
-    → new.told ≡ old.told
+    → (old.state.over ≡ false → GoesOn old.state command (writing_of old) (writing_of new))
     → new.failed ≡ old.failed
-    → (old.state.over ≡ false → KnowsFonts old.state)
     → KeepsTo old command reply new
-replied old new command reply says goes drafts tells fails knows m holds = (
-  step m command,
-  Replies (says ∙ ap (λ s. reply_to s command) holds.state) refl fails,
-  record {
-    state = goes ∙ ap (λ s. state_after s command) holds.state;
-    count = counted m.state command m.pages (first_of (checks m.state command)) refl holds.count;
-    pages = all_shipped m.state command m.pages (first_of (checks m.state command)) refl (known old m holds knows) holds.pages;
-    draft = λ running.
-        let ran : m.state.over ≡ false = sym (job_kept m.state command).over ∙ running in
-        drafts (ap (λ (s : State). s.over) holds.state ∙ ran)
-        ∙ (ap (λ s. draft_after s old.draft command) holds.state
-        ∙ (ap (λ d. draft_after m.state d command) (holds.draft ran)
-        ∙ goes_on m.state command m.pages (first_of (checks m.state command)) refl ran (known old m holds knows ran) holds.pages));
-    told = λ running. let ran : m.state.over ≡ false = sym (job_kept m.state command).over ∙ running in rw tells (holds.told ran);
-  },
-)
-  where
-    known : (old : Seen) (m : Machine) → Holds old m → (old.state.over ≡ false → KnowsFonts old.state) → m.state.over ≡ false → KnowsFonts m.state
-    known old m holds knows = subst (λ (s : State). s.over ≡ false → KnowsFonts s) holds.state knows
+replied old new command reply says goes writes fails m holds =
+    let on = subst (λ (s : State). s.over ≡ false → GoesOn s command (writing_of old) (writing_of new)) holds.state writes in (
+      step m command,
+      Replies (says ∙ ap (λ s. reply_to s command) holds.state) refl fails,
+      record {
+        state = goes ∙ ap (λ s. state_after s command) holds.state;
+        count = counted m.state command m.pages (first_of (checks m.state command)) refl holds.count;
+        written = λ running.
+            let ran : m.state.over ≡ false = sym (job_kept m.state command).over ∙ running in
+            told_before (state_after m.state command).fonts old.told (writing_of new) (pages_after m.state m.pages command)
+            (with_fonts m.state command (first_of (checks m.state command)) refl (untold old.told) (writing_of new) (pages_after m.state m.pages command)
+            (on ran (untold old.told) m.pages (holds.written ran)));
+      },
+    )
 
 -- A job that wants memory for a command that is accepted keeps to the machine.
 pub lacking :
@@ -250,131 +127,122 @@ pub lacking :
 lacking old command reply says takes accepted m holds =
     (m, LacksMemory says (subst (λ (s : State). TakesMemory s command) holds.state takes) (sym (ap (λ s. first_of (early_checks s command)) holds.state) ∙ accepted) refl refl, holds)
 
--- What a job knows of its fonts behind a command.
-knows_after : (s : State) (command : Command) → first_of (checks s command) ≡ None → GivesNumbersFor s command → AreLoaded s.files s.fonts → HasSizedGlyphs s
-    → AreLoaded (after s command).files (after s command).fonts × HasSizedGlyphs (after s command)
-knows_after s command none numbers loaded sized = (loaded_after s command none numbers loaded, sized_after s command none sized)
+pub true_or_false : {b : Bool} → b ≡ true → b ≡ false → ⊥
+true_or_false t f = cc
 
--- A command that is no ship changes no number of the room, and adds no page.
-steady_room : (s : State) (draft : Draft) (command : Command) (refused : Option Refusal) → first_of (checks s command) ≡ refused
-    → (refused ≡ None → GivesNumbersFor s command)
-    → (after s command).shipped ≡ s.shipped → (after s command).pages ≡ s.pages → new_pages s command ≡ []
-    → HasRoom s draft → HasRoom (state_by refused s (after s command)) (state_by refused draft (with_pages s.fonts draft (new_pages s command)))
-steady_room s draft command (Some refusal) is numbers nodes pages none room = room
-steady_room s draft command None is numbers nodes pages none room =
-    let knows = knows_after s command is (numbers refl) room.fonts room.glyphs in
-    rw none (record {
-      nodes = omega (arith, nodes, room.nodes);
-      pages = omega (arith, pages, room.pages);
-      fonts = knows.0;
-      glyphs = knows.1;
-      deep = room.deep;
-      defined = room.defined;
-      bytes = omega (arith, nodes, pages, room.bytes);
-    })
+-- No reply of the machine says that the device failed.
+pub never_device : (s : State) (command : Command) (reply : Reply) → reply ≡ reply_to s command → reply ≡ Err Device → ⊥
+never_device s command reply says is =
+    let m : Machine = record { state = s; pages = [] } in
+    let less : 0 < 0 = counted_fault m (step m command) 0 0 command (Replies (sym is ∙ says) refl refl) in
+    omega (arith, less)
 
-shipped_room : (s : State) (draft : Draft) (r : ℕ) (held : Option BoxNode) → first_of (checks s (Ship r)) ≡ None → held_in s.registers r ≡ held → Admits s r → HasRoom s draft
-    → HasRoom (after s (Ship r)) (with_pages s.fonts draft (pages_of held))
-unfolding with_page
-shipped_room s draft r None none is admits room = absurd (never (ap is_none is) admits.held)
-  where
-    never : {b : Bool} → b ≡ true → b ≡ false → ⊥
-    never t f = cc
-shipped_room s draft r (Some b) none is admits room =
-    let count : count_in (held_in s.registers r) ≡ box_count b = ap count_in is in
-    let nodes = ltb-false MOST_SHIPPED (s.shipped + count_in (held_in s.registers r)) admits.nodes in
-    let pages = leb-false MOST_PAGES s.pages admits.pages in
-    let knows = knows_after s (Ship r) none tt room.fonts room.glyphs in
-    let sound = sized_held s r b room.glyphs is in
-    let widths = have_widths s.files s.fonts room.fonts (file_widths s.files) (λ name size widths e. e) b.list sound.glyphs in
-    let fresh = fresh_slots s.fonts draft.defined (flat (body_of (page_of b))) in
+-- A device that was not called tells what it told.
+pub told_stays : (reply : Reply) (told : Option (List ℕ)) → IfErr reply (λ refusal. refusal ≢ Device → told ≡ told)
+told_stays (Ok answer) told = tt
+told_stays (Err refusal) told = λ other. refl
+
+-- A job that refuses a command as the machine does stays.
+pub refuses : (old : Seen) (command : Command) (refusal : Refusal) → first_of (checks old.state command) ≡ Some refusal → KeepsTo old command (Err refusal) old
+refuses old command refusal is =
+    let s = old.state in
+    replied old old command (Err refusal) (sym (ap (λ refused. reply_by refused (answer_of s command)) is))
+    (sym (ap (λ refused. state_by refused s (after s command)) is))
+    (λ running before pages written. subst (HasWritten s.fonts before (writing_of old)) (sym (ap (λ refused. state_by refused pages (pages ++ new_pages s command)) is)) written) refl
+
+-- So does a job that is over.
+pub over_replies : (old : Seen) (command : Command) → old.state.over ≡ true → KeepsTo old command (Err JobOver) old
+over_replies old command over = refuses old command JobOver (ap (λ over. if over then Some JobOver else first_of (own_checks old.state command)) over)
+
+-- A job that is stopped stands for the stopped machine.
+pub stops : (old new : Seen) (m : Machine) → Holds old m → new.state ≡ record (old.state) { over = true } → Holds new (stopped_machine m)
+stops old new m holds goes =
     record {
-      nodes = omega (arith, nodes);
-      pages = omega (arith, pages);
-      fonts = knows.0;
-      glyphs = knows.1;
-      deep = omega (arith, room.deep, nests_page (page_of b), sound.depth);
-      defined = defined_once s.fonts draft.defined (flat (body_of (page_of b))) room.defined;
-      bytes =
-          omega (
-            arith,
-            count,
-            room.bytes,
-            length-append draft.bytes (bytes_of (sheet_from draft.last (sheet_of s.fonts draft.defined (page_of b)))),
-            length-append draft.defined fresh,
-            page_bytes (table_widths (file_widths s.files) (table_of s.fonts)) s.fonts draft.defined b draft.last (short_names s.files s.fonts room.fonts) widths,
-          );
+      state = goes ∙ ap (λ (s : State). record s { over = true }) holds.state;
+      count = holds.count;
+      written = λ running. absurd (true_or_false refl running);
     }
 
+-- A job whose device fails in a ship that is accepted keeps to the machine.
+pub losing_page :
+    (old new : Seen) (r : ℕ)
+    → first_of (checks old.state (Ship r)) ≡ None
+    → new.state ≡ record (old.state) { over = true }
+    → old.failed < new.failed
+    → KeepsTo old (Ship r) (Err Device) new
+losing_page old new r accepted goes fails m holds =
+    (stopped_machine m, LosesDevice refl tt (sym (ap (λ s. first_of (checks s (Ship r))) holds.state) ∙ accepted) refl fails, stops old new m holds goes)
+
+-- What is written stays with a command that ships nothing.
+pub goes_on_without : (old new : Seen) (command : Command) → (IsShip command → ⊥) → new.state ≡ state_after old.state command → new.so_far ≡ old.so_far → new.told ≡ old.told
+    → new.failed ≡ old.failed → GoesOn old.state command (writing_of old) (writing_of new)
+goes_on_without old new command other goes keeps tells fails before pages written =
+    let same : pages ≡ pages_after old.state pages command = kept_pages (first_of (checks old.state command)) in
+    let over : old.state.over ≡ new.state.over = sym (ap (λ (s : State). s.over) goes ∙ (job_kept old.state command).over) in
+    subst (HasWritten old.state.fonts before (writing_of new)) same
+    (record {
+      told = tells ∙ written.told;
+      so_far = keeps ∙ written.so_far;
+      right = written.right;
+      running = sym over ∙ written.running;
+    })
+  where
+    kept_pages : (refused : Option Refusal) → pages ≡ state_by refused pages (pages ++ new_pages old.state command)
+    kept_pages None = sym (append-nil pages) ∙ ap (λ more. pages ++ more) (sym (apart old.state 0 0 command other).none)
+    kept_pages (Some refusal) = refl
+
 -- A command that is accepted asks for no font but one that can be defined in a file of pages.
-pub numbered : (s : State) (command : Command) (reply : Reply) → reply ≡ reply_to s command → IfOk reply (λ answer. GivesNumbersFor s command)
+with_numbers : (s : State) (command : Command) (reply : Reply) → reply ≡ reply_to s command → IfOk reply (λ answer. GivesNumbersFor s command)
     → first_of (checks s command) ≡ None → GivesNumbersFor s command
-numbered s command reply says numbers none =
+with_numbers s command reply says numbers none =
     subst (λ (r : Reply). IfOk r (λ answer. GivesNumbersFor s command)) (says ∙ ap (λ refused. reply_by refused (answer_of s command)) none) numbers
 
--- There is room behind each step.
-pub roomy : (s : State) (draft : Draft) (command : Command) → (first_of (checks s command) ≡ None → GivesNumbersFor s command) → HasRoom s draft
-    → HasRoom (state_after s command) (draft_after s draft command)
-roomy s draft (LoadFont load) numbers room = steady_room s draft (LoadFont load) (first_of (checks s (LoadFont load))) refl numbers refl refl refl room
-roomy s draft (UseFont slot) numbers room = steady_room s draft (UseFont slot) (first_of (checks s (UseFont slot))) refl numbers refl refl refl room
-roomy s draft (Open opening) numbers room = steady_room s draft (Open opening) (first_of (checks s (Open opening))) refl numbers refl refl refl room
-roomy s draft End numbers room = steady_room s draft End (first_of (checks s End)) refl numbers (end_keeps s).shipped (end_keeps s).pages refl room
-roomy s draft (Text text) numbers room = steady_room s draft (Text text) (first_of (checks s (Text text))) refl numbers refl refl refl room
-roomy s draft (Character code) numbers room = steady_room s draft (Character code) (first_of (checks s (Character code))) refl numbers refl refl refl room
-roomy s draft (Rule rule) numbers room = steady_room s draft (Rule rule) (first_of (checks s (Rule rule))) refl numbers refl refl refl room
-roomy s draft (Kern width) numbers room = steady_room s draft (Kern width) (first_of (checks s (Kern width))) refl numbers refl refl refl room
-roomy s draft (Glue glue) numbers room = steady_room s draft (Glue glue) (first_of (checks s (Glue glue))) refl numbers refl refl refl room
-roomy s draft (Penalty n) numbers room = steady_room s draft (Penalty n) (first_of (checks s (Penalty n))) refl numbers refl refl refl room
-roomy s draft (Append taken) numbers room = steady_room s draft (Append taken) (first_of (checks s (Append taken))) refl numbers (append_keeps s taken).shipped (append_keeps s taken).pages refl room
-roomy s draft (Unbox taken) numbers room = steady_room s draft (Unbox taken) (first_of (checks s (Unbox taken))) refl numbers (unbox_keeps s taken).shipped (unbox_keeps s taken).pages refl room
-roomy s draft (LastBox r) numbers room = steady_room s draft (LastBox r) (first_of (checks s (LastBox r))) refl numbers refl refl refl room
-roomy s draft (Split splitting) numbers room = steady_room s draft (Split splitting) (first_of (checks s (Split splitting))) refl numbers refl refl refl room
-roomy s draft (Measure r) numbers room = steady_room s draft (Measure r) (first_of (checks s (Measure r))) refl numbers refl refl refl room
-roomy s draft (Void r) numbers room = steady_room s draft (Void r) (first_of (checks s (Void r))) refl numbers refl refl refl room
-roomy s draft (Set parameter) numbers room = steady_room s draft (Set parameter) (first_of (checks s (Set parameter))) refl numbers refl refl refl room
-roomy s draft (Ship r) numbers room = cases (first_of (checks s (Ship r))) refl
-  where
-    cases : (refused : Option Refusal) → first_of (checks s (Ship r)) ≡ refused
-        → HasRoom (state_by refused s (after s (Ship r))) (state_by refused draft (with_pages s.fonts draft (new_pages s (Ship r))))
-    cases None is = shipped_room s draft r (held_in s.registers r) is refl (admitted s r is) room
-    cases (Some refusal) is = room
+-- Fonts and glyphs stay those of the font files.
+sound_by : (s : State) (command : Command) (refused : Option Refusal) → first_of (checks s command) ≡ refused → (refused ≡ None → GivesNumbersFor s command) → IsSound s
+    → IsSound (state_by refused s (after s command))
+sound_by s command (Some refusal) is numbers sound = sound
+sound_by s command None is numbers sound = record { fonts = loaded_after s command is (numbers refl) sound.fonts; glyphs = sized_after s command is sound.glyphs }
 
--- Every place in the draft is below 2^31.
-pub small_enough : (s : State) (draft : Draft) → HasRoom s draft → length draft.bytes < 2 ^ 31
-small_enough s draft room = omega (arith, room.nodes, room.pages, room.bytes, few_defined draft.defined room.defined)
+pub sound_after : (s : State) (command : Command) (reply : Reply) → reply ≡ reply_to s command → IfOk reply (λ answer. GivesNumbersFor s command) → IsSound s
+    → IsSound (state_after s command)
+sound_after s command reply says numbers sound = sound_by s command (first_of (checks s command)) refl (with_numbers s command reply says numbers) sound
 
--- A command that adds no page leaves the draft.
-steady_bytes : (s : State) (draft : Draft) (command : Command) (refused : Option Refusal) → new_pages s command ≡ [] → HasRoom s draft
-    → length (state_by refused draft (with_pages s.fonts draft (new_pages s command))).bytes < 2 ^ 31
-steady_bytes s draft command None none room = rw none (small_enough s draft room)
-steady_bytes s draft command (Some refusal) none room = small_enough s draft room
+-- What a command does that ships nothing is the same under the numbers of any writer whose file is not over.
+module _ (kept : Keeping) (w : Writing) (command : Command) (other : IsShip command → ⊥) (running : w.over ≡ false) where
+  abbrev s : State
+  s = state_of kept w.so_far.nodes w.so_far.pages false
 
--- Every place in the draft is below 2^31 after a command too, whether it loads a font or not.
-pub small_after : (s : State) (draft : Draft) (command : Command) → HasRoom s draft → length (draft_after s draft command).bytes < 2 ^ 31
-small_after s draft (Ship r) room = small_enough (state_after s (Ship r)) (draft_after s draft (Ship r)) (roomy s draft (Ship r) (λ none. tt) room)
-small_after s draft (LoadFont load) room = steady_bytes s draft (LoadFont load) (first_of (checks s (LoadFont load))) refl room
-small_after s draft (UseFont slot) room = steady_bytes s draft (UseFont slot) (first_of (checks s (UseFont slot))) refl room
-small_after s draft (Open opening) room = steady_bytes s draft (Open opening) (first_of (checks s (Open opening))) refl room
-small_after s draft End room = steady_bytes s draft End (first_of (checks s End)) refl room
-small_after s draft (Text text) room = steady_bytes s draft (Text text) (first_of (checks s (Text text))) refl room
-small_after s draft (Character code) room = steady_bytes s draft (Character code) (first_of (checks s (Character code))) refl room
-small_after s draft (Rule rule) room = steady_bytes s draft (Rule rule) (first_of (checks s (Rule rule))) refl room
-small_after s draft (Kern width) room = steady_bytes s draft (Kern width) (first_of (checks s (Kern width))) refl room
-small_after s draft (Glue glue) room = steady_bytes s draft (Glue glue) (first_of (checks s (Glue glue))) refl room
-small_after s draft (Penalty n) room = steady_bytes s draft (Penalty n) (first_of (checks s (Penalty n))) refl room
-small_after s draft (Append taken) room = steady_bytes s draft (Append taken) (first_of (checks s (Append taken))) refl room
-small_after s draft (Unbox taken) room = steady_bytes s draft (Unbox taken) (first_of (checks s (Unbox taken))) refl room
-small_after s draft (LastBox r) room = steady_bytes s draft (LastBox r) (first_of (checks s (LastBox r))) refl room
-small_after s draft (Split splitting) room = steady_bytes s draft (Split splitting) (first_of (checks s (Split splitting))) refl room
-small_after s draft (Measure r) room = steady_bytes s draft (Measure r) (first_of (checks s (Measure r))) refl room
-small_after s draft (Void r) room = steady_bytes s draft (Void r) (first_of (checks s (Void r))) refl room
-small_after s draft (Set parameter) room = steady_bytes s draft (Set parameter) (first_of (checks s (Set parameter))) refl room
+  runs : s ≡ (seen_by kept w).state
+  runs = ap (λ over. state_of kept w.so_far.nodes w.so_far.pages over) (sym running)
 
--- There is room in a new job.
-pub first_room : (files : List NamedBytes) → HasRoom (first_state files) first_draft
-unfolding spelling operand
-first_room files =
-    record { nodes = omega arith; pages = omega arith; fonts = loaded_first files; glyphs = sized_first files; deep = omega arith; defined = none_rising; bytes = lit≤ tt }
+  pub seen_reply : (reply : Reply) → reply ≡ reply_to (unshipped kept) command → reply ≡ reply_to (seen_by kept w).state command
+  seen_reply reply says =
+      says ∙ (sym (reply_apart (unshipped kept) w.so_far.nodes w.so_far.pages command other) ∙ ap (λ s. reply_to s command) runs)
+
+  pub seen_state : (now : Keeping) → unshipped now ≡ state_after (unshipped kept) command → (seen_by now w).state ≡ state_after (seen_by kept w).state command
+  seen_state now goes =
+      ap (λ over. state_of now w.so_far.nodes w.so_far.pages over) running
+      ∙ (ap (λ t. numbered t w.so_far.nodes w.so_far.pages) goes
+      ∙ (sym (state_apart (unshipped kept) w.so_far.nodes w.so_far.pages command other) ∙ ap (λ s. state_after s command) runs))
+
+  pub seen_early : first_of (early_checks (unshipped kept) command) ≡ None → first_of (early_checks (seen_by kept w).state command) ≡ None
+  seen_early none =
+      ap (λ s. first_of (early_checks s command)) (sym runs) ∙ ((apart (unshipped kept) w.so_far.nodes w.so_far.pages command other).early ∙ none)
+
+  pub seen_memory : TakesMemory (unshipped kept) command → TakesMemory (seen_by kept w).state command
+  seen_memory takes = subst (λ (s : State). TakesMemory s command) runs ((apart (unshipped kept) w.so_far.nodes w.so_far.pages command other).memory takes)
+
+  -- A job that replies so keeps to the machine.
+  pub obeyed : (now : Keeping) (reply : Reply) → reply ≡ reply_to (unshipped kept) command → unshipped now ≡ state_after (unshipped kept) command
+      → KeepsTo (seen_by kept w) command reply (seen_by now w)
+  obeyed now reply says goes =
+      let old = seen_by kept w in
+      let new = seen_by now w in
+      replied old new command reply (seen_reply reply says) (seen_state now goes) (λ runs. goes_on_without old new command other (seen_state now goes) refl refl refl) refl
+
+  -- So does one that wants memory.
+  pub wants : TakesMemory (unshipped kept) command → first_of (early_checks (unshipped kept) command) ≡ None → KeepsTo (seen_by kept w) command (Err OutOfMemory) (seen_by kept w)
+  wants takes none = lacking (seen_by kept w) command (Err OutOfMemory) refl (seen_memory takes) (seen_early none)
 
 -- A run of one command more.
 pub run_more :

@@ -9,8 +9,9 @@ use Rattle.tfm_core.specs.NamedBytes.{NamedBytes}
 use Rattle.nest_core.specs.Machine.{Machine, first_machine}
 use Rattle.nest_core.specs.Runs.{Run, Finishes}
 use Rattle.job_core.specs.Jobs.{Seen}
-use Rattle.job_core.specs.Closing.{IsClosedFor}
-use Rattle.job_core.specs.Shown.{GivesFiles, IsFileOf}
+use Rattle.dvi_layout.specs.Closing.{IsClosedFor}
+use Rattle.dvi_layout.specs.Shippable.{IsFileOfPages}
+use Rattle.job_core.specs.Shown.{GivesFiles}
 
 -- A job that was new with these files has taken the commands, replied, and was ended with this result.
 pub record IsDone (files : List NamedBytes) (commands : List Command) (replies : List Reply) (result : Result Summary Refusal) (new run ended : Seen) : Type 0 where
@@ -24,7 +25,7 @@ pub record IsDone (files : List NamedBytes) (commands : List Command) (replies :
   pub over : ended.state ≡ last.state
   -- Where the end succeeds, the device has taken a DVI file of exactly the pages of that machine, with the widths that the font files give,
   -- and the summary has its length.
-  pub file : (metrics : Metrics) → GivesFiles metrics files → OnOk result (IfSome ended.told (λ bytes. IsFileOf metrics bytes machine.pages))
+  pub file : (metrics : Metrics) → GivesFiles metrics files → OnOk result (IfSome ended.told (λ bytes. IsFileOfPages metrics bytes machine.pages))
   pub size : IfOk result (λ summary. IfSome ended.told (λ bytes. summary.bytes ≡ length bytes))
   -- The file ends as one of these pages does, and each font that it defines is that of the machine's slot of its number.
   pub closed : machine.pages ≢ [] → OnOk result (IfSome ended.told (λ bytes. IsClosedFor machine.state.fonts bytes machine.pages))

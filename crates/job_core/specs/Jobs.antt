@@ -1,43 +1,50 @@
 -- A job, and the machine that it stands for (own).
-use Rattle.std.specs.Prelude.{◌≡◌, [], ℕ, false, List, length, Option, IfSome, Result}
-use Rattle.std.specs.List.{AllByRecursion}
+use Rattle.std.specs.Prelude.{◌≡◌, ◌++◌, [], ℕ, false, List, length, Option, Some, None, Result}
 use Rattle.command_core.specs.declared.command.Command.{Command}
 use Rattle.command_core.specs.declared.command.Refusal.{Refusal}
 use Rattle.command_core.specs.declared.command.Summary.{Summary}
 use Rattle.command_core.specs.Reply.{Reply}
-use Rattle.ship_core.specs.Marks.{Page, is_huge}
-use Rattle.ship_core.specs.Pages.{page_of}
-use Rattle.dvi_layout.specs.Fonts.{Slots}
-use Rattle.state_core.specs.Sized.{IsSoundBox}
-use Rattle.dvi_write.specs.Draft.{Draft, draft_of, with_pages}
+use Rattle.ship_core.specs.Marks.{Page}
+use Rattle.dvi_layout.specs.SoFar.{SoFar}
+use Rattle.dvi_write.specs.Writing.{Writing, HasWritten}
 use Rattle.nest_core.specs.State.{State}
 use Rattle.nest_core.specs.Checks.{checks, first_of}
 use Rattle.nest_core.specs.Effects.{new_pages}
 use Rattle.nest_core.specs.Machine.{Machine, state_by}
 use Rattle.nest_core.specs.Runs.{Steps, Run, Finishes}
 
--- What a job is seen as: its kept state, its draft of the file, and of its device the bytes that it tells and how often it failed.
+-- What a job is seen as: its kept state, what its writer keeps of the pages that were sent, and of its device the bytes that it tells and how often
+-- it failed.
 pub record Seen : Type 0 where
   pub state : State
-  pub draft : Draft
+  pub so_far : SoFar
   pub told : Option (List ℕ)
   pub failed : ℕ
 
--- The draft of the file behind a command.
-abbrev pub draft_after : State → Draft → Command → Draft
-draft_after s draft command = state_by (first_of (checks s command)) draft (with_pages s.fonts draft (new_pages s command))
+-- The writer of a job: its file is over where the job is.
+abbrev pub writing_of : Seen → Writing
+writing_of job = record { so_far = job.so_far; told = job.told; failed = job.failed; over = job.state.over }
 
--- A page that a ship makes: it is that of its box, is not huge, and its glyphs, in inner boxes too, have the sizes that the fonts give.
-abbrev pub IsShipped : Slots → Page → Type 0
-IsShipped fonts page = (page ≡ page_of page.box_node) × (is_huge page ≡ false) × IsSoundBox fonts page.box_node
+-- What a device that tells these bytes told before it took one.
+abbrev pub untold : Option (List ℕ) → Option (List ℕ)
+untold None = None
+untold (Some bytes) = Some []
 
--- A job stands for a machine: it keeps the machine's state, and until it is over the draft of its pages; no byte has gone out by then.
+-- The pages behind a command.
+abbrev pub pages_after : State → List Page → Command → List Page
+pages_after s pages command = state_by (first_of (checks s command)) pages (pages ++ new_pages s command)
+
+-- What a writer has written goes on with the pages that a command adds.
+abbrev pub GoesOn : State → Command → Writing → Writing → Type 0
+GoesOn s command old new =
+    (before : Option (List ℕ)) (pages : List Page) → HasWritten s.fonts before old pages → HasWritten s.fonts before new (pages_after s pages command)
+
+-- A job stands for a machine: it keeps the machine's state, and until it is over it has written the machine's pages: what its device tells are all
+-- bytes of them up to the last eop, and no other.
 pub record Holds (job : Seen) (m : Machine) : Type 0 where
   pub state : job.state ≡ m.state
   pub count : m.state.pages ≡ length m.pages
-  pub pages : AllByRecursion (IsShipped m.state.fonts) m.pages
-  pub draft : m.state.over ≡ false → job.draft ≡ draft_of m.state.fonts m.pages
-  pub told : m.state.over ≡ false → IfSome job.told (λ bytes. bytes ≡ [])
+  pub written : m.state.over ≡ false → HasWritten m.state.fonts (untold job.told) (writing_of job) m.pages
 
 -- Each machine that the job stood for has stepped to one that it stands for.
 abbrev pub KeepsTo : Seen → Command → Reply → Seen → Type 0

@@ -1,6 +1,6 @@
 pub mod Jobs
 pub mod SeenCode
-pub mod Room
+pub mod Sound
 pub mod Shown
 pub mod Closing
 pub mod Headline

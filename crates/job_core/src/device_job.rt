@@ -1,66 +1,88 @@
-//! The job: commands are run, and the file of its pages goes to a device at the end.
+//! The job: commands are run, and each page goes to a device when it is shipped.
 
-ghost use Rattle.std.specs.Prelude.{◌≡◌, ◌<◌, ◌+◌, ◌*◌, ◌^◌, ◌++◌, [], false, None, Err, List, length, IfOk, IfErr, OnOk, OnErr, IfSome};
+ghost use Rattle.std.specs.Prelude.{◌≡◌, ◌≢◌, ◌<◌, ◌+◌, ◌^◌, ◌++◌, [], true, false, None, Err, List, length, IfOk, IfErr, OnOk, OnErr, IfSome};
 ghost use Rattle.command_core.specs.declared.command.Command.TheVariants as commands;
+ghost use Rattle.command_core.specs.declared.command.Refusal.{Refusal};
 ghost use Rattle.command_core.specs.Reply.{Reply as AReply};
+ghost use Rattle.device_core.specs.Told.{grown, GrowsByFront, IsFrontOf};
+ghost use Rattle.dvi_layout.specs.Layout.{front, whole};
+ghost use Rattle.state_core.specs.Keeping.{unshipped};
 ghost use Rattle.state_core.specs.Loaded.{GivesNumbersFor};
-ghost use Rattle.nest_core.specs.Checks.{checks, first_of};
+ghost use Rattle.nest_core.specs.Checks.{first_of};
+ghost use Rattle.nest_core.specs.Effects.{new_pages};
 ghost use Rattle.nest_core.specs.Machine.{Machine, first_machine, reply_to, state_after};
-ghost use Rattle.nest_core.specs.Runs.{TakesMemory, early_checks};
-ghost use Rattle.job_core.specs.Jobs.{draft_after, Holds, KeepsTo, RunsTo, FinishesTo};
+ghost use Rattle.nest_core.specs.Runs.{IsShip, TakesMemory, early_checks};
+ghost use Rattle.job_core.specs.Jobs.{Holds, KeepsTo, RunsTo, FinishesTo, untold};
+ghost use Rattle.job_core.specs.Sound.{IsSound, refusal_for, seen_by};
 ghost use Rattle.job_core.specs.Shown.{FilesPages};
 ghost use Rattle.job_core.specs.Closing.{ClosesFile};
 
 use command_core::{Answer, Command, Refusal, Register, Reply, Summary};
-use device_core::{Device, write_all};
-use dvi_write::Writer;
+use device_core::Device;
+use dvi_layout::WriteFault;
+use dvi_write::DviWriter;
 use node_core::Node;
 use state_core::kept::Kept;
 use std::alloc::{AllocError, Global};
 use std::marker::Model;
 use tfm_core::FontFile;
 
-/// Ships the box in a register: its page is added to the draft.
-fn ship(kept: &mut Kept, writer: &mut Writer, register: Register) -> Result<Reply, AllocError>
-    requires running { kept.old.over ≡ false }
-    requires room { length (draft_after kept.old writer.old (commands.Ship register)).bytes < 2 ^ 31 }
-    ensures reply { IfOk result (λ reply. reply ≡ reply_to kept.old (commands.Ship register)) }
-    ensures state { OnOk result (kept.new ≡ state_after kept.old (commands.Ship register)) }
-    ensures draft { OnOk result (writer.new ≡ draft_after kept.old writer.old (commands.Ship register)) }
-    ensures admitted { OnErr result (first_of (checks kept.old (commands.Ship register)) ≡ None) }
-    ensures err { OnErr result (kept.new ≡ kept.old) }
-    ensures same { OnErr result (writer.new ≡ writer.old) }
+/// What a job replies where its writer does not take a page.
+fn refusal_for(fault: WriteFault) -> Refusal
+    ensures { result ≡ refusal_for fault }
 {
-    let nodes = match kept.box_to_ship(register) {
-        Err(refusal) => return Ok(Err(refusal)),
-        Ok(found) => {
-            writer.add_page(found.box_node, kept.fonts())?;
-            found.nodes
-        }
-    };
-    let pages = kept.count_page(register, nodes);
-    Ok(Ok(Answer::Shipped(pages)))
+    match fault {
+        WriteFault::JobOver => Refusal::JobOver,
+        WriteFault::TooManyPages => Refusal::TooManyPages,
+        WriteFault::TooMuchShipped => Refusal::TooMuchShipped,
+        WriteFault::HugePage => Refusal::HugePage,
+        WriteFault::OutOfMemory => Refusal::OutOfMemory,
+        WriteFault::Device => Refusal::Device,
+    }
 }
 
-/// Does what a command says, but for the device.
-fn obey(kept: &mut Kept, writer: &mut Writer, command: &Command) -> Result<Reply, AllocError>
-    requires { kept.old.over ≡ false → length (draft_after kept.old writer.old command.now).bytes < 2 ^ 31 }
-    ensures reply { IfOk result (λ reply. reply ≡ reply_to kept.old command.now) }
-    ensures state { OnOk result (kept.new ≡ state_after kept.old command.now) }
-    ensures draft { OnOk result (writer.new ≡ draft_after kept.old writer.old command.now) }
-    ensures numbers { IfOk result (λ reply. IfOk reply (λ answer. GivesNumbersFor kept.old command.now)) }
-    ensures takes { OnErr result (TakesMemory kept.old command.now) }
-    ensures early { OnErr result (first_of (early_checks kept.old command.now) ≡ None) }
-    ensures err { OnErr result (kept.new ≡ kept.old) }
-    ensures same { OnErr result (writer.new ≡ writer.old) }
+/// Ships the box in a register: its page goes out, and the register is void then. The writer says why a page is not taken.
+fn ship_page<D: Device>(
+    kept: &mut Kept,
+    writer: &mut DviWriter<D>,
+    alloc: Global,
+    register: Register,
+) -> Reply
+    requires running { writer.old.over ≡ false }
+    requires sound { IsSound (unshipped kept.old) }
+    ensures keeps { KeepsTo (seen_by kept.old writer.old) (commands.Ship register) result (seen_by kept.new writer.new) }
+    ensures sound { IsSound (unshipped kept.new) }
+    ensures unsent { IfErr result (λ refusal. refusal ≢ Refusal.Device → writer.new.told ≡ writer.old.told) }
+    ensures part { result ≡ Err Refusal.Device → (m : Machine) → Holds (seen_by kept.old writer.old) m
+        → GrowsByFront (untold writer.old.told) writer.new.told (front m.state.fonts (m.pages ++ new_pages m.state (commands.Ship register))) }
 {
-    if kept.is_over() {
-        return Ok(Err(Refusal::JobOver));
+    let Some(box_node) = kept.held(register) else {
+        return Err(Refusal::VoidBox);
+    };
+    match writer.page(alloc, box_node, kept.offsets(), kept.counts(), kept.fonts()) {
+        Ok(()) => {
+            kept.empty(register);
+            Ok(Answer::Shipped(writer.pages()))
+        }
+        Err(fault) => Err(refusal_for(fault)),
     }
+}
+
+/// Does what a command says that ships nothing.
+fn obey(kept: &mut Kept, command: &Command) -> Result<Reply, AllocError>
+    requires { IsShip command.now → ⊥ }
+    ensures reply { IfOk result (λ reply. reply ≡ reply_to (unshipped kept.old) command.now) }
+    ensures state { OnOk result (unshipped kept.new ≡ state_after (unshipped kept.old) command.now) }
+    ensures numbers { IfOk result (λ reply. IfOk reply (λ answer. GivesNumbersFor (unshipped kept.old) command.now)) }
+    ensures takes { OnErr result (TakesMemory (unshipped kept.old) command.now) }
+    ensures early { OnErr result (first_of (early_checks (unshipped kept.old) command.now) ≡ None) }
+    ensures err { OnErr result (kept.new ≡ kept.old) }
+{
     match command {
         Command::LoadFont(load) => kept.load_font(load),
         Command::UseFont(slot) => Ok(kept.use_font(*slot)),
         Command::Open(opening) => kept.open_list(*opening),
+        Command::Paragraph => kept.open_paragraph(),
         Command::End => kept.end(),
         Command::Text(text) => kept.append_text(text),
         Command::Character(code) => kept.append_character(*code),
@@ -75,41 +97,44 @@ fn obey(kept: &mut Kept, writer: &mut Writer, command: &Command) -> Result<Reply
         Command::Measure(register) => Ok(kept.measure(*register)),
         Command::Void(register) => Ok(kept.void(*register)),
         Command::Set(parameter) => Ok(kept.set(*parameter)),
-        Command::Ship(register) => ship(kept, writer, *register),
+        Command::Count(counting) => Ok(kept.count(*counting)),
+        Command::Ship(_) => unreachable!(),
     }
 }
 
-/// A job: what it keeps, the draft of its file, and the device that the file goes to.
+/// A job: what it keeps, and the writer of its file on the device.
 #[derive(Drop)]
 pub struct Job<D: Device> {
+    alloc: Global,
     kept: Kept,
-    writer: Writer,
-    device: D,
+    writer: DviWriter<D>,
 }
 
 impl<D: Device> Model for Job<D> {
-    ghost use Rattle.std.specs.Prelude.{◌≡◌, ◌<◌, ◌+◌, ◌^◌, false};
+    ghost use Rattle.state_core.specs.Keeping.{unshipped};
     ghost use Rattle.job_core.specs.Jobs.{Seen};
-    ghost use Rattle.job_core.specs.Room.{HasRoom};
+    ghost use Rattle.job_core.specs.Sound.{IsSound, seen_by};
     ghost use Rattle.job_core.specs.SeenCode.{coded_seen};
 
     ghost Value = { Seen };
 
     ghost coded = { coded_seen };
 
-    ghost view = { λ job. record { state = job.kept; draft = job.writer; told = D.told job.device; failed = D.failed job.device } };
+    ghost view = { λ job. seen_by job.kept job.writer };
 
-    ghost invariant = { λ job. (job.kept.over ≡ false → HasRoom job.kept job.writer) × (job.kept.over ≡ false → D.failed job.device + 1 < 2 ^ 64) };
+    ghost invariant = { λ job. IsSound (unshipped job.kept) };
 }
 
 impl<D: Device> Job<D> {
     ghost use Rattle.std.specs.Prelude.{◌≡◌, ◌≢◌, ◌<◌, ◌+◌, ◌^◌, ◌++◌, [], true, List, IfOk, IfErr, OnOk, OnErr, IfSome, Err, length};
+    ghost use Rattle.nest_core.specs.Effects.{new_pages};
     ghost use Rattle.nest_core.specs.Machine.{Machine, first_machine};
-    ghost use Rattle.dvi_write.specs.Draft.{file_of};
+    ghost use Rattle.dvi_layout.specs.Layout.{front, whole};
     ghost use Rattle.device_core.specs.Told.{grown, GrowsByFront, IsFrontOf};
+    ghost use Rattle.command_core.specs.declared.command.Command.TheVariants as commands;
     ghost use Rattle.command_core.specs.declared.command.Refusal.{Refusal};
     ghost use Rattle.command_core.specs.Reply.{Reply as AReply};
-    ghost use Rattle.job_core.specs.Jobs.{Holds, KeepsTo, RunsTo, FinishesTo};
+    ghost use Rattle.job_core.specs.Jobs.{Holds, KeepsTo, RunsTo, FinishesTo, untold};
     ghost use Rattle.job_core.specs.Shown.{FilesPages};
     ghost use Rattle.job_core.specs.Closing.{ClosesFile};
 
@@ -125,24 +150,31 @@ impl<D: Device> Job<D> {
         let Ok(kept) = Kept::new(alloc, files) else {
             return Err(device);
         };
-        let Ok(writer) = Writer::new(alloc) else {
-            return Err(device);
-        };
         Ok(Job {
+            alloc,
             kept,
-            writer,
-            device,
+            writer: DviWriter::new(device),
         })
     }
 
     /// Does what a command says, and answers it; or refuses it, and nothing has changed, but that the job is over after a Device. A job that is
     /// over is left as it is, and so is its device.
+    ///
+    /// A page goes to the device when it is shipped. Where the device fails then, it has taken a beginning of the file up to this page.
     pub fn step(&mut self, command: &Command) -> Result<Answer, Refusal>
         ensures keeps { KeepsTo self.old command.now result self.new }
         ensures idle { self.old.state.over ≡ true → self.new ≡ self.old }
-        ensures told { self.new.told ≡ self.old.told }
+        ensures unsent { IfErr result (λ refusal. refusal ≢ Refusal.Device → self.new.told ≡ self.old.told) }
+        ensures part { result ≡ Err Refusal.Device → (m : Machine) → Holds self.old m
+            → GrowsByFront (untold self.old.told) self.new.told (front m.state.fonts (m.pages ++ new_pages m.state command.now)) }
     {
-        let Ok(reply) = obey(&mut self.kept, &mut self.writer, command) else {
+        if self.writer.is_over() {
+            return Err(Refusal::JobOver);
+        }
+        if let Command::Ship(register) = command {
+            return ship_page(&mut self.kept, &mut self.writer, self.alloc, *register);
+        }
+        let Ok(reply) = obey(&mut self.kept, command) else {
             return Err(Refusal::OutOfMemory);
         };
         reply
@@ -155,7 +187,6 @@ impl<D: Device> Job<D> {
         ensures none { OnErr result (self.new ≡ self.old) }
         ensures cut { OnErr result (replies.new.items ≡ replies.old.items) }
         ensures idle { self.old.state.over ≡ true → self.new ≡ self.old }
-        ensures told { self.new.told ≡ self.old.told }
     {
         replies.reserve(commands.len())?;
         for command in commands {
@@ -167,45 +198,37 @@ impl<D: Device> Job<D> {
         Ok(())
     }
 
-    /// Ends the job: where there are pages, their file goes to the device. All memory is taken before that. Refused with JobOver, ListsOpen or
-    /// OutOfMemory, it has changed nothing; with Device, the job is over.
+    /// Ends the job: where there are pages, the end of their file goes to the device. All memory is taken before that. Refused with JobOver, ListsOpen
+    /// or OutOfMemory, it has changed nothing; with Device, the job is over.
     pub fn finish(&mut self) -> Result<Summary, Refusal>
         ensures finished { FinishesTo self.old result self.new }
         ensures idle { self.old.state.over ≡ true → self.new ≡ self.old }
-        ensures file { (m : Machine) → Holds self.old m → OnOk result (IfSome self.new.told (λ bytes. bytes ≡ file_of m.state.fonts m.pages)) }
+        ensures file { (m : Machine) → Holds self.old m → OnOk result (IfSome self.new.told (λ bytes. bytes ≡ whole m.state.fonts m.pages)) }
         ensures dvi { FilesPages self.old result self.new }
         ensures end { ClosesFile self.old result self.new }
         ensures size { IfOk result (λ summary. (m : Machine) → Holds self.old m → IfSome self.new.told (λ bytes. summary.bytes ≡ length bytes)) }
-        ensures count { IfOk result (λ summary. (m : Machine) → Holds self.old m → summary.bytes ≡ length (file_of m.state.fonts m.pages)) }
-        ensures front { result ≡ Err Refusal.Device → (m : Machine) → Holds self.old m → IfSome self.new.told (λ bytes. IsFrontOf bytes (file_of m.state.fonts m.pages)) }
+        ensures count { IfOk result (λ summary. (m : Machine) → Holds self.old m → summary.bytes ≡ length (whole m.state.fonts m.pages)) }
+        ensures front { result ≡ Err Refusal.Device → (m : Machine) → Holds self.old m → IfSome self.new.told (λ bytes. IsFrontOf bytes (whole m.state.fonts m.pages)) }
 
-        // What the device tells has grown by what was sent: the file, a beginning of it, or nothing.
-        ensures sent { OnOk result ((m : Machine) → Holds self.old m → self.new.told ≡ grown self.old.told (file_of m.state.fonts m.pages)) }
-        ensures part { result ≡ Err Refusal.Device → (m : Machine) → Holds self.old m → GrowsByFront self.old.told self.new.told (file_of m.state.fonts m.pages) }
+        // What the device tells behind what it told before the job: the file, a beginning of it, or what it told already.
+        ensures sent { OnOk result ((m : Machine) → Holds self.old m → self.new.told ≡ grown (untold self.old.told) (whole m.state.fonts m.pages)) }
+        ensures part { result ≡ Err Refusal.Device → (m : Machine) → Holds self.old m → GrowsByFront (untold self.old.told) self.new.told (whole m.state.fonts m.pages) }
         ensures unsent { IfErr result (λ refusal. refusal ≢ Refusal.Device → self.new.told ≡ self.old.told) }
     {
-        if self.kept.is_over() {
+        if self.writer.is_over() {
             return Err(Refusal::JobOver);
         }
         if self.kept.is_open() {
             return Err(Refusal::ListsOpen);
         }
-        let pages = self.kept.pages();
-        if pages == 0 {
-            self.kept.stop();
-            return Ok(Summary { pages: 0, bytes: 0 });
-        }
-        let Ok(()) = self.writer.close(self.kept.fonts(), pages) else {
-            return Err(Refusal::OutOfMemory);
-        };
-        self.kept.stop();
-        let bytes = self.writer.bytes();
-        let Ok(()) = write_all(&mut self.device, bytes) else {
-            return Err(Refusal::Device);
+        let file = match self.writer.finish(self.alloc, self.kept.fonts()) {
+            Ok(file) => file,
+            Err(WriteFault::Device) => return Err(Refusal::Device),
+            Err(_) => return Err(Refusal::OutOfMemory),
         };
         Ok(Summary {
-            pages,
-            bytes: bytes.len() as u64,
+            pages: file.pages,
+            bytes: file.bytes,
         })
     }
 
@@ -215,10 +238,10 @@ impl<D: Device> Job<D> {
         ensures failed { D.failed result ≡ self.failed }
     {
         let Job {
+            alloc: _alloc,
             kept: _kept,
-            writer: _writer,
-            device,
+            writer,
         } = self;
-        device
+        writer.into_device()
     }
 }

@@ -6,8 +6,8 @@ mod device_job;
 pub mod laws;
 
 pub use command_core::{
-    Answer, BoxForm, BoxUse, Characters, Command, FontLoad, Opening, Parameter, Refusal, Register,
-    Reply, Sizes, Summary, Taking, Unboxing,
+    Answer, BoxForm, BoxUse, Characters, Command, CountNumber, Counting, FontLoad, Opening,
+    Parameter, Refusal, Register, Reply, Sizes, Summary, Taking, Unboxing,
 };
 pub use device_core::{Device, DeviceFault, Memory};
 pub use device_job::Job;

@@ -13,7 +13,7 @@ use std::alloc::{AllocError, Global};
 pub fn without_empty_groups<'a>(ops: Vec<Op<'a>>) -> Result<Vec<Op<'a>>, AllocError>
     ensures { IfOk result (λ kept. map view kept.items ≡ trimmed (map view ops.entry.items) []) }
 {
-    let mut kept = Vec::new(*ops.allocator());
+    let mut kept = Vec::with_capacity(*ops.allocator(), ops.len())?;
     for op in &ops {
         if matches!(op, Op::Pop) && matches!(kept.last(), Some(Op::Push)) {
             kept.pop();
@@ -29,7 +29,7 @@ fn which_come_again(alloc: Global, ops: &[Op<'_>]) -> Result<Vec<bool>, AllocErr
     ensures { IfOk result (λ flags. reverse flags.items ≡ flags_of (map view ops.now)) }
 {
     let mut later = Later::new(alloc);
-    let mut flags = Vec::new(alloc);
+    let mut flags = Vec::with_capacity(alloc, ops.len())?;
     for i in (0..ops.len()).rev() {
         let again = later.meet(alloc, ops[i])?;
         flags.push(again)?;
@@ -82,7 +82,7 @@ pub fn with_registers<'a>(ops: Vec<Op<'a>>) -> Result<Vec<Op<'a>>, AllocError>
     let alloc = *ops.allocator();
     let mut flags = which_come_again(alloc, &ops)?;
     let mut pass = Pass {
-        out: Vec::new(alloc),
+        out: Vec::with_capacity(alloc, ops.len())?,
         known: Known::nothing(),
         outer: Vec::new(alloc),
     };

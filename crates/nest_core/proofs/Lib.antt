@@ -1,3 +1,4 @@
 pub mod Nests
-pub mod SplitRefusals
 pub mod PackedItems
+pub mod ParagraphEnds
+pub mod ShortLists

@@ -1,6 +1,6 @@
 -- Lists and registers that change in one place, and change back.
 use Rattle.std.proofs.Common.{◌≡◌, ◌∙◌, ℕ, zero, suc, ◌-◌, ◌==◌, ◌≤◌, ◌<◌, List, [], ◌∷◌, ◌++◌, length, take, set, get_or, Bool, true, false, Option, Some, None, Result, Ok, Err, OnErr, refl, ap, sym, arith}
-use Rattle.std.specs.Prelude.{pos, slice_get}
+use Rattle.std.specs.Prelude.{pos, slice_get, slice_set}
 use Rattle.std.proofs.Math.Seq.{take-set-lt}
 use Rattle.std.proofs.lemmas.List.{take-set-le, length-take-le, length-set}
 use Rattle.node_core.specs.declared.tree.BoxNode.{BoxNode}
@@ -11,8 +11,13 @@ use Rattle.command_core.specs.declared.command.Refusal.{Refusal}
 use Rattle.pack_core.specs.declared.pack.Packed as packs
 use Rattle.command_core.specs.declared.command.Command.TheVariants.{End}
 use Rattle.nest_core.specs.State.{State, innermost, outer, with_innermost, items_in, held_in}
-use Rattle.nest_core.specs.OpenLists.{register_of, packed_list}
-use Rattle.nest_core.specs.Checks.{checks, place_checks, first_of}
+use Rattle.command_core.specs.declared.command.Opening.{Opening}
+use Rattle.node_core.specs.Nodes.{items_of, nodes_of}
+use Rattle.paragraph_core.specs.declared.paragraph.SetParagraph.{SetParagraph}
+use Rattle.nest_core.specs.declared.nest.ListPurpose.TheVariants.{Box}
+use Rattle.nest_core.specs.OpenLists.{packed_list}
+use Rattle.nest_core.specs.Paragraphs.{with_lines}
+use Rattle.nest_core.specs.Checks.{checks, place_checks, packed_checks, purpose_checks, close_checks, first_of}
 use Rattle.nest_core.specs.Effects.{list_with_box, with_box}
 use Rattle.nest_core.specs.EmptiedNest.{refilled_nest, emptied_nest}
 
@@ -98,29 +103,56 @@ outer-emptied nest l =
     let last = length nest - 1 in
     ap (λ n. take (n - 1) (set nest last bare)) (length-set nest last bare) ∙ take-set-le last nest last bare (omega arith)
 
--- A box is put behind the list around the innermost one, which is then taken away.
-pub closed_into : (params : Params) (nest : List OpenList) (b : BoxNode) (l : OpenList) → 2 ≤ length nest → slice_get nest (length nest - 2) ≡ Some l
-    → take (length nest - 1) (set nest (length nest - 2) (list_with_box params (pos 0) b l)) ≡ with_box params (outer nest) (pos 0) b (innermost (outer nest))
-closed_into params nest b l enough is =
+-- The list around the innermost one.
+around_is : (nest : List OpenList) (l : OpenList) → 2 ≤ length nest → slice_get nest (length nest - 2) ≡ Some l → innermost (outer nest) ≡ Some l
+around_is nest l enough is =
     let n = length nest - 1 in
     let count : length (outer nest) ≡ n = length-take-le n nest (omega (arith, enough)) in
     let place : length (outer nest) - 1 ≡ length nest - 2 = omega (arith, count, enough) in
-    let found : innermost (outer nest) ≡ Some l =
-    ap (λ i. slice_get (outer nest) i) place ∙ (get_take nest n (length nest - 2) (omega (arith, enough)) ∙ is) in
-    let changed = list_with_box params (pos 0) b l in
-    take-set-lt n nest (length nest - 2) changed (omega (arith, enough))
-    ∙ (sym (ap (λ i. set (outer nest) i changed) place) ∙ sym (ap (with_box params (outer nest) (pos 0) b) found))
+    ap (λ i. slice_get (outer nest) i) place ∙ (get_take nest n (length nest - 2) (omega (arith, enough)) ∙ is)
 
--- The same of the steps by which `close_into` does it.
+-- It is changed, and the innermost one is taken away.
+around_changed : (nest : List OpenList) (changed : OpenList) → 2 ≤ length nest
+    → take (length nest - 1) (set nest (length nest - 2) changed) ≡ with_innermost (outer nest) changed
+around_changed nest changed enough =
+    let n = length nest - 1 in
+    let count : length (outer nest) ≡ n = length-take-le n nest (omega (arith, enough)) in
+    let place : length (outer nest) - 1 ≡ length nest - 2 = omega (arith, count, enough) in
+    take-set-lt n nest (length nest - 2) changed (omega (arith, enough)) ∙ sym (ap (λ i. set (outer nest) i changed) place)
+
+-- The same of the steps by which it is done, with what was there.
+pub around_found : (nest : List OpenList) (l : OpenList) (count : ℕ) → count ≡ length nest → 2 ≤ length nest → l ≡ get_or nest (count - 2) l
+    → innermost (outer nest) ≡ Some l
+around_found nest l count many enough is =
+    around_is nest l enough (ap (λ n. slice_get nest (n - 2)) (sym many) ∙ (get_some nest (count - 2) l (omega (arith, many, enough)) ∙ ap Some (sym is)))
+
+around_left : (nest : List OpenList) (changed : OpenList) (count : ℕ) (after : List OpenList) → count ≡ length nest → 2 ≤ length nest
+    → after ≡ take (length (set nest (count - 2) changed) - 1) (set nest (count - 2) changed) → after ≡ with_innermost (outer nest) changed
+around_left nest changed count after many enough left =
+    let same = length-set nest (length nest - 2) changed in
+    let closed = around_changed nest changed enough in
+    cc (many, left, closed, same)
+
+-- A box is put behind the list around the innermost one, which is then taken away.
 pub closing_into : (params : Params) (nest : List OpenList) (b : BoxNode) (l changed : OpenList) (count : ℕ) (after : List OpenList)
     → count ≡ length nest → 2 ≤ length nest → l ≡ get_or nest (count - 2) l → changed ≡ list_with_box params (pos 0) b l
     → after ≡ take (length (set nest (count - 2) changed) - 1) (set nest (count - 2) changed)
     → after ≡ with_box params (outer nest) (pos 0) b (innermost (outer nest))
 closing_into params nest b l changed count after many enough is turned left =
-    let at = ap (λ n. slice_get nest (n - 2)) (sym many) ∙ (get_some nest (count - 2) l (omega (arith, many, enough)) ∙ ap Some (sym is)) in
-    let closed = closed_into params nest b l enough at in
-    let same = length-set nest (length nest - 2) (list_with_box params (pos 0) b l) in
-    cc (many, turned, left, closed, same)
+    let at = around_found nest l count many enough is in
+    around_left nest changed count after many enough left
+    ∙ (ap (with_innermost (outer nest)) turned ∙ sym (ap (with_box params (outer nest) (pos 0) b) at))
+
+-- The lines of a paragraph are put behind the list around the innermost one, which is then taken away.
+pub lines_left : (nest : List OpenList) (set : SetParagraph) (l changed : OpenList) (count : ℕ) (after : List OpenList)
+    → count ≡ length nest → 2 ≤ length nest → l ≡ get_or nest (count - 2) l
+    → changed ≡ record l { list = items_of (nodes_of l.list ++ nodes_of set.items); previous_depth = set.depth }
+    → after ≡ take (length (slice_set nest (count - 2) changed) - 1) (slice_set nest (count - 2) changed)
+    → after ≡ with_lines (outer nest) (innermost (outer nest)) (Ok set)
+lines_left nest set l changed count after many enough is turned left =
+    let at = around_found nest l count many enough is in
+    around_left nest changed count after many enough left
+    ∙ (ap (with_innermost (outer nest)) turned ∙ sym (ap (λ (o : Option OpenList). with_lines (outer nest) o (Ok set)) at))
 
 -- The first refusal of a job that is not over is also the first where more checks follow.
 pub first_refused : (over : Bool) (own more : List (Bool × Refusal)) (job refusal : Refusal) → over ≡ false → first_of own ≡ Some refusal
@@ -141,13 +173,15 @@ put_back nest now items l is taken same =
     ap (λ n. refilled_nest n items (innermost n)) bare ∙ (ap (λ more. refilled_nest (emptied_nest nest (Some l)) more (innermost (emptied_nest nest (Some l)))) own ∙ refilled-emptied nest l is)
 
 -- The end of a list is refused as its box is.
-pub end_refused : (s : State) (l : OpenList) (p : packs.Packed) (now : List OpenList) (found : Option Refusal) → s.over ≡ false → innermost s.nest ≡ Some l
-    → packed_list s.params (innermost s.nest) ≡ Some p → now ≡ emptied_nest s.nest (innermost s.nest)
-    → found ≡ first_of (place_checks s.params (outer now) (register_of l.purpose) p.box_node) → first_of (checks s End) ≡ found
-end_refused s l p now found running is packed taken asked =
+pub end_refused : (s : State) (l : OpenList) (opening : Opening) (p : packs.Packed) (now : List OpenList) (found : Option Refusal) → s.over ≡ false → innermost s.nest ≡ Some l
+    → l.purpose ≡ Box opening → packed_list s.params (innermost s.nest) ≡ Some p → now ≡ emptied_nest s.nest (innermost s.nest)
+    → found ≡ first_of (place_checks s.params (outer now) opening.into p.box_node) → first_of (checks s End) ≡ found
+end_refused s l opening p now found running is opened packed taken asked =
     let around = ap outer (taken ∙ ap (emptied_nest s.nest) is) ∙ outer-emptied s.nest l in
     let own = sym (ap (packed_list s.params) is) ∙ packed in
-    rw (running, is, own) (sym (asked ∙ ap (λ nest. first_of (place_checks s.params nest (register_of l.purpose) p.box_node)) around))
+    let closed : close_checks s.params (outer s.nest) (innermost s.nest) ≡ packed_checks s.params (outer s.nest) opening.into (packed_list s.params (Some l)) =
+    ap (close_checks s.params (outer s.nest)) is ∙ ap (purpose_checks s.params (outer s.nest) l) opened in
+    rw (running, closed, own) (sym (asked ∙ ap (λ nest. first_of (place_checks s.params nest opening.into p.box_node)) around))
 
 pub on_err : {A E : Type 0} {P : Type 0} (r : Result A E) → P → OnErr r P
 on_err (Ok x) p = tt

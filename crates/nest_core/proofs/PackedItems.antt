@@ -9,7 +9,7 @@ use Rattle.pack_core.specs.declared.pack.TooLarge.{TooLarge}
 use Rattle.pack_core.specs.Boxes.{hbox, hpacked, vbox, vpacked, vtop_box, vtopped}
 use Rattle.command_core.specs.declared.command.BoxForm.{BoxForm}
 use Rattle.nest_core.specs.declared.nest.ListPurpose.{ListPurpose}
-use Rattle.nest_core.specs.declared.nest.ListPurpose.TheVariants.{Box}
+use Rattle.nest_core.specs.declared.nest.ListPurpose.TheVariants.{Box, Paragraph}
 use Rattle.command_core.specs.declared.command.BoxForm.TheVariants.{Hbox, Vbox, Vtop}
 use Rattle.nest_core.specs.OpenLists.{packed_as, packed_by}
 
@@ -36,3 +36,4 @@ packed_as_items Vtop params target items q is = vtopped_items target params.box_
 
 pub packed_items : (purpose : ListPurpose) (params : Params) (items : Items) (q : packs.Packed) → packed_by purpose params items ≡ Ok q → items ≡ q.box_node.list
 packed_items (Box opening) params items q is = packed_as_items opening.form params opening.target items q is
+packed_items Paragraph params items q is = cc

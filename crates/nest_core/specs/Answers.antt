@@ -1,22 +1,25 @@
 -- What a command that is accepted answers: a row a command (own).
-use Rattle.std.specs.Prelude.{◌+◌, ℕ, ℤ, pos, length, Option, Some, None}
+use Rattle.std.specs.Prelude.{◌+◌, ℕ, ℤ, pos, List, length, Option, Some, None}
 use Rattle.node_core.specs.declared.tree.BoxNode.{BoxNode}
 use Rattle.std.specs.Option.{option_map}
 use Rattle.node_core.specs.declared.params.Params.{Params}
 use Rattle.node_core.specs.declared.params.SplitParams.{SplitParams}
 use Rattle.node_core.specs.Nodes.{nodes_of}
 use Rattle.nest_core.specs.declared.nest.OpenList.{OpenList}
+use Rattle.nest_core.specs.declared.nest.ListPurpose.{ListPurpose}
+use Rattle.nest_core.specs.declared.nest.ListPurpose.TheVariants as purposes
 use Rattle.command_core.specs.declared.command.Sizes.{Sizes}
 use Rattle.command_core.specs.declared.command.Command.{Command}
-use Rattle.command_core.specs.declared.command.Command.TheVariants.{LoadFont, UseFont, Open, End, Text, Character, Rule, Kern, Glue, Penalty, Append, Unbox, LastBox, Split, Measure, Void, Set, Ship}
+use Rattle.command_core.specs.declared.command.Command.TheVariants.{LoadFont, UseFont, Open, Paragraph, End, Text, Character, Rule, Kern, Glue, Penalty, Append, Unbox, LastBox, Split, Measure, Void, Set, Count, Ship}
 use Rattle.command_core.specs.declared.command.Answer.{Answer}
 use Rattle.command_core.specs.declared.command.Answer.TheVariants as answers
 use Rattle.command_core.specs.declared.command.Answer.TheVariants.{Done, Packed, Measured, MeasuredVoid, Shaped, Added, SplitVoid, Shipped}
 use Rattle.pack_core.specs.declared.pack.Packed as packs
 use Rattle.split_core.specs.Split.{front_of, rest_of}
 use Rattle.nest_core.specs.FontSlots.{CharacterItems, text_shaped, character_shaped}
-use Rattle.nest_core.specs.State.{State, innermost, held_in, nodes_in}
+use Rattle.nest_core.specs.State.{State, innermost, outer, held_in, nodes_in}
 use Rattle.nest_core.specs.OpenLists.{box_items, packed_list}
+use Rattle.nest_core.specs.Paragraphs.{set_behind, paragraph_answer}
 
 -- The sizes of a box, as answers have them.
 abbrev pub sizes_of : BoxNode → Sizes
@@ -26,6 +29,16 @@ sizes_of b = record { width = b.width; height = b.height; depth = b.depth }
 abbrev pub packed_answer : Option packs.Packed → Answer
 packed_answer None = Done
 packed_answer (Some packed) = Packed (sizes_of packed.box_node) packed.badness
+
+-- The answer to the end of a list that was opened for that and has these lists around.
+abbrev pub purpose_answer : Params → (around : List OpenList) → OpenList → ListPurpose → Answer
+purpose_answer params around open_list (purposes.Box opening) = packed_answer (packed_list params (Some open_list))
+purpose_answer params around open_list purposes.Paragraph = paragraph_answer (set_behind params around open_list.list)
+
+-- The answer to the end of an open list that has these lists around. Where there is none, it is refused and this answer is not given.
+abbrev pub end_answer : Params → (around : List OpenList) → Option OpenList → Answer
+end_answer params around None = Done
+end_answer params around (Some open_list) = purpose_answer params around open_list open_list.purpose
 
 -- What a register is measured as.
 abbrev pub measured_answer : Option BoxNode → Answer
@@ -58,7 +71,8 @@ answer_of m (UseFont slot) = Done
 answer_of m (Text text) = shaped_answer (text_shaped m.fonts m.current text)
 answer_of m (Character code) = shaped_answer (character_shaped m.fonts m.current code)
 answer_of m (Open opening) = Done
-answer_of m End = packed_answer (packed_list m.params (innermost m.nest))
+answer_of m Paragraph = Done
+answer_of m End = end_answer m.params (outer m.nest) (innermost m.nest)
 answer_of m (Rule rule) = Done
 answer_of m (Kern width) = Done
 answer_of m (Glue glue) = Done
@@ -70,4 +84,5 @@ answer_of m (Split splitting) = split_answer m.params.split splitting.height (he
 answer_of m (Measure r) = measured_answer (held_in m.registers r)
 answer_of m (Void r) = Done
 answer_of m (Set parameter) = Done
+answer_of m (Count counting) = Done
 answer_of m (Ship r) = Shipped (m.pages + 1)

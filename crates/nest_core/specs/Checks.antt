@@ -12,21 +12,23 @@ use Rattle.node_core.specs.declared.params.Params.{Params}
 use Rattle.node_core.specs.declared.params.SplitParams.{SplitParams}
 use Rattle.node_core.specs.Nodes.{nodes_of, box_depth}
 use Rattle.nest_core.specs.declared.nest.OpenList.{OpenList}
-use Rattle.ship_core.specs.Pages.{page_of}
+use Rattle.nest_core.specs.declared.nest.ListPurpose.{ListPurpose}
+use Rattle.nest_core.specs.declared.nest.ListPurpose.TheVariants as purposes
 use Rattle.command_core.specs.declared.command.Command.{Command}
-use Rattle.command_core.specs.declared.command.Command.TheVariants.{LoadFont, UseFont, Open, End, Text, Character, Rule, Kern, Glue, Penalty, Append, Unbox, LastBox, Split, Measure, Void, Set, Ship}
+use Rattle.command_core.specs.declared.command.Command.TheVariants.{LoadFont, UseFont, Open, Paragraph, End, Text, Character, Rule, Kern, Glue, Penalty, Append, Unbox, LastBox, Split, Measure, Void, Set, Count, Ship}
 use Rattle.command_core.specs.declared.command.Refusal.{Refusal}
 use Rattle.command_core.specs.declared.command.Refusal.TheVariants.{DimensionTooLarge, NoFont, SlotTaken, NoOpenList, WrongMode, WrongKind, ListTooLong, TooDeep, InfiniteShrink, HugePage, TooManyPages, TooMuchShipped, JobOver, VoidBox}
 use Rattle.command_core.specs.declared.limits.TheConstants.{MOST_OPEN, MOST_ITEMS, MOST_DEEP, MOST_PAGES, MOST_SHIPPED}
 use Rattle.pack_core.specs.declared.pack.Packed as packs
 use Rattle.scaled_core.specs.Dimensions.{fits}
 use Rattle.split_core.specs.Split.{shrinks_infinitely, split_numbers}
-use Rattle.ship_core.specs.Marks.{is_huge}
 use Rattle.tfm_core.specs.Fonts.{SizedFont}
 use Rattle.dvi_layout.specs.Fonts.{font_in}
 use Rattle.nest_core.specs.FontSlots.{current_font, CharacterItems, text_shaped, character_shaped}
 use Rattle.nest_core.specs.State.{State, innermost, outer, items_in, open_count, held_in, count_in, font_for}
-use Rattle.nest_core.specs.OpenLists.{kind_in, is_vertical, register_of, glue_in, box_items, packed_list}
+use Rattle.nest_core.specs.NextPages.{is_huge_in}
+use Rattle.nest_core.specs.OpenLists.{kind_in, is_vertical, glue_in, box_items, packed_list}
+use Rattle.nest_core.specs.Paragraphs.{paragraph_checks}
 
 -- The first refusal whose condition holds.
 abbrev pub first_of : List (Bool × Refusal) → Option Refusal
@@ -59,6 +61,11 @@ refusal_in (Err refusal) = (true, refusal) ∷ []
 abbrev pub open_checks : List OpenList → Option ℕ → List (Bool × Refusal)
 open_checks nest into = (is_none into && (length nest == 0), NoOpenList) ∷ (nat_le MOST_OPEN (length nest), TooDeep) ∷ []
 
+-- The refusals of a paragraph that is opened: it goes into a vertical list.
+abbrev pub par_checks : List OpenList → List (Bool × Refusal)
+par_checks nest =
+    (length nest == 0, NoOpenList) ∷ (not (is_vertical (kind_in (innermost nest))), WrongMode) ∷ (nat_le MOST_OPEN (length nest), TooDeep) ∷ []
+
 -- The refusals of a box at the end of an open list: the glue in front of it does not fit, or the list would be too long.
 abbrev pub box_checks : Params → Option OpenList → BoxNode → List (Bool × Refusal)
 box_checks params None b = (true, NoOpenList) ∷ []
@@ -80,10 +87,15 @@ abbrev pub packed_checks : Params → (around : List OpenList) → (into : Optio
 packed_checks params around into None = (true, DimensionTooLarge) ∷ []
 packed_checks params around into (Some packed) = place_checks params around into packed.box_node
 
+-- The refusals of the end of a list that was opened for that and has these lists around.
+abbrev pub purpose_checks : Params → (around : List OpenList) → OpenList → ListPurpose → List (Bool × Refusal)
+purpose_checks params around open_list (purposes.Box opening) = packed_checks params around opening.into (packed_list params (Some open_list))
+purpose_checks params around open_list purposes.Paragraph = paragraph_checks params around open_list.list
+
 -- The refusals of the end of an open list that has these lists around.
 abbrev pub close_checks : Params → (around : List OpenList) → Option OpenList → List (Bool × Refusal)
 close_checks params around None = (true, NoOpenList) ∷ []
-close_checks params around (Some open_list) = packed_checks params around (register_of open_list.purpose) (packed_list params (Some open_list))
+close_checks params around (Some open_list) = purpose_checks params around open_list open_list.purpose
 
 -- The refusals of the end of the innermost list.
 abbrev pub end_checks : Params → List OpenList → List (Bool × Refusal)
@@ -139,11 +151,6 @@ abbrev pub is_misplaced : Kind → rules.Rule → Bool
 is_misplaced Horizontal rule = is_running rule.width
 is_misplaced Vertical rule = is_running rule.height || is_running rule.depth
 
--- Whether the page of the box of a register is huge, if there is one.
-abbrev pub is_huge_in : Option BoxNode → Bool
-is_huge_in None = false
-is_huge_in (Some b) = is_huge (page_of b)
-
 -- The refusals of each command in their order, each with the condition under which it is given.
 abbrev pub own_checks : State → Command → List (Bool × Refusal)
 own_checks m (LoadFont load) = (is_some (font_in m.fonts load.slot), SlotTaken) ∷ refusal_in (font_for m load)
@@ -151,6 +158,7 @@ own_checks m (UseFont slot) = (is_none (font_in m.fonts slot), NoFont) ∷ []
 own_checks m (Text text) = shape_checks m (text_shaped m.fonts m.current text)
 own_checks m (Character code) = shape_checks m (character_shaped m.fonts m.current code)
 own_checks m (Open opening) = open_checks m.nest opening.into
+own_checks m Paragraph = par_checks m.nest
 own_checks m End = end_checks m.params m.nest
 own_checks m (Rule rule) =
     (length m.nest == 0, NoOpenList) ∷ (is_misplaced (kind_in (innermost m.nest)) rule, WrongMode)
@@ -165,10 +173,11 @@ own_checks m (Split splitting) = split_checks m.params.split splitting.height (h
 own_checks m (Measure r) = []
 own_checks m (Void r) = []
 own_checks m (Set parameter) = []
+own_checks m (Count counting) = []
 own_checks m (Ship r) =
     (is_none (held_in m.registers r), VoidBox) ∷ (nat_le MOST_PAGES m.pages, TooManyPages)
     ∷ (nat_lt MOST_SHIPPED (m.shipped + count_in (held_in m.registers r)), TooMuchShipped)
-    ∷ (is_huge_in (held_in m.registers r), HugePage) ∷ []
+    ∷ (is_huge_in m (held_in m.registers r), HugePage) ∷ []
 
 -- A job that is over refuses each command for that.
 abbrev pub checks : State → Command → List (Bool × Refusal)

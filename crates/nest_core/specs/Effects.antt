@@ -10,20 +10,23 @@ use Rattle.node_core.specs.declared.params.SplitParams.{SplitParams}
 use Rattle.node_core.specs.Nodes.{items_of, nodes_of, last_box, without}
 use Rattle.vert_core.specs.Interline.{ignored_depth}
 use Rattle.nest_core.specs.declared.nest.OpenList.{OpenList}
-use Rattle.ship_core.specs.Pages.{page_of}
+use Rattle.nest_core.specs.declared.nest.ListPurpose.{ListPurpose}
+use Rattle.nest_core.specs.declared.nest.ListPurpose.TheVariants as purposes
 use Rattle.command_core.specs.declared.command.Parameter.{Parameter}
-use Rattle.command_core.specs.declared.command.Parameter.TheVariants.{BoxMaxDepth, BaselineSkip, LineSkip, LineSkipLimit, SplitMaxDepth, SplitTopSkip, Hsize, ParFillSkip, Pretolerance, Tolerance, LinePenalty, AdjDemerits, ClubPenalty, WidowPenalty, InterlinePenalty}
+use Rattle.command_core.specs.declared.command.Parameter.TheVariants.{BoxMaxDepth, BaselineSkip, LineSkip, LineSkipLimit, SplitMaxDepth, SplitTopSkip, Hsize, ParFillSkip, Pretolerance, Tolerance, LinePenalty, AdjDemerits, ClubPenalty, WidowPenalty, InterlinePenalty, Hoffset, Voffset}
 use Rattle.command_core.specs.declared.command.Splitting.{Splitting}
 use Rattle.command_core.specs.declared.command.Taking.{Taking}
 use Rattle.command_core.specs.declared.command.Taking.TheVariants.{Moved, Copied}
 use Rattle.command_core.specs.declared.command.Command.{Command}
-use Rattle.command_core.specs.declared.command.Command.TheVariants.{LoadFont, UseFont, Open, End, Text, Character, Rule, Kern, Glue, Penalty, Append, Unbox, LastBox, Split, Measure, Void, Set, Ship}
+use Rattle.command_core.specs.declared.command.Command.TheVariants.{LoadFont, UseFont, Open, Paragraph, End, Text, Character, Rule, Kern, Glue, Penalty, Append, Unbox, LastBox, Split, Measure, Void, Set, Count, Ship}
 use Rattle.pack_core.specs.declared.pack.Packed as packs
 use Rattle.split_core.specs.Split.{front_of, rest_of}
 use Rattle.ship_core.specs.Marks.{Page}
 use Rattle.nest_core.specs.FontSlots.{with_font, text_shaped, character_shaped}
 use Rattle.nest_core.specs.State.{State, innermost, outer, with_innermost, items_in, held_in, count_in, font_for}
-use Rattle.nest_core.specs.OpenLists.{opened_list, register_of, box_items, packed_list}
+use Rattle.nest_core.specs.NextPages.{pages_of}
+use Rattle.nest_core.specs.OpenLists.{opened_list, box_items, packed_list}
+use Rattle.nest_core.specs.Paragraphs.{with_paragraph}
 
 -- The nest with more nodes at the end of its innermost list.
 abbrev pub with_nodes : List OpenList → List Node → Option OpenList → List OpenList
@@ -81,17 +84,28 @@ with_parameter params (AdjDemerits number) = record params { adj_demerits = numb
 with_parameter params (ClubPenalty number) = record params { club_penalty = number }
 with_parameter params (WidowPenalty number) = record params { widow_penalty = number }
 with_parameter params (InterlinePenalty number) = record params { interline_penalty = number }
+with_parameter params (Hoffset size) = record params { hoffset = size }
+with_parameter params (Voffset size) = record params { voffset = size }
 
 -- The state when the box of a closed list went into its register, or behind the innermost of the lists around.
 abbrev pub with_home : State → (around : List OpenList) → (into : Option ℕ) → BoxNode → State
 with_home m around None b = record m { nest = with_box m.params around (pos 0) b (innermost around) }
 with_home m around (Some r) b = record m { nest = around; registers = slice_set m.registers r (Some b) }
 
--- The state when the innermost list was packed into a box, which goes where the list says.
-abbrev pub with_closed : State → Option OpenList → Option packs.Packed → State
-with_closed m None packed = m
-with_closed m (Some open_list) None = m
-with_closed m (Some open_list) (Some packed) = with_home m (outer m.nest) (register_of open_list.purpose) packed.box_node
+-- The state when the innermost list was packed into a box, which goes into its register or behind the list around.
+abbrev pub with_closed : State → (into : Option ℕ) → Option packs.Packed → State
+with_closed m into None = m
+with_closed m into (Some packed) = with_home m (outer m.nest) into packed.box_node
+
+-- The state when the innermost list has ended, which was opened for that.
+abbrev pub with_purpose : State → OpenList → ListPurpose → State
+with_purpose m open_list (purposes.Box opening) = with_closed m opening.into (packed_list m.params (Some open_list))
+with_purpose m open_list purposes.Paragraph = record m { nest = with_paragraph m.params (outer m.nest) open_list.list }
+
+-- The state when the innermost list has ended, if there is one.
+abbrev pub with_ended : State → Option OpenList → State
+with_ended m None = m
+with_ended m (Some open_list) = with_purpose m open_list open_list.purpose
 
 -- The state with the box of a register at the end of the innermost list.
 abbrev pub with_used : State → Taking → (register : ℕ) → (shift : ℤ) → Option BoxNode → State
@@ -123,8 +137,9 @@ after m (LoadFont load) = record m { fonts = with_font m.fonts load.slot load.na
 after m (UseFont slot) = record m { current = Some slot }
 after m (Text text) = with_items m (text_shaped m.fonts m.current text).items
 after m (Character code) = with_items m (character_shaped m.fonts m.current code).items
-after m (Open opening) = record m { nest = m.nest ++ opened_list opening ∷ [] }
-after m End = with_closed m (innermost m.nest) (packed_list m.params (innermost m.nest))
+after m (Open opening) = record m { nest = m.nest ++ opened_list (purposes.Box opening) ∷ [] }
+after m Paragraph = record m { nest = m.nest ++ opened_list purposes.Paragraph ∷ [] }
+after m End = with_ended m (innermost m.nest)
 after m (Rule rule) = record m { nest = with_rule m.nest rule (innermost m.nest) }
 after m (Kern width) = with_items m (nodes.Kern width ∷ [])
 after m (Glue glue) = with_items m (nodes.Glue glue ∷ [])
@@ -140,6 +155,7 @@ after m (Split splitting) = record m { registers = with_split m.params.split m.r
 after m (Measure r) = m
 after m (Void r) = record m { registers = slice_set m.registers r None }
 after m (Set parameter) = record m { params = with_parameter m.params parameter }
+after m (Count counting) = record m { counts = slice_set m.counts counting.count counting.value }
 after m (Ship r) =
     record m {
       registers = slice_set m.registers r None;
@@ -147,12 +163,7 @@ after m (Ship r) =
       pages = m.pages + 1;
     }
 
--- The page of the box of a register, if there is one (TeX: The Program, part 32).
-abbrev pub pages_of : Option BoxNode → List Page
-pages_of None = []
-pages_of (Some b) = page_of b ∷ []
-
 -- The pages that an accepted command adds.
 abbrev pub new_pages : State → Command → List Page
-new_pages m (Ship r) = pages_of (held_in m.registers r)
+new_pages m (Ship r) = pages_of m (held_in m.registers r)
 new_pages m command = []

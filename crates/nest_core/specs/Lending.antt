@@ -1,12 +1,17 @@
--- What the nest ends as where a reference to its innermost list is handed out (own; the crates of the job alone, no public clause of `job_core`
+-- What open lists end as where a reference to the innermost of them is handed out (own; the crates of the job alone, no public clause of `job_core`
 -- speaks of it).
-use Rattle.std.specs.Prelude.{List, Option}
+use Rattle.std.specs.Prelude.{◌-◌, Option, length}
 use Rattle.std.specs.Borrow.{LendsIf, MutBor, Fml}
+use Rattle.std.specs.contracts.alloc.Global as global
+use Rattle.std.specs.contracts.impls.GlobalAllocator.TheImpl.{ghosts}
+use Rattle.smallvec.specs.SmallVec.{SmallVec, with_item}
+use Rattle.smallvec.specs.contracts.small_vec.SmallVec as small_vec
 use Rattle.nest_core.specs.declared.nest.OpenList.{OpenList}
-use Rattle.nest_core.specs.contracts.nest.Nest.{the_row}
 use Rattle.nest_core.specs.contracts.nest.OpenList as open_list
-use Rattle.nest_core.specs.State.{with_innermost}
+use denote.Param.{number}
 
--- The innermost list is then the last value behind the reference; where no list is open, the nest stays as it is.
-abbrev pub LendsInnermost : MutBor (List OpenList) → Option (MutBor OpenList) → Fml
-LendsInnermost nest lent = LendsIf the_row open_list.the_row nest lent (with_innermost nest.now) nest.now
+-- The innermost list is then the last value behind the reference; where no list is open, the lists stay as they are.
+abbrev pub LendsInnermost : MutBor (SmallVec OpenList) → Option (MutBor OpenList) → Fml
+LendsInnermost lists lent =
+    LendsIf (small_vec.the_row open_list.the_row (number 4) global.the_row ghosts) open_list.the_row lists lent
+    (with_item lists.now (length lists.now.items - 1)) lists.now

@@ -1,11 +1,13 @@
 pub mod State
+pub mod NextPages
 pub mod OpenLists
+pub mod Paragraphs
 pub mod Checks
 pub mod Answers
 pub mod Effects
 pub mod Machine
 pub mod FontSlots
 pub mod Runs
+pub mod ShortLists
 pub mod EmptiedNest
 pub mod Lending
-pub mod SplitFaults

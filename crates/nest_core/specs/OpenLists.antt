@@ -11,23 +11,23 @@ use Rattle.vert_core.specs.declared.interline.DimensionTooLarge as distances
 use Rattle.vert_core.specs.Interline.{ignored_depth, interline, glue_of, appended}
 use Rattle.nest_core.specs.declared.nest.OpenList.{OpenList}
 use Rattle.nest_core.specs.declared.nest.ListPurpose.{ListPurpose}
-use Rattle.nest_core.specs.declared.nest.ListPurpose.TheVariants.{Box}
+use Rattle.nest_core.specs.declared.nest.ListPurpose.TheVariants.{Box, Paragraph}
 use Rattle.command_core.specs.BoxForms.{kind_of}
 use Rattle.command_core.specs.declared.command.BoxForm.{BoxForm}
 use Rattle.command_core.specs.declared.command.BoxForm.TheVariants.{Hbox, Vbox, Vtop}
-use Rattle.command_core.specs.declared.command.Opening.{Opening}
 use Rattle.pack_core.specs.declared.pack.Target.{Target}
 use Rattle.pack_core.specs.declared.pack.Packed as packs
 use Rattle.pack_core.specs.declared.pack.TooLarge.{TooLarge}
 use Rattle.pack_core.specs.Boxes.{hpacked, vpacked, vtopped}
 
 -- A list that was just opened: it has no items, and no previous depth.
-abbrev pub opened_list : Opening → OpenList
-opened_list opening = record { purpose = Box opening; list = none; previous_depth = ignored_depth }
+abbrev pub opened_list : ListPurpose → OpenList
+opened_list purpose = record { purpose = purpose; list = none; previous_depth = ignored_depth }
 
 -- Which way a list goes, by what it was opened for.
 abbrev pub kind_by : ListPurpose → Kind
 kind_by (Box opening) = kind_of opening.form
+kind_by Paragraph = Horizontal
 
 -- The kind of an open list; where there is none, no command asks for it.
 abbrev pub kind_in : Option OpenList → Kind
@@ -59,9 +59,10 @@ packed_as Hbox params target items = hpacked target items
 packed_as Vbox params target items = vpacked target params.box_max_depth items
 packed_as Vtop params target items = vtopped target params.box_max_depth items
 
--- The box that a list with these items becomes, by what it was opened for.
+-- The box that a list with these items becomes, by what it was opened for. A paragraph becomes none.
 abbrev pub packed_by : ListPurpose → Params → Items → Result packs.Packed TooLarge
 packed_by (Box opening) params items = packed_as opening.form params opening.target items
+packed_by Paragraph params items = Err (record { list = items })
 
 -- What was packed, if the sizes fit.
 abbrev pub if_packed : Result packs.Packed TooLarge → Option packs.Packed
@@ -73,11 +74,12 @@ abbrev pub packed_list : Params → Option OpenList → Option packs.Packed
 packed_list params None = None
 packed_list params (Some open_list) = if_packed (packed_by open_list.purpose params open_list.list)
 
--- The register that the box of a list goes into; none where it goes into the list around.
+-- The register that the box of a list goes into; none where it goes into the list around, as the lines of a paragraph do.
 abbrev pub register_of : ListPurpose → Option ℕ
 register_of (Box opening) = opening.into
+register_of Paragraph = None
 
--- Whether the box of an open list goes into the list around it.
+-- Whether the box or the lines of an open list go into the list around it.
 abbrev pub GoesIntoList : Option OpenList → Type 0
 GoesIntoList None = ⊥
 GoesIntoList (Some open_list) = register_of open_list.purpose ≡ None

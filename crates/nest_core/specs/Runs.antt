@@ -1,24 +1,29 @@
 -- Runs of the machine, with what it does not choose: want of memory and a device that fails (own).
-use Rattle.std.specs.Prelude.{◌≡◌, ◌≢◌, ◌<◌, ◌==◌, [], ◌∷◌, ℕ, Bool, not, List, length, Some, None, is_none, is_some, IsSome, Result, Ok, Err}
+use Rattle.std.specs.Prelude.{◌≡◌, ◌≢◌, ◌<◌, ◌==◌, [], ◌∷◌, ℕ, Bool, true, not, List, length, Option, Some, None, is_none, is_some, IsSome, Result, Ok, Err}
 use Rattle.command_core.specs.declared.command.Command.{Command}
-use Rattle.command_core.specs.declared.command.Command.TheVariants.{LoadFont, UseFont, Open, End, Text, Character, Rule, Kern, Glue, Penalty, Append, Unbox, LastBox, Split, Measure, Void, Set, Ship}
+use Rattle.command_core.specs.declared.command.Command.TheVariants.{LoadFont, UseFont, Open, Paragraph, End, Text, Character, Rule, Kern, Glue, Penalty, Append, Unbox, LastBox, Split, Measure, Void, Set, Count, Ship}
 use Rattle.command_core.specs.declared.command.Refusal.{Refusal}
-use Rattle.command_core.specs.declared.command.Refusal.TheVariants.{OutOfMemory, NoFont, SlotTaken, Device, ListsOpen, JobOver}
+use Rattle.command_core.specs.declared.command.Refusal.TheVariants.{OutOfMemory, NoFont, SlotTaken, NoOpenList, Device, ListsOpen, JobOver}
 use Rattle.command_core.specs.declared.command.Summary.{Summary}
 use Rattle.command_core.specs.Reply.{Reply}
 use Rattle.tfm_core.specs.NamedBytes.{file_named}
 use Rattle.dvi_layout.specs.Fonts.{font_in}
-use Rattle.nest_core.specs.State.{State, innermost, held_in}
+use Rattle.node_core.specs.declared.params.Params.{Params}
+use Rattle.nest_core.specs.declared.nest.OpenList.{OpenList}
+use Rattle.nest_core.specs.declared.nest.ListPurpose.{ListPurpose}
+use Rattle.nest_core.specs.declared.nest.ListPurpose.TheVariants as purposes
+use Rattle.nest_core.specs.State.{State, innermost, outer, held_in}
 use Rattle.nest_core.specs.OpenLists.{GoesIntoList}
-use Rattle.nest_core.specs.Checks.{checks, character_checks, first_of}
+use Rattle.nest_core.specs.Checks.{checks, character_checks, purpose_checks, first_of}
 use Rattle.nest_core.specs.Machine.{Machine, reply_to, step, stopped_machine}
 
--- The commands for which memory may be wanted. The end of a list wants none where the box goes into a register; a command that takes the box
+-- The commands for which memory may be wanted. The end of a list wants none where its box goes into a register; a command that takes the box
 -- of a register, or splits it, wants none where the register is void.
 abbrev pub TakesMemory : State → Command → Type 0
 TakesMemory m (LoadFont load) = Unit {0}
 TakesMemory m (UseFont slot) = ⊥
 TakesMemory m (Open opening) = Unit {0}
+TakesMemory m Paragraph = Unit {0}
 TakesMemory m End = GoesIntoList (innermost m.nest)
 TakesMemory m (Text text) = Unit {0}
 TakesMemory m (Character code) = Unit {0}
@@ -33,15 +38,28 @@ TakesMemory m (Split splitting) = IsSome (held_in m.registers splitting.register
 TakesMemory m (Measure r) = ⊥
 TakesMemory m (Void r) = ⊥
 TakesMemory m (Set parameter) = ⊥
+TakesMemory m (Count counting) = ⊥
 TakesMemory m (Ship r) = Unit {0}
 
+-- The refusals of the end of a list that was opened for that and has these lists around, as far as they are found before any memory is taken: for a
+-- paragraph, that no list is around it.
+abbrev pub early_purpose_checks : Params → (around : List OpenList) → OpenList → ListPurpose → List (Bool × Refusal)
+early_purpose_checks params around open_list (purposes.Box opening) = purpose_checks params around open_list (purposes.Box opening)
+early_purpose_checks params around open_list purposes.Paragraph = (is_none (innermost around), NoOpenList) ∷ []
+
+-- The same for an open list that has these lists around.
+abbrev pub early_end_checks : Params → (around : List OpenList) → Option OpenList → List (Bool × Refusal)
+early_end_checks params around None = (true, NoOpenList) ∷ []
+early_end_checks params around (Some open_list) = early_purpose_checks params around open_list open_list.purpose
+
 -- The refusals that are found before any memory is taken, in their order: all but those that a font file's bytes, its size or the number of
--- items of a text decide.
+-- items of a text decide, or how a paragraph is set.
 abbrev pub early_checks : State → Command → List (Bool × Refusal)
 early_checks m (LoadFont load) =
     (m.over, JobOver) ∷ (is_some (font_in m.fonts load.slot), SlotTaken) ∷ (is_none (file_named load.name m.files), NoFont) ∷ []
 early_checks m (Text text) = (m.over, JobOver) ∷ character_checks m
 early_checks m (Character code) = (m.over, JobOver) ∷ character_checks m
+early_checks m End = (m.over, JobOver) ∷ early_end_checks m.params (outer m.nest) (innermost m.nest)
 early_checks m command = checks m command
 
 -- A command that makes a page.

@@ -1,5 +1,5 @@
 -- What a job keeps, and what is read of it (own; after TeX: The Program, parts 16, 32 and 33).
-use Rattle.std.specs.Prelude.{◌-◌, [], ℕ, Bool, false, List, length, take, replicate, slice_get, slice_set, Option, Some, None, unwrap_or, Result}
+use Rattle.std.specs.Prelude.{◌-◌, [], ℕ, ℤ, pos, Bool, false, List, length, take, replicate, slice_get, slice_set, Option, Some, None, unwrap_or, Result}
 use Rattle.node_core.specs.declared.tree.Node.{Node}
 use Rattle.node_core.specs.declared.tree.BoxNode.{BoxNode}
 use Rattle.node_core.specs.declared.params.Params.{Params}
@@ -8,7 +8,7 @@ use Rattle.node_core.specs.Nodes.{nodes_of, box_count}
 use Rattle.node_core.specs.Parameters.{first_params}
 use Rattle.nest_core.specs.declared.nest.OpenList.{OpenList}
 use Rattle.command_core.specs.declared.command.FontLoad.{FontLoad}
-use Rattle.command_core.specs.declared.limits.TheConstants.{REGISTERS}
+use Rattle.command_core.specs.declared.limits.TheConstants.{REGISTERS, COUNTS}
 use Rattle.command_core.specs.declared.command.Refusal.{Refusal}
 use Rattle.tfm_core.specs.NamedBytes.{NamedBytes, file_named}
 use Rattle.tfm_core.specs.Fonts.{SizedFont}
@@ -17,7 +17,7 @@ use Rattle.dvi_layout.specs.declared.fonts.TheConstants.{FONT_SLOTS}
 use Rattle.nest_core.specs.FontSlots.{font_of}
 
 -- What commands read and change: the font files; the fonts by slot, and the slot of the current one; the parameters; the open lists, the
--- outermost first; the registers by number; how many nodes and pages were shipped; and whether the job is over.
+-- outermost first; the registers by number; the counts of the pages that follow; how many nodes and pages were shipped; and whether the job is over.
 pub record State : Type 0 where
   pub files : List NamedBytes
   pub fonts : Slots
@@ -25,6 +25,7 @@ pub record State : Type 0 where
   pub params : Params
   pub nest : List OpenList
   pub registers : List (Option BoxNode)
+  pub counts : List ℤ
   pub shipped : ℕ
   pub pages : ℕ
   pub over : Bool
@@ -39,6 +40,7 @@ first_state files =
       params = first_params;
       nest = [];
       registers = replicate REGISTERS None;
+      counts = replicate COUNTS (pos 0);
       shipped = 0;
       pages = 0;
       over = false;

@@ -1,21 +1,24 @@
 //! The open lists of a job.
 
-ghost use Rattle.std.specs.Prelude.{◌≡◌, ◌<◌, ◌≤◌, ◌+◌, ◌-◌, ◌++◌, ◌∷◌, [], pos, List, length, None, OnOk, OnErr, IfOk, IfErr, IfSome, IsOk, Some, option_copied};
+ghost use Rattle.std.specs.Prelude.{◌≡◌, ◌<◌, ◌≤◌, ◌+◌, ◌-◌, ◌++◌, ◌∷◌, [], pos, max, List, length, None, ◌≢◌, Ok, Err, OnOk, OnErr, IfOk, IfErr, IfSome, IsOk, Some, option_copied};
 ghost use Rattle.node_core.specs.Items.{none};
 ghost use Rattle.node_core.specs.Nodes.{most_nodes, items_of, nodes_of, last_box};
 ghost use Rattle.vert_core.specs.Interline.{interline, glue_of, appended};
 ghost use Rattle.nest_core.specs.State.{innermost, items_in, nodes_in, outer};
-ghost use Rattle.nest_core.specs.OpenLists.{kind_by, register_of, packed_by, opened_list, glue_in, box_items, packed_as, packed_list};
+ghost use Rattle.nest_core.specs.OpenLists.{kind_by, packed_by, opened_list, glue_in, box_items, packed_as, packed_list};
 ghost use Rattle.nest_core.specs.Checks.{box_checks, inner_checks, is_other, first_of};
 ghost use Rattle.nest_core.specs.Effects.{with_nodes, with_rule, list_with_box, with_box, without_last};
 ghost use Rattle.nest_core.specs.EmptiedNest.{emptied_nest, refilled_nest};
 ghost use Rattle.nest_core.specs.Lending.{LendsInnermost};
+ghost use Rattle.nest_core.specs.Paragraphs.{with_lines};
+ghost use Rattle.paragraph_core.specs.Setting.{setting};
 ghost use Rattle.std.specs.Borrow.{sem};
 
 use command_core::limits::{MOST_ITEMS, MOST_OPEN};
-use command_core::{BoxForm, Opening, Refusal, Register};
+use command_core::{BoxForm, Opening, Refusal};
 use node_core::{BoxNode, Glue, Kind, Node, NodeList, Params, Rule};
 use pack_core::{Packed, Target, TooLarge, hpack, vpack, vtop};
+use paragraph_core::{ParagraphFault, SetParagraph, set_paragraph};
 use scaled_core::Dimen;
 use smallvec::SmallVec;
 use std::alloc::{AllocError, Global};
@@ -29,6 +32,8 @@ use vert_core::{DimensionTooLarge, append_with_glue, interline_glue};
 pub enum ListPurpose {
     /// It becomes a box.
     Box(Opening),
+    /// It becomes the lines of a paragraph in the list around it.
+    Paragraph,
 }
 
 impl ListPurpose {
@@ -38,15 +43,7 @@ impl ListPurpose {
     {
         match self {
             ListPurpose::Box(opening) => opening.form.kind(),
-        }
-    }
-
-    /// The register that the box of the list goes into; None where it goes into the enclosing list.
-    pub fn register(self) -> Option<Register>
-        ensures { result ≡ register_of self }
-    {
-        match self {
-            ListPurpose::Box(opening) => opening.into,
+            ListPurpose::Paragraph => Kind::Horizontal,
         }
     }
 }
@@ -90,18 +87,19 @@ fn pack_as(
     }
 }
 
-/// The box that a list becomes, or the list where a size does not fit.
+/// The box that a list becomes, or the list where a size does not fit. A paragraph becomes no box.
 fn pack_for(purpose: ListPurpose, params: &Params, list: NodeList) -> Result<Packed, TooLarge>
     ensures value { result ≡ packed_by purpose params.now list }
     ensures back { IfErr result (λ large. large.list ≡ list) }
 {
     match purpose {
         ListPurpose::Box(opening) => pack_as(opening.form, opening.target, params, list),
+        ListPurpose::Paragraph => Err(TooLarge { list }),
     }
 }
 
 /// Whether two kinds are not the same.
-pub(crate) fn is_other(a: Kind, b: Kind) -> bool
+pub fn is_other(a: Kind, b: Kind) -> bool
     ensures { result ≡ is_other a b }
 {
     a != b
@@ -158,7 +156,7 @@ impl OpenList {
         ensures ok { OnOk result (first_of (inner_checks kind (Some self.now) (option_copied held.entry)) ≡ None) }
         ensures count { IfOk result (λ count. count ≡ length (nodes_in (option_copied held.entry))) }
         ensures err { IfErr result (λ refusal. first_of (inner_checks kind (Some self.now) (option_copied held.entry)) ≡ Some refusal) }
-        ensures short { IfOk result (λ count. length (nodes_of self.now.list) + count ≤ most_nodes) }
+        ensures short { IfOk result (λ count. length (nodes_of self.now.list) + count ≤ max MOST_ITEMS (length (nodes_of self.now.list))) }
     {
         let length = self.list.len();
         if is_other(kind, self.purpose.kind()) {
@@ -229,9 +227,32 @@ impl OpenList {
             Kind::Vertical => self.append_down(box_node, shift, params),
         }
     }
+
+    /// Puts what the lines of a paragraph bring at the end of the list, whose previous depth is then that of the last line. Where memory is refused,
+    /// the list is as it was.
+    fn append_lines(&mut self, set: SetParagraph) -> Result<(), AllocError>
+        requires { length (nodes_of self.old.list) + length (nodes_of set.items) ≤ most_nodes }
+        ensures ok { OnOk result (self.new ≡ record self.old { list = items_of (nodes_of self.old.list ++ nodes_of set.items); previous_depth = set.depth }) }
+        ensures err { OnErr result (self.new ≡ self.old) }
+    {
+        let mut items = set.items;
+        self.list.append(&mut items)?;
+        self.previous_depth = set.depth;
+        Ok(())
+    }
 }
 
-/// The open lists, the outermost first: at most `MOST_OPEN`.
+/// The innermost of open lists, to be changed.
+fn innermost_of(lists: &mut SmallVec<OpenList, 4>) -> Option<&mut OpenList>
+    ensures* writes_back { sem 𝓛 (LendsInnermost lists.entry result) }
+    ensures some { IfSome result (λ lent. innermost lists.old.items ≡ Some lent.now) }
+    ensures none { result ≡ None → innermost lists.old.items ≡ None }
+{
+    let last = lists.len().saturating_sub(1);
+    lists.get_mut(last)
+}
+
+/// The open lists, the outermost first: at most `MOST_OPEN`, and in each at most `MOST_ITEMS` items.
 #[derive(Debug, Drop)]
 pub struct Nest {
     lists: SmallVec<OpenList, 4>,
@@ -243,6 +264,7 @@ impl Model for Nest {
     ghost use Rattle.nest_core.specs.declared.nest.OpenList.{OpenList};
     ghost use Rattle.nest_core.specs.contracts.nest.OpenList as open_list;
     ghost use Rattle.command_core.specs.declared.limits.TheConstants.{MOST_OPEN};
+    ghost use Rattle.nest_core.specs.ShortLists.{AreShort};
 
     ghost Value = { List OpenList };
 
@@ -250,7 +272,7 @@ impl Model for Nest {
 
     ghost view = { λ nest. nest.lists.items };
 
-    ghost invariant = { λ nest. length nest.lists.items ≤ MOST_OPEN };
+    ghost invariant = { λ nest. (length nest.lists.items ≤ MOST_OPEN) × AreShort nest.lists.items };
 }
 
 impl Nest {
@@ -278,16 +300,6 @@ impl Nest {
         self.lists.last()
     }
 
-    /// The innermost open list, to be changed.
-    fn innermost_mut(&mut self) -> Option<&mut OpenList>
-        ensures* writes_back { sem 𝓛 (LendsInnermost self.entry result) }
-        ensures some { IfSome result (λ lent. innermost self.old ≡ Some lent.now) }
-        ensures none { result ≡ None → innermost self.old ≡ None }
-    {
-        let last = self.lists.len().saturating_sub(1);
-        self.lists.get_mut(last)
-    }
-
     /// How many items the innermost open list has: 0 where none is open.
     pub fn item_count(&self) -> usize
         ensures { result ≡ length (nodes_of (items_in (innermost self.now))) }
@@ -298,15 +310,23 @@ impl Nest {
         }
     }
 
+    /// The innermost list has at most `MOST_ITEMS` items. It does nothing.
+    #[tactic(auto, using(crate::proofs::ShortLists::innermost_short))]
+    pub fn innermost_is_short(&self)
+        ensures { length (nodes_of (items_in (innermost self.now))) ≤ MOST_ITEMS }
+    {
+        let _lists = &self.lists;
+    }
+
     /// Opens a list without nodes inside the others.
-    pub fn begin(&mut self, opening: Opening) -> Result<(), AllocError>
+    pub fn begin(&mut self, purpose: ListPurpose) -> Result<(), AllocError>
         requires { length self.old < MOST_OPEN }
-        ensures ok { OnOk result (self.new ≡ self.old ++ opened_list opening ∷ []) }
+        ensures ok { OnOk result (self.new ≡ self.old ++ opened_list purpose ∷ []) }
         ensures err { OnErr result (self.new ≡ self.old) }
     {
         let list = NodeList::new(*self.lists.allocator());
         self.lists.push(OpenList {
-            purpose: ListPurpose::Box(opening),
+            purpose,
             list,
             previous_depth: Dimen::IGNORE_DEPTH,
         })?;
@@ -316,11 +336,11 @@ impl Nest {
     /// Puts a node at the end of the innermost list.
     #[tactic(auto, using(crate::proofs::Nests::same_innermost))]
     pub fn append(&mut self, node: Node) -> Result<(), AllocError>
-        requires { length (nodes_of (items_in (innermost self.old))) < most_nodes }
+        requires { length (nodes_of (items_in (innermost self.old))) < MOST_ITEMS }
         ensures ok { OnOk result (self.new ≡ with_nodes self.old (node ∷ []) (innermost self.old)) }
         ensures err { OnErr result (self.new ≡ self.old) }
     {
-        let Some(innermost) = self.innermost_mut() else {
+        let Some(innermost) = innermost_of(&mut self.lists) else {
             return Ok(());
         };
         match innermost.list.push(node) {
@@ -332,11 +352,11 @@ impl Nest {
     /// Puts nodes at the end of the innermost list, in order.
     #[tactic(auto, using(crate::proofs::Nests::same_innermost))]
     pub fn extend(&mut self, nodes: Vec<Node>) -> Result<(), AllocError>
-        requires { length (nodes_of (items_in (innermost self.old))) + length nodes.items ≤ most_nodes }
+        requires { length (nodes_of (items_in (innermost self.old))) + length nodes.items ≤ MOST_ITEMS }
         ensures ok { OnOk result (self.new ≡ with_nodes self.old nodes.items (innermost self.old)) }
         ensures err { OnErr result (self.new ≡ self.old) }
     {
-        let Some(innermost) = self.innermost_mut() else {
+        let Some(innermost) = innermost_of(&mut self.lists) else {
             return Ok(());
         };
         innermost.list.extend(nodes)
@@ -345,11 +365,11 @@ impl Nest {
     /// Puts a rule at the end of the innermost list, whose previous depth is then ignored.
     #[tactic(auto, using(crate::proofs::Nests::same_innermost))]
     pub fn append_rule(&mut self, rule: Rule) -> Result<(), AllocError>
-        requires { length (nodes_of (items_in (innermost self.old))) < most_nodes }
+        requires { length (nodes_of (items_in (innermost self.old))) < MOST_ITEMS }
         ensures ok { OnOk result (self.new ≡ with_rule self.old rule (innermost self.old)) }
         ensures err { OnErr result (self.new ≡ self.old) }
     {
-        let Some(innermost) = self.innermost_mut() else {
+        let Some(innermost) = innermost_of(&mut self.lists) else {
             return Ok(());
         };
         match innermost.list.push(Node::Rule(rule)) {
@@ -365,19 +385,19 @@ impl Nest {
     /// they were.
     #[tactic(auto, using(crate::proofs::Nests::same_innermost))]
     pub fn append_list(&mut self, list: &mut NodeList) -> Result<(), AllocError>
-        requires { length (nodes_of (items_in (innermost self.old))) + length (nodes_of list.old) ≤ most_nodes }
+        requires { length (nodes_of (items_in (innermost self.old))) + length (nodes_of list.old) ≤ MOST_ITEMS }
         ensures ok { OnOk result (self.new ≡ with_nodes self.old (nodes_of list.old) (innermost self.old)) }
         ensures err { OnErr result (self.new ≡ self.old) }
         ensures back { OnErr result (list.new ≡ list.old) }
     {
-        let Some(innermost) = self.innermost_mut() else {
+        let Some(innermost) = innermost_of(&mut self.lists) else {
             return Ok(());
         };
         innermost.list.append(list)
     }
 
     /// Puts a box at the end of the innermost list; where memory is refused, it comes back.
-    #[tactic(auto, using(crate::proofs::Nests::same_innermost))]
+    #[tactic(auto, using(crate::proofs::Nests::same_innermost, crate::proofs::ShortLists::short_with_box))]
     pub fn append_to_innermost(
         &mut self,
         box_node: BoxNode,
@@ -389,7 +409,7 @@ impl Nest {
         ensures err { OnErr result (self.new ≡ self.old) }
         ensures back { IfErr result (λ back. back ≡ box_node) }
     {
-        let Some(innermost) = self.innermost_mut() else {
+        let Some(innermost) = innermost_of(&mut self.lists) else {
             return Err(box_node);
         };
         innermost.append_with_glue(box_node, shift, params)
@@ -400,7 +420,7 @@ impl Nest {
         ensures value { result ≡ last_box (nodes_of (items_in (innermost self.old))) }
         ensures rest { self.new ≡ without_last self.old (innermost self.old) }
     {
-        let Some(innermost) = self.innermost_mut() else {
+        let Some(innermost) = innermost_of(&mut self.lists) else {
             return None;
         };
         innermost.list.pop_box()
@@ -414,9 +434,10 @@ impl Nest {
         ensures some { IfSome result (λ packed. self.new ≡ emptied_nest self.old (innermost self.old)) }
         ensures none { result ≡ None → self.new ≡ self.old }
         ensures list { IfSome result (λ packed. packed.box_node.list ≡ items_in (innermost self.old)) }
+        ensures short { IfSome result (λ packed. length (nodes_of packed.box_node.list) ≤ MOST_ITEMS) }
     {
         let alloc = *self.lists.allocator();
-        let Some(innermost) = self.innermost_mut() else {
+        let Some(innermost) = innermost_of(&mut self.lists) else {
             return None;
         };
         innermost.pack(alloc, params)
@@ -424,9 +445,10 @@ impl Nest {
 
     /// Gives the innermost list these items.
     pub fn refill(&mut self, list: NodeList)
+        requires { length (nodes_of list) ≤ MOST_ITEMS }
         ensures { self.new ≡ refilled_nest self.old list (innermost self.old) }
     {
-        let Some(innermost) = self.innermost_mut() else {
+        let Some(innermost) = innermost_of(&mut self.lists) else {
             return;
         };
         innermost.list = list;
@@ -451,6 +473,7 @@ impl Nest {
     }
 
     /// Puts a box at the end of the list around the innermost one, and takes that one away; where memory is refused, the box comes back.
+    #[tactic(auto, using(crate::proofs::ShortLists::short_with_box))]
     pub fn close_into(&mut self, box_node: BoxNode, params: &Params) -> Result<(), BoxNode>
         requires { first_of (box_checks params.now (innermost (outer self.old)) box_node) ≡ None }
         ensures ok { OnOk result (self.new ≡ with_box params.now (outer self.old) (pos 0) box_node (innermost (outer self.old))) }
@@ -465,6 +488,44 @@ impl Nest {
             return Err(box_node);
         };
         around.append_with_glue(box_node, Dimen::ZERO, params)?;
+        let _ = self.lists.pop();
+        Ok(())
+    }
+
+    /// Sets the paragraph of the innermost list behind that previous depth. The lists stay as they are.
+    #[tactic(auto, using(crate::proofs::Nests::same_innermost, crate::proofs::ShortLists::innermost_short))]
+    pub(crate) fn set_innermost(
+        &mut self,
+        previous_depth: Dimen,
+        params: &Params,
+    ) -> Result<SetParagraph, ParagraphFault>
+        ensures ok { IfOk result (λ set. setting (nodes_of (items_in (innermost self.old))) params.now previous_depth ≡ Ok set) }
+        ensures refused { IfErr result (λ fault. fault ≢ ParagraphFault.OutOfMemory → setting (nodes_of (items_in (innermost self.old))) params.now previous_depth ≡ Err fault) }
+        ensures same { self.new ≡ self.old }
+    {
+        let alloc = *self.lists.allocator();
+        let Some(innermost) = innermost_of(&mut self.lists) else {
+            return Err(ParagraphFault::OutOfMemory);
+        };
+        set_paragraph(alloc, &mut innermost.list, params, previous_depth)
+    }
+
+    /// Puts what the lines of a paragraph bring at the end of the list around the innermost one, and takes that one away. Where memory is refused, the
+    /// lists are as they were.
+    #[tactic(auto, using(crate::proofs::ShortLists::short_with_nodes))]
+    pub(crate) fn close_paragraph(&mut self, set: SetParagraph) -> Result<(), AllocError>
+        requires { length (nodes_of (items_in (innermost (outer self.old)))) + length (nodes_of set.items) ≤ MOST_ITEMS }
+        ensures ok { OnOk result (self.new ≡ with_lines (outer self.old) (innermost (outer self.old)) (Ok set)) }
+        ensures err { OnErr result (self.new ≡ self.old) }
+    {
+        let count = self.lists.len();
+        if count < 2 {
+            return Err(AllocError);
+        }
+        let Some(around) = self.lists.get_mut(count - 2) else {
+            return Err(AllocError);
+        };
+        around.append_lines(set)?;
         let _ = self.lists.pop();
         Ok(())
     }

@@ -14,7 +14,7 @@ abbrev pub first_split_params : SplitParams
 first_split_params = record { split_max_depth = pos 1073741823; split_top_skip = rigid (pos 655360) }
 
 -- boxmaxdepth is the greatest dimension, baselineskip 12pt, lineskip 1pt, lineskiplimit 0pt, hsize 6.5in and parfillskip 0pt plus 1fil; then the
--- numbers, and the parameters of splits.
+-- numbers, hoffset and voffset 0pt, and the parameters of splits.
 abbrev pub first_params : Params
 first_params =
     record {
@@ -31,5 +31,7 @@ first_params =
       club_penalty = pos 150;
       widow_penalty = pos 150;
       interline_penalty = pos 0;
+      hoffset = pos 0;
+      voffset = pos 0;
       split = first_split_params;
     }

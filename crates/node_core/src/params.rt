@@ -82,6 +82,10 @@ pub struct Params {
     pub widow_penalty: Number,
     /// The penalty behind each line but the last: interlinepenalty.
     pub interline_penalty: Number,
+    /// How far pages are moved to the right, in scaled points: hoffset.
+    pub hoffset: Dimen,
+    /// How far pages are moved down, in scaled points: voffset.
+    pub voffset: Dimen,
     /// The parameters of the splits of vertical lists.
     pub split: SplitParams,
 }
@@ -102,6 +106,7 @@ fn rigid(width: Dimen) -> Glue
 impl Params {
     /// The parameters of a new job: a vbox may be as deep as a dimension can be, baselines are 12pt apart, and boxes that would come nearer
     /// than 0pt are 1pt apart. Lines are 6.5in wide, the last one is filled up with glue of order fil, and the numbers are those of plain TeX.
+    /// Pages are not moved.
     pub fn first() -> Params
         ensures { result ≡ first_params }
     {
@@ -123,6 +128,8 @@ impl Params {
             club_penalty: Number { value: 150 },
             widow_penalty: Number { value: 150 },
             interline_penalty: Number { value: 0 },
+            hoffset: Dimen::ZERO,
+            voffset: Dimen::ZERO,
             split: SplitParams::first(),
         }
     }

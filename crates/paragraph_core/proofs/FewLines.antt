@@ -16,8 +16,9 @@ use Rattle.break_table.specs.Problems.{ends_of, places_of}
 use Rattle.break_table.specs.Chosen.{top, IsFalling}
 use Rattle.break_table.specs.Tables.{most_places}
 use Rattle.break_core.specs.declared.broken.Breaks.{Breaks}
-use Rattle.break_core.specs.Legal.{up_to, legal_places, shrinks_forever}
-use Rattle.break_core.specs.Passes.{facts_of, line_end, refusal, IsBroken}
+use Rattle.line_meter.specs.Legal.{up_to, legal_places, shrinks_forever}
+use Rattle.line_meter.specs.Facts.{facts_of, refusal}
+use Rattle.break_core.specs.Passes.{line_end, IsBroken}
 use Rattle.vert_core.specs.Interline.{interline, glue_of, appended}
 use Rattle.paragraph_core.specs.Lines.{BrokenParagraph, penalty_nodes, penalty_behind, behind_line, brought_by, depth_before, line_box, vertical_items}
 

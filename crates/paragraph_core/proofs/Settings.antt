@@ -11,7 +11,8 @@ use Rattle.break_core.specs.declared.broken.Breaks.{Breaks}
 use Rattle.break_core.specs.declared.broken.LineEnd.{LineEnd}
 use Rattle.break_core.specs.declared.broken.Pass.{Pass}
 use Rattle.break_core.specs.declared.broken.Pass.TheVariants.{First, Second, Third}
-use Rattle.break_core.specs.Passes.{Facts, facts_of, bound_of, problem_of, IsBefore, IsBroken, refusal}
+use Rattle.line_meter.specs.Facts.{Facts, facts_of, refusal}
+use Rattle.break_core.specs.Passes.{bound_of, problem_of, IsBefore, IsBroken}
 use Rattle.paragraph_core.specs.declared.paragraph.SetParagraph.{SetParagraph}
 use Rattle.paragraph_core.specs.declared.paragraph.ParagraphFault.{ParagraphFault}
 use Rattle.paragraph_core.specs.declared.paragraph.ParagraphFault.TheVariants.{InfiniteShrink, TooManyBreaks, DimensionTooLarge, OutOfMemory}

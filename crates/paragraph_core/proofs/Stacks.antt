@@ -5,7 +5,7 @@ use Rattle.std.specs.List.{list_all}
 use Rattle.std.proofs.lemmas.List.Concat.{flat_map-append}
 use Rattle.std.proofs.lemmas.List.Folds.{list_all-append}
 use Rattle.break_core.specs.declared.broken.LineEnd.{LineEnd}
-use Rattle.break_core.specs.Legal.{up_to}
+use Rattle.line_meter.specs.Legal.{up_to}
 use Rattle.node_core.specs.declared.tree.Node.{Node}
 use Rattle.paragraph_core.specs.Lines.{BrokenParagraph, places_of, line_begin, line_items, boxed_line, line_box, line_brings, depth_before, brought_by, fits_behind, line_fits}
 

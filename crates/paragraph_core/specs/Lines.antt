@@ -13,8 +13,8 @@ use Rattle.pack_core.specs.Boxes.{hbox, hbox_numbers}
 use Rattle.pack_core.specs.Glue.{is_zero}
 use Rattle.scaled_core.specs.Dimensions.{fits}
 use Rattle.break_core.specs.declared.broken.LineEnd.{LineEnd}
-use Rattle.break_core.specs.Legal.{up_to}
-use Rattle.break_core.specs.Kept.{kept}
+use Rattle.line_meter.specs.Legal.{up_to}
+use Rattle.line_meter.specs.Kept.{kept}
 use Rattle.vert_core.specs.Interline.{interline, glue_of, appended}
 
 -- A paragraph that is broken into lines: its finished list, the places where its lines end, in order, the parameters, and the depth that is previous in

@@ -5,8 +5,9 @@ use Rattle.node_core.specs.declared.tree.Node.{Node}
 use Rattle.node_core.specs.Items.{none}
 use Rattle.node_core.specs.Nodes.{items_of}
 use Rattle.break_core.specs.declared.broken.Breaks.{Breaks}
-use Rattle.break_core.specs.declared.fault.BreakFault.TheVariants as breaking
-use Rattle.break_core.specs.Passes.{facts_of, refusal, IsBroken}
+use Rattle.line_meter.specs.declared.fault.BreakFault.TheVariants as breaking
+use Rattle.line_meter.specs.Facts.{facts_of, refusal}
+use Rattle.break_core.specs.Passes.{IsBroken}
 use Rattle.paragraph_core.specs.declared.paragraph.SetParagraph.{SetParagraph}
 use Rattle.paragraph_core.specs.declared.paragraph.ParagraphFault.{ParagraphFault}
 use Rattle.paragraph_core.specs.declared.paragraph.ParagraphFault.TheVariants.{InfiniteShrink, TooManyBreaks, DimensionTooLarge, OutOfMemory}

@@ -5,7 +5,7 @@ use Rattle.node_core.specs.declared.tree.Node.{Node}
 use Rattle.node_core.specs.declared.tree.Node.TheVariants as nodes
 use Rattle.node_core.specs.declared.tree.RuleSize.TheVariants.{Fixed}
 use Rattle.node_core.specs.Parameters.{rigid, first_params}
-use Rattle.break_core.specs.Legal.{up_to}
+use Rattle.line_meter.specs.Legal.{up_to}
 use Rattle.vert_core.specs.Interline.{ignored_depth}
 use Rattle.paragraph_core.specs.Lines.{BrokenParagraph, behind_line}
 use Rattle.paragraph_core.specs.Finished.{finished}

@@ -8,9 +8,10 @@ use Rattle.break_table.specs.Problems.{Path, ends_of}
 use Rattle.break_core.specs.declared.broken.LineEnd.{LineEnd}
 use Rattle.break_core.specs.declared.broken.Pass.{Pass}
 use Rattle.break_core.specs.declared.broken.Pass.TheVariants.{First, Second, Third}
-use Rattle.break_core.specs.declared.fault.BreakFault.{BreakFault}
-use Rattle.break_core.specs.declared.fault.BreakFault.TheVariants as breaking
-use Rattle.break_core.specs.Passes.{Facts, facts_of, bound_of, problem_of, line_end, refusal}
+use Rattle.line_meter.specs.declared.fault.BreakFault.{BreakFault}
+use Rattle.line_meter.specs.declared.fault.BreakFault.TheVariants as breaking
+use Rattle.line_meter.specs.Facts.{Facts, facts_of, refusal}
+use Rattle.break_core.specs.Passes.{bound_of, problem_of, line_end}
 use Rattle.paragraph_core.specs.declared.paragraph.SetParagraph.{SetParagraph}
 use Rattle.paragraph_core.specs.declared.paragraph.ParagraphFault.{ParagraphFault}
 use Rattle.paragraph_core.specs.declared.paragraph.ParagraphFault.TheVariants.{InfiniteShrink, TooManyBreaks, DimensionTooLarge, OutOfMemory}

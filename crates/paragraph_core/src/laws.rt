@@ -6,7 +6,7 @@ ghost use Rattle.node_core.specs.declared.tree.Node.{Node};
 ghost use Rattle.node_core.specs.Parameters.{first_params};
 ghost use Rattle.vert_core.specs.Interline.{interline, glue_of, appended};
 ghost use Rattle.paragraph_core.specs.Lines.{line_box, penalty_nodes, vertical_items, last_depth};
-ghost use Rattle.break_core.specs.Passes.{refusal};
+ghost use Rattle.line_meter.specs.Facts.{refusal};
 ghost use Rattle.paragraph_core.specs.declared.paragraph.SetParagraph.{SetParagraph};
 ghost use Rattle.paragraph_core.specs.declared.paragraph.ParagraphFault.{ParagraphFault};
 ghost use Rattle.paragraph_core.specs.declared.paragraph.ParagraphFault.TheVariants.{OutOfMemory};

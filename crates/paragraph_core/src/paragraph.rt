@@ -3,7 +3,8 @@
 ghost use Rattle.std.specs.Prelude.{◌≡◌, ◌≤◌, ◌+◌, ◌<◌, length, None, IfOk, IfErr, OnOk, OnErr};
 ghost use Rattle.std.specs.Option.{unwrap_or};
 ghost use Rattle.node_core.specs.Nodes.{most_nodes, nodes_of};
-ghost use Rattle.break_core.specs.Passes.{facts_of, refusal, IsBroken};
+ghost use Rattle.line_meter.specs.Facts.{facts_of, refusal};
+ghost use Rattle.break_core.specs.Passes.{IsBroken};
 ghost use Rattle.paragraph_core.specs.Finished.{finished};
 ghost use Rattle.paragraph_core.specs.Paragraphs.{IsSet, IsSetParagraph, IsUnset};
 

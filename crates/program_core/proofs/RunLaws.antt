@@ -7,13 +7,15 @@ use Rattle.command_core.specs.declared.command.Summary.{Summary}
 use Rattle.command_core.specs.Reply.{Reply}
 use Rattle.tfm_core.specs.NamedBytes.{NamedBytes}
 use Rattle.device_core.specs.Told.{IsFrontOf}
-use Rattle.dvi_write.specs.Draft.{file_of}
+use Rattle.dvi_layout.specs.Layout.{front, whole}
 use Rattle.job_core.specs.Shown.{GivesFiles, FilesPages}
 use Rattle.job_core.specs.Closing.{ClosesFile}
 use Rattle.nest_core.specs.Machine.{Machine, first_machine}
 use Rattle.job_core.specs.Jobs.{Seen, Holds, RunsTo, FinishesTo}
 use Rattle.device_core.specs.Held.{Held}
 use Rattle.job_core.proofs.WholeRuns.{files_kept}
+use Rattle.job_core.proofs.Endings.{said}
+use Rattle.job_core.proofs.NewJobs.{front_none}
 use Rattle.std.specs.Io.KnownBytes.{Keeps}
 use Rattle.std.proofs.lemmas.List.{append-nil}
 use Rattle.program_core.specs.Texts.{hexadecimal_text}
@@ -30,7 +32,8 @@ on_ok (Err x) e h = absurd (cc)
 -- a new job has told nothing
 pub new_untouched : (files : List NamedBytes) (job : Seen) (n k : ℕ) (told : Option (List ℕ)) → Holds job (first_machine files) → job.failed ≡ n → k ≡ job.failed → told ≡ job.told → IsUntouched n k told
 new_untouched files job n k told holds f g t = record {
-  silent = let P : Option (List ℕ) → Type 0 = λ o. IfSome o (λ bytes. bytes ≡ []) in subst P (sym t) (holds.told refl);
+  silent = let P : Option (List ℕ) → Type 0 = λ o. IfSome o (λ bytes. bytes ≡ []) in
+      subst P (sym t) (said job.told job.told (front (first_machine files).state.fonts []) (λ bytes. bytes ≡ []) (holds.written refl).told (front_none (first_machine files).state.fonts));
   failed_is = g ∙ f;
 }
 
@@ -41,12 +44,12 @@ size_at (Err refusal) told run m holds h = h
 pub was_run : (files : List NamedBytes) (commands : List Command) (replies : List Reply) (end : Result Summary Refusal) (job run done : Seen)
     → Holds job (first_machine files) → RunsTo job commands replies run → FinishesTo run end done
     → FilesPages run end done
-    → ((m : Machine) → Holds run m → OnOk end (IfSome done.told (λ bytes. bytes ≡ file_of m.state.fonts m.pages)))
+    → ((m : Machine) → Holds run m → OnOk end (IfSome done.told (λ bytes. bytes ≡ whole m.state.fonts m.pages)))
     → IfOk end (λ summary. (m : Machine) → Holds run m → IfSome done.told (λ bytes. summary.bytes ≡ length bytes))
     → ClosesFile run end done
-    → (end ≡ Err refusals.Device → (m : Machine) → Holds run m → IfSome done.told (λ bytes. IsFrontOf bytes (file_of m.state.fonts m.pages)))
+    → (end ≡ Err refusals.Device → (m : Machine) → Holds run m → IfSome done.told (λ bytes. IsFrontOf bytes (whole m.state.fonts m.pages)))
     → WasRun files job.failed commands replies end done.failed done.told
-was_run files commands replies end job run done holds runs finishes dvi file size closed front =
+was_run files commands replies end job run done holds runs finishes dvi file size closed part =
     let middle = runs (first_machine files) holds in
     let last = finishes middle.0 middle.2 in
     let same : middle.0.state.files ≡ files = files_kept (first_machine files) job.failed commands replies middle.0 run.failed middle.1 in
@@ -60,8 +63,8 @@ was_run files commands replies end job run done holds runs finishes dvi file siz
       file = file middle.0 middle.2;
       size = size_at end done.told run middle.0 middle.2 size;
       closed = closed middle.0 middle.2;
-      front = λ e. front e middle.0 middle.2;
-      silent = last.2.told;
+      front = λ e. part e middle.0 middle.2;
+      sent = λ running. said done.told done.told (front last.0.state.fonts last.0.pages) (λ bytes. bytes ≡ front last.0.state.fonts last.0.pages) (last.2.written running).told refl;
     }
 
 -- a run stays one where its numbers, lists and bytes are replaced by equal ones

@@ -10,9 +10,10 @@ use Rattle.command_core.specs.Reply.{Reply}
 use Rattle.tfm_core.specs.NamedBytes.{NamedBytes}
 use Rattle.device_core.specs.Told.{IsFrontOf}
 use Rattle.dvi_ops.specs.Fonts.{Metrics}
-use Rattle.dvi_write.specs.Draft.{file_of}
-use Rattle.job_core.specs.Shown.{GivesFiles, IsFileOf}
-use Rattle.job_core.specs.Closing.{IsClosedFor}
+use Rattle.dvi_layout.specs.Layout.{front, whole}
+use Rattle.dvi_layout.specs.Shippable.{IsFileOfPages}
+use Rattle.job_core.specs.Shown.{GivesFiles}
+use Rattle.dvi_layout.specs.Closing.{IsClosedFor}
 use Rattle.device_core.specs.Held.{Held}
 use Rattle.nest_core.specs.Machine.{Machine, first_machine}
 use Rattle.nest_core.specs.Runs.{Run, Finishes}
@@ -38,19 +39,19 @@ is_accepted replies end = list_all is_ok replies && is_ok end
 -- a new job with these font files took these commands and gave these replies, and was then finished with this end; its device's
 -- count of failures went from n to k, and the device then told these bytes: a DVI file of exactly the machine's pages, by the definition
 -- of DVI files alone and by the widths that the font files give, which is the one that this writer lays out, and which ends as a file of these pages
--- does; or the front of it that it took
+-- does; or the front of it that it took; or, where the job is not over because its end was refused, the bytes of all pages that were shipped
 pub record WasRun (files : List NamedBytes) (n : ℕ) (commands : List Command) (replies : List Reply) (end : Result Summary Refusal) (k : ℕ) (told : Option (List ℕ)) : Type 0 where
   pub middle : Machine
   pub failed : ℕ
   pub ran : Run (first_machine files) n commands replies middle failed
   pub last : Machine
   pub finished : Finishes middle failed end last k
-  pub dvi : (metrics : Metrics) → GivesFiles metrics files → OnOk end (IfSome told (λ bytes. IsFileOf metrics bytes middle.pages))
-  pub file : OnOk end (IfSome told (λ bytes. bytes ≡ file_of middle.state.fonts middle.pages))
+  pub dvi : (metrics : Metrics) → GivesFiles metrics files → OnOk end (IfSome told (λ bytes. IsFileOfPages metrics bytes middle.pages))
+  pub file : OnOk end (IfSome told (λ bytes. bytes ≡ whole middle.state.fonts middle.pages))
   pub size : IfOk end (λ summary. IfSome told (λ bytes. summary.bytes ≡ length bytes))
   pub closed : middle.pages ≢ [] → OnOk end (IfSome told (λ bytes. IsClosedFor middle.state.fonts bytes middle.pages))
-  pub front : end ≡ Err refusals.Device → IfSome told (λ bytes. IsFrontOf bytes (file_of middle.state.fonts middle.pages))
-  pub silent : last.state.over ≡ false → IfSome told (λ bytes. bytes ≡ [])
+  pub sent : last.state.over ≡ false → IfSome told (λ bytes. bytes ≡ front last.state.fonts last.pages)
+  pub front : end ≡ Err refusals.Device → IfSome told (λ bytes. IsFrontOf bytes (whole middle.state.fonts middle.pages))
 
 -- a script was run, and this is the text of its answers
 pub record RanScript (text : List ℕ) (files : List NamedBytes) (n k : ℕ) (told : Option (List ℕ)) (answer : List ℕ) (fine : Bool) : Type 0 where

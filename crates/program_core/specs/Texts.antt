@@ -1,14 +1,15 @@
 -- The texts of answers (own).
 use Rattle.std.specs.Prelude.{◌==◌, ℕ, ℤ, ◌+◌, ◌/◌, ◌%◌, Bool, ◌||◌, if◌then◌else◌, List, [], ◌∷◌, ◌++◌, Result, Ok, Err, codes, decimal, length, nat_lt, Option, Some, None}
 use Rattle.std.specs.List.{flat_map, zip, enumerate_from}
+use Rattle.std.specs.Fmt.{signed_decimal}
 use Rattle.scaled_core.specs.PrintedDimensions.{dimension_text}
 use Rattle.node_core.specs.declared.tree.Kind.{Kind}
 use Rattle.node_core.specs.declared.tree.Kind.TheVariants.{Horizontal, Vertical}
 use Rattle.command_core.specs.declared.command.Sizes.{Sizes}
 use Rattle.command_core.specs.declared.command.Answer.{Answer}
-use Rattle.command_core.specs.declared.command.Answer.TheVariants.{Done, Packed, Measured, MeasuredVoid, Shaped, Added, Split, SplitVoid, Shipped}
+use Rattle.command_core.specs.declared.command.Answer.TheVariants.{Done, Packed, Measured, MeasuredVoid, Shaped, Added, Paragraph, Split, SplitVoid, Shipped}
 use Rattle.command_core.specs.declared.command.Refusal.{Refusal}
-use Rattle.command_core.specs.declared.command.Refusal.TheVariants.{OutOfMemory, DimensionTooLarge, NoFont, BadTfm, SlotTaken, NoOpenList, WrongMode, WrongKind, ListTooLong, TooDeep, InfiniteShrink, HugePage, TooManyPages, TooMuchShipped, ListsOpen, Device, JobOver, VoidBox}
+use Rattle.command_core.specs.declared.command.Refusal.TheVariants.{OutOfMemory, DimensionTooLarge, NoFont, BadTfm, SlotTaken, NoOpenList, WrongMode, WrongKind, ListTooLong, TooDeep, InfiniteShrink, TooManyBreaks, HugePage, TooManyPages, TooMuchShipped, ListsOpen, Device, JobOver, VoidBox}
 use Rattle.command_core.specs.declared.command.Summary.{Summary}
 use Rattle.tfm_core.specs.declared.fault.TfmCause.{TfmCause}
 use Rattle.tfm_core.specs.declared.fault.TfmCause.TheVariants.{TooShort, Counts, DesignSize, CharInfo, FixWord, LigKern}
@@ -38,6 +39,7 @@ refusal_row WrongKind = (9, codes "WrongKind")
 refusal_row ListTooLong = (10, codes "ListTooLong")
 refusal_row TooDeep = (11, codes "TooDeep")
 refusal_row InfiniteShrink = (12, codes "InfiniteShrink")
+refusal_row TooManyBreaks = (13, codes "TooManyBreaks")
 refusal_row HugePage = (14, codes "HugePage")
 refusal_row TooManyPages = (15, codes "TooManyPages")
 refusal_row TooMuchShipped = (16, codes "TooMuchShipped")
@@ -78,6 +80,14 @@ unfoldable pub rest_text : Option Sizes → List ℕ
 rest_text None = codes "void"
 rest_text (Some sizes) = sizes_text sizes
 
+-- the lines of a paragraph
+unfoldable pub lines_text : ℕ → List ℕ
+lines_text lines = codes "paragraph lines " ++ decimal lines
+
+-- the overhang and the demerits of a paragraph
+unfoldable pub costs_text : ℤ → ℤ → List ℕ
+costs_text overhang demerits = codes " overhang " ++ (signed_decimal overhang ++ (codes " demerits " ++ signed_decimal demerits))
+
 -- a refusal with its number and its name
 unfoldable pub refusal_text : Refusal → List ℕ
 refusal_text refusal = codes "refused " ++ (decimal (refusal_row refusal).0 ++ (codes " " ++ (refusal_row refusal).1))
@@ -90,6 +100,8 @@ answer_text (Measured kind sizes) = codes "measured " ++ (kind_name kind ++ (cod
 answer_text MeasuredVoid = codes "measured void"
 answer_text (Shaped items missing) = codes "added " ++ (decimal items ++ (codes " missing " ++ decimal missing))
 answer_text (Added items) = codes "added " ++ decimal items
+answer_text (Paragraph lines pass overhang demerits) =
+    lines_text lines ++ (codes " pass " ++ (decimal pass ++ costs_text overhang demerits))
 answer_text (Split front badness rest) =
     codes "split " ++ (sizes_text front ++ (codes " badness " ++ (decimal badness ++ (codes " rest " ++ rest_text rest))))
 answer_text SplitVoid = codes "split void"

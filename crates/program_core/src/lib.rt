@@ -17,3 +17,4 @@ pub use memory_run::run_memory;
 pub use program::{ProgramFault, answer_input, refuse_memory};
 pub use run::{RunFault, run_script};
 pub use script_core::{Cause, Line, ScriptFault, read_script};
+pub use writing::{Unwritten, write_text};

@@ -1,7 +1,8 @@
 //! The texts of answers.
 
 ghost use Rattle.std.specs.Prelude.{◌≡◌, ◌++◌, ◌+◌, ◌*◌, ◌<◌, decimal, OnOk, OnErr, IfOk};
-ghost use Rattle.program_core.specs.Texts.{refusal_row, metric_refusal_name, cause_name, kind_name, points_text, sizes_text, rest_text, refusal_text, answer_text, reply_text, answer_line, summary_text, end_line, answer_lines, answers_text, script_refusal_text};
+ghost use Rattle.std.specs.Fmt.{signed_decimal};
+ghost use Rattle.program_core.specs.Texts.{refusal_row, metric_refusal_name, cause_name, kind_name, points_text, sizes_text, rest_text, lines_text, costs_text, refusal_text, answer_text, reply_text, answer_line, summary_text, end_line, answer_lines, answers_text, script_refusal_text};
 
 use itoa::Buffer;
 use job_core::{Answer, Refusal, Reply, Sizes, Summary, TfmCause};
@@ -41,6 +42,7 @@ fn refusal_row(refusal: Refusal) -> (u32, &'static str)
         Refusal::ListTooLong => (10, "ListTooLong"),
         Refusal::TooDeep => (11, "TooDeep"),
         Refusal::InfiniteShrink => (12, "InfiniteShrink"),
+        Refusal::TooManyBreaks => (13, "TooManyBreaks"),
         Refusal::HugePage => (14, "HugePage"),
         Refusal::TooManyPages => (15, "TooManyPages"),
         Refusal::TooMuchShipped => (16, "TooMuchShipped"),
@@ -87,6 +89,15 @@ fn push_text(text: &str, out: &mut Vec<u8>) -> Result<(), AllocError>
 /// Appends a number in decimal, or leaves all as it was.
 fn push_number(number: u64, out: &mut Vec<u8>) -> Result<(), AllocError>
     ensures ok { OnOk result (out.new.items ≡ out.old.items ++ decimal number) }
+    ensures err { OnErr result (out.new.items ≡ out.old.items) }
+{
+    let mut buffer = Buffer::new();
+    out.extend_from_slice(buffer.format(number).as_bytes())
+}
+
+/// Appends a number in decimal, with a sign where it is below 0, or leaves all as it was.
+fn push_signed(number: i64, out: &mut Vec<u8>) -> Result<(), AllocError>
+    ensures ok { OnOk result (out.new.items ≡ out.old.items ++ signed_decimal number) }
     ensures err { OnErr result (out.new.items ≡ out.old.items) }
 {
     let mut buffer = Buffer::new();
@@ -168,6 +179,42 @@ fn push_added(items: usize, out: &mut Vec<u8>) -> Result<(), AllocError>
     push_number(items as u64, out)
 }
 
+/// Appends the number of lines of a paragraph.
+fn push_lines(lines: usize, out: &mut Vec<u8>) -> Result<(), AllocError>
+    ensures { OnOk result (out.new.items ≡ out.old.items ++ lines_text lines) }
+{
+    push_text("paragraph lines ", out)?;
+    push_number(lines as u64, out)
+}
+
+/// Appends the overhang and the demerits of a paragraph.
+#[tactic(auto, unfolding(crate::specs::Texts::costs_text))]
+fn push_costs(overhang: i64, demerits: i64, out: &mut Vec<u8>) -> Result<(), AllocError>
+    ensures { OnOk result (out.new.items ≡ out.old.items ++ costs_text overhang demerits) }
+{
+    push_text(" overhang ", out)?;
+    push_signed(overhang, out)?;
+    push_text(" demerits ", out)?;
+    push_signed(demerits, out)
+}
+
+/// Appends what a paragraph became: its lines, the pass that decided, its overhang and its demerits.
+#[tactic(auto, unfolding(crate::specs::Texts::answer_text))]
+fn push_paragraph(
+    lines: usize,
+    pass: u8,
+    overhang: i64,
+    demerits: i64,
+    out: &mut Vec<u8>,
+) -> Result<(), AllocError>
+    ensures { OnOk result (out.new.items ≡ out.old.items ++ answer_text (Answer.Paragraph lines pass overhang demerits)) }
+{
+    push_lines(lines, out)?;
+    push_text(" pass ", out)?;
+    push_number(u64::from(pass), out)?;
+    push_costs(overhang, demerits, out)
+}
+
 /// Appends what is left of a box that was split: its sizes, or that nothing is left.
 #[tactic(auto, unfolding(crate::specs::Texts::rest_text))]
 fn push_rest(rest: &Option<Sizes>, out: &mut Vec<u8>) -> Result<(), AllocError>
@@ -218,6 +265,12 @@ fn push_answer(answer: &Answer, out: &mut Vec<u8>) -> Result<(), AllocError>
         Answer::MeasuredVoid => push_text("measured void", out),
         Answer::Shaped { items, missing } => push_shaped(*items, *missing, out),
         Answer::Added(items) => push_added(*items, out),
+        Answer::Paragraph {
+            lines,
+            pass,
+            overhang,
+            demerits,
+        } => push_paragraph(*lines, *pass, *overhang, *demerits, out),
         Answer::Split {
             front,
             badness,

@@ -1,1 +1,2 @@
 pub mod ReadBackLemmas
+pub mod ListedLemmas

@@ -6,7 +6,8 @@ use Rattle.command_core.specs.declared.command.Summary.{Summary}
 use Rattle.dvi_read.specs.Opened.{Opened, GivesPages, IsExact}
 use Rattle.dvi_walk.specs.declared.fault.DviFault.{DviFault}
 use Rattle.job_core.specs.Jobs.{Holds, Seen}
-use Rattle.job_core.specs.Shown.{FilesPages, IsFileOf, shown_page}
+use Rattle.dvi_layout.specs.Shippable.{IsFileOfPages, read_page}
+use Rattle.job_core.specs.Shown.{FilesPages}
 use Rattle.nest_core.specs.Machine.{Machine}
 use Rattle.ship_core.specs.Marks.{Page}
 use Rattle.read_back.specs.ReadBack.{IsReadBack}
@@ -15,12 +16,12 @@ use Rattle.tfm_core.specs.NamedBytes.{NamedBytes}
 
 -- Some pages of a file, read.
 some_pages : (files : List NamedBytes) (pages : List Page) (ended : Result Summary Refusal) (told : Option (List ℕ)) → pages ≢ []
-    → OnOk ended (IfSome told (λ bytes. IsFileOf (file_widths files) bytes pages))
-    → OnOk ended (IfSome told (λ bytes. (opened : Result Opened DviFault) → IsExact files bytes opened → GivesPages (map shown_page pages) opened))
+    → OnOk ended (IfSome told (λ bytes. IsFileOfPages (file_widths files) bytes pages))
+    → OnOk ended (IfSome told (λ bytes. (opened : Result Opened DviFault) → IsExact files bytes opened → GivesPages (map read_page pages) opened))
 some_pages files pages (Err refusal) told some is = tt
 some_pages files pages (Ok summary) None some is = tt
 some_pages files [] (Ok summary) (Some bytes) some is = absurd (some refl)
-some_pages files (page ∷ pages) (Ok summary) (Some bytes) some is = λ opened exact. exact (map shown_page (page ∷ pages)) is
+some_pages files (page ∷ pages) (Ok summary) (Some bytes) some is = λ opened exact. exact (map read_page (page ∷ pages)) is
 
 pub read_back : (m : Machine) (old new : Seen) (ended : Result Summary Refusal) → Holds old m → m.pages ≢ [] → FilesPages old ended new → OnOk ended (IfSome new.told (IsReadBack m))
 read_back m old new ended holds some shows =

@@ -4,7 +4,7 @@ use Rattle.std.specs.Str.{bytes_eq}
 use Rattle.node_core.specs.declared.tree.RuleSize.{RuleSize}
 use Rattle.node_core.specs.declared.tree.RuleSize.TheVariants.{Running, Fixed}
 use Rattle.command_core.specs.declared.command.Command.{Command}
-use Rattle.command_core.specs.declared.command.Command.TheVariants.{UseFont, End, Character, Rule, Kern, Penalty, LastBox, Measure, Void, Ship}
+use Rattle.command_core.specs.declared.command.Command.TheVariants.{UseFont, Paragraph, End, Character, Rule, Kern, Penalty, LastBox, Measure, Void, Ship}
 use Rattle.script_core.specs.declared.cause.Cause.{Cause}
 use Rattle.script_core.specs.declared.cause.Cause.TheVariants.{Word, Missing, Extra, Dimension}
 use Rattle.script_core.specs.declared.name.Name.{Name}
@@ -21,6 +21,7 @@ use Rattle.script_core.proofs.FontCauses.{font_cause, font_reads}
 use Rattle.script_core.proofs.OpeningCauses.{opening_cause}
 use Rattle.script_core.proofs.BoxCauses.{append_cause}
 use Rattle.script_core.proofs.SplitCauses.{split_cause}
+use Rattle.script_core.proofs.CountCauses.{count_cause}
 use Rattle.script_core.proofs.GlueCauses.{glue_cause}
 use Rattle.script_core.proofs.ParameterCauses.{set_reads, set_cause}
 
@@ -32,6 +33,15 @@ end_reads rest = named names.End rest
 end_cause : (rest : List (List ℕ)) (cause : Cause) → right_and (no_field_left rest) (Ok End) ≡ Err cause → IsFieldCause cause (codes "end" ∷ rest)
 end_cause [] cause h = absurd (cc)
 end_cause (f ∷ rest) cause h = as_cause _ Extra cause (cc) (extra (codes "end" ∷ []) f rest End (end_reads []) (λ other later. (Extra, end_reads (other ∷ later))))
+
+-- a paragraph that is opened
+par_reads : (rest : List (List ℕ)) → command_of (codes "par" ∷ rest) ≡ right_and (no_field_left rest) (Ok Paragraph)
+unfolding command_named
+par_reads rest = named names.Paragraph rest
+
+par_cause : (rest : List (List ℕ)) (cause : Cause) → right_and (no_field_left rest) (Ok Paragraph) ≡ Err cause → IsFieldCause cause (codes "par" ∷ rest)
+par_cause [] cause h = absurd (cc)
+par_cause (f ∷ rest) cause h = as_cause _ Extra cause (cc) (extra (codes "par" ∷ []) f rest Paragraph (par_reads []) (λ other later. (Extra, par_reads (other ∷ later))))
 
 -- a rule
 rule_reads : (rest : List (List ℕ)) → command_of (codes "rule" ∷ rest) ≡ rule_of rest
@@ -156,6 +166,7 @@ unfolding command_named
 named_cause names.Font rest cause h = font_cause rest cause (font_reads rest ∙ h)
 named_cause names.Use rest cause h = alone_cause slot_count (omega arith) names.Use UseFont rest cause (λ fields. refl) h
 named_cause (names.Open form) rest cause h = opening_cause form rest cause (named (names.Open form) rest ∙ h)
+named_cause names.Paragraph rest cause h = par_cause rest cause h
 named_cause names.End rest cause h = end_cause rest cause h
 named_cause names.Character rest cause h = alone_cause character_count (omega arith) names.Character Character rest cause (λ fields. refl) h
 named_cause names.Rule rest cause h = rule_cause rest cause (rule_reads rest ∙ h)
@@ -169,6 +180,7 @@ named_cause names.Split rest cause h = split_cause rest cause (named names.Split
 named_cause names.Measure rest cause h = alone_cause register_count (omega arith) names.Measure Measure rest cause (λ fields. refl) h
 named_cause names.Void rest cause h = alone_cause register_count (omega arith) names.Void Void rest cause (λ fields. refl) h
 named_cause names.Set rest cause h = set_cause rest cause (set_reads rest ∙ h)
+named_cause names.Count rest cause h = count_cause rest cause (named names.Count rest ∙ h)
 named_cause names.Ship rest cause h = alone_cause register_count (omega arith) names.Ship Ship rest cause (λ fields. refl) h
 
 no_name : (word : List ℕ) (rest : List (List ℕ)) → name_of word ≡ None → command_of (word ∷ rest) ≡ Err Word

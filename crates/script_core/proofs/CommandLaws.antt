@@ -8,9 +8,9 @@ use Rattle.command_core.specs.declared.command.BoxForm.{BoxForm}
 use Rattle.command_core.specs.declared.command.Taking.{Taking}
 use Rattle.command_core.specs.declared.command.Parameter.{Parameter}
 use Rattle.command_core.specs.declared.command.Command.{Command}
-use Rattle.command_core.specs.declared.command.Command.TheVariants.{UseFont, End, Character, Kern, Glue, Penalty, LastBox, Measure, Void, Set, Ship}
+use Rattle.command_core.specs.declared.command.Command.TheVariants.{UseFont, Paragraph, End, Character, Kern, Glue, Penalty, LastBox, Measure, Void, Set, Ship}
 use Rattle.script_core.specs.declared.cause.Cause.{Cause}
-use Rattle.script_core.specs.declared.cause.Cause.TheVariants.{Word}
+use Rattle.script_core.specs.declared.cause.Cause.TheVariants.{Word, Number}
 use Rattle.script_core.specs.declared.name.Name.{Name}
 use Rattle.script_core.specs.declared.name.Name.TheVariants as names
 use Rattle.script_core.specs.declared.parameter.SizeParameter.{SizeParameter}
@@ -21,12 +21,13 @@ use Rattle.script_core.specs.declared.parameter.NumberParameter.{NumberParameter
 use Rattle.script_core.specs.declared.parameter.NumberParameter.TheVariants as numbers
 use Rattle.script_core.specs.Names.{name_of}
 use Rattle.script_core.specs.ParameterNames.{size_name, skip_name, number_name, with_size, with_skip, with_number}
-use Rattle.script_core.specs.Grammar.{register_count, slot_count, character_count, IsNumberAmong, IsPenalty, IsDimension, form_text, IsTarget, taking_text, unboxing_text, IsGlue, Says}
-use Rattle.script_core.specs.Reading.{rest_of, number_first, dimension_first, map_ok, no_field_left, last_number, last_dimension, right_and, font_of, rule_of, last_penalty, opening, opening_with_register, opening_into, opening_with_size, opening_of, append, shift_of, append_of, unboxing, split, split_into, split_height, split_to, split_of, glue_of, parameter_by, parameter_of, command_named, named_by, command_of}
+use Rattle.script_core.specs.Grammar.{register_count, slot_count, character_count, count_count, IsNumberAmong, IsCount, IsPenalty, IsDimension, form_text, IsTarget, taking_text, unboxing_text, IsGlue, Says}
+use Rattle.script_core.specs.Reading.{rest_of, some_or, count_of, count_first, last_count, counting, counting_of, number_first, dimension_first, map_ok, no_field_left, last_number, last_dimension, right_and, font_of, rule_of, last_penalty, opening, opening_with_register, opening_into, opening_with_size, opening_of, append, shift_of, append_of, unboxing, split, split_into, split_height, split_to, split_of, glue_of, parameter_by, parameter_of, command_named, named_by, command_of}
 use Rattle.script_core.proofs.FieldLaws.{same_bytes}
+use Rattle.script_core.proofs.CountNumbers.{writes_count}
 use Rattle.script_core.proofs.NameLaws.{name_text, name_written}
 use Rattle.script_core.proofs.ParameterNameLaws.{size_text, skip_text, number_text, size_written, skip_written, number_written}
-use Rattle.script_core.proofs.ReadFields.{number_last, dimension_last, number_read, font_name_read, two_fields, chosen_size_read, size_read, nothing_left, rule_read, font_read, made, then_read, dimension_first_read, shift_read, glue_read, penalty_last}
+use Rattle.script_core.proofs.ReadFields.{nothing_after, number_last, dimension_last, number_read, font_name_read, two_fields, chosen_size_read, size_read, nothing_left, rule_read, font_read, made, then_read, dimension_first_read, shift_read, glue_read, penalty_last}
 
 along : (fields : List (List ℕ)) (c d : Command) → c ≡ d → Says fields c → Says fields d
 along fields c d e h = let P : Command → Type 0 = λ x. Says fields x in subst P e h
@@ -146,12 +147,36 @@ says_penalty rest command h =
     let last = penalty_last rest m.0 m.1 in
     along (codes "penalty" ∷ rest) (Penalty m.0) command m.2 (last.0, ap (λ (xs : List (List ℕ)). codes "penalty" ∷ xs) last.1, last.2)
 
+count_in_field : (f : List ℕ) (o : Option ℤ) (z : ℤ) → count_of f ≡ o → some_or Number o ≡ Ok z → IsCount f z
+count_in_field f None z e h = absurd (cc)
+count_in_field f (Some y) z e h = writes_count f z (cc)
+
+-- one count and nothing else was read
+count_last : (rest : List (List ℕ)) (z : ℤ) → last_count rest ≡ Ok z → (f : List ℕ) × (rest ≡ f ∷ []) × IsCount f z
+unfolding last_count count_first
+count_last [] z h = absurd (cc)
+count_last (f ∷ rest) z h =
+    let after = nothing_after (some_or Number (count_of f)) rest z h in
+    (f, ap (λ (xs : List (List ℕ)). f ∷ xs) after.0, count_in_field f (count_of f) z refl after.1)
+
+says_count : (rest : List (List ℕ)) (command : Command) → counting_of rest ≡ Ok command → Says (codes "count" ∷ rest) command
+unfolding counting_of
+says_count rest command h =
+    let read = then_read (number_first count_count rest) (λ count. map_ok (counting count) (last_count (rest_of rest))) command h in
+    let i = number_read count_count rest read.0 read.1 in
+    let m = made (counting read.0) (last_count (rest_of rest)) command read.2 in
+    let last = count_last (rest_of rest) m.0 m.1 in
+    let all : rest ≡ i.0 ∷ last.0 ∷ [] = i.1 ∙ ap (λ (xs : List (List ℕ)). i.0 ∷ xs) last.1 in
+    along _ _ _ m.2 (i.0, last.0, ap (λ (xs : List (List ℕ)). codes "count" ∷ xs) all, i.2, last.2)
+
 -- a parameter that is a dimension was read
 says_size : (name : SizeParameter) (d : List ℕ) (z : ℤ) → IsDimension d z → Says (codes "set" ∷ size_text name ∷ d ∷ []) (Set (with_size name z))
 says_size sizes.BoxMaxDepth d z is = (d, refl, is)
 says_size sizes.LineSkipLimit d z is = (d, refl, is)
 says_size sizes.SplitMaxDepth d z is = (d, refl, is)
 says_size sizes.Hsize d z is = (d, refl, is)
+says_size sizes.Hoffset d z is = (d, refl, is)
+says_size sizes.Voffset d z is = (d, refl, is)
 
 says_skip : (name : SkipParameter) (more : List (List ℕ)) (g : glues.Glue) → IsGlue more g → Says (codes "set" ∷ skip_text name ∷ more) (Set (with_skip name g))
 says_skip skips.BaselineSkip more g is = (more, refl, is)
@@ -214,6 +239,10 @@ says_alone count name rest make command says h =
     let last = number_last count rest m.0 m.1 in
     along _ _ _ m.2 (let P : List (List ℕ) → Type 0 = λ xs. Says (name ∷ xs) (make m.0) in subst P (sym last.1) (says last.0 m.0 last.2))
 
+says_par : (rest : List (List ℕ)) (command : Command) → right_and (no_field_left rest) (Ok Paragraph) ≡ Ok command → Says (codes "par" ∷ rest) command
+says_par [] command h = let e : Paragraph ≡ command = cc in along _ _ _ e refl
+says_par (field ∷ rest) command h = absurd (cc)
+
 says_end : (rest : List (List ℕ)) (command : Command) → right_and (no_field_left rest) (Ok End) ≡ Ok command → Says (codes "end" ∷ rest) command
 says_end [] command h = let e : End ≡ command = cc in along _ _ _ e refl
 says_end (field ∷ rest) command h = absurd (cc)
@@ -250,6 +279,7 @@ unfolding command_named
 says_named names.Font rest command h = says_font rest command h
 says_named names.Use rest command h = says_alone slot_count (codes "use") rest UseFont command (λ r n is. (r, refl, is)) h
 says_named (names.Open form) rest command h = says_opening form rest command h
+says_named names.Paragraph rest command h = says_par rest command h
 says_named names.End rest command h = says_end rest command h
 says_named names.Character rest command h = says_alone character_count (codes "char") rest Character command (λ r n is. (r, refl, is)) h
 says_named names.Rule rest command h = says_rule rest command h
@@ -263,6 +293,7 @@ says_named names.Split rest command h = says_split rest command h
 says_named names.Measure rest command h = says_alone register_count (codes "measure") rest Measure command (λ r n is. (r, refl, is)) h
 says_named names.Void rest command h = says_alone register_count (codes "void") rest Void command (λ r n is. (r, refl, is)) h
 says_named names.Set rest command h = says_set rest command h
+says_named names.Count rest command h = says_count rest command h
 says_named names.Ship rest command h = says_alone register_count (codes "ship") rest Ship command (λ r n is. (r, refl, is)) h
 
 says_by : (word : List ℕ) (rest : List (List ℕ)) (command : Command) (o : Option Name) → name_of word ≡ o → named_by o rest ≡ Ok command → Says (word ∷ rest) command

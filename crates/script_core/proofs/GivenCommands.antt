@@ -6,16 +6,17 @@ use Rattle.pack_core.specs.declared.pack.Target.{Target}
 use Rattle.pack_core.specs.declared.pack.Target.TheVariants.{Natural, To, Spread}
 use Rattle.command_core.specs.declared.command.BoxForm.{BoxForm}
 use Rattle.command_core.specs.declared.command.Taking.{Taking}
-use Rattle.command_core.specs.declared.command.Parameter.TheVariants.{BoxMaxDepth, BaselineSkip, LineSkip, LineSkipLimit, SplitMaxDepth, SplitTopSkip, Hsize, ParFillSkip, Pretolerance, Tolerance, LinePenalty, AdjDemerits, ClubPenalty, WidowPenalty, InterlinePenalty}
+use Rattle.command_core.specs.declared.command.Parameter.TheVariants.{BoxMaxDepth, BaselineSkip, LineSkip, LineSkipLimit, SplitMaxDepth, SplitTopSkip, Hsize, ParFillSkip, Pretolerance, Tolerance, LinePenalty, AdjDemerits, ClubPenalty, WidowPenalty, InterlinePenalty, Hoffset, Voffset}
 use Rattle.command_core.specs.declared.command.Command.{Command}
-use Rattle.command_core.specs.declared.command.Command.TheVariants.{LoadFont, UseFont, Open, End, Text, Character, Rule, Kern, Glue, Penalty, Append, Unbox, LastBox, Split, Measure, Void, Set, Ship}
+use Rattle.command_core.specs.declared.command.Command.TheVariants.{LoadFont, UseFont, Open, Paragraph, End, Text, Character, Rule, Kern, Glue, Penalty, Append, Unbox, LastBox, Split, Measure, Void, Set, Count, Ship}
 use Rattle.script_core.specs.declared.name.Name.TheVariants as names
 use Rattle.script_core.specs.declared.amounts.Amount.{Amount}
-use Rattle.script_core.specs.Grammar.{register_count, slot_count, character_count, IsNumberAmong, IsRegister, IsChosenSize, IsTarget, IsDestination, IsShift, IsDimension, IsAmount, IsPart, IsGlue, Says}
+use Rattle.script_core.specs.Grammar.{register_count, slot_count, character_count, count_count, IsCountNumber, IsCount, IsNumberAmong, IsRegister, IsChosenSize, IsTarget, IsDestination, IsShift, IsDimension, IsAmount, IsPart, IsGlue, Says}
 use Rattle.script_core.specs.ParameterNames.{size_name, skip_name, number_name}
-use Rattle.script_core.specs.Reading.{number_first, dimension_first, size_of_font_first, name_first, map_ok, size_first, last_number, last_dimension, chosen_size_of, font_of, rule_of, penalty_first, last_penalty, amount, amount_first, last_amount, opening, opening_with_register, opening_into, opening_with_size, opening_of, append, shift_of, append_of, unboxing, split, split_into, split_height, split_to, split_of, no_amount, glue, last_shrink_of, shrink_of, parts_of, glue_of, parameter_of, command_named, command_of}
+use Rattle.script_core.specs.Reading.{count_first, last_count, counting, counting_of, number_first, dimension_first, size_of_font_first, name_first, map_ok, size_first, last_number, last_dimension, chosen_size_of, font_of, rule_of, penalty_first, last_penalty, amount, amount_first, last_amount, opening, opening_with_register, opening_into, opening_with_size, opening_of, append, shift_of, append_of, unboxing, split, split_into, split_height, split_to, split_of, no_amount, glue, last_shrink_of, shrink_of, parts_of, glue_of, parameter_of, command_named, command_of}
 use Rattle.script_core.proofs.AmountLaws.{amount_given}
 use Rattle.script_core.proofs.FieldLaws.{number_written, penalty_written, dimension_read, size_given, font_named, size_of_font_is}
+use Rattle.script_core.proofs.CountNumbers.{count_written}
 use Rattle.script_core.proofs.NameLaws.{named}
 
 -- a number that is the last field
@@ -61,6 +62,10 @@ split_given : (r : List ℕ) (n : ℕ) (d : List ℕ) (z : ℤ) (q : List ℕ) (
 unfolding split_of split_to split_height split_into number_first dimension_first
 split_given r n d z q m h is at = rw (number_written register_count r n h, dimension_read d z is) (number_alone register_count (split n z) q m at)
 
+counting_given : (i : List ℕ) (count : ℕ) (n : List ℕ) (value : ℤ) → IsCountNumber i count → IsCount n value → counting_of (i ∷ n ∷ []) ≡ Ok (counting count value)
+unfolding counting_of number_first last_count count_first
+counting_given i count n value h is = rw (number_written count_count i count h, count_written n value is) refl
+
 last_amount_given : (make : Amount → glues.Glue) (x : List ℕ) (order : Order) (z : ℤ) → IsAmount x order z → map_ok make (last_amount (x ∷ [])) ≡ Ok (make (amount order z))
 unfolding last_amount amount_first
 last_amount_given make x order z h = rw (amount_given x order z h) refl
@@ -97,6 +102,7 @@ complete fields (LoadFont load) (s, more, e, slot, name, size) =
 complete fields (UseFont n) (s, e, h) = rw e (named names.Use (s ∷ []) ∙ number_alone slot_count UseFont s n h)
 complete fields (Open opened) (size, more, e, target, into) =
     rw e (named (names.Open opened.form) (size ++ more) ∙ opening_given opened.form size opened.target more opened.into target into)
+complete fields Paragraph e = rw e (named names.Paragraph [])
 complete fields End e = rw e (named names.End [])
 complete fields (Text text) h = absurd h
 complete fields (Character n) (c, e, h) = rw e (named names.Character (c ∷ []) ∙ number_alone character_count Character c n h)
@@ -127,4 +133,7 @@ complete fields (Set (AdjDemerits z)) (p, e, h) = rw e (named names.Set (codes "
 complete fields (Set (ClubPenalty z)) (p, e, h) = rw e (named names.Set (codes "clubpenalty" ∷ p ∷ []) ∙ (rw (penalty_written p z h) refl))
 complete fields (Set (WidowPenalty z)) (p, e, h) = rw e (named names.Set (codes "widowpenalty" ∷ p ∷ []) ∙ (rw (penalty_written p z h) refl))
 complete fields (Set (InterlinePenalty z)) (p, e, h) = rw e (named names.Set (codes "interlinepenalty" ∷ p ∷ []) ∙ (rw (penalty_written p z h) refl))
+complete fields (Set (Hoffset z)) (d, e, h) = rw e (named names.Set (codes "hoffset" ∷ d ∷ []) ∙ (rw (dimension_read d z h) refl))
+complete fields (Set (Voffset z)) (d, e, h) = rw e (named names.Set (codes "voffset" ∷ d ∷ []) ∙ (rw (dimension_read d z h) refl))
+complete fields (Count counted) (i, n, e, count, value) = rw e (named names.Count (i ∷ n ∷ []) ∙ counting_given i counted.count n counted.value count value)
 complete fields (Ship n) (r, e, h) = rw e (named names.Ship (r ∷ []) ∙ number_alone register_count Ship r n h)

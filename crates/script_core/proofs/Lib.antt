@@ -2,6 +2,7 @@ pub mod LongWords
 pub mod LineLemmas
 pub mod FieldLemmas
 pub mod Numbers
+pub mod CountNumbers
 pub mod FieldLaws
 pub mod AmountLaws
 pub mod NameLaws
@@ -14,6 +15,7 @@ pub mod FontCauses
 pub mod OpeningCauses
 pub mod BoxCauses
 pub mod SplitCauses
+pub mod CountCauses
 pub mod GlueCauses
 pub mod SharedCauses
 pub mod ParameterCauses

@@ -16,6 +16,7 @@ abbrev pub name_text : Name → List ℕ
 name_text names.Font = codes "font"
 name_text names.Use = codes "use"
 name_text (names.Open form) = form_text form
+name_text names.Paragraph = codes "par"
 name_text names.End = codes "end"
 name_text names.Character = codes "char"
 name_text names.Rule = codes "rule"
@@ -29,6 +30,7 @@ name_text names.Split = codes "vsplit"
 name_text names.Measure = codes "measure"
 name_text names.Void = codes "void"
 name_text names.Set = codes "set"
+name_text names.Count = codes "count"
 name_text names.Ship = codes "ship"
 
 one_name : (b : Bool) (word text : List ℕ) (here : Name) (later : Option Name) (name : Name) → bytes_eq word text ≡ b → text ≡ name_text here → (later ≡ Some name → word ≡ name_text name) → (if b then Some here else later) ≡ Some name → word ≡ name_text name
@@ -43,10 +45,11 @@ box_name_written word name h =
     one_name _ word (codes "hbox") (names.Open forms.Hbox) _ name refl refl
     (one_name _ word (codes "vbox") (names.Open forms.Vbox) _ name refl refl
     (one_name _ word (codes "vtop") (names.Open forms.Vtop) _ name refl refl
+    (one_name _ word (codes "par") names.Paragraph _ name refl refl
     (one_name _ word (codes "end") names.End _ name refl refl
     (one_name _ word (codes "measure") names.Measure _ name refl refl
     (one_name _ word (codes "void") names.Void _ name refl refl
-    (one_name _ word (codes "ship") names.Ship None name refl refl (λ e. absurd (cc)))))))) h
+    (one_name _ word (codes "ship") names.Ship None name refl refl (λ e. absurd (cc))))))))) h
 
 register_name_written : (word : List ℕ) (name : Name) → register_name word ≡ Some name → word ≡ name_text name
 unfolding register_name
@@ -70,7 +73,8 @@ item_name_written word name h =
     (one_name _ word (codes "kern") names.Kern _ name refl refl
     (one_name _ word (codes "glue") names.Glue _ name refl refl
     (one_name _ word (codes "penalty") names.Penalty _ name refl refl
-    (one_name _ word (codes "set") names.Set None name refl refl (λ e. absurd (cc))))))))) h
+    (one_name _ word (codes "set") names.Set _ name refl refl
+    (one_name _ word (codes "count") names.Count None name refl refl (λ e. absurd (cc)))))))))) h
 
 name_by_rest : (word : List ℕ) (name : Name) (o : Option Name) → register_name word ≡ o → name_or o (item_name word) ≡ Some name → word ≡ name_text name
 name_by_rest word name None e h = item_name_written word name h
@@ -92,6 +96,7 @@ name_read names.Use = refl
 name_read (names.Open forms.Hbox) = refl
 name_read (names.Open forms.Vbox) = refl
 name_read (names.Open forms.Vtop) = refl
+name_read names.Paragraph = refl
 name_read names.End = refl
 name_read names.Character = refl
 name_read names.Rule = refl
@@ -109,6 +114,7 @@ name_read names.Split = refl
 name_read names.Measure = refl
 name_read names.Void = refl
 name_read names.Set = refl
+name_read names.Count = refl
 name_read names.Ship = refl
 
 -- the command that a name begins

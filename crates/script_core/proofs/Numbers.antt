@@ -38,7 +38,7 @@ numeral digits h =
     let parts = and_parts (nat_lt 0 (length digits)) (list_all is_decimal digits) h in
     (ltb-true 0 (length digits) parts.0, all_digits digits parts.1)
 
-numeral_passes : (digits : List ℕ) → IsNumeral 10 digits → is_numeral digits ≡ true
+pub numeral_passes : (digits : List ℕ) → IsNumeral 10 digits → is_numeral digits ≡ true
 numeral_passes digits h = rw (lt-ltb 0 (length digits) h.0) (digits_pass digits h.1)
 
 ascii_more : (c : ℕ) (cs : List ℕ) → c < 128 → IsAscii cs → IsAscii (c ∷ cs)

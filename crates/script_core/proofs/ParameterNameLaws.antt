@@ -16,6 +16,8 @@ size_text sizes.BoxMaxDepth = codes "boxmaxdepth"
 size_text sizes.LineSkipLimit = codes "lineskiplimit"
 size_text sizes.SplitMaxDepth = codes "splitmaxdepth"
 size_text sizes.Hsize = codes "hsize"
+size_text sizes.Hoffset = codes "hoffset"
+size_text sizes.Voffset = codes "voffset"
 
 -- how a parameter of glue is written
 abbrev pub skip_text : SkipParameter → List ℕ
@@ -47,7 +49,9 @@ size_written word name h =
     one_of size_text _ word (codes "boxmaxdepth") sizes.BoxMaxDepth _ name refl refl
     (one_of size_text _ word (codes "lineskiplimit") sizes.LineSkipLimit _ name refl refl
     (one_of size_text _ word (codes "splitmaxdepth") sizes.SplitMaxDepth _ name refl refl
-    (one_of size_text _ word (codes "hsize") sizes.Hsize None name refl refl (λ e. absurd (cc))))) h
+    (one_of size_text _ word (codes "hsize") sizes.Hsize _ name refl refl
+    (one_of size_text _ word (codes "hoffset") sizes.Hoffset _ name refl refl
+    (one_of size_text _ word (codes "voffset") sizes.Voffset None name refl refl (λ e. absurd (cc))))))) h
 
 pub skip_written : (word : List ℕ) (name : SkipParameter) → skip_name word ≡ Some name → word ≡ skip_text name
 unfolding skip_name
@@ -74,6 +78,8 @@ size_read sizes.BoxMaxDepth = refl
 size_read sizes.LineSkipLimit = refl
 size_read sizes.SplitMaxDepth = refl
 size_read sizes.Hsize = refl
+size_read sizes.Hoffset = refl
+size_read sizes.Voffset = refl
 
 pub skip_read : (name : SkipParameter) → skip_name (skip_text name) ≡ Some name
 unfolding skip_name

@@ -23,7 +23,7 @@ IsInnerWord field =
     Contains (codes "at" ∷ codes "to" ∷ codes "spread" ∷ codes "into" ∷ codes "plus" ∷ codes "minus" ∷ codes "shift"
     ∷ codes "boxmaxdepth" ∷ codes "baselineskip" ∷ codes "lineskip" ∷ codes "lineskiplimit" ∷ codes "splitmaxdepth" ∷ codes "splittopskip"
     ∷ codes "hsize" ∷ codes "parfillskip" ∷ codes "pretolerance" ∷ codes "tolerance" ∷ codes "linepenalty" ∷ codes "adjdemerits" ∷ codes "clubpenalty"
-    ∷ codes "widowpenalty" ∷ codes "interlinepenalty" ∷ []) field
+    ∷ codes "widowpenalty" ∷ codes "interlinepenalty" ∷ codes "hoffset" ∷ codes "voffset" ∷ []) field
 
 -- one of the words of the grammar of fields, to which `text` does not belong: it begins a command, or stands behind others
 abbrev pub IsWord : List ℕ → Type 0
@@ -80,7 +80,7 @@ pub record HasBadElsewhere (IsRight : List ℕ → Type 0) (fields : List (List 
   pub elsewhere : TakesNames found.front → ⊥
 
 -- the cause holds of the fields. Name: the bad field stands where each name of a font may, and has no other cause. Dimension: it is no dimension
--- that fits. Number: it stands where the number of a register, a slot, a character or a penalty or of a parameter belongs, and is none; or, where the size of a font
+-- that fits. Number: it stands where the number of a register, a slot, a character, a count, a penalty or a parameter or the value of a count belongs, and is none; or, where the size of a font
 -- belongs, it is a dimension that is no such size
 abbrev pub IsFieldCause : Cause → List (List ℕ) → Type 0
 IsFieldCause Byte fields = ⊥

@@ -1,5 +1,6 @@
 -- The grammar of the commands of a script (own).
-use Rattle.std.specs.Prelude.{◌≡◌, ◌⊎◌, ◌<◌, ◌&&◌, ◌||◌, ◌==◌, ℕ, ℤ, pos, Bool, true, nat_le, List, [], ◌∷◌, ◌++◌, codes, length, Option, None, Some}
+use Rattle.std.specs.Prelude.{◌≡◌, ◌⊎◌, FitsSigned, ◌<◌, ◌&&◌, ◌||◌, ◌==◌, ℕ, ℤ, pos, Bool, true, nat_le, List, [], ◌∷◌, ◌++◌, codes, length, Option, None, Some}
+use Rattle.std.specs.Int.{w32}
 use Rattle.std.specs.List.{list_all}
 use Rattle.std.specs.Str.Parse.{IsNumeral, without_leading_sign, signed_digits_value}
 use Rattle.scaled_core.specs.Dimensions.{Fits, Within}
@@ -18,9 +19,9 @@ use Rattle.command_core.specs.declared.command.BoxForm.{BoxForm}
 use Rattle.command_core.specs.declared.command.BoxForm.TheVariants.{Hbox, Vbox, Vtop}
 use Rattle.command_core.specs.declared.command.Taking.{Taking}
 use Rattle.command_core.specs.declared.command.Taking.TheVariants.{Moved, Copied}
-use Rattle.command_core.specs.declared.command.Parameter.TheVariants.{BoxMaxDepth, BaselineSkip, LineSkip, LineSkipLimit, SplitMaxDepth, SplitTopSkip, Hsize, ParFillSkip, Pretolerance, Tolerance, LinePenalty, AdjDemerits, ClubPenalty, WidowPenalty, InterlinePenalty}
+use Rattle.command_core.specs.declared.command.Parameter.TheVariants.{BoxMaxDepth, BaselineSkip, LineSkip, LineSkipLimit, SplitMaxDepth, SplitTopSkip, Hsize, ParFillSkip, Pretolerance, Tolerance, LinePenalty, AdjDemerits, ClubPenalty, WidowPenalty, InterlinePenalty, Hoffset, Voffset}
 use Rattle.command_core.specs.declared.command.Command.{Command}
-use Rattle.command_core.specs.declared.command.Command.TheVariants.{LoadFont, UseFont, Open, End, Text, Character, Rule, Kern, Glue, Penalty, Append, Unbox, LastBox, Split, Measure, Void, Set, Ship}
+use Rattle.command_core.specs.declared.command.Command.TheVariants.{LoadFont, UseFont, Open, Paragraph, End, Text, Character, Rule, Kern, Glue, Penalty, Append, Unbox, LastBox, Split, Measure, Void, Set, Count, Ship}
 
 -- a field that writes this whole number by an optional sign and digits
 pub record IsInteger (field : List ℕ) (z : ℤ) : Type 0 where
@@ -39,6 +40,10 @@ slot_count = 256
 abbrev pub character_count : ℕ
 character_count = 256
 
+-- how many counts a page has, by their numbers from 0 (DVItype, 15)
+abbrev pub count_count : ℕ
+count_count = 10
+
 -- a field that writes this whole number, which is one of so many from 0
 pub record IsNumberAmong (count : ℕ) (field : List ℕ) (n : ℕ) : Type 0 where
   pub written : IsInteger field (pos n)
@@ -55,6 +60,15 @@ IsSlot field n = IsNumberAmong slot_count field n
 -- a field that writes the code of this character
 abbrev pub IsCharacterCode : List ℕ → ℕ → Type 0
 IsCharacterCode field n = IsNumberAmong character_count field n
+
+-- a field that writes the number of this count of a page
+abbrev pub IsCountNumber : List ℕ → ℕ → Type 0
+IsCountNumber field n = IsNumberAmong count_count field n
+
+-- a field that writes this count of a page: a whole number of signed 32 bits
+pub record IsCount (field : List ℕ) (z : ℤ) : Type 0 where
+  pub written : IsInteger field z
+  pub small : FitsSigned w32 z
 
 -- a field that writes this whole number, of absolute value at most 500,000,000: that of a penalty or of a parameter
 pub record IsPenalty (field : List ℕ) (z : ℤ) : Type 0 where
@@ -162,6 +176,7 @@ Says fields (UseFont n) = (s : List ℕ) × (fields ≡ codes "use" ∷ s ∷ []
 Says fields (Open opening) =
     (size : List (List ℕ)) × (into : List (List ℕ)) × (fields ≡ form_text opening.form ∷ (size ++ into))
     × IsTarget size opening.target × IsDestination into opening.into
+Says fields Paragraph = fields ≡ codes "par" ∷ []
 Says fields End = fields ≡ codes "end" ∷ []
 Says fields (Text text) = ⊥
 Says fields (Character n) = (c : List ℕ) × (fields ≡ codes "char" ∷ c ∷ []) × IsCharacterCode c n
@@ -195,4 +210,8 @@ Says fields (Set (AdjDemerits z)) = (p : List ℕ) × (fields ≡ codes "set" �
 Says fields (Set (ClubPenalty z)) = (p : List ℕ) × (fields ≡ codes "set" ∷ codes "clubpenalty" ∷ p ∷ []) × IsPenalty p z
 Says fields (Set (WidowPenalty z)) = (p : List ℕ) × (fields ≡ codes "set" ∷ codes "widowpenalty" ∷ p ∷ []) × IsPenalty p z
 Says fields (Set (InterlinePenalty z)) = (p : List ℕ) × (fields ≡ codes "set" ∷ codes "interlinepenalty" ∷ p ∷ []) × IsPenalty p z
+Says fields (Set (Hoffset z)) = (d : List ℕ) × (fields ≡ codes "set" ∷ codes "hoffset" ∷ d ∷ []) × IsDimension d z
+Says fields (Set (Voffset z)) = (d : List ℕ) × (fields ≡ codes "set" ∷ codes "voffset" ∷ d ∷ []) × IsDimension d z
+Says fields (Count counting) =
+    (i : List ℕ) × (n : List ℕ) × (fields ≡ codes "count" ∷ i ∷ n ∷ []) × IsCountNumber i counting.count × IsCount n counting.value
 Says fields (Ship n) = (r : List ℕ) × (fields ≡ codes "ship" ∷ r ∷ []) × IsRegister r n

@@ -5,7 +5,7 @@ use Rattle.node_core.specs.declared.tree.Kind.TheVariants.{Horizontal, Vertical}
 use Rattle.command_core.specs.declared.command.BoxForm.TheVariants.{Hbox, Vbox, Vtop}
 use Rattle.command_core.specs.declared.command.Taking.TheVariants.{Moved, Copied}
 use Rattle.script_core.specs.declared.name.Name.{Name}
-use Rattle.script_core.specs.declared.name.Name.TheVariants.{Font, Use, Open, End, Character, Rule, Kern, Glue, Penalty, Append, Unbox, LastBox, Split, Measure, Void, Set, Ship}
+use Rattle.script_core.specs.declared.name.Name.TheVariants.{Font, Use, Open, Paragraph, End, Character, Rule, Kern, Glue, Penalty, Append, Unbox, LastBox, Split, Measure, Void, Set, Count, Ship}
 
 -- the name of a command of lists and whole boxes that a word is
 unfoldable pub box_name : List ℕ → Option Name
@@ -13,11 +13,12 @@ box_name word =
     if bytes_eq word (codes "hbox") then Some (Open Hbox)
     else (if bytes_eq word (codes "vbox") then Some (Open Vbox)
     else (if bytes_eq word (codes "vtop") then Some (Open Vtop)
+    else (if bytes_eq word (codes "par") then Some Paragraph
     else (if bytes_eq word (codes "end") then Some End
     else (if bytes_eq word (codes "measure") then Some Measure
     else (if bytes_eq word (codes "void") then Some Void
     else (if bytes_eq word (codes "ship") then Some Ship
-    else None))))))
+    else None)))))))
 
 -- the name of a command that a word is, of those that take the box of a register into a list or the last one out of it, or split one
 unfoldable pub register_name : List ℕ → Option Name
@@ -32,7 +33,7 @@ register_name word =
     else (if bytes_eq word (codes "vsplit") then Some Split
     else None)))))))
 
--- the name of a command of fonts, items and parameters that a word is
+-- the name of a command of fonts, items, parameters and counts that a word is
 unfoldable pub item_name : List ℕ → Option Name
 item_name word =
     if bytes_eq word (codes "font") then Some Font
@@ -43,7 +44,8 @@ item_name word =
     else (if bytes_eq word (codes "glue") then Some Glue
     else (if bytes_eq word (codes "penalty") then Some Penalty
     else (if bytes_eq word (codes "set") then Some Set
-    else None)))))))
+    else (if bytes_eq word (codes "count") then Some Count
+    else None))))))))
 
 -- the first of two names that is there, if one is
 abbrev pub name_or : Option Name → Option Name → Option Name

@@ -18,7 +18,9 @@ size_name word =
     else (if bytes_eq word (codes "lineskiplimit") then Some sizes.LineSkipLimit
     else (if bytes_eq word (codes "splitmaxdepth") then Some sizes.SplitMaxDepth
     else (if bytes_eq word (codes "hsize") then Some sizes.Hsize
-    else None)))
+    else (if bytes_eq word (codes "hoffset") then Some sizes.Hoffset
+    else (if bytes_eq word (codes "voffset") then Some sizes.Voffset
+    else None)))))
 
 -- the parameter of glue that a word names
 unfoldable pub skip_name : List ℕ → Option SkipParameter
@@ -47,6 +49,8 @@ with_size sizes.BoxMaxDepth z = parameters.BoxMaxDepth z
 with_size sizes.LineSkipLimit z = parameters.LineSkipLimit z
 with_size sizes.SplitMaxDepth z = parameters.SplitMaxDepth z
 with_size sizes.Hsize z = parameters.Hsize z
+with_size sizes.Hoffset z = parameters.Hoffset z
+with_size sizes.Voffset z = parameters.Voffset z
 
 -- a parameter that is glue, with a value for it
 abbrev pub with_skip : SkipParameter → glues.Glue → Parameter

@@ -18,7 +18,7 @@ use Rattle.command_core.specs.declared.command.BoxForm.{BoxForm}
 use Rattle.command_core.specs.declared.command.Taking.{Taking}
 use Rattle.command_core.specs.declared.command.Parameter.{Parameter}
 use Rattle.command_core.specs.declared.command.Command.{Command}
-use Rattle.command_core.specs.declared.command.Command.TheVariants.{LoadFont, UseFont, Open, End, Text, Character, Rule, Kern, Glue, Penalty, Append, Unbox, LastBox, Split, Measure, Void, Set, Ship}
+use Rattle.command_core.specs.declared.command.Command.TheVariants.{LoadFont, UseFont, Open, Paragraph, End, Text, Character, Rule, Kern, Glue, Penalty, Append, Unbox, LastBox, Split, Measure, Void, Set, Count, Ship}
 use Rattle.script_core.specs.declared.cause.Cause.{Cause}
 use Rattle.script_core.specs.declared.cause.Cause.TheVariants as causes
 use Rattle.script_core.specs.declared.cause.Cause.TheVariants.{Byte, Word, Missing, Extra, Number, Dimension}
@@ -34,7 +34,7 @@ use Rattle.script_core.specs.declared.parameter.NumberParameter.{NumberParameter
 use Rattle.script_core.specs.Names.{name_of}
 use Rattle.script_core.specs.ParameterNames.{size_name, skip_name, number_name, with_size, with_skip, with_number}
 use Rattle.script_core.specs.ScriptLines.{is_space, is_printable, is_passed_over, fields_of}
-use Rattle.script_core.specs.Grammar.{register_count, slot_count, character_count, is_name_byte}
+use Rattle.script_core.specs.Grammar.{register_count, slot_count, character_count, count_count, is_name_byte}
 
 -- a byte before the end of a line: any but a line feed
 abbrev pub in_line : ℕ → Bool
@@ -91,6 +91,24 @@ penalty_number z = if nat_le (unsigned_abs z) 500000000 then Some z else None
 -- the number of a penalty that a field writes
 unfoldable pub penalty_of : List ℕ → Option ℤ
 penalty_of field = if is_numeral (without_leading_sign field) then penalty_number (signed_digits_value 10 field) else None
+
+-- a number that a count of a page has
+abbrev pub count_value : ℤ → Option ℤ
+count_value (pos n) = if nat_lt n 2147483648 then Some (pos n) else None
+count_value (negsuc n) = if nat_lt n 2147483648 then Some (negsuc n) else None
+
+-- the count of a page that a field writes
+unfoldable pub count_of : List ℕ → Option ℤ
+count_of field = if is_numeral (without_leading_sign field) then count_value (signed_digits_value 10 field) else None
+
+-- a field as a count of a page; the cause is Number where it is none, and stays where there is no field
+abbrev pub as_count : Result (List ℕ) Cause → Result ℤ Cause
+as_count (Err cause) = Err cause
+as_count (Ok field) = some_or Number (count_of field)
+
+-- the first of some fields as a count of a page
+unfoldable pub count_first : List (List ℕ) → Result ℤ Cause
+count_first fields = as_count (first_of fields)
 
 -- a field as one of so many numbers from 0; the cause is Number where it is none, and stays where there is no field
 abbrev pub as_number : ℕ → Result (List ℕ) Cause → Result ℕ Cause
@@ -244,6 +262,10 @@ and_then (Ok x) more = more x
 unfoldable pub last_penalty : List (List ℕ) → Result ℤ Cause
 last_penalty fields = and_right (penalty_first fields) (no_field_left (rest_of fields))
 
+-- the first of some fields, which is the last one too, as a count of a page
+unfoldable pub last_count : List (List ℕ) → Result ℤ Cause
+last_count fields = and_right (count_first fields) (no_field_left (rest_of fields))
+
 -- the first of some fields, which is the last one too, as an amount of stretch or shrink
 unfoldable pub last_amount : List (List ℕ) → Result Amount Cause
 last_amount fields = and_right (amount_first fields) (no_field_left (rest_of fields))
@@ -356,6 +378,14 @@ unfoldable pub parameter_of : List (List ℕ) → Result Parameter Cause
 parameter_of [] = Err Missing
 parameter_of (word ∷ rest) = parameter_by (size_name word) (skip_name word) (number_name word) rest
 
+-- the command that gives a count of the pages that follow a value
+abbrev pub counting : (count : ℕ) → (value : ℤ) → Command
+counting count value = Count (record { count = count; value = value })
+
+-- what the fields behind `count` say: the number of a count, and its value
+unfoldable pub counting_of : List (List ℕ) → Result Command Cause
+counting_of fields = and_then (number_first count_count fields) (λ count. map_ok (counting count) (last_count (rest_of fields)))
+
 -- the size behind the name of a font: none, or `at` and a size
 unfoldable pub chosen_size_of : List (List ℕ) → Result (Option ℤ) Cause
 chosen_size_of [] = Ok None
@@ -390,6 +420,7 @@ unfoldable pub command_named : Name → List (List ℕ) → Result Command Cause
 command_named names.Font fields = font_of fields
 command_named names.Use fields = map_ok UseFont (last_number slot_count fields)
 command_named (names.Open form) fields = opening_of form fields
+command_named names.Paragraph fields = right_and (no_field_left fields) (Ok Paragraph)
 command_named names.End fields = right_and (no_field_left fields) (Ok End)
 command_named names.Character fields = map_ok Character (last_number character_count fields)
 command_named names.Rule fields = rule_of fields
@@ -403,6 +434,7 @@ command_named names.Split fields = split_of fields
 command_named names.Measure fields = map_ok Measure (last_number register_count fields)
 command_named names.Void fields = map_ok Void (last_number register_count fields)
 command_named names.Set fields = map_ok Set (parameter_of fields)
+command_named names.Count fields = counting_of fields
 command_named names.Ship fields = map_ok Ship (last_number register_count fields)
 
 -- the command of that name with these fields behind it; the cause is Word where there is no name

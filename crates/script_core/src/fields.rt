@@ -5,9 +5,9 @@ ghost use Rattle.std.specs.Int.{w64};
 ghost use Rattle.std.specs.List.{list_all};
 ghost use Rattle.tfm_core.specs.NamedBytes.{IsFontName};
 ghost use Rattle.command_core.specs.declared.command.Command.TheVariants as commands;
-ghost use Rattle.script_core.specs.Grammar.{register_count, slot_count, character_count, IsInteger, is_name_byte};
+ghost use Rattle.script_core.specs.Grammar.{register_count, slot_count, character_count, count_count, IsInteger, is_name_byte};
 ghost use Rattle.script_core.specs.ScriptLines.{fields_of};
-ghost use Rattle.script_core.specs.Reading.{first_of, rest_of, number_among, number_of, number_first, dimension_first, size_of_font, size_of_font_first, is_short, is_name, name_first, size_of, size_first, no_field_left, last_number, last_dimension, map_ok, chosen_size_of, font_of, penalty_of, penalty_first, last_penalty, amount_first, last_amount, opening, opening_with_register, opening_into, opening_of, shift_of, append_of, unboxing, split_into, split_height, split_to, split_of, glue, shrink_of, last_shrink_of, parts_of, glue_of, parameter_of, rule_of, command_named, command_of};
+ghost use Rattle.script_core.specs.Reading.{first_of, rest_of, number_among, number_of, number_first, count_value, count_of, count_first, last_count, counting, counting_of, dimension_first, size_of_font, size_of_font_first, is_short, is_name, name_first, size_of, size_first, no_field_left, last_number, last_dimension, map_ok, chosen_size_of, font_of, penalty_of, penalty_first, last_penalty, amount_first, last_amount, opening, opening_with_register, opening_into, opening_of, shift_of, append_of, unboxing, split_into, split_height, split_to, split_of, glue, shrink_of, last_shrink_of, parts_of, glue_of, parameter_of, rule_of, command_named, command_of};
 
 use crate::amounts::{Amount, amount_of};
 use crate::cause::Cause;
@@ -15,8 +15,8 @@ use crate::lines::first_field;
 use crate::name::Name;
 use crate::parameter::{number_name, size_name, skip_name, with_number, with_size, with_skip};
 use command_core::{
-    BoxForm, BoxUse, Command, FontLoad, FontName, FontSize, Opening, Parameter, Register,
-    Splitting, Taking, Target, Unboxing,
+    BoxForm, BoxUse, Command, CountNumber, Counting, FontLoad, FontName, FontSize, Opening,
+    Parameter, Register, Splitting, Taking, Target, Unboxing,
 };
 use node_core::{Glue, Kind, Number, Rule, RuleSize};
 use scaled_core::{Dimen, parse_dimen};
@@ -86,6 +86,24 @@ impl<'a> Fields<'a> {
         ensures rest { fields_of self.new.rest.now ≡ rest_of (fields_of self.old.rest.now) }
     {
         character_of(self.field()?).ok_or(Cause::Number)
+    }
+
+    /// The next field as the number of a count.
+    #[tactic(auto, unfolding(crate::specs::Reading::number_first))]
+    fn count_number(&mut self) -> Result<CountNumber, Cause>
+        ensures value { result ≡ number_first count_count (fields_of self.old.rest.now) }
+        ensures rest { fields_of self.new.rest.now ≡ rest_of (fields_of self.old.rest.now) }
+    {
+        count_number_of(self.field()?).ok_or(Cause::Number)
+    }
+
+    /// The next field as a count.
+    #[tactic(auto, unfolding(crate::specs::Reading::count_first))]
+    fn count(&mut self) -> Result<i32, Cause>
+        ensures value { result ≡ count_first (fields_of self.old.rest.now) }
+        ensures rest { fields_of self.new.rest.now ≡ rest_of (fields_of self.old.rest.now) }
+    {
+        count_of(self.field()?).ok_or(Cause::Number)
     }
 
     /// The next field as the number of a penalty.
@@ -197,6 +215,16 @@ impl<'a> Fields<'a> {
         let number = self.penalty()?;
         self.end()?;
         Ok(number)
+    }
+
+    /// The next field, which is the last, as a count.
+    #[tactic(auto, unfolding(crate::specs::Reading::last_count))]
+    fn last_count(&mut self) -> Result<i32, Cause>
+        ensures { result ≡ last_count (fields_of self.old.rest.now) }
+    {
+        let value = self.count()?;
+        self.end()?;
+        Ok(value)
     }
 
     /// The next field, which is the last, as an amount of stretch or shrink.
@@ -443,6 +471,16 @@ impl<'a> Fields<'a> {
         Ok(with_number(name, number))
     }
 
+    /// What stands behind `count`: the number of a count, and its value.
+    #[tactic(auto, unfolding(crate::specs::Reading::counting_of))]
+    fn counting(&mut self) -> Result<Command, Cause>
+        ensures { result ≡ counting_of (fields_of self.old.rest.now) }
+    {
+        let count = self.count_number()?;
+        let value = self.last_count()?;
+        Ok(Command::Count(Counting { count, value }))
+    }
+
     /// What stands behind `rule`.
     #[tactic(auto, unfolding(crate::specs::Reading::rule_of))]
     fn rule(&mut self) -> Result<Command, Cause>
@@ -472,6 +510,7 @@ impl<'a> Fields<'a> {
             Name::Font => self.font(alloc),
             Name::Use => Ok(self.last_slot().map(Command::UseFont)),
             Name::Open(form) => Ok(self.opening(form)),
+            Name::Paragraph => Ok(self.end().map(|()| Command::Paragraph)),
             Name::End => Ok(self.end().map(|()| Command::End)),
             Name::Character => Ok(self.last_character().map(Command::Character)),
             Name::Rule => Ok(self.rule()),
@@ -485,6 +524,7 @@ impl<'a> Fields<'a> {
             Name::Measure => Ok(self.last_register().map(Command::Measure)),
             Name::Void => Ok(self.last_register().map(Command::Void)),
             Name::Set => Ok(self.parameter().map(Command::Set)),
+            Name::Count => Ok(self.counting()),
             Name::Ship => Ok(self.last_register().map(Command::Ship)),
         }
     }
@@ -649,6 +689,51 @@ fn byte_of(number: i64) -> Option<u8>
     ensures { result ≡ number_among 256 number }
 {
     u8::try_from(number).ok()
+}
+
+/// The count whose number a field writes.
+#[tactic(auto, using(crate::proofs::Numbers::numbers))]
+fn count_number_of(field: &[u8]) -> Option<CountNumber>
+    ensures { result ≡ number_of count_count field.now }
+{
+    match integer_of(field) {
+        Some(number) => count_numbered(number),
+        None => None,
+    }
+}
+
+/// The count of that number.
+fn count_numbered(number: i64) -> Option<CountNumber>
+    ensures { result ≡ number_among count_count number }
+{
+    if number < 0 {
+        return None;
+    }
+    CountNumber::try_new(number as u64)
+}
+
+/// The count that a field writes.
+#[tactic(auto, using(crate::proofs::CountNumbers::counts))]
+fn count_of(field: &[u8]) -> Option<i32>
+    ensures { result ≡ count_of field.now }
+{
+    match integer_of(field) {
+        Some(number) => count_value(number),
+        None => None,
+    }
+}
+
+/// A number as a count, where it is one: it has 32 bits with its sign.
+fn count_value(number: i64) -> Option<i32>
+    ensures { result ≡ count_value number }
+{
+    if number < -2_147_483_648 {
+        return None;
+    }
+    if number > 2_147_483_647 {
+        return None;
+    }
+    Some(number as i32)
 }
 
 /// The number of a penalty that a field writes.

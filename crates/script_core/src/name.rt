@@ -13,6 +13,7 @@ pub enum Name {
     Use,
     /// `hbox`, `vbox` or `vtop`.
     Open(BoxForm),
+    Paragraph,
     End,
     Character,
     Rule,
@@ -28,6 +29,7 @@ pub enum Name {
     Measure,
     Void,
     Set,
+    Count,
     Ship,
 }
 
@@ -56,6 +58,7 @@ fn box_name(word: &[u8]) -> Option<Name>
         b"hbox" => Some(Name::Open(BoxForm::Hbox)),
         b"vbox" => Some(Name::Open(BoxForm::Vbox)),
         b"vtop" => Some(Name::Open(BoxForm::Vtop)),
+        b"par" => Some(Name::Paragraph),
         b"end" => Some(Name::End),
         b"measure" => Some(Name::Measure),
         b"void" => Some(Name::Void),
@@ -82,7 +85,7 @@ fn register_name(word: &[u8]) -> Option<Name>
     }
 }
 
-/// The name of a command of fonts, items and parameters that a word is, or None.
+/// The name of a command of fonts, items, parameters and counts that a word is, or None.
 #[tactic(auto, unfolding(crate::specs::Names::item_name))]
 fn item_name(word: &[u8]) -> Option<Name>
     ensures { result ≡ item_name word.now }
@@ -96,6 +99,7 @@ fn item_name(word: &[u8]) -> Option<Name>
         b"glue" => Some(Name::Glue),
         b"penalty" => Some(Name::Penalty),
         b"set" => Some(Name::Set),
+        b"count" => Some(Name::Count),
         _ => None,
     }
 }

@@ -14,6 +14,8 @@ pub enum SizeParameter {
     LineSkipLimit,
     SplitMaxDepth,
     Hsize,
+    Hoffset,
+    Voffset,
 }
 
 /// A parameter that is glue.
@@ -53,6 +55,12 @@ pub fn size_name(word: &[u8]) -> Option<SizeParameter>
     }
     if word == b"hsize".as_slice() {
         return Some(SizeParameter::Hsize);
+    }
+    if word == b"hoffset".as_slice() {
+        return Some(SizeParameter::Hoffset);
+    }
+    if word == b"voffset".as_slice() {
+        return Some(SizeParameter::Voffset);
     }
     None
 }
@@ -115,6 +123,8 @@ pub fn with_size(name: SizeParameter, size: Dimen) -> Parameter
         SizeParameter::LineSkipLimit => Parameter::LineSkipLimit(size),
         SizeParameter::SplitMaxDepth => Parameter::SplitMaxDepth(size),
         SizeParameter::Hsize => Parameter::Hsize(size),
+        SizeParameter::Hoffset => Parameter::Hoffset(size),
+        SizeParameter::Voffset => Parameter::Voffset(size),
     }
 }
 

@@ -12,7 +12,7 @@ use Rattle.node_core.specs.declared.tree.Node.TheVariants as nodes
 use Rattle.node_core.specs.declared.tree.BoxNode.{BoxNode}
 use Rattle.node_core.specs.declared.tree.Setting.{Setting}
 use Rattle.node_core.specs.declared.tree.Setting.TheVariants as settings
-use Rattle.pack_core.specs.Items.{own_size}
+use Rattle.pack_core.specs.Items.{advance, own_size}
 use Rattle.scaled_core.specs.Dimensions.{fits}
 use Rattle.pack_core.specs.Places.{share, set_by}
 use Rattle.pack_core.specs.Cursors.{Reached, one_more, place_at}
@@ -21,7 +21,7 @@ use Rattle.ship_core.specs.Marks.{right_at, down_at, rule_below, rule_tall, rule
 use Rattle.ship_core.specs.Drawing.{Picture}
 use Rattle.ship_core.specs.declared.placing.PlacedItem.{PlacedItem}
 use Rattle.std.specs.Option.{IfSome}
-use Rattle.ship_core.specs.Placing.{strokes_of, point, point_in, numbers_between, strokes_at, Reaches}
+use Rattle.ship_core.specs.Placing.{strokes_of, point, point_in, numbers_between, strokes_at, is_rigid, Reaches}
 
 -- A point is at its numbers.
 pub point-is : (h v : ℤ) (p : Position) → point h v ≡ Some p → (p.h ≡ h) × (p.v ≡ v)
@@ -134,6 +134,49 @@ reaches b h v from at behind x here there =
     let next = place_at b.setting (one_more b.kind b.setting from x) in
     let q = point-is (right_at b.kind h next) (down_at b.kind v next) behind there in
     reach_by b.kind b.setting from h at.h behind.h x p.0 q.0
+
+-- An item that is no glue takes no part in a setting.
+share_rigid : (setting : Setting) (x : Node) → is_rigid x ≡ true → share setting x ≡ pos 0
+share_rigid setting (nodes.Glue g) is = absurd (cc)
+share_rigid settings.Natural (nodes.Glyph g) is = refl
+share_rigid settings.Natural (nodes.FontKern w) is = refl
+share_rigid settings.Natural (nodes.Kern w) is = refl
+share_rigid settings.Natural (nodes.Penalty n) is = refl
+share_rigid settings.Natural (nodes.Rule r) is = refl
+share_rigid settings.Natural (nodes.Box shift b) is = refl
+share_rigid (settings.Stretch order ratio) (nodes.Glyph g) is = refl
+share_rigid (settings.Stretch order ratio) (nodes.FontKern w) is = refl
+share_rigid (settings.Stretch order ratio) (nodes.Kern w) is = refl
+share_rigid (settings.Stretch order ratio) (nodes.Penalty n) is = refl
+share_rigid (settings.Stretch order ratio) (nodes.Rule r) is = refl
+share_rigid (settings.Stretch order ratio) (nodes.Box shift b) is = refl
+share_rigid (settings.Shrink order ratio) (nodes.Glyph g) is = refl
+share_rigid (settings.Shrink order ratio) (nodes.FontKern w) is = refl
+share_rigid (settings.Shrink order ratio) (nodes.Kern w) is = refl
+share_rigid (settings.Shrink order ratio) (nodes.Penalty n) is = refl
+share_rigid (settings.Shrink order ratio) (nodes.Rule r) is = refl
+share_rigid (settings.Shrink order ratio) (nodes.Box shift b) is = refl
+
+behind_by :
+    (kind : Kind) (setting : Setting) (from : Reached) (h v x y by part : ℤ) → part ≡ pos 0
+    → x ≡ right_at kind h (place_at setting from) → y ≡ down_at kind v (place_at setting from)
+    → point (right_at kind x by) (down_at kind y by)
+    ≡ point (right_at kind h ((from.natural +ℤ by) +ℤ set_by setting (from.shares +ℤ part))) (down_at kind v ((from.natural +ℤ by) +ℤ set_by setting (from.shares +ℤ part)))
+behind_by Horizontal setting from h v x y by part none across down =
+    let next = (from.natural +ℤ by) +ℤ set_by setting (from.shares +ℤ part) in
+    ap (λ z. point z y) (sym (right_by setting from h by part none x (h +ℤ next) across refl)) ∙ ap (λ z. point (h +ℤ next) z) down
+behind_by Vertical setting from h v x y by part none across down =
+    let next = (from.natural +ℤ by) +ℤ set_by setting (from.shares +ℤ part) in
+    ap (λ z. point x z) (sym (right_by setting from v by part none y (v +ℤ next) down refl)) ∙ ap (λ z. point z (v +ℤ next)) across
+
+-- The position behind an item that takes no part in a setting is as far from its own as the item advances.
+pub rigid_behind :
+    (b : BoxNode) (h v : ℤ) (from : Reached) (at : Position) (x : Node) → is_rigid x ≡ true → point_in b h v (place_at b.setting from) ≡ Some at
+    → point (right_at b.kind at.h (advance b.kind x)) (down_at b.kind at.v (advance b.kind x))
+    ≡ point_in b h v (place_at b.setting (one_more b.kind b.setting from x))
+rigid_behind b h v from at x rigid here =
+    let p = point-is (right_at b.kind h (place_at b.setting from)) (down_at b.kind v (place_at b.setting from)) at here in
+    behind_by b.kind b.setting from h v at.h at.v (advance b.kind x) (share b.setting x) (share_rigid b.setting x rigid) p.0 p.1
 
 -- What is known of an item that is found, said in another way.
 pub found_so : (P Q : PlacedItem → Type 0) → ((s : PlacedItem) → P s → Q s) → (result : Option PlacedItem) → IfSome result P → IfSome result Q

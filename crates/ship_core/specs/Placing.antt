@@ -1,5 +1,5 @@
 -- What the shipping of a box goes through, one item after the other (own; private calls alone, no public clause speaks of it).
-use Rattle.std.specs.Prelude.{◌≡◌, ◌+ℤ◌, ◌++◌, ◌&&◌, [], ◌∷◌, ℤ, pos, negsuc, zero, suc, if◌then◌else◌, List, map, Option, Some, None}
+use Rattle.std.specs.Prelude.{◌≡◌, ◌+ℤ◌, ◌++◌, ◌&&◌, [], ◌∷◌, ℤ, pos, negsuc, zero, suc, if◌then◌else◌, Bool, true, false, List, map, Option, Some, None}
 use Rattle.std.specs.Ordering.{int_eq}
 use Rattle.std.specs.Option.{option_map}
 use Rattle.node_core.specs.declared.tree.Kind.{Kind}
@@ -54,6 +54,16 @@ Reaches kind h next_h (nodes.Glue glue) = Unit {0}
 Reaches kind h next_h (nodes.Penalty penalty) = Unit {0}
 Reaches kind h next_h (nodes.Rule rule) = next_h ≡ right_at kind h (own_size rule.width)
 Reaches kind h next_h (nodes.Box shift b) = Unit {0}
+
+-- Whether an item takes no part in a setting: all but glue.
+abbrev pub is_rigid : Node → Bool
+is_rigid (nodes.Glue glue) = false
+is_rigid (nodes.Glyph glyph) = true
+is_rigid (nodes.FontKern width) = true
+is_rigid (nodes.Kern width) = true
+is_rigid (nodes.Penalty penalty) = true
+is_rigid (nodes.Rule rule) = true
+is_rigid (nodes.Box shift b) = true
 
 -- An instruction, unless an amount is 0.
 abbrev pub unless_zero : ℤ → Instruction → List Instruction

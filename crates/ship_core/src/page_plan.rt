@@ -1,6 +1,6 @@
 //! The plan of a page.
 
-ghost use Rattle.std.specs.Prelude.{◌≡◌, ◌↔◌, ◌+ℤ◌, ◌<◌, [], ℤ, pos, List, true, false, map, is_some, IfOk, IfErr, OnOk, IfSome, OnSome};
+ghost use Rattle.std.specs.Prelude.{◌≡◌, ◌↔◌, ◌+ℤ◌, ◌<◌, [], ℤ, pos, List, true, false, Some, map, is_some, IfOk, IfErr, OnOk, IfSome, OnSome};
 ghost use Rattle.std.specs.List.{list_all};
 ghost use Rattle.std.specs.Option.{option_map};
 ghost use Rattle.node_core.specs.Nodes.{most_nodes};
@@ -11,13 +11,13 @@ ghost use Rattle.pack_core.specs.Cursors.{one_more, place_at};
 ghost use Rattle.ship_core.specs.Marks.{right_at, down_at, list_v, numbers_behind, is_huge};
 ghost use Rattle.ship_core.specs.Pages.{page_at};
 ghost use Rattle.ship_core.specs.Drawing.{Picture, picture_behind, body_of};
-ghost use Rattle.ship_core.specs.Placing.{Ends, point_in, numbers_between, strokes_at, strokes_in, reference_h, reference_v, makes, leaves};
+ghost use Rattle.ship_core.specs.Placing.{Ends, point_in, numbers_between, strokes_at, strokes_in, reference_h, reference_v, is_rigid, makes, leaves};
 
 use crate::drawing::Drawing;
-use crate::placing::{PagePoint, PlacedItem, Position, place_item, point_at};
+use crate::placing::{PagePoint, PlacedItem, Position, place_item, point_at, position_behind};
 use dvi_ops::Op;
 use node_core::{BoxNode, Kind, Node};
-use pack_core::Cursor;
+use pack_core::{Cursor, advance_of};
 use scaled_core::Dimen;
 use std::alloc::{AllocError, Global};
 use thiserror::Error;
@@ -46,6 +46,37 @@ fn place_of(box_node: &BoxNode, begin: &Begin, cursor: &Cursor) -> Option<Positi
         begin.v,
         cursor.place(&box_node.setting),
     )
+}
+
+/// Whether an item takes no part in a setting of glue.
+fn is_rigid(node: &Node) -> bool
+    ensures { result ≡ is_rigid node.now }
+{
+    match node {
+        Node::Glue(_) => false,
+        _ => true,
+    }
+}
+
+/// The place behind an item that stands at a place, which the cursor has reached. Only behind glue is it rounded anew.
+fn place_behind(
+    box_node: &BoxNode,
+    begin: &Begin,
+    cursor: &Cursor,
+    at: &Position,
+    node: &Node,
+) -> Option<Position>
+    requires few { cursor.now.passed < most_nodes }
+    requires at { point_in box_node.now begin.now.h begin.now.v (place_at box_node.now.setting cursor.now) ≡ Some at.now }
+    ensures { result ≡ point_in box_node.now begin.now.h begin.now.v
+        (place_at box_node.now.setting (one_more box_node.now.kind box_node.now.setting cursor.now node.now)) }
+{
+    if is_rigid(node) {
+        return position_behind(box_node.kind, at, advance_of(box_node.kind, node));
+    }
+    let mut behind = *cursor;
+    behind.pass(box_node.kind, &box_node.setting, node);
+    place_of(box_node, begin, &behind)
 }
 
 impl Walk {
@@ -78,8 +109,8 @@ impl Walk {
             ≡ reference_v box_node.now.kind (down_at box_node.now.kind begin.now.v (place_at box_node.now.setting self.old.cursor)) node.now) }
     {
         let at = self.here?;
+        self.here = place_behind(box_node, begin, &self.cursor, &at, node);
         self.cursor.pass(box_node.kind, &box_node.setting, node);
-        self.here = place_of(box_node, begin, &self.cursor);
         let next = self.here?;
         place_item(box_node, at, next, node)
     }

@@ -2,7 +2,7 @@
 
 ghost use Rattle.std.specs.Prelude.{◌≡◌, ◌+ℤ◌, ◌+◌, ◌^◌, [], ◌∷◌, pos, true, None, is_some, IfSome};
 ghost use Rattle.std.specs.List.{list_all};
-ghost use Rattle.scaled_core.specs.Dimensions.{Within, fits};
+ghost use Rattle.scaled_core.specs.Dimensions.{Within, fits, dimension_of};
 ghost use Rattle.ship_core.specs.Marks.{size_in, right_at, down_at, rule_below, rule_tall, rule_wide, rule_mark, box_h, box_v, numbers_of};
 ghost use Rattle.ship_core.specs.Drawing.{Picture, in_front};
 ghost use Rattle.ship_core.specs.Placing.{point, Reaches, Ends, strokes_in, strokes_of, reference_h, reference_v};
@@ -111,6 +111,27 @@ pub fn point_at(kind: Kind, h: i64, v: i64, distance: i128) -> Option<Position>
         Kind::Horizontal => point(number_behind(h, distance), i128::from(v)),
         Kind::Vertical => point(i128::from(h), number_behind(v, distance)),
     }
+}
+
+/// The number behind a dimension at a distance, where it fits.
+fn dimension_behind(from: Dimen, distance: i64) -> Option<Dimen>
+    requires small { Within (2 ^ 31) distance }
+    ensures { result ≡ dimension_of (from +ℤ distance) }
+{
+    Dimen::try_new(i64::from(from.get()) + distance)
+}
+
+/// The position that lies behind another one at a distance, in a list of that kind.
+#[tactic(auto, using(scaled_core::proofs::Fitting::dimension_fits), unfolding(scaled_core::specs::Dimensions::dimension_of))]
+pub fn position_behind(kind: Kind, at: &Position, distance: i64) -> Option<Position>
+    requires small { Within (2 ^ 31) distance }
+    ensures { result ≡ point (right_at kind at.now.h distance) (down_at kind at.now.v distance) }
+{
+    let (h, v) = match kind {
+        Kind::Horizontal => (dimension_behind(at.h, distance), Some(at.v)),
+        Kind::Vertical => (Some(at.h), dimension_behind(at.v, distance)),
+    };
+    Some(Position { h: h?, v: v? })
 }
 
 /// A size of a rule where it stands in a box.

@@ -6,45 +6,52 @@ use Rattle.pack_core.specs.declared.pack.Packed as packs
 use Rattle.nest_core.specs.declared.nest.OpenList.{OpenList}
 use Rattle.command_core.specs.declared.command.Taking.{Taking}
 use Rattle.nest_core.specs.State.{State, innermost, outer, held_in}
-use Rattle.nest_core.specs.OpenLists.{register_of, packed_list}
+use Rattle.nest_core.specs.declared.nest.ListPurpose.{ListPurpose}
+use Rattle.nest_core.specs.declared.nest.ListPurpose.TheVariants as purposes
+use Rattle.nest_core.specs.OpenLists.{packed_list}
 use Rattle.nest_core.specs.Checks.{checks, first_of}
-use Rattle.nest_core.specs.Effects.{with_home, with_closed, with_used, with_unboxed, after}
+use Rattle.nest_core.specs.Effects.{with_home, with_closed, with_purpose, with_ended, with_used, with_unboxed, after}
 use Rattle.nest_core.specs.Machine.{state_by, state_after}
 use Rattle.command_core.specs.declared.command.BoxUse.{BoxUse}
 use Rattle.command_core.specs.declared.command.Unboxing.{Unboxing}
 use Rattle.command_core.specs.declared.command.Refusal.{Refusal}
 use Rattle.command_core.specs.declared.command.Command.{Command}
-use Rattle.command_core.specs.declared.command.Command.TheVariants.{LoadFont, UseFont, Open, End, Text, Character, Rule, Kern, Glue, Penalty, Append, Unbox, LastBox, Split, Measure, Void, Set, Ship}
+use Rattle.command_core.specs.declared.command.Command.TheVariants.{LoadFont, UseFont, Open, Paragraph, End, Text, Character, Rule, Kern, Glue, Penalty, Append, Unbox, LastBox, Split, Measure, Void, Set, Count, Ship}
 
 pub record KeepsRest (s t : State) : Type 0 where
   pub files : t.files ≡ s.files
   pub fonts : t.fonts ≡ s.fonts
   pub over : t.over ≡ s.over
-  pub pages : t.pages ≡ s.pages
-  pub shipped : t.shipped ≡ s.shipped
 
 same_rest : (s : State) → KeepsRest s s
-same_rest s = record { files = refl; fonts = refl; over = refl; pages = refl; shipped = refl }
+same_rest s = record { files = refl; fonts = refl; over = refl }
 
 home_rest : (s : State) (around : List OpenList) (into : Option ℕ) (b : BoxNode) → KeepsRest s (with_home s around into b)
-home_rest s around None b = record { files = refl; fonts = refl; over = refl; pages = refl; shipped = refl }
-home_rest s around (Some r) b = record { files = refl; fonts = refl; over = refl; pages = refl; shipped = refl }
+home_rest s around None b = record { files = refl; fonts = refl; over = refl }
+home_rest s around (Some r) b = record { files = refl; fonts = refl; over = refl }
 
-closed_rest : (s : State) (l : Option OpenList) (packed : Option packs.Packed) → KeepsRest s (with_closed s l packed)
-closed_rest s None packed = same_rest s
-closed_rest s (Some l) None = same_rest s
-closed_rest s (Some l) (Some packed) = home_rest s (outer s.nest) (register_of l.purpose) packed.box_node
+closed_rest : (s : State) (into : Option ℕ) (packed : Option packs.Packed) → KeepsRest s (with_closed s into packed)
+closed_rest s into None = same_rest s
+closed_rest s into (Some packed) = home_rest s (outer s.nest) into packed.box_node
+
+purpose_rest : (s : State) (l : OpenList) (purpose : ListPurpose) → KeepsRest s (with_purpose s l purpose)
+purpose_rest s l (purposes.Box opening) = closed_rest s opening.into (packed_list s.params (Some l))
+purpose_rest s l purposes.Paragraph = record { files = refl; fonts = refl; over = refl }
+
+ended_rest : (s : State) (l : Option OpenList) → KeepsRest s (with_ended s l)
+ended_rest s None = same_rest s
+ended_rest s (Some l) = purpose_rest s l l.purpose
 
 used_rest : (s : State) (taking : Taking) (r : ℕ) (shift : ℤ) (held : Option BoxNode) → KeepsRest s (with_used s taking r shift held)
 used_rest s taking r shift None = same_rest s
-used_rest s taking r shift (Some b) = record { files = refl; fonts = refl; over = refl; pages = refl; shipped = refl }
+used_rest s taking r shift (Some b) = record { files = refl; fonts = refl; over = refl }
 
 unboxed_rest : (s : State) (taking : Taking) (r : ℕ) (held : Option BoxNode) → KeepsRest s (with_unboxed s taking r held)
 unboxed_rest s taking r None = same_rest s
-unboxed_rest s taking r (Some b) = record { files = refl; fonts = refl; over = refl; pages = refl; shipped = refl }
+unboxed_rest s taking r (Some b) = record { files = refl; fonts = refl; over = refl }
 
 pub end_keeps : (s : State) → KeepsRest s (after s End)
-end_keeps s = closed_rest s (innermost s.nest) (packed_list s.params (innermost s.nest))
+end_keeps s = ended_rest s (innermost s.nest)
 
 pub append_keeps : (s : State) (taken : BoxUse) → KeepsRest s (after s (Append taken))
 append_keeps s taken = used_rest s taken.taking taken.register taken.shift (held_in s.registers taken.register)
@@ -64,6 +71,7 @@ after_kept : (s : State) (command : Command) → KeepsJob s (after s command)
 after_kept s (LoadFont load) = record { files = refl; over = refl }
 after_kept s (UseFont slot) = record { files = refl; over = refl }
 after_kept s (Open opening) = record { files = refl; over = refl }
+after_kept s Paragraph = record { files = refl; over = refl }
 after_kept s End = by_rest s (after s End) (end_keeps s)
 after_kept s (Text text) = record { files = refl; over = refl }
 after_kept s (Character code) = record { files = refl; over = refl }
@@ -78,6 +86,7 @@ after_kept s (Split splitting) = record { files = refl; over = refl }
 after_kept s (Measure r) = record { files = refl; over = refl }
 after_kept s (Void r) = record { files = refl; over = refl }
 after_kept s (Set parameter) = record { files = refl; over = refl }
+after_kept s (Count counting) = record { files = refl; over = refl }
 after_kept s (Ship r) = record { files = refl; over = refl }
 
 pub job_kept : (s : State) (command : Command) → KeepsJob s (state_after s command)

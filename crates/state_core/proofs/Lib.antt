@@ -2,8 +2,10 @@ pub mod KeptRest
 pub mod Refusals
 pub mod SplitParts
 pub mod SplitBoxes
+pub mod SetLines
+pub mod EndedParagraphs
 pub mod SizedGlyphs
 pub mod LoadedFonts
 pub mod TakenBoxes
 pub mod ShapedItems
-pub mod ShippedPages
+pub mod Numbers

@@ -13,7 +13,7 @@ use Rattle.tfm_core.specs.FileWidths.{file_widths, widths_of_file, widths_by, wi
 use Rattle.tfm_core.proofs.ByteLemmas.{byte-glyph_of}
 use Rattle.dvi_layout.specs.declared.fonts.LoadedFont.{LoadedFont}
 use Rattle.command_core.specs.declared.command.Command.{Command}
-use Rattle.command_core.specs.declared.command.Command.TheVariants.{LoadFont, UseFont, Open, End, Text, Character, Rule, Kern, Glue, Penalty, Append, Unbox, LastBox, Split, Measure, Void, Set, Ship}
+use Rattle.command_core.specs.declared.command.Command.TheVariants.{LoadFont, UseFont, Open, Paragraph, End, Text, Character, Rule, Kern, Glue, Penalty, Append, Unbox, LastBox, Split, Measure, Void, Set, Count, Ship}
 use Rattle.command_core.specs.declared.command.Refusal.{Refusal}
 use Rattle.command_core.specs.declared.command.Refusal.TheVariants.{DimensionTooLarge}
 use Rattle.dvi_layout.specs.Fonts.{Slots, font_in}
@@ -67,6 +67,7 @@ pub loaded_after : (s : State) (command : Command) → first_of (checks s comman
 loaded_after s (LoadFont load) may gives loaded = with_font_loaded s.files s.fonts load.slot load.name load.size (font_for s load) refl gives.0 gives.1 loaded
 loaded_after s (UseFont slot) may gives loaded = loaded
 loaded_after s (Open opening) may gives loaded = loaded
+loaded_after s Paragraph may gives loaded = loaded
 loaded_after s End may gives loaded = still_loaded s (after s End) (end_keeps s) loaded
 loaded_after s (Text text) may gives loaded = loaded
 loaded_after s (Character code) may gives loaded = loaded
@@ -81,6 +82,7 @@ loaded_after s (Split splitting) may gives loaded = loaded
 loaded_after s (Measure r) may gives loaded = loaded
 loaded_after s (Void r) may gives loaded = loaded
 loaded_after s (Set parameter) may gives loaded = loaded
+loaded_after s (Count counting) may gives loaded = loaded
 loaded_after s (Ship r) may gives loaded = loaded
 
 -- A font in a slot is one of them, and its slot is below 256.

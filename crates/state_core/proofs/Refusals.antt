@@ -8,7 +8,7 @@ use Rattle.tfm_core.specs.Rules.{metric_file}
 use Rattle.tfm_core.specs.Fonts.{SizedFont, chosen_size, fits_at, font_at}
 use Rattle.nest_core.specs.FontSlots.{font_of, sized_font}
 use Rattle.command_core.specs.declared.command.Command.{Command}
-use Rattle.command_core.specs.declared.command.Command.TheVariants.{LoadFont, UseFont, Open, End, Text, Character, Rule, Kern, Glue, Penalty, Append, Unbox, LastBox, Split, Measure, Void, Set, Ship}
+use Rattle.command_core.specs.declared.command.Command.TheVariants.{LoadFont, UseFont, Open, Paragraph, End, Text, Character, Rule, Kern, Glue, Penalty, Append, Unbox, LastBox, Split, Measure, Void, Set, Count, Ship}
 use Rattle.command_core.specs.declared.command.Answer.{Answer}
 use Rattle.command_core.specs.declared.command.Refusal.{Refusal}
 use Rattle.command_core.specs.declared.command.Refusal.TheVariants.{OutOfMemory, DimensionTooLarge, Device, JobOver}
@@ -20,9 +20,17 @@ use Rattle.node_core.specs.declared.tree.Kind.{Kind}
 use Rattle.node_core.specs.declared.tree.BoxNode.{BoxNode}
 use Rattle.pack_core.specs.declared.pack.Packed as packs
 use Rattle.nest_core.specs.declared.nest.OpenList.{OpenList}
-use Rattle.nest_core.specs.State.{State, innermost, outer, open_count, held_in}
-use Rattle.nest_core.specs.OpenLists.{register_of, packed_list}
-use Rattle.nest_core.specs.Checks.{box_checks, held_checks, home_checks, packed_checks, close_checks, items_checks, split_checks, checks, first_of, refusal_in}
+use Rattle.std.specs.Prelude.{length}
+use Rattle.node_core.specs.Nodes.{nodes_of}
+use Rattle.nest_core.specs.State.{State, innermost, outer, items_in, open_count, held_in}
+use Rattle.nest_core.specs.declared.nest.ListPurpose.{ListPurpose}
+use Rattle.nest_core.specs.declared.nest.ListPurpose.TheVariants as purposes
+use Rattle.paragraph_core.specs.declared.paragraph.SetParagraph.{SetParagraph}
+use Rattle.paragraph_core.specs.declared.paragraph.ParagraphFault.{ParagraphFault}
+use Rattle.paragraph_core.specs.declared.paragraph.ParagraphFault.TheVariants as faults
+use Rattle.nest_core.specs.OpenLists.{packed_list}
+use Rattle.nest_core.specs.Paragraphs.{set_behind, set_checks}
+use Rattle.nest_core.specs.Checks.{box_checks, held_checks, home_checks, packed_checks, purpose_checks, close_checks, items_checks, split_checks, checks, first_of, refusal_in}
 use Rattle.nest_core.specs.Answers.{answer_of}
 use Rattle.nest_core.specs.Machine.{Machine, reply_by, reply_to, step}
 use Rattle.nest_core.specs.Runs.{early_checks, finish_checks, Finishes, Finished, Refuses, WantsMemory, LostDevice, TakesMemory, Steps, Replies, LacksMemory, LosesDevice, Run}
@@ -74,9 +82,20 @@ chosen_by_packed : (params : Params) (around : List OpenList) (into : Option ℕ
 chosen_by_packed params around into None = (tt, tt)
 chosen_by_packed params around into (Some packed) = (tt, chosen_by_home params around into packed.box_node)
 
+chosen_by_set : (count : ℕ) (result : Result SetParagraph ParagraphFault) → AreChosen (set_checks count result)
+chosen_by_set count (Ok set) = (tt, (tt, tt))
+chosen_by_set count (Err faults.InfiniteShrink) = (tt, tt)
+chosen_by_set count (Err faults.TooManyBreaks) = (tt, tt)
+chosen_by_set count (Err faults.DimensionTooLarge) = (tt, tt)
+chosen_by_set count (Err faults.OutOfMemory) = tt
+
+chosen_by_purpose : (params : Params) (around : List OpenList) (l : OpenList) (purpose : ListPurpose) → AreChosen (purpose_checks params around l purpose)
+chosen_by_purpose params around l (purposes.Box opening) = chosen_by_packed params around opening.into (packed_list params (Some l))
+chosen_by_purpose params around l purposes.Paragraph = (tt, chosen_by_set (length (nodes_of (items_in (innermost around)))) (set_behind params around l.list))
+
 chosen_by_end : (params : Params) (around : List OpenList) (l : Option OpenList) → AreChosen (close_checks params around l)
 chosen_by_end params around None = (tt, tt)
-chosen_by_end params around (Some l) = chosen_by_packed params around (register_of l.purpose) (packed_list params (Some l))
+chosen_by_end params around (Some l) = chosen_by_purpose params around l l.purpose
 
 chosen_by_items : (kind : Kind) (count : ℕ) (held : Option BoxNode) → AreChosen (items_checks kind count held)
 chosen_by_items kind count None = tt
@@ -92,6 +111,7 @@ all_chosen s (UseFont slot) = (tt, (tt, tt))
 all_chosen s (Text text) = (tt, (tt, (tt, (tt, (tt, tt)))))
 all_chosen s (Character code) = (tt, (tt, (tt, (tt, (tt, tt)))))
 all_chosen s (Open opening) = (tt, (tt, (tt, tt)))
+all_chosen s Paragraph = (tt, (tt, (tt, (tt, tt))))
 all_chosen s End = (tt, chosen_by_end s.params (outer s.nest) (innermost s.nest))
 all_chosen s (Rule rule) = (tt, (tt, (tt, (tt, tt))))
 all_chosen s (Kern width) = (tt, (tt, (tt, tt)))
@@ -104,6 +124,7 @@ all_chosen s (Split splitting) = (tt, chosen_by_split s.params.split splitting.h
 all_chosen s (Measure r) = (tt, tt)
 all_chosen s (Void r) = (tt, tt)
 all_chosen s (Set parameter) = (tt, tt)
+all_chosen s (Count counting) = (tt, tt)
 all_chosen s (Ship r) = (tt, (tt, (tt, (tt, (tt, tt)))))
 
 -- A reply that refuses comes from a check that holds.
@@ -145,6 +166,7 @@ over_first s command over = rw over refl
 over_early : (s : State) (command : Command) → s.over ≡ true → first_of (early_checks s command) ≡ Some JobOver
 over_early s (LoadFont load) over = rw over refl
 over_early s (UseFont slot) over = rw over refl
+over_early s Paragraph over = rw over refl
 over_early s (Open opening) over = rw over refl
 over_early s End over = rw over refl
 over_early s (Text text) over = rw over refl
@@ -160,6 +182,7 @@ over_early s (Split splitting) over = rw over refl
 over_early s (Measure r) over = rw over refl
 over_early s (Void r) over = rw over refl
 over_early s (Set parameter) over = rw over refl
+over_early s (Count counting) over = rw over refl
 over_early s (Ship r) over = rw over refl
 
 over_step : (m next : Machine) (n k : ℕ) (command : Command) (reply : Reply) → m.state.over ≡ true → Steps m n command reply next k

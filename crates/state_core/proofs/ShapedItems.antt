@@ -1,5 +1,5 @@
 -- What the commands on characters answer and change, by what their characters come to.
-use Rattle.std.proofs.Common.{◌≡◌, ◌∙◌, ℕ, ℤ, Bool, true, false, List, [], ◌∷◌, ◌++◌, Option, Some, None, refl, ap, sym}
+use Rattle.std.proofs.Common.{◌≡◌, ◌∙◌, ℕ, Bool, true, false, List, [], ◌∷◌, ◌++◌, Option, Some, None, refl, ap, sym}
 use Rattle.node_core.specs.declared.tree.Node.{Node}
 use Rattle.tfm_core.specs.Fonts.{glyph_of, step_of}
 use Rattle.shape_core.specs.Shaping.{shaped_items, shaped_missing}
@@ -7,7 +7,6 @@ use Rattle.shape_core.specs.Texts.{text_items, text_missing}
 use Rattle.shape_core.specs.Spaces.{space_glue}
 use Rattle.dvi_layout.specs.declared.fonts.LoadedFont.{LoadedFont}
 use Rattle.dvi_layout.specs.Fonts.{font_in}
-use Rattle.command_core.specs.declared.command.Answer.{Answer}
 use Rattle.command_core.specs.declared.command.Command.{Command}
 use Rattle.command_core.specs.declared.command.Command.TheVariants.{Text, Character}
 use Rattle.command_core.specs.declared.command.Refusal.{Refusal}

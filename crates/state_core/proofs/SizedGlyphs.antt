@@ -1,6 +1,6 @@
 -- Glyphs have the sizes of their fonts, whatever a command does.
 use Rattle.std.proofs.Common.{◌≡◌, ◌∙◌, ◌≤◌, ℕ, zero, suc, ◌-◌, List, [], ◌∷◌, ◌++◌, length, Bool, true, false, Option, Some, None, Result, Ok, Err, refl, ap, subst, arith}
-use Rattle.std.specs.Prelude.{ℤ, pos, nat_lt, slice_get, slice_set, is_some}
+use Rattle.std.specs.Prelude.{◌+◌, ℤ, pos, nat_lt, slice_get, slice_set, is_none, is_some}
 use Rattle.std.proofs.lemmas.Bool.{ltb-false}
 use Rattle.std.specs.List.{AllByRecursion}
 use Rattle.node_core.specs.declared.tree.Node.{Node}
@@ -26,10 +26,10 @@ use Rattle.pack_core.specs.declared.pack.TooLarge.{TooLarge}
 use Rattle.nest_core.specs.declared.nest.OpenList.{OpenList}
 use Rattle.dvi_layout.specs.declared.fonts.LoadedFont.{LoadedFont}
 use Rattle.command_core.specs.declared.command.Command.{Command}
-use Rattle.command_core.specs.declared.command.Command.TheVariants.{LoadFont, UseFont, Open, End, Text, Character, Rule, Kern, Glue, Penalty, Append, Unbox, LastBox, Split, Measure, Void, Set, Ship}
+use Rattle.command_core.specs.declared.command.Command.TheVariants.{LoadFont, UseFont, Open, Paragraph, End, Text, Character, Rule, Kern, Glue, Penalty, Append, Unbox, LastBox, Split, Measure, Void, Set, Count, Ship}
 use Rattle.command_core.specs.declared.command.FontLoad.{FontLoad}
 use Rattle.command_core.specs.declared.command.Refusal.{Refusal}
-use Rattle.command_core.specs.declared.command.Refusal.TheVariants.{SlotTaken, TooDeep, JobOver}
+use Rattle.command_core.specs.declared.command.Refusal.TheVariants.{SlotTaken, NoOpenList, TooDeep, ListTooLong, JobOver}
 use Rattle.dvi_layout.specs.Fonts.{Slots, font_in}
 use Rattle.nest_core.specs.FontSlots.{with_font, glyph_by, text_in, character_in, text_shaped, character_shaped}
 use Rattle.dvi_layout.proofs.EachOf.{each_taken, each_set, each_at, each_copy, each_held}
@@ -38,14 +38,20 @@ use Rattle.state_core.proofs.KeptRest.{KeepsRest, end_keeps, append_keeps, unbox
 use Rattle.nest_core.proofs.PackedItems.{packed_items}
 use Rattle.state_core.proofs.SplitParts.{inner_nodes, rest_sound, front_sound}
 use Rattle.state_core.specs.Sized.{HasSizes, IsSizedLeaf, IsSoundBox, IsSized, AreSized, IsSizedList, IsSizedHeld, HasSizedGlyphs}
+use Rattle.state_core.proofs.SetLines.{set_sized}
+use Rattle.paragraph_core.specs.declared.paragraph.SetParagraph.{SetParagraph}
+use Rattle.paragraph_core.specs.declared.paragraph.ParagraphFault.{ParagraphFault}
+use Rattle.nest_core.specs.Paragraphs.{depth_in, set_behind, set_checks, with_lines}
+use Rattle.nest_core.specs.declared.nest.ListPurpose.{ListPurpose}
+use Rattle.nest_core.specs.declared.nest.ListPurpose.TheVariants as purposes
 use Rattle.command_core.specs.declared.command.Splitting.{Splitting}
 use Rattle.command_core.specs.declared.command.Taking.{Taking}
 use Rattle.command_core.specs.declared.command.Taking.TheVariants.{Moved, Copied}
-use Rattle.command_core.specs.declared.limits.TheConstants.{REGISTERS, MOST_DEEP}
+use Rattle.command_core.specs.declared.limits.TheConstants.{REGISTERS, MOST_DEEP, MOST_ITEMS}
 use Rattle.nest_core.specs.State.{State, first_state, innermost, outer, items_in, held_in, font_for}
-use Rattle.nest_core.specs.OpenLists.{glue_in, box_items, register_of, if_packed, packed_by, packed_list}
-use Rattle.nest_core.specs.Checks.{home_checks, packed_checks, close_checks, checks, first_of, refusal_in}
-use Rattle.nest_core.specs.Effects.{with_nodes, with_rule, with_items, with_box, without_last, with_taken, with_home, with_closed, with_used, with_unboxed, with_split, after}
+use Rattle.nest_core.specs.OpenLists.{glue_in, box_items, if_packed, packed_by}
+use Rattle.nest_core.specs.Checks.{home_checks, packed_checks, purpose_checks, close_checks, checks, first_of, refusal_in}
+use Rattle.nest_core.specs.Effects.{with_nodes, with_rule, with_items, with_box, without_last, with_taken, with_home, with_closed, with_purpose, with_ended, with_used, with_unboxed, with_split, after}
 
 -- A slot that has a font keeps it where another one is given a font.
 font_kept : (fonts : Slots) (other : ℕ) (font : LoadedFont) (slot : ℕ) (loaded : LoadedFont) → font_in fonts other ≡ None
@@ -88,6 +94,7 @@ pub stays_loaded : (s : State) (command : Command) → first_of (checks s comman
 stays_loaded s (LoadFont load) may slot loaded is = with_font_kept s.fonts load.slot load.name (font_for s load) slot loaded (slot_empty s load may) is
 stays_loaded s (UseFont other) may slot loaded is = is
 stays_loaded s (Open opening) may slot loaded is = is
+stays_loaded s Paragraph may slot loaded is = is
 stays_loaded s End may slot loaded is = still_loaded s (after s End) slot loaded (end_keeps s) is
 stays_loaded s (Text text) may slot loaded is = is
 stays_loaded s (Character code) may slot loaded is = is
@@ -102,6 +109,7 @@ stays_loaded s (Split splitting) may slot loaded is = is
 stays_loaded s (Measure r) may slot loaded is = is
 stays_loaded s (Void r) may slot loaded is = is
 stays_loaded s (Set parameter) may slot loaded is = is
+stays_loaded s (Count counting) may slot loaded is = is
 stays_loaded s (Ship r) may slot loaded is = is
 
 -- What is sized stays so where each slot that has a font keeps it.
@@ -315,22 +323,56 @@ home_sized s (Some r) b sized sound =
       registers = each_set (IsSizedHeld s.fonts) s.registers r (Some b) sized.registers sound;
     }
 
-packed_sized : (s : State) (l : OpenList) (found : Result packs.Packed TooLarge) → ((q : packs.Packed) → found ≡ Ok q → l.list ≡ q.box_node.list)
-    → first_of ((s.over, JobOver) ∷ packed_checks s.params (outer s.nest) (register_of l.purpose) (if_packed found)) ≡ None
-    → HasSizedGlyphs s → IsSizedList s.fonts l → HasSizedGlyphs (with_closed s (Some l) (if_packed found))
-packed_sized s l (Err large) own may sized list = sized
-packed_sized s l (Ok q) own may sized list =
+packed_sized : (s : State) (l : OpenList) (into : Option ℕ) (found : Result packs.Packed TooLarge) → ((q : packs.Packed) → found ≡ Ok q → l.list ≡ q.box_node.list)
+    → first_of ((s.over, JobOver) ∷ packed_checks s.params (outer s.nest) into (if_packed found)) ≡ None
+    → HasSizedGlyphs s → IsSizedList s.fonts l → HasSizedGlyphs (with_closed s into (if_packed found))
+packed_sized s l into (Err large) own may sized list = sized
+packed_sized s l into (Ok q) own may sized list =
     let glyphs = subst (EachLeaf (IsSizedLeaf s.fonts)) (own q refl) (sized_leaves s.fonts l.list list) in
     let shallow =
-    second_fails s.over (nat_lt MOST_DEEP (box_depth q.box_node)) JobOver TooDeep (home_checks s.params (outer s.nest) (register_of l.purpose) q.box_node) may in
-    home_sized s (register_of l.purpose) q.box_node sized (record { glyphs = glyphs; depth = not_deeper (box_depth q.box_node) shallow })
+    second_fails s.over (nat_lt MOST_DEEP (box_depth q.box_node)) JobOver TooDeep (home_checks s.params (outer s.nest) into q.box_node) may in
+    home_sized s into q.box_node sized (record { glyphs = glyphs; depth = not_deeper (box_depth q.box_node) shallow })
 
-closed_sized : (s : State) (l : Option OpenList) → innermost s.nest ≡ l → first_of ((s.over, JobOver) ∷ close_checks s.params (outer s.nest) l) ≡ None
-    → HasSizedGlyphs s → HasSizedGlyphs (with_closed s l (packed_list s.params l))
-closed_sized s None is may sized = sized
-closed_sized s (Some l) is may sized =
-    packed_sized s l (packed_by l.purpose s.params l.list) (packed_items l.purpose s.params l.list) may sized
+-- The lines of a paragraph.
+third_fails : (first second third : Bool) (r t u : Refusal) (rest : List (Bool × Refusal)) → first_of ((first, r) ∷ (second, t) ∷ (third, u) ∷ rest) ≡ None → third ≡ false
+third_fails true second third r t u rest may = cc
+third_fails false true third r t u rest may = cc
+third_fails false false true r t u rest may = cc
+third_fails false false false r t u rest may = refl
+
+lines_sized : (fonts : Slots) (around : List OpenList) (m : Option OpenList) (result : Result SetParagraph ParagraphFault) (over nowhere : Bool) (count : ℕ)
+    → innermost around ≡ m → ((set : SetParagraph) → result ≡ Ok set → EachLeaf (IsSizedLeaf fonts) set.items)
+    → first_of ((over, JobOver) ∷ (nowhere, NoOpenList) ∷ set_checks count result) ≡ None
+    → AllByRecursion (IsSizedList fonts) around → AllByRecursion (IsSizedList fonts) (with_lines around m result)
+lines_sized fonts around None result over nowhere count is glyphs may all = all
+lines_sized fonts around (Some l) (Err fault) over nowhere count is glyphs may all = all
+lines_sized fonts around (Some l) (Ok set) over nowhere count is glyphs may all =
+    let shallow =
+    third_fails over nowhere (nat_lt MOST_DEEP (items_depth set.items)) JobOver NoOpenList TooDeep ((nat_lt MOST_ITEMS (count + length (nodes_of set.items)), ListTooLong) ∷ []) may in
+    let here = sized_nodes fonts set.items (glyphs set refl) (not_deeper (items_depth set.items) shallow) in
+    each_set (IsSizedList fonts) around (length around - 1) _ all
+    (nodes_sized fonts (nodes_of l.list) (nodes_of set.items) (each_at (IsSizedList fonts) around (length around - 1) l all is) here)
+
+purpose_sized : (s : State) (l : OpenList) (purpose : ListPurpose) → innermost s.nest ≡ Some l
+    → first_of ((s.over, JobOver) ∷ purpose_checks s.params (outer s.nest) l purpose) ≡ None → HasSizedGlyphs s → HasSizedGlyphs (with_purpose s l purpose)
+purpose_sized s l (purposes.Box opening) is may sized =
+    packed_sized s l opening.into (packed_by l.purpose s.params l.list) (packed_items l.purpose s.params l.list) may sized
     (each_at (IsSizedList s.fonts) s.nest (length s.nest - 1) l sized.nest is)
+purpose_sized s l purposes.Paragraph is may sized =
+    let around = outer s.nest in
+    let list = each_at (IsSizedList s.fonts) s.nest (length s.nest - 1) l sized.nest is in
+    record {
+      nest =
+          lines_sized s.fonts around (innermost around) (set_behind s.params around l.list) s.over (is_none (innermost around)) (length (nodes_of (items_in (innermost around)))) refl
+          (λ (set : SetParagraph) told. set_sized s.fonts (nodes_of l.list) s.params (depth_in (innermost around)) set list told)
+          may (each_taken (IsSizedList s.fonts) (length s.nest - 1) s.nest sized.nest);
+      registers = sized.registers;
+    }
+
+ended_sized : (s : State) (l : Option OpenList) → innermost s.nest ≡ l → first_of ((s.over, JobOver) ∷ close_checks s.params (outer s.nest) l) ≡ None
+    → HasSizedGlyphs s → HasSizedGlyphs (with_ended s l)
+ended_sized s None is may sized = sized
+ended_sized s (Some l) is may sized = purpose_sized s l l.purpose is may sized
 
 -- The parts of a box that is split.
 split_sized : (s : State) (splitting : Splitting) (held : Option BoxNode) → held_in s.registers splitting.register ≡ held → HasSizedGlyphs s
@@ -361,7 +403,8 @@ sized_after s (LoadFont load) may sized =
     }
 sized_after s (UseFont slot) may sized = record { nest = sized.nest; registers = sized.registers }
 sized_after s (Open opening) may sized = record { nest = all_append (IsSizedList s.fonts) s.nest _ sized.nest (tt, tt); registers = sized.registers }
-sized_after s End may sized = closed_sized s (innermost s.nest) refl may sized
+sized_after s Paragraph may sized = record { nest = all_append (IsSizedList s.fonts) s.nest _ sized.nest (tt, tt); registers = sized.registers }
+sized_after s End may sized = ended_sized s (innermost s.nest) refl may sized
 sized_after s (Text text) may sized = items_sized s (text_shaped s.fonts s.current text).items (text_shaped_sized s.fonts s.current text) sized
 sized_after s (Character code) may sized = items_sized s (character_shaped s.fonts s.current code).items (character_shaped_sized s.fonts s.current code) sized
 sized_after s (Rule sizes) may sized = record { nest = nest_with_rule s.fonts s.nest sizes (innermost s.nest) sized.nest refl; registers = sized.registers }
@@ -379,4 +422,5 @@ sized_after s (Split splitting) may sized = split_sized s splitting (held_in s.r
 sized_after s (Measure r) may sized = sized
 sized_after s (Void r) may sized = record { nest = sized.nest; registers = each_set (IsSizedHeld s.fonts) s.registers r None sized.registers tt }
 sized_after s (Set parameter) may sized = record { nest = sized.nest; registers = sized.registers }
+sized_after s (Count counting) may sized = record { nest = sized.nest; registers = sized.registers }
 sized_after s (Ship r) may sized = record { nest = sized.nest; registers = each_set (IsSizedHeld s.fonts) s.registers r None sized.registers tt }

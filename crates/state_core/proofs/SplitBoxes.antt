@@ -1,8 +1,7 @@
 -- A box is split in its registers, and all else stays.
-use Rattle.std.proofs.Common.{◌≡◌, ◌∙◌, ℤ, Bool, false, List, Option, Some, None, Result, Ok, Err, refl, ap, subst}
-use Rattle.std.specs.Prelude.{IfOk, OnOk}
+use Rattle.std.proofs.Common.{◌≡◌, ◌∙◌, sym, false, List, Option, Some, None, Result, Ok, Err, refl, ap}
+use Rattle.std.specs.Prelude.{IfOk, OnOk, OnErr}
 use Rattle.node_core.specs.declared.tree.BoxNode.{BoxNode}
-use Rattle.command_core.specs.declared.command.Answer.{Answer}
 use Rattle.command_core.specs.declared.command.Command.TheVariants.{Split}
 use Rattle.command_core.specs.declared.command.Refusal.{Refusal}
 use Rattle.command_core.specs.declared.command.Splitting.{Splitting}
@@ -51,3 +50,7 @@ module _ {E : Type 0} (t s : State) (splitting : Splitting) (same : t ≡ s) (ru
   split_state (Ok reply) now is =
       ap (λ (xs : List (Option BoxNode)). record t { registers = xs }) is ∙ ap (λ (x : State). record x { registers = registers_in x splitting }) same ∙ state_so s splitting running
   split_state (Err e) now is = is
+
+  pub split_admitted : (result : Result Reply E) → OnErr result (refused t splitting ≡ None) → OnErr result (first_of (checks s (Split splitting)) ≡ None)
+  split_admitted (Ok reply) is = is
+  split_admitted (Err e) is = sym (refused_so s splitting running) ∙ (sym (ap (λ (x : State). refused x splitting) same) ∙ is)

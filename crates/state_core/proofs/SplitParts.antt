@@ -1,5 +1,5 @@
 -- The parts of a box that is split are sound as the box is.
-use Rattle.std.proofs.Common.{◌≡◌, ◌≤◌, ◌+◌, ℕ, zero, suc, ℤ, Bool, true, false, List, [], ◌∷◌, drop, Option, Some, None, refl, subst, sym, arith}
+use Rattle.std.proofs.Common.{◌≡◌, ◌≤◌, ◌+◌, ℕ, zero, suc, ℤ, Bool, true, false, List, [], ◌∷◌, drop, refl, arith}
 use Rattle.std.specs.List.{AllByRecursion}
 use Rattle.std.specs.Option.{option_map}
 use Rattle.node_core.specs.declared.params.SplitParams.{SplitParams}
@@ -19,7 +19,7 @@ use Rattle.dvi_layout.proofs.EachOf.{each_taken}
 use Rattle.state_core.specs.Sized.{HasSizes, IsSizedLeaf, IsSoundBox, IsSizedHeld}
 
 module _ {A : Type 0} (P : A → Type 0) where
-  each_dropped : (n : ℕ) (xs : List A) → AllByRecursion P xs → AllByRecursion P (drop n xs)
+  pub each_dropped : (n : ℕ) (xs : List A) → AllByRecursion P xs → AllByRecursion P (drop n xs)
   each_dropped zero xs all = all
   each_dropped (suc n) [] all = tt
   each_dropped (suc n) (x ∷ xs) all = each_dropped n xs all.1

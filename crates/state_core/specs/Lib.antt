@@ -1,3 +1,4 @@
+pub mod Keeping
 pub mod StateCode
 pub mod Sized
 pub mod Loaded

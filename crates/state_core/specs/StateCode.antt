@@ -1,6 +1,6 @@
--- How the logic stores the state of a machine (own; the models of `Kept` and `Job` alone, no public clause speaks of it).
-use Rattle.std.specs.Prelude.{ℕ, Bool, List, Option, refl}
-use Rattle.std.specs.Coded.{Coded, code_by, coded×, coded_ℕ, coded_bool, coded_list, coded_option}
+-- How the logic stores what a job keeps, and the state of a machine (own; the models of `Kept` and `Job` alone, no public clause speaks of it).
+use Rattle.std.specs.Prelude.{ℕ, ℤ, Bool, List, Option, refl}
+use Rattle.std.specs.Coded.{Coded, code_by, coded×, coded_ℕ, coded_ℤ, coded_bool, coded_list, coded_option}
 use Rattle.node_core.specs.declared.tree.BoxNode.{BoxNode}
 use Rattle.node_core.specs.contracts.tree.BoxNode as box_node
 use Rattle.node_core.specs.declared.params.Params.{Params}
@@ -11,28 +11,36 @@ use Rattle.tfm_core.specs.NamedBytes.{NamedBytes}
 use Rattle.dvi_layout.specs.declared.fonts.LoadedFont.{LoadedFont}
 use Rattle.dvi_layout.specs.contracts.fonts.LoadedFont as loaded_font
 use Rattle.nest_core.specs.State.{State}
+use Rattle.state_core.specs.Keeping.{Keeping, state_of}
 
 -- How a font file is stored: its name and its bytes.
 abbrev pub coded_named : Coded NamedBytes
 coded_named =
     code_by (List ℕ × List ℕ) (coded× (coded_list coded_ℕ) (coded_list coded_ℕ)) (λ f. (f.name, f.bytes)) (λ p. record { name = p.0; bytes = p.1 }) (λ _. refl)
 
--- The parts of a state, as a pair of pairs.
-abbrev pub Parts : Type 0
-Parts = ((List NamedBytes × (List (Option LoadedFont) × Option ℕ)) × (Params × List OpenList)) × (List (Option BoxNode) × ((ℕ × ℕ) × Bool))
-
 -- How the fonts of the slots are stored, with the slot of the current one.
 abbrev pub coded_fonts : Coded (List (Option LoadedFont) × Option ℕ)
 coded_fonts = coded× (coded_list (coded_option loaded_font.the_row.coded)) (coded_option coded_ℕ)
 
--- How the parts of a state are stored.
+-- The parts of what a job keeps, as a pair of pairs.
+abbrev pub Parts : Type 0
+Parts = ((List NamedBytes × (List (Option LoadedFont) × Option ℕ)) × (Params × List OpenList)) × (List (Option BoxNode) × List ℤ)
+
+-- How the parts of what a job keeps are stored.
 abbrev pub coded_parts : Coded Parts
 coded_parts =
     coded× (coded× (coded× (coded_list coded_named) coded_fonts) (coded× params_code.the_row.coded (coded_list open_list.the_row.coded)))
-    (coded× (coded_list (coded_option box_node.the_row.coded)) (coded× (coded× coded_ℕ coded_ℕ) coded_bool))
+    (coded× (coded_list (coded_option box_node.the_row.coded)) (coded_list coded_ℤ))
 
--- How a state is stored: by its parts.
+-- How what a job keeps is stored: by its parts.
+abbrev pub coded_keeping : Coded Keeping
+coded_keeping =
+    code_by Parts coded_parts (λ k. (((k.files, (k.fonts, k.current)), (k.params, k.nest)), (k.registers, k.counts)))
+    (λ p. record { files = p.0.0.0; fonts = p.0.0.1.0; current = p.0.0.1.1; params = p.0.1.0; nest = p.0.1.1; registers = p.1.0; counts = p.1.1 }) (λ _. refl)
+
+-- How a state is stored: by what a job keeps, the numbers of nodes and pages, and whether it is over.
 abbrev pub coded_state : Coded State
 coded_state =
-    code_by Parts coded_parts (λ s. (((s.files, (s.fonts, s.current)), (s.params, s.nest)), (s.registers, ((s.shipped, s.pages), s.over))))
-    (λ p. record { files = p.0.0.0; fonts = p.0.0.1.0; current = p.0.0.1.1; params = p.0.1.0; nest = p.0.1.1; registers = p.1.0; shipped = p.1.1.0.0; pages = p.1.1.0.1; over = p.1.1.1 }) (λ _. refl)
+    code_by (Keeping × ((ℕ × ℕ) × Bool)) (coded× coded_keeping (coded× (coded× coded_ℕ coded_ℕ) coded_bool))
+    (λ s. (record { files = s.files; fonts = s.fonts; current = s.current; params = s.params; nest = s.nest; registers = s.registers; counts = s.counts }, ((s.shipped, s.pages), s.over)))
+    (λ p. state_of p.0 p.1.0.0 p.1.0.1 p.1.1) (λ _. refl)

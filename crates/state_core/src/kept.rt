@@ -1,38 +1,39 @@
 //! What a job keeps, but for its device and its bytes.
 
-ghost use Rattle.std.specs.Prelude.{◌≡◌, ◌==◌, ◌<◌, ◌≤◌, ◌+◌, ◌∷◌, [], not, true, false, None, Some, IfOk, IfErr, OnOk, OnErr, IsSome, length};
+ghost use Rattle.std.specs.Prelude.{◌≡◌, ◌==◌, ◌≤◌, ◌+◌, ◌∷◌, [], not, None, Some, IfOk, IfErr, OnOk, OnErr, IsSome, length, option_copied, slice_set};
 ghost use Rattle.command_core.specs.declared.command.Command.TheVariants as commands;
 ghost use Rattle.dvi_layout.specs.Fonts.{font_in};
+ghost use Rattle.state_core.specs.Keeping.{unshipped};
 ghost use Rattle.state_core.specs.Loaded.{GivesNumbers};
-ghost use Rattle.node_core.specs.Nodes.{most_nodes, nodes_of};
+ghost use Rattle.node_core.specs.Nodes.{nodes_of};
 ghost use Rattle.nest_core.specs.EmptiedNest.{refilled_nest};
-ghost use Rattle.nest_core.specs.State.{first_state, innermost, outer, items_in, held_in, count_in, nodes_in};
+ghost use Rattle.nest_core.specs.State.{first_state, innermost, outer, items_in, held_in, nodes_in};
+ghost use Rattle.nest_core.specs.NextPages.{offsets_of};
 ghost use Rattle.nest_core.specs.OpenLists.{GoesIntoList};
 ghost use Rattle.nest_core.specs.Checks.{checks, first_of, character_checks, item_checks, length_checks, held_checks, home_checks, place_checks, is_running, is_misplaced};
 ghost use Rattle.nest_core.specs.Answers.{sizes_of, shaped_answer};
-ghost use Rattle.nest_core.specs.Effects.{after, with_items, with_used, with_unboxed, with_home};
+ghost use Rattle.nest_core.specs.Effects.{with_items, with_used, with_unboxed, with_home};
 ghost use Rattle.nest_core.specs.Machine.{reply_by, reply_to, state_by, state_after};
 ghost use Rattle.nest_core.specs.Runs.{early_checks};
 
-use command_core::limits::{MOST_DEEP, MOST_ITEMS, MOST_OPEN, MOST_PAGES, MOST_SHIPPED};
+use command_core::limits::{COUNTS, MOST_DEEP, MOST_ITEMS, MOST_OPEN};
 use command_core::{
-    Answer, BoxUse, Characters, FontLoad, Opening, Parameter, Refusal, Register, Reply, Splitting,
-    Taking, Unboxing,
+    Answer, BoxUse, Characters, Counting, FontLoad, Opening, Parameter, Refusal, Register, Reply,
+    Splitting, Taking, Unboxing,
 };
-use dvi_layout::{Fonts, LoadedFont};
+use dvi_layout::{Fonts, LoadedFont, Offsets};
 use nest_core::fonts::read_font;
-use nest_core::nest::Nest;
-use nest_core::registers::{Registers, sizes_of};
+use nest_core::nest::{ListPurpose, Nest};
 use node_core::{BoxNode, Kind, Node, Params, Rule, RuleSize};
 use pack_core::Packed;
+use register_core::registers::{Registers, sizes_of};
 use scaled_core::Dimen;
 use shape_core::{Missing, shape_character, shape_text};
-use ship_core::{PagePoint, is_huge};
 use std::alloc::{AllocError, Global};
 use std::marker::Model;
 use tfm_core::{FontFile, file_named};
 
-/// The kept state: font files, fonts, open lists, registers and numbers.
+/// What a job keeps beside the writer of its file: font files, fonts, parameters, open lists, registers and counts.
 #[derive(Debug, Drop)]
 pub struct Kept {
     files: Vec<FontFile>,
@@ -41,31 +42,18 @@ pub struct Kept {
     params: Params,
     nest: Nest,
     registers: Registers,
-    shipped: u64,
-    pages: u32,
-    over: bool,
+    counts: [i32; COUNTS],
 }
 
 impl Model for Kept {
-    ghost use Rattle.std.specs.Prelude.{◌≤◌};
-    ghost use Rattle.nest_core.specs.State.{State};
-    ghost use Rattle.command_core.specs.declared.limits.TheConstants.{MOST_PAGES, MOST_SHIPPED};
-    ghost use Rattle.state_core.specs.StateCode.{coded_state};
+    ghost use Rattle.state_core.specs.Keeping.{Keeping};
+    ghost use Rattle.state_core.specs.StateCode.{coded_keeping};
 
-    ghost Value = { State };
+    ghost Value = { Keeping };
 
-    ghost coded = { coded_state };
+    ghost coded = { coded_keeping };
 
-    ghost view = { λ kept. record { files = kept.files.items; fonts = kept.fonts; current = kept.current; params = kept.params; nest = kept.nest; registers = kept.registers; shipped = kept.shipped; pages = kept.pages; over = kept.over } };
-
-    ghost invariant = { λ kept. (kept.shipped ≤ MOST_SHIPPED) × (kept.pages ≤ MOST_PAGES) };
-}
-
-/// The box in a register that may be shipped now, and the number of its nodes.
-#[derive(Clone, Copy, Debug)]
-pub struct BoxToShip<'a> {
-    pub box_node: &'a BoxNode,
-    pub nodes: u64,
+    ghost view = { λ kept. record { files = kept.files.items; fonts = kept.fonts; current = kept.current; params = kept.params; nest = kept.nest; registers = kept.registers; counts = kept.counts } };
 }
 
 /// Copies of the files.
@@ -82,7 +70,7 @@ fn copies(alloc: Global, files: &[FontFile]) -> Result<Vec<FontFile>, AllocError
 impl Kept {
     /// What a new job with these files keeps.
     pub fn new(alloc: Global, files: &[FontFile]) -> Result<Kept, AllocError>
-        ensures { IfOk result (λ kept. kept ≡ first_state files.now) }
+        ensures { IfOk result (λ kept. unshipped kept ≡ first_state files.now) }
     {
         let files = copies(alloc, files)?;
         let fonts = Fonts::new(alloc)?;
@@ -94,24 +82,8 @@ impl Kept {
             params: Params::first(),
             nest: Nest::new(alloc),
             registers,
-            shipped: 0,
-            pages: 0,
-            over: false,
+            counts: [0; COUNTS],
         })
-    }
-
-    /// Whether the job is over.
-    pub fn is_over(&self) -> bool
-        ensures { result ≡ self.now.over }
-    {
-        self.over
-    }
-
-    /// Ends the job.
-    pub fn stop(&mut self)
-        ensures { self.new ≡ record self.old { over = true } }
-    {
-        self.over = true;
     }
 
     /// Whether a list is open.
@@ -119,13 +91,6 @@ impl Kept {
         ensures { result ≡ not (length self.now.nest == 0) }
     {
         self.nest.len() != 0
-    }
-
-    /// How many pages were shipped.
-    pub fn pages(&self) -> u32
-        ensures { result ≡ self.now.pages }
-    {
-        self.pages
     }
 
     /// The fonts.
@@ -137,12 +102,11 @@ impl Kept {
 
     /// Reads a font file into a slot.
     pub fn load_font(&mut self, load: &FontLoad) -> Result<Reply, AllocError>
-        requires { self.old.over ≡ false }
-        ensures reply { IfOk result (λ reply. reply ≡ reply_to self.old (commands.LoadFont load.now)) }
-        ensures state { OnOk result (self.new ≡ state_after self.old (commands.LoadFont load.now)) }
-        ensures numbers { IfOk result (λ reply. IfOk reply (λ answer. GivesNumbers self.old load.now)) }
+        ensures reply { IfOk result (λ reply. reply ≡ reply_to (unshipped self.old) (commands.LoadFont load.now)) }
+        ensures state { OnOk result (unshipped self.new ≡ state_after (unshipped self.old) (commands.LoadFont load.now)) }
+        ensures numbers { IfOk result (λ reply. IfOk reply (λ answer. GivesNumbers (unshipped self.old) load.now)) }
         ensures err { OnErr result (self.new ≡ self.old) }
-        ensures early { OnErr result (first_of (early_checks self.old (commands.LoadFont load.now)) ≡ None) }
+        ensures early { OnErr result (first_of (early_checks (unshipped self.old) (commands.LoadFont load.now)) ≡ None) }
     {
         if self.fonts.get(load.slot).is_some() {
             return Ok(Err(Refusal::SlotTaken));
@@ -162,9 +126,8 @@ impl Kept {
 
     /// Chooses the font of a slot.
     pub fn use_font(&mut self, slot: u8) -> Reply
-        requires { self.old.over ≡ false }
-        ensures reply { result ≡ reply_to self.old (commands.UseFont slot) }
-        ensures state { self.new ≡ state_after self.old (commands.UseFont slot) }
+        ensures reply { result ≡ reply_to (unshipped self.old) (commands.UseFont slot) }
+        ensures state { unshipped self.new ≡ state_after (unshipped self.old) (commands.UseFont slot) }
     {
         if self.fonts.get(slot).is_none() {
             return Err(Refusal::NoFont);
@@ -175,8 +138,8 @@ impl Kept {
 
     /// Appends the items that characters come to, where the innermost list has room for them.
     fn append_shaped(&mut self, items: Vec<Node>, missing: Missing) -> Result<Reply, AllocError>
-        ensures reply { IfOk result (λ reply. reply ≡ reply_by (first_of (length_checks self.old items.items)) (shaped_answer (record { items = items.items; missing = missing.characters }))) }
-        ensures state { OnOk result (self.new ≡ state_by (first_of (length_checks self.old items.items)) self.old (with_items self.old items.items)) }
+        ensures reply { IfOk result (λ reply. reply ≡ reply_by (first_of (length_checks (unshipped self.old) items.items)) (shaped_answer (record { items = items.items; missing = missing.characters }))) }
+        ensures state { OnOk result (unshipped self.new ≡ state_by (first_of (length_checks (unshipped self.old) items.items)) (unshipped self.old) (with_items (unshipped self.old) items.items)) }
         ensures err { OnErr result (self.new ≡ self.old) }
     {
         if self.nest.item_count().saturating_add(items.len()) > MOST_ITEMS {
@@ -194,8 +157,8 @@ impl Kept {
     fn font_for_characters(&self) -> Result<(u8, &LoadedFont), Refusal>
         ensures slot { IfOk result (λ font. self.now.current ≡ Some font.0) }
         ensures font { IfOk result (λ font. font_in self.now.fonts font.0 ≡ Some font.1.now) }
-        ensures ok { OnOk result (first_of (character_checks self.now) ≡ None) }
-        ensures err { IfErr result (λ refusal. first_of (character_checks self.now) ≡ Some refusal) }
+        ensures ok { OnOk result (first_of (character_checks (unshipped self.now)) ≡ None) }
+        ensures err { IfErr result (λ refusal. first_of (character_checks (unshipped self.now)) ≡ Some refusal) }
     {
         let Some(innermost) = self.nest.innermost() else {
             return Err(Refusal::NoOpenList);
@@ -214,11 +177,10 @@ impl Kept {
 
     /// Appends a text in the current font.
     pub fn append_text(&mut self, text: &Characters) -> Result<Reply, AllocError>
-        requires { self.old.over ≡ false }
-        ensures reply { IfOk result (λ reply. reply ≡ reply_to self.old (commands.Text text.now)) }
-        ensures state { OnOk result (self.new ≡ state_after self.old (commands.Text text.now)) }
+        ensures reply { IfOk result (λ reply. reply ≡ reply_to (unshipped self.old) (commands.Text text.now)) }
+        ensures state { OnOk result (unshipped self.new ≡ state_after (unshipped self.old) (commands.Text text.now)) }
         ensures err { OnErr result (self.new ≡ self.old) }
-        ensures early { OnErr result (first_of (early_checks self.old (commands.Text text.now)) ≡ None) }
+        ensures early { OnErr result (first_of (early_checks (unshipped self.old) (commands.Text text.now)) ≡ None) }
     {
         let (slot, loaded) = match self.font_for_characters() {
             Ok(font) => font,
@@ -231,11 +193,10 @@ impl Kept {
 
     /// Appends a character of the current font.
     pub fn append_character(&mut self, code: u8) -> Result<Reply, AllocError>
-        requires { self.old.over ≡ false }
-        ensures reply { IfOk result (λ reply. reply ≡ reply_to self.old (commands.Character code)) }
-        ensures state { OnOk result (self.new ≡ state_after self.old (commands.Character code)) }
+        ensures reply { IfOk result (λ reply. reply ≡ reply_to (unshipped self.old) (commands.Character code)) }
+        ensures state { OnOk result (unshipped self.new ≡ state_after (unshipped self.old) (commands.Character code)) }
         ensures err { OnErr result (self.new ≡ self.old) }
-        ensures early { OnErr result (first_of (early_checks self.old (commands.Character code)) ≡ None) }
+        ensures early { OnErr result (first_of (early_checks (unshipped self.old) (commands.Character code)) ≡ None) }
     {
         let (slot, loaded) = match self.font_for_characters() {
             Ok(font) => font,
@@ -248,11 +209,10 @@ impl Kept {
 
     /// Opens a list.
     pub fn open_list(&mut self, opening: Opening) -> Result<Reply, AllocError>
-        requires { self.old.over ≡ false }
-        ensures reply { IfOk result (λ reply. reply ≡ reply_to self.old (commands.Open opening)) }
-        ensures state { OnOk result (self.new ≡ state_after self.old (commands.Open opening)) }
+        ensures reply { IfOk result (λ reply. reply ≡ reply_to (unshipped self.old) (commands.Open opening)) }
+        ensures state { OnOk result (unshipped self.new ≡ state_after (unshipped self.old) (commands.Open opening)) }
         ensures err { OnErr result (self.new ≡ self.old) }
-        ensures admitted { OnErr result (first_of (checks self.old (commands.Open opening)) ≡ None) }
+        ensures admitted { OnErr result (first_of (checks (unshipped self.old) (commands.Open opening)) ≡ None) }
     {
         let count = self.nest.len();
         if opening.into.is_none() && count == 0 {
@@ -261,16 +221,26 @@ impl Kept {
         if count >= MOST_OPEN {
             return Ok(Err(Refusal::TooDeep));
         }
-        self.nest.begin(opening)?;
+        self.nest.begin(ListPurpose::Box(opening))?;
         Ok(Ok(Answer::Done))
+    }
+
+    /// Opens a paragraph inside a vertical list.
+    pub fn open_paragraph(&mut self) -> Result<Reply, AllocError>
+        ensures reply { IfOk result (λ reply. reply ≡ reply_to (unshipped self.old) commands.Paragraph) }
+        ensures state { OnOk result (unshipped self.new ≡ state_after (unshipped self.old) commands.Paragraph) }
+        ensures err { OnErr result (self.new ≡ self.old) }
+        ensures admitted { OnErr result (first_of (checks (unshipped self.old) commands.Paragraph) ≡ None) }
+    {
+        self.nest.open_paragraph()
     }
 
     /// Appends an item.
     pub fn append_item(&mut self, item: Node) -> Result<Reply, AllocError>
-        ensures reply { IfOk result (λ reply. reply ≡ reply_by (first_of (item_checks self.old)) Answer.Done) }
-        ensures state { OnOk result (self.new ≡ state_by (first_of (item_checks self.old)) self.old (with_items self.old (item ∷ []))) }
+        ensures reply { IfOk result (λ reply. reply ≡ reply_by (first_of (item_checks (unshipped self.old))) Answer.Done) }
+        ensures state { OnOk result (unshipped self.new ≡ state_by (first_of (item_checks (unshipped self.old))) (unshipped self.old) (with_items (unshipped self.old) (item ∷ []))) }
         ensures err { OnErr result (self.new ≡ self.old) }
-        ensures admitted { OnErr result (first_of (item_checks self.old) ≡ None) }
+        ensures admitted { OnErr result (first_of (item_checks (unshipped self.old)) ≡ None) }
     {
         let Some(innermost) = self.nest.innermost() else {
             return Ok(Err(Refusal::NoOpenList));
@@ -284,11 +254,10 @@ impl Kept {
 
     /// Appends a rule.
     pub fn append_rule(&mut self, rule: Rule) -> Result<Reply, AllocError>
-        requires { self.old.over ≡ false }
-        ensures reply { IfOk result (λ reply. reply ≡ reply_to self.old (commands.Rule rule)) }
-        ensures state { OnOk result (self.new ≡ state_after self.old (commands.Rule rule)) }
+        ensures reply { IfOk result (λ reply. reply ≡ reply_to (unshipped self.old) (commands.Rule rule)) }
+        ensures state { OnOk result (unshipped self.new ≡ state_after (unshipped self.old) (commands.Rule rule)) }
         ensures err { OnErr result (self.new ≡ self.old) }
-        ensures admitted { OnErr result (first_of (checks self.old (commands.Rule rule)) ≡ None) }
+        ensures admitted { OnErr result (first_of (checks (unshipped self.old) (commands.Rule rule)) ≡ None) }
     {
         let Some(innermost) = self.nest.innermost() else {
             return Ok(Err(Refusal::NoOpenList));
@@ -305,11 +274,10 @@ impl Kept {
 
     /// Appends the box of a register.
     pub fn append_register_box(&mut self, taken: &BoxUse) -> Result<Reply, AllocError>
-        requires { self.old.over ≡ false }
-        ensures reply { IfOk result (λ reply. reply ≡ reply_to self.old (commands.Append taken.now)) }
-        ensures state { OnOk result (self.new ≡ state_after self.old (commands.Append taken.now)) }
+        ensures reply { IfOk result (λ reply. reply ≡ reply_to (unshipped self.old) (commands.Append taken.now)) }
+        ensures state { OnOk result (unshipped self.new ≡ state_after (unshipped self.old) (commands.Append taken.now)) }
         ensures err { OnErr result (self.new ≡ self.old) }
-        ensures admitted { OnErr result (first_of (checks self.old (commands.Append taken.now)) ≡ None) }
+        ensures admitted { OnErr result (first_of (checks (unshipped self.old) (commands.Append taken.now)) ≡ None) }
         ensures takes { OnErr result (IsSome (held_in self.old.registers taken.now.register)) }
     {
         let Some(innermost) = self.nest.innermost() else {
@@ -332,7 +300,7 @@ impl Kept {
     /// Moves the box of a register to the end of the innermost list, where it may stand.
     fn move_box(&mut self, register: Register, shift: Dimen) -> Result<(), AllocError>
         requires { first_of (held_checks self.old.params (innermost self.old.nest) (held_in self.old.registers register)) ≡ None }
-        ensures ok { OnOk result (self.new ≡ with_used self.old Taking.Moved register shift (held_in self.old.registers register)) }
+        ensures ok { OnOk result (unshipped self.new ≡ with_used (unshipped self.old) Taking.Moved register shift (held_in self.old.registers register)) }
         ensures err { OnErr result (self.new ≡ self.old) }
     {
         let Some(box_node) = self.registers.take(register) else {
@@ -350,7 +318,7 @@ impl Kept {
     /// Puts a copy of the box of a register at the end of the innermost list, where it may stand.
     fn copy_box(&mut self, register: Register, shift: Dimen) -> Result<(), AllocError>
         requires { first_of (held_checks self.old.params (innermost self.old.nest) (held_in self.old.registers register)) ≡ None }
-        ensures ok { OnOk result (self.new ≡ with_used self.old Taking.Copied register shift (held_in self.old.registers register)) }
+        ensures ok { OnOk result (unshipped self.new ≡ with_used (unshipped self.old) Taking.Copied register shift (held_in self.old.registers register)) }
         ensures err { OnErr result (self.new ≡ self.old) }
     {
         let Some(box_node) = self.registers.get(register) else {
@@ -365,16 +333,16 @@ impl Kept {
 
     /// Appends the items of the box of a register.
     pub fn unbox(&mut self, taken: &Unboxing) -> Result<Reply, AllocError>
-        requires { self.old.over ≡ false }
-        ensures reply { IfOk result (λ reply. reply ≡ reply_to self.old (commands.Unbox taken.now)) }
-        ensures state { OnOk result (self.new ≡ state_after self.old (commands.Unbox taken.now)) }
+        ensures reply { IfOk result (λ reply. reply ≡ reply_to (unshipped self.old) (commands.Unbox taken.now)) }
+        ensures state { OnOk result (unshipped self.new ≡ state_after (unshipped self.old) (commands.Unbox taken.now)) }
         ensures err { OnErr result (self.new ≡ self.old) }
-        ensures admitted { OnErr result (first_of (checks self.old (commands.Unbox taken.now)) ≡ None) }
+        ensures admitted { OnErr result (first_of (checks (unshipped self.old) (commands.Unbox taken.now)) ≡ None) }
         ensures takes { OnErr result (IsSome (held_in self.old.registers taken.now.register)) }
     {
         let Some(innermost) = self.nest.innermost() else {
             return Ok(Err(Refusal::NoOpenList));
         };
+        self.nest.innermost_is_short();
         let held = self.registers.get(taken.register);
         let count = match innermost.room_for_items(taken.kind, held) {
             Ok(count) => count,
@@ -389,8 +357,8 @@ impl Kept {
 
     /// Moves the items of the box of a register to the end of the innermost list, where they have room.
     fn move_items(&mut self, register: Register) -> Result<(), AllocError>
-        requires { length (nodes_of (items_in (innermost self.old.nest))) + length (nodes_in (held_in self.old.registers register)) ≤ most_nodes }
-        ensures ok { OnOk result (self.new ≡ with_unboxed self.old Taking.Moved register (held_in self.old.registers register)) }
+        requires { length (nodes_of (items_in (innermost self.old.nest))) + length (nodes_in (held_in self.old.registers register)) ≤ MOST_ITEMS }
+        ensures ok { OnOk result (unshipped self.new ≡ with_unboxed (unshipped self.old) Taking.Moved register (held_in self.old.registers register)) }
         ensures err { OnErr result (self.new ≡ self.old) }
         ensures takes { OnErr result (IsSome (held_in self.old.registers register)) }
     {
@@ -408,8 +376,8 @@ impl Kept {
 
     /// Puts copies of the items of the box of a register at the end of the innermost list, where they have room.
     fn copy_items(&mut self, register: Register) -> Result<(), AllocError>
-        requires { length (nodes_of (items_in (innermost self.old.nest))) + length (nodes_in (held_in self.old.registers register)) ≤ most_nodes }
-        ensures ok { OnOk result (self.new ≡ with_unboxed self.old Taking.Copied register (held_in self.old.registers register)) }
+        requires { length (nodes_of (items_in (innermost self.old.nest))) + length (nodes_in (held_in self.old.registers register)) ≤ MOST_ITEMS }
+        ensures ok { OnOk result (unshipped self.new ≡ with_unboxed (unshipped self.old) Taking.Copied register (held_in self.old.registers register)) }
         ensures err { OnErr result (self.new ≡ self.old) }
         ensures takes { OnErr result (IsSome (held_in self.old.registers register)) }
     {
@@ -422,9 +390,8 @@ impl Kept {
 
     /// Takes the last item of the innermost list, if it is a box, into a register, which else becomes void.
     pub fn last_box(&mut self, register: Register) -> Reply
-        requires { self.old.over ≡ false }
-        ensures reply { result ≡ reply_to self.old (commands.LastBox register) }
-        ensures state { self.new ≡ state_after self.old (commands.LastBox register) }
+        ensures reply { result ≡ reply_to (unshipped self.old) (commands.LastBox register) }
+        ensures state { unshipped self.new ≡ state_after (unshipped self.old) (commands.LastBox register) }
     {
         if self.nest.len() == 0 {
             return Err(Refusal::NoOpenList);
@@ -436,29 +403,30 @@ impl Kept {
 
     /// Splits the vbox of a register: what is left goes back into it, and then the front into the other one.
     pub fn split(&mut self, splitting: &Splitting) -> Result<Reply, AllocError>
-        requires { self.old.over ≡ false }
-        ensures reply { IfOk result (λ reply. reply ≡ reply_to self.old (commands.Split splitting.now)) }
-        ensures state { OnOk result (self.new ≡ state_after self.old (commands.Split splitting.now)) }
+        ensures reply { IfOk result (λ reply. reply ≡ reply_to (unshipped self.old) (commands.Split splitting.now)) }
+        ensures state { OnOk result (unshipped self.new ≡ state_after (unshipped self.old) (commands.Split splitting.now)) }
         ensures err { OnErr result (self.new ≡ self.old) }
-        ensures admitted { OnErr result (first_of (checks self.old (commands.Split splitting.now)) ≡ None) }
+        ensures admitted { OnErr result (first_of (checks (unshipped self.old) (commands.Split splitting.now)) ≡ None) }
         ensures takes { OnErr result (IsSome (held_in self.old.registers splitting.now.register)) }
     {
         self.registers.split(splitting, &self.params.split)
     }
 
-    /// Packs the innermost list, and puts the box into its register or behind the list around it.
+    /// Ends the innermost list: its box goes into its register or behind the list around it, or the lines of its paragraph go behind that list.
     pub fn end(&mut self) -> Result<Reply, AllocError>
-        requires { self.old.over ≡ false }
-        ensures reply { IfOk result (λ reply. reply ≡ reply_to self.old commands.End) }
-        ensures state { OnOk result (self.new ≡ state_after self.old commands.End) }
+        ensures reply { IfOk result (λ reply. reply ≡ reply_to (unshipped self.old) commands.End) }
+        ensures state { OnOk result (unshipped self.new ≡ state_after (unshipped self.old) commands.End) }
         ensures err { OnErr result (self.new ≡ self.old) }
-        ensures admitted { OnErr result (first_of (checks self.old commands.End) ≡ None) }
+        ensures early { OnErr result (first_of (early_checks (unshipped self.old) commands.End) ≡ None) }
         ensures takes { OnErr result (GoesIntoList (innermost self.old.nest)) }
     {
         let Some(innermost) = self.nest.innermost() else {
             return Ok(Err(Refusal::NoOpenList));
         };
-        let into = innermost.purpose.register();
+        let into = match innermost.purpose {
+            ListPurpose::Box(opening) => opening.into,
+            ListPurpose::Paragraph => return self.nest.end_paragraph(&self.params),
+        };
         let Some(packed) = self.nest.pack(&self.params) else {
             return Ok(Err(Refusal::DimensionTooLarge));
         };
@@ -495,8 +463,9 @@ impl Kept {
         into: Option<Register>,
         box_node: BoxNode,
     ) -> Result<(), AllocError>
-        requires { first_of (home_checks self.old.params (outer self.old.nest) into box_node) ≡ None }
-        ensures ok { OnOk result (self.new ≡ with_home self.old (outer self.old.nest) into box_node) }
+        requires free { first_of (home_checks self.old.params (outer self.old.nest) into box_node) ≡ None }
+        requires short { length (nodes_of box_node.list) ≤ MOST_ITEMS }
+        ensures ok { OnOk result (unshipped self.new ≡ with_home (unshipped self.old) (outer self.old.nest) into box_node) }
         ensures err { OnErr result (self.new ≡ record self.old { nest = refilled_nest self.old.nest box_node.list (innermost self.old.nest) }) }
         ensures takes { OnErr result (into ≡ None) }
     {
@@ -516,9 +485,8 @@ impl Kept {
 
     /// Tells what a register holds.
     pub fn measure(&self, register: Register) -> Reply
-        requires { self.now.over ≡ false }
-        ensures reply { result ≡ reply_to self.now (commands.Measure register) }
-        ensures state { self.now ≡ state_after self.now (commands.Measure register) }
+        ensures reply { result ≡ reply_to (unshipped self.now) (commands.Measure register) }
+        ensures state { unshipped self.now ≡ state_after (unshipped self.now) (commands.Measure register) }
     {
         match self.registers.get(register) {
             None => Ok(Answer::MeasuredVoid),
@@ -526,21 +494,26 @@ impl Kept {
         }
     }
 
-    /// Makes a register void.
-    pub fn void(&mut self, register: Register) -> Reply
-        requires { self.old.over ≡ false }
-        ensures reply { result ≡ reply_to self.old (commands.Void register) }
-        ensures state { self.new ≡ state_after self.old (commands.Void register) }
+    /// Drops the box of a register, which is then void.
+    pub fn empty(&mut self, register: Register)
+        ensures { self.new ≡ record self.old { registers = slice_set self.old.registers register None } }
     {
         self.registers.put(register, None);
+    }
+
+    /// Makes a register void.
+    pub fn void(&mut self, register: Register) -> Reply
+        ensures reply { result ≡ reply_to (unshipped self.old) (commands.Void register) }
+        ensures state { unshipped self.new ≡ state_after (unshipped self.old) (commands.Void register) }
+    {
+        self.empty(register);
         Ok(Answer::Done)
     }
 
     /// Gives a parameter a value.
     pub fn set(&mut self, parameter: Parameter) -> Reply
-        requires { self.old.over ≡ false }
-        ensures reply { result ≡ reply_to self.old (commands.Set parameter) }
-        ensures state { self.new ≡ state_after self.old (commands.Set parameter) }
+        ensures reply { result ≡ reply_to (unshipped self.old) (commands.Set parameter) }
+        ensures state { unshipped self.new ≡ state_after (unshipped self.old) (commands.Set parameter) }
     {
         match parameter {
             Parameter::BoxMaxDepth(depth) => self.params.box_max_depth = depth,
@@ -558,45 +531,43 @@ impl Kept {
             Parameter::ClubPenalty(number) => self.params.club_penalty = number,
             Parameter::WidowPenalty(number) => self.params.widow_penalty = number,
             Parameter::InterlinePenalty(number) => self.params.interline_penalty = number,
+            Parameter::Hoffset(size) => self.params.hoffset = size,
+            Parameter::Voffset(size) => self.params.voffset = size,
         }
         Ok(Answer::Done)
     }
 
-    /// The box in a register that may be shipped now, or why it may not.
-    pub fn box_to_ship(&self, register: Register) -> Result<BoxToShip<'_>, Refusal>
-        requires { self.now.over ≡ false }
-        ensures held { IfOk result (λ found. held_in self.now.registers register ≡ Some found.box_node.now) }
-        ensures nodes { IfOk result (λ found. found.nodes ≡ count_in (held_in self.now.registers register)) }
-        ensures ok { OnOk result (first_of (checks self.now (commands.Ship register)) ≡ None) }
-        ensures err { IfErr result (λ refusal. first_of (checks self.now (commands.Ship register)) ≡ Some refusal) }
+    /// Gives a count of the pages that follow a value.
+    pub fn count(&mut self, counting: Counting) -> Reply
+        ensures reply { result ≡ reply_to (unshipped self.old) (commands.Count counting) }
+        ensures state { unshipped self.new ≡ state_after (unshipped self.old) (commands.Count counting) }
     {
-        let Some(box_node) = self.registers.get(register) else {
-            return Err(Refusal::VoidBox);
-        };
-        if self.pages >= MOST_PAGES {
-            return Err(Refusal::TooManyPages);
-        }
-        let nodes = box_node.count();
-        if self.shipped.saturating_add(nodes) > MOST_SHIPPED {
-            return Err(Refusal::TooMuchShipped);
-        }
-        if is_huge(box_node, PagePoint::of_box(box_node)) {
-            return Err(Refusal::HugePage);
-        }
-        Ok(BoxToShip { box_node, nodes })
+        self.counts[counting.count.number()] = counting.value;
+        Ok(Answer::Done)
     }
 
-    /// Counts the page of the box in a register, which has that many nodes, and makes it void. It answers the number of pages.
-    pub fn count_page(&mut self, register: Register, nodes: u64) -> u32
-        requires accepted { first_of (checks self.old (commands.Ship register)) ≡ None }
-        requires nodes { nodes ≡ count_in (held_in self.old.registers register) }
-        ensures number { result ≡ self.old.pages + 1 }
-        ensures state { self.new ≡ after self.old (commands.Ship register) }
+    /// The counts of the pages that follow.
+    pub fn counts(&self) -> &[i32; COUNTS]
+        ensures { result.now ≡ self.now.counts }
     {
-        self.shipped += nodes;
-        self.pages += 1;
-        self.registers.put(register, None);
-        self.pages
+        &self.counts
+    }
+
+    /// How far pages are moved.
+    pub fn offsets(&self) -> Offsets
+        ensures { result ≡ offsets_of self.now.params }
+    {
+        Offsets {
+            h: self.params.hoffset,
+            v: self.params.voffset,
+        }
+    }
+
+    /// The box in a register, if it is not void.
+    pub fn held(&self, register: Register) -> Option<&BoxNode>
+        ensures { option_copied result ≡ held_in self.now.registers register }
+    {
+        self.registers.get(register)
     }
 }
 

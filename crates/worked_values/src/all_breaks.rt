@@ -490,3 +490,82 @@ fn random_lists(rt: HostRuntime) {
     }
     assert!(&rt; compared >= 200);
 }
+
+/// Glue of so many points that can stretch by so many.
+fn elastic(width: i64, stretch: i64) -> Amounts {
+    Amounts {
+        width,
+        stretch,
+        fil: 0,
+        shrink: 0,
+    }
+}
+
+/// Items of a finished list: rules of these widths, with glue between them.
+fn ruled(rt: &impl Abort, alloc: Global, widths: &[i64], between: &[Amounts]) -> Vec<Item> {
+    let mut items = Vec::new(alloc);
+    for (index, width) in widths.iter().enumerate() {
+        if let Some(glue) = between.get(index.wrapping_sub(1)) {
+            let pushed = items.push(Item::Glue(*glue));
+            pushed.ok().expect(rt, "there is memory");
+        }
+        let pushed = items.push(Item::Rule(*width));
+        pushed.ok().expect(rt, "there is memory");
+    }
+    let fill = Amounts {
+        width: 0,
+        stretch: 0,
+        fil: 1,
+        shrink: 0,
+    };
+    for item in [Item::Penalty(10_000), Item::Glue(fill)] {
+        items.push(item).ok().expect(rt, "there is memory");
+    }
+    items
+}
+
+/// Asserts that by the definition a list of places costs so much, with no line that is overfull.
+fn expect_cost(
+    rt: &impl Abort,
+    alloc: Global,
+    items: &[Item],
+    setting: &Setting,
+    mask: u32,
+    demerits: i64,
+) {
+    let legal = legal_places(rt, alloc, items);
+    let numbers = numbers_of(rt, alloc, items, &legal, setting, Some(10_000), mask);
+    let numbers = numbers.expect(rt, "no line is overfull");
+    let mut costs = numbers.iter().rev();
+    assert!(rt; costs.next() == Some(&0));
+    assert!(rt; costs.next() == Some(&demerits));
+}
+
+#[test]
+fn lists_that_are_not_chosen(rt: HostRuntime) {
+    let alloc = rt.alloc();
+    let mut setting = Setting {
+        hsize: 40,
+        pretolerance: -1,
+        tolerance: 10_000,
+        line_penalty: 10,
+        adj_demerits: 10_000,
+    };
+    // five rules: places 3, 7 and the end are chosen; the greedy list takes 5, 7 and the end
+    let between = [
+        elastic(5, 15),
+        elastic(5, 15),
+        elastic(5, 15),
+        elastic(5, 15),
+    ];
+    let items = ruled(&rt, alloc, &[10, 10, 10, 25, 30], &between);
+    expect_chosen(&rt, alloc, &items, &setting);
+    expect_cost(&rt, alloc, &items, &setting, 2 + 8, 32_300);
+    expect_cost(&rt, alloc, &items, &setting, 4 + 8, 100_020_200);
+    // a tie: places 3 and the end are chosen, and 1 and the end cost the same
+    setting.pretolerance = 100;
+    let items = ruled(&rt, alloc, &[40, 5, 10], &[elastic(-5, 0), elastic(0, 0)]);
+    expect_chosen(&rt, alloc, &items, &setting);
+    expect_cost(&rt, alloc, &items, &setting, 1, 200);
+    expect_cost(&rt, alloc, &items, &setting, 2, 200);
+}

@@ -10,7 +10,7 @@ use std::test::Fail;
 use tfm_core::{FontFile, FontName};
 
 /// The file of a page with a rule 1pt wide and high, as the writer gives it: bop at 15, the body from 60 on, post at 74.
-const ONE_RULE: [u8; 116] = [
+pub const ONE_RULE: [u8; 116] = [
     0xf7, 0x02, 0x01, 0x83, 0x92, 0xc0, 0x1c, 0x3b, 0x00, 0x00, 0x00, 0x00, 0x03, 0xe8, 0x00, 0x8b,
     0x00, 0x00, 0x00, 0x00, 0x00, 0x00, 0x00, 0x00, 0x00, 0x00, 0x00, 0x00, 0x00, 0x00, 0x00, 0x00,
     0x00, 0x00, 0x00, 0x00, 0x00, 0x00, 0x00, 0x00, 0x00, 0x00, 0x00, 0x00, 0x00, 0x00, 0x00, 0x00,
@@ -24,25 +24,27 @@ const ONE_RULE: [u8; 116] = [
 /// The listing of that file.
 const ONE_RULE_LISTED: &str = "page 1 counts 0 0 0 0 0 0 0 0 0 0\nrule 0 65536 65536 65536\n";
 
-/// What a file of one page is made of: a comment, what stands before the page, the body of the page, how far behind bop's place post points, and what stands
-/// behind post.
+/// What a file of one page is made of: a comment, what stands before the page, the body of the page, how far behind bop's place post points, how many open
+/// pushes post allows, and what stands behind post.
 #[derive(Clone, Copy)]
-struct Parts<'a> {
-    comment: &'a [u8],
-    before: &'a [u8],
-    body: &'a [u8],
-    off: usize,
-    closing: &'a [u8],
+pub struct Parts<'a> {
+    pub comment: &'a [u8],
+    pub before: &'a [u8],
+    pub body: &'a [u8],
+    pub off: usize,
+    pub deep: u16,
+    pub closing: &'a [u8],
 }
 
 impl<'a> Parts<'a> {
-    /// A page of this body.
-    fn of(body: &'a [u8]) -> Parts<'a> {
+    /// A page of this body; two open pushes are allowed.
+    pub fn of(body: &'a [u8]) -> Parts<'a> {
         Parts {
             comment: &[],
             before: &[],
             body,
             off: 0,
+            deep: 2,
             closing: &[],
         }
     }
@@ -58,8 +60,8 @@ fn place(at: usize) -> [u8; 4] {
     u32::try_from(at).unwrap_or(0).to_be_bytes()
 }
 
-/// The file of one page. Its post allows two open pushes.
-fn file_of(alloc: Global, parts: &Parts<'_>) -> Result<Vec<u8>, Fail> {
+/// The file of one page.
+pub fn file_of(alloc: Global, parts: &Parts<'_>) -> Result<Vec<u8>, Fail> {
     let mut file = Vec::new(alloc);
     file.extend_from_slice(&[0xf7, 2])?;
     file.extend_from_slice(&UNITS)?;
@@ -76,7 +78,9 @@ fn file_of(alloc: Global, parts: &Parts<'_>) -> Result<Vec<u8>, Fail> {
     file.push(0xf8)?;
     file.extend_from_slice(&place(bop.saturating_add(parts.off)))?;
     file.extend_from_slice(&UNITS)?;
-    file.extend_from_slice(&[0, 0, 0, 0, 0, 0, 0, 0, 0, 2, 0, 1])?;
+    file.extend_from_slice(&[0; 8])?;
+    file.extend_from_slice(&parts.deep.to_be_bytes())?;
+    file.extend_from_slice(&[0, 1])?;
     file.extend_from_slice(parts.closing)?;
     file.push(0xf9)?;
     file.extend_from_slice(&place(post))?;
@@ -84,14 +88,19 @@ fn file_of(alloc: Global, parts: &Parts<'_>) -> Result<Vec<u8>, Fail> {
     Ok(file)
 }
 
-/// The metric file `tiny`.
-fn tiny(rt: &impl Abort, alloc: Global) -> Result<FontFile, Fail> {
+/// A metric file with the name `tiny`.
+pub fn tiny_of(rt: &impl Abort, alloc: Global, bytes: &[u8]) -> Result<FontFile, Fail> {
     let name = FontName::try_new(Vec::from_slice(alloc, b"tiny")?).expect(rt, "it is a name");
-    Ok(FontFile::new(name, Vec::from_slice(alloc, &TINY)?))
+    Ok(FontFile::new(name, Vec::from_slice(alloc, bytes)?))
+}
+
+/// The metric file `tiny`.
+pub fn tiny(rt: &impl Abort, alloc: Global) -> Result<FontFile, Fail> {
+    tiny_of(rt, alloc, &TINY)
 }
 
 /// Asserts the listing of a file.
-fn expect_listed(
+pub fn expect_listed(
     rt: &impl Abort,
     alloc: Global,
     bytes: &[u8],
@@ -107,13 +116,24 @@ fn expect_listed(
     Ok(())
 }
 
+/// Asserts why a file is refused, with these font files.
+pub fn expect_fault(
+    rt: &impl Abort,
+    alloc: Global,
+    bytes: &[u8],
+    files: &[FontFile],
+    want: DviFault,
+) {
+    assert_eq!(rt; Dvi::open(alloc, bytes, files).err(), Some(want));
+}
+
 /// Asserts why a file is refused, with no font files.
-fn expect_refused(rt: &impl Abort, alloc: Global, bytes: &[u8], want: DviFault) {
-    assert_eq!(rt; Dvi::open(alloc, bytes, &[]).err(), Some(want));
+pub fn expect_refused(rt: &impl Abort, alloc: Global, bytes: &[u8], want: DviFault) {
+    expect_fault(rt, alloc, bytes, &[], want);
 }
 
 /// A broken rule at a place.
-fn bad(place: usize, cause: DviCause) -> DviFault {
+pub fn bad(place: usize, cause: DviCause) -> DviFault {
     DviFault::Bad(BadDvi { place, cause })
 }
 
@@ -167,7 +187,7 @@ fn files_end_in_bytes_223(rt: HostRuntime) -> Result<(), Fail> {
 }
 
 /// The file of two pages, the second with 7 as its first count.
-const TWO_PAGES: [u8; 172] = [
+pub const TWO_PAGES: [u8; 172] = [
     0xf7, 0x02, 0x01, 0x83, 0x92, 0xc0, 0x1c, 0x3b, 0x00, 0x00, 0x00, 0x00, 0x03, 0xe8, 0x00, 0x8b,
     0x00, 0x00, 0x00, 0x00, 0x00, 0x00, 0x00, 0x00, 0x00, 0x00, 0x00, 0x00, 0x00, 0x00, 0x00, 0x00,
     0x00, 0x00, 0x00, 0x00, 0x00, 0x00, 0x00, 0x00, 0x00, 0x00, 0x00, 0x00, 0x00, 0x00, 0x00, 0x00,
@@ -182,17 +202,17 @@ const TWO_PAGES: [u8; 172] = [
 ];
 
 /// Font 0, `tiny` at 10pt.
-const FONT_0: [u8; 20] = [
+pub const FONT_0: [u8; 20] = [
     0xf3, 0x00, 0, 0, 0, 0, 0, 10, 0, 0, 0, 10, 0, 0, 0, 4, 0x74, 0x69, 0x6e, 0x79,
 ];
 
 /// Font 1, `tiny` at 20pt.
-const FONT_1: [u8; 20] = [
+pub const FONT_1: [u8; 20] = [
     0xf3, 0x01, 0, 0, 0, 0, 0, 20, 0, 0, 0, 10, 0, 0, 0, 4, 0x74, 0x69, 0x6e, 0x79,
 ];
 
 /// Pieces, one behind the other.
-fn joined(alloc: Global, pieces: &[&[u8]]) -> Result<Vec<u8>, Fail> {
+pub fn joined(alloc: Global, pieces: &[&[u8]]) -> Result<Vec<u8>, Fail> {
     let mut bytes = Vec::new(alloc);
     for piece in pieces {
         bytes.extend_from_slice(piece)?;
@@ -200,26 +220,41 @@ fn joined(alloc: Global, pieces: &[&[u8]]) -> Result<Vec<u8>, Fail> {
     Ok(bytes)
 }
 
+/// The page of fonts in nested boxes: where the baseline is, and its three glyphs with what stands before each.
+pub const NESTED: [&[u8]; 4] = [
+    &[0x9f, 10, 0, 0],
+    &[0xab, 99, 0x8d],
+    &[0xac, 98, 0x8e],
+    &[0x91, 10, 0, 0, 99],
+];
+
+/// The listing of that page.
+pub const NESTED_LISTED: &str =
+    "page 1 counts 0 0 0 0 0 0 0 0 0 0\nglyph 0 99 0 655360\nglyph 1 98 327680 655360\nglyph 1 99 983040 655360\n";
+
+/// The file of that page as the writer gives it, but for the fifth byte 223 at its end: bop at 55, post at 116.
+pub fn nested_file(alloc: Global) -> Result<Vec<u8>, Fail> {
+    let both = joined(alloc, &[&FONT_0, &FONT_1])?;
+    let body = joined(alloc, &NESTED)?;
+    file_of(
+        alloc,
+        &Parts {
+            before: &both,
+            deep: 1,
+            closing: &both,
+            ..Parts::of(&body)
+        },
+    )
+}
+
 /// A page with the fonts 0 and 1: as the writer defines them, before the page, and as TeX does, inside it, with a comment and the last one first behind post.
 #[test]
 fn fonts_in_nested_boxes_are_listed(rt: HostRuntime) -> Result<(), Fail> {
     let alloc = rt.alloc();
-    let listed =
-        "page 1 counts 0 0 0 0 0 0 0 0 0 0\nglyph 0 99 0 655360\nglyph 1 98 327680 655360\nglyph 1 99 983040 655360\n";
-    let both = joined(alloc, &[&FONT_0, &FONT_1])?;
     let turned = joined(alloc, &[&FONT_1, &FONT_0])?;
-    let down = [0x9f, 10, 0, 0];
-    let (first, second, last) = ([0xab, 99, 0x8d], [0xac, 98, 0x8e], [0x91, 10, 0, 0, 99]);
-    let body = joined(alloc, &[&down, &first, &second, &last])?;
-    let inside = joined(alloc, &[&down, &FONT_0, &first, &FONT_1, &second, &last])?;
-    let written = file_of(
-        alloc,
-        &Parts {
-            before: &both,
-            closing: &both,
-            ..Parts::of(&body)
-        },
-    )?;
+    let [down, first, second, last] = NESTED;
+    let inside = joined(alloc, &[down, &FONT_0, first, &FONT_1, second, last])?;
+    let written = nested_file(alloc)?;
     let other = file_of(
         alloc,
         &Parts {
@@ -229,8 +264,8 @@ fn fonts_in_nested_boxes_are_listed(rt: HostRuntime) -> Result<(), Fail> {
         },
     )?;
     let files = [tiny(&rt, alloc)?];
-    expect_listed(&rt, alloc, &written, &files, listed)?;
-    expect_listed(&rt, alloc, &other, &files, listed)?;
+    expect_listed(&rt, alloc, &written, &files, NESTED_LISTED)?;
+    expect_listed(&rt, alloc, &other, &files, NESTED_LISTED)?;
     expect_refused(&rt, alloc, &written, DviFault::NoFont);
     let twice =
         "page 1 counts 0 0 0 0 0 0 0 0 0 0\nrule 0 65536 65536 65536\npage 2 counts 7 0 0 0 0 0 0 0 0 0\nrule 0 65536 65536 65536\n";

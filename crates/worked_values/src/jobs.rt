@@ -3,8 +3,8 @@
 ghost use Rattle.std.specs.Prelude.{Some};
 
 use job_core::{
-    BoxForm, Command, Device, DeviceFault, FontFile, Job, Opening, Refusal, Register, Summary,
-    Target,
+    Answer, BoxForm, Command, Device, DeviceFault, FontFile, Job, Opening, Refusal, Register,
+    Reply, Summary, Target,
 };
 use node_core::{Rule, RuleSize};
 use scaled_core::Dimen;
@@ -65,28 +65,62 @@ fn is_taken(job: &mut Job<Dripping>, command: &Command) -> bool {
     job.step(command).is_ok()
 }
 
-/// Whether a page of a rule 1pt wide and high is shipped.
-fn ships_a_rule(job: &mut Job<Dripping>, point: Dimen) -> bool {
+/// A page of a rule 1pt wide and high is made, and its `ship` is answered.
+fn ship_a_rule(job: &mut Job<Dripping>, point: Dimen) -> Option<Reply> {
     let rule = Rule {
         width: RuleSize::Fixed(point),
         height: RuleSize::Fixed(point),
         depth: RuleSize::Fixed(Dimen::ZERO),
     };
-    is_taken(job, &hbox())
+    if is_taken(job, &hbox())
         && is_taken(job, &Command::Rule(rule))
         && is_taken(job, &Command::End)
-        && is_taken(job, &Command::Ship(Register::FIRST))
+    {
+        return Some(job.step(&Command::Ship(Register::FIRST)));
+    }
+    None
 }
 
-/// A job with that page on a device that fails at one call: how it ended, and how many bytes went out.
-fn end_and_bytes(alloc: Global, fails_at: u64) -> Option<(Result<Summary, Refusal>, usize)> {
+/// A job with that page on a device that fails at one call: how the page was answered, how the job ended, and the bytes that went out.
+fn end_and_bytes(
+    alloc: Global,
+    fails_at: u64,
+) -> Option<(Reply, Result<Summary, Refusal>, Vec<u8>)> {
     let point = Dimen::try_new(65_536)?;
     let mut job = job(alloc, &[], fails_at)?;
-    if !ships_a_rule(&mut job, point) {
-        return None;
-    }
+    let shipped = ship_a_rule(&mut job, point)?;
     let end = job.finish();
-    Some((end, job.into_device().bytes.len()))
+    Some((shipped, end, job.into_device().bytes))
+}
+
+/// The file of that page: bop at 15, post at 74, seven bytes 223 (by DVItype's table of instructions).
+const ONE_RULE_PAGE: [u8; 116] = [
+    0xf7, 0x02, 0x01, 0x83, 0x92, 0xc0, 0x1c, 0x3b, 0x00, 0x00, 0x00, 0x00, 0x03, 0xe8, 0x00, 0x8b,
+    0x00, 0x00, 0x00, 0x00, 0x00, 0x00, 0x00, 0x00, 0x00, 0x00, 0x00, 0x00, 0x00, 0x00, 0x00, 0x00,
+    0x00, 0x00, 0x00, 0x00, 0x00, 0x00, 0x00, 0x00, 0x00, 0x00, 0x00, 0x00, 0x00, 0x00, 0x00, 0x00,
+    0x00, 0x00, 0x00, 0x00, 0x00, 0x00, 0x00, 0x00, 0xff, 0xff, 0xff, 0xff, 0x9f, 0x01, 0x00, 0x00,
+    0x84, 0x00, 0x01, 0x00, 0x00, 0x00, 0x01, 0x00, 0x00, 0x8c, 0xf8, 0x00, 0x00, 0x00, 0x0f, 0x01,
+    0x83, 0x92, 0xc0, 0x1c, 0x3b, 0x00, 0x00, 0x00, 0x00, 0x03, 0xe8, 0x00, 0x01, 0x00, 0x00, 0x00,
+    0x01, 0x00, 0x00, 0x00, 0x00, 0x00, 0x01, 0xf9, 0x00, 0x00, 0x00, 0x4a, 0x02, 0xdf, 0xdf, 0xdf,
+    0xdf, 0xdf, 0xdf, 0xdf,
+];
+
+/// Whether a page and a job on a device that fails at one call end in this way, and a beginning of the file of that many bytes went out.
+fn ends_so(
+    alloc: Global,
+    fails_at: u64,
+    page: &Reply,
+    end: &Result<Summary, Refusal>,
+    count: usize,
+) -> bool {
+    match end_and_bytes(alloc, fails_at) {
+        None => false,
+        Some((shipped, finished, bytes)) => {
+            shipped == *page
+                && finished == *end
+                && ONE_RULE_PAGE.get(..count) == Some(bytes.as_slice())
+        }
+    }
 }
 
 #[test]
@@ -95,9 +129,10 @@ fn a_device_takes_one_byte_a_call_and_may_fail(rt: HostRuntime) {
         pages: 1,
         bytes: 116,
     };
-    assert_eq!(rt; end_and_bytes(rt.alloc(), 0), Some((Ok(summary), 116)));
-    assert_eq!(rt;
-        end_and_bytes(rt.alloc(), 75),
-        Some((Err(Refusal::Device), 74))
-    );
+    let shipped = Ok(Answer::Shipped(1));
+    let lost = Err(Refusal::Device);
+    let over = Err(Refusal::JobOver);
+    assert!(rt; ends_so(rt.alloc(), 0, &shipped, &Ok(summary), 116));
+    assert!(rt; ends_so(rt.alloc(), 75, &shipped, &Err(Refusal::Device), 74));
+    assert!(rt; ends_so(rt.alloc(), 74, &lost, &over, 73));
 }

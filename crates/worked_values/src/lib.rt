@@ -9,9 +9,13 @@ pub mod changed_bytes;
 #[cfg(test)]
 mod counted_breaks;
 #[cfg(test)]
+mod damaged_files;
+#[cfg(test)]
 mod driver;
 #[cfg(test)]
 mod font_files;
+#[cfg(test)]
+mod hidden_pages;
 #[cfg(test)]
 mod instructions;
 #[cfg(test)]
@@ -20,6 +24,8 @@ mod interline;
 mod jobs;
 #[cfg(test)]
 mod listings;
+#[cfg(test)]
+mod many_pages;
 #[cfg(test)]
 mod nodes;
 #[cfg(test)]
@@ -32,6 +38,8 @@ mod paragraph_lines;
 mod paragraphs;
 #[cfg(test)]
 mod reused_bodies;
+#[cfg(test)]
+mod reused_files;
 #[cfg(test)]
 mod samples;
 #[cfg(test)]

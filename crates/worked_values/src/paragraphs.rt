@@ -134,7 +134,7 @@ fn least_demerits_paragraph(rt: HostRuntime) {
 }
 
 #[test]
-fn ties_and_rescues(rt: HostRuntime) {
+fn a_tie_by_places(rt: HostRuntime) {
     let params = narrow(&rt);
     let items = Vec::from_array(
         rt.alloc(),
@@ -147,14 +147,13 @@ fn ties_and_rescues(rt: HostRuntime) {
         ],
     );
     let nodes = finished(&rt, items.expect(&rt, "there is memory"), &params);
-    expect_breaks(
-        &rt,
-        rt.alloc(),
-        &nodes,
-        &params,
-        &[3, 7],
-        (Pass::First, 0, 200),
-    );
+    let costs = (Pass::First, 0, 200);
+    expect_breaks(&rt, rt.alloc(), &nodes, &params, &[3, 7], costs);
+}
+
+#[test]
+fn an_overfull_middle_line(rt: HostRuntime) {
+    let params = narrow(&rt);
     let items = Vec::from_array(
         rt.alloc(),
         [
@@ -166,14 +165,13 @@ fn ties_and_rescues(rt: HostRuntime) {
         ],
     );
     let nodes = finished(&rt, items.expect(&rt, "there is memory"), &params);
-    expect_breaks(
-        &rt,
-        rt.alloc(),
-        &nodes,
-        &params,
-        &[1, 3, 7],
-        (Pass::Third, 655_360, 200_020_100),
-    );
+    let costs = (Pass::Third, 655_360, 200_020_100);
+    expect_breaks(&rt, rt.alloc(), &nodes, &params, &[1, 3, 7], costs);
+}
+
+#[test]
+fn a_negative_kern_behind_an_overfull_line(rt: HostRuntime) {
+    let params = narrow(&rt);
     let kern = Node::Kern(points(&rt, -15));
     let items = Vec::from_array(
         rt.alloc(),
@@ -187,24 +185,17 @@ fn ties_and_rescues(rt: HostRuntime) {
         ],
     );
     let nodes = finished(&rt, items.expect(&rt, "there is memory"), &params);
-    expect_breaks(
-        &rt,
-        rt.alloc(),
-        &nodes,
-        &params,
-        &[4, 8],
-        (Pass::First, 0, 200),
-    );
+    let costs = (Pass::First, 0, 200);
+    expect_breaks(&rt, rt.alloc(), &nodes, &params, &[4, 8], costs);
+}
+
+#[test]
+fn the_first_glue_is_kept(rt: HostRuntime) {
+    let params = narrow(&rt);
     let items = Vec::from_array(rt.alloc(), [glue(&rt, 5, 0), rule(&rt, 40)]);
     let nodes = finished(&rt, items.expect(&rt, "there is memory"), &params);
-    expect_breaks(
-        &rt,
-        rt.alloc(),
-        &nodes,
-        &params,
-        &[4],
-        (Pass::Third, 327_680, 100_000_000),
-    );
+    let costs = (Pass::Third, 327_680, 100_000_000);
+    expect_breaks(&rt, rt.alloc(), &nodes, &params, &[4], costs);
 }
 
 /// Glue of no width that can shrink by so many points of order fil.

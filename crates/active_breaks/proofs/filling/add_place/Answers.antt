@@ -1,9 +1,9 @@
-use Rattle.std.proofs.Common.{◌≡◌, ◌∙◌, ◌+◌, ◌++◌, [], ◌∷◌, length, cond, false, refl, ap, sym, subst, rules}
+use Rattle.std.proofs.Common.{◌≡◌, ◌∙◌, ◌+◌, ◌++◌, [], length, cond, false, refl, ap, sym, subst, rules}
 use Rattle.break_table.specs.declared.group.Group.{Group}
 use Rattle.break_table.specs.Tables.{IsRow, held_in}
-use Rattle.break_core.specs.Legal.{is_forced}
+use Rattle.line_meter.specs.Legal.{is_forced}
 use Rattle.break_core.specs.Passes.{problem_of}
-use Rattle.active_breaks.specs.Active.{stops, IsActive, IsFilled}
+use Rattle.active_breaks.specs.Active.{stops, with_group, IsActive, IsFilled}
 use Rattle.active_breaks.proofs.Active.{filled_more}
 use Rattle.active_breaks.proofs.filling.add_place.Goals as goal
 
@@ -27,7 +27,7 @@ returns-clause-filled g c =
     let began : c.len-start.result ≡ length c.args.table.now.items = search rules in
     let ended : c.len.result ≡ length c.keep.new.table.items = search rules in
     let group : Group = record { place = c.args.place; start = c.len-start.result; end = c.len.result } in
-    subst (λ t. IsFilled p stop (c.args.place + 1) t c.begin_group.new.live.items) (sym held)
-    (filled_more p stop c.args.place table row c.args.live.now c.in_ok-row.next.items c.begin_group.new.live.items group c.requires.first c.requires.filled full
+    subst (λ t. IsFilled p stop (c.args.place + 1) t c.add_group.new.live.items) (sym held)
+    (filled_more p stop c.args.place table row c.args.live.now c.in_ok-row.next.items c.add_group.new.live.items group c.requires.first c.requires.filled full
     active refl began (ended ∙ ap length held)
-    (c.in_ok-begin_group.ensures ∙ ap (λ n. cond c.is_forced.result (group ∷ []) (n.items ++ group ∷ [])) c.in_ok-row.next-is ∙ ap (λ t. cond t (group ∷ []) (c.in_ok-row.next.items ++ group ∷ [])) forced))
+    (c.in_ok-add_group.ensures ∙ ap (λ n. with_group (cond c.is_forced.result [] n.items) group) c.in_ok-row.next-is ∙ ap (λ t. with_group (cond t [] c.in_ok-row.next.items) group) forced))

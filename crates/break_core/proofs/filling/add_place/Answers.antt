@@ -1,7 +1,7 @@
 use Rattle.std.proofs.Common.{◌≡◌, ◌∙◌, ◌+◌, ◌++◌, [], ◌∷◌, length, cond, refl, ap, sym, subst, rules}
 use Rattle.break_table.specs.declared.group.Group.{Group}
 use Rattle.break_table.specs.Tables.{IsRow, held_in}
-use Rattle.break_core.specs.Legal.{is_forced}
+use Rattle.line_meter.specs.Legal.{is_forced}
 use Rattle.break_core.specs.Passes.{problem_of}
 use Rattle.break_core.specs.Filling.{IsFilled}
 use Rattle.break_core.proofs.Filled.{filled_more, on_ok_then}

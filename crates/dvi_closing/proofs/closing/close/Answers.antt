@@ -1,11 +1,10 @@
-use Rattle.std.proofs.Common.{map, arith}
-use Rattle.dvi_ops.specs.View.{definition}
+use Rattle.std.proofs.Common.{arith}
 use Rattle.dvi_closing.proofs.ClosingLemmas.{closes_more, fault_on_the_way}
 use Rattle.dvi_closing.proofs.closing.close.Goals as goal
 
 pub returns-in-Err-clause-bad : goal.returns-in-Err-clause-bad
 returns-in-Err-clause-bad c =
-    fault_on_the_way c.args.bytes.now c.args.from c.loop-at.at c.args.to (map definition c.args.known.now.items) (map definition c.loop-at.known.items) (map definition c.close_one.new.known.items) c.in-Err.fault
+    fault_on_the_way c.args.bytes.now c.args.from c.loop-at.at c.args.to c.args.known.now c.loop-at.known c.close_one.new.known c.in-Err.fault
     c.loop-at.invariant.0 c.loop-at-test.true c.loop-at.invariant.2 c.in-Err.ensures.bad
 
 pub loop-at-preserved : goal.loop-at-preserved
@@ -15,6 +14,6 @@ loop-at-preserved c =
     let forward = one.forward in (
       omega arith,
       one.within,
-      closes_more c.args.bytes.now c.args.from c.loop-at.at c.args.to c.in-Ok.next (map definition c.args.known.now.items) (map definition c.loop-at.known.items) (map definition c.close_one.new.known.items)
+      closes_more c.args.bytes.now c.args.from c.loop-at.at c.args.to c.in-Ok.next c.args.known.now c.loop-at.known c.close_one.new.known
           low c.requires.high c.loop-at.invariant.2 one,
     )

@@ -1,11 +1,10 @@
-use Rattle.std.proofs.Common.{◌≤◌, ◌-◌, map}
-use Rattle.dvi_ops.specs.View.{definition}
+use Rattle.std.proofs.Common.{◌≤◌, ◌-◌}
 use Rattle.dvi_closing.specs.Closing.{ClosesTo}
 use Rattle.dvi_closing.proofs.closing.close.Given as goal
 
 -- what stands up to the place is right
 abbrev pub invariant-loop-at : goal.invariant-loop-at
-invariant-loop-at l = (l.from ≤ l.at) × (l.at ≤ l.to) × ClosesTo l.bytes l.from l.at (map definition l.initial.known.items) (map definition l.known.items)
+invariant-loop-at l = (l.from ≤ l.at) × (l.at ≤ l.to) × ClosesTo l.bytes l.from l.at l.initial.known l.known
 
 abbrev pub decreases-loop-at : goal.decreases-loop-at
 decreases-loop-at l = l.to - l.at

@@ -1,4 +1,4 @@
-use Rattle.std.proofs.Common.{map, refl, sym, ap, subst}
+use Rattle.std.proofs.Common.{refl, sym, ap, subst}
 use Rattle.dvi_ops.specs.Instruction.{FontDef, Do}
 use Rattle.dvi_ops.specs.View.{definition, view}
 use Rattle.dvi_frame.specs.declared.fault.DviCause.{DviCause}
@@ -9,7 +9,7 @@ use Rattle.dvi_closing.proofs.closing.close_one.Goals as goal
 
 pub returns-in-Err-Broken-clause-bad : goal.returns-in-Err-Broken-clause-bad
 returns-in-Err-Broken-clause-bad c =
-    let known = map definition c.args.known.now.items in
+    let known = c.args.known.now in
     let wrong = subst (λ (fault : PassFault). IsDefinitionFault known (definition c.in-FontDef.font) fault) c.in-Err-Broken.field-0-is c.in-Err-Broken.ensures.bad in
     let stands = read_found c.args.bytes.now c.args.at c.in-Ok.found.1 c.args.to (view c.in-Ok.found.0) (Do (FontDef (definition c.in-FontDef.font))) c.in-Ok.ensures.behind c.in-Ok.ensures.within c.in-Ok.ensures.found (ap view c.in-FontDef.is) in
     (refl, c.in-Err-Broken.ensures.err, subst (λ (cause : DviCause). BreaksClosing c.args.bytes.now c.args.at c.args.to known cause) (sym wrong.0) (definition c.in-FontDef.font, stands, wrong.1))

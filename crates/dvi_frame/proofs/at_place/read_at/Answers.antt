@@ -1,6 +1,9 @@
+use Rattle.std.proofs.Common.{◌≡◌, ◌≤◌, ◌-◌, ℕ, drop, slice_index, sym, ◌∙◌, subst, take, arith}
+use Rattle.std.specs.Prelude.{Err}
 use Rattle.dvi_ops.specs.View.{view}
-use Rattle.std.proofs.Common.{arith}
-use Rattle.dvi_frame.proofs.PlaceLemmas.{nothing_stands, some_size}
+use Rattle.dvi_ops.specs.declared.fault.OpFault.{OpFault}
+use Rattle.dvi_ops.specs.declared.fault.OpFault.TheVariants.{Opcode, Truncated}
+use Rattle.dvi_frame.proofs.PlaceLemmas.{first_between, nothing_stands, some_size}
 use Rattle.dvi_frame.proofs.at_place.read_at.Goals as goal
 
 pub returns-in-Ok-clause-behind : goal.returns-in-Ok-clause-behind
@@ -8,3 +11,10 @@ returns-in-Ok-clause-behind c = let some = some_size (view c.in-Ok.op) c.in-Ok.s
 
 pub returns-in-Err-clause-none : goal.returns-in-Err-clause-none
 returns-in-Err-clause-none c = nothing_stands c.args.bytes.now c.args.place c.args.bound c.in-Err.ensures.none
+
+pub returns-in-Err-clause-truncated : goal.returns-in-Err-clause-truncated
+returns-in-Err-clause-truncated c = λ e below code.
+    let here : 250 ≤ slice_index (take (c.args.bound - c.args.place) (drop c.args.place c.args.bytes.now)) 0 =
+    subst (λ (n : ℕ). 250 ≤ n) (sym (first_between c.args.bytes.now c.args.place c.args.bound below)) code in
+    let opcode = c.in-Err.ensures.opcode.1 here in
+    absurd cc

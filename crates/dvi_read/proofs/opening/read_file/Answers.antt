@@ -1,5 +1,5 @@
 use Rattle.std.proofs.Common.{map, sym, ap, subst}
-use Rattle.dvi_ops.specs.View.{definition, postamble}
+use Rattle.dvi_ops.specs.View.{postamble}
 use Rattle.dvi_pass.specs.View.{page_of}
 use Rattle.dvi_read.specs.Opened.{Opened, IsReadFrom}
 use Rattle.dvi_read.proofs.OpenLemmas.{finish_refused, read_kept}
@@ -13,7 +13,7 @@ returns-in-Ok-finish-clause-ok c =
     let ending = c.in-Ok.front.ending in
     let (table, has) = c.in-Ok-read_pages.ensures.ok in
     subst (λ (dvi : Opened). IsReadFrom c.args.files.now c.args.bytes.now dvi) (sym c.kept.ensures)
-    (read_kept c.args.files.now c.args.bytes.now ending.post ending.behind ending.last (postamble ending.stop) c.in-Ok.front.chain.items c.in-Ok.front.from table (map definition c.finish.new.walk.known.items)
+    (read_kept c.args.files.now c.args.bytes.now ending.post ending.behind ending.last (postamble ending.stop) c.in-Ok.front.chain.items c.in-Ok.front.from table c.finish.new.walk.known
     c.in-Ok-read_pages.walk (map page_of c.finish.new.walk.done.items) has c.in-Ok-finish.ensures.ended c.in-Ok-finish.ensures.closed (ap (λ pages. map page_of pages) c.in-Ok-finish.ensures.done))
 
 pub returns-clause-bad : goal.returns-clause-bad

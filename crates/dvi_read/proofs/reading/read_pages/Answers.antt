@@ -1,30 +1,28 @@
-use Rattle.std.proofs.Common.{◌-◌, map}
+use Rattle.std.proofs.Common.{◌-◌}
 use Rattle.dvi_closing.proofs.ClosingLemmas.{looked_sizes}
-use Rattle.dvi_ops.specs.View.{definition, postamble}
+use Rattle.dvi_ops.specs.View.{postamble}
 use Rattle.dvi_read.specs.Opening.{InThePages}
 use Rattle.dvi_read.proofs.OpenLemmas.{starts_reached}
 use Rattle.dvi_read.proofs.reading.read_pages.Goals as goal
 
 pub walk_pages-requires-clause-sizes : goal.walk_pages-requires-clause-sizes
-walk_pages-requires-clause-sizes c =
-    rw c.deref.ensures.value (looked_sizes c.args.bytes.now c.args.ending.now.behind (c.args.ending.now.last - 5) (map definition c.in-Ok.table.items) c.in-Ok.ensures.ok)
+walk_pages-requires-clause-sizes c = looked_sizes c.args.bytes.now c.args.ending.now.behind (c.args.ending.now.last - 5) c.in-Ok.table c.in-Ok.ensures.ok
 
 pub walk_pages-requires-clause-reached : goal.walk_pages-requires-clause-reached
 walk_pages-requires-clause-reached c =
-    starts_reached c.args.files.now c.args.bytes.now c.args.ending.now.post c.args.ending.now.behind c.args.ending.now.last (postamble c.args.ending.now.stop) c.args.chain.items c.args.from
-    (map definition c.deref.result.now) c.requires.starts
+    starts_reached c.args.files.now c.args.bytes.now c.args.ending.now.post c.args.ending.now.behind c.args.ending.now.last (postamble c.args.ending.now.stop) c.args.chain.items c.args.from c.in-Ok.table c.requires.starts
 
 pub returns-in-Ok-walk_pages-clause-ok : goal.returns-in-Ok-walk_pages-clause-ok
 returns-in-Ok-walk_pages-clause-ok c = (
-  map definition c.deref.result.now,
+  c.in-Ok.table,
   record {
     starts = c.requires.starts;
-    ahead = rw c.deref.ensures.value c.in-Ok.ensures.ok;
+    ahead = c.in-Ok.ensures.ok;
     walked = c.in-Ok-walk_pages.ensures.ok;
   },
 )
 
 pub returns-clause-bad : goal.returns-clause-bad
 returns-clause-bad c =
-    InThePages c.args.ending.now.post c.args.ending.now.behind c.args.ending.now.last (postamble c.args.ending.now.stop) c.args.chain.items c.args.from (map definition c.deref.result.now)
-    c.requires.starts (rw c.deref.ensures.value c.in-Ok.ensures.ok) c.in-Err-walk_pages.ensures.bad
+    InThePages c.args.ending.now.post c.args.ending.now.behind c.args.ending.now.last (postamble c.args.ending.now.stop) c.args.chain.items c.args.from c.in-Ok.table c.requires.starts c.in-Ok.ensures.ok
+    c.in-Err-walk_pages.ensures.bad

@@ -1,6 +1,6 @@
 use Rattle.std.proofs.Common.{refl}
 use Rattle.pack_core.specs.Boxes.{hbox}
-use Rattle.break_core.specs.Legal.{is_dropped}
+use Rattle.line_meter.specs.Legal.{is_dropped}
 use Rattle.vert_core.specs.Interline.{interline}
 use Rattle.paragraph_core.specs.Lines.{vertical_items, brought_by, line_box, boxed_line}
 use Rattle.paragraph_core.proofs.laws.two_lines_of_rules.Goals as goal

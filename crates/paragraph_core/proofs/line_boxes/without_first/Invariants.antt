@@ -1,5 +1,5 @@
 use Rattle.std.proofs.Common.{◌≡◌, drop}
-use Rattle.break_core.specs.Kept.{without_first}
+use Rattle.line_meter.specs.Kept.{without_first}
 use Rattle.paragraph_core.proofs.line_boxes.without_first.Given as goal
 
 abbrev pub invariant-loop-index : goal.invariant-loop-index

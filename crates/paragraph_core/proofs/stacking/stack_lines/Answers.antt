@@ -1,7 +1,7 @@
 use Rattle.std.proofs.Common.{◌≡◌, ◌∙◌, ℕ, ◌++◌, ◌<◌, length, true, false, ap, sym, arith}
 use Rattle.std.specs.Prelude.{flat_map}
 use Rattle.std.specs.List.{list_all}
-use Rattle.break_core.specs.Legal.{up_to}
+use Rattle.line_meter.specs.Legal.{up_to}
 use Rattle.paragraph_core.specs.Lines.{BrokenParagraph, broken_list, line_items, boxed_line, line_brings, depth_before, brought_by, line_fits, vertical_items, last_depth, lines_fit}
 use Rattle.paragraph_core.proofs.Stacks.{count_places, stacked_one, depth_behind, fits_one, all_more, all_but}
 use Rattle.paragraph_core.proofs.stacking.stack_lines.Goals as goal

@@ -1,7 +1,7 @@
 use Rattle.std.proofs.Common.{◌≡◌, true}
 use Rattle.std.specs.Prelude.{flat_map}
 use Rattle.std.specs.List.{list_all}
-use Rattle.break_core.specs.Legal.{up_to}
+use Rattle.line_meter.specs.Legal.{up_to}
 use Rattle.paragraph_core.specs.Lines.{broken_list, depth_before, brought_by, line_fits}
 use Rattle.paragraph_core.proofs.stacking.stack_lines.Given as goal
 

@@ -1,6 +1,7 @@
 use Rattle.std.proofs.Common.{◌≢◌, ap, sym, ◌∙◌, length, arith}
 use Rattle.dvi_write.specs.Writing.{Writing}
 use Rattle.dvi_layout.proofs.Files.{file_shows}
+use Rattle.dvi_layout.proofs.ClosedFiles.{file_closes}
 use Rattle.dvi_layout.proofs.Rooms.{small}
 use Rattle.dvi_write.proofs.Writings.{ended_all, ended_none, ended_part, ended_size, none_ended, written_small}
 use Rattle.dvi_write.proofs.dvi_writer.DviWriter.finish.Goals as goal
@@ -48,3 +49,15 @@ returns-clause-file g c =
 
 pub overflow_add-size : goal.overflow_add-size
 overflow_add-size g c = record { fits = omega (arith, small c.self.inside.progress c.self.invariant.0, c.size.ensures, c.len.ensures, c.in-Ok.bytes.small) }
+
+pub returns-then-pages-eq0-clause-closed : goal.returns-then-pages-eq0-clause-closed
+returns-then-pages-eq0-clause-closed g c =
+    rw (← c.self.view_is)
+    (λ before pages written some. file_closes c.args.fonts.now pages c.can_be_defined.ensures some written.right
+    (written_small c.args.fonts.now before _ pages written c.self.invariant.0))
+
+pub returns-clause-closed : goal.returns-clause-closed
+returns-clause-closed g c =
+    rw (← c.self.view_is)
+    (λ before pages written some. file_closes c.args.fonts.now pages c.can_be_defined.ensures some written.right
+    (written_small c.args.fonts.now before _ pages written c.self.invariant.0))

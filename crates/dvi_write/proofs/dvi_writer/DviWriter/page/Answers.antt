@@ -1,19 +1,18 @@
 use Rattle.std.proofs.Common.{ap, ◌∙◌}
 use Rattle.dvi_layout.specs.Shippable.{page_with}
 use Rattle.dvi_write.specs.Writing.{Writing}
-use Rattle.dvi_write.proofs.Writings.{sent_written, lost_page}
+use Rattle.dvi_write.proofs.Writings.{written_more, part_more}
 use Rattle.dvi_write.proofs.dvi_writer.DviWriter.page.Goals as goal
 
-pub returns-clause-written : goal.returns-clause-written
-returns-clause-written g c =
+pub returns-in_err-send-clause-part : goal.returns-in_err-send-clause-part
+returns-in_err-send-clause-part g c is =
     let page = page_with c.args.counts.now c.args.offsets c.args.box_node.now in
-    let kept = c.in_ok-bytes.ensures.kept in
-    let told = rw (c.deref.ensures.value, c.in_ok-bytes.ensures.bytes, ap (λ (w : Writing). w.told) kept) at c.send.ensures.told in
-    sent_written c.send.result c.args.fonts.now c.args.self.now c.send.new.self page c.in_ok-bytes.ensures.right (c.send.ensures.so_far ∙ ap (λ (w : Writing). w.so_far) kept) told c.send.ensures.running
+    let front = rw (c.deref.ensures.value, c.in_ok-next.ensures.bytes) at c.in_err-send.ensures.front in
+    λ before pages written. part_more c.args.fonts.now before c.send.new.self.told c.args.self.now pages page written front
 
-pub returns-clause-part : goal.returns-clause-part
-returns-clause-part g c =
+pub returns-clause-written : goal.returns-clause-written
+returns-clause-written g c before pages written =
     let page = page_with c.args.counts.now c.args.offsets c.args.box_node.now in
-    let kept = c.in_ok-bytes.ensures.kept in
-    let front = rw (c.deref.ensures.value, c.in_ok-bytes.ensures.bytes, ap (λ (w : Writing). w.told) kept) at c.send.ensures.front in
-    lost_page c.send.result c.args.fonts.now c.args.self.now c.send.new.self.told page front
+    let told = rw (c.deref.ensures.value, c.in_ok-next.ensures.bytes) at c.in_ok-send.ensures.told in
+    written_more c.args.fonts.now before c.args.self.now _ pages page written c.in_ok-next.ensures.right c.in_ok-next.ensures.behind
+    (ap (λ (w : Writing). w.told) c.self.view_is ∙ told) (ap (λ (w : Writing). w.over) c.self.view_is ∙ c.in_ok-send.ensures.running)

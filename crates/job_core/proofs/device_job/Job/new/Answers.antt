@@ -1,5 +1,16 @@
-use Rattle.job_core.proofs.Moves.{first_room}
+use Rattle.nest_core.specs.State.{first_state}
+use Rattle.job_core.proofs.NewJobs.{new_told, new_holds, new_sound}
 use Rattle.job_core.proofs.device_job.Job.new.Goals as goal
 
 pub invariant_of-result : goal.invariant_of-result
-invariant_of-result g c = (λ running. rw (c.in-Ok.ensures, c.in-Ok-new.ensures) (first_room c.args.files.now), λ running. c.requires.countable)
+invariant_of-result g c = new_sound c.args.files.now c.in-Ok.kept c.in-Ok.ensures
+
+pub returns-clause-ok : goal.returns-clause-ok
+returns-clause-ok g c =
+    let fonts = (first_state c.args.files.now).fonts in
+    new_holds c.args.files.now (g.D.Device.told c.args.device) c.in-Ok.kept c.new-2.result c.requires.fresh c.in-Ok.ensures (c.new-2.ensures.written fonts)
+
+pub returns-clause-told : goal.returns-clause-told
+returns-clause-told g c =
+    let fonts = (first_state c.args.files.now).fonts in
+    new_told fonts (g.D.Device.told c.args.device) c.new-2.result (c.new-2.ensures.written fonts)

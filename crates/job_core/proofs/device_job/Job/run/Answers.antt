@@ -26,6 +26,5 @@ loop-command-preserved g c =
       idle = λ over.
           let same = c.loop-command.invariant.idle over in
           c.step-reply.ensures.idle (ap (λ (job : Seen). job.state.over) same ∙ over) ∙ same;
-      told = c.step-reply.ensures.told ∙ c.loop-command.invariant.told;
       room = omega (arith, c.in-Ok.ensures.len, c.in-Ok.ensures.capacity);
     }

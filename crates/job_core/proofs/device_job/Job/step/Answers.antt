@@ -1,25 +1,29 @@
-use Rattle.std.proofs.Common.{◌≡◌, refl, ap, sym, ◌∙◌}
-use Rattle.nest_core.specs.State.{State}
-use Rattle.state_core.proofs.KeptRest.{job_kept}
-use Rattle.job_core.proofs.Moves.{roomy, replied, small_after, numbered}
+use Rattle.std.proofs.Common.{sym, subst, ◌∙◌, rules}
+use Rattle.nest_core.specs.Runs.{IsShip}
+use Rattle.state_core.specs.Keeping.{unshipped}
+use Rattle.job_core.specs.Sound.{IsSound, seen_by}
+use Rattle.job_core.proofs.Moves.{over_replies, obeyed, seen_reply, sound_after, never_device, told_stays, true_or_false}
 use Rattle.job_core.proofs.device_job.Job.step.Goals as goal
 
-pub obey-requires : goal.obey-requires
-obey-requires g c running = small_after c.self.inside.kept c.self.inside.writer c.args.command.now (c.self.invariant.0 running)
+pub returns-then-is_over-clause-keeps : goal.returns-then-is_over-clause-keeps
+returns-then-is_over-clause-keeps g c = rw (← c.self.view_is) (over_replies _ c.args.command.now (sym c.is_over.ensures ∙ c.if-is_over.true))
 
 pub invariant_of-self-2 : goal.invariant_of-self-2
 invariant_of-self-2 g c =
-    let kept = c.self.inside.kept in
-    let command = c.args.command.now in
-    let same : c.obey.new.kept.over ≡ kept.over = ap (λ (s : State). s.over) c.in-Ok.ensures.state ∙ (job_kept kept command).over in (
-      λ running.
-          rw (c.in-Ok.ensures.state, c.in-Ok.ensures.draft)
-          (roomy kept c.self.inside.writer command (numbered kept command c.in-Ok.reply c.in-Ok.ensures.reply c.in-Ok.ensures.numbers) (c.self.invariant.0 (sym same ∙ running))),
-      λ running. c.self.invariant.1 (sym same ∙ running),
-    )
+    subst IsSound (sym c.in-Ok.ensures.state)
+    (sound_after (unshipped c.self.inside.kept) c.args.command.now c.in-Ok.reply c.in-Ok.ensures.reply c.in-Ok.ensures.numbers c.self.invariant)
 
-pub returns-clause-keeps : goal.returns-clause-keeps
-returns-clause-keeps g c =
+pub returns : goal.returns
+returns g c =
+    let other : IsShip c.args.command.now → ⊥ = search rules in
+    let running = sym c.is_over.ensures ∙ c.if-is_over.false in
+    let kept = c.self.inside.kept in
+    let w = c.self.inside.writer in
     rw (← c.self.view_is)
-    (replied _ _ c.args.command.now c.in-Ok.reply c.in-Ok.ensures.reply c.in-Ok.ensures.state (λ running. c.in-Ok.ensures.draft) refl refl
-    (λ running. record { fonts = (c.self.invariant.0 running).fonts; glyphs = (c.self.invariant.0 running).glyphs }))
+    (record {
+      keeps = obeyed kept w c.args.command.now other running c.obey.new.kept c.in-Ok.reply c.in-Ok.ensures.reply c.in-Ok.ensures.state;
+      idle = λ over. absurd (true_or_false over running);
+      unsent = told_stays c.in-Ok.reply w.told;
+      part = λ is.
+          absurd (never_device (seen_by kept w).state c.args.command.now c.in-Ok.reply (seen_reply kept w c.args.command.now other running c.in-Ok.reply c.in-Ok.ensures.reply) is);
+    })

@@ -11,28 +11,29 @@ use Rattle.nest_core.proofs.Nests.{first_refused}
 use Rattle.command_core.specs.Reply.{Reply}
 use Rattle.nest_core.specs.State.{State}
 use Rattle.state_core.proofs.ShapedItems.{character_answers}
+use Rattle.state_core.specs.Keeping.{unshipped}
 use Rattle.state_core.proofs.kept.Kept.append_character.Goals as goal
 
 pub returns-in-Err-clause-reply : goal.returns-in-Err-clause-reply
 returns-in-Err-clause-reply c =
-    let s = c.args.self.now in
+    let s = unshipped c.args.self.now in
     sym (ap (λ found. reply_by found (answer_of s (Character c.args.code)))
-    (first_refused s.over (character_checks s) (length_checks s (character_shaped s.fonts s.current c.args.code).items) JobOver c.in-Err.refusal c.requires c.in-Err.ensures.err))
+    (first_refused s.over (character_checks s) (length_checks s (character_shaped s.fonts s.current c.args.code).items) JobOver c.in-Err.refusal refl c.in-Err.ensures.err))
 
 pub returns-in-Err-clause-state : goal.returns-in-Err-clause-state
 returns-in-Err-clause-state c =
-    let s = c.args.self.now in
+    let s = unshipped c.args.self.now in
     sym (ap (λ found. state_by found s (after s (Character c.args.code)))
-    (first_refused s.over (character_checks s) (length_checks s (character_shaped s.fonts s.current c.args.code).items) JobOver c.in-Err.refusal c.requires c.in-Err.ensures.err))
+    (first_refused s.over (character_checks s) (length_checks s (character_shaped s.fonts s.current c.args.code).items) JobOver c.in-Err.refusal refl c.in-Err.ensures.err))
 
 pub returns-clause-reply : goal.returns-clause-reply
 returns-clause-reply c =
-    let s = c.args.self.now in
-    let right = character_answers s c.in-Ok.font.0 c.in-Ok.font.1.now c.requires c.in-Ok.ensures.slot c.in-Ok.ensures.font c.in-Ok.ensures.ok c.args.code _ _ (c.in_ok-missing.ensures.ok ∙ (rw c.new-items.ensures.items refl)) c.in_ok-missing.ensures.number in
+    let s = unshipped c.args.self.now in
+    let right = character_answers s c.in-Ok.font.0 c.in-Ok.font.1.now refl c.in-Ok.ensures.slot c.in-Ok.ensures.font c.in-Ok.ensures.ok c.args.code _ _ (c.in_ok-missing.ensures.ok ∙ (rw c.new-items.ensures.items refl)) c.in_ok-missing.ensures.number in
     subst (λ (r : Reply). IfOk c.append_shaped.result (λ reply. reply ≡ r)) right.reply c.append_shaped.ensures.reply
 
 pub returns-clause-state : goal.returns-clause-state
 returns-clause-state c =
-    let s = c.args.self.now in
-    let right = character_answers s c.in-Ok.font.0 c.in-Ok.font.1.now c.requires c.in-Ok.ensures.slot c.in-Ok.ensures.font c.in-Ok.ensures.ok c.args.code _ _ (c.in_ok-missing.ensures.ok ∙ (rw c.new-items.ensures.items refl)) c.in_ok-missing.ensures.number in
-    subst (λ (t : State). OnOk c.append_shaped.result (c.append_shaped.new.self ≡ t)) right.state c.append_shaped.ensures.state
+    let s = unshipped c.args.self.now in
+    let right = character_answers s c.in-Ok.font.0 c.in-Ok.font.1.now refl c.in-Ok.ensures.slot c.in-Ok.ensures.font c.in-Ok.ensures.ok c.args.code _ _ (c.in_ok-missing.ensures.ok ∙ (rw c.new-items.ensures.items refl)) c.in_ok-missing.ensures.number in
+    subst (λ (t : State). OnOk c.append_shaped.result (unshipped c.append_shaped.new.self ≡ t)) right.state c.append_shaped.ensures.state

@@ -5,10 +5,12 @@ use Rattle.command_core.specs.declared.limits.TheConstants.{MOST_OPEN}
 use Rattle.command_core.specs.declared.command.Opening.{Opening}
 use Rattle.command_core.specs.declared.command.Command.TheVariants as commands
 use Rattle.nest_core.specs.declared.nest.OpenList.{OpenList}
+use Rattle.nest_core.specs.declared.nest.ListPurpose.TheVariants.{Box}
 use Rattle.nest_core.specs.State.{State}
 use Rattle.nest_core.specs.OpenLists.{opened_list}
 use Rattle.nest_core.specs.Checks.{open_checks, first_of}
 use Rattle.nest_core.specs.Machine.{state_after}
+use Rattle.state_core.specs.Keeping.{Keeping, unshipped}
 use Rattle.state_core.proofs.kept.Kept.open_list.Goals as goal
 use Rattle.state_core.proofs.kept.Kept.open_list.Goals.{else-is_none-via-then-is_none+else-count-eq0, else-is_none-via-else-is_none}
 
@@ -27,17 +29,17 @@ some_into (Some r) count none tells is = refl
 
 -- A list that nothing refuses is opened behind the others.
 opened : (s : State) (opening : Opening) (now : List OpenList) → s.over ≡ false → first_of (open_checks s.nest opening.into) ≡ None
-    → now ≡ s.nest ++ opened_list opening ∷ [] → record s { nest = now } ≡ state_after s (commands.Open opening)
+    → now ≡ s.nest ++ opened_list (Box opening) ∷ [] → record s { nest = now } ≡ state_after s (commands.Open opening)
 opened s opening now running none is = rw (running, none, is) refl
 
 pub returns-clause-state : goal.returns-clause-state
 returns-clause-state c =
-    let s = c.args.self.now in
-    let nest : c.self.inside.nest ≡ s.nest = ap (λ (t : State). t.nest) c.self.view_is in
+    let s = unshipped c.args.self.now in
+    let nest : c.self.inside.nest ≡ s.nest = ap (λ (t : Keeping). t.nest) c.self.view_is in
     let none : first_of (open_checks s.nest c.args.opening.into) ≡ None =
     opened_free s.nest c.args.opening.into c.len-count.result (c.len-count.ensures.value ∙ ap length nest)
     (elim c.else-is_none.branch [ else-is_none-via-then-is_none+else-count-eq0 w ↦ none_and_some c.args.opening.into c.len-count.result (ne_eqb c.len-count.result 0 w.if-count-eq0.false) | else-is_none-via-else-is_none w ↦ some_into c.args.opening.into c.len-count.result c.is_none.result c.is_none.ensures w.if-is_none.false ])
     (lt-leb MOST_OPEN c.len-count.result (omega (arith, c.if-count-ge-MOST_OPEN.false))) in
-    ap (λ (t : State). record t { nest = c.begin.new.self }) c.self.view_is
-    ∙ opened s c.args.opening c.begin.new.self c.requires none
-    (c.in_ok-begin.ensures.ok ∙ ap (λ (lists : List OpenList). lists ++ opened_list c.args.opening ∷ []) nest)
+    ap (λ (t : Keeping). record (unshipped t) { nest = c.begin.new.self }) c.self.view_is
+    ∙ opened s c.args.opening c.begin.new.self refl none
+    (c.in_ok-begin.ensures.ok ∙ ap (λ (lists : List OpenList). lists ++ opened_list (Box c.args.opening) ∷ []) nest)

@@ -1,0 +1,144 @@
+"""The inputs of the measurements, always the same: scripts of boxglue, the texts of tex beside them, and a metric file."""
+
+import struct
+
+# Words of running prose: those that stand often, and others.
+OFTEN = "the of and to in a that is was it for with as his on be at by had not are but from which have they one were their there would when what about"
+WORDS = (
+    "other into first after before people through between another without thought different country question morning evening office difficult himself nothing "
+    "something government afternoon always against certain general history important interest language mountain necessary particular possible purpose remember "
+    "several sufficient together understand whether written workshop printer paragraph figure reflection affair village weather journey kitchen yesterday "
+    "everything conversation experience considerable opportunity neighbourhood circumstances approximately fifteen fjord garden letters answered believed "
+    "children carefully followed wondered company railway library station voyage avenue wavering quickly explained"
+)
+
+# How boxglue and tex are told the same: no hyphenation, no indentation, and the parameters that boxglue begins with, but for the tolerance.
+TEX_HEAD = r"""\batchmode \frenchspacing \hyphenchar\tenrm=-1 \tenrm \parindent0pt \parskip0pt \hsize%s
+\baselineskip12pt \lineskip1pt \lineskiplimit0pt \splittopskip10pt \maxdepth16383pt \splitmaxdepth16383pt \boxmaxdepth16383pt
+\parfillskip0pt plus 1fil \pretolerance100 \tolerance%d \linepenalty10 \adjdemerits10000 \clubpenalty150 \widowpenalty150 \interlinepenalty0
+\emergencystretch0pt \hbadness10000 \vbadness10000 \hfuzz16383pt \vfuzz16383pt
+"""
+BOX_HEAD = "font 0 cmr10\nuse 0\nset hsize %s\nset tolerance %d\n"
+
+CHAPTERS, PARAGRAPHS, WORDS_EACH, SPLITS, PAGE = 20, 100, 80, 13, "550pt"
+
+
+class Prose:
+    """Words in an order that a linear congruence fixes."""
+
+    def __init__(self, seed):
+        self.state = seed
+        self.words = OFTEN.split() * 2 + OFTEN.split()[:10] * 4 + WORDS.split()
+
+    def number(self, below):
+        self.state = (self.state * 6364136223846793005 + 1442695040888963407) % 2 ** 64
+        return (self.state >> 33) % below
+
+    def paragraph(self, count):
+        """So many words, in sentences of 5 to 20 with a comma here and there."""
+        words, left = [], 0
+        for place in range(count):
+            word = self.words[self.number(len(self.words))]
+            if left == 0:
+                word, left = word.capitalize(), 5 + self.number(16)
+            left -= 1
+            if left == 0 or place == count - 1:
+                word += "."
+            elif self.number(12) == 0:
+                word += ","
+            words.append(word)
+        return words
+
+
+def rows(words):
+    """Words in rows of at most 76 characters."""
+    row = ""
+    for word in words:
+        if row and len(row) + 1 + len(word) > 76:
+            yield row
+            row = ""
+        row = row + " " + word if row else word
+    yield row
+
+
+def box_paragraph(words):
+    texts = list(rows(words))
+    return "par\ntext " + "\ntext  ".join(texts) + "\nend\n"
+
+
+def tex_paragraph(words):
+    return "\n".join(rows(words)) + "\\par\n"
+
+
+def book(tolerance):
+    """Chapters of paragraphs, each a box that is split into pages; the last page of a chapter is what is left of it."""
+    prose = Prose(1)
+    box, tex = [BOX_HEAD % ("345pt", tolerance)], [TEX_HEAD % ("345pt", tolerance)]
+    words = letters = 0
+    for _ in range(CHAPTERS):
+        paragraphs = [prose.paragraph(WORDS_EACH) for _ in range(PARAGRAPHS)]
+        words += sum(map(len, paragraphs))
+        letters += sum(len(word) for paragraph in paragraphs for word in paragraph)
+        box.append("vbox into 0\n" + "".join(map(box_paragraph, paragraphs)) + "end\n")
+        box.append(("vsplit 0 to %s into 1\nship 1\n" % PAGE) * SPLITS + "ship 0\n")
+        tex.append("\\setbox0\\vbox{" + "".join(map(tex_paragraph, paragraphs)) + "}\n")
+        tex.append(("\\setbox1\\vsplit0 to %s \\shipout\\box1\n" % PAGE) * SPLITS + "\\shipout\\box0\n")
+    tex.append("\\end\n")
+    return "".join(box), "".join(tex), words, letters
+
+
+def places(count, width, total, tolerance):
+    """Paragraphs of so many legal places each, in all of about so many: a word is a place."""
+    prose = Prose(2)
+    box, tex = [BOX_HEAD % (width, tolerance)], [TEX_HEAD % (width, tolerance)]
+    for _ in range(total // count):
+        words = prose.paragraph(count)
+        box.append("vbox into 0\n" + box_paragraph(words) + "end\n")
+        tex.append("\\setbox0\\vbox{" + tex_paragraph(words) + "}\n")
+    tex.append("\\end\n")
+    return "".join(box), "".join(tex)
+
+
+def many_rules(count):
+    """A page of so many rules in rows of forty, each wherever it falls."""
+    prose = Prose(3)
+    script = ["vbox into 0\n"]
+    for row in range(count // 40):
+        script.append("hbox\n")
+        for _ in range(40):
+            script.append("rule %d.%dpt %d.%dpt 0pt\nkern %d.%dpt\n" % tuple(prose.number(n) for n in (9, 10, 7, 10, 4, 10)))
+        script.append("end\n")
+    return "".join(script) + "end\nship 0\n"
+
+
+def small_boxes(lines):
+    """So many lines of short boxes with two rules each."""
+    prose = Prose(4)
+    script = []
+    for number in range(lines // 4):
+        script.append("hbox into %d\nrule %d.%dpt 2pt 1pt\nrule %dpt * 0pt\nend\n" % (number % 256, prose.number(90), prose.number(100), prose.number(40)))
+    return "".join(script)
+
+
+def small_pages(pages, last):
+    """So many boxes of one rule, each shipped as a page or made void."""
+    return ("hbox into 0\nrule 1pt 1pt 0pt\nend\n%s 0\n" % last) * pages
+
+
+def metric_file():
+    """A metric file of 40,000 bytes: 256 characters of their own widths, each with a program of steps for kerns."""
+    fixed = lambda value: struct.pack(">i", value)
+    length, programs, steps_each = 10000, 128, 60
+    characters = [bytes((code % 255 + 1, 0x11, 1, code)) for code in range(256)]
+    # The first 256 steps send each character to its program.
+    steps = [struct.pack(">BBH", 254, 0, 256 + code // 2 * steps_each) for code in range(256)]
+    for program in range(programs):
+        for step in range(steps_each):
+            steps.append(struct.pack(">BBH", 128 if step == steps_each - 1 else 0, 64 + step, 32768 + (program * 7 + step) % 900))
+    widths = [fixed(1000 * code) for code in range(256)]
+    heights, depths, italics = [fixed(0), fixed(600000)], [fixed(0), fixed(200000)], [fixed(0)]
+    header, parameters = [fixed(0), fixed(10 << 20)], [fixed(0), fixed(349526), fixed(174763), fixed(116508)]
+    parts = [header, characters, widths, heights, depths, italics, steps, [], [], parameters]
+    parts[7] = [fixed(-20000 + kern) for kern in range(length - 6 - sum(map(len, parts)))]
+    sizes = (length, len(header), 0, 255) + tuple(map(len, parts[2:]))
+    return struct.pack(">12H", *sizes) + b"".join(sum(parts, []))

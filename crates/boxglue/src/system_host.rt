@@ -1,0 +1,70 @@
+//! The files and the standard input of the system.
+
+ghost use Rattle.std.specs.Prelude.{None};
+
+use std::alloc::Global;
+use std::fs::File;
+use std::io::{Error, ErrorKind, Input, Read};
+use std::rt::Files;
+use task_core::{Host, HostFault, read_all, write_some};
+
+/// The host of a real program. It tells nothing of what its files hold.
+#[derive(Drop)]
+pub struct SystemHost<'a> {
+    rt: &'a HostRuntime,
+    file: Option<File>,
+}
+
+impl<'a> SystemHost<'a> {
+    /// The host of a runtime, where no file was created yet.
+    pub fn new(rt: &'a HostRuntime) -> SystemHost<'a> {
+        SystemHost { rt, file: None }
+    }
+}
+
+/// What a fault of the system is for the program.
+fn fault_of(fault: &Error) -> HostFault {
+    if fault.kind() == ErrorKind::OutOfMemory {
+        HostFault::OutOfMemory
+    } else {
+        HostFault::Failed
+    }
+}
+
+impl Host for SystemHost<'_> {
+    ghost use Rattle.std.specs.Prelude.{None};
+
+    ghost file = { λ host path. None };
+
+    ghost input = { λ host. None };
+
+    ghost written = { λ host. None };
+
+    fn read_file(&self, alloc: Global, path: &str) -> Result<Vec<u8>, HostFault> {
+        match File::open(self.rt, path) {
+            Ok(mut file) => read_all(alloc, &mut file),
+            Err(fault) => Err(fault_of(&fault)),
+        }
+    }
+
+    fn read_input(&self, alloc: Global) -> Result<Vec<u8>, HostFault> {
+        read_all(alloc, &mut self.rt.stdin())
+    }
+
+    fn create(&mut self, path: &str) -> Result<(), HostFault> {
+        match File::create(self.rt, path) {
+            Ok(file) => {
+                self.file = Some(file);
+                Ok(())
+            }
+            Err(fault) => Err(fault_of(&fault)),
+        }
+    }
+
+    fn write(&mut self, piece: &[u8]) -> Result<usize, HostFault> {
+        match &mut self.file {
+            Some(file) => write_some(file, piece),
+            None => Err(HostFault::Failed),
+        }
+    }
+}

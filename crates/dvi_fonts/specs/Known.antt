@@ -1,0 +1,23 @@
+-- The definitions that are known, and the first one of each number (own).
+use Rattle.std.specs.Prelude.{◌≡◌, ℤ, List, Option, [], ◌∷◌, option_map}
+use Rattle.std.specs.BTreeMap.{BTreeMap, get}
+use Rattle.std.specs.List.{AllByRecursion}
+use Rattle.std.specs.Option.{option_or}
+use Rattle.std.specs.Ordering.{int_cmp}
+use Rattle.dvi_ops.specs.Fonts.{AgreesWith, defined}
+use Rattle.dvi_ops.specs.Instruction.{Definition}
+use Rattle.dvi_ops.specs.View.{definition}
+use Rattle.dvi_ops.specs.declared.op.FontDefinition.{FontDefinition}
+
+-- The definition that a table has at a number.
+abbrev pub first_of : BTreeMap ℤ FontDefinition → ℤ → Option Definition
+first_of first f = option_map definition (get int_cmp first f)
+
+-- A table has the first definition of each number, and all definitions of a number are the same.
+pub record AreKept (first : BTreeMap ℤ FontDefinition) (all : List Definition) : Type 0 where
+  pub firsts : (f : ℤ) → first_of first f ≡ defined f all
+  pub agree : AllByRecursion (λ d. AllByRecursion (AgreesWith d) all) all
+
+-- A table has a definition at its number, where it had none there; all else is as it was.
+abbrev pub AddsFirst : (old new : BTreeMap ℤ FontDefinition) → FontDefinition → Type 0
+AddsFirst old new font = (f : ℤ) → first_of new f ≡ option_or (first_of old f) (defined f (definition font ∷ []))

@@ -1,0 +1,10 @@
+use Rattle.std.proofs.Common.{map}
+use Rattle.dvi_ops.specs.View.{view}
+use Rattle.ship_core.specs.Pages.{page_at}
+use Rattle.dvi_layout.proofs.WrittenBodies.{plain_drawn}
+use Rattle.dvi_layout.proofs.progress.written_body.Goals as goal
+
+pub reuse-requires : goal.reuse-requires
+reuse-requires c =
+    plain_drawn (map view c.in_ok-drawn.drawn.items) (page_at c.args.counts.now c.args.at.h c.args.at.v c.args.box_node.now)
+    (c.in_ok-drawn.ensures c.args.counts.now)

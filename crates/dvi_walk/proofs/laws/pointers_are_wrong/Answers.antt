@@ -1,0 +1,8 @@
+use Rattle.dvi_walk.proofs.PointerLemmas.{stray_pointer, unmet_pointer}
+use Rattle.dvi_walk.proofs.laws.pointers_are_wrong.Goals as goal
+
+pub returns-clause-stray : goal.returns-clause-stray
+returns-clause-stray c = stray_pointer
+
+pub returns-clause-unmet : goal.returns-clause-unmet
+returns-clause-unmet c = unmet_pointer

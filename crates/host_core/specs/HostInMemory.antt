@@ -1,0 +1,20 @@
+-- What a host in memory keeps (own).
+use Rattle.std.specs.Prelude.{ℕ, Bool, List, Option, find, option_map}
+use Rattle.std.specs.Str.{bytes_eq}
+
+-- a file: its path and its bytes
+pub record HeldBytes : Type 0 where
+  pub path : List ℕ
+  pub bytes : List ℕ
+
+-- the files that can be read, standard input, whether a file was created, its path, and what it took
+pub record InMemory : Type 0 where
+  pub files : List HeldBytes
+  pub input : List ℕ
+  pub is_created : Bool
+  pub created : List ℕ
+  pub written : List ℕ
+
+-- the bytes of the first file at a path
+abbrev pub held_at : List HeldBytes → List ℕ → Option (List ℕ)
+held_at files path = option_map (λ file. file.bytes) (find (λ file. bytes_eq file.path path) files)

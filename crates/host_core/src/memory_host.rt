@@ -1,0 +1,164 @@
+//! A host in memory.
+
+ghost use Rattle.std.specs.Prelude.{◌≡◌, ◌≤◌, ◌<◌, [], false, length, option_map, Err, IfOk};
+ghost use Rattle.std.specs.Str.{bytes_eq};
+ghost use Rattle.host_core.specs.HostInMemory.{held_at};
+ghost use Rattle.host_core.specs.declared.host.TheConstants.{READ_LIMIT};
+
+use crate::host::{Host, HostFault, READ_LIMIT};
+use std::alloc::Global;
+use std::marker::Model;
+
+/// A file in memory: its path and its bytes.
+#[derive(Debug, Drop)]
+pub struct HeldFile {
+    path: Vec<u8>,
+    bytes: Vec<u8>,
+}
+
+impl Model for HeldFile {
+    ghost use Rattle.host_core.specs.HostInMemory.{HeldBytes};
+
+    ghost Value = { HeldBytes };
+
+    ghost view = { λ file. record { path = file.path.items; bytes = file.bytes.items } };
+}
+
+impl HeldFile {
+    /// The file of these bytes at a path.
+    pub fn new(path: Vec<u8>, bytes: Vec<u8>) -> HeldFile
+        ensures { result ≡ record { path = path.items; bytes = bytes.items } }
+    {
+        HeldFile { path, bytes }
+    }
+
+    /// Whether it lies at a path.
+    fn is_at(&self, path: &[u8]) -> bool
+        ensures { result ≡ bytes_eq self.now.path path.now }
+    {
+        self.path.as_slice() == path
+    }
+
+    /// Its bytes.
+    fn bytes(&self) -> &[u8]
+        ensures { result.now ≡ self.now.bytes }
+    {
+        &self.bytes
+    }
+}
+
+/// A host whose files and standard input are in memory, and which keeps what is written. A file that is not there cannot be read.
+#[derive(Debug, Drop)]
+pub struct MemoryHost {
+    files: Vec<HeldFile>,
+    input: Vec<u8>,
+    is_created: bool,
+    created: Vec<u8>,
+    written: Vec<u8>,
+}
+
+impl Model for MemoryHost {
+    ghost use Rattle.host_core.specs.HostInMemory.{InMemory};
+
+    ghost Value = { InMemory };
+
+    ghost view = { λ host. record { files = host.files.items; input = host.input.items; is_created = host.is_created; created = host.created.items; written = host.written.items } };
+}
+
+impl MemoryHost {
+    /// A host with these files and this standard input, where no file was created yet. It takes no memory.
+    pub fn new(alloc: Global, files: Vec<HeldFile>, input: Vec<u8>) -> MemoryHost
+        ensures { result ≡ record { files = files.items; input = input.items; is_created = false; created = []; written = [] } }
+    {
+        MemoryHost {
+            files,
+            input,
+            is_created: false,
+            created: Vec::new(alloc),
+            written: Vec::new(alloc),
+        }
+    }
+
+    /// Whether a file was created.
+    pub fn is_created(&self) -> bool
+        ensures { result ≡ self.now.is_created }
+    {
+        self.is_created
+    }
+
+    /// The path of the file that was created last.
+    pub fn created(&self) -> &[u8]
+        ensures { result.now ≡ self.now.created }
+    {
+        &self.created
+    }
+
+    /// What it took.
+    pub fn written(&self) -> &[u8]
+        ensures { result.now ≡ self.now.written }
+    {
+        &self.written
+    }
+}
+
+/// What is read of bytes in memory: all of them, where they are not too many.
+fn copy(alloc: Global, bytes: &[u8]) -> Result<Vec<u8>, HostFault>
+    ensures ok { IfOk result (λ read. (read.items ≡ bytes.now) × (length bytes.now ≤ READ_LIMIT)) }
+    ensures failed { result ≡ Err HostFault.Failed → READ_LIMIT < length bytes.now }
+{
+    if bytes.len() > READ_LIMIT {
+        return Err(HostFault::Failed);
+    }
+    match Vec::from_slice(alloc, bytes) {
+        Ok(read) => Ok(read),
+        Err(_) => Err(HostFault::OutOfMemory),
+    }
+}
+
+/// The bytes of the first file at a path, where there is one.
+fn held_at<'a>(files: &'a [HeldFile], path: &[u8]) -> Option<&'a [u8]>
+    ensures { option_map (λ bytes. bytes.now) result ≡ held_at files.now path.now }
+{
+    Some(files.iter().find(|file| file.is_at(path))?.bytes())
+}
+
+impl Host for MemoryHost {
+    ghost use Rattle.std.specs.Prelude.{Some};
+    ghost use Rattle.host_core.specs.HostInMemory.{held_at};
+
+    ghost file = { λ host path. held_at host.files path };
+
+    ghost input = { λ host. Some host.input };
+
+    ghost written = { λ host. Some host.written };
+
+    fn read_file(&self, alloc: Global, path: &str) -> Result<Vec<u8>, HostFault> {
+        match held_at(&self.files, path.as_bytes()) {
+            Some(bytes) => copy(alloc, bytes),
+            None => Err(HostFault::Failed),
+        }
+    }
+
+    fn read_input(&self, alloc: Global) -> Result<Vec<u8>, HostFault> {
+        copy(alloc, &self.input)
+    }
+
+    fn create(&mut self, path: &str) -> Result<(), HostFault> {
+        self.created.clear();
+        match self.created.extend_from_slice(path.as_bytes()) {
+            Ok(()) => {
+                self.is_created = true;
+                self.written.clear();
+                Ok(())
+            }
+            Err(_) => Err(HostFault::OutOfMemory),
+        }
+    }
+
+    fn write(&mut self, piece: &[u8]) -> Result<usize, HostFault> {
+        match self.written.extend_from_slice(piece) {
+            Ok(()) => Ok(piece.len()),
+            Err(_) => Err(HostFault::OutOfMemory),
+        }
+    }
+}

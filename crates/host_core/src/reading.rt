@@ -1,0 +1,55 @@
+//! Reading to the end.
+
+ghost use Rattle.std.specs.Prelude.{◌≡◌, ◌≤◌, ◌++◌, length, IfOk, OnOk};
+ghost use Rattle.std.specs.Io.KnownBytes.{Consumes, IsAtEnd};
+ghost use Rattle.host_core.specs.declared.host.TheConstants.{READ_LIMIT};
+
+use crate::host::{HostFault, READ_LIMIT};
+use std::alloc::Global;
+use std::io::{Error, ErrorKind, Read};
+
+/// How many bytes a call asks for.
+const BUFFER: usize = 65_536;
+
+/// All bytes that a reader has left. A reading that has not met its end after so many bytes or calls counts as failed; a call that was interrupted is
+/// made again.
+pub fn read_all<R: Read>(alloc: Global, reader: &mut R) -> Result<Vec<u8>, HostFault>
+    ensures all { IfOk result (λ bytes. Consumes (R.remaining reader.old) (R.remaining reader.new) bytes.items) }
+    ensures end { IfOk result (λ bytes. IsAtEnd (R.remaining reader.new)) }
+    ensures within { IfOk result (λ bytes. length bytes.items ≤ READ_LIMIT) }
+{
+    let mut bytes = Vec::new(alloc);
+    let mut buffer = [0u8; BUFFER];
+    for _ in 0..READ_LIMIT {
+        match reader.read(&mut buffer) {
+            Ok(0) => return Ok(bytes),
+            Ok(count) => push_piece(&mut bytes, &buffer[..count])?,
+            Err(fault) => refuse_unless_interrupted(&fault)?,
+        }
+    }
+    Err(HostFault::Failed)
+}
+
+/// Puts what was read behind what was read before, where it is not too much.
+fn push_piece(bytes: &mut Vec<u8>, piece: &[u8]) -> Result<(), HostFault>
+    requires small { length bytes.old.items ≤ READ_LIMIT }
+    ensures ok { OnOk result (bytes.new.items ≡ bytes.old.items ++ piece.now) }
+    ensures within { OnOk result (length bytes.new.items ≤ READ_LIMIT) }
+{
+    if piece.len() > READ_LIMIT - bytes.len() {
+        return Err(HostFault::Failed);
+    }
+    match bytes.extend_from_slice(piece) {
+        Ok(()) => Ok(()),
+        Err(_) => Err(HostFault::OutOfMemory),
+    }
+}
+
+/// Says that a call failed, unless it was only interrupted.
+pub(crate) fn refuse_unless_interrupted(fault: &Error) -> Result<(), HostFault> {
+    if fault.kind() == ErrorKind::Interrupted {
+        Ok(())
+    } else {
+        Err(HostFault::Failed)
+    }
+}

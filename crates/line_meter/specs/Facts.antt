@@ -1,0 +1,46 @@
+-- What a breaker knows of a paragraph, what a list tells it, and why a list is refused (TeX: The Program, part 38, §825; own: at most 8,192 places).
+use Rattle.std.specs.Prelude.{◌-◌, ℕ, zero, suc, ℤ, List, length, get_or, slice_get, nat_lt, Option, Some, None, if◌then◌else◌}
+use Rattle.std.specs.List.{list_any}
+use Rattle.node_core.specs.declared.tree.Node.{Node}
+use Rattle.break_table.specs.Tables.{most_places}
+use Rattle.break_cost.specs.declared.sums.Sums.{Sums}
+use Rattle.line_meter.specs.declared.fault.BreakFault.{BreakFault}
+use Rattle.line_meter.specs.declared.fault.BreakFault.TheVariants as faults
+use Rattle.line_meter.specs.Legal.{legal_places, penalty_of, shrinks_forever}
+use Rattle.line_meter.specs.Kept.{kept, sums_of}
+
+-- What is known of a paragraph: its legal places are numbered from 1, and 0 is its start.
+pub record Facts : Type 0 where
+  -- how many legal places there are
+  pub places : ℕ
+  -- where a place stands in the list
+  pub position : ℕ → ℕ
+  -- the penalty of a break there
+  pub penalty : ℕ → ℤ
+  -- the sums over the items of the line from a place to another one
+  pub sums : (from to : ℕ) → Sums
+
+-- Where a place stands in a list.
+unfoldable pub position_of : List Node → ℕ → ℕ
+position_of list place = get_or (legal_places list) (place - 1) 0
+
+-- Where a line begins: the start of the list, or a place.
+abbrev pub begins_at : List Node → ℕ → Option ℕ
+begins_at list zero = None
+begins_at list (suc n) = Some (position_of list (suc n))
+
+-- What is known of a list.
+abbrev pub facts_of : List Node → Facts
+facts_of list =
+    record {
+      places = length (legal_places list);
+      position = position_of list;
+      penalty = λ place. penalty_of (slice_get list (position_of list place));
+      sums = λ from to. sums_of (kept list (begins_at list from) (position_of list to));
+    }
+
+-- Why a list has no breaks: it has glue that shrinks without end, or, if not, it has too many legal places.
+abbrev pub refusal : List Node → Option BreakFault
+refusal list =
+    if list_any shrinks_forever list then Some faults.InfiniteShrink
+    else (if nat_lt most_places (length (legal_places list)) then Some faults.TooManyBreaks else None)

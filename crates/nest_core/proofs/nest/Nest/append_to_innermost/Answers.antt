@@ -1,0 +1,19 @@
+use Rattle.std.proofs.Common.{◌≡◌, ◌∙◌, ◌-◌, List, length, Option, Some, None, ap, sym}
+use Rattle.dvi_layout.proofs.EachOf.{each_at}
+use Rattle.nest_core.specs.declared.nest.OpenList.{OpenList}
+use Rattle.nest_core.specs.State.{innermost}
+use Rattle.nest_core.specs.Checks.{box_checks, first_of}
+use Rattle.nest_core.specs.ShortLists.{IsShort}
+use Rattle.nest_core.proofs.ShortLists.{one_changed, box_fits}
+use Rattle.nest_core.proofs.nest.Nest.append_to_innermost.Goals as goal
+
+pub invariant_of-self-2 : goal.invariant_of-self-2
+invariant_of-self-2 c =
+    let nest : List OpenList = c.self.inside.lists.items in
+    let l : OpenList = c.in-Some.innermost.now in
+    let found : innermost nest ≡ Some l = c.in-Some.ensures.some in
+    let free : first_of (box_checks c.args.params.now (Some l) c.args.box_node) ≡ None =
+    ap (λ (o : Option OpenList). first_of (box_checks c.args.params.now o c.args.box_node)) (sym found ∙ ap innermost c.self.view_is) ∙ c.requires in
+    one_changed nest (length nest - 1) c.append_with_glue.new.self c.self.invariant.0 c.self.invariant.1
+    (box_fits c.append_with_glue.result c.args.params.now c.args.shift c.args.box_node l c.append_with_glue.new.self free
+    (each_at IsShort nest (length nest - 1) l c.self.invariant.1 found) c.append_with_glue.ensures.ok c.append_with_glue.ensures.err)

@@ -1,0 +1,78 @@
+-- The end of a paragraph: how it is set behind the list around it, what that answers, and why it is refused (own; after TeX: The Program, part 39, §877 to
+-- §890, and part 49, §1096).
+use Rattle.std.specs.Prelude.{◌+◌, ◌++◌, ◌∷◌, [], ℕ, ℤ, Bool, true, nat_lt, List, length, Option, Some, None, is_none, Result, Ok, Err}
+use Rattle.node_core.specs.declared.params.Params.{Params}
+use Rattle.node_core.specs.Items.{Items, items_depth}
+use Rattle.node_core.specs.Nodes.{items_of, nodes_of}
+use Rattle.break_core.specs.declared.broken.Pass.{Pass}
+use Rattle.break_core.specs.declared.broken.Pass.TheVariants.{First, Second, Third}
+use Rattle.vert_core.specs.Interline.{ignored_depth}
+use Rattle.paragraph_core.specs.declared.paragraph.SetParagraph.{SetParagraph}
+use Rattle.paragraph_core.specs.declared.paragraph.ParagraphFault.{ParagraphFault}
+use Rattle.paragraph_core.specs.declared.paragraph.ParagraphFault.TheVariants as faults
+use Rattle.paragraph_core.specs.Setting.{setting}
+use Rattle.command_core.specs.declared.command.Answer.{Answer}
+use Rattle.command_core.specs.declared.command.Answer.TheVariants as answers
+use Rattle.command_core.specs.declared.command.Refusal.{Refusal}
+use Rattle.command_core.specs.declared.command.Refusal.TheVariants.{NoOpenList, InfiniteShrink, TooManyBreaks, DimensionTooLarge, TooDeep, ListTooLong}
+use Rattle.command_core.specs.declared.limits.TheConstants.{MOST_ITEMS, MOST_DEEP}
+use Rattle.nest_core.specs.declared.nest.OpenList.{OpenList}
+use Rattle.nest_core.specs.State.{innermost, with_innermost, items_in}
+
+-- The previous depth of an open list, if there is one.
+abbrev pub depth_in : Option OpenList → ℤ
+depth_in None = ignored_depth
+depth_in (Some open_list) = open_list.previous_depth
+
+-- How a paragraph of these items is set behind the innermost of the lists around it.
+abbrev pub set_behind : Params → (around : List OpenList) → Items → Result SetParagraph ParagraphFault
+set_behind params around items = setting (nodes_of items) params (depth_in (innermost around))
+
+-- The number of the pass that decided; 0 for an empty paragraph.
+abbrev pub pass_number : Option Pass → ℕ
+pass_number None = 0
+pass_number (Some First) = 1
+pass_number (Some Second) = 2
+pass_number (Some Third) = 3
+
+-- The answer to the end of a paragraph. Where it is not set, it is refused and this answer is not given.
+abbrev pub paragraph_answer : Result SetParagraph ParagraphFault → Answer
+paragraph_answer (Ok set) = answers.Paragraph set.lines (pass_number set.pass) set.overhang set.demerits
+paragraph_answer (Err fault) = answers.Done
+
+-- The refusal of a paragraph that is not set; how it is set does not speak of memory.
+abbrev pub refusal_for : ParagraphFault → Option Refusal
+refusal_for faults.InfiniteShrink = Some InfiniteShrink
+refusal_for faults.TooManyBreaks = Some TooManyBreaks
+refusal_for faults.DimensionTooLarge = Some DimensionTooLarge
+refusal_for faults.OutOfMemory = None
+
+-- A refusal that is there.
+abbrev pub refused_by : Option Refusal → List (Bool × Refusal)
+refused_by None = []
+refused_by (Some refusal) = (true, refusal) ∷ []
+
+-- The refusals of what a paragraph brings to a list that has so many items: that a line of it is too deep, and that the list would be too long.
+abbrev pub lines_checks : (count : ℕ) → Items → List (Bool × Refusal)
+lines_checks count items = (nat_lt MOST_DEEP (items_depth items), TooDeep) ∷ (nat_lt MOST_ITEMS (count + length (nodes_of items)), ListTooLong) ∷ []
+
+-- The refusals of a paragraph for a list that has so many items: why it is not set, else those of what it brings.
+abbrev pub set_checks : (count : ℕ) → Result SetParagraph ParagraphFault → List (Bool × Refusal)
+set_checks count (Ok set) = lines_checks count set.items
+set_checks count (Err fault) = refused_by (refusal_for fault)
+
+-- The refusals of the end of a paragraph of these items that has these lists around.
+abbrev pub paragraph_checks : Params → (around : List OpenList) → Items → List (Bool × Refusal)
+paragraph_checks params around items =
+    (is_none (innermost around), NoOpenList) ∷ set_checks (length (nodes_of (items_in (innermost around)))) (set_behind params around items)
+
+-- The lists around a paragraph with what it brings at the end of the innermost one, whose previous depth is then that of the last line.
+abbrev pub with_lines : (around : List OpenList) → Option OpenList → Result SetParagraph ParagraphFault → List OpenList
+with_lines around None result = around
+with_lines around (Some open_list) (Err fault) = around
+with_lines around (Some open_list) (Ok set) =
+    with_innermost around (record open_list { list = items_of (nodes_of open_list.list ++ nodes_of set.items); previous_depth = set.depth })
+
+-- The lists around a paragraph of these items when it has ended.
+abbrev pub with_paragraph : Params → (around : List OpenList) → Items → List OpenList
+with_paragraph params around items = with_lines around (innermost around) (set_behind params around items)

@@ -1,0 +1,84 @@
+-- The end of a paragraph changes the open lists, and all else stays.
+use Rattle.std.proofs.Common.{◌≡◌, ◌∙◌, false, List, Option, Some, None, Result, Ok, Err, refl, ap, sym}
+use Rattle.std.specs.Prelude.{◌++◌, ◌∷◌, [], IfOk, OnOk, OnErr, is_none}
+use Rattle.command_core.specs.declared.command.Answer.{Answer}
+use Rattle.command_core.specs.declared.command.Command.TheVariants as commands
+use Rattle.command_core.specs.declared.command.Command.TheVariants.{End}
+use Rattle.command_core.specs.declared.command.Refusal.{Refusal}
+use Rattle.command_core.specs.Reply.{Reply}
+use Rattle.nest_core.specs.declared.nest.OpenList.{OpenList}
+use Rattle.nest_core.specs.declared.nest.ListPurpose.TheVariants.{Paragraph}
+use Rattle.nest_core.specs.OpenLists.{opened_list}
+use Rattle.nest_core.specs.State.{State, innermost, outer, items_in}
+use Rattle.nest_core.specs.Checks.{par_checks, checks, first_of}
+use Rattle.nest_core.specs.Answers.{answer_of}
+use Rattle.nest_core.specs.Effects.{after}
+use Rattle.nest_core.specs.Machine.{reply_by, reply_to, state_by, state_after}
+use Rattle.nest_core.specs.Paragraphs.{set_behind, paragraph_checks, paragraph_answer, with_paragraph}
+use Rattle.nest_core.specs.Runs.{early_checks}
+
+-- Why a paragraph does not end, what is answered, and what is left.
+abbrev pub refused : State → Option Refusal
+refused s = first_of (paragraph_checks s.params (outer s.nest) (items_in (innermost s.nest)))
+
+abbrev pub given : State → Answer
+given s = paragraph_answer (set_behind s.params (outer s.nest) (items_in (innermost s.nest)))
+
+abbrev pub lists_left : State → List OpenList
+lists_left s = with_paragraph s.params (outer s.nest) (items_in (innermost s.nest))
+
+by_refusal : (s : State) (o : Option Refusal) (lists : List OpenList) → record s { nest = state_by o s.nest lists } ≡ state_by o s (record s { nest = lists })
+by_refusal s None lists = refl
+by_refusal s (Some refusal) lists = refl
+
+module _ (s : State) (l : OpenList) (running : s.over ≡ false) (is : innermost s.nest ≡ Some l) (opened : l.purpose ≡ Paragraph) where
+  refused_so : refused s ≡ first_of (checks s End)
+  refused_so = rw (running, is, opened) refl
+
+  given_so : given s ≡ answer_of s End
+  given_so = rw (is, opened) refl
+
+  left_so : record s { nest = lists_left s } ≡ after s End
+  left_so = rw (is, opened) refl
+
+  reply_so : reply_by (refused s) (given s) ≡ reply_to s End
+  reply_so = ap (λ o. reply_by o (given s)) refused_so ∙ ap (reply_by (first_of (checks s End))) given_so
+
+  state_so : record s { nest = state_by (refused s) s.nest (lists_left s) } ≡ state_after s End
+  state_so =
+      by_refusal s (refused s) (lists_left s) ∙ ap (λ o. state_by o s (record s { nest = lists_left s })) refused_so
+      ∙ ap (state_by (first_of (checks s End)) s) left_so
+
+  early_so : is_none (innermost (outer s.nest)) ≡ false → first_of (early_checks s End) ≡ None
+  early_so around = rw (running, is, opened, around) refl
+
+-- What the nest answers and leaves is what the command does.
+module _ (t s : State) (l : OpenList) (same : t ≡ s) (running : s.over ≡ false) (is : innermost t.nest ≡ Some l) (opened : l.purpose ≡ Paragraph) where
+  runs : t.over ≡ false
+  runs = ap (λ (x : State). x.over) same ∙ running
+
+  pub end_reply : {E : Type 0} (result : Result Reply E) → IfOk result (λ reply. reply ≡ reply_by (refused t) (given t)) → IfOk result (λ reply. reply ≡ reply_to s End)
+  end_reply (Ok reply) told = told ∙ reply_so t l runs is opened ∙ ap (λ (x : State). reply_to x End) same
+  end_reply (Err e) told = told
+
+  pub end_state : {E : Type 0} (result : Result Reply E) (now : List OpenList) → OnOk result (now ≡ state_by (refused t) t.nest (lists_left t))
+      → OnOk result (record t { nest = now } ≡ state_after s End)
+  end_state (Ok reply) now told =
+      ap (λ (lists : List OpenList). record t { nest = lists }) told ∙ state_so t l runs is opened ∙ ap (λ (x : State). state_after x End) same
+  end_state (Err e) now told = told
+
+  pub end_early : {E : Type 0} (result : Result Reply E) → OnErr result (is_none (innermost (outer t.nest)) ≡ false) → OnErr result (first_of (early_checks s End) ≡ None)
+  end_early (Ok reply) told = told
+  end_early (Err e) told = ap (λ (x : State). first_of (early_checks x End)) (sym same) ∙ early_so t l runs is opened told
+
+-- A paragraph that is opened.
+par_so : (s : State) → s.over ≡ false → first_of (par_checks s.nest) ≡ first_of (checks s commands.Paragraph)
+par_so s running = rw running refl
+
+pub par_state : {E : Type 0} (t s : State) (result : Result Reply E) (now : List OpenList) → t ≡ s → s.over ≡ false
+    → OnOk result (now ≡ state_by (first_of (par_checks t.nest)) t.nest (t.nest ++ opened_list Paragraph ∷ [])) → OnOk result (record t { nest = now } ≡ state_after s commands.Paragraph)
+par_state t s (Ok reply) now same running told =
+    let runs : t.over ≡ false = ap (λ (x : State). x.over) same ∙ running in
+    ap (λ (lists : List OpenList). record t { nest = lists }) told ∙ by_refusal t (first_of (par_checks t.nest)) (t.nest ++ opened_list Paragraph ∷ [])
+    ∙ ap (λ o. state_by o t (record t { nest = t.nest ++ opened_list Paragraph ∷ [] })) (par_so t runs) ∙ ap (λ (x : State). state_after x commands.Paragraph) same
+par_state t s (Err e) now same running told = told

@@ -1,0 +1,134 @@
+-- Texts that go out one behind another, and what is said behind a task.
+use Rattle.std.proofs.Common.{◌≡◌, ◌⊎◌, ap, false, ◌++◌, ◌+◌, ℕ, Bool, List, length, take, Option, Some, None, Result, Ok, Err, OnOk, OnErr, inl, inr, refl, sym, ◌∙◌, subst, arith}
+use Rattle.std.proofs.Math.Seq.{take-append-add}
+use Rattle.std.proofs.lemmas.List.{take-append-le, length-append}
+use Rattle.std.specs.Borrow.{Bor}
+use Rattle.std.specs.Io.KnownBytes.{Appends, Keeps}
+use Rattle.std.specs.Prelude.{◌==◌}
+use Rattle.host_core.specs.Hosts.{AreFilesOf, told_by}
+use Rattle.tfm_core.specs.NamedBytes.{NamedBytes}
+use Rattle.host_core.specs.declared.font_files.Unread.{Unread}
+use Rattle.host_core.specs.declared.font_files.Unread.TheVariants.{OutOfMemory as WantsMemory, File}
+use Rattle.word_core.specs.declared.fonts.NamedPath.{NamedPath}
+use Rattle.task_core.specs.Inputs.{IsUnreadScript}
+use Rattle.task_core.specs.Programs.{end_of}
+use Rattle.host_core.specs.Readings.{IsReading}
+use Rattle.task_core.specs.Typesets.{HasTypeset, IsToFile, IsTypeset, TellsUnwritten}
+use Rattle.program_core.specs.Runs.{RanScript, RefusedScript, WritesFront, memory_line}
+use Rattle.program_core.proofs.WritingLemmas.{appends_both, appends_keeps, keeps_appends, keeps_front}
+use Rattle.task_core.specs.Ends.{EndsOutput, EndsTask, HasEnded, Takes, TellsErrors, TellsOutput, status_of}
+use Rattle.task_core.specs.declared.task_end.TaskEnd.{TaskEnd}
+use Rattle.task_core.specs.declared.task_end.TaskEnd.TheVariants.{Printed, Unwritten, OutOfMemory, Unreadable, NoSuchPage}
+
+pub ok_then : {A E : Type 0} {P Q : Type 0} (r : Result A E) → OnOk r P → (P → Q) → OnOk r Q
+ok_then (Ok x) h f = f h
+ok_then (Err e) h f = tt
+
+pub err_then : {A E : Type 0} {P Q : Type 0} (r : Result A E) → OnErr r P → (P → Q) → OnErr r Q
+err_then (Ok x) h f = tt
+err_then (Err e) h f = f h
+
+-- a beginning of a text is one of a longer text
+pub front_more : (old new : Option (List ℕ)) (a b : List ℕ) → WritesFront old new a → WritesFront old new (a ++ b)
+front_more old new a b front = (
+  front.0,
+  omega (arith, length-append a b, front.1),
+  subst (λ (text : List ℕ). Appends old new text) (sym (take-append-le front.0 a b (omega (arith, front.1)))) front.2,
+)
+
+-- a beginning of a text behind another
+pub front_behind : (old mid new : Option (List ℕ)) (a b : List ℕ) → Appends old mid a → WritesFront mid new b → WritesFront old new (a ++ b)
+front_behind old mid new a b h front = (
+  length a + front.0,
+  omega (arith, length-append a b, front.1),
+  subst (λ (text : List ℕ). Appends old new text) (sym (take-append-add a b front.0)) (appends_both old mid new a (take front.0 b) h front.2),
+)
+
+-- known bytes that stay twice
+pub keeps_twice : (old mid new : Option (List ℕ)) → Keeps old mid → Keeps mid new → Keeps old new
+keeps_twice None mid new h i = tt
+keeps_twice (Some xs) None new h i = absurd h
+keeps_twice (Some xs) (Some ys) None h i = absurd i
+keeps_twice (Some xs) (Some ys) (Some zs) h i = i ∙ h
+
+-- nothing behind a beginning of a text
+pub front_keeps : (old mid new : Option (List ℕ)) (a : List ℕ) → WritesFront old mid a → Keeps mid new → WritesFront old new a
+front_keeps old mid new a front h = (front.0, front.1, appends_keeps old mid new (take front.0 a) front.2 h)
+
+-- a text, or a beginning of it, behind nothing
+pub keeps_takes : (old mid new : Option (List ℕ)) (a : List ℕ) → Keeps old mid → Takes mid new a → Takes old new a
+keeps_takes old mid new a h (inl all) = inl (keeps_appends old mid new a h all)
+keeps_takes old mid new a h (inr front) = inr (keeps_front old mid new a h front)
+
+-- what a task has printed, and what is then said on the output
+pub output_then : (IsAnswer : List ℕ → Bool → Type 0) (IsUnread : Bor (List ℕ) → Type 0) (LacksPage : Type 0) (end : TaskEnd) (old mid new : Option (List ℕ))
+    → EndsTask IsAnswer IsUnread LacksPage end old mid → TellsOutput end mid new → EndsOutput IsAnswer IsUnread LacksPage end old new
+output_then A U L (Printed fine) old mid new ended told = (ended.0, ended.1, appends_keeps old mid new ended.0 ended.2 told)
+output_then A U L Unwritten old mid new ended told = (ended.0, ended.1, ended.2, front_keeps old mid new ended.0 ended.3 told)
+output_then A U L OutOfMemory old mid new ended told = keeps_takes old mid new memory_line ended told
+output_then A U L (Unreadable path) old mid new ended told = (ended.0, keeps_twice old mid new ended.1 told)
+output_then A U L NoSuchPage old mid new ended told = (ended.0, keeps_twice old mid new ended.1 told)
+
+-- what a device that writes a file tells, in the words of a script that was typeset
+pub answered_to_file : (text : List ℕ) (files : List NamedBytes) (start : ℕ) (begun : Bool) (failures : ℕ) (back : Option (List ℕ)) (Same : Type 0) (answer : List ℕ) (fine created done : Bool) (written : Option (List ℕ))
+    → start ≡ 0 → created ≡ begun → done ≡ (failures == 0) → written ≡ back → (Same → begun ≡ false) → (Same → failures ≡ 0)
+    → RanScript text files start failures (told_by begun back) answer fine ⊎ (RefusedScript text answer fine × Same) → IsToFile text files written created done answer fine
+answered_to_file text files start begun failures back Same answer fine created done written fresh opened counted kept closed none (inl ran) =
+    let at_start = subst (λ (n : ℕ). RanScript text files n failures (told_by begun back) answer fine) fresh ran in
+    let at_open = subst (λ (is : Bool). RanScript text files 0 failures (told_by is back) answer fine) (sym opened) at_start in
+    inl (failures, subst (λ (bytes : Option (List ℕ)). RanScript text files 0 failures (told_by created bytes) answer fine) (sym kept) at_open, counted)
+answered_to_file text files start begun failures back Same answer fine created done written fresh opened counted kept closed none (inr refused) =
+    inr (refused.0, opened ∙ closed refused.1, counted ∙ ap (λ (n : ℕ). n == 0) (none refused.1))
+
+-- a task has ended, and its end was told
+pub has_ended : (IsAnswer : List ℕ → Bool → Type 0) (IsUnread : Bor (List ℕ) → Type 0) (LacksPage : Type 0) (end : TaskEnd) (old mid new errors errors' : Option (List ℕ)) (status : ℕ)
+    → EndsTask IsAnswer IsUnread LacksPage end old mid → TellsOutput end mid new → TellsErrors end errors errors' → status ≡ status_of end
+    → HasEnded IsAnswer IsUnread LacksPage old new errors errors' status
+has_ended A U L end old mid new errors errors' status ended said told is = record {
+  end = end;
+  printed = output_then A U L end old mid new ended said;
+  told = told;
+  status_is = is;
+}
+
+-- what is an answer in other words
+pub ends_weaker : (A B : List ℕ → Bool → Type 0) (U V : Bor (List ℕ) → Type 0) (L : Type 0) (end : TaskEnd) (old new : Option (List ℕ))
+    → ((text : List ℕ) (fine : Bool) → A text fine → B text fine) → ((path : Bor (List ℕ)) → U path → V path) → EndsTask A U L end old new → EndsTask B V L end old new
+ends_weaker A B U V L (Printed fine) old new f u h = (h.0, f h.0 fine h.1, h.2)
+ends_weaker A B U V L Unwritten old new f u h = (h.0, h.1, f h.0 h.1 h.2, h.3)
+ends_weaker A B U V L OutOfMemory old new f u h = h
+ends_weaker A B U V L (Unreadable path) old new f u h = (u path h.0, h.1)
+ends_weaker A B U V L NoSuchPage old new f u h = h
+
+-- files that were not read, as it is told
+pub unread_output : (A : List ℕ → Bool → Type 0) (told : List ℕ → Option (List ℕ)) (input : Option (List ℕ)) (fonts : List NamedPath) (fault : Unread) (old new : Option (List ℕ))
+    → IsUnreadScript told input fonts fault → TellsOutput (end_of fault) old new → EndsOutput A (λ path. IsUnreadScript told input fonts (File path)) ⊥ (end_of fault) old new
+unread_output A told input fonts WantsMemory old new unread said = said
+unread_output A told input fonts (File path) old new unread said = (unread, said)
+
+-- known bytes stay where nothing happens
+pub keeps_same : (known : Option (List ℕ)) → Keeps known known
+keeps_same None = tt
+keeps_same (Some bytes) = refl
+
+-- a script was typeset, and its end was told
+pub typeset_ended : (told : List ℕ → Option (List ℕ)) (input : Option (List ℕ)) (fonts : List NamedPath) (out : List ℕ) (written : Option (List ℕ)) (created done : Bool)
+    (text : List ℕ) (files : List NamedBytes) (end : TaskEnd) (old mid new errors between errors' : Option (List ℕ)) (status : ℕ)
+    → IsReading input text → AreFilesOf told fonts files → EndsTask (IsToFile text files written created done) (λ path. ⊥) ⊥ end old mid
+    → TellsUnwritten done out errors between → TellsOutput end mid new → TellsErrors end between errors' → status ≡ status_of end
+    → HasTypeset told input fonts out written old new errors errors' status
+typeset_ended told input fonts out written created done text files end old mid new errors between errors' status read filed ended unwritten said told_end is =
+    let A : List ℕ → Bool → Type 0 = IsTypeset told input fonts written created done in
+    let U : Bor (List ℕ) → Type 0 = λ path. IsUnreadScript told input fonts (File path) in
+    record {
+      end = end;
+      created = created;
+      done = done;
+      printed = output_then A U ⊥ end old mid new
+          (ends_weaker (IsToFile text files written created done) A (λ path. ⊥) U ⊥ end old mid
+          (λ answer fine to. (text, files, read, filed, to)) (λ path none. absurd none) ended) said;
+      middle = between;
+      unwritten = unwritten;
+      told_is = told_end;
+      status_is = is;
+    }

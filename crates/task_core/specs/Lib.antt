@@ -1,0 +1,5 @@
+pub mod Ends
+pub mod Inputs
+pub mod Printed
+pub mod Typesets
+pub mod Programs

@@ -1,0 +1,40 @@
+-- Scripts that are typeset to a file (own).
+use Rattle.std.specs.Prelude.{◌≡◌, ◌==◌, ◌⊎◌, ℕ, Bool, true, false, List, Option, codes}
+use Rattle.std.specs.Io.KnownBytes.{Keeps}
+use Rattle.host_core.specs.Hosts.{AreFilesOf, told_by}
+use Rattle.host_core.specs.Readings.{IsReading}
+use Rattle.host_core.specs.declared.font_files.Unread.TheVariants.{File}
+use Rattle.program_core.specs.Runs.{RanScript, RefusedScript}
+use Rattle.tfm_core.specs.NamedBytes.{NamedBytes}
+use Rattle.word_core.specs.declared.fonts.NamedPath.{NamedPath}
+use Rattle.task_core.specs.Ends.{EndsOutput, Takes, TellsErrors, line_of, status_of}
+use Rattle.task_core.specs.Inputs.{IsUnreadScript}
+use Rattle.task_core.specs.declared.task_end.TaskEnd.{TaskEnd}
+
+-- a script was run with these font files on a new device that writes a file, and this is what its host then tells of that file; or the script is bad, and
+-- no file was created
+abbrev pub IsToFile : (text : List ℕ) → List NamedBytes → (written : Option (List ℕ)) → (created done : Bool) → (answer : List ℕ) → (fine : Bool) → Type 0
+IsToFile text files written created done answer fine =
+    ((failed : ℕ) × RanScript text files 0 failed (told_by created written) answer fine × (done ≡ (failed == 0)))
+    ⊎ (RefusedScript text answer fine × (created ≡ false) × (done ≡ true))
+
+-- the files of the fonts and the script were read, and the script was typeset
+abbrev pub IsTypeset : (List ℕ → Option (List ℕ)) → (input : Option (List ℕ)) → List NamedPath → (written : Option (List ℕ)) → (created done : Bool) → (answer : List ℕ) → (fine : Bool) → Type 0
+IsTypeset told input fonts written created done answer fine =
+    (text : List ℕ) × (files : List NamedBytes) × IsReading input text × AreFilesOf told fonts files × IsToFile text files written created done answer fine
+
+-- what is said of a file that did not take all
+abbrev pub TellsUnwritten : (done : Bool) → (out : List ℕ) → (old new : Option (List ℕ)) → Type 0
+TellsUnwritten true out old new = Keeps old new
+TellsUnwritten false out old new = Takes old new (line_of (codes "boxglue: cannot write ") out)
+
+-- `typeset` has ended: whether its file was created and took all, what the output took, what was said on the errors, and the status
+pub record HasTypeset (told : List ℕ → Option (List ℕ)) (input : Option (List ℕ)) (fonts : List NamedPath) (out : List ℕ) (written output output' errors errors' : Option (List ℕ)) (status : ℕ) : Type 0 where
+  pub end : TaskEnd
+  pub created : Bool
+  pub done : Bool
+  pub printed : EndsOutput (IsTypeset told input fonts written created done) (λ path. IsUnreadScript told input fonts (File path)) ⊥ end output output'
+  pub middle : Option (List ℕ)
+  pub unwritten : TellsUnwritten done out errors middle
+  pub told_is : TellsErrors end middle errors'
+  pub status_is : status ≡ status_of end

@@ -1,0 +1,132 @@
+//! The four tasks, with the files of a host.
+
+ghost use Rattle.std.specs.Prelude.{◌≡◌, ◌≤◌};
+ghost use Rattle.host_core.specs.declared.font_files.Unread.TheVariants.{File};
+ghost use Rattle.task_core.specs.Ends.{EndsTask};
+ghost use Rattle.task_core.specs.Inputs.{IsUnreadDvi};
+ghost use Rattle.task_core.specs.Printed.{HasNoPage, IsListing, IsPainting};
+ghost use Rattle.task_core.specs.Programs.{IsAnsweredInput, IsUnreadInput, end_of};
+ghost use Rattle.task_core.specs.Typesets.{HasTypeset, TellsUnwritten};
+
+use crate::inputs::{read_dvi_inputs, read_script_inputs};
+use crate::printing::{PrintFault, list_file, paint_file};
+use crate::task_end::TaskEnd;
+use crate::telling::{finish, tell};
+use crate::typesetting::{TypesetEnd, typeset_file};
+use host_core::{Host, HostFault, Unread};
+use program_core::{RunFault, run_memory};
+use std::alloc::Global;
+use std::io::Write;
+use word_core::{NamedPath, Sheet};
+
+/// How a task ends whose files were not read.
+fn end_of(fault: Unread<'_>) -> TaskEnd<'_>
+    ensures { result ≡ end_of fault.entry }
+{
+    match fault {
+        Unread::OutOfMemory => TaskEnd::OutOfMemory,
+        Unread::File(path) => TaskEnd::Unreadable(path),
+    }
+}
+
+/// Runs the script of standard input on a device in memory, and writes its answers and the bytes of the device.
+pub fn run_input<'a, H: Host, W: Write>(alloc: Global, host: &H, output: &mut W) -> TaskEnd<'a>
+    ensures { EndsTask (IsAnsweredInput (H.input host.now)) (IsUnreadInput (H.input host.now)) ⊥ result (W.contents output.old) (W.contents output.new) }
+{
+    let text = match host.read_input(alloc) {
+        Ok(text) => text,
+        Err(HostFault::OutOfMemory) => return TaskEnd::OutOfMemory,
+        Err(HostFault::Failed) => return TaskEnd::Unreadable("-"),
+    };
+    match run_memory(alloc, &text, &[], output) {
+        Ok(accepted) => TaskEnd::Printed(accepted),
+        Err(RunFault::Memory(_)) => TaskEnd::OutOfMemory,
+        Err(RunFault::Answers(_)) => TaskEnd::Unwritten,
+    }
+}
+
+/// Lists the DVI file at a path.
+pub fn list<'a, H: Host, W: Write>(
+    alloc: Global,
+    host: &H,
+    dvi: &'a str,
+    fonts: &[NamedPath<'a>],
+    output: &mut W,
+) -> TaskEnd<'a>
+    ensures { EndsTask (IsListing (H.file host.now) dvi.entry.now fonts.now) (λ path. IsUnreadDvi (H.file host.now) dvi.entry.now fonts.now (File path)) ⊥
+        result (W.contents output.old) (W.contents output.new) }
+{
+    let inputs = match read_dvi_inputs(alloc, host, dvi, fonts) {
+        Ok(inputs) => inputs,
+        Err(fault) => return end_of(fault),
+    };
+    match list_file(alloc, &inputs.bytes, &inputs.files, output) {
+        Ok(accepted) => TaskEnd::Printed(accepted),
+        Err(PrintFault::OutOfMemory) => TaskEnd::OutOfMemory,
+        Err(PrintFault::Unwritten) => TaskEnd::Unwritten,
+        Err(PrintFault::NoSuchPage) => TaskEnd::NoSuchPage,
+    }
+}
+
+/// Paints a page of the DVI file at a path.
+pub fn paint<'a, H: Host, W: Write>(
+    alloc: Global,
+    host: &H,
+    sheet: Sheet,
+    dvi: &'a str,
+    fonts: &[NamedPath<'a>],
+    output: &mut W,
+) -> TaskEnd<'a>
+    requires page { 1 ≤ sheet.page }
+    requires dpi { sheet.dpi ≤ 10000 }
+    requires width { (1 ≤ sheet.width) × (sheet.width ≤ 10000) }
+    requires height { (1 ≤ sheet.height) × (sheet.height ≤ 10000) }
+    ensures { EndsTask (IsPainting (H.file host.now) sheet dvi.entry.now fonts.now) (λ path. IsUnreadDvi (H.file host.now) dvi.entry.now fonts.now (File path))
+        (HasNoPage (H.file host.now) sheet dvi.entry.now fonts.now) result (W.contents output.old) (W.contents output.new) }
+{
+    let inputs = match read_dvi_inputs(alloc, host, dvi, fonts) {
+        Ok(inputs) => inputs,
+        Err(fault) => return end_of(fault),
+    };
+    match paint_file(alloc, &inputs.bytes, &inputs.files, sheet, output) {
+        Ok(accepted) => TaskEnd::Printed(accepted),
+        Err(PrintFault::OutOfMemory) => TaskEnd::OutOfMemory,
+        Err(PrintFault::Unwritten) => TaskEnd::Unwritten,
+        Err(PrintFault::NoSuchPage) => TaskEnd::NoSuchPage,
+    }
+}
+
+/// Says that a file did not take all, where it did not.
+fn tell_unwritten<E: Write>(written: bool, out: &str, errors: &mut E)
+    ensures { TellsUnwritten written out.now (E.contents errors.old) (E.contents errors.new) }
+{
+    if !written {
+        tell(errors, "boxglue: cannot write ", out);
+    }
+}
+
+/// Runs the script of standard input, and writes its pages to the file `out`.
+pub fn typeset<H: Host, W: Write, E: Write>(
+    alloc: Global,
+    host: H,
+    out: &str,
+    fonts: &[NamedPath<'_>],
+    output: &mut W,
+    errors: &mut E,
+) -> (u8, H)
+    ensures { HasTypeset (H.file host) (H.input host) fonts.now out.now (H.written result.1) (W.contents output.old) (W.contents output.new)
+        (E.contents errors.old) (E.contents errors.new) result.0 }
+{
+    let inputs = match read_script_inputs(alloc, &host, fonts) {
+        Ok(inputs) => inputs,
+        Err(fault) => return (finish(end_of(fault), output, errors), host),
+    };
+    let TypesetEnd {
+        end,
+        written,
+        host,
+        ..
+    } = typeset_file(alloc, host, out, &inputs, output);
+    tell_unwritten(written, out, errors);
+    (finish(end, output, errors), host)
+}

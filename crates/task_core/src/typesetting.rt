@@ -1,0 +1,57 @@
+//! `typeset`: a script is run, and its pages go to a file.
+
+ghost use Rattle.std.specs.Prelude.{◌≡◌, ◌==◌};
+ghost use Rattle.task_core.specs.Ends.{EndsTask};
+ghost use Rattle.task_core.specs.Typesets.{IsToFile};
+
+use crate::inputs::Inputs;
+use crate::task_end::TaskEnd;
+use host_core::{FileDevice, Host};
+use program_core::{Device, RunFault, run_script};
+use std::alloc::Global;
+use std::io::Write;
+
+/// How a script was typeset: what became of its answers, whether its file was created, and whether the file took all that was handed to it. The host comes
+/// back.
+#[derive(Debug, Drop)]
+pub struct TypesetEnd<'a, H> {
+    pub end: TaskEnd<'a>,
+    pub created: bool,
+    pub written: bool,
+    pub host: H,
+}
+
+/// Runs a script with these font files on a device that writes the file `out`, which is created at its first write, and then writes the texts of the
+/// answers; of a bad script its one line.
+pub fn typeset_file<'a, H: Host, W: Write>(
+    alloc: Global,
+    host: H,
+    out: &str,
+    inputs: &Inputs,
+    writer: &mut W,
+) -> TypesetEnd<'a, H>
+    ensures { EndsTask (IsToFile inputs.now.bytes.items inputs.now.files.items (H.written result.host) result.created result.written) (λ path. ⊥) ⊥
+        result.end (W.contents writer.old) (W.contents writer.new) }
+{
+    let device = FileDevice::new(host, out);
+    match run_script(alloc, &inputs.bytes, &inputs.files, device, writer) {
+        Ok((accepted, device)) => end_with(TaskEnd::Printed(accepted), device),
+        Err(RunFault::Memory(device)) => end_with(TaskEnd::OutOfMemory, device),
+        Err(RunFault::Answers(device)) => end_with(TaskEnd::Unwritten, device),
+    }
+}
+
+/// An end, and what became of the file.
+fn end_with<'a, H: Host>(end: TaskEnd<'a>, device: FileDevice<'_, H>) -> TypesetEnd<'a, H>
+    ensures end { result.end ≡ end.entry }
+    ensures created { result.created ≡ device.entry.is_open }
+    ensures written { result.written ≡ (device.entry.failures == 0) }
+    ensures host { result.host ≡ device.entry.host }
+{
+    TypesetEnd {
+        end,
+        created: device.is_open(),
+        written: device.failures() == 0,
+        host: device.into_host(),
+    }
+}
