@@ -23,7 +23,7 @@ use thiserror::Error;
 pub struct OpenPage {
     pub counts: [i32; 10],
     pub marks: Vec<Mark>,
-    pub stack: SmallVec<Place, 16>,
+    pub stack: SmallVec<Place, 2>,
     pub state: State,
 }
 
