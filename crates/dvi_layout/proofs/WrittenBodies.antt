@@ -20,24 +20,12 @@ use Rattle.ship_core.specs.Marks.{Page, marks_of_page, is_huge}
 use Rattle.ship_core.specs.Drawing.{body_of}
 use Rattle.ship_core.specs.Shown.{HasWidth}
 use Rattle.ship_core.proofs.DrawnBytes.{body_bytes}
-use Rattle.ship_core.proofs.DrawnPages.{HasFont, each_page, drawn_page, writable_page, definitions-page, nests_page, selections_page, spelled_page}
+use Rattle.ship_core.proofs.DrawnPages.{HasFont, drawn_page, no_register_page, writable_page, definitions-page, nests_page, selections_page, spelled_page}
 use Rattle.dvi_layout.specs.Sheets.{written_body}
 
 -- A drawn body names no register.
-no_register_drawn : (page : Page) → AllByRecursion NamesNoRegister (flat (body_of page))
-no_register_drawn page =
-    each_page NamesNoRegister (
-    record {
-      between = record { moves = λ axis z. tt; push = tt; pop = tt };
-      fonts = λ font. tt;
-      chars = λ code. tt;
-      set_rules = λ height width. tt;
-      put_rules = λ height width. tt;
-    }
-    ) page
-
 pub plain_drawn : (is : List Instruction) (page : Page) → is ≡ flat (body_of page) → IsPlainBody is
-plain_drawn is page same = (body_of page, same, subst (AllByRecursion NamesNoRegister) (sym same) (no_register_drawn page))
+plain_drawn is page same = (body_of page, same, subst (AllByRecursion NamesNoRegister) (sym same) (no_register_page page))
 
 -- Its groups nest no deeper than the box.
 pub nests_written : (page : Page) → nests (written_body page) ≤ items_depth page.box_node.list
@@ -65,7 +53,7 @@ pub shown_written : (widths : Widths) (page : Page) → is_huge page ≡ false �
     → (last : State) × (meaning (kept (acts widths)) (written_body page) start ≡ Some (marks_of_page page, last))
 shown_written widths page small sized =
     let drawn = drawn_page widths start.place.held page small sized in
-    reused_kept widths (body_of page) start (marks_of_page page) drawn.0 (no_register_drawn page) (refl, refl) drawn.1
+    reused_kept widths (body_of page) start (marks_of_page page) drawn.0 (no_register_page page) (refl, refl) drawn.1
 
 -- Movements, pushes and pops can always be spelled, so that the other instructions decide whether a body can.
 abbrev IsSpelled : Leaf → Type 0

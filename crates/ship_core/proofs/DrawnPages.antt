@@ -18,7 +18,8 @@ use Rattle.dvi_ops.specs.Layout.{IsWritable}
 use Rattle.dvi_ops.proofs.Appends.{all_append}
 use Rattle.ship_core.specs.Marks.{Page, rule_below, rule_tall, rule_wide, mark_of, marks_of_box, marks_of_page, page_v, numbers_behind, is_huge}
 use Rattle.ship_core.specs.Drawing.{width_in, picture_of_page, body_of}
-use Rattle.ship_core.specs.Shown.{HasWidth, at, NamesNoRegister}
+use Rattle.dvi_ops.specs.Plain.{NamesNoRegister}
+use Rattle.ship_core.specs.Shown.{HasWidth, at}
 use Rattle.ship_core.proofs.Places.{first_of_three, second_of_three, items_fit}
 use Rattle.ship_core.proofs.DrawnMarks.{EachStroke, IsDrawn, IsInked, HoldsOfAll, all_within, drawn_marks, drawn_writable, each_drawn, all_drawn, nests-drawn}
 use Rattle.ship_core.proofs.Pictures.{marks-picture, each_rule, each_glyph, each_behind, strokes_drawn, few_groups}

@@ -2,10 +2,10 @@
 use Rattle.std.specs.Prelude.{◌≡◌, ◌<◌, ◌≤◌, ℤ, pos, false, Option, Some, None}
 use Rattle.std.specs.List.{AllByRecursion}
 use Rattle.node_core.specs.Items.{Leaf, glyph, font_kern, kern, glue, penalty, rule, EachLeaf, items_depth}
-use Rattle.dvi_ops.specs.Instruction.{Instruction, Do, Move, Set, Again}
 use Rattle.dvi_ops.specs.Body.{State, Registers, Widths, acts, kept}
 use Rattle.dvi_ops.specs.Forest.{flat, meaning, nests}
 use Rattle.dvi_ops.specs.Layout.{IsWritable}
+use Rattle.dvi_ops.specs.Plain.{NamesNoRegister}
 use Rattle.ship_core.specs.Marks.{Page, marks_of_page, is_huge}
 use Rattle.ship_core.specs.Drawing.{body_of}
 
@@ -28,12 +28,6 @@ abbrev pub ShowsItsMarks : Type 0
 ShowsItsMarks =
     (widths : Widths) (held : Registers) (page : Page) → is_huge page ≡ false → EachLeaf (HasWidth widths) page.box_node.list
     → (last : State) × (meaning (kept (acts widths)) (body_of page) (at (pos 0) (pos 0) held None) ≡ Some (marks_of_page page, last))
-
--- An instruction that neither sets nor reads w, x, y and z.
-abbrev pub NamesNoRegister : Instruction → Type 0
-NamesNoRegister (Do (Move axis (Set register z))) = ⊥
-NamesNoRegister (Do (Move axis (Again register))) = ⊥
-NamesNoRegister other = Unit {0}
 
 -- Each instruction of the body of a page can be written, none names w, x, y or z, and its groups nest less deep than the box.
 abbrev pub CanBeWritten : Type 0
