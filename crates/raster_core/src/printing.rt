@@ -1,8 +1,9 @@
 //! The plain text of a bitmap.
 
-ghost use Rattle.std.specs.Prelude.{◌≡◌, ◌+◌, ◌*◌, ◌<◌, ◌≤◌, ◌++◌, length, take, OnOk, OnErr};
+ghost use Rattle.std.specs.Prelude.{◌≡◌, ◌+◌, ◌*◌, ◌-◌, ◌/◌, ◌^◌, ◌<◌, ◌≤◌, ◌++◌, length, take, OnOk, OnErr};
 ghost use Rattle.raster_rows.specs.Words.{in_rows};
-ghost use Rattle.raster_core.specs.PlainText.{digit_text, ends_line, header_text, row_text, rows_text};
+ghost use Rattle.raster_core.specs.PlainText.{header_text, row_text, rows_text};
+ghost use Rattle.raster_core.specs.RowPieces.{digit_of, digits, line_text};
 
 use itoa::Buffer;
 use raster_rows::is_black;
@@ -22,23 +23,84 @@ fn append_header(out: &mut Vec<u8>, width: usize, height: usize) -> Result<(), A
     Ok(())
 }
 
-/// Whether a line ends behind the digit of column `x`.
-fn ends_line(width: usize, x: usize) -> bool
-    requires { x < width }
-    ensures { result ≡ ends_line width x }
+/// The digit of a pixel.
+fn digit(words: &[u64], stride: usize, x: usize, y: usize) -> u8
+    requires { y * stride + x / 64 < length words.now }
+    ensures { result ≡ digit_of (in_rows words.now stride x y) }
 {
-    (x + 1) % 70 == 0 || x + 1 == width
+    if is_black(words, stride, x, y) { b'1' } else { b'0' }
 }
 
-/// Appends the digit of a pixel, with a line feed behind it if a line ends there; or a front of that.
-fn append_digit(out: &mut Vec<u8>, black: bool, ends: bool) -> Result<(), AllocError>
-    ensures ok { OnOk result (out.new.items ≡ out.old.items ++ digit_text black ends) }
+/// Appends the digits of eight columns of a row, or a front of them.
+fn append_eight(
+    out: &mut Vec<u8>,
+    words: &[u64],
+    stride: usize,
+    x: usize,
+    y: usize,
+) -> Result<(), AllocError>
+    requires columns { x + 8 ≤ 64 * stride }
+    requires short { x + 8 < 2 ^ 64 }
+    requires rows { y * stride + stride ≤ length words.now }
+    ensures ok { OnOk result (out.new.items ≡ out.old.items ++ digits (λ x. in_rows words.now stride x y) x 8) }
     ensures front { take (length out.old.items) out.new.items ≡ out.old.items }
 {
-    out.push(if black { b'1' } else { b'0' })?;
-    if ends {
-        out.push(b'\n')?;
+    out.extend_from_slice(&[
+        digit(words, stride, x, y),
+        digit(words, stride, x + 1, y),
+        digit(words, stride, x + 2, y),
+        digit(words, stride, x + 3, y),
+        digit(words, stride, x + 4, y),
+        digit(words, stride, x + 5, y),
+        digit(words, stride, x + 6, y),
+        digit(words, stride, x + 7, y),
+    ])?;
+    Ok(())
+}
+
+/// Appends the digits of some columns of a row, or a front of them.
+fn append_digits(
+    out: &mut Vec<u8>,
+    words: &[u64],
+    stride: usize,
+    y: usize,
+    from: usize,
+    to: usize,
+) -> Result<(), AllocError>
+    requires order { from ≤ to }
+    requires columns { to ≤ 64 * stride }
+    requires rows { y * stride + stride ≤ length words.now }
+    ensures ok { OnOk result (out.new.items ≡ out.old.items ++ digits (λ x. in_rows words.now stride x y) from (to - from)) }
+    ensures front { take (length out.old.items) out.new.items ≡ out.old.items }
+{
+    let eights = (to - from) / 8;
+    'eights: for block in 0..eights {
+        append_eight(out, words, stride, from + 8 * block, y)?;
     }
+    'rest: for x in from + 8 * eights..to {
+        out.push(digit(words, stride, x, y))?;
+    }
+    Ok(())
+}
+
+/// Appends a line of a row, from a column on: its digits and a line feed, or a front of that.
+fn append_line(
+    out: &mut Vec<u8>,
+    words: &[u64],
+    stride: usize,
+    width: usize,
+    y: usize,
+    line: usize,
+) -> Result<(), AllocError>
+    requires within { 70 * line < width }
+    requires columns { width ≤ 64 * stride }
+    requires rows { y * stride + stride ≤ length words.now }
+    ensures ok { OnOk result (out.new.items ≡ out.old.items ++ line_text width (λ x. in_rows words.now stride x y) line) }
+    ensures front { take (length out.old.items) out.new.items ≡ out.old.items }
+{
+    let from = 70 * line;
+    append_digits(out, words, stride, y, from, from + (width - from).min(70))?;
+    out.push(b'\n')?;
     Ok(())
 }
 
@@ -55,8 +117,8 @@ fn append_row(
     ensures ok { OnOk result (out.new.items ≡ out.old.items ++ row_text width (λ x. in_rows words.now stride x y)) }
     ensures front { take (length out.old.items) out.new.items ≡ out.old.items }
 {
-    for x in 0..width {
-        append_digit(out, is_black(words, stride, x, y), ends_line(width, x))?;
+    for line in 0..width.div_ceil(70) {
+        append_line(out, words, stride, width, y, line)?;
     }
     Ok(())
 }

@@ -1,0 +1,20 @@
+-- Pieces of the text of a row, for the contracts within the crate alone (own): a reader need not believe them.
+use Rattle.std.specs.Prelude.{◌+◌, ◌-◌, ◌*◌, ℕ, Bool, if◌then◌else◌, List, map, min}
+use Rattle.std.specs.List.{flat_map, range_with_len}
+use Rattle.raster_core.specs.PlainText.{digit_text, ends_line}
+
+-- The digit of a pixel, 1 for black (own).
+abbrev pub digit_of : Bool → ℕ
+digit_of black = if black then 49 else 48
+
+-- The digits of that many columns of a row, from one on (own).
+unfoldable pub digits : (black : ℕ → Bool) → (from count : ℕ) → List ℕ
+digits black from count = map (λ x. digit_of (black x)) (range_with_len from count)
+
+-- The text of that many columns of a row, from one on (own).
+unfoldable pub columns_text : (width : ℕ) → (black : ℕ → Bool) → (from count : ℕ) → List ℕ
+columns_text width black from count = flat_map (λ x. digit_text (black x) (ends_line width x)) (range_with_len from count)
+
+-- The text of a line of a row, the first being 0: of 70 columns, or of those that are left (own).
+unfoldable pub line_text : (width : ℕ) → (black : ℕ → Bool) → (line : ℕ) → List ℕ
+line_text width black line = columns_text width black (70 * line) (min (width - 70 * line) 70)
