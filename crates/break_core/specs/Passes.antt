@@ -1,4 +1,4 @@
--- The passes over a paragraph, and the list of breaks that is chosen (TeX: The Program, part 38, §863 and §874; own: the last pass admits each line,
+-- The passes over a paragraph, and the list of breaks that is chosen (TeX: The Program, part 39, §863 and §874; own: the last pass admits each line,
 -- the least overhang counts first, and ties are decided).
 use Rattle.std.specs.Prelude.{◌≡◌, map, reverse}
 use Rattle.node_core.specs.declared.params.Params.{Params}

@@ -2,7 +2,7 @@
 
 use break_table::Class;
 
-/// A pass over a paragraph: the first that admits a list of breaks decides (TeX: The Program, part 38, §863).
+/// A pass over a paragraph: the first that admits a list of breaks decides (TeX: The Program, part 39, §863).
 #[derive(Clone, Copy, Debug, PartialEq, Eq)]
 pub enum Pass {
     /// Lines are not overfull and at most as bad as pretolerance.

@@ -1,4 +1,4 @@
--- Which list of breaks is chosen for a paragraph in a pass (TeX: The Program, part 38, §813 and §874; the order of ties is own).
+-- Which list of breaks is chosen for a paragraph in a pass (TeX: The Program, part 38, §813, and part 39, §874; the order of ties is own).
 use Rattle.std.specs.Prelude.{◌≡◌, ◌<◌, ◌≤◌, ℕ, true, List, [], ◌∷◌, reverse, Contains, Some}
 use Rattle.break_table.specs.declared.answer.Least.{Least}
 use Rattle.break_table.specs.Orders.{NotAfter}

@@ -1,5 +1,5 @@
 -- What is known of a paragraph when its lines are chosen, and what lines that follow one another cost
--- (TeX: The Program, part 38, §813 to §862; a pass over the paragraph, without its nodes).
+-- (TeX: The Program, part 38, §813 to §861; a pass over the paragraph, without its nodes).
 use Rattle.std.specs.Prelude.{◌+ℤ◌, ◌+◌, ℕ, ℤ, pos, neg_ℤ, min, Bool, List, [], ◌∷◌, Option, Some, None}
 use Rattle.break_table.specs.declared.state.Class.{Class}
 use Rattle.break_table.specs.declared.state.Class.TheVariants.{VeryLoose, Loose, Decent, Tight}
@@ -24,7 +24,7 @@ rank Loose = 1
 rank Decent = 2
 rank Tight = 3
 
--- At the start there is no line yet, and the class is decent (TeX: The Program, part 38, §864).
+-- At the start there is no line yet, and the class is decent (TeX: The Program, part 39, §864).
 abbrev pub start : State
 start = record { place = 0; lines = 0; class = Decent }
 

@@ -1,4 +1,4 @@
--- The pages from the last one back: post names the last, each bop the one before it, and the first -1 (DVItype, 15 and 19).
+-- The pages from the last one back: post names the last, each bop the one before it, and the first -1 (DVItype, 15 and 19); and how that may be broken (own).
 use Rattle.std.specs.Prelude.{◌≡◌, ◌≢◌, ◌<◌, ◌+◌, ◌%◌, [], ◌∷◌, List, length, ℕ, ℤ, pos, negsuc}
 use Rattle.dvi_ops.specs.Instruction.{Postamble, Bop}
 use Rattle.dvi_frame.specs.Ends.{StandsAt}

@@ -1,4 +1,4 @@
--- One instruction where the pass stands, and the rule that it breaks (DVItype, 15).
+-- One instruction where the pass stands (DVItype, 15), and the rule that it breaks (own).
 use Rattle.std.specs.Prelude.{◌≡◌, ◌≢◌, ◌≤◌, [], List, length, map, reverse, ℕ, ℤ, Option, Some, None, Result, Ok, Err, IsSome}
 use Rattle.dvi_ops.specs.Instruction.{SetChar, PutChar, Nop, FontDef, Instruction, Do, Push, Pop, Bop, Eop}
 use Rattle.dvi_ops.specs.Body.{Acts, Widths, kept, kept_in}

@@ -1,4 +1,4 @@
--- What the values of the code stand for.
+-- What the values of the code stand for (own).
 use Rattle.std.specs.Prelude.{[], ◌∷◌, List, map, Option, Some, None}
 use Rattle.dvi_ops.specs.Body.{Mark, Glyph, Rule, Place, State}
 use Rattle.dvi_ops.specs.File.{MarkedPage}

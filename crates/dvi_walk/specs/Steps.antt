@@ -47,10 +47,11 @@ IsSelectFault files table known f OutOfMemory = Unit {0}
 IsSelectFault files table known f (Broken cause) = (cause ≡ Font) × IsUndefined table known f
 IsSelectFault files table known f (Refused refusal) = IsUnread files table f refusal
 
--- Where a walk stands in the pass, and the definitions that it knows.
+-- Where a walk stands in the pass.
 abbrev pub stand_of : Walk → Pass
 stand_of walk = pass_at (map page_of walk.done.items) walk.stand
 
+-- The definitions that a walk knows, in the order of the file.
 abbrev pub known_of : Walk → List Definition
 known_of walk = walk.known
 
@@ -58,7 +59,8 @@ known_of walk = walk.known
 abbrev pub places_left : Walk → Left
 places_left walk = record { missed = walk.missed; places = reverse walk.left.items }
 
--- What an instruction says of pages and fonts is right, and was kept: a bop is among what is left of the chain, a definition is behind the others, a selected font was read.
+-- What an instruction says of pages and fonts is right, and was kept: a bop is among what is left of the chain, a definition is behind the others, a
+-- selected font was read.
 pub record Notes (metrics : Metrics) (table : List Definition) (at : ℕ) (i : Instruction) (old new : Walk) : Type 0 where
   pub bop : behind_bops (place_of at i) (places_left old) ≡ Some (places_left new)
   pub right : IsRightAfter (known_of old) i
@@ -70,8 +72,8 @@ pub record Notes (metrics : Metrics) (table : List Definition) (at : ℕ) (i : I
   pub pages : map page_of new.done.items ≡ map page_of old.done.items
   pub stand : new.stand ≡ old.stand
 
--- What an instruction says of pages or fonts is not right: a bop is not among what is left of the chain; a definition has no size or differs; a selected font is not defined
--- before, or not in the postamble.
+-- What an instruction says of pages or fonts is not right: a bop is not among what is left of the chain; a definition has no size or differs; a
+-- selected font is not defined before, or not in the postamble.
 abbrev pub BreaksRest : (table known : List Definition) → (at : ℕ) → (left : Left) → Instruction → DviCause → Type 0
 BreaksRest table known at left i Pointer = behind_bops (place_of at i) left ≡ None
 BreaksRest table known at left i Font = (IsRightAfter known i → ⊥) ⊎ (f : ℤ) × (i ≡ Do (FontNum f)) × (defined f table ≡ None)

@@ -77,6 +77,7 @@ pub record StopsAt (files : List NamedBytes) (table : List Definition) (bytes : 
   pub walked : IsWalked (file_widths files) table bytes stop chain at walk
   pub stops : IsPagesFault files table bytes (min 1024 stop.stack_depth) at post walk fault
 
+-- The same of a fault: at some place before post, up to which all is right.
 abbrev pub IsWalkFault : List NamedBytes → (table : List Definition) → (bytes : List ℕ) → Postamble → (chain : List ℕ) → (post : ℕ) → DviFault → Type 0
 IsWalkFault files table bytes stop chain post fault = (at : ℕ) × (walk : Walk) × StopsAt files table bytes stop chain at post walk fault
 

@@ -39,7 +39,7 @@ Refuses w page fault = (refusal_of w page ≡ Some fault) ⊎ ((refusal_of w pag
 abbrev pub EndsWith : Writing → Page → WriteFault → Type 0
 EndsWith w page fault = Refuses w page fault ⊎ ((refusal_of w page ≡ None) × (fault ≡ Device))
 
--- Why the end of a file is refused: it is over, or for want of memory where there are pages; or the device failed.
+-- Why the end of a file is refused: it is over; or, where there are pages, for want of memory or since the device failed.
 abbrev pub MayFail : Writing → WriteFault → Type 0
 MayFail w fault =
     ((w.over ≡ true) × (fault ≡ JobOver)) ⊎ ((w.over ≡ false) × (w.so_far.pages ≢ 0) × ((fault ≡ OutOfMemory) ⊎ (fault ≡ Device)))

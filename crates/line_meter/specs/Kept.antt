@@ -59,7 +59,7 @@ amounts_of node =
       shrink = shrink_in Normal node;
     }
 
--- Two sums together, and how much more one is than another.
+-- Two sums together (own).
 abbrev pub plus : Sums → Sums → Sums
 plus a b =
     record {
@@ -71,6 +71,7 @@ plus a b =
       shrink = a.shrink +ℤ b.shrink;
     }
 
+-- How much more one sum is than another (own).
 abbrev pub minus : Sums → Sums → Sums
 minus a b =
     record {

@@ -1,4 +1,4 @@
--- The legal places of a finished horizontal list (TeX: The Program, part 38, §816 and §866 to §869).
+-- The legal places of a finished horizontal list (TeX: The Program, part 38, §816; part 39, §866 to §869).
 use Rattle.std.specs.Prelude.{◌+◌, ◌++◌, ℕ, zero, suc, ℤ, pos, negsuc, Bool, true, false, not, int_lt, int_le, List, [], ◌∷◌, length, slice_get, Option, Some, None, filter, if◌then◌else◌}
 use Rattle.node_core.specs.declared.tree.Node.{Node}
 use Rattle.node_core.specs.declared.tree.Node.TheVariants as nodes

@@ -117,6 +117,6 @@ still_of (Do (Move axis step)) = []
 still_of (Do leaf) = leaf ∷ []
 still_of i = []
 
--- The characters, rules, fonts, specials and nops among instructions, in order.
+-- The characters, rules, selections and definitions of fonts, specials and nops among instructions, in order.
 abbrev pub still : List Instruction → List Leaf
 still is = flat_map still_of is

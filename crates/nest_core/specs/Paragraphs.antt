@@ -1,5 +1,5 @@
 -- The end of a paragraph: how it is set behind the list around it, what that answers, and why it is refused (own; after TeX: The Program, part 39, §877 to
--- §890, and part 49, §1096).
+-- §890, and part 47, §1096).
 use Rattle.std.specs.Prelude.{◌+◌, ◌++◌, ◌∷◌, [], ℕ, ℤ, Bool, true, nat_lt, List, length, Option, Some, None, is_none, Result, Ok, Err}
 use Rattle.node_core.specs.declared.params.Params.{Params}
 use Rattle.node_core.specs.Items.{Items, items_depth}

@@ -1,5 +1,5 @@
--- The list of breaks that is chosen, as a function: the least of all lists (own; TeX: The Program, part 38, §813 and §874, has one table in place of all
--- lists).
+-- The list of breaks that is chosen, as a function: the least of all lists (own; TeX: The Program, part 38, §813, and part 39, §874, has one
+-- table in place of all lists).
 use Rattle.std.specs.Prelude.{◌++◌, ℕ, zero, suc, ℤ, Bool, true, false, int_lt, if◌then◌else◌, List, [], ◌∷◌, map, Option, Some, None}
 use Rattle.break_table.specs.Problems.{Problem, Path, path_of, key}
 

@@ -12,6 +12,7 @@ pub record Scale : Type 0 where
   pub num : ℕ
   pub den : ℕ
 
+-- The pixels of a DVI unit of a file with these units: num * mag * dpi / (254000 * den * 1000) (DVItype, 17, and its conversion).
 abbrev pub scale_of : Units → (dpi : ℕ) → Scale
 scale_of u dpi = record { num = unsigned_abs u.num * unsigned_abs u.mag * dpi; den = 254000 * unsigned_abs u.den * 1000 }
 

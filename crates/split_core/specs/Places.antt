@@ -20,7 +20,7 @@ is_some_box_or_rule (Some item) = is_box_or_rule item
 abbrev pub ends_in_box_or_rule : List Node → Bool
 ends_in_box_or_rule items = is_some_box_or_rule (slice_get items (length items - 1))
 
--- The penalty of a split at which one has to be made: -10000 (TeX: The Program, part 11, §157, eject_penalty).
+-- The penalty of a split at which one has to be made: -10000 (TeX: The Program, part 10, §157, eject_penalty).
 abbrev pub eject : ℤ
 eject = negsuc 9999
 

@@ -15,7 +15,7 @@ use node_core::{Kind, Node, SplitParams};
 use pack_core::Totals;
 use scaled_core::Dimen;
 
-/// The penalty at which a split has to be made (TeX: The Program, part 11, §157).
+/// The penalty at which a split has to be made (TeX: The Program, part 10, §157).
 const EJECT: i32 = -10_000;
 
 /// A place where a list may be split.

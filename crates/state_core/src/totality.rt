@@ -15,8 +15,8 @@ pub fn refusals_change_nothing()
     ensures { (m next : Machine) (n k : ℕ) (command : Command) (refusal : ARefusal) → refusal ≢ refusals.Device → Steps m n command (Err refusal) next k → next ≡ m }
 {}
 
-/// Want of memory is answered only to commands that take memory: never to use, lastbox, measure, void and set, to end only where the box
-/// goes into the enclosing list, and to the commands that take the box of a register only where it holds one.
+/// Want of memory is answered only to commands that take memory: never to use, lastbox, measure, void, set and count, to end only where the box
+/// or the lines go into the list around, and to the commands that take or split the box of a register only where it holds one.
 pub fn memory_is_wanted_by_few()
     ensures { (m next : Machine) (n k : ℕ) (command : Command) → Steps m n command (Err refusals.OutOfMemory) next k → TakesMemory m.state command }
 {}

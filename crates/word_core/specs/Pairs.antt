@@ -12,10 +12,11 @@ use Rattle.word_core.specs.declared.fonts.WordFault.TheVariants.{Memory as Wants
 abbrev pub is_equals : ℕ → Bool
 is_equals byte = byte == 61
 
--- what stands before the first `=` of a word, and what stands behind it
+-- what stands before the first `=` of a word
 abbrev pub name_of : Text → Text
 name_of = before_first is_equals
 
+-- what stands behind it
 abbrev pub path_of : Text → Text
 path_of = after_first is_equals
 
