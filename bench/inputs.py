@@ -87,10 +87,12 @@ def book(tolerance):
     return "".join(box), "".join(tex), words, letters
 
 
-def places(count, width, total, tolerance):
+def places(count, width, total, tolerance, pretolerance):
     """Paragraphs of so many legal places each, in all of about so many: a word is a place."""
     prose = Prose(2)
     box, tex = [BOX_HEAD % (width, tolerance)], [TEX_HEAD % (width, tolerance)]
+    box.append("set pretolerance %d\n" % pretolerance)
+    tex.append("\\pretolerance%d\n" % pretolerance)
     for _ in range(total // count):
         words = prose.paragraph(count)
         box.append("vbox into 0\n" + box_paragraph(words) + "end\n")

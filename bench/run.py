@@ -64,15 +64,17 @@ class Bench:
 
     def b(self):
         total = 80000
-        for width in ("345pt", "1500pt"):
+        for width, pretolerance in (("345pt", 100), ("345pt", -1), ("1500pt", 100)):
+            first = None
             for count in (100, 1000, 8000):
-                box, tex = inputs.places(count, width, total, 10000)
+                box, tex = inputs.places(count, width, total, 10000, pretolerance)
                 write(self.folder, "places.tex", tex)
-                print("b: %d paragraphs of %d places, %s, tolerance 10000" % (total // count, count, width))
+                print("b: %d paragraphs of %d places, %s, pretolerance %d, tolerance 10000" % (total // count, count, width, pretolerance))
                 ours, theirs = in_turn(self.typeset(), ["tex", "places.tex"], self.folder, write(self.folder, "places.box", box))
+                first = first or ours.seconds
                 show("boxglue typeset", ours, "%.2f us a place" % (ours.seconds / total * 1e6))
                 show("tex", theirs, "%.2f us a place" % (theirs.seconds / total * 1e6))
-                print("  ratio: time %.2f (goal: 1.0, and at 345pt flat within 1.5 times)" % (ours.seconds / theirs.seconds))
+                print("  ratio: time %.2f (goal: 1.0), to 100 places %.2f (goal: at 345pt within 1.5)" % (ours.seconds / theirs.seconds, ours.seconds / first))
 
     def c(self):
         script, _, _ = self.book(200)
