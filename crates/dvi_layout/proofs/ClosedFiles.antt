@@ -217,18 +217,19 @@ all_definitions fonts slots pages =
 -- The end of instructions that can be spelled, of post, of definitions, of post_post that names post's place, and of bytes 223.
 framed :
     (fonts : Slots) (is : List Instruction) (stop : Postamble) (tail : List Instruction) (place padding : ℕ) (pages : List Page) (parts : List Part)
-    → AllByRecursion (IsOfJob fonts) (definitions (is ++ tail)) → is ≡ Pre 2 stop.units [] ∷ flat_map instructions parts
+    → AllByRecursion (IsOfJob fonts) (definitions (is ++ tail)) → is ≡ Pre 2 stop.units [] ∷ flat_map instructions parts → stop.units ≡ scaled_points
     → AllByRecursion IsWritable is → NumbersFit (Post stop) → AllByRecursion IsWritable tail → place ≡ length (bytes_of is) → place < 2 ^ 31 → 4 ≤ padding → padding ≤ 7
     → IsGreatestOf (pos 0 ∷ map reach_down pages) stop.height_plus_depth → IsGreatestOf (pos 0 ∷ map reach_right pages) stop.width
     → IsGreatestOf (pos 0 ∷ map (λ part. pos (depth_of part)) parts) (pos stop.stack_depth)
     → length (bytes_of is ++ (bytes_of (Post stop ∷ (tail ++ PostPost (pos place) 2 ∷ [])) ++ replicate padding 223)) % 4 ≡ 0
     → IsClosedFor fonts (bytes_of is ++ (bytes_of (Post stop ∷ (tail ++ PostPost (pos place) 2 ∷ [])) ++ replicate padding 223)) pages
 unfolding frame_of
-framed fonts is stop tail place padding pages parts defined front_is fits stop_fits tail_fits at small least most tall wide deep fills =
+framed fonts is stop tail place padding pages parts defined front_is units fits stop_fits tail_fits at small least most tall wide deep fills =
     record {
       frame = frame_of is stop tail place padding fits stop_fits tail_fits at small least;
       parts = parts;
       front_is = says-wrote is ∙ front_is;
+      units = units;
       defined = rw (says-wrote is, says-wrote tail) defined;
       tall = tall;
       wide = wide;
@@ -268,6 +269,7 @@ ended_closes fonts pages definable all below =
     let first : NumberFits (negsuc 0) = record { sfits = omega arith } in
     let units : UnitsFit scaled_points = (record { sfits = lit< tt }, record { sfits = lit< tt }, record { sfits = lit< tt }) in
     framed fonts is stop tail s.size padding pages parts (all_definitions fonts (slots_behind fonts [] pages) pages) (ap (λ (is : List Instruction). preamble ∷ is) (instructions_from fonts [] at_first pages))
+    refl
     (((lit< tt, units), pages_writable fonts definable [] at_first pages all first below))
     (last_fits fonts [] at_first pages first below, units, tall_fits fonts pages all, wide_fits fonts pages all, omega (arith, few_pushes fonts [] at_first pages all (omega arith)), omega arith)
     (all_defined (table_of fonts) (closing_of fonts pages) (each_of (IsTabled (table_of fonts)) fonts (in_rising_order (slots_behind fonts [] pages)) (λ s l among has. tabled fonts definable s l has)))

@@ -3,6 +3,7 @@ use Rattle.std.specs.Prelude.{◌≡◌, ◌≤◌, ◌≤ℤ◌, ◌%◌, [], �
 use Rattle.std.specs.List.{AllByRecursion, Contains, flat_map}
 use Rattle.dvi_ops.specs.Instruction.{Definition, Pre}
 use Rattle.dvi_ops.specs.Fonts.{definitions}
+use Rattle.dvi_ops.specs.Layout.{scaled_points}
 use Rattle.dvi_ops.specs.Tokens.{says}
 use Rattle.dvi_ops.specs.File.{Part, instructions, depth_of, Frame}
 use Rattle.dvi_layout.specs.declared.fonts.LoadedFont.{LoadedFont}
@@ -29,6 +30,8 @@ pub record IsClosedFor (fonts : Slots) (bytes : List ℕ) (pages : List Page) : 
   pub frame : Frame bytes
   pub parts : List Part
   pub front_is : says frame.front ≡ Pre 2 frame.stop.units [] ∷ flat_map instructions parts
+  -- A DVI unit is a scaled point (TeX: The Program, part 32, §617).
+  pub units : frame.stop.units ≡ scaled_points
   -- Each definition, before post and after it, is that of one of these fonts.
   pub defined : AllByRecursion (IsOfJob fonts) (definitions (says frame.front ++ says frame.tail))
   -- post has the greatest reaches of the pages down and to the right, at least 0.

@@ -2,9 +2,9 @@
 //! page to page. The writer that sends them stands above it.
 #![tactic(auto)]
 
-pub mod defined;
+mod defined;
 pub mod fonts;
-pub mod layout;
+mod layout;
 pub mod progress;
 
 pub use fonts::{Fonts, LoadedFont};
