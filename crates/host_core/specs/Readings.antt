@@ -7,7 +7,7 @@ pub record IsReading (told : Option (List ℕ)) (bytes : List ℕ) : Type 0 wher
   pub all : IfSome told (λ known. bytes ≡ known)
   pub within : length bytes ≤ READ_LIMIT
 
--- nothing can be read: bytes that are told are too many; of what is not told, as of a file that is not there, nothing is asked
+-- nothing can be read: bytes that are told are too many; of what is not told nothing is asked
 abbrev pub IsUnreadable : Option (List ℕ) → Type 0
 IsUnreadable told = IfSome told (λ known. READ_LIMIT < length known)
 
