@@ -89,9 +89,9 @@ pub left_to_file : (text : List ℕ) (files : List NamedBytes) (start : ℕ) (be
     → IsUntouched start failures (told_by begun back) ⊎ WasRunWhole text files start failures (told_by begun back) → IsLeftToFile text files written created done
 left_to_file text files start begun failures back created done written fresh opened counted kept left =
     let at_start = subst
-        (λ (n : ℕ). IsUntouched n failures (told_by begun back) ⊎ WasRunWhole text files n failures (told_by begun back)) fresh left in
+    (λ (n : ℕ). IsUntouched n failures (told_by begun back) ⊎ WasRunWhole text files n failures (told_by begun back)) fresh left in
     let at_open = subst
-        (λ (is : Bool). IsUntouched 0 failures (told_by is back) ⊎ WasRunWhole text files 0 failures (told_by is back)) (sym opened) at_start in (
+    (λ (is : Bool). IsUntouched 0 failures (told_by is back) ⊎ WasRunWhole text files 0 failures (told_by is back)) (sym opened) at_start in (
       failures,
       subst (λ (bytes : Option (List ℕ)). IsUntouched 0 failures (told_by created bytes) ⊎ WasRunWhole text files 0 failures (told_by created bytes)) (sym kept) at_open,
       counted,

@@ -33,6 +33,6 @@ returns-in-Err-Memory-clause-left g c =
     let left = rw c.in-Err-Memory.field-0-is at c.in-Err-Memory.ensures.left in
     let lacks = rw (c.deref.ensures.value, c.deref-2.ensures.value) at left in
     λ _. left_to_file c.args.inputs.now.bytes.items c.args.inputs.now.files.items c.new-device.result.failures c.in-Err-Memory.device.is_open
-        c.in-Err-Memory.device.failures (g.H.Host.written c.in-Err-Memory.device.host) c.end_with-in-Err-Memory.result.created
-        c.end_with-in-Err-Memory.result.written (g.H.Host.written c.end_with-in-Err-Memory.result.host) c.new-device.ensures.fine
-        c.end_with-in-Err-Memory.ensures.created c.end_with-in-Err-Memory.ensures.written (cc) lacks.device
+    c.in-Err-Memory.device.failures (g.H.Host.written c.in-Err-Memory.device.host) c.end_with-in-Err-Memory.result.created
+    c.end_with-in-Err-Memory.result.written (g.H.Host.written c.end_with-in-Err-Memory.result.host) c.new-device.ensures.fine
+    c.end_with-in-Err-Memory.ensures.created c.end_with-in-Err-Memory.ensures.written (cc) lacks.device
