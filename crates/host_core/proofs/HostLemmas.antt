@@ -7,7 +7,7 @@ use Rattle.host_core.specs.declared.font_files.Unread.{Unread}
 use Rattle.host_core.specs.Hosts.{AreFilesOf, IsFileOf, IsUnread, IsUnreadOf, begun, told_by}
 
 -- one more font and its file
-pub files_push : (told : List ℕ → Option (List ℕ)) (fonts : List NamedPath) (files : List NamedBytes) (font : NamedPath) (file : NamedBytes)
+pub files_push : (told : List ℕ → Option (Option (List ℕ))) (fonts : List NamedPath) (files : List NamedBytes) (font : NamedPath) (file : NamedBytes)
     → AreFilesOf told fonts files → IsFileOf told font file
     → AreFilesOf told (fonts ++ font ∷ []) (files ++ file ∷ [])
 files_push told [] [] font file h one = (one, tt)
@@ -22,7 +22,7 @@ list_split (x ∷ xs) zero d lt = refl
 list_split (x ∷ xs) (suc i) d lt = ap (λ l. x ∷ l) (list_split xs i d (omega arith))
 
 -- the font at an index has no file, and those before it have
-pub first_unread : (told : List ℕ → Option (List ℕ)) (fonts : List NamedPath) (i : ℕ) (font : NamedPath) (files : List NamedBytes) (fault : Unread)
+pub first_unread : (told : List ℕ → Option (Option (List ℕ))) (fonts : List NamedPath) (i : ℕ) (font : NamedPath) (files : List NamedBytes) (fault : Unread)
     → i < length fonts → font ≡ get_or fonts i font → AreFilesOf told (take i fonts) files → IsUnreadOf told font fault → IsUnread told fonts fault
 first_unread told fonts i font files fault lt at read unread = record {
   before = take i fonts;

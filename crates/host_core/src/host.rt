@@ -22,11 +22,11 @@ pub enum HostFault {
 pub trait Host {
     ghost use Rattle.std.specs.Prelude.{◌≡◌, ◌≤◌, ◌<◌, ℕ, List, Option, Err, length, take, IfOk, IfSome, OnOk, OnErr};
     ghost use Rattle.device_core.specs.Told.{grown};
-    ghost use Rattle.host_core.specs.Readings.{IsReading, IsUnreadable};
+    ghost use Rattle.host_core.specs.Readings.{IsFileReading, IsReading, IsUnreadable, IsUnreadableFile};
     ghost use Rattle.host_core.specs.Hosts.{begun};
 
-    /// The bytes of the file at a path, where they are told.
-    ghost file: { Self → List ℕ → Option (List ℕ) };
+    /// The file at a path, where it is told: that there is none, or its bytes.
+    ghost file: { Self → List ℕ → Option (Option (List ℕ)) };
 
     /// The bytes of standard input, where they are told.
     ghost input: { Self → Option (List ℕ) };
@@ -36,8 +36,8 @@ pub trait Host {
 
     /// All bytes of the file at a path.
     fn read_file(&self, alloc: Global, path: &str) -> Result<Vec<u8>, HostFault>
-        ensures ok { IfOk result (λ read. IsReading (file self.now path.now) read.items) }
-        ensures failed { result ≡ Err HostFault.Failed → IsUnreadable (file self.now path.now) };
+        ensures ok { IfOk result (λ read. IsFileReading (file self.now path.now) read.items) }
+        ensures failed { result ≡ Err HostFault.Failed → IsUnreadableFile (file self.now path.now) };
 
     /// All bytes of standard input.
     fn read_input(&self, alloc: Global) -> Result<Vec<u8>, HostFault>

@@ -1,6 +1,6 @@
 //! A host in memory.
 
-ghost use Rattle.std.specs.Prelude.{◌≡◌, ◌≤◌, ◌<◌, [], false, length, option_map, Err, IfOk};
+ghost use Rattle.std.specs.Prelude.{◌≡◌, ◌≤◌, ◌<◌, [], false, true, length, option_map, Err, IfOk, OnOk, OnErr};
 ghost use Rattle.std.specs.Str.{bytes_eq};
 ghost use Rattle.host_core.specs.HostInMemory.{held_at};
 ghost use Rattle.host_core.specs.declared.host.TheConstants.{READ_LIMIT};
@@ -50,6 +50,7 @@ impl HeldFile {
 /// A host whose files and standard input are in memory, and which keeps what is written. A file that is not there cannot be read.
 #[derive(Debug, Drop)]
 pub struct MemoryHost {
+    alloc: Global,
     files: Vec<HeldFile>,
     input: Vec<u8>,
     is_created: bool,
@@ -71,6 +72,7 @@ impl MemoryHost {
         ensures { result ≡ record { files = files.items; input = input.items; is_created = false; created = []; written = [] } }
     {
         MemoryHost {
+            alloc,
             files,
             input,
             is_created: false,
@@ -99,6 +101,19 @@ impl MemoryHost {
     {
         &self.written
     }
+
+    /// Keeps the path of a file that is created, or leaves all as it was.
+    fn keep_path(&mut self, path: &[u8]) -> Result<(), HostFault>
+        ensures ok { OnOk result (self.new ≡ record self.old { is_created = true; created = path.now }) }
+        ensures err { OnErr result (self.new ≡ self.old) }
+    {
+        let Ok(created) = Vec::from_slice(self.alloc, path) else {
+            return Err(HostFault::OutOfMemory);
+        };
+        self.is_created = true;
+        self.created = created;
+        Ok(())
+    }
 }
 
 /// What is read of bytes in memory: all of them, where they are not too many.
@@ -126,7 +141,7 @@ impl Host for MemoryHost {
     ghost use Rattle.std.specs.Prelude.{Some};
     ghost use Rattle.host_core.specs.HostInMemory.{held_at};
 
-    ghost file = { λ host path. held_at host.files path };
+    ghost file = { λ host path. Some (held_at host.files path) };
 
     ghost input = { λ host. Some host.input };
 
@@ -144,15 +159,9 @@ impl Host for MemoryHost {
     }
 
     fn create(&mut self, path: &str) -> Result<(), HostFault> {
-        self.created.clear();
-        match self.created.extend_from_slice(path.as_bytes()) {
-            Ok(()) => {
-                self.is_created = true;
-                self.written.clear();
-                Ok(())
-            }
-            Err(_) => Err(HostFault::OutOfMemory),
-        }
+        self.keep_path(path.as_bytes())?;
+        self.written.clear();
+        Ok(())
     }
 
     fn write(&mut self, piece: &[u8]) -> Result<usize, HostFault> {

@@ -1,5 +1,5 @@
 -- Texts that go out one behind another, and what is said behind a task.
-use Rattle.std.proofs.Common.{◌≡◌, ◌⊎◌, ap, false, ◌++◌, ◌+◌, ℕ, Bool, List, length, take, Option, Some, None, Result, Ok, Err, OnOk, OnErr, inl, inr, refl, sym, ◌∙◌, subst, arith}
+use Rattle.std.proofs.Common.{◌≡◌, ◌⊎◌, ap, false, true, ◌++◌, ◌+◌, ℕ, Bool, List, length, take, Option, Some, None, Result, Ok, Err, OnOk, OnErr, inl, inr, refl, sym, ◌∙◌, subst, arith}
 use Rattle.std.proofs.Math.Seq.{take-append-add}
 use Rattle.std.proofs.lemmas.List.{take-append-le, length-append}
 use Rattle.std.specs.Borrow.{Bor}
@@ -13,8 +13,8 @@ use Rattle.word_core.specs.declared.fonts.NamedPath.{NamedPath}
 use Rattle.task_core.specs.Inputs.{IsUnreadScript}
 use Rattle.task_core.specs.Programs.{end_of}
 use Rattle.host_core.specs.Readings.{IsReading}
-use Rattle.task_core.specs.Typesets.{HasTypeset, IsToFile, IsTypeset, TellsUnwritten}
-use Rattle.program_core.specs.Runs.{RanScript, RefusedScript, WritesFront, memory_line}
+use Rattle.task_core.specs.Typesets.{HasTypeset, IsLeftAlone, IsLeftToFile, IsToFile, IsTypeset, TellsUnwritten}
+use Rattle.program_core.specs.Runs.{IsUntouched, RanScript, RefusedScript, WasRunWhole, WritesFront, memory_line}
 use Rattle.program_core.proofs.WritingLemmas.{appends_both, appends_keeps, keeps_appends, keeps_front}
 use Rattle.task_core.specs.Ends.{EndsOutput, EndsTask, HasEnded, Takes, TellsErrors, TellsOutput, status_of}
 use Rattle.task_core.specs.declared.task_end.TaskEnd.{TaskEnd}
@@ -70,15 +70,32 @@ output_then A U L (Unreadable path) old mid new ended told = (ended.0, keeps_twi
 output_then A U L NoSuchPage old mid new ended told = (ended.0, keeps_twice old mid new ended.1 told)
 
 -- what a device that writes a file tells, in the words of a script that was typeset
-pub answered_to_file : (text : List ℕ) (files : List NamedBytes) (start : ℕ) (begun : Bool) (failures : ℕ) (back : Option (List ℕ)) (Same : Type 0) (answer : List ℕ) (fine created done : Bool) (written : Option (List ℕ))
-    → start ≡ 0 → created ≡ begun → done ≡ (failures == 0) → written ≡ back → (Same → begun ≡ false) → (Same → failures ≡ 0)
-    → RanScript text files start failures (told_by begun back) answer fine ⊎ (RefusedScript text answer fine × Same) → IsToFile text files written created done answer fine
-answered_to_file text files start begun failures back Same answer fine created done written fresh opened counted kept closed none (inl ran) =
+pub answered_to_file : (text : List ℕ) (files : List NamedBytes) (start : ℕ) (begun : Bool) (failures : ℕ) (back : Option (List ℕ)) (Same Kept : Type 0) (answer : List ℕ) (fine created done : Bool) (written : Option (List ℕ))
+    → start ≡ 0 → created ≡ begun → done ≡ (failures == 0) → written ≡ back → (Same → begun ≡ false) → (Same → failures ≡ 0) → (Same → Kept)
+    → RanScript text files start failures (told_by begun back) answer fine ⊎ (RefusedScript text answer fine × Same) → IsToFile text files written Kept created done answer fine
+answered_to_file text files start begun failures back Same Kept answer fine created done written fresh opened counted kept closed none same (inl ran) =
     let at_start = subst (λ (n : ℕ). RanScript text files n failures (told_by begun back) answer fine) fresh ran in
     let at_open = subst (λ (is : Bool). RanScript text files 0 failures (told_by is back) answer fine) (sym opened) at_start in
     inl (failures, subst (λ (bytes : Option (List ℕ)). RanScript text files 0 failures (told_by created bytes) answer fine) (sym kept) at_open, counted)
-answered_to_file text files start begun failures back Same answer fine created done written fresh opened counted kept closed none (inr refused) =
-    inr (refused.0, opened ∙ closed refused.1, counted ∙ ap (λ (n : ℕ). n == 0) (none refused.1))
+answered_to_file text files start begun failures back Same Kept answer fine created done written fresh opened counted kept closed none same (inr refused) =
+    inr (
+      refused.0,
+      record { same = same refused.1; closed = opened ∙ closed refused.1; silent = counted ∙ ap (λ (n : ℕ). n == 0) (none refused.1) },
+    )
+
+-- what such a device tells where memory was refused
+pub left_to_file : (text : List ℕ) (files : List NamedBytes) (start : ℕ) (begun : Bool) (failures : ℕ) (back : Option (List ℕ)) (created done : Bool) (written : Option (List ℕ))
+    → start ≡ 0 → created ≡ begun → done ≡ (failures == 0) → written ≡ back
+    → IsUntouched start failures (told_by begun back) ⊎ WasRunWhole text files start failures (told_by begun back) → IsLeftToFile text files written created done
+left_to_file text files start begun failures back created done written fresh opened counted kept left =
+    let at_start = subst
+    (λ (n : ℕ). IsUntouched n failures (told_by begun back) ⊎ WasRunWhole text files n failures (told_by begun back)) fresh left in
+    let at_open = subst
+    (λ (is : Bool). IsUntouched 0 failures (told_by is back) ⊎ WasRunWhole text files 0 failures (told_by is back)) (sym opened) at_start in (
+      failures,
+      subst (λ (bytes : Option (List ℕ)). IsUntouched 0 failures (told_by created bytes) ⊎ WasRunWhole text files 0 failures (told_by created bytes)) (sym kept) at_open,
+      counted,
+    )
 
 -- a task has ended, and its end was told
 pub has_ended : (IsAnswer : List ℕ → Bool → Type 0) (IsUnread : Bor (List ℕ) → Type 0) (LacksPage : Type 0) (end : TaskEnd) (old mid new errors errors' : Option (List ℕ)) (status : ℕ)
@@ -101,10 +118,11 @@ ends_weaker A B U V L (Unreadable path) old new f u h = (u path h.0, h.1)
 ends_weaker A B U V L NoSuchPage old new f u h = h
 
 -- files that were not read, as it is told
-pub unread_output : (A : List ℕ → Bool → Type 0) (told : List ℕ → Option (List ℕ)) (input : Option (List ℕ)) (fonts : List NamedPath) (fault : Unread) (old new : Option (List ℕ))
-    → IsUnreadScript told input fonts fault → TellsOutput (end_of fault) old new → EndsOutput A (λ path. IsUnreadScript told input fonts (File path)) ⊥ (end_of fault) old new
-unread_output A told input fonts WantsMemory old new unread said = said
-unread_output A told input fonts (File path) old new unread said = (unread, said)
+pub unread_output : (A : List ℕ → Bool → Type 0) (told : List ℕ → Option (Option (List ℕ))) (input : Option (List ℕ)) (fonts : List NamedPath) (fault : Unread) (Alone : Type 0) (old new : Option (List ℕ))
+    → Alone → IsUnreadScript told input fonts fault → TellsOutput (end_of fault) old new
+    → EndsOutput A (λ path. IsUnreadScript told input fonts (File path) × Alone) ⊥ (end_of fault) old new
+unread_output A told input fonts WantsMemory Alone old new alone unread said = said
+unread_output A told input fonts (File path) Alone old new alone unread said = ((unread, alone), said)
 
 -- known bytes stay where nothing happens
 pub keeps_same : (known : Option (List ℕ)) → Keeps known known
@@ -112,23 +130,43 @@ keeps_same None = tt
 keeps_same (Some bytes) = refl
 
 -- a script was typeset, and its end was told
-pub typeset_ended : (told : List ℕ → Option (List ℕ)) (input : Option (List ℕ)) (fonts : List NamedPath) (out : List ℕ) (written : Option (List ℕ)) (created done : Bool)
+pub typeset_ended : (told : List ℕ → Option (Option (List ℕ))) (input : Option (List ℕ)) (fonts : List NamedPath) (out : List ℕ) (written : Option (List ℕ)) (Same : Type 0) (created done : Bool)
     (text : List ℕ) (files : List NamedBytes) (end : TaskEnd) (old mid new errors between errors' : Option (List ℕ)) (status : ℕ)
-    → IsReading input text → AreFilesOf told fonts files → EndsTask (IsToFile text files written created done) (λ path. ⊥) ⊥ end old mid
-    → TellsUnwritten done out errors between → TellsOutput end mid new → TellsErrors end between errors' → status ≡ status_of end
-    → HasTypeset told input fonts out written old new errors errors' status
-typeset_ended told input fonts out written created done text files end old mid new errors between errors' status read filed ended unwritten said told_end is =
-    let A : List ℕ → Bool → Type 0 = IsTypeset told input fonts written created done in
-    let U : Bor (List ℕ) → Type 0 = λ path. IsUnreadScript told input fonts (File path) in
+    → IsReading input text → AreFilesOf told fonts files → EndsTask (IsToFile text files written Same created done) (λ path. ⊥) ⊥ end old mid
+    → (end ≡ OutOfMemory → IsLeftToFile text files written created done) → TellsUnwritten done out errors between → TellsOutput end mid new → TellsErrors end between errors' → status ≡ status_of end
+    → HasTypeset told input fonts out written Same old new errors errors' status
+typeset_ended told input fonts out written Same created done text files end old mid new errors between errors' status read filed ended left unwritten said told_end is =
+    let A : List ℕ → Bool → Type 0 = IsTypeset told input fonts written Same created done in
+    let U : Bor (List ℕ) → Type 0 = λ path. IsUnreadScript told input fonts (File path) × IsLeftAlone Same created done in
     record {
       end = end;
       created = created;
       done = done;
       printed = output_then A U ⊥ end old mid new
-          (ends_weaker (IsToFile text files written created done) A (λ path. ⊥) U ⊥ end old mid
+          (ends_weaker (IsToFile text files written Same created done) A (λ path. ⊥) U ⊥ end old mid
           (λ answer fine to. (text, files, read, filed, to)) (λ path none. absurd none) ended) said;
+      wanting = λ wants. inr (text, files, read, filed, left wants);
       middle = between;
       unwritten = unwritten;
+      told_is = told_end;
+      status_is = is;
+    }
+
+-- what is to be typeset was not read, and that was told
+pub not_typeset : (told : List ℕ → Option (Option (List ℕ))) (input : Option (List ℕ)) (fonts : List NamedPath) (out : List ℕ) (written : Option (List ℕ)) (Same : Type 0)
+    (fault : Unread) (old new errors errors' : Option (List ℕ)) (status : ℕ)
+    → Same → IsUnreadScript told input fonts fault → TellsOutput (end_of fault) old new → TellsErrors (end_of fault) errors errors' → status ≡ status_of (end_of fault)
+    → HasTypeset told input fonts out written Same old new errors errors' status
+not_typeset told input fonts out written Same fault old new errors errors' status same unread said told_end is =
+    let alone : IsLeftAlone Same false true = record { same = same; closed = refl; silent = refl } in
+    record {
+      end = end_of fault;
+      created = false;
+      done = true;
+      printed = unread_output (IsTypeset told input fonts written Same false true) told input fonts fault (IsLeftAlone Same false true) old new alone unread said;
+      wanting = λ _. inl alone;
+      middle = errors;
+      unwritten = keeps_same errors;
       told_is = told_end;
       status_is = is;
     }

@@ -2,7 +2,7 @@
 
 ghost use Rattle.std.specs.Prelude.{◌≡◌, IfErr, IfOk};
 ghost use Rattle.host_core.specs.Hosts.{AreFilesOf};
-ghost use Rattle.host_core.specs.Readings.{IsReading};
+ghost use Rattle.host_core.specs.Readings.{IsFileReading, IsReading};
 ghost use Rattle.task_core.specs.Inputs.{IsUnreadDvi, IsUnreadScript};
 
 use host_core::{Host, HostFault, Unread, read_fonts};
@@ -45,7 +45,7 @@ pub fn read_dvi_inputs<'a, H: Host>(
     dvi: &'a str,
     fonts: &[NamedPath<'a>],
 ) -> Result<Inputs, Unread<'a>>
-    ensures dvi { IfOk result (λ read. IsReading (H.file host.now dvi.entry.now) read.bytes.items) }
+    ensures dvi { IfOk result (λ read. IsFileReading (H.file host.now dvi.entry.now) read.bytes.items) }
     ensures files { IfOk result (λ read. AreFilesOf (H.file host.now) fonts.now read.files.items) }
     ensures err { IfErr result (IsUnreadDvi (H.file host.now) dvi.entry.now fonts.now) }
 {

@@ -1,6 +1,6 @@
 //! The program: its words are read, and what they ask for is done.
 
-ghost use Rattle.std.specs.Prelude.{map, string_bytes};
+ghost use Rattle.std.specs.Prelude.{◌≡◌, map, string_bytes};
 ghost use Rattle.task_core.specs.Programs.{HasDone, HasRanges, HasRun, RefusesWords};
 
 use crate::tasks::{list, paint, run_input, typeset};
@@ -35,7 +35,7 @@ fn do_task<H: Host, W: Write, E: Write>(
     errors: &mut E,
 ) -> (u8, H)
     requires { HasRanges task }
-    ensures { HasDone (H.file host) (H.input host) (H.written result.1) task.entry (W.contents output.old) (W.contents output.new)
+    ensures { HasDone (H.file host) (H.input host) (H.written result.1) (result.1 ≡ host) task.entry (W.contents output.old) (W.contents output.new)
         (E.contents errors.old) (E.contents errors.new) result.0 }
 {
     match task {
@@ -55,7 +55,8 @@ fn do_task<H: Host, W: Write, E: Write>(
     }
 }
 
-/// Reads words and does what they ask for, with the files and the standard input of a host, which comes back. What is printed goes to the output, what
+/// Reads words and does what they ask for, with the files and the standard input of a host, which comes back: as it was, but for the
+/// file that `typeset` writes. What is printed goes to the output, what
 /// else there is to say to the errors. The status is 0 where all was accepted and written, 2 where the words are refused or a page is asked for that is
 /// not there, and else 1.
 pub fn program<H: Host, W: Write, E: Write>(
@@ -65,8 +66,8 @@ pub fn program<H: Host, W: Write, E: Write>(
     output: &mut W,
     errors: &mut E,
 ) -> (u8, H)
-    ensures { HasRun (map string_bytes words.now) (H.file host) (H.input host) (H.written result.1) (W.contents output.old) (W.contents output.new)
-        (E.contents errors.old) (E.contents errors.new) result.0 }
+    ensures { HasRun (map string_bytes words.now) (H.file host) (H.input host) (H.written result.1) (result.1 ≡ host) (W.contents output.old)
+        (W.contents output.new) (E.contents errors.old) (E.contents errors.new) result.0 }
 {
     match read_words(alloc, words) {
         Ok(task) => do_task(alloc, task, host, output, errors),

@@ -2,7 +2,7 @@
 
 ghost use Rattle.std.specs.Prelude.{◌≡◌, ◌==◌};
 ghost use Rattle.task_core.specs.Ends.{EndsTask};
-ghost use Rattle.task_core.specs.Typesets.{IsToFile};
+ghost use Rattle.task_core.specs.Typesets.{IsLeftToFile, IsToFile};
 
 use crate::inputs::Inputs;
 use crate::task_end::TaskEnd;
@@ -30,8 +30,10 @@ pub fn typeset_file<'a, H: Host, W: Write>(
     inputs: &Inputs,
     writer: &mut W,
 ) -> TypesetEnd<'a, H>
-    ensures { EndsTask (IsToFile inputs.now.bytes.items inputs.now.files.items (H.written result.host) result.created result.written) (λ path. ⊥) ⊥
-        result.end (W.contents writer.old) (W.contents writer.new) }
+    ensures ends { EndsTask (IsToFile inputs.now.bytes.items inputs.now.files.items (H.written result.host) (result.host ≡ host) result.created result.written)
+        (λ path. ⊥) ⊥ result.end (W.contents writer.old) (W.contents writer.new) }
+    ensures left { result.end ≡ TaskEnd.OutOfMemory
+        → IsLeftToFile inputs.now.bytes.items inputs.now.files.items (H.written result.host) result.created result.written }
 {
     let device = FileDevice::new(host, out);
     match run_script(alloc, &inputs.bytes, &inputs.files, device, writer) {

@@ -1,29 +1,38 @@
 -- What the device tells that came back.
 use Rattle.std.proofs.Common.{◌≡◌}
-use Rattle.task_core.proofs.EndLemmas.{answered_to_file}
+use Rattle.task_core.proofs.EndLemmas.{answered_to_file, left_to_file}
 use Rattle.task_core.proofs.typesetting.typeset_file.Goals as goal
 
-pub returns-in-Ok : goal.returns-in-Ok
-returns-in-Ok g c =
+pub returns-in-Ok-clause-ends : goal.returns-in-Ok-clause-ends
+returns-in-Ok-clause-ends g c =
     let done = rw (c.deref.ensures.value, c.deref-2.ensures.value) at c.in-Ok.ensures.answers in
     rw c.end_with.ensures.end (
       done.0,
       answered_to_file c.args.inputs.now.bytes.items c.args.inputs.now.files.items c.new-device.result.failures c.in-Ok.device.is_open c.in-Ok.device.failures
-          (g.H.Host.written c.in-Ok.device.host) (c.in-Ok.device ≡ c.new-device.result) done.0 c.in-Ok.accepted c.end_with.result.created c.end_with.result.written
-          (g.H.Host.written c.end_with.result.host) c.new-device.ensures.fine c.end_with.ensures.created c.end_with.ensures.written (cc) (λ same. cc) (λ same. cc) done.1,
+          (g.H.Host.written c.in-Ok.device.host) (c.in-Ok.device ≡ c.new-device.result) (c.end_with.result.host ≡ c.args.host) done.0 c.in-Ok.accepted c.end_with.result.created c.end_with.result.written
+          (g.H.Host.written c.end_with.result.host) c.new-device.ensures.fine c.end_with.ensures.created c.end_with.ensures.written (cc) (λ same. cc) (λ same. cc) (λ same. cc) done.1,
       done.2,
     )
 
-pub returns-in-Err-Answers : goal.returns-in-Err-Answers
-returns-in-Err-Answers g c =
+pub returns-in-Err-Answers-clause-ends : goal.returns-in-Err-Answers-clause-ends
+returns-in-Err-Answers-clause-ends g c =
     let left = rw c.in-Err-Answers.field-0-is at c.in-Err-Answers.ensures.left in
     let done = rw (c.deref.ensures.value, c.deref-2.ensures.value) at left in
     rw c.end_with-in-Err-Answers.ensures.end (
       done.0,
       done.1,
       answered_to_file c.args.inputs.now.bytes.items c.args.inputs.now.files.items c.new-device.result.failures c.in-Err-Answers.device.is_open
-          c.in-Err-Answers.device.failures (g.H.Host.written c.in-Err-Answers.device.host) (c.in-Err-Answers.device ≡ c.new-device.result) done.0 done.1
+          c.in-Err-Answers.device.failures (g.H.Host.written c.in-Err-Answers.device.host) (c.in-Err-Answers.device ≡ c.new-device.result) (c.end_with-in-Err-Answers.result.host ≡ c.args.host) done.0 done.1
           c.end_with-in-Err-Answers.result.created c.end_with-in-Err-Answers.result.written (g.H.Host.written c.end_with-in-Err-Answers.result.host)
-          c.new-device.ensures.fine c.end_with-in-Err-Answers.ensures.created c.end_with-in-Err-Answers.ensures.written (cc) (λ same. cc) (λ same. cc) done.2,
+          c.new-device.ensures.fine c.end_with-in-Err-Answers.ensures.created c.end_with-in-Err-Answers.ensures.written (cc) (λ same. cc) (λ same. cc) (λ same. cc) done.2,
       done.3,
     )
+
+pub returns-in-Err-Memory-clause-left : goal.returns-in-Err-Memory-clause-left
+returns-in-Err-Memory-clause-left g c =
+    let left = rw c.in-Err-Memory.field-0-is at c.in-Err-Memory.ensures.left in
+    let lacks = rw (c.deref.ensures.value, c.deref-2.ensures.value) at left in
+    λ _. left_to_file c.args.inputs.now.bytes.items c.args.inputs.now.files.items c.new-device.result.failures c.in-Err-Memory.device.is_open
+    c.in-Err-Memory.device.failures (g.H.Host.written c.in-Err-Memory.device.host) c.end_with-in-Err-Memory.result.created
+    c.end_with-in-Err-Memory.result.written (g.H.Host.written c.end_with-in-Err-Memory.result.host) c.new-device.ensures.fine
+    c.end_with-in-Err-Memory.ensures.created c.end_with-in-Err-Memory.ensures.written (cc) lacks.device
