@@ -1,6 +1,6 @@
 //! One instruction, where the pass stands (DVItype, 15).
 
-ghost use Rattle.std.specs.Prelude.{List, Option, map, ℕ};
+ghost use Rattle.std.specs.Prelude.{◌≡◌, List, OnErr, Option, map, ℕ};
 ghost use Rattle.dvi_ops.specs.Body.{Acts, acts};
 ghost use Rattle.dvi_ops.specs.File.{MarkedPage};
 ghost use Rattle.dvi_ops.specs.Instruction.{Eop, Pop, Push};
@@ -109,7 +109,8 @@ fn drawn(mut page: OpenPage, op: &Op<'_>, width: Option<i32>) -> Result<OpenPage
 
 /// The end of a page, which goes to the others.
 fn ended(page: OpenPage, done: &mut Vec<Page>) -> Result<Stand, PassFault>
-    ensures { (does : Acts) (most : ℕ) → Turns does most Eop (inside_of (map page_of done.old.items) page) (map page_of done.new.items) result }
+    ensures turns { (does : Acts) (most : ℕ) → Turns does most Eop (inside_of (map page_of done.old.items) page) (map page_of done.new.items) result }
+    ensures err { OnErr result (done.new.items ≡ done.old.items) }
 {
     if !page.stack.is_empty() {
         return Err(PassFault::Broken(DviCause::Stack));
@@ -149,7 +150,8 @@ fn within(
     op: &Op<'_>,
     width: Option<i32>,
 ) -> Result<Stand, PassFault>
-    ensures { Turns (acts (always width)) most (view op.now) (inside_of (map page_of done.old.items) page) (map page_of done.new.items) result }
+    ensures turns { Turns (acts (always width)) most (view op.now) (inside_of (map page_of done.old.items) page) (map page_of done.new.items) result }
+    ensures err { OnErr result (done.new.items ≡ done.old.items) }
 {
     match *op {
         Op::Eop => ended(page, done),
@@ -175,7 +177,9 @@ pub fn turn(
     width: Option<i32>,
 ) -> Result<Stand, PassFault>
     // The pass goes on as it is defined; or the rule that a fault names is broken.
-    ensures { Turns (acts (always width)) most (view op.now) (pass_at (map page_of done.old.items) stand) (map page_of done.new.items) result }
+    ensures turns { Turns (acts (always width)) most (view op.now) (pass_at (map page_of done.old.items) stand) (map page_of done.new.items) result }
+    // A refusal leaves the pages as they were.
+    ensures err { OnErr result (done.new.items ≡ done.old.items) }
 {
     match stand {
         Stand::Between => begun(alloc, op),
