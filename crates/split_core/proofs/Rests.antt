@@ -1,6 +1,6 @@
 -- The parts of a list that is split, and why it is not.
 use Rattle.std.proofs.Common.{◌≡◌, ◌∙◌, ℕ, ◌+◌, ◌<◌, ◌≤◌, ◌&&◌, List, [], ◌∷◌, length, take, drop, get_or, Bool, true, false, refl, ap, sym, subst, arith}
-use Rattle.std.specs.Prelude.{ℤ, pos, Option, Some, None, IsTrue, if◌then◌else◌}
+use Rattle.std.specs.Prelude.{ℤ, pos, Option, Some, None, is_some, IsTrue, if◌then◌else◌}
 use Rattle.std.specs.List.{list_all, list_any, slice_get}
 use Rattle.std.specs.Option.{IfSome}
 use Rattle.std.proofs.lemmas.List.{drop_more, get_or_default, length-drop}
@@ -100,3 +100,10 @@ pub rest-planned :
     → packed_rest (top_items top items) ≡ rest_of params goal items
 unfolding rest_of
 rest-planned params goal items top is = ap packed_rest is
+
+-- Where the plan has a rest the split has one.
+pub rest-left :
+    (params : SplitParams) (goal : ℤ) (items : List Node) (top : Option Top) → top_items top items ≡ topped params (rest_items params goal items)
+    → is_some top ≡ true → is_some (rest_of params goal items) ≡ true
+rest-left params goal items None is some = absurd (cc)
+rest-left params goal items (Some top) is some = sym (ap is_some (rest-planned params goal items (Some top) is))

@@ -1,6 +1,6 @@
 //! A vertical list is split (TeX: The Program, part 44, §977 to §979, vsplit).
 
-ghost use Rattle.std.specs.Prelude.{◌≡◌, ◌≤◌, ◌<◌, ◌-◌, ◌∷◌, Some, None, IfOk, IfErr, OnOk, OnErr, IsTrue, length, drop, take};
+ghost use Rattle.std.specs.Prelude.{◌≡◌, ◌≤◌, ◌<◌, ◌-◌, ◌∷◌, Some, None, IfOk, IfErr, OnOk, OnErr, IsTrue, true, is_some, length, drop, take};
 ghost use Rattle.std.specs.List.{list_all};
 ghost use Rattle.scaled_core.specs.Dimensions.{fits};
 ghost use Rattle.node_core.specs.Nodes.{most_nodes, nodes_of};
@@ -65,7 +65,7 @@ fn pack_front(mut nodes: Vec<Node>, place: usize, height: Dimen, params: &SplitP
     packed(nodes, Target::To(height), params.split_max_depth)
 }
 
-/// Splits nodes as it was planned. Where a growth is refused they come back.
+/// Splits nodes as it was planned. Where a growth is refused they come back; nothing grows where nothing is left.
 fn carry_out(
     mut nodes: Vec<Node>,
     plan: &Plan,
@@ -76,6 +76,7 @@ fn carry_out(
     requires sound { IsSound params.now height nodes.items plan.now }
     ensures front { IfOk result (λ s. s.front ≡ packed_as (Target.To height) params.now.split_max_depth (take plan.now.place nodes.items)) }
     ensures rest { IfOk result (λ s. s.rest ≡ packed_rest (top_items plan.now.top nodes.items)) }
+    ensures growth { OnErr result (is_some plan.now.top ≡ true) }
     ensures back { IfErr result (λ back. back.items ≡ nodes.items) }
 {
     let Some(top) = plan.top else {
@@ -101,6 +102,8 @@ pub fn split_list(list: NodeList, height: Dimen, params: &SplitParams) -> Result
     // Nothing speaks against the split, and else this is the fault, even where memory would be refused too.
     ensures ok { OnOk result (refusal params.now height (nodes_of list) ≡ None) }
     ensures fault { IfErr result (λ e. e.fault ≡ fault_of (refusal params.now height (nodes_of list))) }
+    // Memory is wanted only where something is left.
+    ensures growth { OnErr result (refusal params.now height (nodes_of list) ≡ None → is_some (rest_of params.now height (nodes_of list)) ≡ true) }
     ensures back { IfErr result (λ e. e.list ≡ list) }
 {
     match plan_split(list.as_slice(), height, params) {

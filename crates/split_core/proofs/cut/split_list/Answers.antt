@@ -5,7 +5,7 @@ use Rattle.node_core.proofs.NodeLemmas.{items_of-nodes_of}
 use Rattle.pack_core.specs.declared.pack.Target.TheVariants.{To}
 use Rattle.split_core.specs.Split.{packed_as, packed_rest}
 use Rattle.split_core.specs.Steps.{top_items}
-use Rattle.split_core.proofs.Rests.{front-planned, rest-planned}
+use Rattle.split_core.proofs.Rests.{front-planned, rest-planned, rest-left}
 use Rattle.split_core.proofs.cut.split_list.Goals as goal
 
 pub returns-in-Ok-carry_out-clause-front : goal.returns-in-Ok-carry_out-clause-front
@@ -23,3 +23,7 @@ returns-in-Ok-carry_out-clause-rest c =
 pub returns-in-Err-carry_out-clause-back : goal.returns-in-Err-carry_out-clause-back
 returns-in-Err-carry_out-clause-back c =
     c.from_vec.ensures.items ∙ ap items_of (c.in-Err-carry_out.ensures.back ∙ c.into_vec.ensures) ∙ items_of-nodes_of c.args.list
+
+pub returns-in-Err-carry_out-clause-growth : goal.returns-in-Err-carry_out-clause-growth
+returns-in-Err-carry_out-clause-growth c =
+    λ none. rest-left c.args.params.now c.args.height (nodes_of c.args.list) c.in-Ok.plan.top (rw c.as_slice.ensures.nodes at c.in-Ok.ensures.rest) c.in-Err-carry_out.ensures.growth
