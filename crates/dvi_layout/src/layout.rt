@@ -1,6 +1,6 @@
 //! The instructions and the bytes of pages, of font definitions, and of the end of a file (DVItype, 13 to 20).
 
-ghost use Rattle.std.specs.Prelude.{◌≡◌, ◌<◌, ◌+◌, ◌^◌, ◌++◌, [], ◌∷◌, length, map, replicate, OnOk, OnErr, IfOk};
+ghost use Rattle.std.specs.Prelude.{◌≡◌, ◌<◌, ◌+◌, ◌^◌, ◌++◌, [], ◌∷◌, ℕ, length, map, replicate, take, OnOk, OnErr, IfOk};
 ghost use Rattle.dvi_ops.specs.Instruction.{Bop, Do, Eop, FontDef};
 ghost use Rattle.dvi_ops.specs.declared.op.Op.TheVariants as ops;
 ghost use Rattle.dvi_ops.specs.declared.opcodes.TheConstants.{PADDING};
@@ -149,6 +149,7 @@ pub fn append_definitions<'a>(
     requires { AllByRecursion HasSpelling (map view ops.old.items) }
     ensures ok { OnOk result (map view ops.new.items ≡ map view ops.old.items ++ define (definitions_of fonts.now slots.now)) }
     ensures few { OnOk result (AllByRecursion HasSpelling (map view ops.new.items)) }
+    ensures err { OnErr result ((n : ℕ) × (map view ops.new.items ≡ map view ops.old.items ++ define (definitions_of fonts.now (take n slots.now)))) }
 {
     for slot in slots {
         if let Some(loaded) = fonts.get(*slot) {
