@@ -71,7 +71,7 @@ fn try_lines<M: Meter>(
 {
     let at = meter.place(place);
     let mut row = empty_row(alloc, 0)?;
-    let mut next = Vec::new(alloc);
+    let mut next = Vec::with_capacity(alloc, live.len().saturating_add(1))?;
     for group in live {
         let sums = meter.try_line(group.place, place);
         let line = judge(&sums, params.hsize);

@@ -54,3 +54,9 @@ pub get_at : {A : Type 0} (xs : List A) (k : ℕ) → k < length xs → (x : A) 
 get_at [] k within = absurd (omega arith)
 get_at (x ∷ xs) zero within = (x, refl)
 get_at (x ∷ xs) (suc k) within = get_at xs k (omega arith)
+
+-- What stands there, put there, changes nothing.
+pub set-get_same : {A : Type 0} (xs : List A) (i : ℕ) (y : A) → slice_get xs i ≡ Some y → set xs i y ≡ xs
+set-get_same [] i y is = absurd (cc)
+set-get_same (x ∷ xs) zero y is = ap (λ z. z ∷ xs) (sym (same_Some x y is))
+set-get_same (x ∷ xs) (suc i) y is = ap (λ l. x ∷ l) (set-get_same xs i y is)

@@ -11,7 +11,7 @@ use Rattle.break_table.specs.Tables.{Entry, short, slot, slots, offer, IsOffered
 use Rattle.break_table.specs.Live.{IsSilent}
 use Rattle.break_table.proofs.Dictionary.{state_same, rank_few, rank_apart, not_after_trans}
 use Rattle.break_table.proofs.Reached.{extended_is}
-use Rattle.break_table.proofs.Entries.{get-set_same, get-set_other, get-replicate}
+use Rattle.break_table.proofs.Entries.{get-set_same, get-set_other, get-replicate, set-get_same}
 
 -- States of one place with one slot are the same.
 pub slot_apart : (s t : State) → s.place ≡ t.place → slot s ≡ slot t → s ≡ t
@@ -179,3 +179,12 @@ pub held_in_more :
 held_in_more row i x within is =
     ap held_in (take_more row i x within) ∙ held-append (take i row) (get_or row i x ∷ [])
     ∙ ap (λ y. held_in (take i row) ++ held_in (y ∷ [])) (sym is)
+
+-- An offer that is not before what its slot held: the row stays.
+pub row_kept :
+    (p : Problem) (table : List Entry) (b n : ℕ) (e o r : Entry) (old : Option Entry) (row : List (Option Entry))
+    → slice_get table n ≡ Some e → offer p e n b ≡ Some o → slice_get row (slot o.end) ≡ Some old → old ≡ Some r → IsKept old o r
+    → IsRow p table b n row → IsRow p table b (n + 1) row
+row_kept p table b n e o r old row stands offers was there kept is =
+    subst (λ l. IsRow p table b (n + 1) l) (set-get_same row (slot o.end) (Some r) (was ∙ ap Some there))
+    (row_step p table b n e o r old row stands offers was kept is)

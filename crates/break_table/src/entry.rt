@@ -1,8 +1,8 @@
 //! Entries of the table: the least way to a state.
 
-ghost use Rattle.std.specs.Prelude.{◌≡◌, ◌<◌, ◌≤◌, true, false};
+ghost use Rattle.std.specs.Prelude.{◌≡◌, ◌<◌, ◌≤◌, true, false, Some};
 ghost use Rattle.break_table.specs.Orders.{NotAfter};
-ghost use Rattle.break_table.specs.Tables.{most_places, first_entry, extended, short, IsSmallLine, IsKept};
+ghost use Rattle.break_table.specs.Tables.{most_places, Entry, first_entry, extended, short, IsSmallLine, IsKept};
 
 use crate::state::{Line, State, order};
 use std::cmp::Ordering;
@@ -120,16 +120,13 @@ impl Best {
     }
 }
 
-/// What is kept of what a slot held and of an offer: the one that is not after the other.
-pub fn kept(old: Option<Best>, offered: Best) -> Best
-    ensures { IsKept old offered result }
+/// Whether an offer takes the place of what a slot holds: it holds nothing, or what is after the offer.
+pub fn replaces(held: &Option<Best>, offered: Best) -> bool
+    ensures yes { result ≡ true → IsKept held.now offered offered }
+    ensures no { result ≡ false → (kept : Entry) × (held.now ≡ Some kept) × IsKept held.now offered kept }
 {
-    let Some(held) = old else {
-        return offered;
-    };
-    if held.is_not_after(offered) {
-        held
-    } else {
-        offered
+    match held {
+        Some(held) => !held.is_not_after(offered),
+        None => true,
     }
 }

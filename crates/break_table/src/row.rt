@@ -3,7 +3,7 @@
 ghost use Rattle.std.specs.Prelude.{◌≡◌, ◌<◌, ◌≤◌, ◌++◌, length, replicate, None, IfSome, IfOk, OnOk};
 ghost use Rattle.break_table.specs.Tables.{most_places, slots, held_in, IsSmallLine, IsImproved};
 
-use crate::entry::{Best, kept};
+use crate::entry::{Best, replaces};
 use crate::state::Line;
 use std::alloc::{AllocError, Global};
 
@@ -42,7 +42,9 @@ pub fn improve(
     };
     let offered = entry.extended(index, place, line, cut);
     let slot = offered.end().slot(cut);
-    row[slot] = Some(kept(row[slot], offered));
+    if replaces(&row[slot], offered) {
+        row[slot] = Some(offered);
+    }
 }
 
 /// Puts what a row holds behind a table. Where a growth is refused, a part of it may be there.

@@ -115,7 +115,7 @@ fn next_kept(nodes: &[Node], index: usize, behind: usize) -> usize
 pub fn all_next_kept(alloc: Global, nodes: &[Node]) -> Result<Vec<usize>, AllocError>
     ensures { IfOk result (λ firsts. firsts.items ≡ all_next_kept nodes.now) }
 {
-    let mut firsts = Vec::new(alloc);
+    let mut firsts = Vec::with_capacity(alloc, nodes.len().saturating_add(1))?;
     let mut first = nodes.len();
     firsts.push(first)?;
     for count in 0..nodes.len() {
@@ -151,7 +151,7 @@ pub fn legal_places(alloc: Global, nodes: &[Node]) -> Result<Vec<usize>, AllocEr
 pub fn no_trials(alloc: Global, count: usize) -> Result<Vec<u64>, AllocError>
     ensures { IfOk result (λ trials. trials.items ≡ replicate count 0) }
 {
-    let mut trials = Vec::new(alloc);
+    let mut trials = Vec::with_capacity(alloc, count)?;
     for _ in 0..count {
         trials.push(0)?;
     }

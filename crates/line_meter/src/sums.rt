@@ -67,7 +67,7 @@ pub fn prefix_sums(alloc: Global, nodes: &[Node]) -> Result<Vec<Sums>, AllocErro
     ensures value { IfOk result (λ sums. sums.items ≡ prefix_sums nodes.now) }
     ensures small { IfOk result (λ sums. ArePrefixes sums.items) }
 {
-    let mut sums = Vec::new(alloc);
+    let mut sums = Vec::with_capacity(alloc, nodes.len() + 1)?;
     let mut running = Sums::ZERO;
     sums.push(running)?;
     let mut count = 0;

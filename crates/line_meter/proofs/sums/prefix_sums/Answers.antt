@@ -8,7 +8,7 @@ use Rattle.line_meter.proofs.sums.prefix_sums.Goals as goal
 pub loop-node-init : goal.loop-node-init
 unfolding sums_of
 loop-node-init c =
-    let items = c.in_ok-push.ensures.items ∙ ap (λ xs. xs ++ sums_of [] ∷ []) c.new-sums.ensures.items in
+    let items = c.in_ok-push.ensures.items ∙ ap (λ xs. xs ++ sums_of [] ∷ []) c.in_ok-sums.ensures.items in
     record {
       count = refl;
       running = refl;
