@@ -62,10 +62,10 @@ one_line w black from (suc n) none end =
     let z : from ≡ from + 0 = omega arith in
     let next : from + 1 + n ≡ from + suc n = omega arith in
     ap (λ e. digit_text (black from) e ++ flat_map (λ x. digit_text (black x) (ends_line w x)) (range_with_len (from + 1) (suc n)))
-        (ap (ends_line w) z ∙ none 0 (omega arith))
+    (ap (ends_line w) z ∙ none 0 (omega arith))
     ∙ ap (λ l. digit_of (black from) ∷ l) (one_line w black (from + 1) n
-        (λ k h. let s : from + 1 + k ≡ from + suc k = omega arith in ap (ends_line w) s ∙ none (suc k) (omega (arith, h)))
-        (ap (ends_line w) next ∙ end))
+    (λ k h. let s : from + 1 + k ≡ from + suc k = omega arith in ap (ends_line w) s ∙ none (suc k) (omega (arith, h)))
+    (ap (ends_line w) next ∙ end))
 
 -- a line is its digits and a line feed
 pub line_is : (w : ℕ) (black : ℕ → Bool) (line : ℕ) → 70 * line < w → line_text w black line ≡ digits black (70 * line) (min (w - 70 * line) 70) ++ 10 ∷ []
@@ -106,7 +106,7 @@ eight_digits black x a b c d e f g h p0 p1 p2 p3 p4 p5 p6 p7 =
     let e6 : x + 6 ≡ x + 1 + 1 + 1 + 1 + 1 + 1 = omega arith in
     let e7 : x + 7 ≡ x + 1 + 1 + 1 + 1 + 1 + 1 + 1 = omega arith in
     cons _ _ _ _ p0 (cons _ _ _ _ p1 (cons _ _ _ _ (p2 ∙ ap s e2) (cons _ _ _ _ (p3 ∙ ap s e3) (cons _ _ _ _ (p4 ∙ ap s e4)
-        (cons _ _ _ _ (p5 ∙ ap s e5) (cons _ _ _ _ (p6 ∙ ap s e6) (cons _ _ _ _ (p7 ∙ ap s e7) refl)))))))
+    (cons _ _ _ _ (p5 ∙ ap s e5) (cons _ _ _ _ (p6 ∙ ap s e6) (cons _ _ _ _ (p7 ∙ ap s e7) refl)))))))
 
 -- no digits yet
 pub no_digits : (black : ℕ → Bool) (from : ℕ) (old : List ℕ) → old ≡ old ++ digits black from 0

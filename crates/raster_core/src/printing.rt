@@ -28,7 +28,11 @@ fn digit(words: &[u64], stride: usize, x: usize, y: usize) -> u8
     requires { y * stride + x / 64 < length words.now }
     ensures { result ≡ digit_of (in_rows words.now stride x y) }
 {
-    if is_black(words, stride, x, y) { b'1' } else { b'0' }
+    if is_black(words, stride, x, y) {
+        b'1'
+    } else {
+        b'0'
+    }
 }
 
 /// Appends the digits of eight columns of a row, or a front of them.

@@ -6,4 +6,4 @@ pub returns-clause-ok : goal.returns-clause-ok
 returns-clause-ok c =
     c.in_ok-extend_from_slice.ensures.items
     ∙ ap (λ l. c.args.out.now.items ++ l) (eight_digits _ c.args.x _ _ _ _ _ _ _ _
-        c.digit.ensures c.digit-2.ensures c.digit-3.ensures c.digit-4.ensures c.digit-5.ensures c.digit-6.ensures c.digit-7.ensures c.digit-8.ensures)
+    c.digit.ensures c.digit-2.ensures c.digit-3.ensures c.digit-4.ensures c.digit-5.ensures c.digit-6.ensures c.digit-7.ensures c.digit-8.ensures)
