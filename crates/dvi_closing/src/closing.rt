@@ -55,6 +55,7 @@ fn close_one<'a>(
 /// Puts the definitions between two places behind those that are known: only nops and right definitions stand there (DVItype, 18 and 19). It takes memory for them.
 ///
 /// A fault names the place of the first instruction that is wrong, and the definitions before it are behind the others: Truncated, Opcode or Font.
+/// Where memory is wanting for a definition, those before it are behind the others.
 pub fn close<'a>(
     bytes: &'a [u8],
     from: usize,

@@ -111,12 +111,12 @@ no_fault files bytes fault pages other (AtTheEnd bad e broken) f = end_fault byt
 no_fault files bytes fault pages other (InTheChain bad post e stop is ends broken) f = chain_fault (file_widths files) bytes pages post e bad.place stop bad.cause ends broken f
 no_fault files bytes fault pages other (InThePreamble bad post behind last stop chain is chained broken) f =
     preamble_there files bytes post behind last stop chain chained.framed pages (file_passed bytes post behind last stop chain chained.framed (file_widths files) pages f) bad broken
-no_fault files bytes fault pages other (InThePages post behind last stop chain from table starts ahead broken) f =
+no_fault files bytes fault pages other (InThePages post behind last stop chain from table starts ahead broken stray) f =
     let framed = starts.chained.framed in
     let passed = file_passed bytes post behind last stop chain framed (file_widths files) pages f in
     walk_fault files table bytes post behind last stop chain pages fault (post_within files bytes post behind last stop chain framed) other broken passed
     (table_is files bytes post behind last stop chain framed pages passed table ahead)
-no_fault files bytes fault pages other (AtPost bad post behind last stop chain from table walk is has broken) f =
+no_fault files bytes fault pages other (AtPost bad post behind last stop chain from table walk is has broken unmet) f =
     let framed = has.starts.chained.framed in
     let passed = file_passed bytes post behind last stop chain framed (file_widths files) pages f in
     pages_ended files bytes post behind last stop chain framed pages passed bad from table walk has broken

@@ -17,7 +17,7 @@ use Rattle.dvi_pass.specs.declared.turning.Stand.{Stand}
 use Rattle.dvi_pass.specs.declared.turning.Stand.TheVariants as stands
 use Rattle.dvi_pass.proofs.WidthLemmas.{one_width}
 use Rattle.dvi_walk.specs.ReadFonts.{AreSound, IsCurrent, ReadFonts, asked_width, code_in, read_of, selected_in, width_in}
-use Rattle.dvi_walk.specs.Steps.{BreaksNote, BreaksPass, BreaksRest, BreaksStep, Notes, PassesOn, Steps, stand_of}
+use Rattle.dvi_walk.specs.Steps.{BreaksNote, BreaksPass, BreaksRest, BreaksStep, IsUnread, Notes, PassesOn, Steps, stand_of}
 use Rattle.dvi_walk.specs.declared.fault.StepFault.{StepFault}
 use Rattle.dvi_walk.specs.declared.fault.StepFault.TheVariants.{OutOfMemory, Broken, Refused}
 use Rattle.dvi_walk.specs.declared.walk.Walk.{Walk}
@@ -171,4 +171,4 @@ pub note_fault : (files : List NamedBytes) (table : List Definition) (most at : 
     → BreaksStep files table most at i old fault
 note_fault files table most at i old mid OutOfMemory passes b = tt
 note_fault files table most at i old mid (Broken cause) passes b = inr (subst₂ (λ (ds : List Definition) (left : Left). BreaksRest table ds at left i cause) passes.known passes.left b)
-note_fault files table most at i old mid (Refused refusal) passes b = b
+note_fault files table most at i old mid (Refused refusal) passes (f, is, unread) = (f, is, subst (λ (ds : List Definition). IsUnread files table ds f refusal) passes.known unread)

@@ -118,12 +118,12 @@ nothing_right files table bytes stop at post walk known i q later fault other sa
         (subst (λ (i : Instruction). BreaksRule (file_widths files) table (min 1024 stop.stack_depth) at i walk cause) (one_stands bytes at post post j i there stands) b)
 
     pages : (cause : DviCause) → BreaksPages (file_widths files) table bytes (min 1024 stop.stack_depth) at post walk cause → ⊥
-    pages Truncated none = none i stands
+    pages Truncated (begins, none) = none i stands
     pages Opcode (inl (code, none)) = none i stands
     pages Opcode (inr (j, there, b)) = rule Opcode j there b
     pages cause b = rule cause b.0 b.1 b.2
 
-    widths : (refusal : FontRefusal) → LacksWidths files table bytes at post refusal → ⊥
+    widths : (refusal : FontRefusal) → LacksWidths files table (known_of walk) bytes at post refusal → ⊥
     widths refusal (f, there, unread) =
         let is : i ≡ Do (FontNum f) = one_stands bytes at post post i (Do (FontNum f)) stands there in
         let some = selected_widths (file_widths files) table f i is right.closing in

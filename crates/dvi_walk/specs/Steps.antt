@@ -34,18 +34,27 @@ pub record Selects (metrics : Metrics) (table known : List Definition) (f : ℤ)
 abbrev pub IsUndefined : (table known : List Definition) → ℤ → Type 0
 IsUndefined table known f = (defined f known ≡ None) ⊎ (defined f table ≡ None)
 
--- What is said of the font that the postamble defines: no file of its name was handed in, or that file is bad, or does not fit at that size.
-pub record IsUnread (files : List NamedBytes) (table : List Definition) (f : ℤ) (refusal : FontRefusal) : Type 0 where
+-- What is said of a font that is defined before, by its definition in the postamble: no file of its name was handed in, or that file is bad, or does not fit at that size.
+pub record IsUnread (files : List NamedBytes) (table known : List Definition) (f : ℤ) (refusal : FontRefusal) : Type 0 where
+  pub before : IsSome (defined f known)
   pub font : Definition
   pub found : defined f table ≡ Some font
   pub other : refusal ≢ refusals.OutOfMemory
   pub refused : IsFontRefusal files font refusal
 
--- Why a font was not selected; want of memory may come at any time.
-abbrev pub IsSelectFault : List NamedBytes → (table known : List Definition) → ℤ → StepFault → Type 0
-IsSelectFault files table known f OutOfMemory = Unit {0}
-IsSelectFault files table known f (Broken cause) = (cause ≡ Font) × IsUndefined table known f
-IsSelectFault files table known f (Refused refusal) = IsUnread files table f refusal
+-- Memory is wanting for a font: it is defined before, was not read, and a file of the name that the postamble gives it was handed in.
+pub record WantsMemory (files : List NamedBytes) (table known : List Definition) (f : ℤ) (fonts : ReadFonts) : Type 0 where
+  pub before : IsSome (defined f known)
+  pub new : read_of f fonts ≡ None
+  pub font : Definition
+  pub found : defined f table ≡ Some font
+  pub file : IsFontRefusal files font refusals.OutOfMemory
+
+-- Why a font was not selected, where these fonts were read.
+abbrev pub IsSelectFault : List NamedBytes → (table known : List Definition) → ReadFonts → ℤ → StepFault → Type 0
+IsSelectFault files table known fonts f OutOfMemory = WantsMemory files table known f fonts
+IsSelectFault files table known fonts f (Broken cause) = (cause ≡ Font) × IsUndefined table known f
+IsSelectFault files table known fonts f (Refused refusal) = IsUnread files table known f refusal
 
 -- Where a walk stands in the pass.
 abbrev pub stand_of : Walk → Pass
@@ -83,7 +92,7 @@ BreaksRest table known at left i cause = ⊥
 abbrev pub BreaksNote : List NamedBytes → (table : List Definition) → (at : ℕ) → Instruction → Walk → StepFault → Type 0
 BreaksNote files table at i walk OutOfMemory = Unit {0}
 BreaksNote files table at i walk (Broken cause) = BreaksRest table (known_of walk) at (places_left walk) i cause
-BreaksNote files table at i walk (Refused refusal) = (f : ℤ) × (i ≡ Do (FontNum f)) × IsUnread files table f refusal
+BreaksNote files table at i walk (Refused refusal) = (f : ℤ) × (i ≡ Do (FontNum f)) × IsUnread files table (known_of walk) f refusal
 
 -- The width of the character that an instruction sets or puts, in the font that is selected.
 abbrev pub asked_of : Walk → Instruction → Option ℤ
@@ -121,4 +130,4 @@ BreaksRule metrics table most at i walk cause =
 abbrev pub BreaksStep : List NamedBytes → (table : List Definition) → (most at : ℕ) → Instruction → Walk → StepFault → Type 0
 BreaksStep files table most at i walk OutOfMemory = Unit {0}
 BreaksStep files table most at i walk (Broken cause) = BreaksRule (file_widths files) table most at i walk cause
-BreaksStep files table most at i walk (Refused refusal) = (f : ℤ) × (i ≡ Do (FontNum f)) × IsUnread files table f refusal
+BreaksStep files table most at i walk (Refused refusal) = (f : ℤ) × (i ≡ Do (FontNum f)) × IsUnread files table (known_of walk) f refusal
