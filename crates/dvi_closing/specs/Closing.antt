@@ -66,3 +66,7 @@ IsClosingFault bytes from to old new (frames.Bad fault) =
 abbrev pub IsLookedAhead : List ℕ → (from to : ℕ) → (table : List Definition) → Type 0
 IsLookedAhead bytes from to table =
     ClosesTo bytes from to [] table ⊎ (fault : BadDvi) × IsClosingFault bytes from to [] table (frames.Bad fault)
+
+-- They are not found: memory is wanting for a right definition, up to which all is right.
+abbrev pub IsUnlooked : List ℕ → (from to : ℕ) → FrameFault → Type 0
+IsUnlooked bytes from to fault = (fault ≡ frames.OutOfMemory) × (known : List Definition) × IsClosingFault bytes from to [] known frames.OutOfMemory

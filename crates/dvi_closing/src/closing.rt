@@ -1,7 +1,7 @@
 //! The instructions between post and post_post (DVItype, 18 and 19).
 
 ghost use Rattle.std.specs.Prelude.{◌≡◌, ◌≤◌, ◌<◌, [], length, OnOk, IfErr, IfOk};
-ghost use Rattle.dvi_closing.specs.Closing.{ClosesOne, ClosesTo, IsClosingFault, IsFaultAt, IsLookedAhead};
+ghost use Rattle.dvi_closing.specs.Closing.{ClosesOne, ClosesTo, IsClosingFault, IsFaultAt, IsLookedAhead, IsUnlooked};
 
 use crate::known::define;
 use dvi_fonts::KnownFonts;
@@ -87,8 +87,8 @@ pub fn look_ahead<'a>(
     requires low { from ≤ to }
     requires high { to ≤ length bytes.now }
     ensures ok { IfOk result (IsLookedAhead bytes.now from to) }
-    // Only memory may be wanting.
-    ensures memory { IfErr result (λ fault. fault ≡ FrameFault.OutOfMemory) }
+    // Only memory may be wanting, and only for a right definition.
+    ensures memory { IfErr result (IsUnlooked bytes.now from to) }
 {
     let mut fonts = KnownFonts::new(alloc);
     match close(bytes, from, to, &mut fonts) {
