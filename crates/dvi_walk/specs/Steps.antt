@@ -8,7 +8,7 @@ use Rattle.dvi_frame.specs.declared.fault.DviCause.{DviCause}
 use Rattle.dvi_frame.specs.declared.fault.DviCause.TheVariants.{Pointer, Font}
 use Rattle.dvi_ops.specs.Body.{acts, kept}
 use Rattle.dvi_ops.specs.Fonts.{Metrics, IsRightAfter, defined, definition_of, selection_of, widths_of}
-use Rattle.dvi_ops.specs.Instruction.{Definition, FontNum, Instruction, Do}
+use Rattle.dvi_ops.specs.Instruction.{Definition, FontDef, FontNum, Instruction, Do}
 use Rattle.dvi_ops.specs.Tokens.{place_of}
 use Rattle.dvi_pass.specs.Drawing.{always}
 use Rattle.dvi_pass.specs.Pass.{Pass, turn}
@@ -88,9 +88,15 @@ BreaksRest table known at left i Pointer = behind_bops (place_of at i) left ≡ 
 BreaksRest table known at left i Font = (IsRightAfter known i → ⊥) ⊎ (f : ℤ) × (i ≡ Do (FontNum f)) × (defined f table ≡ None)
 BreaksRest table known at left i cause = ⊥
 
--- The same of a fault; a selected font may have no widths, and want of memory may come at any time.
+-- Memory is wanting for what an instruction says of fonts: for a definition that is right, or for a font that it selects.
+abbrev pub LacksRoom : List NamedBytes → (table : List Definition) → Instruction → Walk → Type 0
+LacksRoom files table (Do (FontDef d)) walk = IsRightAfter (known_of walk) (Do (FontDef d))
+LacksRoom files table (Do (FontNum f)) walk = WantsMemory files table (known_of walk) f walk.fonts
+LacksRoom files table i walk = ⊥
+
+-- The same of a fault; a selected font may have no widths, or memory may be wanting.
 abbrev pub BreaksNote : List NamedBytes → (table : List Definition) → (at : ℕ) → Instruction → Walk → StepFault → Type 0
-BreaksNote files table at i walk OutOfMemory = Unit {0}
+BreaksNote files table at i walk OutOfMemory = LacksRoom files table i walk
 BreaksNote files table at i walk (Broken cause) = BreaksRest table (known_of walk) at (places_left walk) i cause
 BreaksNote files table at i walk (Refused refusal) = (f : ℤ) × (i ≡ Do (FontNum f)) × IsUnread files table (known_of walk) f refusal
 
