@@ -51,7 +51,7 @@ IsUnmet before chain bad = bad.cause ≡ Pointer → places 0 before ≢ reverse
 
 -- Why a file is refused. Each choice says that the rules of the checks before it hold, and which rule is broken at the place that the fault names:
 -- of the end; of the chain of pages; of the preamble; of the pages; of post's place, where no page is open and each place of the chain was a bop; of what is behind post.
--- Memory may be wanting in the pages, and else for the places of the chain where post names a page, and for a right definition behind post: looked ahead, and where it stands.
+-- Memory may be wanting for the places of the chain, where post names a page; for an instruction of the pages; for a right definition behind post: looked ahead, and where it stands.
 pub data IsDviFault (files : List NamedBytes) (bytes : List ℕ) (fault : DviFault) : Type 0 where
   ForPlaces : (post e : ℕ) (stop : Postamble) → fault ≡ OutOfMemory → Ends bytes post e stop → NamesPage bytes post stop.last_bop → IsDviFault files bytes fault
   LookingAhead : (post behind last : ℕ) (stop : Postamble) (chain : List ℕ) (from : ℕ) (table : List Definition) → fault ≡ OutOfMemory → StartsAt bytes post behind last stop chain from

@@ -60,9 +60,9 @@ pages_break metrics table bytes most at post walk cause i stands b = (i, stands,
 -- The fault of an instruction that stands there.
 pub taken_fault : (files : List NamedBytes) (table : List Definition) (bytes : List ℕ) (most at post : ℕ) (walk : Walk) (i : Instruction) (fault : StepFault) → StandsAt bytes at post i
     → BreaksStep files table most at i walk fault → IsPagesFault files table bytes most at post walk (fault_in at fault)
-taken_fault files table bytes most at post walk i OutOfMemory stands b = tt
+taken_fault files table bytes most at post walk i OutOfMemory stands b = (i, stands, b)
 taken_fault files table bytes most at post walk i (Broken cause) stands b = (refl, pages_break (file_widths files) table bytes most at post walk cause i stands b)
-taken_fault files table bytes most at post walk i (Refused refusals.OutOfMemory) stands b = tt
+taken_fault files table bytes most at post walk i (Refused refusals.OutOfMemory) stands (f, is, unread) = absurd (unread.other refl)
 taken_fault files table bytes most at post walk i (Refused refusals.NoFont) stands (f, is, unread) = (f, subst (λ (i : Instruction). StandsAt bytes at post i) is stands, unread)
 taken_fault files table bytes most at post walk i (Refused (refusals.BadTfm cause)) stands (f, is, unread) = (f, subst (λ (i : Instruction). StandsAt bytes at post i) is stands, unread)
 taken_fault files table bytes most at post walk i (Refused refusals.DimensionTooLarge) stands (f, is, unread) = (f, subst (λ (i : Instruction). StandsAt bytes at post i) is stands, unread)

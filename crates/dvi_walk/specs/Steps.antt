@@ -13,7 +13,7 @@ use Rattle.dvi_ops.specs.Tokens.{place_of}
 use Rattle.dvi_pass.specs.Drawing.{always}
 use Rattle.dvi_pass.specs.Pass.{Pass, turn}
 use Rattle.dvi_pass.specs.Reached.{HasWidths, Left, behind_bops}
-use Rattle.dvi_pass.specs.Turning.{BreaksTurn, pass_at}
+use Rattle.dvi_pass.specs.Turning.{BreaksTurn, TakesRoom, pass_at}
 use Rattle.dvi_pass.specs.View.{page_of}
 use Rattle.dvi_walk.specs.ReadFonts.{AreSound, IsCurrent, ReadFonts, asked_width, code_in, read_of, selected_in}
 use Rattle.dvi_walk.specs.declared.fault.StepFault.{StepFault}
@@ -111,9 +111,9 @@ pub record PassesOn (most : ℕ) (i : Instruction) (old new : Walk) : Type 0 whe
   pub fonts : new.fonts ≡ old.fonts
   pub left : places_left new ≡ places_left old
 
--- It does not go on.
+-- It does not go on, or memory is wanting for it.
 abbrev pub BreaksPass : (most : ℕ) → Instruction → Walk → StepFault → Type 0
-BreaksPass most i walk OutOfMemory = Unit {0}
+BreaksPass most i walk OutOfMemory = TakesRoom (acts (always (asked_of walk i))) most i (stand_of walk)
 BreaksPass most i walk (Broken cause) = BreaksTurn (acts (always (asked_of walk i))) most i (stand_of walk) cause
 BreaksPass most i walk (Refused refusal) = ⊥
 
@@ -132,8 +132,12 @@ abbrev pub BreaksRule : (metrics : Metrics) → (table : List Definition) → (m
 BreaksRule metrics table most at i walk cause =
     BreaksTurn (acts (widths_of metrics table)) most i (stand_of walk) cause ⊎ BreaksRest table (known_of walk) at (places_left walk) i cause
 
+-- An instruction takes memory: in the pass, or for what it says of fonts.
+abbrev pub TakesMemory : List NamedBytes → (table : List Definition) → (most : ℕ) → Instruction → Walk → Type 0
+TakesMemory files table most i walk = TakesRoom (acts (widths_of (file_widths files) table)) most i (stand_of walk) ⊎ LacksRoom files table i walk
+
 -- The same of a fault.
 abbrev pub BreaksStep : List NamedBytes → (table : List Definition) → (most at : ℕ) → Instruction → Walk → StepFault → Type 0
-BreaksStep files table most at i walk OutOfMemory = Unit {0}
+BreaksStep files table most at i walk OutOfMemory = TakesMemory files table most i walk
 BreaksStep files table most at i walk (Broken cause) = BreaksRule (file_widths files) table most at i walk cause
 BreaksStep files table most at i walk (Refused refusal) = (f : ℤ) × (i ≡ Do (FontNum f)) × IsUnread files table (known_of walk) f refusal

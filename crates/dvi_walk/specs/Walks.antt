@@ -14,7 +14,7 @@ use Rattle.dvi_ops.specs.Table.{Spells}
 use Rattle.dvi_pass.specs.Reached.{IsReached}
 use Rattle.dvi_pass.specs.declared.turning.Stand.TheVariants as stands
 use Rattle.dvi_walk.specs.ReadFonts.{AreSound, IsCurrent}
-use Rattle.dvi_walk.specs.Steps.{BreaksRule, IsUnread, Steps, known_of, places_left, stand_of}
+use Rattle.dvi_walk.specs.Steps.{BreaksRule, IsUnread, Steps, TakesMemory, known_of, places_left, stand_of}
 use Rattle.dvi_walk.specs.declared.fault.DviFault.{DviFault}
 use Rattle.dvi_walk.specs.declared.fault.DviFault.TheVariants as faults
 use Rattle.dvi_walk.specs.declared.fault.StepFault.{StepFault}
@@ -46,9 +46,9 @@ BreaksPages metrics table bytes most at post walk cause = BreaksAt metrics table
 abbrev pub LacksWidths : List NamedBytes → (table known : List Definition) → (bytes : List ℕ) → (at post : ℕ) → FontRefusal → Type 0
 LacksWidths files table known bytes at post refusal = (f : ℤ) × StandsAt bytes at post (Do (FontNum f)) × IsUnread files table known f refusal
 
--- A fault at a place.
+-- A fault at a place; memory is wanting for an instruction that stands there.
 abbrev pub IsPagesFault : List NamedBytes → (table : List Definition) → (bytes : List ℕ) → (most at post : ℕ) → Walk → DviFault → Type 0
-IsPagesFault files table bytes most at post walk faults.OutOfMemory = Unit {0}
+IsPagesFault files table bytes most at post walk faults.OutOfMemory = (i : Instruction) × StandsAt bytes at post i × TakesMemory files table most i walk
 IsPagesFault files table bytes most at post walk (faults.Bad fault) = (fault.place ≡ at) × BreaksPages (file_widths files) table bytes most at post walk fault.cause
 IsPagesFault files table bytes most at post walk faults.NoFont = LacksWidths files table (known_of walk) bytes at post refusals.NoFont
 IsPagesFault files table bytes most at post walk (faults.BadTfm cause) = LacksWidths files table (known_of walk) bytes at post (refusals.BadTfm cause)
