@@ -79,7 +79,9 @@ closes_more bytes from at to next old mid new low high (tail, closes, mid_is) on
 -- A fault on the way.
 pub fault_on_the_way : (bytes : List ℕ) (from at to : ℕ) (old mid new : List Definition) (fault : FrameFault) → from ≤ at → at < to → ClosesTo bytes from at old mid → IsFaultAt bytes at to mid new fault
     → IsClosingFault bytes from to old new fault
-fault_on_the_way bytes from at to old mid new OutOfMemory low high closes f = tt
+fault_on_the_way bytes from at to old mid new OutOfMemory low high closes (same, d, stands, right) =
+    let mids : mid ≡ new = sym same in
+    (at, low, high, subst (λ (ds : List Definition). ClosesTo bytes from at old ds) mids closes, d, stands, subst (λ (ds : List Definition). IsRightAfter ds (Do (FontDef d))) mids right)
 fault_on_the_way bytes from at to old mid new (Bad fault) low high closes (place, same, broken) =
     let mids : mid ≡ new = sym same in
     let places : at ≡ fault.place = sym place in
@@ -89,7 +91,7 @@ fault_on_the_way bytes from at to old mid new (Bad fault) low high closes (place
 
 -- A broken rule, and an instruction that is right there.
 broken_here : (bytes : List ℕ) (place to : ℕ) (known : List Definition) (cause : DviCause) (i : Instruction) → BreaksClosing bytes place to known cause → StandsAt bytes place to i → IsIdle i → IsRightAfter known i → ⊥
-broken_here bytes place to known Truncated i none stands idle right = none i stands
+broken_here bytes place to known Truncated i (begins, none) stands idle right = none i stands
 broken_here bytes place to known Opcode i (inl (code, none)) stands idle right = none i stands
 broken_here bytes place to known Opcode i (inr (j, other, wrong)) stands idle right = wrong (subst (λ (i : Instruction). IsIdle i) (one_stands bytes place to to i j stands other) idle)
 broken_here bytes place to known Font i (d, other, wrong) stands idle right =

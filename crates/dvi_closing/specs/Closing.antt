@@ -15,9 +15,9 @@ use Rattle.dvi_frame.specs.declared.fault.FrameFault.TheVariants as frames
 use Rattle.dvi_pass.specs.declared.turning.PassFault.{PassFault}
 use Rattle.dvi_pass.specs.declared.turning.PassFault.TheVariants as faults
 
--- A definition is not right behind those that are known, and the fault says so; want of memory may come at any time.
+-- A definition is not right behind those that are known, and the fault says so; or it is right, and memory is wanting for it.
 abbrev pub IsDefinitionFault : List Definition → Definition → PassFault → Type 0
-IsDefinitionFault known d faults.OutOfMemory = Unit {0}
+IsDefinitionFault known d faults.OutOfMemory = IsRightAfter known (Do (FontDef d))
 IsDefinitionFault known d (faults.Broken cause) = (cause ≡ Font) × (IsRightAfter known (Do (FontDef d)) → ⊥)
 
 -- Between two places there are nops and definitions, which are right behind those that are known.
@@ -41,23 +41,24 @@ pub record ClosesOne (bytes : List ℕ) (at to : ℕ) (old new : List Definition
   pub right : IsRightAfter old here
   pub new_is : new ≡ old ++ definition_of here
 
--- A rule is broken at a place, behind these definitions: an instruction is cut off; a byte begins none, or begins one that is no nop and no definition; a definition
+-- A rule is broken at a place, behind these definitions: a byte begins an instruction that is cut off; a byte begins none, or begins one that is no nop and no definition; a definition
 -- has no size, or differs from one of its number.
 abbrev pub BreaksClosing : List ℕ → (place to : ℕ) → (known : List Definition) → DviCause → Type 0
-BreaksClosing bytes place to known Truncated = (i : Instruction) → StandsAt bytes place to i → ⊥
+BreaksClosing bytes place to known Truncated = (250 ≤ slice_index bytes place → ⊥) × ((i : Instruction) → StandsAt bytes place to i → ⊥)
 BreaksClosing bytes place to known Opcode =
     (250 ≤ slice_index bytes place) × ((i : Instruction) → StandsAt bytes place to i → ⊥) ⊎ (i : Instruction) × StandsAt bytes place to i × (IsIdle i → ⊥)
 BreaksClosing bytes place to known Font = (d : Definition) × StandsAt bytes place to (Do (FontDef d)) × (IsRightAfter known (Do (FontDef d)) → ⊥)
 BreaksClosing bytes place to known cause = ⊥
 
--- A fault at a place, which leaves the definitions as they were.
+-- A fault at a place, which leaves the definitions as they were; want of memory comes only at a definition that is right.
 abbrev pub IsFaultAt : List ℕ → (at to : ℕ) → (old new : List Definition) → FrameFault → Type 0
-IsFaultAt bytes at to old new frames.OutOfMemory = Unit {0}
+IsFaultAt bytes at to old new frames.OutOfMemory = (new ≡ old) × (d : Definition) × StandsAt bytes at to (Do (FontDef d)) × IsRightAfter old (Do (FontDef d))
 IsFaultAt bytes at to old new (frames.Bad fault) = (fault.place ≡ at) × (new ≡ old) × BreaksClosing bytes at to old fault.cause
 
--- A fault on the way: right instructions stand up to its place, and their definitions are behind the others.
+-- A fault on the way: right instructions stand up to its place, and their definitions are behind the others; memory is wanting at some place, for a right definition.
 abbrev pub IsClosingFault : List ℕ → (from to : ℕ) → (old new : List Definition) → FrameFault → Type 0
-IsClosingFault bytes from to old new frames.OutOfMemory = Unit {0}
+IsClosingFault bytes from to old new frames.OutOfMemory =
+    (place : ℕ) × (from ≤ place) × (place < to) × ClosesTo bytes from place old new × (d : Definition) × StandsAt bytes place to (Do (FontDef d)) × IsRightAfter new (Do (FontDef d))
 IsClosingFault bytes from to old new (frames.Bad fault) =
     (from ≤ fault.place) × (fault.place < to) × ClosesTo bytes from fault.place old new × BreaksClosing bytes fault.place to new fault.cause
 
@@ -65,3 +66,7 @@ IsClosingFault bytes from to old new (frames.Bad fault) =
 abbrev pub IsLookedAhead : List ℕ → (from to : ℕ) → (table : List Definition) → Type 0
 IsLookedAhead bytes from to table =
     ClosesTo bytes from to [] table ⊎ (fault : BadDvi) × IsClosingFault bytes from to [] table (frames.Bad fault)
+
+-- They are not found: memory is wanting for a right definition, up to which all is right.
+abbrev pub IsUnlooked : List ℕ → (from to : ℕ) → FrameFault → Type 0
+IsUnlooked bytes from to fault = (fault ≡ frames.OutOfMemory) × (known : List Definition) × IsClosingFault bytes from to [] known frames.OutOfMemory

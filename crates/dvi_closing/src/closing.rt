@@ -1,7 +1,7 @@
 //! The instructions between post and post_post (DVItype, 18 and 19).
 
 ghost use Rattle.std.specs.Prelude.{◌≡◌, ◌≤◌, ◌<◌, [], length, OnOk, IfErr, IfOk};
-ghost use Rattle.dvi_closing.specs.Closing.{ClosesOne, ClosesTo, IsClosingFault, IsFaultAt, IsLookedAhead};
+ghost use Rattle.dvi_closing.specs.Closing.{ClosesOne, ClosesTo, IsClosingFault, IsFaultAt, IsLookedAhead, IsUnlooked};
 
 use crate::known::define;
 use dvi_fonts::KnownFonts;
@@ -55,6 +55,7 @@ fn close_one<'a>(
 /// Puts the definitions between two places behind those that are known: only nops and right definitions stand there (DVItype, 18 and 19). It takes memory for them.
 ///
 /// A fault names the place of the first instruction that is wrong, and the definitions before it are behind the others: Truncated, Opcode or Font.
+/// Where memory is wanting for a definition, those before it are behind the others.
 pub fn close<'a>(
     bytes: &'a [u8],
     from: usize,
@@ -86,8 +87,8 @@ pub fn look_ahead<'a>(
     requires low { from ≤ to }
     requires high { to ≤ length bytes.now }
     ensures ok { IfOk result (IsLookedAhead bytes.now from to) }
-    // Only memory may be wanting.
-    ensures memory { IfErr result (λ fault. fault ≡ FrameFault.OutOfMemory) }
+    // Only memory may be wanting, and only for a right definition.
+    ensures memory { IfErr result (IsUnlooked bytes.now from to) }
 {
     let mut fonts = KnownFonts::new(alloc);
     match close(bytes, from, to, &mut fonts) {

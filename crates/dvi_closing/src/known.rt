@@ -26,7 +26,7 @@ pub fn define<'a>(known: &mut KnownFonts<'a>, font: &FontDefinition<'a>) -> Resu
     // It was right.
     ensures right { OnOk result (IsRightAfter known.old (Do (FontDef (definition font.now)))) }
     ensures err { OnErr result (known.new ≡ known.old) }
-    // The fault is Font, and it was not right; or memory was wanting.
+    // The fault is Font, and it was not right; or it was right, and memory was wanting.
     ensures bad { IfErr result (IsDefinitionFault known.old (definition font.now)) }
 {
     if !has_size(font) {

@@ -27,8 +27,8 @@ IsSizedRefusal bytes size NoFont = ⊥
 IsSizedRefusal bytes size (BadTfm cause) = metric_file bytes ≡ Err cause
 IsSizedRefusal bytes size DimensionTooLarge = (metrics : MetricFile) × (metric_file bytes ≡ Ok metrics) × (fits_at metrics size ≡ false)
 
--- What a refusal says: no file of the font's name was handed in; or the first one of it holds no metric file, or one of its dimensions at the font's size does not fit.
+-- What a refusal says: no file of the font's name was handed in; or the first one of it holds no metric file, or one of its dimensions at the font's size does not fit,
+-- or memory is wanting for it: where no file has the name, this is said before any growth.
 abbrev pub IsFontRefusal : List NamedBytes → Definition → FontRefusal → Type 0
 IsFontRefusal files d NoFont = file_named d.name files ≡ None
-IsFontRefusal files d OutOfMemory = Unit {0}
 IsFontRefusal files d refusal = (file : NamedBytes) × (file_named d.name files ≡ Some file) × IsSizedRefusal file.bytes d.size refusal

@@ -1,10 +1,11 @@
 -- The places of the pages from the last one back.
-use Rattle.std.proofs.Common.{◌≡◌, ◌≤◌, ◌+◌, ◌*◌, ◌++◌, [], ◌∷◌, List, ℕ, ℤ, length, drop, refl, sym, ◌∙◌, ap, subst, append_assoc, append-nil, length-append, arith}
+use Rattle.std.proofs.Common.{◌≡◌, ◌≤◌, ◌+◌, ◌*◌, ◌++◌, [], ◌∷◌, List, ℕ, ℤ, pos, length, drop, refl, sym, ◌∙◌, ap, subst, inl, inr, append_assoc, append-nil, length-append, arith}
+use Rattle.std.specs.Prelude.{◌⊎◌}
 use Rattle.std.proofs.lemmas.List.{take-append-drop, drop_at, drop-drop, length-take}
 use Rattle.dvi_ops.specs.Instruction.{Bop, Post, Postamble}
 use Rattle.dvi_ops.specs.Table.{Says, SaysEach, signed}
 use Rattle.dvi_frame.specs.Ends.{StandsAt}
-use Rattle.dvi_frame.specs.Chain.{Links, Names, IsBrokenAt}
+use Rattle.dvi_frame.specs.Chain.{Links, Names, NamesPage, IsBrokenAt, IsPageAt}
 use Rattle.dvi_frame.specs.declared.page_chain.Named.{Named}
 use Rattle.dvi_frame.specs.declared.page_chain.Named.TheVariants.{Start, Page, Nothing}
 
@@ -52,12 +53,13 @@ pub record Goes (bytes : List ℕ) (at bound : ℕ) (pointer : ℤ) (found : Lis
   pub names : Names bytes at_now bound_now pointer_now named
   pub linked : (rest : List ℕ) → Links bytes bound_now pointer_now rest → Links bytes bound pointer (found ++ rest)
   pub broken : (p : ℕ) → IsBrokenAt bytes at_now bound_now pointer_now p → IsBrokenAt bytes at bound pointer p
+  pub first : NamesPage bytes bound pointer ⊎ ((bound_now ≡ bound) × (pointer_now ≡ pointer))
 
 -- At first nothing is found.
 pub goes_first : (bytes : List ℕ) (at bound : ℕ) (named : Named) → bound ≤ length bytes → Names bytes at bound (signed 4 (drop at bytes)) named
     → Goes bytes at bound (signed 4 (drop at bytes)) [] named
 goes_first bytes at bound named within names =
-    record { at_now = at; bound_now = bound; pointer_now = signed 4 (drop at bytes); within = within; names = names; linked = λ rest links. links; broken = λ p b. b }
+    record { at_now = at; bound_now = bound; pointer_now = signed 4 (drop at bytes); within = within; names = names; linked = λ rest links. links; broken = λ p b. b; first = inr (refl, refl) }
 
 -- What is there of a page that was named.
 pub page_room : (bytes : List ℕ) (at bound : ℕ) (pointer : ℤ) (found : List ℕ) (place : ℕ) → Goes bytes at bound pointer found (Page place) → place + 45 ≤ length bytes
@@ -66,6 +68,16 @@ page_room bytes at bound pointer found place g =
     let within = g.within in
     let there = bop_pointer bytes place g.bound_now counts before within stands in
     omega arith
+
+-- Where a page is named now, the first pointer names one.
+pub goes_page : (bytes : List ℕ) (at bound : ℕ) (pointer : ℤ) (found : List ℕ) (place : ℕ) → Goes bytes at bound pointer found (Page place) → NamesPage bytes bound pointer
+goes_page bytes at bound pointer found place g =
+    let (e, low, page) = g.names in
+    by_first g.first e page
+  where
+    by_first : NamesPage bytes bound pointer ⊎ ((g.bound_now ≡ bound) × (g.pointer_now ≡ pointer)) → g.pointer_now ≡ pos place → IsPageAt bytes place g.bound_now → NamesPage bytes bound pointer
+    by_first (inl named) e page = named
+    by_first (inr (bounds, pointers)) e page = (place, sym pointers ∙ e, subst (λ (n : ℕ). IsPageAt bytes place n) bounds page)
 
 -- One page more.
 pub goes_more : (bytes : List ℕ) (at bound : ℕ) (pointer : ℤ) (found : List ℕ) (place : ℕ) (next : Named) → Goes bytes at bound pointer found (Page place)
@@ -83,6 +95,7 @@ goes_more bytes at bound pointer found place next g names =
       linked = λ rest links.
           subst (λ (all : List ℕ). Links bytes bound pointer all) (sym (append_assoc found (place ∷ []) rest)) (g.linked (place ∷ rest) (e, counts, before, stands, links));
       broken = λ p b. g.broken p (subst (λ (z : ℤ). IsBrokenAt bytes g.at_now g.bound_now z p) (sym e) (IsBrokenAt.before counts stands b));
+      first = inl (goes_page bytes at bound pointer found place g);
     }
 
 -- At the end.

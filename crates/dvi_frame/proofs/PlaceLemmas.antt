@@ -17,6 +17,14 @@ first_between bytes place bound below =
     let same : place + 0 ≡ place = omega arith in
     get_or-take (bound - place) (drop place bytes) 0 0 (omega arith) ∙ (get_or-drop place bytes 0 0 ∙ ap (λ (n : ℕ). slice_index bytes n) same)
 
+-- A byte that is no 0 stands before the bound.
+some_first : (n : ℕ) (bytes : List ℕ) → 250 ≤ slice_index (take n bytes) 0 → 0 < n
+some_first zero bytes code = absurd (omega arith)
+some_first (suc n) bytes code = omega arith
+
+pub some_between : (bytes : List ℕ) (place bound : ℕ) → 250 ≤ slice_index (between bytes place bound) 0 → place < bound
+some_between bytes place bound code = let some = some_first (bound - place) (drop place bytes) code in omega arith
+
 -- Two spellings at the front of the same bytes are one.
 pub same_front : (i j : Instruction) (n m : ℕ) (bytes : List ℕ) → Spells i (take n bytes) → Spells j (take m bytes) → (i ≡ j) × (take n bytes ≡ take m bytes)
 same_front i j n m bytes one other =

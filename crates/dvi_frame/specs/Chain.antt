@@ -35,14 +35,18 @@ BreaksChain bytes post stop place Count =
     (place ≡ post) × (chain : List ℕ) × Links bytes post stop.last_bop chain × (stop.pages ≢ length chain % 65536)
 BreaksChain bytes post stop place cause = ⊥
 
--- The same of a refusal; want of memory may come at any time.
-abbrev pub IsChainRefusal : List ℕ → (post : ℕ) → Postamble → FrameFault → Type 0
-IsChainRefusal bytes post stop OutOfMemory = Unit {0}
-IsChainRefusal bytes post stop (Bad fault) = BreaksChain bytes post stop fault.place fault.cause
-
 -- There is a bop at a place that ends at or before a bound.
 abbrev pub IsPageAt : List ℕ → (place bound : ℕ) → Type 0
 IsPageAt bytes place bound = (counts : List ℤ) × (before : ℤ) × StandsAt bytes place bound (Bop counts before)
+
+-- A pointer names such a place.
+abbrev pub NamesPage : List ℕ → (bound : ℕ) → (pointer : ℤ) → Type 0
+NamesPage bytes bound pointer = (place : ℕ) × (pointer ≡ pos place) × IsPageAt bytes place bound
+
+-- The same of a refusal; memory is wanting only for the places of pages, and so only where post names one.
+abbrev pub IsChainRefusal : List ℕ → (post : ℕ) → Postamble → FrameFault → Type 0
+IsChainRefusal bytes post stop OutOfMemory = NamesPage bytes post stop.last_bop
+IsChainRefusal bytes post stop (Bad fault) = BreaksChain bytes post stop fault.place fault.cause
 
 -- What a pointer was found to name (own; private calls alone).
 abbrev pub Names : List ℕ → (at bound : ℕ) → (pointer : ℤ) → Named → Type 0
@@ -50,7 +54,7 @@ Names bytes at bound pointer Start = pointer ≡ negsuc 0
 Names bytes at bound pointer (Page place) = (pointer ≡ pos place) × (place < bound) × (IsPageAt bytes place bound)
 Names bytes at bound pointer (Nothing p) = (p ≡ at) × IsLost bytes bound pointer
 
--- A fault of the walk: a pointer that is lost; want of memory may come at any time (own; private calls alone).
+-- A fault of the walk: a pointer that is lost; memory is wanting only where the first one names a page (own; private calls alone).
 abbrev pub IsBrokenFrom : List ℕ → (at bound : ℕ) → (pointer : ℤ) → FrameFault → Type 0
-IsBrokenFrom bytes at bound pointer OutOfMemory = Unit {0}
+IsBrokenFrom bytes at bound pointer OutOfMemory = NamesPage bytes bound pointer
 IsBrokenFrom bytes at bound pointer (Bad fault) = (fault.cause ≡ Pointer) × IsBrokenAt bytes at bound pointer fault.place

@@ -20,6 +20,8 @@ pub fn read_at(bytes: &[u8], place: usize, bound: usize) -> Result<(Op<'_>, usiz
     ensures none { OnErr result ((i : Instruction) → StandsAt bytes.now place bound i → ⊥) }
     // Opcode comes only where the first byte begins no instruction.
     ensures opcode { result ≡ Err OpFault.Opcode → 250 ≤ slice_index bytes.now place }
+    // So there is a first byte.
+    ensures first { result ≡ Err OpFault.Opcode → place < bound }
     // Truncated comes only where it begins one.
     ensures truncated { result ≡ Err OpFault.Truncated → place < bound → 250 ≤ slice_index bytes.now place → ⊥ }
 {

@@ -101,7 +101,7 @@ pub fn chain(alloc: Global, bytes: &[u8], ending: &Ending) -> Result<Vec<usize>,
     ensures found { IfOk result (λ places. Links bytes.now ending.now.post ending.now.stop.last_bop places.items) }
     // They are as many as post says, modulo 65536.
     ensures count { IfOk result (λ places. ending.now.stop.pages ≡ length places.items % 65536) }
-    // The rule that a fault names is broken at its place, and those before it hold.
+    // The rule that a fault names is broken at its place, and those before it hold; memory is wanting only where post names a page.
     ensures bad { IfErr result (IsChainRefusal bytes.now ending.now.post (postamble ending.now.stop)) }
 {
     let places = match walk(alloc, bytes, ending.post + 1, ending.post) {

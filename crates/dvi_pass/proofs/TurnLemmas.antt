@@ -12,7 +12,7 @@ use Rattle.dvi_frame.specs.declared.fault.DviCause.{DviCause}
 use Rattle.dvi_frame.specs.declared.fault.DviCause.TheVariants.{Opcode, Stack, Glyph, Range}
 use Rattle.dvi_pass.specs.Drawing.{IsLeaf, IsStaying, IsUndrawn, does_of}
 use Rattle.dvi_pass.specs.Pass.{Pass, Between, Inside, turn, popped, ended}
-use Rattle.dvi_pass.specs.Turning.{BreaksTurn}
+use Rattle.dvi_pass.specs.Turning.{BreaksTurn, TakesRoom}
 use Rattle.dvi_pass.specs.View.{placed}
 use Rattle.dvi_pass.specs.declared.page.Place.{Place as Spot}
 
@@ -32,6 +32,10 @@ push_turn does most pages counts marks s old new place more same room =
 
 pub push_fault : (does : Acts) (most : ℕ) (pages : List MarkedPage) (counts : List ℤ) (marks : List Mark) (s : State) (old : List Spot) → most ≤ length old → most ≤ length (reverse (map placed old))
 push_fault does most pages counts marks s old many = let size = saved_size old in omega arith
+
+-- There is room for a push.
+pub push_room : (most : ℕ) (old : List Spot) → length old < most → length (reverse (map placed old)) < most
+push_room most old room = let size = saved_size old in omega arith
 
 pub pop_turn : (does : Acts) (most : ℕ) (pages : List MarkedPage) (counts : List ℤ) (marks : List Mark) (s : State) (old new : List Spot) (place : Spot) → old ≡ new ++ place ∷ []
     → turn does most Pop (Inside pages counts marks (reverse (map placed old)) s) ≡ Some (Inside pages counts marks (reverse (map placed new)) (record { place = placed place; font = s.font }))
@@ -63,6 +67,12 @@ draw_fault does most (Do leaf) pages counts marks stack s Glyph is u = u
 draw_fault does most (Do leaf) pages counts marks stack s Range is u = u
 draw_fault does most (Do leaf) pages counts marks stack s cause is u = absurd u
 draw_fault does most i pages counts marks stack s cause is u = absurd is
+
+-- An instruction that leaves a mark.
+pub draw_room : (does : Acts) (most : ℕ) (i : Instruction) (pages : List MarkedPage) (counts : List ℤ) (marks : List Mark) (stack : List Place) (s t : State) (mark : Mark) → IsLeaf i
+    → kept_in (does_of does i s) ≡ Some (mark ∷ [], t) → TakesRoom does most i (Inside pages counts marks stack s)
+draw_room does most (Do leaf) pages counts marks stack s t mark is e = (mark, t, e)
+draw_room does most i pages counts marks stack s t mark is e = absurd is
 
 -- What neither begins nor ends a page nor stands outside of one leaves it open.
 pub stay_left : (op : Op) → (op ≡ ops.Eop → ⊥) → ((counts : _) (pointer : _) → op ≡ ops.Bop counts pointer → ⊥) → ((id : _) (units : _) (comment : _) → op ≡ ops.Pre id units comment → ⊥)

@@ -1,7 +1,7 @@
 -- One instruction where the pass stands (DVItype, 15), and the rule that it breaks (own).
-use Rattle.std.specs.Prelude.{◌≡◌, ◌≢◌, ◌≤◌, [], List, length, map, reverse, ℕ, ℤ, Option, Some, None, Result, Ok, Err, IsSome}
+use Rattle.std.specs.Prelude.{◌≡◌, ◌≢◌, ◌<◌, ◌≤◌, [], ◌∷◌, List, length, map, reverse, ℕ, ℤ, Option, Some, None, Result, Ok, Err, IsSome}
 use Rattle.dvi_ops.specs.Instruction.{SetChar, PutChar, Nop, FontDef, Instruction, Do, Push, Pop, Bop, Eop}
-use Rattle.dvi_ops.specs.Body.{Acts, Widths, kept, kept_in}
+use Rattle.dvi_ops.specs.Body.{Acts, Mark, State, Widths, kept, kept_in}
 use Rattle.dvi_ops.specs.File.{MarkedPage}
 use Rattle.dvi_frame.specs.declared.fault.DviCause.{DviCause}
 use Rattle.dvi_frame.specs.declared.fault.DviCause.TheVariants.{Opcode, Stack, Glyph, Range}
@@ -45,9 +45,16 @@ abbrev pub pass_at : List MarkedPage → Stand → Pass
 pass_at pages stands.Between = Between pages
 pass_at pages (stands.Inside p) = inside_of pages p
 
--- A fault is want of memory, or names a rule that is broken.
+-- An instruction is right where the pass stands, and takes memory: push for the place, eop for the page, what leaves a mark for the mark.
+abbrev pub TakesRoom : Acts → (most : ℕ) → Instruction → Pass → Type 0
+TakesRoom does most Push (Inside pages counts marks stack s) = length stack < most
+TakesRoom does most Eop (Inside pages counts marks stack s) = stack ≡ []
+TakesRoom does most (Do leaf) (Inside pages counts marks stack s) = (mark : Mark) × (t : State) × (kept_in (does leaf s) ≡ Some (mark ∷ [], t))
+TakesRoom does most i p = ⊥
+
+-- A fault is want of memory for an instruction that is right, or names a rule that is broken.
 abbrev pub IsTurnFault : Acts → (most : ℕ) → Instruction → Pass → PassFault → Type 0
-IsTurnFault does most i p OutOfMemory = Unit {0}
+IsTurnFault does most i p OutOfMemory = TakesRoom does most i p
 IsTurnFault does most i p (Broken cause) = BreaksTurn does most i p cause
 
 -- What was found for an instruction in an open page that stays open.

@@ -26,7 +26,7 @@ use Rattle.dvi_pass.specs.declared.turning.Stand.{Stand}
 use Rattle.dvi_pass.specs.declared.turning.Stand.TheVariants as stands
 use Rattle.dvi_pass.proofs.PassedLemmas.{file_passed}
 use Rattle.dvi_pass.proofs.ReachedLemmas.{end_right, tail_right}
-use Rattle.dvi_read.specs.Opening.{HasPages, IsDviFault, LacksMemory, AtTheEnd, InTheChain, InThePreamble, InThePages, AtPost, BehindPost}
+use Rattle.dvi_read.specs.Opening.{HasPages, IsDviFault, ForPlaces, LookingAhead, AtTheEnd, InTheChain, InThePreamble, InThePages, AtPost, BehindPost, ForDefinitions}
 use Rattle.dvi_walk.specs.Steps.{known_of, places_left, stand_of}
 use Rattle.dvi_walk.specs.Walks.{IsUnended}
 use Rattle.dvi_walk.specs.declared.fault.DviFault.{DviFault}
@@ -106,17 +106,18 @@ module _ (files : List NamedBytes) (bytes : List ℕ) (post behind last : ℕ) (
 
 -- A fault that is none of memory.
 pub no_fault : (files : List NamedBytes) (bytes : List ℕ) (fault : DviFault) (pages : List MarkedPage) → fault ≢ OutOfMemory → IsDviFault files bytes fault → IsFile (file_widths files) bytes pages → ⊥
-no_fault files bytes fault pages other (LacksMemory e) f = other e
+no_fault files bytes fault pages other (ForPlaces post e stop is ends named) f = other is
+no_fault files bytes fault pages other (LookingAhead post behind last stop chain from table is starts wants) f = other is
 no_fault files bytes fault pages other (AtTheEnd bad e broken) f = end_fault bytes bad.place bad.cause broken f.frame
 no_fault files bytes fault pages other (InTheChain bad post e stop is ends broken) f = chain_fault (file_widths files) bytes pages post e bad.place stop bad.cause ends broken f
 no_fault files bytes fault pages other (InThePreamble bad post behind last stop chain is chained broken) f =
     preamble_there files bytes post behind last stop chain chained.framed pages (file_passed bytes post behind last stop chain chained.framed (file_widths files) pages f) bad broken
-no_fault files bytes fault pages other (InThePages post behind last stop chain from table starts ahead broken) f =
+no_fault files bytes fault pages other (InThePages post behind last stop chain from table starts ahead broken stray) f =
     let framed = starts.chained.framed in
     let passed = file_passed bytes post behind last stop chain framed (file_widths files) pages f in
     walk_fault files table bytes post behind last stop chain pages fault (post_within files bytes post behind last stop chain framed) other broken passed
     (table_is files bytes post behind last stop chain framed pages passed table ahead)
-no_fault files bytes fault pages other (AtPost bad post behind last stop chain from table walk is has broken) f =
+no_fault files bytes fault pages other (AtPost bad post behind last stop chain from table walk is has broken unmet) f =
     let framed = has.starts.chained.framed in
     let passed = file_passed bytes post behind last stop chain framed (file_widths files) pages f in
     pages_ended files bytes post behind last stop chain framed pages passed bad from table walk has broken
@@ -124,3 +125,4 @@ no_fault files bytes fault pages other (BehindPost bad post behind last stop cha
     let framed = has.starts.chained.framed in
     let passed = file_passed bytes post behind last stop chain framed (file_widths files) pages f in
     tail_is_right files bytes post behind last stop chain framed pages passed bad from table new walk has broken
+no_fault files bytes fault pages other (ForDefinitions post behind last stop chain from table new walk is has ended wants) f = other is

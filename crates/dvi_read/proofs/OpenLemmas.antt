@@ -29,20 +29,21 @@ use Rattle.dvi_pass.specs.declared.turning.Stand.{Stand}
 use Rattle.dvi_pass.proofs.PassedLemmas.{passed_file}
 use Rattle.dvi_pass.proofs.ReachedLemmas.{reached_end, reached_first}
 use Rattle.dvi_read.specs.Opened.{Opened, GivesPages, HasFontsOf, HasUnitsOf, IsExact, IsNoFile, IsReadFrom}
-use Rattle.dvi_read.specs.Opening.{HasPages, IsDviFault, IsFinishFault, StartsAt, LacksMemory, InTheChain, AtPost, BehindPost}
+use Rattle.dvi_read.specs.Opening.{HasPages, IsDviFault, IsFinishFault, IsStray, StartsAt, ForPlaces, InTheChain, AtPost, BehindPost, ForDefinitions}
 use Rattle.dvi_read.proofs.FaultLemmas.{behind_within, no_fault, post_within}
 use Rattle.dvi_walk.specs.Steps.{known_of, places_left, stand_of}
-use Rattle.dvi_walk.specs.Walks.{HasEnded, IsWalked}
+use Rattle.dvi_walk.specs.Walks.{HasEnded, IsWalked, IsWalkFault}
 use Rattle.dvi_walk.specs.declared.fault.DviFault.{DviFault}
 use Rattle.dvi_walk.specs.declared.fault.DviFault.TheVariants as faults
 use Rattle.dvi_walk.specs.declared.walk.Walk.{Walk}
+use Rattle.dvi_walk.proofs.PointerLemmas.{stray_bop, stray_pointer, unmet_pointer}
 use Rattle.tfm_core.specs.FileWidths.{file_widths}
 use Rattle.tfm_core.specs.NamedBytes.{NamedBytes}
 
 -- A refusal of the chain.
 pub chain_refused : (files : List NamedBytes) (bytes : List ℕ) (post e : ℕ) (stop : Postamble) (fault : FrameFault) (result : DviFault) → Ends bytes post e stop → IsChainRefusal bytes post stop fault
     → ((bad : BadDvi) → fault ≡ frames.Bad bad → result ≡ faults.Bad bad) → (fault ≡ frames.OutOfMemory → result ≡ faults.OutOfMemory) → IsDviFault files bytes result
-chain_refused files bytes post e stop frames.OutOfMemory result ends broken bad memory = LacksMemory (memory refl)
+chain_refused files bytes post e stop frames.OutOfMemory result ends named bad memory = ForPlaces post e stop (memory refl) ends named
 chain_refused files bytes post e stop (frames.Bad fault) result ends broken bad memory = InTheChain fault post e stop (bad fault refl) ends broken
 
 -- What is behind the preamble begins the walk.
@@ -52,6 +53,14 @@ starts_reached files bytes post behind last stop chain from table starts =
     let high = post_within files bytes post behind last stop chain starts.chained.framed in
     let within = starts.preamble.within in
     reached_first (file_widths files) table bytes stop chain from starts.preamble.comment (omega arith) starts.preamble.spelled
+
+-- A pointer that is named in the pages is that of a bop that is not in the chain.
+pub strays : (files : List NamedBytes) (table : List Definition) (bytes : List ℕ) (post behind last : ℕ) (stop : Postamble) (chain : List ℕ) (fault : DviFault) → IsFramed bytes post behind last stop chain
+    → IsWalkFault files table bytes stop chain post fault → IsStray bytes post chain fault
+strays files table bytes post behind last stop chain fault framed broken = λ bad is cause.
+    let walk = subst (λ (fault : DviFault). IsWalkFault files table bytes stop chain post fault) is broken in
+    let high = post_within files bytes post behind last stop chain framed in
+    (stray_bop files table bytes stop chain post bad cause walk, stray_pointer files table bytes stop chain post post stop.last_bop bad high framed.links cause walk)
 
 -- What was found makes a file of the pages.
 pub opened : (files : List NamedBytes) (bytes : List ℕ) (post behind last : ℕ) (stop : Postamble) (chain : List ℕ) (from : ℕ) (table new : List Definition) (walk : Walk)
@@ -83,8 +92,9 @@ units_of_post bytes post e stop ends f =
 -- A refusal at post's place or behind it.
 pub finish_refused : (files : List NamedBytes) (bytes : List ℕ) (post behind last : ℕ) (stop : Postamble) (chain : List ℕ) (from : ℕ) (table : List Definition) (walk : Walk) (fault : DviFault)
     → HasPages files bytes post behind last stop chain from table walk → IsFinishFault bytes post behind last walk fault → IsDviFault files bytes fault
-finish_refused files bytes post behind last stop chain from table walk faults.OutOfMemory has broken = LacksMemory refl
-finish_refused files bytes post behind last stop chain from table walk (faults.Bad bad) has (inl unended) = AtPost bad post behind last stop chain from table walk refl has unended
+finish_refused files bytes post behind last stop chain from table walk faults.OutOfMemory has (ended, new, wants) = ForDefinitions post behind last stop chain from table new walk refl has ended wants
+finish_refused files bytes post behind last stop chain from table walk (faults.Bad bad) has (inl unended) =
+    AtPost bad post behind last stop chain from table walk refl has unended (λ cause. unmet_pointer (file_widths files) table bytes stop chain post walk bad has.walked cause unended)
 finish_refused files bytes post behind last stop chain from table walk (faults.Bad bad) has (inr (ended, new, broken)) = BehindPost bad post behind last stop chain from table new walk refl has ended broken
 finish_refused files bytes post behind last stop chain from table walk fault has broken = absurd broken
 
@@ -187,8 +197,8 @@ exact_open files bytes result read bad = λ pages f. exactly files bytes result 
 pub tail_refused : (bytes : List ℕ) (post behind last : ℕ) (walk : Walk) (new : List Definition) (fault : FrameFault) (result : DviFault) → HasEnded walk
     → IsClosingFault bytes behind (last - 5) (known_of walk) new fault
     → ((bad : BadDvi) → fault ≡ frames.Bad bad → result ≡ faults.Bad bad) → (fault ≡ frames.OutOfMemory → result ≡ faults.OutOfMemory) → IsFinishFault bytes post behind last walk result
-tail_refused bytes post behind last walk new frames.OutOfMemory result ended broken bad memory =
-    subst (λ (f : DviFault). IsFinishFault bytes post behind last walk f) (sym (memory refl)) tt
+tail_refused bytes post behind last walk new frames.OutOfMemory result ended wants bad memory =
+    subst (λ (f : DviFault). IsFinishFault bytes post behind last walk f) (sym (memory refl)) (ended, new, wants)
 tail_refused bytes post behind last walk new (frames.Bad fault) result ended broken bad memory =
     subst (λ (f : DviFault). IsFinishFault bytes post behind last walk f) (sym (bad fault refl)) (inr (ended, new, broken))
 

@@ -1,14 +1,17 @@
 -- What is found in a file before its pages, and the rules that a refusal names, in the order of the checks (DVItype, 15 to 20; the order is own).
-use Rattle.std.specs.Prelude.{◌≡◌, ◌⊎◌, ◌-◌, ◌%◌, List, length, ℕ}
+use Rattle.std.specs.Prelude.{◌≡◌, ◌≢◌, ◌⊎◌, ◌-◌, ◌%◌, [], List, length, reverse, ℕ}
 use Rattle.dvi_closing.specs.Closing.{IsClosingFault, IsLookedAhead}
-use Rattle.dvi_frame.specs.Chain.{BreaksChain}
+use Rattle.dvi_frame.specs.Chain.{BreaksChain, IsPageAt, NamesPage}
 use Rattle.dvi_frame.specs.Ends.{BreaksEnd, Ends}
 use Rattle.dvi_frame.specs.Preamble.{HasPreamble, IsPreambleFault}
 use Rattle.dvi_frame.specs.declared.fault.BadDvi.{BadDvi}
+use Rattle.dvi_frame.specs.declared.fault.DviCause.TheVariants.{Pointer}
 use Rattle.dvi_frame.specs.declared.fault.FrameFault.TheVariants as frames
 use Rattle.dvi_ops.specs.Instruction.{Definition, Postamble}
+use Rattle.dvi_ops.specs.Tokens.{Token, places}
 use Rattle.dvi_ops.specs.View.{postamble}
 use Rattle.dvi_pass.specs.Passed.{IsFramed}
+use Rattle.dvi_pass.specs.Reached.{IsIn}
 use Rattle.dvi_read.specs.declared.before_pages.Front.{Front}
 use Rattle.dvi_walk.specs.Steps.{known_of}
 use Rattle.dvi_walk.specs.Walks.{HasEnded, IsUnended, IsWalkFault, IsWalked}
@@ -38,26 +41,40 @@ pub record HasPages (files : List NamedBytes) (bytes : List ℕ) (post behind la
   pub ahead : IsLookedAhead bytes behind (last - 5) table
   pub walked : IsWalked (file_widths files) table bytes stop chain post walk
 
+-- Where a fault in the pages names Pointer, a bop stands at its place, and that place is not in the chain.
+abbrev pub IsStray : List ℕ → (post : ℕ) → (chain : List ℕ) → DviFault → Type 0
+IsStray bytes post chain fault = (bad : BadDvi) → fault ≡ Bad bad → bad.cause ≡ Pointer → IsPageAt bytes bad.place post × (IsIn bad.place (reverse chain) → ⊥)
+
+-- Where a fault at post's place names Pointer, the bops of the instructions up to there are not at the places of the chain.
+abbrev pub IsUnmet : (before : List Token) → (chain : List ℕ) → BadDvi → Type 0
+IsUnmet before chain bad = bad.cause ≡ Pointer → places 0 before ≢ reverse chain
+
 -- Why a file is refused. Each choice says that the rules of the checks before it hold, and which rule is broken at the place that the fault names:
 -- of the end; of the chain of pages; of the preamble; of the pages; of post's place, where no page is open and each place of the chain was a bop; of what is behind post.
--- Want of memory may come at any time.
+-- Memory may be wanting for the places of the chain, where post names a page; for an instruction of the pages; for a right definition behind post: looked ahead, and where it stands.
 pub data IsDviFault (files : List NamedBytes) (bytes : List ℕ) (fault : DviFault) : Type 0 where
-  LacksMemory : fault ≡ OutOfMemory → IsDviFault files bytes fault
+  ForPlaces : (post e : ℕ) (stop : Postamble) → fault ≡ OutOfMemory → Ends bytes post e stop → NamesPage bytes post stop.last_bop → IsDviFault files bytes fault
+  LookingAhead : (post behind last : ℕ) (stop : Postamble) (chain : List ℕ) (from : ℕ) (table : List Definition) → fault ≡ OutOfMemory → StartsAt bytes post behind last stop chain from
+      → IsClosingFault bytes behind (last - 5) [] table frames.OutOfMemory → IsDviFault files bytes fault
   AtTheEnd : (bad : BadDvi) → fault ≡ Bad bad → BreaksEnd bytes bad.place bad.cause → IsDviFault files bytes fault
   InTheChain : (bad : BadDvi) (post e : ℕ) (stop : Postamble) → fault ≡ Bad bad → Ends bytes post e stop → BreaksChain bytes post stop bad.place bad.cause → IsDviFault files bytes fault
   InThePreamble : (bad : BadDvi) (post behind last : ℕ) (stop : Postamble) (chain : List ℕ) → fault ≡ Bad bad → HasChain bytes post behind last stop chain
       → IsPreambleFault bytes post stop bad → IsDviFault files bytes fault
   InThePages : (post behind last : ℕ) (stop : Postamble) (chain : List ℕ) (from : ℕ) (table : List Definition) → StartsAt bytes post behind last stop chain from
-      → IsLookedAhead bytes behind (last - 5) table → IsWalkFault files table bytes stop chain post fault → IsDviFault files bytes fault
+      → IsLookedAhead bytes behind (last - 5) table → IsWalkFault files table bytes stop chain post fault → IsStray bytes post chain fault
+      → IsDviFault files bytes fault
   AtPost : (bad : BadDvi) (post behind last : ℕ) (stop : Postamble) (chain : List ℕ) (from : ℕ) (table : List Definition) (walk : Walk) → fault ≡ Bad bad
-      → HasPages files bytes post behind last stop chain from table walk → IsUnended walk post bad → IsDviFault files bytes fault
+      → (has : HasPages files bytes post behind last stop chain from table walk) → IsUnended walk post bad → IsUnmet has.walked.reached.before chain bad → IsDviFault files bytes fault
   BehindPost : (bad : BadDvi) (post behind last : ℕ) (stop : Postamble) (chain : List ℕ) (from : ℕ) (table new : List Definition) (walk : Walk) → fault ≡ Bad bad
       → HasPages files bytes post behind last stop chain from table walk → HasEnded walk → IsClosingFault bytes behind (last - 5) (known_of walk) new (frames.Bad bad)
       → IsDviFault files bytes fault
+  ForDefinitions : (post behind last : ℕ) (stop : Postamble) (chain : List ℕ) (from : ℕ) (table new : List Definition) (walk : Walk) → fault ≡ OutOfMemory
+      → HasPages files bytes post behind last stop chain from table walk → HasEnded walk → IsClosingFault bytes behind (last - 5) (known_of walk) new frames.OutOfMemory
+      → IsDviFault files bytes fault
 
--- Why a walk does not end at post's place, or what is behind post is wrong.
+-- Why a walk does not end at post's place, or what is behind post is wrong, or memory is wanting for a definition there.
 abbrev pub IsFinishFault : List ℕ → (post behind last : ℕ) → Walk → DviFault → Type 0
-IsFinishFault bytes post behind last walk OutOfMemory = Unit {0}
+IsFinishFault bytes post behind last walk OutOfMemory = HasEnded walk × (new : List Definition) × IsClosingFault bytes behind (last - 5) (known_of walk) new frames.OutOfMemory
 IsFinishFault bytes post behind last walk (Bad bad) =
     IsUnended walk post bad ⊎ HasEnded walk × (new : List Definition) × IsClosingFault bytes behind (last - 5) (known_of walk) new (frames.Bad bad)
 IsFinishFault bytes post behind last walk fault = ⊥

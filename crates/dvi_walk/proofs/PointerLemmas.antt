@@ -2,7 +2,8 @@
 use Rattle.std.proofs.Common.{◌≡◌, ◌≢◌, ◌≤◌, [], ◌∷◌, List, true, false, ℕ, ℤ, min, None, length, reverse, sym, ◌∙◌, ap, subst, inl, inr, arith}
 use Rattle.std.specs.Prelude.{◌⊎◌}
 use Rattle.std.proofs.lemmas.List.{reverse-reverse}
-use Rattle.dvi_frame.specs.Chain.{Links}
+use Rattle.dvi_frame.specs.Chain.{IsPageAt, Links}
+use Rattle.dvi_frame.specs.Ends.{StandsAt}
 use Rattle.dvi_frame.specs.declared.fault.BadDvi.{BadDvi}
 use Rattle.dvi_frame.specs.declared.fault.DviCause.{DviCause}
 use Rattle.dvi_frame.specs.declared.fault.DviCause.TheVariants.{Opcode, Pointer}
@@ -35,6 +36,22 @@ no_pointer does most i (Between pages) b = b
 not_left : (at : ℕ) (i : Instruction) (left : Left) → behind_bops (place_of at i) left ≡ None → behind_bops (at ∷ []) left ≡ None
 not_left at (Bop counts pointer) left e = e
 not_left at i left e = absurd cc
+
+bop_at : (bytes : List ℕ) (at post : ℕ) (i : Instruction) (left : Left) → behind_bops (place_of at i) left ≡ None → StandsAt bytes at post i → IsPageAt bytes at post
+bop_at bytes at post (Bop counts pointer) left e stands = (counts, pointer, stands)
+bop_at bytes at post i left e stands = absurd cc
+
+pub stray_bop : (files : List NamedBytes) (table : List Definition) (bytes : List ℕ) (stop : Postamble) (chain : List ℕ) (post : ℕ) (bad : BadDvi)
+    → bad.cause ≡ Pointer → IsWalkFault files table bytes stop chain post (Bad bad) → IsPageAt bytes bad.place post
+stray_bop files table bytes stop chain post bad cause (at, walk, stops) =
+    let metrics : Metrics = file_widths files in
+    let (place, broken) = stops.stops in
+    let (i, stands, rule) = subst (λ (cause : DviCause). BreaksPages metrics table bytes (min 1024 stop.stack_depth) at post walk cause) cause broken in
+    subst (λ (n : ℕ). IsPageAt bytes n post) (sym place) (by_rule i stands rule)
+  where
+    by_rule : (i : Instruction) → StandsAt bytes at post i → BreaksRule (file_widths files) table (min 1024 stop.stack_depth) at i walk Pointer → IsPageAt bytes at post
+    by_rule i stands (inl b) = absurd (no_pointer (acts (widths_of (file_widths files) table)) (min 1024 stop.stack_depth) i (stand_of walk) b)
+    by_rule i stands (inr b) = bop_at bytes at post i (places_left walk) b stands
 
 pub stray_pointer : (files : List NamedBytes) (table : List Definition) (bytes : List ℕ) (stop : Postamble) (chain : List ℕ) (post bound : ℕ) (pointer : ℤ) (bad : BadDvi)
     → post ≤ length bytes → Links bytes bound pointer chain → bad.cause ≡ Pointer → IsWalkFault files table bytes stop chain post (Bad bad) → IsIn bad.place (reverse chain) → ⊥

@@ -11,13 +11,13 @@ use Rattle.dvi_ops.specs.Instruction.{Definition, Leaf, SetChar, PutChar, SetRul
 use Rattle.dvi_pass.specs.Drawing.{always}
 use Rattle.dvi_pass.specs.Pass.{Pass, Between, Inside, drawn, turn}
 use Rattle.dvi_pass.specs.Reached.{Left, behind_bops}
-use Rattle.dvi_pass.specs.Turning.{BreaksTurn, IsAsked, pass_at}
+use Rattle.dvi_pass.specs.Turning.{BreaksTurn, IsAsked, TakesRoom, pass_at}
 use Rattle.dvi_pass.specs.View.{page_of}
 use Rattle.dvi_pass.specs.declared.turning.Stand.{Stand}
 use Rattle.dvi_pass.specs.declared.turning.Stand.TheVariants as stands
 use Rattle.dvi_pass.proofs.WidthLemmas.{one_width}
 use Rattle.dvi_walk.specs.ReadFonts.{AreSound, IsCurrent, ReadFonts, asked_width, code_in, read_of, selected_in, width_in}
-use Rattle.dvi_walk.specs.Steps.{BreaksNote, BreaksPass, BreaksRest, BreaksStep, Notes, PassesOn, Steps, stand_of}
+use Rattle.dvi_walk.specs.Steps.{BreaksNote, BreaksPass, BreaksRest, BreaksStep, IsUnread, LacksRoom, Notes, PassesOn, Steps, WantsMemory, stand_of}
 use Rattle.dvi_walk.specs.declared.fault.StepFault.{StepFault}
 use Rattle.dvi_walk.specs.declared.fault.StepFault.TheVariants.{OutOfMemory, Broken, Refused}
 use Rattle.dvi_walk.specs.declared.walk.Walk.{Walk}
@@ -60,6 +60,11 @@ breaks_same widths width most (Do leaf) (Inside pages counts marks stack s) Glyp
 breaks_same widths width most (Do leaf) (Inside pages counts marks stack s) Range asked b =
     subst (λ (m : Meaning). IsSome m × (kept_in m ≡ None)) (same_act widths width leaf pages counts marks stack s asked) b
 breaks_same widths width most i p cause asked b = b
+
+room_same : (widths : Widths) (width : Option ℤ) (most : ℕ) (i : Instruction) (p : Pass) → IsAsked widths i p width → TakesRoom (acts (always width)) most i p → TakesRoom (acts widths) most i p
+room_same widths width most (Do leaf) (Inside pages counts marks stack s) asked (mark, t, e) =
+    (mark, t, subst (λ (m : Meaning). kept_in m ≡ Some (mark ∷ [], t)) (same_act widths width leaf pages counts marks stack s asked) e)
+room_same widths width most i p asked b = b
 
 -- The font that is selected where a pass stands.
 abbrev pub current_of : Pass → Option ℤ
@@ -161,14 +166,23 @@ stepped files table most at i old mid new sound current passes notes =
 -- A fault of the pass, and one of what is noted.
 pub pass_fault : (files : List NamedBytes) (table : List Definition) (most at : ℕ) (i : Instruction) (old : Walk) (fault : StepFault) → AreSound (file_widths files) table old.fonts
     → IsCurrent old.fonts old.stand → BreaksPass most i old fault → BreaksStep files table most at i old fault
-pass_fault files table most at i old OutOfMemory sound current b = tt
+pass_fault files table most at i old OutOfMemory sound current b =
+    inl (room_same (widths_of (file_widths files) table) (asked_width old.fonts (selected_in old.stand) (code_in i)) most i (stand_of old)
+    (asked_is (file_widths files) table old.fonts (map page_of old.done.items) i old.stand sound current) b)
 pass_fault files table most at i old (Broken cause) sound current b =
     inl (breaks_same (widths_of (file_widths files) table) (asked_width old.fonts (selected_in old.stand) (code_in i)) most i (stand_of old) cause
     (asked_is (file_widths files) table old.fonts (map page_of old.done.items) i old.stand sound current) b)
 pass_fault files table most at i old (Refused refusal) sound current b = absurd b
 
+-- Behind the pass the fonts are as they were.
+lacks_same : (files : List NamedBytes) (table : List Definition) (most : ℕ) (i : Instruction) (old mid : Walk) → PassesOn most i old mid → LacksRoom files table i mid → LacksRoom files table i old
+lacks_same files table most (Do (FontDef d)) old mid passes right = subst (λ (ds : List Definition). IsRightAfter ds (Do (FontDef d))) passes.known right
+lacks_same files table most (Do (FontNum f)) old mid passes wants =
+    subst₂ (λ (ds : List Definition) (fonts : ReadFonts). WantsMemory files table ds f fonts) passes.known passes.fonts wants
+lacks_same files table most i old mid passes none = absurd none
+
 pub note_fault : (files : List NamedBytes) (table : List Definition) (most at : ℕ) (i : Instruction) (old mid : Walk) (fault : StepFault) → PassesOn most i old mid → BreaksNote files table at i mid fault
     → BreaksStep files table most at i old fault
-note_fault files table most at i old mid OutOfMemory passes b = tt
+note_fault files table most at i old mid OutOfMemory passes b = inr (lacks_same files table most i old mid passes b)
 note_fault files table most at i old mid (Broken cause) passes b = inr (subst₂ (λ (ds : List Definition) (left : Left). BreaksRest table ds at left i cause) passes.known passes.left b)
-note_fault files table most at i old mid (Refused refusal) passes b = b
+note_fault files table most at i old mid (Refused refusal) passes (f, is, unread) = (f, is, subst (λ (ds : List Definition). IsUnread files table ds f refusal) passes.known unread)

@@ -60,9 +60,9 @@ pages_break metrics table bytes most at post walk cause i stands b = (i, stands,
 -- The fault of an instruction that stands there.
 pub taken_fault : (files : List NamedBytes) (table : List Definition) (bytes : List ℕ) (most at post : ℕ) (walk : Walk) (i : Instruction) (fault : StepFault) → StandsAt bytes at post i
     → BreaksStep files table most at i walk fault → IsPagesFault files table bytes most at post walk (fault_in at fault)
-taken_fault files table bytes most at post walk i OutOfMemory stands b = tt
+taken_fault files table bytes most at post walk i OutOfMemory stands b = (i, stands, b)
 taken_fault files table bytes most at post walk i (Broken cause) stands b = (refl, pages_break (file_widths files) table bytes most at post walk cause i stands b)
-taken_fault files table bytes most at post walk i (Refused refusals.OutOfMemory) stands b = tt
+taken_fault files table bytes most at post walk i (Refused refusals.OutOfMemory) stands (f, is, unread) = absurd (unread.other refl)
 taken_fault files table bytes most at post walk i (Refused refusals.NoFont) stands (f, is, unread) = (f, subst (λ (i : Instruction). StandsAt bytes at post i) is stands, unread)
 taken_fault files table bytes most at post walk i (Refused (refusals.BadTfm cause)) stands (f, is, unread) = (f, subst (λ (i : Instruction). StandsAt bytes at post i) is stands, unread)
 taken_fault files table bytes most at post walk i (Refused refusals.DimensionTooLarge) stands (f, is, unread) = (f, subst (λ (i : Instruction). StandsAt bytes at post i) is stands, unread)
@@ -118,12 +118,12 @@ nothing_right files table bytes stop at post walk known i q later fault other sa
         (subst (λ (i : Instruction). BreaksRule (file_widths files) table (min 1024 stop.stack_depth) at i walk cause) (one_stands bytes at post post j i there stands) b)
 
     pages : (cause : DviCause) → BreaksPages (file_widths files) table bytes (min 1024 stop.stack_depth) at post walk cause → ⊥
-    pages Truncated none = none i stands
+    pages Truncated (begins, none) = none i stands
     pages Opcode (inl (code, none)) = none i stands
     pages Opcode (inr (j, there, b)) = rule Opcode j there b
     pages cause b = rule cause b.0 b.1 b.2
 
-    widths : (refusal : FontRefusal) → LacksWidths files table bytes at post refusal → ⊥
+    widths : (refusal : FontRefusal) → LacksWidths files table (known_of walk) bytes at post refusal → ⊥
     widths refusal (f, there, unread) =
         let is : i ≡ Do (FontNum f) = one_stands bytes at post post i (Do (FontNum f)) stands there in
         let some = selected_widths (file_widths files) table f i is right.closing in

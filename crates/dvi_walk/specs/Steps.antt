@@ -8,12 +8,12 @@ use Rattle.dvi_frame.specs.declared.fault.DviCause.{DviCause}
 use Rattle.dvi_frame.specs.declared.fault.DviCause.TheVariants.{Pointer, Font}
 use Rattle.dvi_ops.specs.Body.{acts, kept}
 use Rattle.dvi_ops.specs.Fonts.{Metrics, IsRightAfter, defined, definition_of, selection_of, widths_of}
-use Rattle.dvi_ops.specs.Instruction.{Definition, FontNum, Instruction, Do}
+use Rattle.dvi_ops.specs.Instruction.{Definition, FontDef, FontNum, Instruction, Do}
 use Rattle.dvi_ops.specs.Tokens.{place_of}
 use Rattle.dvi_pass.specs.Drawing.{always}
 use Rattle.dvi_pass.specs.Pass.{Pass, turn}
 use Rattle.dvi_pass.specs.Reached.{HasWidths, Left, behind_bops}
-use Rattle.dvi_pass.specs.Turning.{BreaksTurn, pass_at}
+use Rattle.dvi_pass.specs.Turning.{BreaksTurn, TakesRoom, pass_at}
 use Rattle.dvi_pass.specs.View.{page_of}
 use Rattle.dvi_walk.specs.ReadFonts.{AreSound, IsCurrent, ReadFonts, asked_width, code_in, read_of, selected_in}
 use Rattle.dvi_walk.specs.declared.fault.StepFault.{StepFault}
@@ -34,18 +34,27 @@ pub record Selects (metrics : Metrics) (table known : List Definition) (f : ℤ)
 abbrev pub IsUndefined : (table known : List Definition) → ℤ → Type 0
 IsUndefined table known f = (defined f known ≡ None) ⊎ (defined f table ≡ None)
 
--- What is said of the font that the postamble defines: no file of its name was handed in, or that file is bad, or does not fit at that size.
-pub record IsUnread (files : List NamedBytes) (table : List Definition) (f : ℤ) (refusal : FontRefusal) : Type 0 where
+-- What is said of a font that is defined before, by its definition in the postamble: no file of its name was handed in, or that file is bad, or does not fit at that size.
+pub record IsUnread (files : List NamedBytes) (table known : List Definition) (f : ℤ) (refusal : FontRefusal) : Type 0 where
+  pub before : IsSome (defined f known)
   pub font : Definition
   pub found : defined f table ≡ Some font
   pub other : refusal ≢ refusals.OutOfMemory
   pub refused : IsFontRefusal files font refusal
 
--- Why a font was not selected; want of memory may come at any time.
-abbrev pub IsSelectFault : List NamedBytes → (table known : List Definition) → ℤ → StepFault → Type 0
-IsSelectFault files table known f OutOfMemory = Unit {0}
-IsSelectFault files table known f (Broken cause) = (cause ≡ Font) × IsUndefined table known f
-IsSelectFault files table known f (Refused refusal) = IsUnread files table f refusal
+-- Memory is wanting for a font: it is defined before, was not read, and a file of the name that the postamble gives it was handed in.
+pub record WantsMemory (files : List NamedBytes) (table known : List Definition) (f : ℤ) (fonts : ReadFonts) : Type 0 where
+  pub before : IsSome (defined f known)
+  pub new : read_of f fonts ≡ None
+  pub font : Definition
+  pub found : defined f table ≡ Some font
+  pub file : IsFontRefusal files font refusals.OutOfMemory
+
+-- Why a font was not selected, where these fonts were read.
+abbrev pub IsSelectFault : List NamedBytes → (table known : List Definition) → ReadFonts → ℤ → StepFault → Type 0
+IsSelectFault files table known fonts f OutOfMemory = WantsMemory files table known f fonts
+IsSelectFault files table known fonts f (Broken cause) = (cause ≡ Font) × IsUndefined table known f
+IsSelectFault files table known fonts f (Refused refusal) = IsUnread files table known f refusal
 
 -- Where a walk stands in the pass.
 abbrev pub stand_of : Walk → Pass
@@ -79,11 +88,17 @@ BreaksRest table known at left i Pointer = behind_bops (place_of at i) left ≡ 
 BreaksRest table known at left i Font = (IsRightAfter known i → ⊥) ⊎ (f : ℤ) × (i ≡ Do (FontNum f)) × (defined f table ≡ None)
 BreaksRest table known at left i cause = ⊥
 
--- The same of a fault; a selected font may have no widths, and want of memory may come at any time.
+-- Memory is wanting for what an instruction says of fonts: for a definition that is right, or for a font that it selects.
+abbrev pub LacksRoom : List NamedBytes → (table : List Definition) → Instruction → Walk → Type 0
+LacksRoom files table (Do (FontDef d)) walk = IsRightAfter (known_of walk) (Do (FontDef d))
+LacksRoom files table (Do (FontNum f)) walk = WantsMemory files table (known_of walk) f walk.fonts
+LacksRoom files table i walk = ⊥
+
+-- The same of a fault; a selected font may have no widths, or memory may be wanting.
 abbrev pub BreaksNote : List NamedBytes → (table : List Definition) → (at : ℕ) → Instruction → Walk → StepFault → Type 0
-BreaksNote files table at i walk OutOfMemory = Unit {0}
+BreaksNote files table at i walk OutOfMemory = LacksRoom files table i walk
 BreaksNote files table at i walk (Broken cause) = BreaksRest table (known_of walk) at (places_left walk) i cause
-BreaksNote files table at i walk (Refused refusal) = (f : ℤ) × (i ≡ Do (FontNum f)) × IsUnread files table f refusal
+BreaksNote files table at i walk (Refused refusal) = (f : ℤ) × (i ≡ Do (FontNum f)) × IsUnread files table (known_of walk) f refusal
 
 -- The width of the character that an instruction sets or puts, in the font that is selected.
 abbrev pub asked_of : Walk → Instruction → Option ℤ
@@ -96,9 +111,9 @@ pub record PassesOn (most : ℕ) (i : Instruction) (old new : Walk) : Type 0 whe
   pub fonts : new.fonts ≡ old.fonts
   pub left : places_left new ≡ places_left old
 
--- It does not go on.
+-- It does not go on, or memory is wanting for it.
 abbrev pub BreaksPass : (most : ℕ) → Instruction → Walk → StepFault → Type 0
-BreaksPass most i walk OutOfMemory = Unit {0}
+BreaksPass most i walk OutOfMemory = TakesRoom (acts (always (asked_of walk i))) most i (stand_of walk)
 BreaksPass most i walk (Broken cause) = BreaksTurn (acts (always (asked_of walk i))) most i (stand_of walk) cause
 BreaksPass most i walk (Refused refusal) = ⊥
 
@@ -117,8 +132,12 @@ abbrev pub BreaksRule : (metrics : Metrics) → (table : List Definition) → (m
 BreaksRule metrics table most at i walk cause =
     BreaksTurn (acts (widths_of metrics table)) most i (stand_of walk) cause ⊎ BreaksRest table (known_of walk) at (places_left walk) i cause
 
+-- An instruction takes memory: in the pass, or for what it says of fonts.
+abbrev pub TakesMemory : List NamedBytes → (table : List Definition) → (most : ℕ) → Instruction → Walk → Type 0
+TakesMemory files table most i walk = TakesRoom (acts (widths_of (file_widths files) table)) most i (stand_of walk) ⊎ LacksRoom files table i walk
+
 -- The same of a fault.
 abbrev pub BreaksStep : List NamedBytes → (table : List Definition) → (most at : ℕ) → Instruction → Walk → StepFault → Type 0
-BreaksStep files table most at i walk OutOfMemory = Unit {0}
+BreaksStep files table most at i walk OutOfMemory = TakesMemory files table most i walk
 BreaksStep files table most at i walk (Broken cause) = BreaksRule (file_widths files) table most at i walk cause
-BreaksStep files table most at i walk (Refused refusal) = (f : ℤ) × (i ≡ Do (FontNum f)) × IsUnread files table f refusal
+BreaksStep files table most at i walk (Refused refusal) = (f : ℤ) × (i ≡ Do (FontNum f)) × IsUnread files table (known_of walk) f refusal

@@ -1,7 +1,7 @@
 //! What a walk over the pages has to do with a file, as the contracts of functions that do nothing.
 
 ghost use Rattle.std.specs.Prelude.{◌≡◌, ◌≢◌, ◌≤◌, List, length, reverse, ℕ, ℤ};
-ghost use Rattle.dvi_frame.specs.Chain.{Links};
+ghost use Rattle.dvi_frame.specs.Chain.{IsPageAt, Links};
 ghost use Rattle.dvi_frame.specs.declared.fault.BadDvi.{BadDvi};
 ghost use Rattle.dvi_frame.specs.declared.fault.DviCause.TheVariants.{Pointer};
 ghost use Rattle.dvi_ops.specs.File.{MarkedPage};
@@ -26,6 +26,8 @@ pub fn no_walk_stops_in_a_file()
 
 /// Where a walk stops at a pointer, a bop stands there that is not in the chain; where it says so at post's place, the bops are not the places of the chain.
 pub fn pointers_are_wrong()
+    ensures bop { (files : List NamedBytes) (table : List Definition) (bytes : List ℕ) (stop : Postamble) (chain : List ℕ) (post : ℕ) (bad : BadDvi)
+        → bad.cause ≡ Pointer → IsWalkFault files table bytes stop chain post (Bad bad) → IsPageAt bytes bad.place post }
     ensures stray { (files : List NamedBytes) (table : List Definition) (bytes : List ℕ) (stop : Postamble) (chain : List ℕ) (post bound : ℕ) (pointer : ℤ) (bad : BadDvi)
         → post ≤ length bytes → Links bytes bound pointer chain → bad.cause ≡ Pointer → IsWalkFault files table bytes stop chain post (Bad bad)
         → IsIn bad.place (reverse chain) → ⊥ }

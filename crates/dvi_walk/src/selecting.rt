@@ -85,7 +85,8 @@ pub fn select(
     requires sizes { AllByRecursion (λ d. IsSize d.size) table.now }
     requires sound { AreSound (file_widths files.now) table.now fonts.old }
     ensures ok { OnOk result (Selects (file_widths files.now) table.now known.now number.value fonts.old fonts.new) }
-    ensures bad { IfErr result (IsSelectFault files.now table.now known.now number.value) }
+    // Want of memory comes only for a font that was not read before, and has a file of its name.
+    ensures bad { IfErr result (IsSelectFault files.now table.now known.now fonts.old number.value) }
 {
     let Some(font) = definition_in(table, known, number) else {
         return Err(StepFault::Broken(DviCause::Font));

@@ -1,6 +1,6 @@
 //! A host in memory.
 
-ghost use Rattle.std.specs.Prelude.{◌≡◌, ◌≤◌, ◌<◌, [], false, true, length, option_map, Err, IfOk, OnOk, OnErr};
+ghost use Rattle.std.specs.Prelude.{◌≡◌, ◌≤◌, ◌<◌, ◌++◌, [], false, true, length, option_map, Err, IfOk, OnOk, OnErr};
 ghost use Rattle.std.specs.Str.{bytes_eq};
 ghost use Rattle.host_core.specs.HostInMemory.{held_at};
 ghost use Rattle.host_core.specs.declared.host.TheConstants.{READ_LIMIT};
@@ -158,13 +158,21 @@ impl Host for MemoryHost {
         copy(alloc, &self.input)
     }
 
-    fn create(&mut self, path: &str) -> Result<(), HostFault> {
+    fn create(&mut self, path: &str) -> Result<(), HostFault>
+        ensures made { OnOk result (self.new ≡ record self.old { is_created = true; created = path.now; written = [] }) }
+        ensures unchanged { OnErr result (self.new ≡ self.old) }
+    {
         self.keep_path(path.as_bytes())?;
         self.written.clear();
         Ok(())
     }
 
-    fn write(&mut self, piece: &[u8]) -> Result<usize, HostFault> {
+    fn write(&mut self, piece: &[u8]) -> Result<usize, HostFault>
+        requires some { 0 < length piece.now }
+        ensures all { IfOk result (λ n. n ≡ length piece.now) }
+        ensures kept { OnOk result (self.new ≡ record self.old { written = self.old.written ++ piece.now }) }
+        ensures unchanged { OnErr result (self.new ≡ self.old) }
+    {
         match self.written.extend_from_slice(piece) {
             Ok(()) => Ok(piece.len()),
             Err(_) => Err(HostFault::OutOfMemory),

@@ -1,5 +1,5 @@
 -- Runs of a script and what is written of them (own).
-use Rattle.std.specs.Prelude.{◌≡◌, ◌≢◌, ◌<◌, ◌⊎◌, ◌&&◌, ◌++◌, ℕ, Bool, false, List, [], length, map, take, codes, Option, Some, IfSome, Result, Err, IfOk, OnOk, is_ok}
+use Rattle.std.specs.Prelude.{◌≡◌, ◌≢◌, ◌<◌, ◌≤◌, ◌⊎◌, ◌&&◌, ◌++◌, ℕ, Bool, false, List, [], length, map, take, codes, Option, Some, IfSome, Result, Err, IfOk, OnOk, is_ok}
 use Rattle.std.specs.List.{list_all}
 use Rattle.std.specs.Io.KnownBytes.{Appends, Keeps, Consumes, IsAtEnd}
 use Rattle.command_core.specs.declared.command.Command.{Command}
@@ -129,10 +129,11 @@ memory_line = codes "refused 1 OutOfMemory\n"
 abbrev pub unreadable_line : List ℕ
 unreadable_line = codes "boxglue: cannot read -\n"
 
--- an input was read to its end, whole: it was this text
+-- an input was read to its end, whole: it was this text, of at most 268,435,456 bytes
 pub record WasRead (old new : Option (List ℕ)) (text : List ℕ) : Type 0 where
   pub all : Consumes old new text
   pub end : IsAtEnd new
+  pub within : length text ≤ 268435456
 
 -- an input was read to its end, run without font files on a device in memory, and answered with this text
 abbrev pub AnswersInput : (old new : Option (List ℕ)) → (answer : List ℕ) → (fine : Bool) → Type 0

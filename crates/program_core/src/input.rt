@@ -1,6 +1,6 @@
 //! Reading an input to its end.
 
-ghost use Rattle.std.specs.Prelude.{IfOk};
+ghost use Rattle.std.specs.Prelude.{◌≤◌, length, IfOk};
 ghost use Rattle.std.specs.Io.KnownBytes.{Consumes, IsAtEnd};
 
 use std::alloc::Global;
@@ -20,6 +20,7 @@ pub enum InputFault {
 pub fn read_input<R: Read>(alloc: Global, reader: &mut R) -> Result<Vec<u8>, InputFault>
     ensures all { IfOk result (λ text. Consumes (R.remaining reader.old) (R.remaining reader.new) text.items) }
     ensures end { IfOk result (λ text. IsAtEnd (R.remaining reader.new)) }
+    ensures within { IfOk result (λ text. length text.items ≤ 268435456) }
 {
     let mut text = Vec::new(alloc);
     let mut buffer = [0u8; 4096];

@@ -3,7 +3,7 @@ use Rattle.std.specs.Prelude.{Err}
 use Rattle.dvi_ops.specs.View.{view}
 use Rattle.dvi_ops.specs.declared.fault.OpFault.{OpFault}
 use Rattle.dvi_ops.specs.declared.fault.OpFault.TheVariants.{Opcode, Truncated}
-use Rattle.dvi_frame.proofs.PlaceLemmas.{first_between, nothing_stands, some_size}
+use Rattle.dvi_frame.proofs.PlaceLemmas.{first_between, nothing_stands, some_between, some_size}
 use Rattle.dvi_frame.proofs.at_place.read_at.Goals as goal
 
 pub returns-in-Ok-clause-behind : goal.returns-in-Ok-clause-behind
@@ -11,6 +11,9 @@ returns-in-Ok-clause-behind c = let some = some_size (view c.in-Ok.op) c.in-Ok.s
 
 pub returns-in-Err-clause-none : goal.returns-in-Err-clause-none
 returns-in-Err-clause-none c = nothing_stands c.args.bytes.now c.args.place c.args.bound c.in-Err.ensures.none
+
+pub returns-in-Err-clause-first : goal.returns-in-Err-clause-first
+returns-in-Err-clause-first c = λ e. some_between c.args.bytes.now c.args.place c.args.bound (c.in-Err.ensures.opcode.0 e)
 
 pub returns-in-Err-clause-truncated : goal.returns-in-Err-clause-truncated
 returns-in-Err-clause-truncated c = λ e below code.

@@ -18,7 +18,7 @@ first_pointer bytes post e stop ends =
 
 -- a fault of the walk is one of the chain
 refusal : (bytes : List ℕ) (post : ℕ) (stop : Postamble) (fault : FrameFault) → IsBrokenFrom bytes (post + 1) post stop.last_bop fault → IsChainRefusal bytes post stop fault
-refusal bytes post stop OutOfMemory b = tt
+refusal bytes post stop OutOfMemory b = b
 refusal bytes post stop (Bad fault) b =
     subst (λ (cause : DviCause). BreaksChain bytes post stop fault.place cause) (sym b.0) b.1
 

@@ -1,7 +1,7 @@
 use Rattle.std.proofs.Common.{rules, ◌≡◌, ◌++◌, [], ◌∷◌, List, ℕ, drop, refl, sym, subst, arith}
 use Rattle.dvi_ops.specs.Table.{signed}
 use Rattle.dvi_frame.specs.declared.page_chain.Named.{Named}
-use Rattle.dvi_frame.proofs.ChainLemmas.{Goes, goes_first, goes_more, goes_end, goes_lost, page_room, start_left}
+use Rattle.dvi_frame.proofs.ChainLemmas.{Goes, goes_first, goes_more, goes_page, goes_end, goes_lost, page_room, start_left}
 use Rattle.dvi_frame.proofs.page_chain.walk.Goals as goal
 
 pub loop-named-init : goal.loop-named-init
@@ -26,6 +26,13 @@ loop-named-preserved c =
     let items : c.push.new.self.items ≡ c.loop-named.places.items ++ c.in-Page.place ∷ [] = search rules in
     subst (λ (found : List ℕ). Goes bytes c.args.at c.args.bound pointer found c.what_it_names-named-in-Page.result) (sym items)
     (goes_more bytes c.args.at c.args.bound pointer c.loop-named.places.items c.in-Page.place c.what_it_names-named-in-Page.result g c.what_it_names-named-in-Page.ensures)
+
+pub returns-then-is_err-clause-bad : goal.returns-then-is_err-clause-bad
+returns-then-is_err-clause-bad c =
+    let bytes = c.args.bytes.now in
+    let pointer = signed 4 (drop c.args.at bytes) in
+    let g = subst (λ (n : Named). Goes bytes c.args.at c.args.bound pointer c.loop-named.places.items n) c.in-Page.is c.loop-named.invariant in
+    goes_page bytes c.args.at c.args.bound pointer c.loop-named.places.items c.in-Page.place g
 
 pub returns-in-Nothing : goal.returns-in-Nothing
 returns-in-Nothing c =

@@ -1,9 +1,14 @@
-use Rattle.std.proofs.Common.{◌-◌}
+use Rattle.std.proofs.Common.{◌-◌, refl}
 use Rattle.dvi_closing.proofs.ClosingLemmas.{looked_sizes}
 use Rattle.dvi_ops.specs.View.{postamble}
-use Rattle.dvi_read.specs.Opening.{InThePages}
-use Rattle.dvi_read.proofs.OpenLemmas.{starts_reached}
+use Rattle.dvi_read.specs.Opening.{InThePages, LookingAhead}
+use Rattle.dvi_read.proofs.OpenLemmas.{starts_reached, strays}
 use Rattle.dvi_read.proofs.reading.read_pages.Goals as goal
+
+pub returns-in-Err-clause-bad : goal.returns-in-Err-clause-bad
+returns-in-Err-clause-bad c =
+    let (memory, table, wants) = c.in-Err.ensures.memory in
+    LookingAhead c.args.ending.now.post c.args.ending.now.behind c.args.ending.now.last (postamble c.args.ending.now.stop) c.args.chain.items c.args.from table refl c.requires.starts wants
 
 pub walk_pages-requires-clause-sizes : goal.walk_pages-requires-clause-sizes
 walk_pages-requires-clause-sizes c = looked_sizes c.args.bytes.now c.args.ending.now.behind (c.args.ending.now.last - 5) c.in-Ok.table c.in-Ok.ensures.ok
@@ -26,3 +31,5 @@ pub returns-clause-bad : goal.returns-clause-bad
 returns-clause-bad c =
     InThePages c.args.ending.now.post c.args.ending.now.behind c.args.ending.now.last (postamble c.args.ending.now.stop) c.args.chain.items c.args.from c.in-Ok.table c.requires.starts c.in-Ok.ensures.ok
     c.in-Err-walk_pages.ensures.bad
+    (strays c.args.files.now c.in-Ok.table c.args.bytes.now c.args.ending.now.post c.args.ending.now.behind c.args.ending.now.last (postamble c.args.ending.now.stop) c.args.chain.items c.in-Err-walk_pages.fault
+    c.requires.starts.chained.framed c.in-Err-walk_pages.ensures.bad)

@@ -1,5 +1,8 @@
-use Rattle.dvi_walk.proofs.PointerLemmas.{stray_pointer, unmet_pointer}
+use Rattle.dvi_walk.proofs.PointerLemmas.{stray_bop, stray_pointer, unmet_pointer}
 use Rattle.dvi_walk.proofs.laws.pointers_are_wrong.Goals as goal
+
+pub returns-clause-bop : goal.returns-clause-bop
+returns-clause-bop c = stray_bop
 
 pub returns-clause-stray : goal.returns-clause-stray
 returns-clause-stray c = stray_pointer
