@@ -51,7 +51,7 @@ stray_bop files table bytes stop chain post bad cause (at, walk, stops) =
   where
     by_rule : (i : Instruction) → StandsAt bytes at post i → BreaksRule (file_widths files) table (min 1024 stop.stack_depth) at i walk Pointer → IsPageAt bytes at post
     by_rule i stands (inl b) = absurd (no_pointer (acts (widths_of (file_widths files) table)) (min 1024 stop.stack_depth) i (stand_of walk) b)
-    by_rule i stands (inr b) = bop_at bytes at post i (places_left walk) b stands
+    by_rule i stands (inr (on, b)) = bop_at bytes at post i (places_left walk) b stands
 
 pub stray_pointer : (files : List NamedBytes) (table : List Definition) (bytes : List ℕ) (stop : Postamble) (chain : List ℕ) (post bound : ℕ) (pointer : ℤ) (bad : BadDvi)
     → post ≤ length bytes → Links bytes bound pointer chain → bad.cause ≡ Pointer → IsWalkFault files table bytes stop chain post (Bad bad) → IsIn bad.place (reverse chain) → ⊥
@@ -66,7 +66,7 @@ stray_pointer files table bytes stop chain post bound pointer bad high links cau
   where
     by_rule : (i : Instruction) → BreaksRule (file_widths files) table (min 1024 stop.stack_depth) at i walk Pointer → IsIn at (places_left walk).places → ⊥
     by_rule i (inl b) left = no_pointer (acts (widths_of (file_widths files) table)) (min 1024 stop.stack_depth) i (stand_of walk) b
-    by_rule i (inr b) left = stray at (places_left walk) (not_left at i (places_left walk) b) left
+    by_rule i (inr (on, b)) left = stray at (places_left walk) (not_left at i (places_left walk) b) left
 
 pub unmet_pointer : (metrics : Metrics) (table : List Definition) (bytes : List ℕ) (stop : Postamble) (chain : List ℕ) (post : ℕ) (walk : Walk) (bad : BadDvi)
     (walked : IsWalked metrics table bytes stop chain post walk) → bad.cause ≡ Pointer → IsUnended walk post bad → places 0 walked.reached.before ≢ reverse chain

@@ -17,7 +17,7 @@ use Rattle.dvi_pass.specs.declared.turning.Stand.{Stand}
 use Rattle.dvi_pass.specs.declared.turning.Stand.TheVariants as stands
 use Rattle.dvi_pass.proofs.WidthLemmas.{one_width}
 use Rattle.dvi_walk.specs.ReadFonts.{AreSound, IsCurrent, ReadFonts, asked_width, code_in, read_of, selected_in, width_in}
-use Rattle.dvi_walk.specs.Steps.{BreaksNote, BreaksPass, BreaksRest, BreaksStep, IsUnread, LacksRoom, Notes, PassesOn, Steps, WantsMemory, stand_of}
+use Rattle.dvi_walk.specs.Steps.{BreaksNote, BreaksPass, BreaksRest, BreaksStep, GoesOn, IsUnread, LacksRoom, Notes, PassesOn, Steps, WantsMemory, stand_of}
 use Rattle.dvi_walk.specs.declared.fault.StepFault.{StepFault}
 use Rattle.dvi_walk.specs.declared.fault.StepFault.TheVariants.{OutOfMemory, Broken, Refused}
 use Rattle.dvi_walk.specs.declared.walk.Walk.{Walk}
@@ -181,8 +181,25 @@ lacks_same files table most (Do (FontNum f)) old mid passes wants =
     subst₂ (λ (ds : List Definition) (fonts : ReadFonts). WantsMemory files table ds f fonts) passes.known passes.fonts wants
 lacks_same files table most i old mid passes none = absurd none
 
-pub note_fault : (files : List NamedBytes) (table : List Definition) (most at : ℕ) (i : Instruction) (old mid : Walk) (fault : StepFault) → PassesOn most i old mid → BreaksNote files table at i mid fault
-    → BreaksStep files table most at i old fault
-note_fault files table most at i old mid OutOfMemory passes b = inr (lacks_same files table most i old mid passes b)
-note_fault files table most at i old mid (Broken cause) passes b = inr (subst₂ (λ (ds : List Definition) (left : Left). BreaksRest table ds at left i cause) passes.known passes.left b)
-note_fault files table most at i old mid (Refused refusal) passes (f, is, unread) = (f, is, subst (λ (ds : List Definition). IsUnread files table ds f refusal) passes.known unread)
+-- The pass goes on with the widths of the file's fonts, too.
+pub goes_on : (files : List NamedBytes) (table : List Definition) (most : ℕ) (i : Instruction) (old mid : Walk) → AreSound (file_widths files) table old.fonts → IsCurrent old.fonts old.stand
+    → PassesOn most i old mid → GoesOn (file_widths files) table most i old
+goes_on files table most i old mid sound current passes =
+    let asked = asked_is (file_widths files) table old.fonts (map page_of old.done.items) i old.stand sound current in
+    let next : turn (kept (acts (widths_of (file_widths files) table))) most i (stand_of old) ≡ Some (stand_of mid) =
+    sym (one_width (widths_of (file_widths files) table) (asked_width old.fonts (selected_in old.stand) (code_in i)) most i (stand_of old) asked) ∙ passes.goes_on in
+    subst (λ (p : Option Pass). IsSome p) (sym next) refl
+
+pub note_fault : (files : List NamedBytes) (table : List Definition) (most at : ℕ) (i : Instruction) (old mid : Walk) (fault : StepFault) → AreSound (file_widths files) table old.fonts
+    → IsCurrent old.fonts old.stand → PassesOn most i old mid → BreaksNote files table at i mid fault → BreaksStep files table most at i old fault
+note_fault files table most at i old mid OutOfMemory sound current passes b = inr (goes_on files table most i old mid sound current passes, lacks_same files table most i old mid passes b)
+note_fault files table most at i old mid (Broken cause) sound current passes b =
+    inr (goes_on files table most i old mid sound current passes, subst₂ (λ (ds : List Definition) (left : Left). BreaksRest table ds at left i cause) passes.known passes.left b)
+note_fault files table most at i old mid (Refused refusal) sound current passes (f, is, unread) = (
+  f,
+  is,
+  record {
+    goes_on = subst (λ (i : Instruction). GoesOn (file_widths files) table most i old) is (goes_on files table most i old mid sound current passes);
+    unread = subst (λ (ds : List Definition). IsUnread files table ds f refusal) passes.known unread;
+  },
+)

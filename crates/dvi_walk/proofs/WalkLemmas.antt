@@ -53,7 +53,7 @@ no_cut does most i (Between pages) b = b
 pages_break : (metrics : Metrics) (table : List Definition) (bytes : List ℕ) (most at post : ℕ) (walk : Walk) (cause : DviCause) (i : Instruction) → StandsAt bytes at post i
     → BreaksRule metrics table most at i walk cause → BreaksPages metrics table bytes most at post walk cause
 pages_break metrics table bytes most at post walk Truncated i stands (inl b) = absurd (no_cut (acts (widths_of metrics table)) most i (stand_of walk) b)
-pages_break metrics table bytes most at post walk Truncated i stands (inr b) = absurd b
+pages_break metrics table bytes most at post walk Truncated i stands (inr (on, b)) = absurd b
 pages_break metrics table bytes most at post walk Opcode i stands b = inr (i, stands, b)
 pages_break metrics table bytes most at post walk cause i stands b = (i, stands, b)
 
@@ -62,7 +62,7 @@ pub taken_fault : (files : List NamedBytes) (table : List Definition) (bytes : L
     → BreaksStep files table most at i walk fault → IsPagesFault files table bytes most at post walk (fault_in at fault)
 taken_fault files table bytes most at post walk i OutOfMemory stands b = (i, stands, b)
 taken_fault files table bytes most at post walk i (Broken cause) stands b = (refl, pages_break (file_widths files) table bytes most at post walk cause i stands b)
-taken_fault files table bytes most at post walk i (Refused refusals.OutOfMemory) stands (f, is, unread) = absurd (unread.other refl)
+taken_fault files table bytes most at post walk i (Refused refusals.OutOfMemory) stands (f, is, selects) = absurd (selects.unread.other refl)
 taken_fault files table bytes most at post walk i (Refused refusals.NoFont) stands (f, is, unread) = (f, subst (λ (i : Instruction). StandsAt bytes at post i) is stands, unread)
 taken_fault files table bytes most at post walk i (Refused (refusals.BadTfm cause)) stands (f, is, unread) = (f, subst (λ (i : Instruction). StandsAt bytes at post i) is stands, unread)
 taken_fault files table bytes most at post walk i (Refused refusals.DimensionTooLarge) stands (f, is, unread) = (f, subst (λ (i : Instruction). StandsAt bytes at post i) is stands, unread)
@@ -104,7 +104,7 @@ module _ (metrics : Metrics) (table : List Definition) (stop : Postamble) (at : 
   rule_holds cause (inl b) =
       let none = broken_turn (acts (widths_of metrics table)) (min 1024 stop.stack_depth) i (stand_of walk) cause b in
       let both : Some q ≡ None = sym right.goes_on ∙ none in cc
-  rule_holds cause (inr b) = rest_holds cause b
+  rule_holds cause (inr (on, b)) = rest_holds cause b
 
 -- So where a rule is broken no right instruction stands there.
 pub nothing_right : (files : List NamedBytes) (table : List Definition) (bytes : List ℕ) (stop : Postamble) (at post : ℕ) (walk : Walk) (known : List Definition) (i : Instruction) (q : Pass) (later : Left)
@@ -123,8 +123,9 @@ nothing_right files table bytes stop at post walk known i q later fault other sa
     pages Opcode (inr (j, there, b)) = rule Opcode j there b
     pages cause b = rule cause b.0 b.1 b.2
 
-    widths : (refusal : FontRefusal) → LacksWidths files table (known_of walk) bytes at post refusal → ⊥
-    widths refusal (f, there, unread) =
+    widths : (refusal : FontRefusal) → LacksWidths files table bytes (min 1024 stop.stack_depth) at post walk refusal → ⊥
+    widths refusal (f, there, selects) =
+        let unread = selects.unread in
         let is : i ≡ Do (FontNum f) = one_stands bytes at post post i (Do (FontNum f)) stands there in
         let some = selected_widths (file_widths files) table f i is right.closing in
         let found : IsSome (font_in (file_widths files) (Some unread.font)) = subst (λ (o : Option Definition). IsSome (font_in (file_widths files) o)) unread.found some in

@@ -127,17 +127,28 @@ pub record Steps (metrics : Metrics) (table : List Definition) (most at : ℕ) (
   pub sound : AreSound metrics table new.fonts
   pub current : IsCurrent new.fonts new.stand
 
--- A rule that an instruction breaks: of the pass, of the pages or of the fonts.
+-- The pass goes on with an instruction. What the instruction says of pages and fonts is looked at only then.
+abbrev pub GoesOn : Metrics → (table : List Definition) → (most : ℕ) → Instruction → Walk → Type 0
+GoesOn metrics table most i walk = IsSome (turn (kept (acts (widths_of metrics table))) most i (stand_of walk))
+
+-- A rule that an instruction breaks: of the pass, or, where that goes on, of the pages or of the fonts.
 abbrev pub BreaksRule : (metrics : Metrics) → (table : List Definition) → (most at : ℕ) → Instruction → Walk → DviCause → Type 0
 BreaksRule metrics table most at i walk cause =
-    BreaksTurn (acts (widths_of metrics table)) most i (stand_of walk) cause ⊎ BreaksRest table (known_of walk) at (places_left walk) i cause
+    BreaksTurn (acts (widths_of metrics table)) most i (stand_of walk) cause
+    ⊎ GoesOn metrics table most i walk × BreaksRest table (known_of walk) at (places_left walk) i cause
 
--- An instruction takes memory: in the pass, or for what it says of fonts.
+-- An instruction takes memory: in the pass, or, where that goes on, for what it says of fonts.
 abbrev pub TakesMemory : List NamedBytes → (table : List Definition) → (most : ℕ) → Instruction → Walk → Type 0
-TakesMemory files table most i walk = TakesRoom (acts (widths_of (file_widths files) table)) most i (stand_of walk) ⊎ LacksRoom files table i walk
+TakesMemory files table most i walk =
+    TakesRoom (acts (widths_of (file_widths files) table)) most i (stand_of walk) ⊎ GoesOn (file_widths files) table most i walk × LacksRoom files table i walk
+
+-- A font is selected where the pass goes on, and has no widths.
+pub record SelectsUnread (files : List NamedBytes) (table : List Definition) (most : ℕ) (f : ℤ) (walk : Walk) (refusal : FontRefusal) : Type 0 where
+  pub goes_on : GoesOn (file_widths files) table most (Do (FontNum f)) walk
+  pub unread : IsUnread files table (known_of walk) f refusal
 
 -- The same of a fault.
 abbrev pub BreaksStep : List NamedBytes → (table : List Definition) → (most at : ℕ) → Instruction → Walk → StepFault → Type 0
 BreaksStep files table most at i walk OutOfMemory = TakesMemory files table most i walk
 BreaksStep files table most at i walk (Broken cause) = BreaksRule (file_widths files) table most at i walk cause
-BreaksStep files table most at i walk (Refused refusal) = (f : ℤ) × (i ≡ Do (FontNum f)) × IsUnread files table (known_of walk) f refusal
+BreaksStep files table most at i walk (Refused refusal) = (f : ℤ) × (i ≡ Do (FontNum f)) × SelectsUnread files table most f walk refusal

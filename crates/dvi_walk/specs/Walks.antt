@@ -14,7 +14,7 @@ use Rattle.dvi_ops.specs.Table.{Spells}
 use Rattle.dvi_pass.specs.Reached.{IsReached}
 use Rattle.dvi_pass.specs.declared.turning.Stand.TheVariants as stands
 use Rattle.dvi_walk.specs.ReadFonts.{AreSound, IsCurrent}
-use Rattle.dvi_walk.specs.Steps.{BreaksRule, IsUnread, Steps, TakesMemory, known_of, places_left, stand_of}
+use Rattle.dvi_walk.specs.Steps.{BreaksRule, SelectsUnread, Steps, TakesMemory, known_of, places_left, stand_of}
 use Rattle.dvi_walk.specs.declared.fault.DviFault.{DviFault}
 use Rattle.dvi_walk.specs.declared.fault.DviFault.TheVariants as faults
 use Rattle.dvi_walk.specs.declared.fault.StepFault.{StepFault}
@@ -42,17 +42,17 @@ BreaksPages metrics table bytes most at post walk Opcode =
     (250 ≤ slice_index bytes at) × ((i : Instruction) → StandsAt bytes at post i → ⊥) ⊎ BreaksAt metrics table bytes most at post walk Opcode
 BreaksPages metrics table bytes most at post walk cause = BreaksAt metrics table bytes most at post walk cause
 
--- A font is selected at a place, is defined before it, and has no widths for that reason.
-abbrev pub LacksWidths : List NamedBytes → (table known : List Definition) → (bytes : List ℕ) → (at post : ℕ) → FontRefusal → Type 0
-LacksWidths files table known bytes at post refusal = (f : ℤ) × StandsAt bytes at post (Do (FontNum f)) × IsUnread files table known f refusal
+-- A font is selected at a place in a page, is defined before it, and has no widths for that reason.
+abbrev pub LacksWidths : List NamedBytes → (table : List Definition) → (bytes : List ℕ) → (most at post : ℕ) → Walk → FontRefusal → Type 0
+LacksWidths files table bytes most at post walk refusal = (f : ℤ) × StandsAt bytes at post (Do (FontNum f)) × SelectsUnread files table most f walk refusal
 
 -- A fault at a place; memory is wanting for an instruction that stands there.
 abbrev pub IsPagesFault : List NamedBytes → (table : List Definition) → (bytes : List ℕ) → (most at post : ℕ) → Walk → DviFault → Type 0
 IsPagesFault files table bytes most at post walk faults.OutOfMemory = (i : Instruction) × StandsAt bytes at post i × TakesMemory files table most i walk
 IsPagesFault files table bytes most at post walk (faults.Bad fault) = (fault.place ≡ at) × BreaksPages (file_widths files) table bytes most at post walk fault.cause
-IsPagesFault files table bytes most at post walk faults.NoFont = LacksWidths files table (known_of walk) bytes at post refusals.NoFont
-IsPagesFault files table bytes most at post walk (faults.BadTfm cause) = LacksWidths files table (known_of walk) bytes at post (refusals.BadTfm cause)
-IsPagesFault files table bytes most at post walk faults.DimensionTooLarge = LacksWidths files table (known_of walk) bytes at post refusals.DimensionTooLarge
+IsPagesFault files table bytes most at post walk faults.NoFont = LacksWidths files table bytes most at post walk refusals.NoFont
+IsPagesFault files table bytes most at post walk (faults.BadTfm cause) = LacksWidths files table bytes most at post walk (refusals.BadTfm cause)
+IsPagesFault files table bytes most at post walk faults.DimensionTooLarge = LacksWidths files table bytes most at post walk refusals.DimensionTooLarge
 
 -- The fault of an instruction at a place.
 abbrev pub fault_in : ℕ → StepFault → DviFault

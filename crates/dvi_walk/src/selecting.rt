@@ -1,7 +1,7 @@
 //! The selection of a font (DVItype, 18).
 
-ghost use Rattle.std.specs.Prelude.{◌≡◌, ◌⊎◌, false, true, IfErr, IfSome, IsSome, None, OnOk, Some};
-ghost use Rattle.std.specs.BTreeMap.{Updates};
+ghost use Rattle.std.specs.Prelude.{◌≡◌, ◌⊎◌, false, true, IfErr, IfSome, IsSome, None, OnErr, OnOk, Some};
+ghost use Rattle.std.specs.BTreeMap.{IsUnchanged, Updates};
 ghost use Rattle.std.specs.List.{AllByRecursion};
 ghost use Rattle.std.specs.Ordering.{int_cmp};
 ghost use Rattle.dvi_fonts.specs.Widths.{IsFontRefusal};
@@ -39,6 +39,7 @@ fn read_more(
     requires { IsSize font.now.size }
     ensures ok { OnOk result ((read : SizedFont) × Updates int_cmp fonts.old fonts.new number.value (Some read) × IsReadFor files.now (definition font.now) read) }
     ensures bad { IfErr result (IsFontRefusal files.now (definition font.now)) }
+    ensures unchanged { OnErr result (IsUnchanged fonts.old fonts.new) }
 {
     let font = match read_font(alloc, files, font) {
         Ok(font) => font,
@@ -87,6 +88,7 @@ pub fn select(
     ensures ok { OnOk result (Selects (file_widths files.now) table.now known.now number.value fonts.old fonts.new) }
     // Want of memory comes only for a font that was not read before, and has a file of its name.
     ensures bad { IfErr result (IsSelectFault files.now table.now known.now fonts.old number.value) }
+    ensures unchanged { OnErr result (IsUnchanged fonts.old fonts.new) }
 {
     let Some(font) = definition_in(table, known, number) else {
         return Err(StepFault::Broken(DviCause::Font));
