@@ -1,14 +1,37 @@
--- A refused font has no widths.
-use Rattle.std.proofs.Common.{◌≡◌, ◌≢◌, List, None, refl}
+-- A refused font has no widths; what holds a metric file breaks no rule.
+use Rattle.std.proofs.Common.{◌≡◌, ◌≢◌, List, ℕ, ℤ, Option, None, Some, Result, Ok, Err, refl, sym, ◌∙◌}
 use Rattle.dvi_ops.specs.Instruction.{Definition}
 use Rattle.dvi_fonts.specs.Widths.{IsFontRefusal}
 use Rattle.dvi_fonts.specs.declared.widths.FontRefusal.{FontRefusal}
 use Rattle.dvi_fonts.specs.declared.widths.FontRefusal.TheVariants.{OutOfMemory, NoFont, BadTfm, DimensionTooLarge}
-use Rattle.tfm_core.specs.FileWidths.{file_widths}
-use Rattle.tfm_core.specs.NamedBytes.{NamedBytes}
+use Rattle.tfm_core.specs.FileWidths.{file_widths, widths_by, widths_of_file}
+use Rattle.tfm_core.specs.MetricFile.{MetricFile}
+use Rattle.tfm_core.specs.NamedBytes.{NamedBytes, file_named}
+use Rattle.tfm_core.specs.Rules.{broken_in_front, metric_file}
+use Rattle.tfm_core.specs.declared.fault.TfmCause.{TfmCause}
+use Rattle.tfm_core.proofs.ReadingLemmas.{metric_file-front}
 
 pub no_widths : (files : List NamedBytes) (d : Definition) (refusal : FontRefusal) → refusal ≢ OutOfMemory → IsFontRefusal files d refusal → file_widths files d.name d.size ≡ None
 no_widths files d OutOfMemory other refused = absurd (other refl)
 no_widths files d NoFont other refused = rw refused refl
 no_widths files d (BadTfm cause) other (file, named, bad) = rw named (rw bad refl)
 no_widths files d DimensionTooLarge other (file, named, (metrics, is, unfit)) = rw named (rw is (rw unfit refl))
+
+pub front_holds : (bytes : List ℕ) (file : MetricFile) → metric_file bytes ≡ Ok file → broken_in_front bytes ≡ None
+front_holds bytes file is = by_front (broken_in_front bytes) refl
+  where
+    by_front : (found : Option TfmCause) → broken_in_front bytes ≡ found → broken_in_front bytes ≡ None
+    by_front None e = e
+    by_front (Some cause) e = let both : Err cause ≡ Ok file = sym (metric_file-front bytes cause e) ∙ is in absurd cc
+
+-- Where a font has widths, the first file of its name breaks no rule that needs no table.
+pub widths_room : (files : List NamedBytes) (d : Definition) (w : ℤ → Option ℤ) → file_widths files d.name d.size ≡ Some w → IsFontRefusal files d OutOfMemory
+widths_room files d w e = by_file (file_named d.name files) refl e
+  where
+    by_read : (file : NamedBytes) (read : Result MetricFile TfmCause) → metric_file file.bytes ≡ read → widths_by read d.size ≡ Some w → broken_in_front file.bytes ≡ None
+    by_read file (Err cause) is e = absurd cc
+    by_read file (Ok metrics) is e = front_holds file.bytes metrics is
+
+    by_file : (found : Option NamedBytes) → file_named d.name files ≡ found → widths_of_file found d.size ≡ Some w → IsFontRefusal files d OutOfMemory
+    by_file None is e = absurd cc
+    by_file (Some file) is e = (file, is, by_read file (metric_file file.bytes) refl e)

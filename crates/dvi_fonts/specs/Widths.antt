@@ -1,12 +1,11 @@
 -- Why a font has no widths, by the font files (own).
-use Rattle.std.specs.Prelude.{◌≡◌, ◌<◌, ℕ, ℤ, false, Some, None, Ok, Err}
+use Rattle.std.specs.Prelude.{◌≡◌, ◌<◌, List, ℕ, ℤ, false, Some, None, Ok, Err}
 use Rattle.dvi_ops.specs.Instruction.{Definition}
 use Rattle.tfm_core.specs.declared.font.GlyphSize.{GlyphSize}
 use Rattle.tfm_core.specs.Fonts.{SizedFont, fits_at, glyph_of}
 use Rattle.tfm_core.specs.MetricFile.{MetricFile}
 use Rattle.tfm_core.specs.NamedBytes.{NamedBytes, file_named}
-use Rattle.tfm_core.specs.Rules.{metric_file}
-use Rattle.std.specs.Prelude.{List}
+use Rattle.tfm_core.specs.Rules.{broken_in_front, metric_file}
 use Rattle.dvi_fonts.specs.declared.widths.FontRefusal.{FontRefusal}
 use Rattle.dvi_fonts.specs.declared.widths.FontRefusal.TheVariants.{OutOfMemory, NoFont, BadTfm, DimensionTooLarge}
 
@@ -14,21 +13,21 @@ use Rattle.dvi_fonts.specs.declared.widths.FontRefusal.TheVariants.{OutOfMemory,
 abbrev pub HasBytes : SizedFont → Type 0
 HasBytes font = (code : ℕ) (size : GlyphSize) → glyph_of font code ≡ Some size → code < 256
 
--- Some bytes hold no metric file.
+-- Some bytes hold no metric file; or memory is wanting for its tables: the rules that need no table are looked at before any growth.
 abbrev pub IsTfmRefusal : List ℕ → FontRefusal → Type 0
-IsTfmRefusal bytes OutOfMemory = Unit {0}
+IsTfmRefusal bytes OutOfMemory = broken_in_front bytes ≡ None
 IsTfmRefusal bytes (BadTfm cause) = metric_file bytes ≡ Err cause
 IsTfmRefusal bytes refusal = ⊥
 
--- Some bytes hold no metric file, or one of its dimensions at a size does not fit.
+-- Some bytes hold no metric file, or one of its dimensions at a size does not fit; or memory is wanting for it.
 abbrev pub IsSizedRefusal : List ℕ → (size : ℤ) → FontRefusal → Type 0
-IsSizedRefusal bytes size OutOfMemory = Unit {0}
+IsSizedRefusal bytes size OutOfMemory = broken_in_front bytes ≡ None
 IsSizedRefusal bytes size NoFont = ⊥
 IsSizedRefusal bytes size (BadTfm cause) = metric_file bytes ≡ Err cause
 IsSizedRefusal bytes size DimensionTooLarge = (metrics : MetricFile) × (metric_file bytes ≡ Ok metrics) × (fits_at metrics size ≡ false)
 
 -- What a refusal says: no file of the font's name was handed in; or the first one of it holds no metric file, or one of its dimensions at the font's size does not fit,
--- or memory is wanting for it: where no file has the name, this is said before any growth.
+-- or memory is wanting for it: where no file has the name, or that file breaks a rule that needs no table, this is said before any growth.
 abbrev pub IsFontRefusal : List NamedBytes → Definition → FontRefusal → Type 0
 IsFontRefusal files d NoFont = file_named d.name files ≡ None
 IsFontRefusal files d refusal = (file : NamedBytes) × (file_named d.name files ≡ Some file) × IsSizedRefusal file.bytes d.size refusal

@@ -50,6 +50,7 @@ fn size_of(font: &FontDefinition<'_>) -> Option<FontSize>
 }
 
 /// The font that some bytes hold, at the size of a definition.
+#[tactic(auto, using(crate::proofs::RefusalLemmas::front_holds))]
 fn sized_font(alloc: Global, bytes: &[u8], font: &FontDefinition<'_>) -> Result<Font, FontRefusal>
     requires { IsSize font.now.size }
     ensures ok { IfOk result (λ read. widths_by (metric_file bytes.now) font.now.size ≡ Some (width_at read)) }

@@ -42,7 +42,7 @@ pub record IsUnread (files : List NamedBytes) (table known : List Definition) (f
   pub other : refusal ≢ refusals.OutOfMemory
   pub refused : IsFontRefusal files font refusal
 
--- Memory is wanting for a font: it is defined before, was not read, and a file of the name that the postamble gives it was handed in.
+-- Memory is wanting for a font: it is defined before, was not read, and a file of the name that the postamble gives it was handed in, which breaks no rule that needs no table.
 pub record WantsMemory (files : List NamedBytes) (table known : List Definition) (f : ℤ) (fonts : ReadFonts) : Type 0 where
   pub before : IsSome (defined f known)
   pub new : read_of f fonts ≡ None

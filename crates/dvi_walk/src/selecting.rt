@@ -86,7 +86,7 @@ pub fn select(
     requires sizes { AllByRecursion (λ d. IsSize d.size) table.now }
     requires sound { AreSound (file_widths files.now) table.now fonts.old }
     ensures ok { OnOk result (Selects (file_widths files.now) table.now known.now number.value fonts.old fonts.new) }
-    // Want of memory comes only for a font that was not read before, and has a file of its name.
+    // Want of memory comes only for a font that was not read before, and has a file of its name that is not too short.
     ensures bad { IfErr result (IsSelectFault files.now table.now known.now fonts.old number.value) }
     ensures unchanged { OnErr result (IsUnchanged fonts.old fonts.new) }
 {
