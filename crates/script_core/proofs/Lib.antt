@@ -1,4 +1,3 @@
-pub mod LongWords
 pub mod LineLemmas
 pub mod FieldLemmas
 pub mod Numbers

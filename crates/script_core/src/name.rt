@@ -54,17 +54,31 @@ impl Name {
 fn box_name(word: &[u8]) -> Option<Name>
     ensures { result ≡ box_name word.now }
 {
-    match word {
-        b"hbox" => Some(Name::Open(BoxForm::Hbox)),
-        b"vbox" => Some(Name::Open(BoxForm::Vbox)),
-        b"vtop" => Some(Name::Open(BoxForm::Vtop)),
-        b"par" => Some(Name::Paragraph),
-        b"end" => Some(Name::End),
-        b"measure" => Some(Name::Measure),
-        b"void" => Some(Name::Void),
-        b"ship" => Some(Name::Ship),
-        _ => None,
+    if word == b"hbox".as_slice() {
+        return Some(Name::Open(BoxForm::Hbox));
     }
+    if word == b"vbox".as_slice() {
+        return Some(Name::Open(BoxForm::Vbox));
+    }
+    if word == b"vtop".as_slice() {
+        return Some(Name::Open(BoxForm::Vtop));
+    }
+    if word == b"par".as_slice() {
+        return Some(Name::Paragraph);
+    }
+    if word == b"end".as_slice() {
+        return Some(Name::End);
+    }
+    if word == b"measure".as_slice() {
+        return Some(Name::Measure);
+    }
+    if word == b"void".as_slice() {
+        return Some(Name::Void);
+    }
+    if word == b"ship".as_slice() {
+        return Some(Name::Ship);
+    }
+    None
 }
 
 /// The name of a command that a word is, or None, of those that take the box of a register into a list or the last one out of it, or split one.
@@ -72,17 +86,31 @@ fn box_name(word: &[u8]) -> Option<Name>
 fn register_name(word: &[u8]) -> Option<Name>
     ensures { result ≡ register_name word.now }
 {
-    match word {
-        b"box" => Some(Name::Append(Taking::Moved)),
-        b"copy" => Some(Name::Append(Taking::Copied)),
-        b"unhbox" => Some(Name::Unbox(Kind::Horizontal, Taking::Moved)),
-        b"unhcopy" => Some(Name::Unbox(Kind::Horizontal, Taking::Copied)),
-        b"unvbox" => Some(Name::Unbox(Kind::Vertical, Taking::Moved)),
-        b"unvcopy" => Some(Name::Unbox(Kind::Vertical, Taking::Copied)),
-        b"lastbox" => Some(Name::LastBox),
-        b"vsplit" => Some(Name::Split),
-        _ => None,
+    if word == b"box".as_slice() {
+        return Some(Name::Append(Taking::Moved));
     }
+    if word == b"copy".as_slice() {
+        return Some(Name::Append(Taking::Copied));
+    }
+    if word == b"unhbox".as_slice() {
+        return Some(Name::Unbox(Kind::Horizontal, Taking::Moved));
+    }
+    if word == b"unhcopy".as_slice() {
+        return Some(Name::Unbox(Kind::Horizontal, Taking::Copied));
+    }
+    if word == b"unvbox".as_slice() {
+        return Some(Name::Unbox(Kind::Vertical, Taking::Moved));
+    }
+    if word == b"unvcopy".as_slice() {
+        return Some(Name::Unbox(Kind::Vertical, Taking::Copied));
+    }
+    if word == b"lastbox".as_slice() {
+        return Some(Name::LastBox);
+    }
+    if word == b"vsplit".as_slice() {
+        return Some(Name::Split);
+    }
+    None
 }
 
 /// The name of a command of fonts, items, parameters and counts that a word is, or None.
@@ -90,16 +118,32 @@ fn register_name(word: &[u8]) -> Option<Name>
 fn item_name(word: &[u8]) -> Option<Name>
     ensures { result ≡ item_name word.now }
 {
-    match word {
-        b"font" => Some(Name::Font),
-        b"use" => Some(Name::Use),
-        b"char" => Some(Name::Character),
-        b"rule" => Some(Name::Rule),
-        b"kern" => Some(Name::Kern),
-        b"glue" => Some(Name::Glue),
-        b"penalty" => Some(Name::Penalty),
-        b"set" => Some(Name::Set),
-        b"count" => Some(Name::Count),
-        _ => None,
+    if word == b"font".as_slice() {
+        return Some(Name::Font);
     }
+    if word == b"use".as_slice() {
+        return Some(Name::Use);
+    }
+    if word == b"char".as_slice() {
+        return Some(Name::Character);
+    }
+    if word == b"rule".as_slice() {
+        return Some(Name::Rule);
+    }
+    if word == b"kern".as_slice() {
+        return Some(Name::Kern);
+    }
+    if word == b"glue".as_slice() {
+        return Some(Name::Glue);
+    }
+    if word == b"penalty".as_slice() {
+        return Some(Name::Penalty);
+    }
+    if word == b"set".as_slice() {
+        return Some(Name::Set);
+    }
+    if word == b"count".as_slice() {
+        return Some(Name::Count);
+    }
+    None
 }
