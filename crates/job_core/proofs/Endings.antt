@@ -6,6 +6,7 @@ use Rattle.command_core.specs.declared.command.Summary.{Summary}
 use Rattle.device_core.specs.Told.{grown, GrowsByFront, IsFrontOf}
 use Rattle.dvi_ops.specs.Fonts.{Metrics}
 use Rattle.dvi_layout.specs.Fonts.{Slots}
+use Rattle.dvi_layout.specs.Layout.{whole}
 use Rattle.dvi_layout.specs.SoFar.{SoFar}
 use Rattle.dvi_layout.specs.Shippable.{GivesFonts, IsFileOfPages}
 use Rattle.dvi_layout.specs.declared.progress.WriteFault.{WriteFault}
@@ -21,7 +22,7 @@ use Rattle.tfm_core.specs.NamedBytes.{NamedBytes}
 use Rattle.job_core.specs.Jobs.{Seen, writing_of, untold, Holds, FinishesTo}
 use Rattle.job_core.specs.Sound.{seen_by}
 use Rattle.job_core.specs.Shown.{GivesFiles}
-use Rattle.job_core.proofs.Moves.{stops}
+use Rattle.job_core.proofs.Moves.{stops, told_on, grows_on}
 
 -- Where the job is not over and no list is open, nothing refuses the end.
 pub may_finish : (s : State) → s.over ≡ false → not (length s.nest == 0) ≡ false → first_of (finish_checks s) ≡ None
@@ -42,6 +43,15 @@ fonts_are old m fonts holds same = same ∙ ap (λ (s : State). s.fonts) holds.s
 
 true_and_false : {b : Bool} → b ≡ true → b ≡ false → ⊥
 true_and_false t f = cc
+
+-- What the end of a file tells, by the fonts of the machine.
+pub sent_by : (old : Seen) (m : Machine) (fonts : Slots) (told : Option (List ℕ)) → Holds old m → fonts ≡ old.state.fonts → told ≡ grown (untold old.told) (whole fonts m.pages)
+    → told ≡ grown (untold old.told) (whole m.state.fonts m.pages)
+sent_by old m fonts told holds same sent = subst (λ (f : Slots). told ≡ grown (untold old.told) (whole f m.pages)) (fonts_are old m fonts holds same) sent
+
+pub part_by : (old : Seen) (m : Machine) (fonts : Slots) (told : Option (List ℕ)) → Holds old m → fonts ≡ old.state.fonts → GrowsByFront (untold old.told) told (whole fonts m.pages)
+    → GrowsByFront (untold old.told) told (whole m.state.fonts m.pages)
+part_by old m fonts told holds same part = subst (λ (f : Slots). GrowsByFront (untold old.told) told (whole f m.pages)) (fonts_are old m fonts holds same) part
 
 -- There are pages where the end of a file that is not over fails.
 pub some_where : (w : Writing) (fault : WriteFault) → w.over ≡ false → MayFail w fault → w.so_far.pages ≢ 0
@@ -72,9 +82,13 @@ pub finished :
     → new.state ≡ record (old.state) { over = true }
     → ((m : Machine) → Holds old m → summary.pages ≡ length m.pages)
     → new.failed ≡ old.failed
+    → ((m : Machine) → Holds old m → new.told ≡ grown (untold old.told) (whole m.state.fonts m.pages))
     → FinishesTo old (Ok summary) new
-finished old new summary may goes counts fails m holds =
-    (stopped_machine m, Finished summary refl (accepted old m holds may) (counts m holds) refl fails, stops old new m holds goes)
+finished old new summary may goes counts fails sent m holds = (
+  stopped_machine m,
+  Finished summary refl (accepted old m holds may) (counts m holds) refl fails,
+  stops old new m holds goes (inl (told_on old.told new.told (whole m.state.fonts m.pages) (sent m holds))),
+)
 
 pub wanting : (old : Seen) → first_of (finish_checks old.state) ≡ None → old.state.over ≡ false → old.so_far.pages ≢ 0 → FinishesTo old (Err OutOfMemory) old
 wanting old may running some m holds = (m, WantsMemory refl (accepted old m holds may) (some_pages old m holds running some) refl refl, holds)
@@ -86,9 +100,13 @@ pub losing :
     → old.so_far.pages ≢ 0
     → new.state ≡ record (old.state) { over = true }
     → old.failed < new.failed
+    → ((m : Machine) → Holds old m → GrowsByFront (untold old.told) new.told (whole m.state.fonts m.pages))
     → FinishesTo old (Err Device) new
-losing old new may running some goes fails m holds =
-    (stopped_machine m, LostDevice refl (accepted old m holds may) (some_pages old m holds running some) refl fails, stops old new m holds goes)
+losing old new may running some goes fails part m holds = (
+  stopped_machine m,
+  LostDevice refl (accepted old m holds may) (some_pages old m holds running some) refl fails,
+  stops old new m holds goes (inr (inl (grows_on old.told new.told (whole m.state.fonts m.pages) (part m holds)))),
+)
 
 -- A job whose writer has ended is stopped.
 pub stopped : (kept : Keeping) (w now : Writing) → now.so_far ≡ w.so_far → now.over ≡ true → (seen_by kept now).state ≡ record ((seen_by kept w).state) { over = true }

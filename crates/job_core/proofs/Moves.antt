@@ -1,5 +1,5 @@
 -- How a job and the machine that it stands for move together.
-use Rattle.std.proofs.Common.{◌≡◌, ℕ, ◌+◌, ◌<◌, Bool, true, false, List, [], ◌∷◌, ◌++◌, length, length-append, Option, Some, None, Err, refl, ap, sym, ◌∙◌, subst, arith, append-nil}
+use Rattle.std.proofs.Common.{◌≡◌, ℕ, ◌+◌, ◌<◌, Bool, true, false, List, [], ◌∷◌, ◌++◌, length, length-append, take, Option, Some, None, Err, refl, ap, sym, ◌∙◌, subst, inr, arith, append-nil}
 use Rattle.std.specs.Prelude.{◌≢◌, Ok, is_none, if◌then◌else◌, IfOk, IfErr, nat_le, nat_lt}
 use Rattle.node_core.specs.declared.tree.BoxNode.{BoxNode}
 use Rattle.command_core.specs.declared.command.Command.{Command}
@@ -10,7 +10,7 @@ use Rattle.command_core.specs.Reply.{Reply}
 use Rattle.command_core.specs.declared.limits.TheConstants.{MOST_PAGES, MOST_SHIPPED}
 use Rattle.ship_core.specs.Marks.{Page}
 use Rattle.dvi_layout.specs.Fonts.{Slots}
-use Rattle.device_core.specs.Told.{grown}
+use Rattle.device_core.specs.Told.{grown, GrowsByFront}
 use Rattle.dvi_layout.specs.Layout.{front}
 use Rattle.dvi_write.specs.Writing.{Writing, HasWritten}
 use Rattle.dvi_write.proofs.Writings.{written_with_more}
@@ -21,7 +21,7 @@ use Rattle.nest_core.specs.Answers.{answer_of}
 use Rattle.nest_core.specs.Effects.{after, new_pages}
 use Rattle.nest_core.specs.Machine.{Machine, reply_by, reply_to, state_by, state_after, step, stopped_machine}
 use Rattle.nest_core.specs.Runs.{IsShip, TakesMemory, early_checks, Steps, Replies, LacksMemory, LosesDevice, Run}
-use Rattle.job_core.specs.Jobs.{GoesOn, Seen, writing_of, untold, pages_after, Holds, KeepsTo, RunsTo}
+use Rattle.job_core.specs.Jobs.{GoesOn, Seen, writing_of, untold, pages_after, HasSent, Holds, KeepsTo, RunsTo}
 use Rattle.job_core.specs.Sound.{IsSound, seen_by}
 use Rattle.state_core.specs.Loaded.{GivesNumbersFor}
 use Rattle.state_core.specs.Keeping.{Keeping, state_of, unshipped}
@@ -94,15 +94,36 @@ told_before : (fonts : Slots) (told : Option (List ℕ)) (w : Writing) (pages : 
 told_before fonts told w pages written =
     subst (λ before. HasWritten fonts before w pages) (sym (ap untold written.told ∙ untold-grown told (front fonts pages))) written
 
+pub true_or_false : {b : Bool} → b ≡ true → b ≡ false → ⊥
+true_or_false t f = cc
+
+-- What was told before is the same where the device took bytes.
+pub told_on : (told new : Option (List ℕ)) (bytes : List ℕ) → new ≡ grown (untold told) bytes → new ≡ grown (untold new) bytes
+told_on told new bytes is =
+    let same : untold new ≡ untold told = ap untold is ∙ untold-grown told bytes in is ∙ ap (λ (before : Option (List ℕ)). grown before bytes) (sym same)
+
+pub grows_on : (told new : Option (List ℕ)) (bytes : List ℕ) → GrowsByFront (untold told) new bytes → GrowsByFront (untold new) new bytes
+grows_on told new bytes (n, less, is) = (n, less, told_on told new (take n bytes) is)
+
+-- A machine that is over stays, and so does what went out.
+sent_stays : (m : Machine) (command : Command) (old new : Option (List ℕ)) → m.state.over ≡ true → new ≡ old → HasSent m.state m.pages old
+    → HasSent (state_after m.state command) (pages_after m.state m.pages command) new
+sent_stays m command old new over same sent =
+    let s = m.state in
+    let refused : first_of (checks s command) ≡ Some JobOver = ap (λ over. if over then Some JobOver else first_of (own_checks s command)) over in
+    subst (λ (r : Option Refusal). HasSent (state_by r s (after s command)) (state_by r m.pages (m.pages ++ new_pages s command)) new) (sym refused)
+    (subst (HasSent s m.pages) (sym same) sent)
+
 -- A job that replies as the table says keeps to the machine.
 pub replied :
     (old new : Seen) (command : Command) (reply : Reply)
     → reply ≡ reply_to old.state command
     → new.state ≡ state_after old.state command
     → (old.state.over ≡ false → GoesOn old.state command (writing_of old) (writing_of new))
+    → (old.state.over ≡ true → new.told ≡ old.told)
     → new.failed ≡ old.failed
     → KeepsTo old command reply new
-replied old new command reply says goes writes fails m holds =
+replied old new command reply says goes writes stays fails m holds =
     let on = subst (λ (s : State). s.over ≡ false → GoesOn s command (writing_of old) (writing_of new)) holds.state writes in (
       step m command,
       Replies (says ∙ ap (λ s. reply_to s command) holds.state) refl fails,
@@ -114,6 +135,9 @@ replied old new command reply says goes writes fails m holds =
             told_before (state_after m.state command).fonts old.told (writing_of new) (pages_after m.state m.pages command)
             (with_fonts m.state command (first_of (checks m.state command)) refl (untold old.told) (writing_of new) (pages_after m.state m.pages command)
             (on ran (untold old.told) m.pages (holds.written ran)));
+        sent = λ ended.
+            let over : m.state.over ≡ true = sym (job_kept m.state command).over ∙ ended in
+            sent_stays m command old.told new.told over (stays (ap (λ (s : State). s.over) holds.state ∙ over)) (holds.sent over);
       },
     )
 
@@ -126,9 +150,6 @@ pub lacking :
     → KeepsTo old command reply old
 lacking old command reply says takes accepted m holds =
     (m, LacksMemory says (subst (λ (s : State). TakesMemory s command) holds.state takes) (sym (ap (λ s. first_of (early_checks s command)) holds.state) ∙ accepted) refl refl, holds)
-
-pub true_or_false : {b : Bool} → b ≡ true → b ≡ false → ⊥
-true_or_false t f = cc
 
 -- No reply of the machine says that the device failed.
 pub never_device : (s : State) (command : Command) (reply : Reply) → reply ≡ reply_to s command → reply ≡ Err Device → ⊥
@@ -148,20 +169,26 @@ refuses old command refusal is =
     let s = old.state in
     replied old old command (Err refusal) (sym (ap (λ refused. reply_by refused (answer_of s command)) is))
     (sym (ap (λ refused. state_by refused s (after s command)) is))
-    (λ running before pages written. subst (HasWritten s.fonts before (writing_of old)) (sym (ap (λ refused. state_by refused pages (pages ++ new_pages s command)) is)) written) refl
+    (λ running before pages written. subst (HasWritten s.fonts before (writing_of old)) (sym (ap (λ refused. state_by refused pages (pages ++ new_pages s command)) is)) written) (λ over. refl) refl
 
 -- So does a job that is over.
 pub over_replies : (old : Seen) (command : Command) → old.state.over ≡ true → KeepsTo old command (Err JobOver) old
 over_replies old command over = refuses old command JobOver (ap (λ over. if over then Some JobOver else first_of (own_checks old.state command)) over)
 
 -- A job that is stopped stands for the stopped machine.
-pub stops : (old new : Seen) (m : Machine) → Holds old m → new.state ≡ record (old.state) { over = true } → Holds new (stopped_machine m)
-stops old new m holds goes =
+pub stops : (old new : Seen) (m : Machine) → Holds old m → new.state ≡ record (old.state) { over = true } → HasSent (record (m.state) { over = true }) m.pages new.told → Holds new (stopped_machine m)
+stops old new m holds goes sent =
     record {
       state = goes ∙ ap (λ (s : State). record s { over = true }) holds.state;
       count = holds.count;
       written = λ running. absurd (true_or_false refl running);
+      sent = λ over. sent;
     }
+
+-- The page of a register's box is the same when the job is over.
+over_page : (s : State) (held : Option BoxNode) → pages_of s held ≡ pages_of (record s { over = true }) held
+over_page s None = refl
+over_page s (Some b) = refl
 
 -- A job whose device fails in a ship that is accepted keeps to the machine.
 pub losing_page :
@@ -169,9 +196,16 @@ pub losing_page :
     → first_of (checks old.state (Ship r)) ≡ None
     → new.state ≡ record (old.state) { over = true }
     → old.failed < new.failed
+    → ((m : Machine) → Holds old m → GrowsByFront (untold old.told) new.told (front m.state.fonts (m.pages ++ new_pages m.state (Ship r))))
     → KeepsTo old (Ship r) (Err Device) new
-losing_page old new r accepted goes fails m holds =
-    (stopped_machine m, LosesDevice refl tt (sym (ap (λ s. first_of (checks s (Ship r))) holds.state) ∙ accepted) refl fails, stops old new m holds goes)
+losing_page old new r accepted goes fails part m holds =
+    let s = m.state in
+    let page = over_page s (held_in s.registers r) in
+    let grows = grows_on old.told new.told (front s.fonts (m.pages ++ new_pages s (Ship r))) (part m holds) in (
+      stopped_machine m,
+      LosesDevice refl tt (sym (ap (λ s. first_of (checks s (Ship r))) holds.state) ∙ accepted) refl fails,
+      stops old new m holds goes (inr (inr (r, subst (λ (more : List Page). GrowsByFront (untold new.told) new.told (front s.fonts (m.pages ++ more))) page grows))),
+    )
 
 -- What is written stays with a command that ships nothing.
 pub goes_on_without : (old new : Seen) (command : Command) → (IsShip command → ⊥) → new.state ≡ state_after old.state command → new.so_far ≡ old.so_far → new.told ≡ old.told
@@ -238,7 +272,7 @@ module _ (kept : Keeping) (w : Writing) (command : Command) (other : IsShip comm
   obeyed now reply says goes =
       let old = seen_by kept w in
       let new = seen_by now w in
-      replied old new command reply (seen_reply reply says) (seen_state now goes) (λ runs. goes_on_without old new command other (seen_state now goes) refl refl refl) refl
+      replied old new command reply (seen_reply reply says) (seen_state now goes) (λ runs. goes_on_without old new command other (seen_state now goes) refl refl refl) (λ over. refl) refl
 
   -- So does one that wants memory.
   pub wants : TakesMemory (unshipped kept) command → first_of (early_checks (unshipped kept) command) ≡ None → KeepsTo (seen_by kept w) command (Err OutOfMemory) (seen_by kept w)

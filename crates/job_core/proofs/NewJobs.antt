@@ -14,6 +14,7 @@ use Rattle.state_core.proofs.SizedGlyphs.{sized_first}
 use Rattle.state_core.proofs.LoadedFonts.{loaded_first}
 use Rattle.job_core.specs.Jobs.{untold, Holds}
 use Rattle.job_core.specs.Sound.{IsSound, seen_by}
+use Rattle.job_core.proofs.Moves.{true_or_false}
 
 grown_by_none : (told : Option (List ℕ)) → grown told [] ≡ told
 grown_by_none None = refl
@@ -41,6 +42,7 @@ new_holds files device kept w fresh is written =
       state = ap (λ (x : SoFar). state_of kept x.nodes x.pages w.over) written.so_far ∙ (ap (λ over. state_of kept 0 0 over) written.running ∙ is);
       count = refl;
       written = λ running. subst (λ before. HasWritten fonts before w []) before written;
+      sent = λ over. absurd (true_or_false over refl);
     }
 
 -- What a new job keeps is sound.

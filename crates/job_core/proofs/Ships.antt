@@ -29,7 +29,7 @@ use Rattle.state_core.specs.Keeping.{Keeping, state_of, unshipped}
 use Rattle.state_core.proofs.SizedGlyphs.{sized_held}
 use Rattle.job_core.specs.Jobs.{GoesOn, Holds, KeepsTo, untold}
 use Rattle.job_core.specs.Sound.{IsSound, refusal_for, seen_by}
-use Rattle.job_core.proofs.Moves.{replied, refuses, lacking, losing_page}
+use Rattle.job_core.proofs.Moves.{replied, refuses, lacking, losing_page, true_or_false}
 use Rattle.job_core.proofs.Endings.{has_written, stopped}
 use Rattle.job_core.proofs.PageFonts.{shippable}
 
@@ -132,23 +132,7 @@ module _ (kept : Keeping) (w : Writing) (r : ℕ) (b : BoxNode) (page : Page) (i
         replied (seen_by kept w) (seen_by now new) (Ship r) (Ok (Shipped count))
         (ap (λ n. reply_by None (Shipped n)) (counts ∙ pages) ∙ ap (λ refused. reply_by refused (Shipped (w.so_far.pages + 1))) (sym (accepted none)))
         (behind ∙ ap (λ refused. state_by refused s (after s (Ship r))) (sym (accepted none)))
-        (λ running. goes_on on) stands
-
-  -- What is replied where the page did not go out.
-  pub unshipped_for : (new : Writing) (fault : WriteFault) → EndsWith w page fault → (fault ≢ faults.Device → new ≡ w) → (fault ≡ faults.Device → new.failed ≡ w.failed + 1)
-      → (fault ≡ faults.Device → new.over ≡ true) → (fault ≡ faults.Device → new.so_far ≡ w.so_far) → KeepsTo (seen_by kept w) (Ship r) (Err (refusal_for fault)) (seen_by kept new)
-  unshipped_for new fault (inl (inl some)) stays fails over keeps =
-      let other : fault ≢ faults.Device = λ lost. never_lost w page (some ∙ ap Some lost) in
-      subst (λ (x : Writing). KeepsTo (seen_by kept w) (Ship r) (Err (refusal_for fault)) (seen_by kept x)) (sym (stays other))
-      (refuses (seen_by kept w) (Ship r) (refusal_for fault) (checked ∙ ap (option_map refusal_for) some))
-  unshipped_for new fault (inl (inr (none, wants))) stays fails over keeps =
-      let other : fault ≢ faults.Device = λ lost. cc in
-      subst (λ (x : Writing). KeepsTo (seen_by kept w) (Ship r) (Err (refusal_for fault)) (seen_by kept x)) (sym (stays other))
-      (lacking (seen_by kept w) (Ship r) (Err (refusal_for fault)) (ap (λ fault. Err (refusal_for fault)) wants) tt (accepted none))
-  unshipped_for new fault (inr (none, lost)) stays fails over keeps =
-      let more : w.failed < new.failed = omega (arith, fails lost) in
-      subst (λ (x : Refusal). KeepsTo (seen_by kept w) (Ship r) (Err x) (seen_by kept new)) (ap refusal_for (sym lost))
-      (losing_page (seen_by kept w) (seen_by kept new) r (accepted none) (stopped kept w new (keeps lost) (over lost)) more)
+        (λ running. goes_on on) (λ over. absurd (true_or_false over old_runs)) stands
 
   -- What the device tells where it failed.
   pub part_of : (new : Writing) → w.over ≡ false
@@ -158,6 +142,24 @@ module _ (kept : Keeping) (w : Writing) (r : ℕ) (b : BoxNode) (page : Page) (i
       subst (λ (t : State). HasWritten t.fonts (untold w.told) w m.pages → GrowsByFront (untold w.told) new.told (front t.fonts (m.pages ++ new_pages t (Ship r)))) holds.state
       (λ written. subst (λ added. GrowsByFront (untold w.told) new.told (front kept.fonts (m.pages ++ added))) (sym adds) (part (untold w.told) m.pages written))
       (has_written (seen_by kept w) m holds running)
+
+  -- What is replied where the page did not go out.
+  pub unshipped_for : (new : Writing) (fault : WriteFault) → EndsWith w page fault → (fault ≢ faults.Device → new ≡ w) → (fault ≡ faults.Device → new.failed ≡ w.failed + 1)
+      → (fault ≡ faults.Device → new.over ≡ true) → (fault ≡ faults.Device → new.so_far ≡ w.so_far) → w.over ≡ false
+      → (fault ≡ faults.Device → (before : Option (List ℕ)) (pages : List Page) → HasWritten kept.fonts before w pages → GrowsByFront before new.told (front kept.fonts (pages ++ page ∷ [])))
+      → KeepsTo (seen_by kept w) (Ship r) (Err (refusal_for fault)) (seen_by kept new)
+  unshipped_for new fault (inl (inl some)) stays fails over keeps running part =
+      let other : fault ≢ faults.Device = λ lost. never_lost w page (some ∙ ap Some lost) in
+      subst (λ (x : Writing). KeepsTo (seen_by kept w) (Ship r) (Err (refusal_for fault)) (seen_by kept x)) (sym (stays other))
+      (refuses (seen_by kept w) (Ship r) (refusal_for fault) (checked ∙ ap (option_map refusal_for) some))
+  unshipped_for new fault (inl (inr (none, wants))) stays fails over keeps running part =
+      let other : fault ≢ faults.Device = λ lost. cc in
+      subst (λ (x : Writing). KeepsTo (seen_by kept w) (Ship r) (Err (refusal_for fault)) (seen_by kept x)) (sym (stays other))
+      (lacking (seen_by kept w) (Ship r) (Err (refusal_for fault)) (ap (λ fault. Err (refusal_for fault)) wants) tt (accepted none))
+  unshipped_for new fault (inr (none, lost)) stays fails over keeps running part =
+      let more : w.failed < new.failed = omega (arith, fails lost) in
+      subst (λ (x : Refusal). KeepsTo (seen_by kept w) (Ship r) (Err x) (seen_by kept new)) (ap refusal_for (sym lost))
+      (losing_page (seen_by kept w) (seen_by kept new) r (accepted none) (stopped kept w new (keeps lost) (over lost)) more (part_of new running (part lost)))
 
 -- Only a device that failed is replied so.
 pub is_lost : (fault : WriteFault) (reply : Reply) → reply ≡ Err (refusal_for fault) → reply ≡ Err Device → fault ≡ faults.Device

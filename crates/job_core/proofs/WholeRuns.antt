@@ -106,4 +106,5 @@ done files commands replies result new run ended begins runs finishes files_page
       file = λ metrics gives. files_pages goes.0 metrics goes.2 (subst (GivesFiles metrics) (sym (files_kept (first_machine files) new.failed commands replies goes.0 run.failed goes.1)) gives);
       size = sized result run ended goes.0 goes.2 size;
       closed = λ some. closes goes.0 goes.2 some;
+      sent = ends.2.sent;
     }

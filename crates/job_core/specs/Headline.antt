@@ -1,5 +1,5 @@
 -- A job from its beginning to its end (own).
-use Rattle.std.specs.Prelude.{◌≡◌, ◌≢◌, [], List, length, Result, IfOk, OnOk, IfSome}
+use Rattle.std.specs.Prelude.{◌≡◌, ◌≢◌, [], true, List, length, Result, IfOk, OnOk, IfSome}
 use Rattle.dvi_ops.specs.Fonts.{Metrics}
 use Rattle.command_core.specs.declared.command.Command.{Command}
 use Rattle.command_core.specs.declared.command.Refusal.{Refusal}
@@ -8,7 +8,7 @@ use Rattle.command_core.specs.Reply.{Reply}
 use Rattle.tfm_core.specs.NamedBytes.{NamedBytes}
 use Rattle.nest_core.specs.Machine.{Machine, first_machine}
 use Rattle.nest_core.specs.Runs.{Run, Finishes}
-use Rattle.job_core.specs.Jobs.{Seen}
+use Rattle.job_core.specs.Jobs.{Seen, HasSent}
 use Rattle.dvi_layout.specs.Closing.{IsClosedFor}
 use Rattle.dvi_layout.specs.Shippable.{IsFileOfPages}
 use Rattle.job_core.specs.Shown.{GivesFiles}
@@ -29,3 +29,5 @@ pub record IsDone (files : List NamedBytes) (commands : List Command) (replies :
   pub size : IfOk result (λ summary. IfSome ended.told (λ bytes. summary.bytes ≡ length bytes))
   -- The file ends as one of these pages does, and each font that it defines is that of the machine's slot of its number.
   pub closed : machine.pages ≢ [] → OnOk result (IfSome ended.told (λ bytes. IsClosedFor machine.state.fonts bytes machine.pages))
+  -- Where the job is over, whatever failed: the device has taken that file or a beginning of it, or a beginning of it with the page that was on its way.
+  pub sent : last.state.over ≡ true → HasSent last.state last.pages ended.told

@@ -1,10 +1,13 @@
 -- A job, and the machine that it stands for (own).
-use Rattle.std.specs.Prelude.{◌≡◌, ◌++◌, [], ℕ, false, List, length, Option, Some, None, Result}
+use Rattle.std.specs.Prelude.{◌≡◌, ◌⊎◌, ◌++◌, [], ℕ, false, true, List, length, Option, Some, None, Result}
 use Rattle.command_core.specs.declared.command.Command.{Command}
+use Rattle.command_core.specs.declared.command.Command.TheVariants.{Ship}
 use Rattle.command_core.specs.declared.command.Refusal.{Refusal}
 use Rattle.command_core.specs.declared.command.Summary.{Summary}
 use Rattle.command_core.specs.Reply.{Reply}
 use Rattle.ship_core.specs.Marks.{Page}
+use Rattle.device_core.specs.Told.{grown, GrowsByFront}
+use Rattle.dvi_layout.specs.Layout.{front, whole}
 use Rattle.dvi_layout.specs.SoFar.{SoFar}
 use Rattle.dvi_write.specs.Writing.{Writing, HasWritten}
 use Rattle.nest_core.specs.State.{State}
@@ -39,12 +42,21 @@ abbrev pub GoesOn : State → Command → Writing → Writing → Type 0
 GoesOn s command old new =
     (before : Option (List ℕ)) (pages : List Page) → HasWritten s.fonts before old pages → HasWritten s.fonts before new (pages_after s pages command)
 
+-- What the device of a job that is over tells behind what it told before: the file of the machine's pages, or a beginning of it; or, where it failed in a
+-- `ship`, a beginning of the file up to the eop of that page, whose box is still in its register.
+abbrev pub HasSent : State → List Page → Option (List ℕ) → Type 0
+HasSent s pages told =
+    (told ≡ grown (untold told) (whole s.fonts pages))
+    ⊎ GrowsByFront (untold told) told (whole s.fonts pages)
+    ⊎ ((register : ℕ) × GrowsByFront (untold told) told (front s.fonts (pages ++ new_pages s (Ship register))))
+
 -- A job stands for a machine: it keeps the machine's state, and until it is over it has written the machine's pages: what its device tells are all
--- bytes of them up to the last eop, and no other.
+-- bytes of them up to the last eop, and no other. Once it is over, no other than these went out, or than a beginning of one page more.
 pub record Holds (job : Seen) (m : Machine) : Type 0 where
   pub state : job.state ≡ m.state
   pub count : m.state.pages ≡ length m.pages
   pub written : m.state.over ≡ false → HasWritten m.state.fonts (untold job.told) (writing_of job) m.pages
+  pub sent : m.state.over ≡ true → HasSent m.state m.pages job.told
 
 -- Each machine that the job stood for has stepped to one that it stands for.
 abbrev pub KeepsTo : Seen → Command → Reply → Seen → Type 0

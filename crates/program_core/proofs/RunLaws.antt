@@ -1,5 +1,5 @@
 -- A job that runs the commands of a script and is finished.
-use Rattle.std.proofs.Common.{◌≡◌, inl, inr, ℕ, Bool, true, false, List, [], ◌++◌, length, Option, Some, None, IfSome, Result, Ok, Err, IfOk, OnOk, OnErr, is_err, refl, sym, ◌∙◌, ap, subst, ⊎_elim}
+use Rattle.std.proofs.Common.{◌≡◌, inl, inr, ℕ, Bool, true, false, List, [], ◌++◌, length, take, Option, Some, None, IfSome, Result, Ok, Err, IfOk, OnOk, OnErr, is_err, refl, sym, ◌∙◌, ap, subst, ⊎_elim}
 use Rattle.command_core.specs.declared.command.Command.{Command}
 use Rattle.command_core.specs.declared.command.Refusal.{Refusal}
 use Rattle.command_core.specs.declared.command.Refusal.TheVariants as refusals
@@ -10,8 +10,10 @@ use Rattle.device_core.specs.Told.{IsFrontOf}
 use Rattle.dvi_layout.specs.Layout.{front, whole}
 use Rattle.job_core.specs.Shown.{GivesFiles, FilesPages}
 use Rattle.job_core.specs.Closing.{ClosesFile}
+use Rattle.nest_core.specs.Effects.{new_pages}
 use Rattle.nest_core.specs.Machine.{Machine, first_machine}
-use Rattle.job_core.specs.Jobs.{Seen, Holds, RunsTo, FinishesTo}
+use Rattle.command_core.specs.declared.command.Command.TheVariants.{Ship}
+use Rattle.job_core.specs.Jobs.{Seen, HasSent, Holds, RunsTo, FinishesTo}
 use Rattle.device_core.specs.Held.{Held}
 use Rattle.job_core.proofs.WholeRuns.{files_kept}
 use Rattle.job_core.proofs.Endings.{said}
@@ -19,7 +21,7 @@ use Rattle.job_core.proofs.NewJobs.{front_none}
 use Rattle.std.specs.Io.KnownBytes.{Keeps}
 use Rattle.std.proofs.lemmas.List.{append-nil}
 use Rattle.program_core.specs.Texts.{hexadecimal_text}
-use Rattle.program_core.specs.Runs.{commands_of, WasRun, IsUntouched, IsAnswered, RanScript, RefusedScript, IsAnsweredInMemory, LacksMemory}
+use Rattle.program_core.specs.Runs.{commands_of, IsPart, WasRun, IsUntouched, IsAnswered, RanScript, RefusedScript, IsAnsweredInMemory, LacksMemory}
 
 pub on_err : {A E : Type 0} {P : Type 0} (r : Result A E) → is_err r ≡ true → OnErr r P → P
 on_err (Ok x) e h = absurd (cc)
@@ -40,6 +42,13 @@ new_untouched files job n k told holds f g t = record {
 size_at : (end : Result Summary Refusal) (told : Option (List ℕ)) (run : Seen) (m : Machine) → Holds run m → IfOk end (λ summary. (m : Machine) → Holds run m → IfSome told (λ bytes. summary.bytes ≡ length bytes)) → IfOk end (λ summary. IfSome told (λ bytes. summary.bytes ≡ length bytes))
 size_at (Ok summary) told run m holds h = h m holds
 size_at (Err refusal) told run m holds h = h
+
+-- what a job that is over has sent, where it is told
+sent_part : (m : Machine) (told : Option (List ℕ)) → HasSent m.state m.pages told → IfSome told (IsPart m)
+sent_part m told (inl is) = said told told (whole m.state.fonts m.pages) (IsPart m) is (inl refl)
+sent_part m told (inr (inl (n, less, is))) = said told told (take n (whole m.state.fonts m.pages)) (IsPart m) is (inr (inl (n, refl)))
+sent_part m told (inr (inr (r, (n, less, is)))) =
+    said told told (take n (front m.state.fonts (m.pages ++ new_pages m.state (Ship r)))) (IsPart m) is (inr (inr (r, (n, refl))))
 
 pub was_run : (files : List NamedBytes) (commands : List Command) (replies : List Reply) (end : Result Summary Refusal) (job run done : Seen)
     → Holds job (first_machine files) → RunsTo job commands replies run → FinishesTo run end done
@@ -64,6 +73,7 @@ was_run files commands replies end job run done holds runs finishes dvi file siz
       size = size_at end done.told run middle.0 middle.2 size;
       closed = closed middle.0 middle.2;
       front = λ e. part e middle.0 middle.2;
+      part = λ over. sent_part last.0 done.told (last.2.sent over);
       sent = λ running. said done.told done.told (front last.0.state.fonts last.0.pages) (λ bytes. bytes ≡ front last.0.state.fonts last.0.pages) (last.2.written running).told refl;
     }
 

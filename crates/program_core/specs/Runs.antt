@@ -1,8 +1,9 @@
 -- Runs of a script and what is written of them (own).
-use Rattle.std.specs.Prelude.{◌≡◌, ◌≢◌, ◌<◌, ◌≤◌, ◌⊎◌, ◌&&◌, ◌++◌, ℕ, Bool, false, List, [], length, map, take, codes, Option, Some, IfSome, Result, Err, IfOk, OnOk, is_ok}
+use Rattle.std.specs.Prelude.{◌≡◌, ◌≢◌, ◌<◌, ◌≤◌, ◌⊎◌, ◌&&◌, ◌++◌, ℕ, Bool, false, true, List, [], length, map, take, codes, Option, Some, IfSome, Result, Err, IfOk, OnOk, is_ok}
 use Rattle.std.specs.List.{list_all}
 use Rattle.std.specs.Io.KnownBytes.{Appends, Keeps, Consumes, IsAtEnd}
 use Rattle.command_core.specs.declared.command.Command.{Command}
+use Rattle.command_core.specs.declared.command.Command.TheVariants.{Ship}
 use Rattle.command_core.specs.declared.command.Refusal.{Refusal}
 use Rattle.command_core.specs.declared.command.Refusal.TheVariants as refusals
 use Rattle.command_core.specs.declared.command.Summary.{Summary}
@@ -15,6 +16,7 @@ use Rattle.dvi_layout.specs.Shippable.{IsFileOfPages}
 use Rattle.job_core.specs.Shown.{GivesFiles}
 use Rattle.dvi_layout.specs.Closing.{IsClosedFor}
 use Rattle.device_core.specs.Held.{Held}
+use Rattle.nest_core.specs.Effects.{new_pages}
 use Rattle.nest_core.specs.Machine.{Machine, first_machine}
 use Rattle.nest_core.specs.Runs.{Run, Finishes}
 use Rattle.script_core.specs.declared.cause.Cause.{Cause}
@@ -36,10 +38,18 @@ numbers_of lines = map (λ line. line.number) lines
 abbrev pub is_accepted : List Reply → Result Summary Refusal → Bool
 is_accepted replies end = list_all is_ok replies && is_ok end
 
+-- what a job that is over has sent: the file of its machine's pages, or a beginning of it; or, where the device failed in a `ship`, a beginning of the file up
+-- to the eop of that page, whose box is still in its register
+abbrev pub IsPart : Machine → List ℕ → Type 0
+IsPart m bytes =
+    (bytes ≡ whole m.state.fonts m.pages) ⊎ IsFrontOf bytes (whole m.state.fonts m.pages)
+    ⊎ ((register : ℕ) × IsFrontOf bytes (front m.state.fonts (m.pages ++ new_pages m.state (Ship register))))
+
 -- a new job with these font files took these commands and gave these replies, and was then finished with this end; its device's
 -- count of failures went from n to k, and the device then told these bytes: a DVI file of exactly the machine's pages, by the definition
 -- of DVI files alone and by the widths that the font files give, which is the one that this writer lays out, and which ends as a file of these pages
--- does; or the front of it that it took; or, where the job is not over because its end was refused, the bytes of all pages that were shipped
+-- does; or the front of it that it took; or, where the job is not over because its end was refused, the bytes of all pages that were shipped; and
+-- where it is over, whatever failed, no other bytes than a beginning of the one file
 pub record WasRun (files : List NamedBytes) (n : ℕ) (commands : List Command) (replies : List Reply) (end : Result Summary Refusal) (k : ℕ) (told : Option (List ℕ)) : Type 0 where
   pub middle : Machine
   pub failed : ℕ
@@ -52,6 +62,7 @@ pub record WasRun (files : List NamedBytes) (n : ℕ) (commands : List Command) 
   pub closed : middle.pages ≢ [] → OnOk end (IfSome told (λ bytes. IsClosedFor middle.state.fonts bytes middle.pages))
   pub sent : last.state.over ≡ false → IfSome told (λ bytes. bytes ≡ front last.state.fonts last.pages)
   pub front : end ≡ Err refusals.Device → IfSome told (λ bytes. IsFrontOf bytes (whole middle.state.fonts middle.pages))
+  pub part : last.state.over ≡ true → IfSome told (IsPart last)
 
 -- a script was run, and this is the text of its answers
 pub record RanScript (text : List ℕ) (files : List NamedBytes) (n k : ℕ) (told : Option (List ℕ)) (answer : List ℕ) (fine : Bool) : Type 0 where

@@ -46,7 +46,8 @@ returns-in-Err-clause-keeps g c =
     subst (λ (x : Refusal). KeepsTo (seen_by kept w) (Ship c.args.register) (Err x) (seen_by kept c.page.new.self)) (sym c.refusal_for.ensures)
     (unshipped_for kept w c.args.register b page is same c.page.new.self c.in-Err.fault c.in-Err.ensures.refused c.in-Err.ensures.same
     (λ lost. c.page.ensures.failed (c.in-Err.is ∙ ap (λ (f : WriteFault). Err f) lost)) (λ lost. c.page.ensures.over (c.in-Err.is ∙ ap (λ (f : WriteFault). Err f) lost))
-    (λ lost. c.page.ensures.so_far (c.in-Err.is ∙ ap (λ (f : WriteFault). Err f) lost)))
+    (λ lost. c.page.ensures.so_far (c.in-Err.is ∙ ap (λ (f : WriteFault). Err f) lost)) c.requires.running
+    (λ lost. rw c.fonts.ensures at (c.page.ensures.part (c.in-Err.is ∙ ap (λ (f : WriteFault). Err f) lost))))
 
 pub returns-in-Err-clause-unsent : goal.returns-in-Err-clause-unsent
 returns-in-Err-clause-unsent g c = λ other. ap (λ (w : Writing). w.told) (c.in-Err.ensures.same (is_other c.in-Err.fault (λ lost. other (c.refusal_for.ensures ∙ lost))))

@@ -5,7 +5,7 @@ use Rattle.dvi_layout.specs.Closing.{IsClosedFor}
 use Rattle.dvi_layout.specs.Layout.{whole}
 use Rattle.dvi_layout.specs.Shippable.{GivesFonts, IsFileOfPages}
 use Rattle.job_core.specs.Sound.{seen_by}
-use Rattle.job_core.proofs.Endings.{over_refused, open_refused, may_finish, has_written_by, fonts_are, some_where, finished, losing, stopped, said, filed}
+use Rattle.job_core.proofs.Endings.{over_refused, open_refused, may_finish, has_written_by, fonts_are, sent_by, part_by, some_where, finished, losing, stopped, said, filed}
 use Rattle.job_core.proofs.device_job.Job.finish.Goals as goal
 
 pub returns-then-is_over-clause-finished : goal.returns-then-is_over-clause-finished
@@ -22,7 +22,9 @@ returns-clause-finished g c =
     rw (← c.self.view_is)
     (finished old _ _ (may_finish old.state running (sym c.is_open.ensures ∙ c.if-is_open.false))
     (stopped c.self.inside.kept c.self.inside.writer c.finish.new.self c.finish.ensures.so_far c.in-Ok.ensures.over)
-    (λ m holds. c.in-Ok.ensures.pages _ m.pages (has_written_by old m c.fonts.result.now holds running c.fonts.ensures)) c.in-Ok.ensures.stands)
+    (λ m holds. c.in-Ok.ensures.pages _ m.pages (has_written_by old m c.fonts.result.now holds running c.fonts.ensures)) c.in-Ok.ensures.stands
+    (λ m holds.
+    sent_by old m c.fonts.result.now c.finish.new.self.told holds c.fonts.ensures (c.in-Ok.ensures.whole _ m.pages (has_written_by old m c.fonts.result.now holds running c.fonts.ensures))))
 
 pub returns-clause-dvi : goal.returns-clause-dvi
 returns-clause-dvi g c =
@@ -56,4 +58,6 @@ returns-in-Err-Device-clause-finished g c =
     rw (← c.self.view_is)
     (losing old _ (may_finish old.state running (sym c.is_open.ensures ∙ c.if-is_open.false)) running
     (some_where c.self.inside.writer _ running c.in-Err-Device.ensures.refused)
-    (stopped c.self.inside.kept c.self.inside.writer c.finish.new.self c.finish.ensures.so_far (c.finish.ensures.lost lost)) (omega (arith, more)))
+    (stopped c.self.inside.kept c.self.inside.writer c.finish.new.self c.finish.ensures.so_far (c.finish.ensures.lost lost)) (omega (arith, more))
+    (λ m holds.
+    part_by old m c.fonts.result.now c.finish.new.self.told holds c.fonts.ensures (c.finish.ensures.part lost _ m.pages (has_written_by old m c.fonts.result.now holds running c.fonts.ensures))))
