@@ -29,9 +29,14 @@ ShowsItsMarks =
     (widths : Widths) (held : Registers) (page : Page) → is_huge page ≡ false → EachLeaf (HasWidth widths) page.box_node.list
     → (last : State) × (meaning (kept (acts widths)) (body_of page) (at (pos 0) (pos 0) held None) ≡ Some (marks_of_page page, last))
 
--- Each instruction of the body of a page can be written, none names w, x, y or z, and its groups nest less deep than the box.
+-- Each instruction of the body of a page can be written.
 abbrev pub CanBeWritten : Type 0
-CanBeWritten =
-    (widths : Widths) (page : Page) → is_huge page ≡ false → EachLeaf (HasWidth widths) page.box_node.list
-    → AllByRecursion IsWritable (flat (body_of page)) × AllByRecursion NamesNoRegister (flat (body_of page))
-    × (nests (body_of page) ≤ items_depth page.box_node.list)
+CanBeWritten = (widths : Widths) (page : Page) → is_huge page ≡ false → EachLeaf (HasWidth widths) page.box_node.list → AllByRecursion IsWritable (flat (body_of page))
+
+-- None of them names w, x, y or z, whatever the page.
+abbrev pub IsDrawnPlainly : Type 0
+IsDrawnPlainly = (page : Page) → AllByRecursion NamesNoRegister (flat (body_of page))
+
+-- Its groups nest less deep than the box, whatever the page.
+abbrev pub NestsAsItsBox : Type 0
+NestsAsItsBox = (page : Page) → nests (body_of page) ≤ items_depth page.box_node.list

@@ -5,7 +5,7 @@ use Rattle.scaled_core.specs.Dimensions.{fits}
 use Rattle.pack_core.specs.Cursors.{one_more, place_at}
 use Rattle.ship_core.specs.Marks.{right_at, down_at}
 use Rattle.ship_core.specs.Drawing.{Picture}
-use Rattle.ship_core.specs.Placing.{point_in, strokes_in, strokes_of, strokes_at, reference_h, reference_v}
+use Rattle.ship_core.specs.Placing.{strokes_in, strokes_of, strokes_at, reference_h, reference_v}
 use Rattle.ship_core.proofs.Walked.{point-is, between-none, between-points, strokes-point, found_so, reaches}
 use Rattle.ship_core.proofs.page_plan.Walk.step.Goals as goal
 
