@@ -1,6 +1,6 @@
 //! The table of a paragraph in a pass, filled place by place.
 
-ghost use Rattle.std.specs.Prelude.{◌≡◌, ◌+◌, ◌<◌, ◌≤◌, ◌++◌, ◌<ℤ◌, ℕ, pos, [], ◌∷◌, length, if◌then◌else◌, OnOk, IfOk};
+ghost use Rattle.std.specs.Prelude.{◌≡◌, ◌+◌, ◌<◌, ◌≤◌, ◌++◌, ◌<ℤ◌, ℕ, pos, [], ◌∷◌, length, if◌then◌else◌, OnOk, OnErr, IfOk};
 ghost use Rattle.break_table.specs.Tables.{most_places, slots, IsTable, IsRow};
 ghost use Rattle.break_core.specs.Passes.{problem_of};
 ghost use Rattle.break_cost.specs.Small.{IsSmallJudged};
@@ -72,7 +72,8 @@ fn row_at<M: Meter>(
 
 /// Begins a group of live entries; those of earlier places stay, unless a line must end here.
 pub fn begin_group(live: &mut Vec<Group>, forced: bool, group: Group) -> Result<(), AllocError>
-    ensures { OnOk result (live.new.items ≡ (if forced then group ∷ [] else (live.old.items ++ group ∷ []))) }
+    ensures ok { OnOk result (live.new.items ≡ (if forced then group ∷ [] else (live.old.items ++ group ∷ []))) }
+    ensures err { OnErr result (live.new.items ≡ (if forced then [] else live.old.items)) }
 {
     if forced {
         live.clear();

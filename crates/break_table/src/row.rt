@@ -1,7 +1,7 @@
 //! The row of a place: to each state the best offer so far.
 
-ghost use Rattle.std.specs.Prelude.{◌≡◌, ◌<◌, ◌≤◌, ◌++◌, length, replicate, None, IfSome, IfOk, OnOk};
-ghost use Rattle.break_table.specs.Tables.{most_places, slots, held_in, IsSmallLine, IsImproved};
+ghost use Rattle.std.specs.Prelude.{◌≡◌, ◌<◌, ◌≤◌, ◌++◌, length, replicate, None, IfSome, IfOk, OnOk, OnErr};
+ghost use Rattle.break_table.specs.Tables.{most_places, slots, held_in, KeepsFront, IsSmallLine, IsImproved};
 
 use crate::entry::{Best, replaces};
 use crate::state::Line;
@@ -47,9 +47,10 @@ pub fn improve(
     }
 }
 
-/// Puts what a row holds behind a table. Where a growth is refused, a part of it may be there.
+/// Puts what a row holds behind a table. Where a growth is refused, a beginning of it stands there.
 pub fn keep(table: &mut Vec<Best>, row: &[Option<Best>]) -> Result<(), AllocError>
-    ensures { OnOk result (table.new.items ≡ table.old.items ++ held_in row.now) }
+    ensures ok { OnOk result (table.new.items ≡ table.old.items ++ held_in row.now) }
+    ensures err { OnErr result (KeepsFront table.old.items row.now table.new.items) }
 {
     for slot in row {
         if let Some(entry) = slot {

@@ -21,7 +21,7 @@ returns-clause-filled g c =
     λ free. subst (λ t. IsActive p stop t (c.args.place + 1) c.args.place 0 0 c.in_ok-row.next.items) c.deref.ensures.value
     (subst (λ r. IsActive p stop c.deref.result.now (c.args.place + 1) c.args.place 0 0 r.items) c.in_ok-row.next-is (c.in_ok-row.ensures.live free)) in
     let held : c.keep.new.table.items ≡ table ++ held_in row =
-    c.in_ok-keep.ensures ∙ ap (λ r. table ++ held_in r) c.deref-2.ensures.value ∙ ap (λ r. table ++ held_in r.items) c.in_ok-row.row-is in
+    c.in_ok-keep.ensures.ok ∙ ap (λ r. table ++ held_in r) c.deref-2.ensures.value ∙ ap (λ r. table ++ held_in r.items) c.in_ok-row.row-is in
     let forced : c.is_forced.result ≡ p.forced c.args.place =
     c.is_forced.ensures ∙ ap is_forced (c.place.ensures.penalty ∙ ap (λ x. x.penalty c.args.place) c.try_lines.ensures.facts) in
     let began : c.len-start.result ≡ length c.args.table.now.items = search rules in
