@@ -1,6 +1,6 @@
 //! A host in memory.
 
-ghost use Rattle.std.specs.Prelude.{◌≡◌, ◌≤◌, ◌<◌, ◌++◌, [], false, true, length, option_map, Err, IfOk, OnOk, OnErr};
+ghost use Rattle.std.specs.Prelude.{◌≡◌, ◌≤◌, ◌<◌, ◌++◌, [], false, true, length, option_map, Err, IfErr, IfOk, OnOk, OnErr};
 ghost use Rattle.std.specs.Str.{bytes_eq};
 ghost use Rattle.host_core.specs.HostInMemory.{held_at};
 ghost use Rattle.host_core.specs.declared.host.TheConstants.{READ_LIMIT};
@@ -106,6 +106,7 @@ impl MemoryHost {
     fn keep_path(&mut self, path: &[u8]) -> Result<(), HostFault>
         ensures ok { OnOk result (self.new ≡ record self.old { is_created = true; created = path.now }) }
         ensures err { OnErr result (self.new ≡ self.old) }
+        ensures memory { IfErr result (λ fault. fault ≡ HostFault.OutOfMemory) }
     {
         let Ok(created) = Vec::from_slice(self.alloc, path) else {
             return Err(HostFault::OutOfMemory);
@@ -161,6 +162,7 @@ impl Host for MemoryHost {
     fn create(&mut self, path: &str) -> Result<(), HostFault>
         ensures made { OnOk result (self.new ≡ record self.old { is_created = true; created = path.now; written = [] }) }
         ensures unchanged { OnErr result (self.new ≡ self.old) }
+        ensures memory { IfErr result (λ fault. fault ≡ HostFault.OutOfMemory) }
     {
         self.keep_path(path.as_bytes())?;
         self.written.clear();
@@ -172,6 +174,7 @@ impl Host for MemoryHost {
         ensures all { IfOk result (λ n. n ≡ length piece.now) }
         ensures kept { OnOk result (self.new ≡ record self.old { written = self.old.written ++ piece.now }) }
         ensures unchanged { OnErr result (self.new ≡ self.old) }
+        ensures memory { IfErr result (λ fault. fault ≡ HostFault.OutOfMemory) }
     {
         match self.written.extend_from_slice(piece) {
             Ok(()) => Ok(piece.len()),
