@@ -2,7 +2,7 @@
 
 ghost use Rattle.std.specs.Prelude.{◌≡◌, Option, Some, option_map, ℤ};
 ghost use Rattle.dvi_ops.specs.Body.{Place as Spot, acts, place_after, rule_at, glyph as seen_glyph};
-ghost use Rattle.dvi_ops.specs.Instruction.{Across, By, Do, SetChar, SetRule};
+ghost use Rattle.dvi_ops.specs.Instruction.{Across, Downward, By, Do, SetChar, SetRule};
 ghost use Rattle.dvi_ops.specs.View.{view};
 ghost use Rattle.dvi_pass.specs.Drawing.{Draws, IsDownward, IsLeaf, IsMovement, IsOther, IsPut, Moves, always, does_of, reached, step_of};
 ghost use Rattle.dvi_pass.specs.View.{mark_of, marks_in, placed, stated};
@@ -18,31 +18,24 @@ pub(crate) struct Drawn {
     pub mark: Option<Mark>,
 }
 
+/// The place further down by so much; None where v leaves its range.
+fn below(place: Place, by: i32) -> Option<Place>
+    ensures { option_map placed result ≡ reached (place_after Downward (By by) (placed place)) }
+{
+    let v = place.v.checked_add(by)?;
+    Some(Place { v, ..place })
+}
+
 /// The place behind a movement downward; None where v leaves its range.
 fn lowered(place: Place, op: &Op<'_>) -> Option<Place>
     ensures { IsDownward (view op.now) → option_map placed result ≡ step_of (view op.now) (placed place) }
 {
     match *op {
-        Op::Down(by) => {
-            let v = place.v.checked_add(by)?;
-            Some(Place { v, ..place })
-        }
-        Op::Y0 => {
-            let v = place.v.checked_add(place.y)?;
-            Some(Place { v, ..place })
-        }
-        Op::Y(y) => {
-            let v = place.v.checked_add(y)?;
-            Some(Place { v, y, ..place })
-        }
-        Op::Z0 => {
-            let v = place.v.checked_add(place.z)?;
-            Some(Place { v, ..place })
-        }
-        Op::Z(z) => {
-            let v = place.v.checked_add(z)?;
-            Some(Place { v, z, ..place })
-        }
+        Op::Down(by) => below(place, by),
+        Op::Y0 => below(place, place.y),
+        Op::Y(y) => below(Place { y, ..place }, y),
+        Op::Z0 => below(place, place.z),
+        Op::Z(z) => below(Place { z, ..place }, z),
         _ => None,
     }
 }

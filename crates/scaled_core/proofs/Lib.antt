@@ -9,3 +9,4 @@ pub mod PrintScaled
 pub mod RoundingLaws
 pub mod BadnessLaws
 pub mod PointTexts
+pub mod Appending

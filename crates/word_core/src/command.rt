@@ -3,8 +3,10 @@
 ghost use Rattle.std.specs.Prelude.{◌≡◌, ◌≤◌, false, pos, IfOk};
 ghost use Rattle.clap.specs.Words.{app_of, rule_of};
 ghost use Rattle.clap.specs.declared.builder.Command.TheViews.{out-Command};
+ghost use Rattle.clap.specs.declared.builder.value_parser.ValueParser.TheVariants.{Signed};
 ghost use Rattle.word_core.specs.CommandLine.{boxglue, fonts_rule, lists, number_rule, paint, path_rule, typeset};
 
+use clap::builder::ValueParser;
 use clap::{Arg, ArgAction, Command, value_parser};
 use std::alloc::{AllocError, Global};
 
@@ -39,6 +41,13 @@ fn fonts<'a>(alloc: Global) -> Arg<'a>
         .num_args(0..)
 }
 
+/// Takes the numbers from 1 to this one.
+fn numbers<'a>(most: u32) -> ValueParser<'a>
+    ensures { result ≡ Signed (pos 1) (pos most) }
+{
+    value_parser!(u32).range(1..=i64::from(most))
+}
+
 /// An option with a number from 1 to this one, which has to be there.
 fn number<'a>(alloc: Global, id: &'static str, most: u32, help: &'static str) -> Arg<'a>
     ensures rule { rule_of result ≡ number_rule id.now most }
@@ -48,7 +57,7 @@ fn number<'a>(alloc: Global, id: &'static str, most: u32, help: &'static str) ->
         .long(id)
         .value_name("N")
         .help(help)
-        .value_parser(value_parser!(u32).range(1..=i64::from(most)))
+        .value_parser(numbers(most))
         .required(true)
 }
 
