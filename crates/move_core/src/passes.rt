@@ -1,6 +1,7 @@
 //! The passes over the instructions of a page.
 
-ghost use Rattle.std.specs.Prelude.{◌≡◌, [], map, reverse, IfOk, OnOk};
+ghost use Rattle.std.specs.Prelude.{◌≡◌, [], ◌∷◌, List, map, reverse, IfOk, OnOk};
+ghost use Rattle.dvi_ops.specs.Instruction.{Instruction};
 ghost use Rattle.dvi_ops.specs.View.{view};
 ghost use Rattle.move_core.specs.Passes.{trimmed, flags_of, rewritten, at_first, entered, groups_of, GoesOn};
 
@@ -9,17 +10,26 @@ use crate::registers::Known;
 use dvi_ops::Op;
 use std::alloc::{AllocError, Global};
 
+/// Keeps one more instruction; a pop takes away the push directly in front of it, and is not kept.
+fn keep<'a>(kept: &mut Vec<Op<'a>>, op: Op<'a>) -> Result<(), AllocError>
+    ensures { OnOk result ((rest : List Instruction) →
+        trimmed rest (reverse (map view kept.new.items)) ≡ trimmed (view op.entry ∷ rest) (reverse (map view kept.old.items))) }
+{
+    if matches!(op, Op::Pop) && matches!(kept.last(), Some(Op::Push)) {
+        kept.pop();
+    } else {
+        kept.push(op)?;
+    }
+    Ok(())
+}
+
 /// The instructions without the groups that hold nothing but such groups.
 pub fn without_empty_groups<'a>(ops: Vec<Op<'a>>) -> Result<Vec<Op<'a>>, AllocError>
     ensures { IfOk result (λ kept. map view kept.items ≡ trimmed (map view ops.entry.items) []) }
 {
     let mut kept = Vec::with_capacity(*ops.allocator(), ops.len())?;
     for op in &ops {
-        if matches!(op, Op::Pop) && matches!(kept.last(), Some(Op::Push)) {
-            kept.pop();
-        } else {
-            kept.push(*op)?;
-        }
+        keep(&mut kept, *op)?;
     }
     Ok(kept)
 }

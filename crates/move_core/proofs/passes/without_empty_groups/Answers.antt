@@ -1,0 +1,14 @@
+use Rattle.std.proofs.Common.{◌+◌, ◌∙◌, ap, sym, map, drop, reverse, List, pos}
+use Rattle.dvi_ops.specs.Instruction.{Instruction}
+use Rattle.dvi_ops.specs.View.{view}
+use Rattle.dvi_ops.specs.declared.op.Op.TheVariants as ops
+use Rattle.move_core.specs.Passes.{trimmed}
+use Rattle.move_core.proofs.Flags.{from_here}
+use Rattle.move_core.proofs.passes.without_empty_groups.Goals as goal
+
+pub loop-op-preserved : goal.loop-op-preserved
+loop-op-preserved c =
+    c.in_ok-keep.ensures (map view (drop (c.loop-op.op-index + 1) c.deref-op-items.result.now))
+    ∙ (ap (λ (is : List Instruction). trimmed is (reverse (map view c.loop-op.kept.items)))
+    (sym (from_here c.deref-op-items.result.now c.loop-op.op-index (ops.SetChar (pos 0)) c.loop-op-test.true))
+    ∙ c.loop-op.invariant)
