@@ -1,0 +1,8 @@
+"""What a case returns that was not run."""
+from dataclasses import dataclass
+
+
+@dataclass(frozen=True)
+class Skipped:
+    """A case could not be run here."""
+    reason: str
