@@ -3,7 +3,6 @@ use Rattle.std.proofs.Common.{◌≡◌, ℕ, suc, ◌+◌, ◌++◌, ◌<◌, �
 use Rattle.std.specs.List.{flat_map, prefix_len, sum_by}
 use Rattle.std.proofs.lemmas.List.Sums.{sum_by-cons}
 pub use Rattle.std.proofs.lemmas.List.Sums.{prefix_len-le-length}
-use Rattle.std.proofs.lemmas.List.{length-take, take-append-le}
 use Rattle.std.proofs.lemmas.Bool.{eq-eqb, ne_eqb}
 use Rattle.node_core.specs.declared.tree.Glue.{Glue}
 use Rattle.node_core.specs.declared.tree.Node.{Node}
@@ -172,12 +171,6 @@ text_missing-part sizes steps text part rest k all n m h l p r e f =
     let turned : text_missing sizes steps text ≡ part_missing sizes steps (part_of part) + text_missing sizes steps rest =
     rw (p, r, l) (text_missing-turn sizes steps text h) in
     omega (arith, turned, e, f)
-
--- what was there stands in front of what is appended
-pub front-kept : {X : Type 0} (old nodes more new : List X) → take (length old) nodes ≡ old → new ≡ nodes ++ more → take (length old) new ≡ old
-front-kept old nodes more new h e =
-    let within : length old ≤ length nodes = omega (arith, ap length h, length-take (length old) nodes) in
-    ap (take (length old)) e ∙ take-append-le (length old) nodes more within ∙ h
 
 -- the end of the loop
 pub text_items-end : (slot : ℕ) (sizes : ℕ → Option GlyphSize) (steps : ℕ → ℕ → Option Step) (blank : Glue) (text : List ℕ) (nodes all : List Node) → length text ≡ 0 → all ≡ nodes ++ text_items slot sizes steps blank text → nodes ≡ all

@@ -1,5 +1,6 @@
 use Rattle.std.proofs.Common.{◌≡◌, ◌<◌, length, rules, arith}
-use Rattle.shape_core.proofs.TextLemmas.{front-kept, text_items-end, text_items-part, text_missing-none, text_missing-part}
+use Rattle.scaled_core.proofs.Appending.{front_kept}
+use Rattle.shape_core.proofs.TextLemmas.{text_items-end, text_items-part, text_missing-none, text_missing-part}
 use Rattle.shape_core.proofs.text.shape_parts.Goals as goal
 
 pub loop-text-preserved : goal.loop-text-preserved
@@ -7,7 +8,7 @@ loop-text-preserved g c =
     let some : 0 < length c.loop-text.text.now = search rules in (
       text_items-part _ _ _ _ _ _ _ _ _ _ _ some c.part_length.ensures.value c.split_at.ensures.front c.split_at.ensures.back c.in_ok-characters.ensures.ok c.loop-text.invariant.0,
       text_missing-part _ _ _ _ _ _ _ _ _ some c.part_length.ensures.value c.split_at.ensures.front c.split_at.ensures.back c.in_ok-characters.ensures.number c.loop-text.invariant.1,
-      front-kept _ _ _ _ c.loop-text.invariant.2 c.in_ok-characters.ensures.ok,
+      front_kept _ _ _ _ c.loop-text.invariant.2 c.in_ok-characters.ensures.ok,
       omega (arith, c.in_ok-characters.ensures.few, c.split_at.ensures.front_len, c.split_at.ensures.back_len, c.loop-text.invariant.3),
     )
 
