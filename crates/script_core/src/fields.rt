@@ -7,7 +7,7 @@ ghost use Rattle.tfm_core.specs.NamedBytes.{IsFontName};
 ghost use Rattle.command_core.specs.declared.command.Command.TheVariants as commands;
 ghost use Rattle.script_core.specs.Grammar.{register_count, slot_count, character_count, count_count, IsInteger, is_name_byte};
 ghost use Rattle.script_core.specs.ScriptLines.{fields_of};
-ghost use Rattle.script_core.specs.Reading.{first_of, rest_of, number_among, number_of, number_first, count_value, count_of, count_first, last_count, counting, counting_of, dimension_first, size_of_font, size_of_font_first, is_short, is_name, name_first, size_of, size_first, no_field_left, last_number, last_dimension, map_ok, chosen_size_of, font_of, penalty_of, penalty_first, last_penalty, amount_first, last_amount, opening, opening_with_register, opening_into, opening_of, shift_of, append_of, unboxing, split_into, split_height, split_to, split_of, glue, shrink_of, last_shrink_of, parts_of, glue_of, parameter_of, rule_of, command_named, command_of};
+ghost use Rattle.script_core.specs.Reading.{first_of, rest_of, number_among, number_of, number_first, count_value, count_of, count_first, last_count, counting, and_right, counting_of, dimension_first, size_of_font, size_of_font_first, is_short, is_name, name_first, size_of, size_first, no_field_left, last_number, last_dimension, map_ok, chosen_size_of, font_of, penalty_of, penalty_first, last_penalty, amount_first, last_amount, opening, opening_with_register, opening_into, opening_of, shift_of, append_of, unboxing, split_into, split_height, split_to, split_of, glue, shrink_of, last_shrink_of, parts_of, glue_of, parameter_of, rule_of, command_named, command_of};
 
 use crate::amounts::{Amount, amount_of};
 use crate::cause::Cause;
@@ -167,14 +167,22 @@ impl<'a> Fields<'a> {
         amount_of(self.field()?)
     }
 
+    /// What was read, where no field is left after it.
+    fn as_last<T: Copy>(&mut self, read: Result<T, Cause>) -> Result<T, Cause>
+        ensures { result ≡ and_right read (no_field_left (fields_of self.old.rest.now)) }
+    {
+        let value = read?;
+        self.end()?;
+        Ok(value)
+    }
+
     /// The next field, which is the last, as the number of a box register.
     #[tactic(auto, unfolding(crate::specs::Reading::last_number))]
     fn last_register(&mut self) -> Result<Register, Cause>
         ensures { result ≡ last_number register_count (fields_of self.old.rest.now) }
     {
-        let register = self.register()?;
-        self.end()?;
-        Ok(register)
+        let register = self.register();
+        self.as_last(register)
     }
 
     /// The next field, which is the last, as the number of a slot for a font.
@@ -182,9 +190,8 @@ impl<'a> Fields<'a> {
     fn last_slot(&mut self) -> Result<u8, Cause>
         ensures { result ≡ last_number slot_count (fields_of self.old.rest.now) }
     {
-        let slot = self.slot()?;
-        self.end()?;
-        Ok(slot)
+        let slot = self.slot();
+        self.as_last(slot)
     }
 
     /// The next field, which is the last, as the code of a character.
@@ -192,9 +199,8 @@ impl<'a> Fields<'a> {
     fn last_character(&mut self) -> Result<u8, Cause>
         ensures { result ≡ last_number character_count (fields_of self.old.rest.now) }
     {
-        let code = self.character()?;
-        self.end()?;
-        Ok(code)
+        let code = self.character();
+        self.as_last(code)
     }
 
     /// The next field, which is the last, as a dimension.
@@ -202,9 +208,8 @@ impl<'a> Fields<'a> {
     fn last_dimen(&mut self) -> Result<Dimen, Cause>
         ensures { result ≡ last_dimension (fields_of self.old.rest.now) }
     {
-        let dimen = self.dimen()?;
-        self.end()?;
-        Ok(dimen)
+        let dimen = self.dimen();
+        self.as_last(dimen)
     }
 
     /// The next field, which is the last, as the number of a penalty.
@@ -212,9 +217,8 @@ impl<'a> Fields<'a> {
     fn last_penalty(&mut self) -> Result<Number, Cause>
         ensures { result ≡ last_penalty (fields_of self.old.rest.now) }
     {
-        let number = self.penalty()?;
-        self.end()?;
-        Ok(number)
+        let number = self.penalty();
+        self.as_last(number)
     }
 
     /// The next field, which is the last, as a count.
@@ -222,9 +226,8 @@ impl<'a> Fields<'a> {
     fn last_count(&mut self) -> Result<i32, Cause>
         ensures { result ≡ last_count (fields_of self.old.rest.now) }
     {
-        let value = self.count()?;
-        self.end()?;
-        Ok(value)
+        let value = self.count();
+        self.as_last(value)
     }
 
     /// The next field, which is the last, as an amount of stretch or shrink.
@@ -232,9 +235,8 @@ impl<'a> Fields<'a> {
     fn last_amount(&mut self) -> Result<Amount, Cause>
         ensures { result ≡ last_amount (fields_of self.old.rest.now) }
     {
-        let amount = self.amount()?;
-        self.end()?;
-        Ok(amount)
+        let amount = self.amount();
+        self.as_last(amount)
     }
 
     /// What stands behind the name of a font: nothing, or `at` and a size.
