@@ -60,11 +60,11 @@ def attempt(call):
         return f"{type(error).__name__}: {error}"
 
 
-def run_cases(part, pairs, progress):
-    """Runs the cases of a part in turn."""
+def run_cases(part, pairs, is_built, progress):
+    """Runs the cases of a part in turn. Where nothing is built yet one run of `rt try` gives the results of all."""
     result = Result(0, [], [])
     for done, (name, call) in enumerate(pairs):
-        progress.step(part.name, done, len(pairs), name)
+        progress.step(part.name, f"{done} of {len(pairs)}: {name}" if is_built else f"rt try, for {len(pairs)} cases")
         found = attempt(call)
         if found is None:
             result.passed += 1
@@ -96,7 +96,7 @@ def run_part(part, built, root, progress):
         reason = "it needs a built program: --" + ("program" if part.program == "boxglue" else "rows")
         result = Result(0, [], [(name, reason) for name, _ in pairs])
     else:
-        result = run_cases(part, pairs, progress)
+        result = run_cases(part, pairs, bool(programs), progress)
     progress.end(part.name)
     for line in lines_of(part, len(pairs), result, time.monotonic() - began):
         progress.say(line)

@@ -29,10 +29,11 @@ class Progress:
             spent = int(self.printed - self.began)
             print(f"[{spent // 60:2}:{spent % 60:02}] {text}", flush=True)
 
-    def step(self, part, done, count, case):
-        """A part begins its next case."""
+    def step(self, part, what):
+        """Says what a part does from now on. Saying the same again changes nothing."""
         with self.lock:
-            self.running[part] = done, count, case, time.monotonic()
+            if self.running.get(part, ("",))[0] != what:
+                self.running[part] = what, time.monotonic()
 
     def end(self, part):
         """A part ended."""
@@ -44,8 +45,8 @@ class Progress:
         """What is running, as one line."""
         with self.lock:
             now = time.monotonic()
-            running = [f"{part} ({done} of {count}; {case}, {now - since:.0f} s)" for part, (done, count, case, since) in self.running.items()]
-        return f"{self.done} of {self.count} parts done; running: {', '.join(running) or 'nothing yet'}"
+            running = [f"{part} ({what}, {now - since:.0f} s)" for part, (what, since) in self.running.items()]
+        return f"{self.done} of {self.count} parts done; running: {', '.join(running) or 'none'}"
 
     def tick(self):
         """Prints the state where nothing was printed for a while."""
