@@ -23,29 +23,6 @@ f702018392c01c3b0000000003e8008b
 dfdfdfdf
 ";
 
-/// A script whose page shows nothing.
-pub const EMPTY_PAGE: &str = "hbox into 0\nend\nship 0\n";
-
-/// A font of the characters 97 to 101 with a design size of 10pt.
-pub const TINY: &str = "\
-001d0002006100650003000200020001
-00030001000000040000000000a00000
-01100100011100000110000002100102
-02100000000000000008000000100000
-00000000000800000000000000040000
-00000000006100648063800080620065
-ffff0000000000000005000000020000
-00010000
-";
-
-/// A script with this font in two slots.
-pub const TWO_SLOTS: &str =
-    "font 0 tiny\nfont 1 tiny at 20pt\nuse 0\nhbox into 0\ntext c\nhbox\nuse 1\ntext b\nend\ntext c\nend\nship 0\n";
-
-/// The listing of its page.
-pub const TWO_SLOTS_LISTING: &str =
-    "page 1 counts 0 0 0 0 0 0 0 0 0 0\nglyph 0 99 0 655360\nglyph 1 98 327680 655360\nglyph 1 99 983040 655360\n";
-
 /// A script whose box is not shipped, with refusals.
 pub const REFUSED_JOB: &str =
     "vbox into 3\nrule 10pt 5pt 0pt\nend\nhbox into 4\nunhbox 3\nbox 3\nbox 3\nkern 16383.99999pt\nend\nkern -10pt\nend\nship 3\nmeasure 4\n";

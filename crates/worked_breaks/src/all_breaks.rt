@@ -11,7 +11,7 @@ const POINT: i64 = 65_536;
 
 /// An item, in points.
 #[derive(Clone, Copy)]
-enum Item {
+pub(crate) enum Item {
     Rule(i64),
     Glue(Amounts),
     Kern(i64),
@@ -20,11 +20,11 @@ enum Item {
 
 /// Widths, stretch, stretch of order fil and shrink.
 #[derive(Clone, Copy)]
-struct Amounts {
-    width: i64,
-    stretch: i64,
-    fil: i64,
-    shrink: i64,
+pub(crate) struct Amounts {
+    pub(crate) width: i64,
+    pub(crate) stretch: i64,
+    pub(crate) fil: i64,
+    pub(crate) shrink: i64,
 }
 
 /// The parameters.
@@ -363,7 +363,7 @@ fn number(rt: &impl Abort, value: i64) -> Number {
 }
 
 /// An item as a node.
-fn node(rt: &impl Abort, item: &Item) -> Node {
+pub(crate) fn node(rt: &impl Abort, item: &Item) -> Node {
     match item {
         Item::Rule(width) => Node::Rule(Rule {
             width: RuleSize::Fixed(points(rt, *width)),

@@ -1,5 +1,6 @@
 //! Breaks of paragraphs, by both breakers.
 
+use crate::all_breaks::{Amounts, Item, node};
 use active_breaks::active_breaks;
 use break_core::{BreakFault, Breaks, Class, LineEnd, ListMeter, Pass, breaks};
 use node_core::{Glue, Node, Number, Order, Params, Rule, RuleSize};
@@ -102,102 +103,6 @@ fn expect_breaks(
     assert_eq!(rt; found.demerits, costs.2);
 }
 
-#[test]
-fn least_demerits_paragraph(rt: HostRuntime) {
-    let mut params = narrow(&rt);
-    params.pretolerance = Number::try_new(-1).expect(&rt, "it fits");
-    params.tolerance = Number::try_new(10_000).expect(&rt, "it fits");
-    let items = Vec::from_array(
-        rt.alloc(),
-        [
-            rule(&rt, 10),
-            glue(&rt, 5, 15),
-            rule(&rt, 10),
-            glue(&rt, 5, 15),
-            rule(&rt, 10),
-            glue(&rt, 5, 15),
-            rule(&rt, 25),
-            glue(&rt, 5, 15),
-            rule(&rt, 30),
-        ],
-    )
-    .expect(&rt, "there is memory");
-    let nodes = finished(&rt, items, &params);
-    expect_breaks(
-        &rt,
-        rt.alloc(),
-        &nodes,
-        &params,
-        &[3, 7, 11],
-        (Pass::Second, 0, 32_300),
-    );
-}
-
-#[test]
-fn a_tie_by_places(rt: HostRuntime) {
-    let params = narrow(&rt);
-    let items = Vec::from_array(
-        rt.alloc(),
-        [
-            rule(&rt, 40),
-            glue(&rt, -5, 0),
-            rule(&rt, 5),
-            glue(&rt, 0, 0),
-            rule(&rt, 10),
-        ],
-    );
-    let nodes = finished(&rt, items.expect(&rt, "there is memory"), &params);
-    let costs = (Pass::First, 0, 200);
-    expect_breaks(&rt, rt.alloc(), &nodes, &params, &[3, 7], costs);
-}
-
-#[test]
-fn an_overfull_middle_line(rt: HostRuntime) {
-    let params = narrow(&rt);
-    let items = Vec::from_array(
-        rt.alloc(),
-        [
-            rule(&rt, 10),
-            glue(&rt, 5, 15),
-            rule(&rt, 50),
-            glue(&rt, 5, 15),
-            rule(&rt, 10),
-        ],
-    );
-    let nodes = finished(&rt, items.expect(&rt, "there is memory"), &params);
-    let costs = (Pass::Third, 655_360, 200_020_100);
-    expect_breaks(&rt, rt.alloc(), &nodes, &params, &[1, 3, 7], costs);
-}
-
-#[test]
-fn a_negative_kern_behind_an_overfull_line(rt: HostRuntime) {
-    let params = narrow(&rt);
-    let kern = Node::Kern(points(&rt, -15));
-    let items = Vec::from_array(
-        rt.alloc(),
-        [
-            rule(&rt, 50),
-            glue(&rt, 0, 0),
-            kern,
-            rule(&rt, 5),
-            glue(&rt, 0, 0),
-            rule(&rt, 10),
-        ],
-    );
-    let nodes = finished(&rt, items.expect(&rt, "there is memory"), &params);
-    let costs = (Pass::First, 0, 200);
-    expect_breaks(&rt, rt.alloc(), &nodes, &params, &[4, 8], costs);
-}
-
-#[test]
-fn the_first_glue_is_kept(rt: HostRuntime) {
-    let params = narrow(&rt);
-    let items = Vec::from_array(rt.alloc(), [glue(&rt, 5, 0), rule(&rt, 40)]);
-    let nodes = finished(&rt, items.expect(&rt, "there is memory"), &params);
-    let costs = (Pass::Third, 327_680, 100_000_000);
-    expect_breaks(&rt, rt.alloc(), &nodes, &params, &[4], costs);
-}
-
 /// Glue of no width that can shrink by so many points of order fil.
 fn shrinking(rt: &impl Abort, number: i64) -> Node {
     Node::Glue(Glue {
@@ -291,58 +196,124 @@ fn a_tie_by_class_alone(rt: HostRuntime) {
     }
 }
 
-/// Asserts what the breaks of two rules are, with an item between them.
-fn expect_between(
-    rt: &impl Abort,
-    alloc: Global,
-    width: i64,
-    item: Node,
-    places: &[usize],
+/// A paragraph in lines of 40pt: its items, the places at which its lines end, the pass, the overhang and the demerits.
+struct Row {
+    items: &'static [Item],
+    places: &'static [usize],
     costs: (Pass, i64, i64),
-) {
-    let items = Vec::from_array(alloc, [rule(rt, width), item, rule(rt, width)]);
-    let params = narrow(rt);
-    let nodes = finished(rt, items.expect(rt, "there is memory"), &params);
-    expect_breaks(rt, alloc, &nodes, &params, places, costs);
+}
+
+/// Glue of 5pt that can stretch by 15pt.
+const SPACE: Item = Item::Glue(Amounts {
+    width: 5,
+    stretch: 15,
+    fil: 0,
+    shrink: 0,
+});
+
+/// Glue of that width that cannot stretch.
+const fn fixed(width: i64) -> Item {
+    Item::Glue(Amounts {
+        width,
+        stretch: 0,
+        fil: 0,
+        shrink: 0,
+    })
+}
+
+/// An overfull line in the middle; a negative kern after an overfull line; glue that comes first and is kept; penalties between two rules; a kern before glue;
+/// items that are dropped.
+const ROWS: [Row; 11] = [
+    Row {
+        items: &[Item::Rule(10), SPACE, Item::Rule(50), SPACE, Item::Rule(10)],
+        places: &[1, 3, 7],
+        costs: (Pass::Third, 655_360, 200_020_100),
+    },
+    Row {
+        items: &[
+            Item::Rule(50),
+            fixed(0),
+            Item::Kern(-15),
+            Item::Rule(5),
+            fixed(0),
+            Item::Rule(10),
+        ],
+        places: &[4, 8],
+        costs: (Pass::First, 0, 200),
+    },
+    Row {
+        items: &[fixed(5), Item::Rule(40)],
+        places: &[4],
+        costs: (Pass::Third, 327_680, 100_000_000),
+    },
+    Row {
+        items: &[Item::Rule(40), Item::Penalty(10_000), Item::Rule(40)],
+        places: &[5],
+        costs: (Pass::Third, 2_621_440, 100_000_000),
+    },
+    Row {
+        items: &[Item::Rule(40), Item::Penalty(9_999), Item::Rule(40)],
+        places: &[1, 5],
+        costs: (Pass::First, 0, 99_980_201),
+    },
+    Row {
+        items: &[Item::Rule(40), Item::Penalty(-9_999), Item::Rule(40)],
+        places: &[1, 5],
+        costs: (Pass::First, 0, -99_979_801),
+    },
+    Row {
+        items: &[Item::Rule(40), Item::Penalty(-10_000), Item::Rule(40)],
+        places: &[1, 5],
+        costs: (Pass::First, 0, 200),
+    },
+    Row {
+        items: &[Item::Rule(10), Item::Penalty(-9_999), Item::Rule(10)],
+        places: &[5],
+        costs: (Pass::First, 0, 100),
+    },
+    Row {
+        items: &[Item::Rule(10), Item::Penalty(-10_000), Item::Rule(10)],
+        places: &[1, 5],
+        costs: (Pass::Third, 0, 100_020_100),
+    },
+    Row {
+        items: &[Item::Rule(40), Item::Kern(5), fixed(0), Item::Rule(40)],
+        places: &[1, 6],
+        costs: (Pass::First, 0, 200),
+    },
+    Row {
+        items: &[
+            Item::Rule(40),
+            Item::Penalty(-10_000),
+            fixed(40),
+            Item::Penalty(-10_000),
+            Item::Rule(10),
+        ],
+        places: &[1, 3, 7],
+        costs: (Pass::Third, 0, 100_020_200),
+    },
+];
+
+#[test]
+fn paragraphs_of_rules(rt: HostRuntime) {
+    let params = narrow(&rt);
+    for row in ROWS {
+        let mut items = Vec::new(rt.alloc());
+        for item in row.items {
+            let pushed = items.push(node(&rt, item));
+            pushed.ok().expect(&rt, "there is memory");
+        }
+        let nodes = finished(&rt, items, &params);
+        expect_breaks(&rt, rt.alloc(), &nodes, &params, row.places, row.costs);
+    }
 }
 
 #[test]
-fn penalties_as_places(rt: HostRuntime) {
-    let costs = (Pass::Third, 2_621_440, 100_000_000);
-    expect_between(&rt, rt.alloc(), 40, Node::Penalty(10_000), &[5], costs);
-    let costs = (Pass::First, 0, 99_980_201);
-    expect_between(&rt, rt.alloc(), 40, Node::Penalty(9_999), &[1, 5], costs);
-    let costs = (Pass::First, 0, -99_979_801);
-    expect_between(&rt, rt.alloc(), 40, Node::Penalty(-9_999), &[1, 5], costs);
-    let costs = (Pass::First, 0, 200);
-    expect_between(&rt, rt.alloc(), 40, Node::Penalty(-10_000), &[1, 5], costs);
-    let costs = (Pass::First, 0, 100);
-    expect_between(&rt, rt.alloc(), 10, Node::Penalty(-9_999), &[5], costs);
-    let costs = (Pass::Third, 0, 100_020_100);
-    expect_between(&rt, rt.alloc(), 10, Node::Penalty(-10_000), &[1, 5], costs);
-}
-
-#[test]
-fn kerns_and_dropped_items(rt: HostRuntime) {
+fn a_font_kern_before_glue(rt: HostRuntime) {
     let alloc = rt.alloc();
     let params = narrow(&rt);
-    let kern = Node::Kern(points(&rt, 5));
-    let items = Vec::from_array(alloc, [rule(&rt, 40), kern, glue(&rt, 0, 0), rule(&rt, 40)]);
-    let nodes = finished(&rt, items.expect(&rt, "there is memory"), &params);
-    expect_breaks(&rt, alloc, &nodes, &params, &[1, 6], (Pass::First, 0, 200));
     let kern = Node::FontKern(points(&rt, 5));
     let items = Vec::from_array(alloc, [rule(&rt, 35), kern, glue(&rt, 0, 0), rule(&rt, 40)]);
     let nodes = finished(&rt, items.expect(&rt, "there is memory"), &params);
     expect_breaks(&rt, alloc, &nodes, &params, &[2, 6], (Pass::First, 0, 200));
-    let items = [
-        rule(&rt, 40),
-        Node::Penalty(-10_000),
-        glue(&rt, 40, 0),
-        Node::Penalty(-10_000),
-        rule(&rt, 10),
-    ];
-    let items = Vec::from_array(alloc, items);
-    let nodes = finished(&rt, items.expect(&rt, "there is memory"), &params);
-    let costs = (Pass::Third, 0, 100_020_200);
-    expect_breaks(&rt, alloc, &nodes, &params, &[1, 3, 7], costs);
 }

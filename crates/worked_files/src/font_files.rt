@@ -1,9 +1,8 @@
 //! Metric files, and fonts at a size.
 
-use crate::changed_bytes::with_byte;
 use crate::samples::{RESTARTS, TINY, font_of};
 use std::alloc::Global;
-use tfm_core::{Font, FontFault, FontSize, Step, Tfm, TfmCause, TfmFault, scaled};
+use tfm_core::{Font, FontSize, Step, Tfm, TfmCause, TfmFault, scaled};
 
 /// The kern between two characters, in scaled points.
 fn kern(font: &Font, code: u8, following: u8) -> Option<i32> {
@@ -19,19 +18,6 @@ fn a_restart_names_the_first_step(rt: HostRuntime) {
     assert_eq!(rt; kern(&font, 200, 201), Some(-81_920));
     assert_eq!(rt; kern(&font, 200, 200), Some(40_960));
     assert_eq!(rt; kern(&font, 201, 200), None);
-}
-
-/// Why these bytes give no font at the largest size, which they do at their design size.
-fn fault_at_largest(alloc: Global, bytes: &[u8]) -> Option<FontFault> {
-    let tfm = Tfm::read(alloc, bytes).ok()?;
-    Font::at_size(alloc, &tfm, None).ok()?;
-    Font::at_size(alloc, &tfm, FontSize::try_new(134_217_727)).err()
-}
-
-#[test]
-fn a_size_that_is_too_large_is_refused(rt: HostRuntime) {
-    let fault = fault_at_largest(rt.alloc(), &with_byte(TINY, 57, 0x88));
-    assert_eq!(rt; fault, Some(FontFault::DimensionTooLarge));
 }
 
 /// The word at that size, where both are right.

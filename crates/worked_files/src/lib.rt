@@ -1,7 +1,6 @@
 //! Worked values of metric files and of DVI files as they are read, as tests.
 #![tactic(auto)]
 
-pub mod changed_bytes;
 #[cfg(test)]
 mod damaged_files;
 #[cfg(test)]
@@ -9,10 +8,6 @@ mod driver;
 #[cfg(test)]
 mod font_files;
 #[cfg(test)]
-mod hidden_pages;
-#[cfg(test)]
 mod reused_files;
 #[cfg(test)]
 mod samples;
-#[cfg(test)]
-mod shaped_texts;

@@ -1,6 +1,6 @@
 //! Bodies of pages that look random, read from a file as they are and as they are reused: the same marks.
 
-use crate::driver::{Parts, file_of};
+use crate::driver::file_of;
 use dvi_ops::{Op, spell};
 use dvi_read::Dvi;
 use move_core::{is_plain_body, reuse};
@@ -71,7 +71,7 @@ fn listed(rt: &impl Abort, alloc: Global, ops: &[Op<'static>]) -> Result<(Vec<u8
             other => spell(other, &mut body)?,
         }
     }
-    let file = file_of(alloc, &Parts::of(&body))?;
+    let file = file_of(alloc, &body)?;
     let mut text = Vec::new(alloc);
     match Dvi::open(alloc, &file, &[]) {
         Ok(dvi) => dvi.listing(&mut text)?,

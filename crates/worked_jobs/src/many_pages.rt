@@ -89,22 +89,6 @@ fn two_pages_point_back(rt: HostRuntime) -> Result<(), Fail> {
 }
 
 #[test]
-fn offsets_move_a_page(rt: HostRuntime) -> Result<(), Fail> {
-    let (whole, file) = written(rt.alloc(), 1, offsets(2, 3), true)?;
-    let bytes = whole.bytes();
-    assert_eq!(rt;
-        file,
-        Some(WrittenFile {
-            pages: 1,
-            bytes: 120
-        })
-    );
-    assert!(rt; bytes.get(60..68) == Some(&[145, 2, 0, 0, 159, 4, 0, 0]));
-    assert!(rt; bytes.get(95..103) == Some(&[0, 4, 0, 0, 0, 3, 0, 0]));
-    Ok(())
-}
-
-#[test]
 fn no_pages_and_a_page_behind_the_end(rt: HostRuntime) -> Result<(), Fail> {
     let alloc = rt.alloc();
     let (nothing, file) = written(alloc, 0, offsets(0, 0), true)?;

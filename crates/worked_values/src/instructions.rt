@@ -19,18 +19,7 @@ fn expect_bytes(rt: &impl Abort, alloc: Global, op: &Op<'_>, bytes: &[u8])
 #[test]
 fn instructions_are_spelled(rt: HostRuntime) {
     let alloc = rt.alloc();
-    expect_bytes(&rt, alloc, &Op::SetChar(99), &[99]);
     expect_bytes(&rt, alloc, &Op::PutChar(256), &[134, 1, 0]);
-    expect_bytes(&rt, alloc, &Op::Push, &[141]);
-    expect_bytes(&rt, alloc, &Op::Pop, &[142]);
-    expect_bytes(&rt, alloc, &Op::Right(-1), &[143, 255]);
-    expect_bytes(&rt, alloc, &Op::Right(128), &[144, 0, 128]);
-    expect_bytes(&rt, alloc, &Op::W0, &[147]);
-    expect_bytes(&rt, alloc, &Op::W(131_072), &[150, 2, 0, 0]);
-    expect_bytes(&rt, alloc, &Op::Down(655_360), &[159, 10, 0, 0]);
-    expect_bytes(&rt, alloc, &Op::Z(-129), &[168, 255, 127]);
-    expect_bytes(&rt, alloc, &Op::FontNum(1), &[172]);
-    expect_bytes(&rt, alloc, &Op::FontNum(64), &[235, 64]);
     expect_bytes(&rt, alloc, &Op::Xxx(b"hi"), &[239, 2, 104, 105]);
 }
 

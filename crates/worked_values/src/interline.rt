@@ -4,7 +4,7 @@ use node_core::{BoxNode, Glue, Kind, Node, NodeList, Order, Params, Setting};
 use scaled_core::Dimen;
 use std::alloc::Global;
 use std::process::Abort;
-use vert_core::{append_box, interline_glue};
+use vert_core::append_box;
 
 const POINT: i64 = 65536;
 
@@ -71,19 +71,4 @@ fn two_boxes_and_the_glue_between(rt: HostRuntime) {
     expect_box(&rt, first, 0, 5 * POINT, 2 * POINT);
     assert_eq!(rt; *between, glue(&rt, 4 * POINT));
     expect_box(&rt, second, 3 * POINT, 6 * POINT, POINT);
-}
-
-#[test]
-fn near_boxes_and_the_limit(rt: HostRuntime) {
-    let mut params = baselines(&rt, 12 * POINT);
-    let (previous, height) = (sp(&rt, 2 * POINT), sp(&rt, 12 * POINT));
-    let near = interline_glue(previous, height, &params);
-    assert!(rt; near == Ok(Some(params.line_skip)));
-    params.line_skip_limit = sp(&rt, -2 * POINT);
-    let at_the_limit = interline_glue(previous, height, &params);
-    assert!(rt; at_the_limit == Ok(Some(glue(&rt, -2 * POINT))));
-    let first = interline_glue(sp(&rt, -1000 * POINT), height, &params);
-    assert!(rt; first == Ok(None));
-    let below = interline_glue(sp(&rt, 1 - 1000 * POINT), Dimen::ZERO, &params);
-    assert!(rt; below == Ok(Some(glue(&rt, 1012 * POINT - 1))));
 }

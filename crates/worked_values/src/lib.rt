@@ -1,4 +1,4 @@
-//! Worked values of the libraries of numbers, nodes, boxes, instructions, pages and bitmaps, as tests.
+//! Worked values of the libraries of numbers, nodes, vertical lists, instructions and bitmaps, as tests.
 #![tactic(auto)]
 
 #[cfg(test)]
@@ -8,13 +8,7 @@ mod instructions;
 #[cfg(test)]
 mod interline;
 #[cfg(test)]
-mod listings;
-#[cfg(test)]
 mod nodes;
-#[cfg(test)]
-mod packing;
-#[cfg(test)]
-mod pages;
 #[cfg(test)]
 mod reused_bodies;
 #[cfg(test)]

@@ -1,6 +1,6 @@
-//! Fractions, and the texts of dimensions.
+//! Fractions, and texts that are no dimension.
 
-use scaled_core::{Dimen, DimenFault, Ratio, parse_dimen, print_dimen};
+use scaled_core::{DimenFault, Ratio, parse_dimen};
 
 #[test]
 fn fractions_round_halves_away_from_zero(rt: HostRuntime) {
@@ -40,50 +40,6 @@ fn fractions_round_halves_away_from_zero(rt: HostRuntime) {
             rounded,
             "at {num}/{den} of {amount}"
         );
-    }
-}
-
-#[test]
-fn dimensions_are_printed(rt: HostRuntime) {
-    for (value, text) in [
-        (10, "size 0.00015"),
-        (1_073_741_823, "size 16383.99998"),
-        (-65536, "size -1.0"),
-        (0, "size 0.0"),
-        (-1, "size -0.00002"),
-        (655_360, "size 10.0"),
-        (33_000, "size 0.50354"),
-    ] {
-        let dimension = Dimen::try_new(value).expect(&rt, "it fits");
-        let mut out = Vec::from_slice(rt.alloc(), b"size ").expect(&rt, "there is memory");
-        assert!(rt; print_dimen(dimension, &mut out).is_ok());
-        assert_eq!(rt; out.as_slice(), text.as_bytes(), "at {value}");
-    }
-}
-
-#[test]
-fn dimensions_are_read(rt: HostRuntime) {
-    for (text, value) in [
-        ("1in", 4_736_286),
-        ("1cm", 1_864_679),
-        ("1bp", 65_781),
-        ("6.5in", 30_785_863),
-        ("16383.99999pt", 1_073_741_823),
-        ("1mm", 186_467),
-        ("1pc", 786_432),
-        ("1dd", 70_124),
-        ("1cc", 841_489),
-        ("-1pt", -65_536),
-        ("+5.pt", 327_680),
-        (".5pt", 32_768),
-        ("0.00000762939453125pt", 1),
-        ("0.00000762939453124pt", 0),
-        ("1.9sp", 1),
-        ("-1073741823sp", -1_073_741_823),
-        ("00000000000000000000000000000000000000001pt", 65_536),
-    ] {
-        let dimension = parse_dimen(text.as_bytes()).expect(&rt, "it is a dimension");
-        assert_eq!(rt; dimension.get(), value, "at {text}");
     }
 }
 

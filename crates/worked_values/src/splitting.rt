@@ -1,11 +1,11 @@
 //! Vertical lists are split.
 
-use node_core::{Glue, Node, NodeList, Order, Rule, RuleSize, SplitParams};
+use node_core::{Glue, Node, Order, Rule, RuleSize, SplitParams};
 use pack_core::Packed;
 use scaled_core::Dimen;
 use std::process::Abort;
 use std::test::Fail;
-use vert_core::{Split, SplitFault, split, split_list};
+use vert_core::{Split, split};
 
 /// The dimension of so many points.
 fn points(rt: &impl Abort, number: i64) -> Dimen {
@@ -57,7 +57,7 @@ fn expect_split(rt: &impl Abort, parts: &Split, height: i64, badness: u32, rest:
 }
 
 #[test]
-fn three_lists_are_split(rt: HostRuntime) -> Result<(), Fail> {
+fn lists_are_split(rt: HostRuntime) -> Result<(), Fail> {
     let alloc = rt.alloc();
     let params = SplitParams::first();
     let (a, b, c) = (rule(&rt, 5), rule(&rt, 5), rule(&rt, 5));
@@ -65,32 +65,9 @@ fn three_lists_are_split(rt: HostRuntime) -> Result<(), Fail> {
     let parts = split(alloc, &forced, points(&rt, 20), &params);
     let parts = parts.expect(&rt, "its numbers fit");
     expect_split(&rt, &parts, 20, 10_000, Some(10));
-    let (a, b, c) = (rule(&rt, 5), rule(&rt, 5), rule(&rt, 5));
-    let spaced = Vec::from_array(alloc, [a, glue(&rt, 1, 0), b, glue(&rt, 1, 0), c])?;
-    let parts = split_list(NodeList::from_vec(spaced), points(&rt, 15), &params);
-    let parts = parts.expect(&rt, "its numbers fit");
-    expect_split(&rt, &parts, 15, 10_000, Some(10));
-    let high = Vec::from_array(alloc, [rule(&rt, 30), glue(&rt, 1, 0), rule(&rt, 30)])?;
-    let parts = split_list(NodeList::from_vec(high), points(&rt, 20), &params);
-    let parts = parts.expect(&rt, "its numbers fit");
-    expect_split(&rt, &parts, 20, 1_000_000, Some(30));
-    Ok(())
-}
-
-#[test]
-fn rests_and_refusals(rt: HostRuntime) -> Result<(), Fail> {
-    let alloc = rt.alloc();
-    let params = SplitParams::first();
     let ends = Vec::from_array(alloc, [rule(&rt, 5), glue(&rt, 2, 0)])?;
     let parts = split(alloc, &ends, points(&rt, 5), &params);
     let parts = parts.expect(&rt, "its numbers fit");
     expect_split(&rt, &parts, 5, 0, None);
-    let shrinks = Vec::from_array(alloc, [rule(&rt, 5), glue(&rt, 2, 1), glue(&rt, 2, -1)])?;
-    let unsplit = split_list(NodeList::from_vec(shrinks), points(&rt, 5), &params);
-    let Err(unsplit) = unsplit else {
-        panic!(rt; "it was split");
-    };
-    assert_eq!(rt; unsplit.fault, SplitFault::InfiniteShrink);
-    assert_eq!(rt; unsplit.list.len(), 3);
     Ok(())
 }
