@@ -2,7 +2,7 @@
 import importlib
 import pkgutil
 from dataclasses import dataclass
-from typing import Callable
+from typing import Callable, Optional
 
 import steps
 
@@ -13,7 +13,12 @@ class Part:
     name: str
     title: str
     cases: Callable
+    # the program that it runs builds of; None where it always builds by itself
+    program: Optional[str] = "boxglue"
+    # whether it cannot build that program by itself
     needs_program: bool = False
+    # parts with a larger one are begun first
+    weight: int = 0
 
 
 def parts_of(name, root):
@@ -23,10 +28,11 @@ def parts_of(name, root):
         return []
     if hasattr(module, "parts"):
         return module.parts(root)
-    return [Part(name, module.TITLE, module.cases, getattr(module, "NEEDS_PROGRAM", False))]
+    said = {field: getattr(module, field.upper()) for field in ("program", "needs_program", "weight") if hasattr(module, field.upper())}
+    return [Part(name, module.TITLE, module.cases, **said)]
 
 
 def all_parts(root):
-    """The parts of all modules of this folder, by the order of their names."""
+    """The parts of all modules of this folder; those that are begun first come first."""
     names = sorted(it.name for it in pkgutil.iter_modules(steps.__path__))
-    return [part for name in names for part in parts_of(name, root)]
+    return sorted((part for name in names for part in parts_of(name, root)), key=lambda it: -it.weight)

@@ -1,0 +1,89 @@
+"""A case of tests/program: a folder that says how a program is run, and what it must do. docs/FORMATS.md, section 11, has its files."""
+import os
+import shutil
+import subprocess
+import tempfile
+
+NAMES = {"words", "stdin", "stdin-from", "closed-stdin", "closed-stdout", "full-stdout", "files", "made", "stdout", "stderr", "status"}
+LIMIT = 60
+
+
+def has(case, name):
+    """Whether a case has this file or folder."""
+    return os.path.exists(f"{case}/{name}")
+
+
+def read(case, name, otherwise=b""):
+    """The bytes of a case's file."""
+    if not has(case, name):
+        return otherwise
+    with open(f"{case}/{name}", "rb") as it:
+        return it.read()
+
+
+def words_of(case):
+    """The words of the command line, as bytes."""
+    text = read(case, "words")
+    return text.removesuffix(b"\n").split(b"\n") if text else []
+
+
+def input_of(case, root):
+    """What standard input gives."""
+    if has(case, "stdin-from"):
+        return read(root, read(case, "stdin-from").decode().strip())
+    return read(case, "stdin")
+
+
+def files_in(folder):
+    """The names of the files of a folder; none where it is absent."""
+    return sorted(os.listdir(folder)) if os.path.isdir(folder) else []
+
+
+def unknown_files(case):
+    """What is wrong where a case has a file that means nothing, else None."""
+    others = sorted({*os.listdir(case)} - NAMES)
+    return f"a case has no file {others[0]}" if others else None
+
+
+def first_difference(what, found, wanted):
+    """Says from where on two texts differ, or returns None."""
+    if found == wanted:
+        return None
+    at = len(os.path.commonprefix([found, wanted]))
+    return f"{what} from byte {at} on is {found[at:at + 100]!r} and not {wanted[at:at + 100]!r}"
+
+
+def command(case, program):
+    """The words that start the program. A shell closes the streams that are to be closed."""
+    closing = [sign for name, sign in (("closed-stdin", "<&-"), ("closed-stdout", ">&-")) if has(case, name)]
+    shell = ["sh", "-c", f'exec "$@" {" ".join(closing)}', "sh"] if closing else []
+    return [*shell, program, *words_of(case)]
+
+
+def run(case, program, root):
+    """Runs the program on a case, and returns its status, what it printed to standard output and to standard error, and the first file of made/
+    that is not as it must be, if one is not."""
+    how = {"input": input_of(case, root), "stderr": subprocess.PIPE, "env": {"LANG": "C.UTF-8"}, "timeout": LIMIT}
+    with tempfile.TemporaryDirectory(prefix="boxglue-case-") as room, open("/dev/full", "wb") as full:
+        if has(case, "files"):
+            shutil.copytree(f"{case}/files", room, dirs_exist_ok=True)
+        output = full if has(case, "full-stdout") else subprocess.PIPE
+        ran = subprocess.run(command(case, program), cwd=room, stdout=output, **how)
+        wrong = [name for name in files_in(f"{case}/made") if read(room, name, None) != read(f"{case}/made", name)]
+    status = ran.returncode if ran.returncode >= 0 else 128 - ran.returncode
+    return status, ran.stdout or b"", ran.stderr, wrong[:1]
+
+
+def differs(case, program, root):
+    """Says how what the program does on a case differs from what it must do, or returns None."""
+    try:
+        status, output, errors, wrong = run(case, program, root)
+    except (OSError, subprocess.TimeoutExpired) as error:
+        return f"{error}"
+    wanted = int(read(case, "status", b"0"))
+    if status != wanted:
+        return f"the status is {status} and not {wanted}; standard error: {errors[:300]!r}"
+    if wrong:
+        return f"the file {wrong[0]} is not that of made/"
+    return (first_difference("standard output", output, read(case, "stdout"))
+            or first_difference("standard error", errors, read(case, "stderr")))

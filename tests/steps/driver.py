@@ -1,0 +1,155 @@
+"""The program tests/run: its words, its lanes, and its counts."""
+import argparse
+import os
+import signal
+import sys
+import time
+from collections import Counter
+from concurrent.futures import ThreadPoolExecutor
+from dataclasses import dataclass
+
+from steps import trying
+from steps.outcome import Skipped
+from steps.part import all_parts
+from steps.progress import Progress
+
+ABOUT = """Runs all tests of boxglue, without proofs: nothing is proved by it. It needs the kit's `rt`, and no network.
+
+Without --program it builds by `rt try`, up to three builds at a time where memory allows: the #[test] functions of each crate that has
+some, the rows of script_rows, and those cases of tests/program that can run in one build. What can only run a built program is skipped.
+
+With --program it builds nothing: all that is data runs over these programs, and the crates' own tests are left out. `rt run` in
+crates/boxglue makes out/boxglue; `rt ci` makes out/boxglue and out/boxglue.by-rattle.
+
+A line is printed for each part: ok, FAILED or skipped, its seconds, how many of its cases passed; and a line at least every ten seconds.
+The last line is `N passed, M failed, K skipped`. The status is 0 where nothing failed, 1 where something did, 2 where the words are wrong."""
+NOTHING_PROVED = "Nothing is proved by these tests: only `rt ci` proves."
+LANES, ROOM = 3, 1_500_000_000
+
+
+@dataclass
+class Result:
+    """What came of the cases of a part, each with its reason where it did not pass."""
+    passed: int
+    failed: list
+    skipped: list
+
+
+def words_of(given):
+    """Reads the command line."""
+    parser = argparse.ArgumentParser(prog="tests/run", description=ABOUT, formatter_class=argparse.RawDescriptionHelpFormatter)
+    parser.add_argument("names", metavar="NAME", nargs="*", help="run these parts alone (--list names them)")
+    parser.add_argument("--program", metavar="PATH", nargs="+", default=[], help="run over these builds of boxglue, in place of building")
+    parser.add_argument("--rows", metavar="PATH", nargs="+", default=[], help="run script_rows over these builds of it, in place of building")
+    parser.add_argument("--list", action="store_true", help="print the names of the parts, and what each tests")
+    return parser, parser.parse_intermixed_args(given)
+
+
+def lanes():
+    """How many parts run side by side."""
+    with open("/proc/meminfo", encoding="ascii") as it:
+        free = next(int(line.split()[1]) for line in it if line.startswith("MemAvailable:")) * 1024
+    return max(1, min(LANES, len(os.sched_getaffinity(0)), free // ROOM))
+
+
+def attempt(call):
+    """Runs a case. An exception is a failure."""
+    try:
+        return call()
+    except Exception as error:
+        return f"{type(error).__name__}: {error}"
+
+
+def run_cases(part, pairs, is_built, progress):
+    """Runs the cases of a part in turn. Where nothing is built yet one run of `rt try` gives the results of all."""
+    result = Result(0, [], [])
+    for done, (name, call) in enumerate(pairs):
+        progress.step(part.name, f"{done} of {len(pairs)}: {name}" if is_built else f"rt try, for {len(pairs)} cases")
+        found = attempt(call)
+        if found is None:
+            result.passed += 1
+        elif isinstance(found, Skipped):
+            result.skipped.append((name, found.reason))
+        else:
+            result.failed.append((name, found))
+    return result
+
+
+def pairs_of(part, programs, root):
+    """The cases of a part. Where they cannot be made, or have no or equal names, one that fails."""
+    why = None
+    try:
+        pairs = list(part.cases(programs, root))
+        twice = [name for name, count in Counter(name for name, _ in pairs).items() if count > 1]
+        why = "there are no cases" if not pairs else f"two cases have one name: {twice[0]}" if twice else None
+    except Exception as error:
+        why = f"{type(error).__name__}: {error}"
+    return [("its cases", lambda: why)] if why else pairs
+
+
+def run_part(part, built, root, progress):
+    """Runs a part, and prints what came of it."""
+    began = time.monotonic()
+    programs = built.get(part.program, [])
+    pairs = pairs_of(part, programs, root)
+    if not programs and (part.needs_program or any(built.values())):
+        reason = "it needs a built program: --" + ("program" if part.program == "boxglue" else "rows")
+        result = Result(0, [], [(name, reason) for name, _ in pairs])
+    else:
+        result = run_cases(part, pairs, bool(programs), progress)
+    progress.end(part.name)
+    for line in lines_of(part, len(pairs), result, time.monotonic() - began):
+        progress.say(line)
+    return result
+
+
+def lines_of(part, count, result, seconds):
+    """The line of a part, and one for each reason why cases did not pass."""
+    how = "FAILED" if result.failed else "ok" if result.passed else "skipped"
+    more = f", {len(result.skipped)} skipped" if result.skipped else ""
+    yield f"{how:8}{part.name:16}{seconds:5.0f} s  {result.passed} of {count}{more}"
+    for what, found in (("FAILED", result.failed), ("skipped", result.skipped)):
+        for why in dict.fromkeys(why for _, why in found):
+            names = [name for name, its in found if its == why]
+            yield f"    {what}: {', '.join(names[:6])}{f' and {len(names) - 6} more' if len(names) > 6 else ''}: {why[:600]}"
+
+
+def run_all(parts, built, root):
+    """Runs parts side by side."""
+    with Progress(len(parts)) as progress, ThreadPoolExecutor(lanes()) as pool:
+        futures = [pool.submit(run_part, it, built, root, progress) for it in parts]
+        try:
+            return [it.result() for it in futures]
+        except BaseException:
+            pool.shutdown(wait=False, cancel_futures=True)
+            trying.end_all()
+            raise
+
+
+def chosen(parser, words, root):
+    """The parts that the words ask for."""
+    is_data = bool(words.program or words.rows)
+    parts = {it.name: it for it in all_parts(root) if it.program or not is_data}
+    wrong = [it for it in words.names if it not in parts]
+    if wrong:
+        parser.error(f"no part {wrong[0]}{' runs built programs' if is_data else ''}: the names are {' '.join(parts)}")
+    return [it for name, it in parts.items() if name in words.names or not words.names]
+
+
+def main(root, given):
+    """Runs what the words ask for, and returns the status."""
+    parser, words = words_of(given)
+    parts = chosen(parser, words, root)
+    if words.list:
+        print("".join(f"{it.name:16}{it.title}\n" for it in parts), end="")
+        return 0
+    built = {"boxglue": [*map(os.path.abspath, words.program)], "script_rows": [*map(os.path.abspath, words.rows)]}
+    absent = [it for paths in built.values() for it in paths if not os.access(it, os.X_OK) or os.path.isdir(it)]
+    if absent:
+        print("".join(f"FAILED: no program {it}\n" for it in absent) + f"0 passed, {len(absent)} failed, 0 skipped", flush=True)
+        return 1
+    signal.signal(signal.SIGTERM, lambda number, _: sys.exit(128 + number))
+    results = run_all(parts, built, root)
+    passed, failed, skipped = (sum(it) for it in zip(*((it.passed, len(it.failed), len(it.skipped)) for it in results)))
+    print(f"{NOTHING_PROVED}\n{passed} passed, {failed} failed, {skipped} skipped", flush=True)
+    return 1 if failed else 0

@@ -1,0 +1,116 @@
+"""The scripts of examples/, each with a metric file of plain width for its fonts. What is wanted follows from the script's own text: each
+command is accepted and answered once, each `ship` is a page, and the pages that are listed show the characters of its texts."""
+import glob
+import os
+import re
+import subprocess
+import tempfile
+from functools import partial
+
+from steps.plain_font import metric_file
+
+TITLE = "the scripts of examples/: typeset, list and paint"
+NEEDS_PROGRAM = True
+LIMIT = 60
+# What may show a character twice, or not at all.
+COPIES = {"copy", "unhcopy", "unvcopy", "lastbox", "void"}
+
+
+class Wrong(Exception):
+    """What is wrong."""
+
+
+def require(holds, why):
+    """Stops where something is wrong."""
+    if not holds:
+        raise Wrong(why)
+
+
+def fields(line):
+    """The words of a command; the whole text of a `text` is one word."""
+    return line.strip().split(" ", 1) if line.lstrip().startswith("text ") else line.split()
+
+
+def commands(script):
+    """The commands of a script, by the numbers of their lines."""
+    return {number: fields(line) for number, line in enumerate(script.splitlines(), 1) if line and line[0] != "%"}
+
+
+def characters(found):
+    """The codes of the characters that a script shows, in order: spaces are glue."""
+    codes = []
+    for word, *more in found:
+        if word == "char":
+            codes.append(int(more[0]))
+        elif word == "text" and more:
+            codes += map(ord, more[0].replace(" ", ""))
+    return codes
+
+
+def run(program, room, words, given=""):
+    """Runs a program that has to accept all; returns what it prints."""
+    ran = subprocess.run([program, *words], input=given, cwd=room, env={}, capture_output=True, text=True, timeout=LIMIT)
+    require(ran.returncode == 0, f"{words[0]}: the status is {ran.returncode}; {(ran.stderr or ran.stdout)[-200:]!r}")
+    require(not ran.stderr, f"{words[0]}: standard error has {ran.stderr[:200]!r}")
+    return ran.stdout
+
+
+def check_answers(answers, found, size):
+    """One answer to each command, in order, none of them a refusal, and the end."""
+    *lines, end = answers.splitlines()
+    require([it.partition(": ")[0] for it in lines] == [*map(str, found)], "the answers are not one a command")
+    require(not re.search("refused|missing [1-9]", answers), "something is refused or missing")
+    pages = sum(words[0] == "ship" for words in found.values())
+    require(end == f"end: pages {pages} bytes {size}", f"the last answer is {end!r}; there are {pages} ships, and the file has {size} bytes")
+
+
+def check_listing(listing, found):
+    """A page for each `ship`, and the glyphs of the script's characters in their order."""
+    pages = [int(it) for it in re.findall(r"^page (\d+) ", listing, re.M)]
+    ships = sum(words[0] == "ship" for words in found.values())
+    require(pages == [*range(1, ships + 1)], f"the pages that are listed are {pages}")
+    if not COPIES & {words[0] for words in found.values()}:
+        shown = [int(it) for it in re.findall(r"^glyph \d+ (\d+) ", listing, re.M)]
+        require(shown == characters(found.values()), "the glyphs that are listed are not the characters of the script")
+
+
+def check_bitmap(bitmap, width, height):
+    """The form of a plain PBM of this size."""
+    require(re.fullmatch(rf"P1\n{width} {height}\n([01]{{{width}}}\n){{{height}}}", bitmap), "paint gives no bitmap of this size")
+
+
+def check(program, script):
+    """Runs the program on a script: typeset, list and paint. Returns the bytes of the file."""
+    found = commands(script)
+    fonts = sorted({words[2] for words in found.values() if words[0] == "font"})
+    with tempfile.TemporaryDirectory(prefix="boxglue-example-") as room:
+        with open(f"{room}/plain.tfm", "wb") as it:
+            it.write(metric_file())
+        given = [f"{name}=plain.tfm" for name in fonts]
+        answers = run(program, room, ["typeset", "out.dvi", *given], script)
+        with open(f"{room}/out.dvi", "rb") as it:
+            content = it.read()
+        check_answers(answers, found, len(content))
+        check_listing(run(program, room, ["list", "out.dvi", *given]), found)
+        size = ["--page", "1", "--dpi", "72", "--width", "40", "--height", "30"]
+        check_bitmap(run(program, room, ["paint", *size, "out.dvi", *given]), 40, 30)
+    return content
+
+
+def outcome(programs, path):
+    """Runs all programs on an example; their files have to be the same."""
+    with open(path, encoding="ascii") as it:
+        script = it.read()
+    files = {}
+    for program in programs:
+        try:
+            files[os.path.basename(program)] = check(program, script)
+        except (Wrong, OSError, subprocess.TimeoutExpired) as error:
+            return f"{os.path.basename(program)}: {error}"
+    return None if len({*files.values()}) == 1 else f"the files of {' and '.join(files)} differ"
+
+
+def cases(programs, root):
+    """The scripts, by the order of their names."""
+    for path in sorted(glob.glob(f"{root}/examples/*.box")):
+        yield os.path.basename(path), partial(outcome, programs, path)

@@ -1,0 +1,61 @@
+"""The cases of crates/script_rows/stdin: all in one run of the program `script_rows`, built or by `rt try`, against its file stdout."""
+import functools
+import os
+import re
+import subprocess
+
+from steps.case_folder import first_difference, read
+from steps.trying import last_lines, rt_try
+
+TITLE = "scripts and their answers, on the case file of crates/script_rows"
+PROGRAM = "script_rows"
+WEIGHT = 3
+LIMIT = 300
+
+
+def blocks(text):
+    """The text printed for each case, by its name; the name is empty for what is before the first."""
+    pieces = re.split(rb"^== (.*)\n", text, flags=re.M)
+    return {b"": pieces[0], **dict(zip(pieces[1::2], pieces[2::2]))}
+
+
+def run_built(program, given):
+    """Runs a built program. Returns what it printed, and what is wrong with the run, if something is."""
+    try:
+        ran = subprocess.run([program], input=given, capture_output=True, env={}, timeout=LIMIT)
+    except (OSError, subprocess.TimeoutExpired) as error:
+        return b"", f"{error}"
+    return ran.stdout, f"the status is {ran.returncode}: {last_lines(ran.stderr)}" if ran.returncode else None
+
+
+def run_tried(root, given):
+    """Runs the program by `rt try`; returns the same."""
+    status, output, errors = rt_try(root, "script_rows", [], given)
+    return output, f"rt try: {last_lines(errors)}" if status else None
+
+
+def compare(name, wanted, found, why):
+    """What is wrong with the run, or with what it printed for one case."""
+    if why or name not in found:
+        return why or "nothing is printed for this case"
+    if [*found] != [*wanted] or found[b""] != wanted[b""]:
+        return "the cases that are printed are not those of the file stdout"
+    return first_difference("the text", found[name], wanted[name])
+
+
+def cases(programs, root):
+    """The cases of the file, by their order."""
+    folder = f"{root}/crates/script_rows"
+    given, wanted = read(folder, "stdin"), blocks(read(folder, "stdout"))
+
+    @functools.lru_cache(None)
+    def runs():
+        found = {os.path.basename(it): run_built(it, given) for it in programs} or {"script_rows": run_tried(root, given)}
+        return {build: (blocks(output), why) for build, (output, why) in found.items()}
+
+    def outcome(name):
+        found = {build: compare(name, wanted, *run) for build, run in runs().items()}
+        return "; ".join(f"{build}: {why}" for build, why in found.items() if why) or None
+
+    for name in re.findall(rb"^case (.*)$", given, re.M):
+        yield name.decode(), functools.partial(outcome, name)

@@ -1,0 +1,40 @@
+"""Runs `rt try`, which builds a crate without proofs and runs it, or its tests."""
+import subprocess
+import threading
+
+# A build takes a minute or two; nothing here takes so long on a machine that works.
+LIMIT = 1500
+
+_running = set()
+_lock = threading.Lock()
+
+
+def rt_try(root, crate, words, given=b""):
+    """Runs `rt try` in the folder of a crate. Returns its status, standard output and standard error."""
+    pipes = dict.fromkeys(("stdin", "stdout", "stderr"), subprocess.PIPE)
+    with subprocess.Popen(["rt", "try", *words], cwd=f"{root}/crates/{crate}", **pipes) as started:
+        with _lock:
+            _running.add(started)
+        try:
+            output, errors = started.communicate(given, timeout=LIMIT)
+        except subprocess.TimeoutExpired:
+            started.terminate()
+            output, errors = started.communicate()
+            errors += f"rt try was stopped after {LIMIT} seconds\n".encode()
+        finally:
+            with _lock:
+                _running.discard(started)
+    return started.returncode, output, errors
+
+
+def end_all():
+    """Stops what still runs."""
+    with _lock:
+        for it in _running:
+            it.terminate()
+
+
+def last_lines(text, count=3):
+    """The last lines of what was printed, as one line."""
+    lines = [it.strip() for it in text.decode(errors="replace").splitlines() if it.strip()]
+    return " / ".join(lines[-count:]) or "nothing was printed"
