@@ -1,4 +1,13 @@
-"""What a run of a script comes to where one growth of memory was refused: the kinds of docs/EVIDENCE.md, and the order in which they come."""
+"""What a run of a script comes to where one growth of memory was refused, and in which order this comes from the first growth to the last.
+
+  n   `refused 1 OutOfMemory` alone, and no file: for the words, what is read, the commands, the slots, the registers or the room for the replies; of a
+      run on a device in memory, whose bytes are printed, also for the texts at the end
+  w   all as ever: room that is asked for beforehand is made up for by a later growth
+  c   a command answers OutOfMemory; all other answers, the status and the bytes are those of the script without this command
+  d   the growth was one of the device in memory, so it failed in a `ship`: Device, JobOver from then on, and only the pages before it are out
+  e   `end: refused 1 OutOfMemory`: all pages are out, and no end
+  f   `end: refused 18 Device`: the same
+  t   `refused 1 OutOfMemory` alone, for the texts of the answers: the whole file is written"""
 import re
 from dataclasses import dataclass
 
@@ -8,9 +17,8 @@ MAY_TAKE_MEMORY = {
     "font", "hbox", "vbox", "vtop", "par", "end", "text", "char", "rule", "kern", "glue", "penalty", "ship", "box", "copy",
     "unhbox", "unhcopy", "unvbox", "unvcopy", "vsplit",
 }
-# The letters of the kinds, and their orders. Asked for first is what is read and made before the script is run, with room that is asked for beforehand
-# and made up for later; then come the commands, in their order; then the end; then the texts of the answers.
 NOTHING, WHOLE, COMMAND, DEVICE, END, END_DEVICE, TEXTS = "nwcdeft"
+# Made up for is at most the room for the words (where there are any), the commands and their numbers.
 ORDER_IN_MEMORY = re.compile("n+w{0,2}n+[cd]*c[cd]*d[cd]*e+fn+")
 ORDER_TO_A_FILE = re.compile("n+w?n+w{0,2}n+c+e+t+")
 ORDER_OF_A_READING = re.compile("n+w?n+")
@@ -110,15 +118,15 @@ def of_no_answers(ended, whole):
 
 def kind_of(script, ended, whole, without):
     """The kind of a run in which one growth was refused. `whole` are the answers where none was, `without` those without the command of a line."""
-    if ended.status != 1 and ended.status != 0 or ended.errors:
+    if ended.status not in (0, 1) or ended.errors:
         raise Wrong(f"the status is {ended.status}, standard error {ended.errors[:200]!r}")
     if ended.output == ALONE and ended.status == 1:
         return of_no_answers(ended, whole)
     run = answered(ended)
+    if ended.status != (script.status if run == whole else 1):
+        raise Wrong(f"the status is {ended.status}, with the end {run.end}")
     if run == whole:
         return Kind(WHOLE)
-    if ended.status != 1:
-        raise Wrong("the status is 0, and the answers are not those of the whole script")
     wanting = [at for at, reply in run.replies.items() if reply == WANTS_MEMORY]
     failed = [at for at, reply in run.replies.items() if reply == FAILED]
     if wanting:

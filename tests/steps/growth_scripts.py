@@ -68,11 +68,12 @@ HALFWAY = {"fonts_in_nested_boxes": {14: "copy 0", 15: "unhcopy 0"}}
 
 @dataclass(frozen=True)
 class Script:
-    """A script: its words, its lines, its answers and the file that it writes, with the place behind each page."""
+    """A script: its words, its lines, its answers, its status, and the file that it writes, with the place behind each page."""
     name: str
     words: tuple
     lines: tuple
     answers: bytes
+    status: int
     file: bytes
     page_ends: tuple
 
@@ -86,7 +87,7 @@ def read_script(name, root):
     pages, height, width = PAGES[name]
     file = dvi_file(pages, int(height * PT), width * PT)
     words = ("typeset", "out.dvi", *FONTS) if name in WITH_FONTS else ()
-    return Script(name, words, lines, answers, file.data, file.page_ends)
+    return Script(name, words, lines, answers, int(b": refused " in answers), file.data, file.page_ends)
 
 
 FILES = {"tiny.tfm": TINY}

@@ -1,5 +1,5 @@
 """Each growth of memory refused in turn, in runs of a built program: a small library that counts `malloc` and `realloc` is put before it by LD_PRELOAD.
-It proves nothing; docs/EVIDENCE.md says what it shows."""
+growth_kinds.py says what may come of it. It proves nothing, and shows it for these scripts alone."""
 import functools
 import os
 import subprocess
@@ -71,8 +71,7 @@ def check_whole(script, ended):
     whole = answered(ended)
     answers = ended.output.partition(b"end: ")
     said = answers[0] + answers[1] + whole.end.encode() + b"\n"
-    refused = any(it.startswith("refused") for it in whole.replies.values())
-    if (said, whole.data, ended.errors, ended.status) != (script.answers, script.file, b"", int(refused)):
+    if (said, whole.data, ended.errors, ended.status) != (script.answers, script.file, b"", script.status):
         raise Wrong(f"with no growth refused the answers are {said[-300:]!r}, with {len(whole.data)} bytes and the status {ended.status}")
     return whole
 

@@ -227,7 +227,7 @@ def long_answers():
 # A page of more than 65,535 instructions
 
 def page_of_instructions():
-    """A page of 160,008 instructions and 80,000 marks: two vboxes of 40,000 rules side by side, in an hbox."""
+    """A page whose body has 160,005 instructions and 80,000 marks: two vboxes of 40,000 rules side by side, in an hbox."""
     count = 40000
     lines = ["vbox into 1", *["rule 1sp 1sp 0sp"] * count, "end", "hbox into 0", "copy 1", "box 1", "end", "ship 0"]
     column = [down(1), put_rule(1, 1)] * count

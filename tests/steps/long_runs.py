@@ -149,24 +149,36 @@ def compared(run, process, output):
     return comparison.end()
 
 
-def ended(program, run, folder):
-    """Runs a program, and returns its status, what is wrong with its output, and what it printed to standard error."""
+def started(program, run, folder, errors):
+    """Starts a program. Returns its process, the end to read of its standard output, and the thread that feeds it, if one does."""
     source, writer = opened_input(run, folder)
     output, end = os.pipe2(os.O_CLOEXEC)
     if run.slowly:
         fcntl.fcntl(end, SET_PIPE_SIZE, SMALLEST_PIPE)
-    with tempfile.TemporaryFile() as errors:
+    try:
         how = {"stdin": source, "stdout": end, "stderr": errors, "cwd": folder, "env": {"LANG": "C.UTF-8"}}
         process = subprocess.Popen([program, *run.words], **how)
+    finally:
         os.close(source)
         os.close(end)
-        if writer:
-            writer.start()
-        wrong = compared(run, process, output)
-        os.close(output)
-        status = process.wait(LIMIT)
-        if writer:
-            writer.join()
+    if writer:
+        writer.start()
+    return process, output, writer
+
+
+def ended(program, run, folder):
+    """Runs a program, and returns its status, what is wrong with its output, and what it printed to standard error."""
+    with tempfile.TemporaryFile() as errors:
+        process, output, writer = started(program, run, folder, errors)
+        try:
+            wrong = compared(run, process, output)
+            os.close(output)
+            status = process.wait(LIMIT)
+        finally:
+            process.kill()
+            process.wait()
+            if writer:
+                writer.join()
         errors.seek(0)
         return status, wrong, errors.read()
 

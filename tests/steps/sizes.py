@@ -11,7 +11,7 @@ WORKS = {
     "the_same_byte_by_byte": large_inputs.script_byte_by_byte,
     "a_page_of_8000_rules": large_inputs.page_of_rules,
     "answers_above_2_mebibytes": large_inputs.long_answers,
-    "a_page_of_160008_instructions": large_inputs.page_of_instructions,
+    "a_page_of_160005_instructions": large_inputs.page_of_instructions,
     "a_paragraph_of_65536_items": large_inputs.long_paragraph,
     "splits_of_65536_items": large_inputs.long_splits,
     "a_bitmap_of_10000_by_10000": large_inputs.large_bitmap,
