@@ -1,0 +1,143 @@
+"""What a run of a script comes to where one growth of memory was refused, and in which order this comes from the first growth to the last.
+
+  n   `refused 1 OutOfMemory` alone, and no file: for the words, what is read, the commands, the slots, the registers or the room for the replies; of a
+      run on a device in memory, whose bytes are printed, also for the texts at the end
+  w   all as ever: room that is asked for beforehand is made up for by a later growth
+  c   a command answers OutOfMemory; all other answers, the status and the bytes are those of the script without this command
+  d   the growth was one of the device in memory, so it failed in a `ship`: Device, JobOver from then on, and only the pages before it are out
+  e   `end: refused 1 OutOfMemory`: all pages are out, and no end
+  f   `end: refused 18 Device`: the same
+  t   `refused 1 OutOfMemory` alone, for the texts of the answers: the whole file is written"""
+import re
+from dataclasses import dataclass
+
+ALONE = b"refused 1 OutOfMemory\n"
+WANTS_MEMORY, FAILED, OVER = "refused 1 OutOfMemory", "refused 18 Device", "refused 19 JobOver"
+MAY_TAKE_MEMORY = {
+    "font", "hbox", "vbox", "vtop", "par", "end", "text", "char", "rule", "kern", "glue", "penalty", "ship", "box", "copy",
+    "unhbox", "unhcopy", "unvbox", "unvcopy", "vsplit",
+}
+NOTHING, WHOLE, COMMAND, DEVICE, END, END_DEVICE, TEXTS = "nwcdeft"
+# Made up for is at most the room for the words (where there are any), the commands and their numbers.
+ORDER_IN_MEMORY = re.compile("n+w{0,2}n+[cd]*c[cd]*d[cd]*e+fn+")
+ORDER_TO_A_FILE = re.compile("n+w?n+w{0,2}n+c+e+t+")
+ORDER_OF_A_READING = re.compile("n+w?n+")
+
+
+class Wrong(Exception):
+    """What a run came to is none of the kinds."""
+
+
+@dataclass(frozen=True)
+class Ended:
+    """How a run ended: its status, what it printed, and the file that it wrote, which is empty where there is none."""
+    status: int
+    output: bytes
+    errors: bytes
+    made: bytes
+
+
+@dataclass(frozen=True)
+class Answered:
+    """A run by its answers: the reply of each line with a command, the end, and the bytes that the device took."""
+    replies: dict
+    end: str
+    data: bytes
+
+
+@dataclass(frozen=True)
+class Kind:
+    """The letter of a kind, and the line that met the refused growth where it is a command."""
+    letter: str
+    line: int = 0
+
+
+def answered(ended):
+    """The answers of a run that was answered whole. The lines of digits behind them are the bytes of a device in memory."""
+    head, found, digits = ended.output.partition(b"end: ")
+    if not found:
+        raise Wrong(f"there is no end: {ended.output[-200:]!r}")
+    end, _, digits = digits.partition(b"\n")
+    replies = (line.split(": ", 1) for line in head.decode().splitlines())
+    return Answered({int(number): reply for number, reply in replies}, end.decode(), ended.made + bytes.fromhex(digits.decode()))
+
+
+def boxes_into_registers(lines):
+    """The lines of the commands `end` that put their box into a register: these take no memory."""
+    opened, found = [], set()
+    for at, line in enumerate(lines, 1):
+        word = line.split()[0]
+        if word in ("hbox", "vbox", "vtop", "par"):
+            opened.append("into" in line)
+        elif word == "end" and opened and opened.pop():
+            found.add(at)
+    return found
+
+
+def of_command(script, line, run, without):
+    """A command wanted memory: all else is as in the script without it."""
+    command = script.lines[line - 1]
+    if command.split()[0] not in MAY_TAKE_MEMORY or line in boxes_into_registers(script.lines):
+        raise Wrong(f"line {line}, {command}, takes no memory")
+    others = {at: reply for at, reply in run.replies.items() if at != line}
+    if Answered(others, run.end, run.data) != without(line):
+        raise Wrong(f"line {line}, {command}, wanted memory, and all else is not as without it")
+    return Kind(COMMAND, line)
+
+
+def front(script, pages):
+    """The bytes of the first pages of a script."""
+    return script.file[:script.page_ends[pages - 1]] if pages else b""
+
+
+def of_device(script, line, run, whole):
+    """The device failed in a `ship`: all before it is as ever, and all behind it says that the job is over."""
+    shipped = re.fullmatch(r"shipped (\d+)", whole.replies[line])
+    if not shipped:
+        raise Wrong(f"the device failed in line {line}, which ships nothing")
+    replies = {at: reply if at < line else OVER for at, reply in whole.replies.items()}
+    if run != Answered({**replies, line: FAILED}, OVER, front(script, int(shipped.group(1)) - 1)):
+        raise Wrong(f"the device failed in line {line}, and the rest is not that of a job that is over")
+    return Kind(DEVICE, line)
+
+
+def of_end(script, run, whole):
+    """The finish was refused: the commands are answered as ever, and all pages are out."""
+    letter = {WANTS_MEMORY: END, FAILED: END_DEVICE}.get(run.end)
+    if not letter or run != Answered(whole.replies, run.end, front(script, len(script.page_ends))):
+        raise Wrong(f"the answers are none of those after a refused growth, with the end {run.end}")
+    return Kind(letter)
+
+
+def of_no_answers(ended, whole):
+    """Memory was refused before the script was run, or for the texts behind it: then its file is whole."""
+    if ended.made not in (b"", whole.data):
+        raise Wrong(f"nothing was answered, and the file has {len(ended.made)} bytes")
+    return Kind(TEXTS if ended.made else NOTHING)
+
+
+def kind_of(script, ended, whole, without):
+    """The kind of a run in which one growth was refused. `whole` are the answers where none was, `without` those without the command of a line."""
+    if ended.status not in (0, 1) or ended.errors:
+        raise Wrong(f"the status is {ended.status}, standard error {ended.errors[:200]!r}")
+    if ended.output == ALONE and ended.status == 1:
+        return of_no_answers(ended, whole)
+    run = answered(ended)
+    if ended.status != (script.status if run == whole else 1):
+        raise Wrong(f"the status is {ended.status}, with the end {run.end}")
+    if run == whole:
+        return Kind(WHOLE)
+    wanting = [at for at, reply in run.replies.items() if reply == WANTS_MEMORY]
+    failed = [at for at, reply in run.replies.items() if reply == FAILED]
+    if wanting:
+        return of_command(script, wanting[0], run, without)
+    return of_device(script, failed[0], run, whole) if failed else of_end(script, run, whole)
+
+
+def order_wrong(kinds, order):
+    """Says what is wrong with the order of the kinds, or returns None."""
+    letters = "".join(it.letter for it in kinds)
+    lines = [it.line for it in kinds if it.line]
+    if not order.fullmatch(letters):
+        return f"the kinds come in the order {letters}"
+    return None if lines == sorted(lines) else f"the commands come in the order {lines}"

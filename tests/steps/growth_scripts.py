@@ -1,0 +1,93 @@
+"""The scripts of tests/growths, and what the program must answer to them where no growth is refused.
+
+NAME.box is the script. NAME.answers are the answers, written by hand. The pages below are what docs/FORMATS.md, section 8, says of these scripts; their
+bytes are made by the writer of the tests."""
+from dataclasses import dataclass
+
+from steps.dvi_writer import Font, Page, down, dvi_file, put_rule, right, select, set_char, set_rule
+from steps.large_inputs import TINY
+
+PT = 65536
+RULE = set_rule(PT, PT)
+A, B, C, D, E = (set_char(code) for code in range(97, 102))
+AT_10PT, AT_20PT = Font(0, b"tiny"), Font(1, b"tiny", 20 * PT)
+ONE_RULE = [down(PT), RULE]
+NESTED_BOXES = [down(10 * PT), select(0), C, [select(1), B], right(10 * PT), C]
+
+
+def line_of(height, *parts):
+    """A line or a page of text in font 0, whose baseline is so far below the top."""
+    return [down(height * PT), select(0), *parts]
+
+
+def column(*heights):
+    """Rules 10pt wide at the left edge: pairs of how far the corner of each lies below the one before, and its height."""
+    return [part for below, height in heights for part in (down(below * PT), put_rule(height * PT, 10 * PT))]
+
+
+# By script: its pages, and their greatest height plus depth and width in points.
+PAGES = {
+    "one_rule_page": ([Page(ONE_RULE), Page(ONE_RULE, (7, *[0] * 9))], 1, 1),
+    "lig_and_kern_words": ([
+        Page(line_of(5, E), new_fonts=(AT_10PT,)), Page(line_of(5, A, right(-40960), C)), Page(line_of(5, A, C)), Page(line_of(5, D, A, B)),
+    ], 7.5, 20),
+    "least_demerits_paragraph": ([Page([
+        [down(PT), set_rule(PT, 10 * PT), right(20 * PT), set_rule(PT, 10 * PT)],
+        [down(13 * PT), set_rule(PT, 10 * PT), right(5 * PT), set_rule(PT, 25 * PT)],
+        [down(25 * PT), set_rule(PT, 30 * PT)],
+    ])], 25, 40),
+    "fonts_in_nested_boxes": ([
+        Page(NESTED_BOXES, new_fonts=(AT_10PT, AT_20PT)),
+        Page([NESTED_BOXES, right(25 * PT), *NESTED_BOXES]),
+    ], 15, 50),
+    "refusals_leave_the_job": ([Page([[[[[down(PT), put_rule(PT, 2 * PT)]]]], right(2 * PT), down(PT), RULE])], 1, 3),
+    "splits": ([Page(column(*it)) for it in (
+        ((5, 5), (7, 5)), ((10, 5),), ((5, 5), (6, 5)), ((10, 5),), ((30, 30),), ((30, 30),),
+    )], 30, 10),
+}
+FONTS = ("tiny=tiny.tfm",)
+WITH_FONTS = ("lig_and_kern_words", "fonts_in_nested_boxes")
+# The files that are listed and painted: those of the shorter scripts of the same names, without the pages behind the first.
+ONE_RULE_FILE = dvi_file([Page(ONE_RULE)], PT, PT).data
+NESTED_BOXES_FILE = dvi_file([Page(NESTED_BOXES, new_fonts=(AT_10PT, AT_20PT))], 15 * PT, 25 * PT).data
+PAINT = ("paint", "--page", "1", "--dpi", "72", "--width", "3", "--height", "3", "f.dvi")
+BLANK, BLACK = b"P1\n3 3\n000\n000\n000\n", b"P1\n3 3\n000\n100\n000\n"
+LISTING = (
+    b"page 1 counts 0 0 0 0 0 0 0 0 0 0\nglyph 0 99 0 655360\nglyph 1 98 327680 655360\nglyph 1 99 983040 655360\n"
+)
+# By name: the words, the DVI file, and what is printed.
+READINGS = {
+    "list_one_rule_page": (("list", "f.dvi"), ONE_RULE_FILE, b"page 1 counts 0 0 0 0 0 0 0 0 0 0\nrule 0 65536 65536 65536\n"),
+    "paint_one_rule_page": (PAINT, ONE_RULE_FILE, BLACK),
+    "list_fonts_in_nested_boxes": (("list", "f.dvi", *FONTS), NESTED_BOXES_FILE, LISTING),
+    "paint_fonts_in_nested_boxes": ((*PAINT, *FONTS), NESTED_BOXES_FILE, BLANK),
+}
+# Commands of many growths, by script and line: copies that run out halfway. Each must have met more than one refused growth.
+HALFWAY = {"fonts_in_nested_boxes": {14: "copy 0", 15: "unhcopy 0"}}
+
+
+@dataclass(frozen=True)
+class Script:
+    """A script: its words, its lines, its answers, its status, and the file that it writes, with the place behind each page."""
+    name: str
+    words: tuple
+    lines: tuple
+    answers: bytes
+    status: int
+    file: bytes
+    page_ends: tuple
+
+
+def read_script(name, root):
+    """A script of tests/growths."""
+    with open(f"{root}/tests/growths/{name}.box", encoding="ascii") as it:
+        lines = tuple(it.read().splitlines())
+    with open(f"{root}/tests/growths/{name}.answers", "rb") as it:
+        answers = it.read()
+    pages, height, width = PAGES[name]
+    file = dvi_file(pages, int(height * PT), width * PT)
+    words = ("typeset", "out.dvi", *FONTS) if name in WITH_FONTS else ()
+    return Script(name, words, lines, answers, int(b": refused " in answers), file.data, file.page_ends)
+
+
+FILES = {"tiny.tfm": TINY}
