@@ -37,6 +37,11 @@ def sizes(width, height, depth):
     return f"{points(width)} {points(height)} {points(depth)}"
 
 
+def packed(width, height, depth):
+    """The answer to the `end` of a box of badness 0."""
+    return f"packed {sizes(width, height, depth)} badness 0"
+
+
 def script(lines):
     """The bytes of a script of these lines."""
     return "".join(f"{it}\n" for it in lines).encode()
@@ -92,7 +97,7 @@ def long_script():
     file = dvi_file([Page([right(15000), down(PT), set_rule(PT, PT)])], PT, PT + 15000)
     kerns = [f"{2 + 11 * block + at}: ok\n" for block in range(comments) for at in range(10)]
     last = 2 + 11 * comments
-    ends = [f"{last}: ok\n", f"{last + 1}: packed {sizes(PT + 15000, PT, 0)} badness 0\n", f"{last + 2}: shipped 1\n", f"end: {summary(1, file)}\n"]
+    ends = [f"{last}: ok\n", f"{last + 1}: {packed(PT + 15000, PT, 0)}\n", f"{last + 2}: shipped 1\n", f"end: {summary(1, file)}\n"]
     return text, "".join(["1: ok\n", *kerns, *ends]).encode() + hexadecimal(file.data)
 
 
@@ -126,7 +131,7 @@ def rules_file():
 def rules_script():
     """The script of this page, and its answers."""
     lines = ["vbox into 0", *["rule 1pt 1pt 0pt"] * 8000, "end", "ship 0"]
-    replies = ["ok"] * 8001 + [f"packed {sizes(PT, 8000 * PT, 0)} badness 0", "shipped 1"]
+    replies = ["ok"] * 8001 + [packed(PT, 8000 * PT, 0), "shipped 1"]
     return script(lines), answers(replies, summary(1, rules_file()))
 
 
@@ -232,7 +237,7 @@ def page_of_instructions():
     lines = ["vbox into 1", *["rule 1sp 1sp 0sp"] * count, "end", "hbox into 0", "copy 1", "box 1", "end", "ship 0"]
     column = [down(1), put_rule(1, 1)] * count
     file = dvi_file([Page([column, [right(1), *column]])], count, 2)
-    replies = ["ok"] * (count + 1) + [f"packed {sizes(1, count, 0)} badness 0", "ok", "added 1", "added 1", f"packed {sizes(2, count, 0)} badness 0", "shipped 1"]
+    replies = ["ok"] * (count + 1) + [packed(1, count, 0), "ok", "added 1", "added 1", packed(2, count, 0), "shipped 1"]
     marks = [rule_mark(h, v, 1, 1) for h in (0, 1) for v in range(1, count + 1)]
     return Work({}, typeset_and_list(file, answers(replies, summary(1, file)), lines, marks))
 
@@ -263,7 +268,8 @@ def long_paragraph():
     assert len(items) == LONGEST_LIST
     head = ["set hsize 40pt", "set pretolerance -1", "set tolerance 10000", "vbox into 0", "par"]
     tail = ["rule 1sp 1sp 0sp", "end", "end", "ship 0"]
-    ends = ["refused 10 ListTooLong", "paragraph lines 205 pass 2 overhang 0 demerits 20500", f"packed {sizes(40 * PT, (205 + 204 * 11) * PT, 0)} badness 0", "shipped 1"]
+    lines_answer = "paragraph lines 205 pass 2 overhang 0 demerits 20500"
+    ends = ["refused 10 ListTooLong", lines_answer, packed(40 * PT, (205 + 204 * 11) * PT, 0), "shipped 1"]
     file = paragraph_file()
     printed = answers(["ok"] * (5 + LONGEST_LIST) + ends, summary(1, file))
     return Work({}, [Run(("typeset", "out.dvi"), script(head + items + tail), stdout=(printed,), status=1, made={"out.dvi": file.data})])
@@ -271,12 +277,17 @@ def long_paragraph():
 
 # Splits of 65,536 items
 
+def split_and_measured(front, rest):
+    """The answers of a `vsplit` without badness, of a `measure` of its front and of one of its rest."""
+    return [f"split {front} badness 0 rest {rest}", f"measured vbox {front}", f"measured vbox {rest}"]
+
+
 def split_halfway():
     """32,768 rules 1sp high with glue of 1sp behind each, split to 32,767sp: the front of 16,384 rules is exactly as high, and the next one is awful. Of
     the rest the first glue is dropped, and splittopskip of 10pt less 1sp stands in front."""
     lines = ["vbox into 0", *["rule 1pt 1sp 0sp", "glue 1sp"] * 32768, "end", "vsplit 0 to 32767sp into 1", "measure 1", "measure 0"]
     front, rest = sizes(PT, 32767, 0), sizes(PT, 10 * PT - 1 + 32768, 0)
-    replies = ["ok"] * 65537 + [f"packed {sizes(PT, 65536, 0)} badness 0", f"split {front} badness 0 rest {rest}", f"measured vbox {front}", f"measured vbox {rest}"]
+    replies = ["ok"] * 65537 + [packed(PT, 65536, 0), *split_and_measured(front, rest)]
     return Run((), script(lines), stdout=(answers(replies, "pages 0 bytes 0"),))
 
 
@@ -285,7 +296,7 @@ def split_at_the_start():
     lines = ["vbox into 0", "penalty -10000", *["rule 1pt 1sp 0sp"] * 65535, "end", "vsplit 0 to 1pt into 1", "measure 1", "measure 0", "ship 0"]
     front, rest = sizes(0, PT, 0), sizes(PT, 10 * PT - 1 + 65535, 0)
     file = dvi_file([Page([down(10 * PT), put_rule(1, PT), *[down(1), put_rule(1, PT)] * 65534])], 10 * PT - 1 + 65535, PT)
-    replies = ["ok"] * 65537 + [f"packed {sizes(PT, 65535, 0)} badness 0", f"split {front} badness 0 rest {rest}", f"measured vbox {front}", f"measured vbox {rest}", "shipped 1"]
+    replies = ["ok"] * 65537 + [packed(PT, 65535, 0), *split_and_measured(front, rest), "shipped 1"]
     return Run(("typeset", "out.dvi"), script(lines), stdout=(answers(replies, summary(1, file)),), made={"out.dvi": file.data})
 
 
@@ -366,7 +377,7 @@ def all_slots():
     fonts = tuple(Font(slot, f"f{slot}".encode(), size) for slot, size in enumerate(sizes_at))
     body = [down(height), *[piece for slot in range(256) for piece in (select(slot), set_char(99))]]
     file = dvi_file([Page(body, new_fonts=fonts)], height, width)
-    replies = ["ok"] * 513 + ["ok", "added 1 missing 0"] * 256 + [f"packed {sizes(width, height, 0)} badness 0", "shipped 1"]
+    replies = ["ok"] * 513 + ["ok", "added 1 missing 0"] * 256 + [packed(width, height, 0), "shipped 1"]
     words = tuple(f"f{slot}=tiny.tfm" for slot in range(256))
     marks = [f"glyph {slot} 99 {sum(it // 2 for it in sizes_at[:slot])} {height}" for slot in range(256)]
     return Work({"tiny.tfm": TINY}, typeset_and_list(file, answers(replies, summary(1, file)), lines, marks, words))
@@ -380,21 +391,29 @@ def many_words():
     fonts = (Font(0, b"n0"), Font(1, b"n297"))
     file = dvi_file([Page([down(5 * PT), select(0), set_char(99), select(1), set_char(99)], new_fonts=fonts)], 5 * PT, 10 * PT)
     added = ["ok", "added 1 missing 0"]
-    replies = ["ok", "ok", "ok", *added, *added, f"packed {sizes(10 * PT, 5 * PT, 0)} badness 0", "shipped 1"]
+    replies = ["ok", "ok", "ok", *added, *added, packed(10 * PT, 5 * PT, 0), "shipped 1"]
     marks = [f"glyph 0 99 0 {5 * PT}", f"glyph 1 99 {5 * PT} {5 * PT}"]
     return Work({"tiny.tfm": TINY}, typeset_and_list(file, answers(replies, summary(1, file)), lines, marks, words))
 
 
+def text_of(count):
+    """A line of text of so many `c`."""
+    return f"text {'c' * count}"
+
+
 def long_texts():
     """A `text` that makes the list too long adds nothing, and one that fills it is shipped. At 100sp `c` is 50sp wide and high."""
-    lines = ["font 0 tiny at 100sp", "use 0", "hbox into 0", f"text {'c' * 65530}", "text ccccccc", "text cccccc", "text c", "text", "text zz", "char 99", "kern 1sp", "end"]
-    full, too_long = ["added 6 missing 0"], ["refused 10 ListTooLong"]
-    replies = ["ok"] * 3 + ["added 65530 missing 0", *too_long, *full, *too_long, "added 0 missing 0", "added 0 missing 2", *too_long * 2]
-    packed = f"packed {sizes(65536 * 50, 50, 0)} badness 0"
-    lines += ["hbox into 1", f"text {'c' * 65537}", f"text {'c' * 1000000}", f"text {'c' * 65536}", "text c", "end", "ship 1", "measure 0"]
-    replies += [packed, "ok", *too_long * 2, "added 65536 missing 0", *too_long, packed, "shipped 1", f"measured hbox {sizes(65536 * 50, 50, 0)}"]
+    too_long, box = "refused 10 ListTooLong", packed(65536 * 50, 50, 0)
+    rows = [
+        ("font 0 tiny at 100sp", "ok"), ("use 0", "ok"),
+        ("hbox into 0", "ok"), (text_of(65530), "added 65530 missing 0"), (text_of(7), too_long), (text_of(6), "added 6 missing 0"), (text_of(1), too_long),
+        ("text", "added 0 missing 0"), ("text zz", "added 0 missing 2"), ("char 99", too_long), ("kern 1sp", too_long), ("end", box),
+        ("hbox into 1", "ok"), (text_of(65537), too_long), (text_of(1000000), too_long), (text_of(65536), "added 65536 missing 0"), (text_of(1), too_long),
+        ("end", box), ("ship 1", "shipped 1"), ("measure 0", f"measured hbox {sizes(65536 * 50, 50, 0)}"),
+    ]
     page = Page([down(50), select(0), set_char(99) * 65536], new_fonts=(Font(0, b"tiny", 100),))
     file = dvi_file([page], 50, 65536 * 50)
+    lines, replies = zip(*rows)
     run = Run(("typeset", "out.dvi", "tiny=tiny.tfm"), script(lines), stdout=(answers(replies, summary(1, file)),), status=1, made={"out.dvi": file.data})
     return Work({"tiny.tfm": TINY}, [run])
 
@@ -426,7 +445,7 @@ def large_font():
     lines = ["font 0 large", "use 0", "hbox into 0", "text ab", "text ba", "end", "ship 0"]
     body = [select(0), set_char(97), right(kern), set_char(98), set_char(98), set_char(97)]
     file = dvi_file([Page(body, new_fonts=(Font(0, b"large"),))], 0, 20 * PT + kern)
-    replies = ["ok", "ok", "ok", "added 3 missing 0", "added 2 missing 0", f"packed {sizes(20 * PT + kern, 0, 0)} badness 0", "shipped 1"]
+    replies = ["ok", "ok", "ok", "added 3 missing 0", "added 2 missing 0", packed(20 * PT + kern, 0, 0), "shipped 1"]
     places = [(97, 0), (98, 5 * PT + kern), (98, 10 * PT + kern), (97, 15 * PT + kern)]
     marks = [f"glyph 0 {code} {h} 0" for code, h in places]
     return Work({"large.tfm": large_metric_file()}, typeset_and_list(file, answers(replies, summary(1, file)), lines, marks, ("large=large.tfm",)))
