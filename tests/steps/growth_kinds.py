@@ -18,8 +18,8 @@ MAY_TAKE_MEMORY = {
     "unhbox", "unhcopy", "unvbox", "unvcopy", "vsplit",
 }
 NOTHING, WHOLE, COMMAND, DEVICE, END, END_DEVICE, TEXTS = "nwcdeft"
-# Made up for is at most the room for the words (where there are any), the commands and their numbers.
-ORDER_IN_MEMORY = re.compile("n+w{0,2}n+[cd]*c[cd]*d[cd]*e+fn+")
+# Made up for is at most the room for the words (where there are any), the commands and their numbers. The device grows only where its room is used up.
+ORDER_IN_MEMORY = re.compile("n+w{0,2}n+[cd]*c[cd]*d[cd]*e+f?n+")
 ORDER_TO_A_FILE = re.compile("n+w?n+w{0,2}n+c+e+t+")
 ORDER_OF_A_READING = re.compile("n+w?n+")
 
