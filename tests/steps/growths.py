@@ -8,7 +8,7 @@ from collections import Counter
 
 from steps import growth_kinds
 from steps.growth_kinds import ALONE, NOTHING, WHOLE, Ended, Kind, Wrong, answered, kind_of, order_wrong
-from steps.growth_scripts import FILES, HALFWAY, PAGES, READINGS, read_script
+from steps.growth_scripts import FILES, HALFWAY, PAGES, READINGS, WITH_FONTS, read_script
 from steps.outcome import Skipped
 
 TITLE = "runs of the program in which each growth of memory is refused in turn"
@@ -142,9 +142,19 @@ def on_each(programs, call):
     return "; ".join(found) or None
 
 
+def of_script(root, name, to_file, program):
+    """The call of a case with a script."""
+    return script_wrong(program, read_script(name, root, to_file))
+
+
+def of_reading(reading, program):
+    """The call of a case of `list` or `paint`."""
+    return reading_wrong(program, *reading)
+
+
 def cases(programs, root):
-    """The scripts of tests/growths, and the readings of two files."""
-    for name in PAGES:
-        yield name, functools.partial(on_each, programs, lambda program, name=name: script_wrong(program, read_script(name, root)))
-    for name, reading in READINGS.items():
-        yield name, functools.partial(on_each, programs, lambda program, reading=reading: reading_wrong(program, *reading))
+    """The scripts of tests/growths: those without a font on a device in memory, and all to a file; and the readings of two files."""
+    calls = {name: functools.partial(of_script, root, name, False) for name in PAGES if name not in WITH_FONTS}
+    calls.update({f"typeset_{name}": functools.partial(of_script, root, name, True) for name in PAGES})
+    calls.update({name: functools.partial(of_reading, it) for name, it in READINGS.items()})
+    return [(name, functools.partial(on_each, programs, call)) for name, call in calls.items()]

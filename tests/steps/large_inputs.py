@@ -1,7 +1,9 @@
 """Makes inputs at size, and what the program must answer to them: by arithmetic from docs/COMMANDS.md and docs/FORMATS.md, never by the program.
 
 Each function returns a `Work`: files, and runs over them. The lengths 80,104 and 230,341 are asserted, since they were worked out by hand."""
-from steps.dvi_writer import Font, Page, definition, down, dvi_file, put_rule, right, select, set_char, set_rule
+import time
+
+from steps.dvi_writer import Font, Page, down, dvi_file, put_rule, right, select, set_char, set_rule
 from steps.long_runs import Run, Sparse, Work
 
 PT = 65536
@@ -353,6 +355,30 @@ def many_pages():
     ])
 
 
+# The limits of a job
+
+def most_pages():
+    """65,535 pages are shipped, and no more."""
+    page = ["hbox into 0", "end", "ship 0"]
+    box = sizes(0, 0, 0)
+    replies = [it for at in range(1, 65536) for it in ("ok", packed(0, 0, 0), f"shipped {at}")]
+    replies += ["ok", packed(0, 0, 0), "refused 15 TooManyPages", f"measured hbox {box}"]
+    file = dvi_file([Page([])] * 65535, 0, 0)
+    printed = answers(replies, summary(65535, file))
+    return Work({}, [Run(("typeset", "out.dvi"), script(page * 65536 + ["measure 0"]), stdout=(printed,), status=1, made={"out.dvi": file.data})])
+
+
+def most_nodes():
+    """256 boxes of 65,536 nodes are shipped, which are 16,777,216 nodes, and no more."""
+    page = ["hbox into 1", "unhcopy 0", "end", "ship 1"]
+    lines = ["hbox into 0", *["kern 0pt"] * 65535, "end", *page * 256, "hbox into 1", "end", "ship 1", "measure 1"]
+    box = packed(0, 0, 0)
+    replies = ["ok"] * 65536 + [box] + [it for at in range(1, 257) for it in ("ok", "added 65535", box, f"shipped {at}")]
+    replies += ["ok", box, "refused 16 TooMuchShipped", f"measured hbox {sizes(0, 0, 0)}"]
+    file = dvi_file([Page([])] * 256, 0, 0)
+    return Work({}, [Run(("typeset", "out.dvi"), script(lines), stdout=(answers(replies, summary(256, file)),), status=1, made={"out.dvi": file.data})])
+
+
 # Fonts
 
 def high_font_numbers():
@@ -473,10 +499,11 @@ def too_large_file():
 # Slow pipes
 
 def uneven(data):
-    """Pieces of 1 to 997 bytes."""
+    """Pieces of 1 to 997 bytes, with time between them."""
     at, size = 0, 1
     while at < len(data):
         yield data[at:at + size]
+        time.sleep(0.0005)
         at, size = at + size, size * 7 % 997 + 1
 
 

@@ -16,6 +16,8 @@ WORKS = {
     "splits_of_65536_items": large_inputs.long_splits,
     "a_bitmap_of_10000_by_10000": large_inputs.large_bitmap,
     "a_file_of_65536_pages": large_inputs.many_pages,
+    "a_job_of_65535_pages": large_inputs.most_pages,
+    "a_job_of_16777216_nodes": large_inputs.most_nodes,
     "font_numbers_256_and_70000": large_inputs.high_font_numbers,
     "256_fonts": large_inputs.all_slots,
     "300_words": large_inputs.many_words,
