@@ -2,6 +2,7 @@
 growth_kinds.py says what may come of it. It proves nothing, and shows it for these scripts alone."""
 import functools
 import os
+import shutil
 import subprocess
 import tempfile
 from collections import Counter
@@ -13,16 +14,25 @@ from steps.outcome import Skipped
 
 TITLE = "runs of the program in which each growth of memory is refused in turn"
 NEEDS_PROGRAM = True
-CLANG = "/opt/rattle/toolchain/bin/clang"
+WEIGHT = 1
 LIMIT = 30
 MADE = "out.dvi"
+
+
+@functools.lru_cache(None)
+def compiler():
+    """The C compiler of the kit, whose first page `rt doc` names, or None where there is none."""
+    if not shutil.which("rt"):
+        return None
+    page = subprocess.run(["rt", "doc"], capture_output=True, text=True, timeout=LIMIT).stdout.strip()
+    return shutil.which(f"{os.path.dirname(page)}/toolchain/bin/clang")
 
 
 def build(folder):
     """Builds the library that refuses a growth, and returns its path."""
     source = os.path.join(os.path.dirname(os.path.abspath(__file__)), "refuse_growth.c")
     path = f"{folder}/refuse_growth.so"
-    words = [CLANG, "-O1", "-shared", "-fPIC", "-nostdlib", "-fuse-ld=lld", "-o", path, source]
+    words = [compiler(), "-O1", "-shared", "-fPIC", "-nostdlib", "-fuse-ld=lld", "-o", path, source]
     subprocess.run(words, check=True, capture_output=True, timeout=LIMIT)
     return path
 
@@ -129,8 +139,8 @@ def reading_wrong(program, words, data, printed):
 
 def on_each(programs, call):
     """Does a call with each program, and says what is wrong, or returns None."""
-    if not os.path.exists(CLANG):
-        return Skipped(f"there is no {CLANG}, which builds the library")
+    if not compiler():
+        return Skipped("the kit's clang, which builds the library, is not there")
     found = []
     for program in programs:
         try:

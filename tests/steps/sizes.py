@@ -4,6 +4,7 @@ from steps.long_runs import done
 
 TITLE = "inputs at size: long scripts, pages, paragraphs, files and answers, and slow pipes"
 NEEDS_PROGRAM = True
+WEIGHT = 2
 
 WORKS = {
     "a_script_of_300_kilobytes": large_inputs.script_from_a_file,
