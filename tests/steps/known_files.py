@@ -62,7 +62,7 @@ def moves(text):
 
 
 BODIES = {
-    "registers_in_and_behind_a_group": ("5c5c(5c7c7c)5c7c", "94 05 63 93 63 8d 93 63 99 07 63 98 63 8e 93 63 8f 07 63"),
+    "registers_in_and_after_a_group": ("5c5c(5c7c7c)5c7c", "94 05 63 93 63 8d 93 63 99 07 63 98 63 8e 93 63 8f 07 63"),
     "a_register_that_is_set_again": ("5c7c9c5c7c9c", "94 05 63 99 07 63 94 09 63 8f 05 63 98 63 93 63"),
     "groups_that_hold_nothing": ("(())5c5c", "94 05 63 93 63"),
 }
@@ -76,7 +76,7 @@ def file_wrong(pages, height, width, parts, post, length):
     for at, text in parts.items():
         must_be = bytes.fromhex(text)
         if file.data[at:at + len(must_be)] != must_be:
-            return f"at {at} stands {file.data[at:at + len(must_be)].hex()} and not {must_be.hex()}"
+            return f"at {at} is {file.data[at:at + len(must_be)].hex()} and not {must_be.hex()}"
     return None
 
 

@@ -89,7 +89,7 @@ def typeset_and_list(file, runs_answers, lines, marks, fonts=()):
 # A script of 300 KB
 
 def long_script():
-    """A script of 307,200 bytes: 15,000 kerns of 1sp with a comment behind each tenth, and a rule. And what the program without words prints."""
+    """A script of 307,200 bytes: 15,000 kerns of 1sp, a comment after each tenth of them, and a rule. And what the program without words prints."""
     head, tail, comments = "hbox into 0\n", "rule 1pt 1pt 0pt\nend\nship 0\n", 1500
     room = 307200 - len(head) - len(tail) - 15000 * len("kern 1sp\n")
     each, more = divmod(room, comments)
@@ -213,7 +213,7 @@ def page_of_rules():
 
 
 def one_column(count, dpi, width, height):
-    """The bitmap of so many rules of 1pt by 1pt below each other at the left edge, the first with its upper edge at the top."""
+    """The bitmap of `count` rules of 1pt by 1pt below each other at the left edge, the first with its upper edge at the top."""
     black = {rounded(at * PT, dpi) - up for at in range(1, count + 1) for up in range(rounded_up(PT, dpi))}
     rows = {True: row_text(painted_row([range(rounded_up(PT, dpi))], width), width), False: row_text(painted_row([], width), width)}
     return [f"P1\n{width} {height}\n".encode(), *[rows[at in black] for at in range(height)]]
@@ -251,14 +251,14 @@ LAST_WORD = RULES_OF_A_WORD + (1,)
 
 
 def paragraph_lines():
-    """The widths of the rules of each line: 8,192 words 1pt wide with glue of 0pt plus 1pt between. 40 words fill a line of 40pt, and so no line holds
-    more, no fewer lines do, and each costs 100: with the 10 of linepenalty. Where several lists of 205 lines cost 20,500, later places win."""
+    """The widths of the rules of each line: 8,192 words 1pt wide with glue of 0pt plus 1pt between. 40 words fill a line of 40pt: no line has more,
+    so there are at least 205 lines, and each costs at least 100, by the 10 of linepenalty. Of the lists that cost 20,500 the one with later places wins."""
     words = [RULES_OF_A_WORD] * 8191 + [LAST_WORD]
     return [[width for word in words[at:at + 40] for width in word] for at in range(0, 8192, 40)]
 
 
 def paragraph_file():
-    """The file of this paragraph: baselines lie 12pt apart."""
+    """The file of this paragraph: baselines are 12pt apart."""
     body = [[down(PT + 12 * PT * at), *[set_rule(PT, width) for width in widths]] for at, widths in enumerate(paragraph_lines())]
     return dvi_file([Page(body)], (205 + 204 * 11) * PT, 40 * PT)
 
@@ -285,8 +285,8 @@ def split_and_measured(front, rest):
 
 
 def split_halfway():
-    """32,768 rules 1sp high with glue of 1sp behind each, split to 32,767sp: the front of 16,384 rules is exactly as high, and the next one is awful. Of
-    the rest the first glue is dropped, and splittopskip of 10pt less 1sp stands in front."""
+    """32,768 rules 1sp high with glue of 1sp after each, split to 32,767sp: the front of 16,384 rules is exactly as high, and the next one is awful. Of
+    the rest the first glue is dropped, and splittopskip of 10pt less 1sp comes first."""
     lines = ["vbox into 0", *["rule 1pt 1sp 0sp", "glue 1sp"] * 32768, "end", "vsplit 0 to 32767sp into 1", "measure 1", "measure 0"]
     front, rest = sizes(PT, 32767, 0), sizes(PT, 10 * PT - 1 + 32768, 0)
     replies = ["ok"] * 65537 + [packed(PT, 65536, 0), *split_and_measured(front, rest)]
@@ -294,7 +294,7 @@ def split_halfway():
 
 
 def split_at_the_start():
-    """A forced place in front of 65,535 rules: the front is empty, and the rest has 65,536 items with splittopskip in the place of the penalty."""
+    """A forced place before 65,535 rules: the front is empty, and the rest has 65,536 items: splittopskip replaces the penalty."""
     lines = ["vbox into 0", "penalty -10000", *["rule 1pt 1sp 0sp"] * 65535, "end", "vsplit 0 to 1pt into 1", "measure 1", "measure 0", "ship 0"]
     front, rest = sizes(0, PT, 0), sizes(PT, 10 * PT - 1 + 65535, 0)
     file = dvi_file([Page([down(10 * PT), put_rule(1, PT), *[down(1), put_rule(1, PT)] * 65534])], 10 * PT - 1 + 65535, PT)
@@ -423,7 +423,7 @@ def many_words():
 
 
 def text_of(count):
-    """A line of text of so many `c`."""
+    """A line of text of `count` times `c`."""
     return f"text {'c' * count}"
 
 
@@ -466,7 +466,7 @@ def large_metric_file():
 
 
 def large_font():
-    """A font file of 130 KB: a kern of number 15,999 stands between two characters that are 5pt wide."""
+    """A font file of 130 KB: kern 15,999 is between two characters that are 5pt wide."""
     kern = 10 * (KERNS - 1)
     lines = ["font 0 large", "use 0", "hbox into 0", "text ab", "text ba", "end", "ship 0"]
     body = [select(0), set_char(97), right(kern), set_char(98), set_char(98), set_char(97)]
