@@ -24,4 +24,8 @@ What the driver asks of a part:
   work has many cases of seconds rather than one case of minutes.
 - Only the standard library, and what a Debian system without TeX has.
 
-The name of a part is the name of its module. A module with `parts(root)` in place of `cases` gives several parts: `Part` objects (part.py)."""
+The name of a part is the name of its module. Two more constants may stand beside its TITLE: PROGRAM is "script_rows" where `programs` are
+builds of that program (--rows), and a part with a larger WEIGHT (0 where absent) begins earlier. A module with `parts(root)` in place of
+`cases` gives several parts: `Part` objects (part.py).
+
+Without --program, a part that does not need one has one run of `rt try` that gives the results of all its cases; its first case waits for it."""

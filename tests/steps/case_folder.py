@@ -4,6 +4,8 @@ import shutil
 import subprocess
 import tempfile
 
+from steps.texts import first_difference
+
 NAMES = {"words", "stdin", "stdin-from", "closed-stdin", "closed-stdout", "full-stdout", "files", "made", "stdout", "stderr", "status"}
 LIMIT = 60
 
@@ -43,14 +45,6 @@ def unknown_files(case):
     """What is wrong where a case has a file that means nothing, else None."""
     others = sorted({*os.listdir(case)} - NAMES)
     return f"a case has no file {others[0]}" if others else None
-
-
-def first_difference(what, found, wanted):
-    """Says from where on two texts differ, or returns None."""
-    if found == wanted:
-        return None
-    at = len(os.path.commonprefix([found, wanted]))
-    return f"{what} from byte {at} on is {found[at:at + 100]!r} and not {wanted[at:at + 100]!r}"
 
 
 def command(case, program):

@@ -6,7 +6,8 @@ import re
 
 from steps.outcome import Skipped
 from steps.part import Part
-from steps.trying import last_lines, rt_try
+from steps.texts import last_lines
+from steps.trying import rt_try
 
 TITLE = "the #[test] functions of a crate, by rt try --test"
 

@@ -37,7 +37,8 @@ class Result:
 
 def words_of(given):
     """Reads the command line."""
-    parser = argparse.ArgumentParser(prog="tests/run", description=ABOUT, formatter_class=argparse.RawDescriptionHelpFormatter)
+    usage = "tests/run [NAME ..] [--program PATH ..] [--rows PATH ..], tests/run --list"
+    parser = argparse.ArgumentParser(usage=usage, description=ABOUT, formatter_class=argparse.RawDescriptionHelpFormatter)
     parser.add_argument("names", metavar="NAME", nargs="*", help="run these parts alone (--list names them)")
     parser.add_argument("--program", metavar="PATH", nargs="+", default=[], help="run over these builds of boxglue, in place of building")
     parser.add_argument("--rows", metavar="PATH", nargs="+", default=[], help="run script_rows over these builds of it, in place of building")
@@ -64,6 +65,8 @@ def run_cases(part, pairs, is_built, progress):
     """Runs the cases of a part in turn. Where nothing is built yet one run of `rt try` gives the results of all."""
     result = Result(0, [], [])
     for done, (name, call) in enumerate(pairs):
+        if progress.ended.is_set():
+            break
         progress.step(part.name, f"{done} of {len(pairs)}: {name}" if is_built else f"rt try, for {len(pairs)} cases")
         found = attempt(call)
         if found is None:
@@ -121,6 +124,7 @@ def run_all(parts, built, root):
         try:
             return [it.result() for it in futures]
         except BaseException:
+            progress.ended.set()
             pool.shutdown(wait=False, cancel_futures=True)
             trying.end_all()
             raise
@@ -141,7 +145,7 @@ def main(root, given):
     parser, words = words_of(given)
     parts = chosen(parser, words, root)
     if words.list:
-        print("".join(f"{it.name:16}{it.title}\n" for it in parts), end="")
+        print("".join(f"{it.name:16}{it.title}\n" for it in sorted(parts, key=lambda it: it.name)), end="")
         return 0
     built = {"boxglue": [*map(os.path.abspath, words.program)], "script_rows": [*map(os.path.abspath, words.rows)]}
     absent = [it for paths in built.values() for it in paths if not os.access(it, os.X_OK) or os.path.isdir(it)]

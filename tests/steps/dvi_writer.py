@@ -49,7 +49,7 @@ class Page:
 
 @dataclass(frozen=True)
 class DviFile:
-    """The bytes of a file, the place behind the eop of each page, and the place of post."""
+    """The bytes of a file, the place after the eop of each page, and the place of post."""
     data: bytes
     page_ends: tuple
     post: int
@@ -82,12 +82,12 @@ def unsigned(value):
 
 
 def set_rule(height, width):
-    """set_rule: a rule, behind which h has grown by its width."""
+    """set_rule: a rule; then h grows by its width."""
     return b"\x84" + number(height, 4) + number(width, 4)
 
 
 def put_rule(height, width):
-    """put_rule: a rule, behind which h is as before."""
+    """put_rule: a rule; h does not change."""
     return b"\x89" + number(height, 4) + number(width, 4)
 
 
@@ -118,7 +118,7 @@ def pruned(body):
 
 
 def depth(body):
-    """How many pushes are open at once, at most."""
+    """The greatest number of pushes that are open at once."""
     return max((1 + depth(it) for it in body if isinstance(it, list)), default=0)
 
 
@@ -130,7 +130,7 @@ class Registers:
         self.last = last or {"right": 1, "down": 1}
 
     def copy(self):
-        """The same in an object of its own: what a group does to it is not seen behind the group."""
+        """The same as another object: what a group changes in it is lost after the group."""
         return Registers({name: list(it) for name, it in self.known.items()}, dict(self.last))
 
     def spell(self, move, comes_again):

@@ -2,7 +2,7 @@
 
   n   `refused 1 OutOfMemory` alone, and no file: for the words, what is read, the commands, the slots, the registers or the room for the replies; of a
       run on a device in memory, whose bytes are printed, also for the texts at the end
-  w   all as ever: room that is asked for beforehand is made up for by a later growth
+  w   all as always: room that is asked for beforehand is made up for by a later growth
   c   a command answers OutOfMemory; all other answers, the status and the bytes are those of the script without this command
   d   the growth was one of the device in memory, so it failed in a `ship`: Device, JobOver from then on, and only the pages before it are out
   e   `end: refused 1 OutOfMemory`: all pages are out, and no end
@@ -18,8 +18,8 @@ MAY_TAKE_MEMORY = {
     "unhbox", "unhcopy", "unvbox", "unvcopy", "vsplit",
 }
 NOTHING, WHOLE, COMMAND, DEVICE, END, END_DEVICE, TEXTS = "nwcdeft"
-# Made up for is at most the room for the words (where there are any), the commands and their numbers.
-ORDER_IN_MEMORY = re.compile("n+w{0,2}n+[cd]*c[cd]*d[cd]*e+fn+")
+# Made up for is at most the room for the words (where there are any), the commands and their numbers. The device grows only where its room is used up.
+ORDER_IN_MEMORY = re.compile("n+w{0,2}n+[cd]*c[cd]*d[cd]*e+f?n+")
 ORDER_TO_A_FILE = re.compile("n+w?n+w{0,2}n+c+e+t+")
 ORDER_OF_A_READING = re.compile("n+w?n+")
 
@@ -53,7 +53,7 @@ class Kind:
 
 
 def answered(ended):
-    """The answers of a run that was answered whole. The lines of digits behind them are the bytes of a device in memory."""
+    """The answers of a run that was answered whole. The lines of digits after them are the bytes of a device in memory."""
     head, found, digits = ended.output.partition(b"end: ")
     if not found:
         raise Wrong(f"there is no end: {ended.output[-200:]!r}")
@@ -91,7 +91,7 @@ def front(script, pages):
 
 
 def of_device(script, line, run, whole):
-    """The device failed in a `ship`: all before it is as ever, and all behind it says that the job is over."""
+    """The device failed in a `ship`: all before it is as always, and all after it is JobOver."""
     shipped = re.fullmatch(r"shipped (\d+)", whole.replies[line])
     if not shipped:
         raise Wrong(f"the device failed in line {line}, which ships nothing")
@@ -102,7 +102,7 @@ def of_device(script, line, run, whole):
 
 
 def of_end(script, run, whole):
-    """The finish was refused: the commands are answered as ever, and all pages are out."""
+    """The finish was refused: the commands are answered as always, and all pages are out."""
     letter = {WANTS_MEMORY: END, FAILED: END_DEVICE}.get(run.end)
     if not letter or run != Answered(whole.replies, run.end, front(script, len(script.page_ends))):
         raise Wrong(f"the answers are none of those after a refused growth, with the end {run.end}")
@@ -110,7 +110,7 @@ def of_end(script, run, whole):
 
 
 def of_no_answers(ended, whole):
-    """Memory was refused before the script was run, or for the texts behind it: then its file is whole."""
+    """Memory was refused before the script was run, or for the texts after it: then its file is whole."""
     if ended.made not in (b"", whole.data):
         raise Wrong(f"nothing was answered, and the file has {len(ended.made)} bytes")
     return Kind(TEXTS if ended.made else NOTHING)

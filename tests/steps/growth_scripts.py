@@ -47,7 +47,7 @@ PAGES = {
 }
 FONTS = ("tiny=tiny.tfm",)
 WITH_FONTS = ("lig_and_kern_words", "fonts_in_nested_boxes")
-# The files that are listed and painted: those of the shorter scripts of the same names, without the pages behind the first.
+# The files that are listed and painted: those of the shorter scripts of the same names, without the pages after the first.
 ONE_RULE_FILE = dvi_file([Page(ONE_RULE)], PT, PT).data
 NESTED_BOXES_FILE = dvi_file([Page(NESTED_BOXES, new_fonts=(AT_10PT, AT_20PT))], 15 * PT, 25 * PT).data
 PAINT = ("paint", "--page", "1", "--dpi", "72", "--width", "3", "--height", "3", "f.dvi")
@@ -68,7 +68,7 @@ HALFWAY = {"fonts_in_nested_boxes": {14: "copy 0", 15: "unhcopy 0"}}
 
 @dataclass(frozen=True)
 class Script:
-    """A script: its words, its lines, its answers, its status, and the file that it writes, with the place behind each page."""
+    """A script: its words, its lines, its answers, its status, and the file that it writes, with the place after each page."""
     name: str
     words: tuple
     lines: tuple
@@ -78,15 +78,15 @@ class Script:
     page_ends: tuple
 
 
-def read_script(name, root):
-    """A script of tests/growths."""
+def read_script(name, root, to_file):
+    """A script of tests/growths, which is run on a device in memory or typeset to a file."""
     with open(f"{root}/tests/growths/{name}.box", encoding="ascii") as it:
         lines = tuple(it.read().splitlines())
     with open(f"{root}/tests/growths/{name}.answers", "rb") as it:
         answers = it.read()
     pages, height, width = PAGES[name]
     file = dvi_file(pages, int(height * PT), width * PT)
-    words = ("typeset", "out.dvi", *FONTS) if name in WITH_FONTS else ()
+    words = ("typeset", "out.dvi", *(FONTS if name in WITH_FONTS else ())) if to_file else ()
     return Script(name, words, lines, answers, int(b": refused " in answers), file.data, file.page_ends)
 
 

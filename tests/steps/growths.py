@@ -2,27 +2,37 @@
 growth_kinds.py says what may come of it. It proves nothing, and shows it for these scripts alone."""
 import functools
 import os
+import shutil
 import subprocess
 import tempfile
 from collections import Counter
 
 from steps import growth_kinds
 from steps.growth_kinds import ALONE, NOTHING, WHOLE, Ended, Kind, Wrong, answered, kind_of, order_wrong
-from steps.growth_scripts import FILES, HALFWAY, PAGES, READINGS, read_script
+from steps.growth_scripts import FILES, HALFWAY, PAGES, READINGS, WITH_FONTS, read_script
 from steps.outcome import Skipped
 
 TITLE = "runs of the program in which each growth of memory is refused in turn"
 NEEDS_PROGRAM = True
-CLANG = "/opt/rattle/toolchain/bin/clang"
+WEIGHT = 1
 LIMIT = 30
 MADE = "out.dvi"
+
+
+@functools.lru_cache(None)
+def compiler():
+    """The C compiler of the kit, whose first page `rt doc` names, or None where there is none."""
+    if not shutil.which("rt"):
+        return None
+    page = subprocess.run(["rt", "doc"], capture_output=True, text=True, timeout=LIMIT).stdout.strip()
+    return shutil.which(f"{os.path.dirname(page)}/toolchain/bin/clang")
 
 
 def build(folder):
     """Builds the library that refuses a growth, and returns its path."""
     source = os.path.join(os.path.dirname(os.path.abspath(__file__)), "refuse_growth.c")
     path = f"{folder}/refuse_growth.so"
-    words = [CLANG, "-O1", "-shared", "-fPIC", "-nostdlib", "-fuse-ld=lld", "-o", path, source]
+    words = [compiler(), "-O1", "-shared", "-fPIC", "-nostdlib", "-fuse-ld=lld", "-o", path, source]
     subprocess.run(words, check=True, capture_output=True, timeout=LIMIT)
     return path
 
@@ -129,8 +139,8 @@ def reading_wrong(program, words, data, printed):
 
 def on_each(programs, call):
     """Does a call with each program, and says what is wrong, or returns None."""
-    if not os.path.exists(CLANG):
-        return Skipped(f"there is no {CLANG}, which builds the library")
+    if not compiler():
+        return Skipped("the kit's clang, which builds the library, is not there")
     found = []
     for program in programs:
         try:
@@ -142,9 +152,19 @@ def on_each(programs, call):
     return "; ".join(found) or None
 
 
+def of_script(root, name, to_file, program):
+    """The call of a case with a script."""
+    return script_wrong(program, read_script(name, root, to_file))
+
+
+def of_reading(reading, program):
+    """The call of a case of `list` or `paint`."""
+    return reading_wrong(program, *reading)
+
+
 def cases(programs, root):
-    """The scripts of tests/growths, and the readings of two files."""
-    for name in PAGES:
-        yield name, functools.partial(on_each, programs, lambda program, name=name: script_wrong(program, read_script(name, root)))
-    for name, reading in READINGS.items():
-        yield name, functools.partial(on_each, programs, lambda program, reading=reading: reading_wrong(program, *reading))
+    """The scripts of tests/growths: those without a font on a device in memory, and all to a file; and the readings of two files."""
+    calls = {name: functools.partial(of_script, root, name, False) for name in PAGES if name not in WITH_FONTS}
+    calls.update({f"typeset_{name}": functools.partial(of_script, root, name, True) for name in PAGES})
+    calls.update({name: functools.partial(of_reading, it) for name, it in READINGS.items()})
+    return [(name, functools.partial(on_each, programs, call)) for name, call in calls.items()]

@@ -34,7 +34,9 @@ FILES = {
         100: "9f0a0000 ab 63 8d ac 62 8e 910a0000 63 8c", 141: "0001",
     }, 116, 196),
     "a_box_that_shows_nothing": ([Page([[], right(PT), down(PT), RULE])], PT, 2 * PT, {60: "91010000 9f010000 840001000000010000 8c", 103: "0000"}, 78, 120),
-    "an_offset": ([Page([right(2 * PT), down(4 * PT), RULE])], 4 * PT, 3 * PT, {60: "91020000 9f040000 840001000000010000 8c", 95: "00040000 00030000"}, 78, 120),
+    "an_offset": ([Page([right(2 * PT), down(4 * PT), RULE])], 4 * PT, 3 * PT, {
+        60: "91020000 9f040000 840001000000010000 8c", 95: "00040000 00030000",
+    }, 78, 120),
     "shifted_boxes": ([Page([[down(3 * PT), RULE], [], right(4 * PT), down(PT), RULE])], 3 * PT, 5 * PT, {
         60: "8d 9f030000 840001000000010000 8e 91040000 9f010000 840001000000010000 8c",
     }, 93, 132),
@@ -60,7 +62,7 @@ def moves(text):
 
 
 BODIES = {
-    "registers_in_and_behind_a_group": ("5c5c(5c7c7c)5c7c", "94 05 63 93 63 8d 93 63 99 07 63 98 63 8e 93 63 8f 07 63"),
+    "registers_in_and_after_a_group": ("5c5c(5c7c7c)5c7c", "94 05 63 93 63 8d 93 63 99 07 63 98 63 8e 93 63 8f 07 63"),
     "a_register_that_is_set_again": ("5c7c9c5c7c9c", "94 05 63 99 07 63 94 09 63 8f 05 63 98 63 93 63"),
     "groups_that_hold_nothing": ("(())5c5c", "94 05 63 93 63"),
 }
@@ -74,7 +76,7 @@ def file_wrong(pages, height, width, parts, post, length):
     for at, text in parts.items():
         must_be = bytes.fromhex(text)
         if file.data[at:at + len(must_be)] != must_be:
-            return f"at {at} stands {file.data[at:at + len(must_be)].hex()} and not {must_be.hex()}"
+            return f"at {at} is {file.data[at:at + len(must_be)].hex()} and not {must_be.hex()}"
     return None
 
 

@@ -1,7 +1,9 @@
 """Makes inputs at size, and what the program must answer to them: by arithmetic from docs/COMMANDS.md and docs/FORMATS.md, never by the program.
 
 Each function returns a `Work`: files, and runs over them. The lengths 80,104 and 230,341 are asserted, since they were worked out by hand."""
-from steps.dvi_writer import Font, Page, definition, down, dvi_file, put_rule, right, select, set_char, set_rule
+import time
+
+from steps.dvi_writer import Font, Page, down, dvi_file, put_rule, right, select, set_char, set_rule
 from steps.long_runs import Run, Sparse, Work
 
 PT = 65536
@@ -35,6 +37,11 @@ def points(size):
 def sizes(width, height, depth):
     """Three dimensions with a space between them."""
     return f"{points(width)} {points(height)} {points(depth)}"
+
+
+def packed(width, height, depth):
+    """The answer to the `end` of a box of badness 0."""
+    return f"packed {sizes(width, height, depth)} badness 0"
 
 
 def script(lines):
@@ -82,7 +89,7 @@ def typeset_and_list(file, runs_answers, lines, marks, fonts=()):
 # A script of 300 KB
 
 def long_script():
-    """A script of 307,200 bytes: 15,000 kerns of 1sp with a comment behind each tenth, and a rule. And what the program without words prints."""
+    """A script of 307,200 bytes: 15,000 kerns of 1sp, a comment after each tenth of them, and a rule. And what the program without words prints."""
     head, tail, comments = "hbox into 0\n", "rule 1pt 1pt 0pt\nend\nship 0\n", 1500
     room = 307200 - len(head) - len(tail) - 15000 * len("kern 1sp\n")
     each, more = divmod(room, comments)
@@ -92,7 +99,7 @@ def long_script():
     file = dvi_file([Page([right(15000), down(PT), set_rule(PT, PT)])], PT, PT + 15000)
     kerns = [f"{2 + 11 * block + at}: ok\n" for block in range(comments) for at in range(10)]
     last = 2 + 11 * comments
-    ends = [f"{last}: ok\n", f"{last + 1}: packed {sizes(PT + 15000, PT, 0)} badness 0\n", f"{last + 2}: shipped 1\n", f"end: {summary(1, file)}\n"]
+    ends = [f"{last}: ok\n", f"{last + 1}: {packed(PT + 15000, PT, 0)}\n", f"{last + 2}: shipped 1\n", f"end: {summary(1, file)}\n"]
     return text, "".join(["1: ok\n", *kerns, *ends]).encode() + hexadecimal(file.data)
 
 
@@ -126,7 +133,7 @@ def rules_file():
 def rules_script():
     """The script of this page, and its answers."""
     lines = ["vbox into 0", *["rule 1pt 1pt 0pt"] * 8000, "end", "ship 0"]
-    replies = ["ok"] * 8001 + [f"packed {sizes(PT, 8000 * PT, 0)} badness 0", "shipped 1"]
+    replies = ["ok"] * 8001 + [packed(PT, 8000 * PT, 0), "shipped 1"]
     return script(lines), answers(replies, summary(1, rules_file()))
 
 
@@ -206,7 +213,7 @@ def page_of_rules():
 
 
 def one_column(count, dpi, width, height):
-    """The bitmap of so many rules of 1pt by 1pt below each other at the left edge, the first with its upper edge at the top."""
+    """The bitmap of `count` rules of 1pt by 1pt below each other at the left edge, the first with its upper edge at the top."""
     black = {rounded(at * PT, dpi) - up for at in range(1, count + 1) for up in range(rounded_up(PT, dpi))}
     rows = {True: row_text(painted_row([range(rounded_up(PT, dpi))], width), width), False: row_text(painted_row([], width), width)}
     return [f"P1\n{width} {height}\n".encode(), *[rows[at in black] for at in range(height)]]
@@ -232,7 +239,7 @@ def page_of_instructions():
     lines = ["vbox into 1", *["rule 1sp 1sp 0sp"] * count, "end", "hbox into 0", "copy 1", "box 1", "end", "ship 0"]
     column = [down(1), put_rule(1, 1)] * count
     file = dvi_file([Page([column, [right(1), *column]])], count, 2)
-    replies = ["ok"] * (count + 1) + [f"packed {sizes(1, count, 0)} badness 0", "ok", "added 1", "added 1", f"packed {sizes(2, count, 0)} badness 0", "shipped 1"]
+    replies = ["ok"] * (count + 1) + [packed(1, count, 0), "ok", "added 1", "added 1", packed(2, count, 0), "shipped 1"]
     marks = [rule_mark(h, v, 1, 1) for h in (0, 1) for v in range(1, count + 1)]
     return Work({}, typeset_and_list(file, answers(replies, summary(1, file)), lines, marks))
 
@@ -244,14 +251,14 @@ LAST_WORD = RULES_OF_A_WORD + (1,)
 
 
 def paragraph_lines():
-    """The widths of the rules of each line: 8,192 words 1pt wide with glue of 0pt plus 1pt between. 40 words fill a line of 40pt, and so no line holds
-    more, no fewer lines do, and each costs 100: with the 10 of linepenalty. Where several lists of 205 lines cost 20,500, later places win."""
+    """The widths of the rules of each line: 8,192 words 1pt wide with glue of 0pt plus 1pt between. 40 words fill a line of 40pt: no line has more,
+    so there are at least 205 lines, and each costs at least 100, by the 10 of linepenalty. Of the lists that cost 20,500 the one with later places wins."""
     words = [RULES_OF_A_WORD] * 8191 + [LAST_WORD]
     return [[width for word in words[at:at + 40] for width in word] for at in range(0, 8192, 40)]
 
 
 def paragraph_file():
-    """The file of this paragraph: baselines lie 12pt apart."""
+    """The file of this paragraph: baselines are 12pt apart."""
     body = [[down(PT + 12 * PT * at), *[set_rule(PT, width) for width in widths]] for at, widths in enumerate(paragraph_lines())]
     return dvi_file([Page(body)], (205 + 204 * 11) * PT, 40 * PT)
 
@@ -263,7 +270,8 @@ def long_paragraph():
     assert len(items) == LONGEST_LIST
     head = ["set hsize 40pt", "set pretolerance -1", "set tolerance 10000", "vbox into 0", "par"]
     tail = ["rule 1sp 1sp 0sp", "end", "end", "ship 0"]
-    ends = ["refused 10 ListTooLong", "paragraph lines 205 pass 2 overhang 0 demerits 20500", f"packed {sizes(40 * PT, (205 + 204 * 11) * PT, 0)} badness 0", "shipped 1"]
+    lines_answer = "paragraph lines 205 pass 2 overhang 0 demerits 20500"
+    ends = ["refused 10 ListTooLong", lines_answer, packed(40 * PT, (205 + 204 * 11) * PT, 0), "shipped 1"]
     file = paragraph_file()
     printed = answers(["ok"] * (5 + LONGEST_LIST) + ends, summary(1, file))
     return Work({}, [Run(("typeset", "out.dvi"), script(head + items + tail), stdout=(printed,), status=1, made={"out.dvi": file.data})])
@@ -271,21 +279,26 @@ def long_paragraph():
 
 # Splits of 65,536 items
 
+def split_and_measured(front, rest):
+    """The answers of a `vsplit` without badness, of a `measure` of its front and of one of its rest."""
+    return [f"split {front} badness 0 rest {rest}", f"measured vbox {front}", f"measured vbox {rest}"]
+
+
 def split_halfway():
-    """32,768 rules 1sp high with glue of 1sp behind each, split to 32,767sp: the front of 16,384 rules is exactly as high, and the next one is awful. Of
-    the rest the first glue is dropped, and splittopskip of 10pt less 1sp stands in front."""
+    """32,768 rules 1sp high with glue of 1sp after each, split to 32,767sp: the front of 16,384 rules is exactly as high, and the next one is awful. Of
+    the rest the first glue is dropped, and splittopskip of 10pt less 1sp comes first."""
     lines = ["vbox into 0", *["rule 1pt 1sp 0sp", "glue 1sp"] * 32768, "end", "vsplit 0 to 32767sp into 1", "measure 1", "measure 0"]
     front, rest = sizes(PT, 32767, 0), sizes(PT, 10 * PT - 1 + 32768, 0)
-    replies = ["ok"] * 65537 + [f"packed {sizes(PT, 65536, 0)} badness 0", f"split {front} badness 0 rest {rest}", f"measured vbox {front}", f"measured vbox {rest}"]
+    replies = ["ok"] * 65537 + [packed(PT, 65536, 0), *split_and_measured(front, rest)]
     return Run((), script(lines), stdout=(answers(replies, "pages 0 bytes 0"),))
 
 
 def split_at_the_start():
-    """A forced place in front of 65,535 rules: the front is empty, and the rest has 65,536 items with splittopskip in the place of the penalty."""
+    """A forced place before 65,535 rules: the front is empty, and the rest has 65,536 items: splittopskip replaces the penalty."""
     lines = ["vbox into 0", "penalty -10000", *["rule 1pt 1sp 0sp"] * 65535, "end", "vsplit 0 to 1pt into 1", "measure 1", "measure 0", "ship 0"]
     front, rest = sizes(0, PT, 0), sizes(PT, 10 * PT - 1 + 65535, 0)
     file = dvi_file([Page([down(10 * PT), put_rule(1, PT), *[down(1), put_rule(1, PT)] * 65534])], 10 * PT - 1 + 65535, PT)
-    replies = ["ok"] * 65537 + [f"packed {sizes(PT, 65535, 0)} badness 0", f"split {front} badness 0 rest {rest}", f"measured vbox {front}", f"measured vbox {rest}", "shipped 1"]
+    replies = ["ok"] * 65537 + [packed(PT, 65535, 0), *split_and_measured(front, rest), "shipped 1"]
     return Run(("typeset", "out.dvi"), script(lines), stdout=(answers(replies, summary(1, file)),), made={"out.dvi": file.data})
 
 
@@ -342,6 +355,30 @@ def many_pages():
     ])
 
 
+# The limits of a job
+
+def most_pages():
+    """65,535 pages are shipped, and no more."""
+    page = ["hbox into 0", "end", "ship 0"]
+    box = sizes(0, 0, 0)
+    replies = [it for at in range(1, 65536) for it in ("ok", packed(0, 0, 0), f"shipped {at}")]
+    replies += ["ok", packed(0, 0, 0), "refused 15 TooManyPages", f"measured hbox {box}"]
+    file = dvi_file([Page([])] * 65535, 0, 0)
+    printed = answers(replies, summary(65535, file))
+    return Work({}, [Run(("typeset", "out.dvi"), script(page * 65536 + ["measure 0"]), stdout=(printed,), status=1, made={"out.dvi": file.data})])
+
+
+def most_nodes():
+    """256 boxes of 65,536 nodes are shipped, which are 16,777,216 nodes, and no more."""
+    page = ["hbox into 1", "unhcopy 0", "end", "ship 1"]
+    lines = ["hbox into 0", *["kern 0pt"] * 65535, "end", *page * 256, "hbox into 1", "end", "ship 1", "measure 1"]
+    box = packed(0, 0, 0)
+    replies = ["ok"] * 65536 + [box] + [it for at in range(1, 257) for it in ("ok", "added 65535", box, f"shipped {at}")]
+    replies += ["ok", box, "refused 16 TooMuchShipped", f"measured hbox {sizes(0, 0, 0)}"]
+    file = dvi_file([Page([])] * 256, 0, 0)
+    return Work({}, [Run(("typeset", "out.dvi"), script(lines), stdout=(answers(replies, summary(256, file)),), status=1, made={"out.dvi": file.data})])
+
+
 # Fonts
 
 def high_font_numbers():
@@ -366,7 +403,7 @@ def all_slots():
     fonts = tuple(Font(slot, f"f{slot}".encode(), size) for slot, size in enumerate(sizes_at))
     body = [down(height), *[piece for slot in range(256) for piece in (select(slot), set_char(99))]]
     file = dvi_file([Page(body, new_fonts=fonts)], height, width)
-    replies = ["ok"] * 513 + ["ok", "added 1 missing 0"] * 256 + [f"packed {sizes(width, height, 0)} badness 0", "shipped 1"]
+    replies = ["ok"] * 513 + ["ok", "added 1 missing 0"] * 256 + [packed(width, height, 0), "shipped 1"]
     words = tuple(f"f{slot}=tiny.tfm" for slot in range(256))
     marks = [f"glyph {slot} 99 {sum(it // 2 for it in sizes_at[:slot])} {height}" for slot in range(256)]
     return Work({"tiny.tfm": TINY}, typeset_and_list(file, answers(replies, summary(1, file)), lines, marks, words))
@@ -380,21 +417,29 @@ def many_words():
     fonts = (Font(0, b"n0"), Font(1, b"n297"))
     file = dvi_file([Page([down(5 * PT), select(0), set_char(99), select(1), set_char(99)], new_fonts=fonts)], 5 * PT, 10 * PT)
     added = ["ok", "added 1 missing 0"]
-    replies = ["ok", "ok", "ok", *added, *added, f"packed {sizes(10 * PT, 5 * PT, 0)} badness 0", "shipped 1"]
+    replies = ["ok", "ok", "ok", *added, *added, packed(10 * PT, 5 * PT, 0), "shipped 1"]
     marks = [f"glyph 0 99 0 {5 * PT}", f"glyph 1 99 {5 * PT} {5 * PT}"]
     return Work({"tiny.tfm": TINY}, typeset_and_list(file, answers(replies, summary(1, file)), lines, marks, words))
 
 
+def text_of(count):
+    """A line of text of `count` times `c`."""
+    return f"text {'c' * count}"
+
+
 def long_texts():
     """A `text` that makes the list too long adds nothing, and one that fills it is shipped. At 100sp `c` is 50sp wide and high."""
-    lines = ["font 0 tiny at 100sp", "use 0", "hbox into 0", f"text {'c' * 65530}", "text ccccccc", "text cccccc", "text c", "text", "text zz", "char 99", "kern 1sp", "end"]
-    full, too_long = ["added 6 missing 0"], ["refused 10 ListTooLong"]
-    replies = ["ok"] * 3 + ["added 65530 missing 0", *too_long, *full, *too_long, "added 0 missing 0", "added 0 missing 2", *too_long * 2]
-    packed = f"packed {sizes(65536 * 50, 50, 0)} badness 0"
-    lines += ["hbox into 1", f"text {'c' * 65537}", f"text {'c' * 1000000}", f"text {'c' * 65536}", "text c", "end", "ship 1", "measure 0"]
-    replies += [packed, "ok", *too_long * 2, "added 65536 missing 0", *too_long, packed, "shipped 1", f"measured hbox {sizes(65536 * 50, 50, 0)}"]
+    too_long, box = "refused 10 ListTooLong", packed(65536 * 50, 50, 0)
+    rows = [
+        ("font 0 tiny at 100sp", "ok"), ("use 0", "ok"),
+        ("hbox into 0", "ok"), (text_of(65530), "added 65530 missing 0"), (text_of(7), too_long), (text_of(6), "added 6 missing 0"), (text_of(1), too_long),
+        ("text", "added 0 missing 0"), ("text zz", "added 0 missing 2"), ("char 99", too_long), ("kern 1sp", too_long), ("end", box),
+        ("hbox into 1", "ok"), (text_of(65537), too_long), (text_of(1000000), too_long), (text_of(65536), "added 65536 missing 0"), (text_of(1), too_long),
+        ("end", box), ("ship 1", "shipped 1"), ("measure 0", f"measured hbox {sizes(65536 * 50, 50, 0)}"),
+    ]
     page = Page([down(50), select(0), set_char(99) * 65536], new_fonts=(Font(0, b"tiny", 100),))
     file = dvi_file([page], 50, 65536 * 50)
+    lines, replies = zip(*rows)
     run = Run(("typeset", "out.dvi", "tiny=tiny.tfm"), script(lines), stdout=(answers(replies, summary(1, file)),), status=1, made={"out.dvi": file.data})
     return Work({"tiny.tfm": TINY}, [run])
 
@@ -421,12 +466,12 @@ def large_metric_file():
 
 
 def large_font():
-    """A font file of 130 KB: a kern of number 15,999 stands between two characters that are 5pt wide."""
+    """A font file of 130 KB: kern 15,999 is between two characters that are 5pt wide."""
     kern = 10 * (KERNS - 1)
     lines = ["font 0 large", "use 0", "hbox into 0", "text ab", "text ba", "end", "ship 0"]
     body = [select(0), set_char(97), right(kern), set_char(98), set_char(98), set_char(97)]
     file = dvi_file([Page(body, new_fonts=(Font(0, b"large"),))], 0, 20 * PT + kern)
-    replies = ["ok", "ok", "ok", "added 3 missing 0", "added 2 missing 0", f"packed {sizes(20 * PT + kern, 0, 0)} badness 0", "shipped 1"]
+    replies = ["ok", "ok", "ok", "added 3 missing 0", "added 2 missing 0", packed(20 * PT + kern, 0, 0), "shipped 1"]
     places = [(97, 0), (98, 5 * PT + kern), (98, 10 * PT + kern), (97, 15 * PT + kern)]
     marks = [f"glyph 0 {code} {h} 0" for code, h in places]
     return Work({"large.tfm": large_metric_file()}, typeset_and_list(file, answers(replies, summary(1, file)), lines, marks, ("large=large.tfm",)))
@@ -454,10 +499,11 @@ def too_large_file():
 # Slow pipes
 
 def uneven(data):
-    """Pieces of 1 to 997 bytes."""
+    """Pieces of 1 to 997 bytes, with time between them."""
     at, size = 0, 1
     while at < len(data):
         yield data[at:at + size]
+        time.sleep(0.0005)
         at, size = at + size, size * 7 % 997 + 1
 
 

@@ -16,7 +16,7 @@ LIMIT = 60
 
 @dataclass(frozen=True)
 class Sparse:
-    """The contents of a file of so many bytes 0, which takes no room on the disk."""
+    """A file of `size` bytes 0, which takes no room on the disk."""
     size: int
 
 
@@ -28,7 +28,7 @@ class Run:
     feed     makes the pieces in which these bytes are written into a pipe; absent: standard input is a file
     slowly   standard output is a small pipe that is read slowly, by a reader that stops the program now and then
     stdout   the blocks of what it must print
-    made     the files that must lie in the folder then, by name; None: there must be none of this name"""
+    made     the files that must be in the folder then, by name; None: there must be none of this name"""
     words: tuple = ()
     stdin: object = b""
     feed: object = None
@@ -66,7 +66,7 @@ class Comparison:
         piece = memoryview(piece)
         while piece and not self.wrong:
             if not self.next_block():
-                self.wrong = f"has {bytes(piece[:60])!r} behind its end, at byte {self.place}"
+                self.wrong = f"has {bytes(piece[:60])!r} after its end, at byte {self.place}"
                 return
             size = min(len(piece), len(self.block))
             if piece[:size] != self.block[:size]:

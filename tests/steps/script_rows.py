@@ -4,19 +4,14 @@ import os
 import re
 import subprocess
 
-from steps.case_folder import first_difference, read
-from steps.trying import last_lines, rt_try
+from steps.case_folder import read
+from steps.texts import blocks, first_difference, last_lines
+from steps.trying import rt_try
 
 TITLE = "scripts and their answers, on the case file of crates/script_rows"
 PROGRAM = "script_rows"
 WEIGHT = 3
 LIMIT = 300
-
-
-def blocks(text):
-    """The text printed for each case, by its name; the name is empty for what is before the first."""
-    pieces = re.split(rb"^== (.*)\n", text, flags=re.M)
-    return {b"": pieces[0], **dict(zip(pieces[1::2], pieces[2::2]))}
 
 
 def run_built(program, given):

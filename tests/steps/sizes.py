@@ -1,9 +1,10 @@
-"""Inputs at size, and the edges of input and output. Large inputs are made when a case is run (large_inputs.py); nothing large lies in the repository."""
+"""Inputs at size, and the edges of input and output. Large inputs are made when a case is run (large_inputs.py); nothing large is in the repository."""
 from steps import large_inputs
 from steps.long_runs import done
 
 TITLE = "inputs at size: long scripts, pages, paragraphs, files and answers, and slow pipes"
 NEEDS_PROGRAM = True
+WEIGHT = 2
 
 WORKS = {
     "a_script_of_300_kilobytes": large_inputs.script_from_a_file,
@@ -16,6 +17,8 @@ WORKS = {
     "splits_of_65536_items": large_inputs.long_splits,
     "a_bitmap_of_10000_by_10000": large_inputs.large_bitmap,
     "a_file_of_65536_pages": large_inputs.many_pages,
+    "a_job_of_65535_pages": large_inputs.most_pages,
+    "a_job_of_16777216_nodes": large_inputs.most_nodes,
     "font_numbers_256_and_70000": large_inputs.high_font_numbers,
     "256_fonts": large_inputs.all_slots,
     "300_words": large_inputs.many_words,

@@ -1,5 +1,5 @@
-"""Case folders in one build, by `rt try --cases`. It gives each run its words, its standard input and copies of files that all runs share;
-it compares standard output, and prints the status and standard error."""
+"""Case folders in one build, by `rt try --cases`. It gives each run its words, its standard input and copies of files that all runs share,
+and prints what each run prints, and its status."""
 import os
 import re
 import tempfile
@@ -8,10 +8,11 @@ from functools import cached_property
 
 from steps import case_folder
 from steps.outcome import Skipped
-from steps.trying import last_lines, rt_try
+from steps.texts import blocks, first_difference, last_lines
+from steps.trying import rt_try
 
 STREAMS = {"closed-stdin", "closed-stdout", "full-stdout"}
-LINE = re.compile(rb"^case=(\S+) run=(\S+)(?: status=(\d+))?(.*) proved=no\n", re.M)
+LINE = re.compile(rb"^case=(\S+) run=(\S+)(?: status=(\d+))?.* proved=no\n", re.M)
 
 
 def is_text(words):
@@ -34,17 +35,17 @@ def shared_files(cases):
     return {name: counts.most_common(1)[0][0] for name, counts in found.items()}
 
 
-def judge(case, printed):
-    """What is wrong with a run, by its line and what was printed before it; None where all is as it must be."""
-    line, before = printed
+def judge(case, line, errors, output):
+    """What is wrong with a run: its line, and what it printed to standard error and to standard output."""
     if line[2] != b"ended":
-        return f"run={line[2].decode()}: {last_lines(before)}"
-    if b"output=differs" in line[4]:
-        return last_lines(before, 1)
-    wanted = int(case_folder.read(case, "status", b"0"))
-    if int(line[3]) != wanted:
-        return f"the status is {int(line[3])} and not {wanted}; standard error: {before[:300]!r}"
-    return case_folder.first_difference("standard error", before, case_folder.read(case, "stderr"))
+        return f"run={line[2].decode()}: {last_lines(errors)}"
+    status, wanted = int(line[3]), case_folder.read(case, "stdout")
+    if status != int(case_folder.read(case, "status", b"0")):
+        return f"the status is {status}; standard error: {errors[:300]!r}"
+    # (a last line without a line feed is given one)
+    wanted += b"\n" if wanted and not wanted.endswith(b"\n") else b""
+    return (first_difference("standard output", output, wanted)
+            or first_difference("standard error", errors, case_folder.read(case, "stderr")))
 
 
 class Batch:
@@ -60,6 +61,8 @@ class Batch:
             return "rt try neither closes nor fills a stream"
         if case_folder.has(case, "made"):
             return "rt try keeps no file"
+        if b"/dev/stdout" in case_folder.words_of(case):
+            return "under rt try /dev/stdout is no pipe"
         if not is_text(case_folder.words_of(case)):
             return "rt try gives only words in UTF-8"
         for name in case_folder.files_in(f"{case}/files"):
@@ -75,27 +78,26 @@ class Batch:
                 to = f"{room}/cases/{os.path.basename(case)}"
                 write(to, case_folder.input_of(case, self.root))
                 write(f"{to}.args", case_folder.read(case, "words"))
-                write(f"{to}.stdout", case_folder.read(case, "stdout"))
         for name, content in self.files.items():
             write(f"{room}/{name}", content)
         return [word for name in self.files for word in ("--data", f"{name}={room}/{name}")] + ["--cases", f"{room}/cases"]
 
     @cached_property
-    def printed(self):
-        """Of each case that was run its line and what was printed before it, and the end of all that was printed."""
+    def found(self):
+        """Of each case that was run its line, standard error and standard output; and the end of all that was printed."""
         with tempfile.TemporaryDirectory(prefix="boxglue-cases-") as room:
-            _, _, errors = rt_try(self.root, "boxglue", self.lay_out(room))
-        found, start = {}, 0
+            _, output, errors = rt_try(self.root, "boxglue", self.lay_out(room))
+        outputs, runs, start = blocks(output), {}, 0
         for line in LINE.finditer(errors):
-            found[line[1].decode()] = line, errors[start:line.start()]
+            runs[line[1].decode()] = line, errors[start:line.start()], outputs.get(line[1], b"")
             start = line.end()
-        return found, last_lines(errors)
+        return runs, last_lines(errors)
 
     def outcome(self, case):
         """What came of a case."""
         why = self.reason(case)
         if why:
             return Skipped(why)
-        found, end = self.printed
+        runs, end = self.found
         name = os.path.basename(case)
-        return judge(case, found[name]) if name in found else f"it was not run: {end}"
+        return judge(case, *runs[name]) if name in runs else f"it was not run: {end}"

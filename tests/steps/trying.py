@@ -32,9 +32,3 @@ def end_all():
     with _lock:
         for it in _running:
             it.terminate()
-
-
-def last_lines(text, count=3):
-    """The last lines of what was printed, as one line."""
-    lines = [it.strip() for it in text.decode(errors="replace").splitlines() if it.strip()]
-    return " / ".join(lines[-count:]) or "nothing was printed"

@@ -1,0 +1,23 @@
+"""Looks at texts that programs printed."""
+import os
+import re
+
+
+def first_difference(what, found, wanted):
+    """Says from where on two texts differ, or returns None."""
+    if found == wanted:
+        return None
+    at = len(os.path.commonprefix([found, wanted]))
+    return f"{what} from byte {at} on is {found[at:at + 100]!r} and not {wanted[at:at + 100]!r}"
+
+
+def last_lines(text, count=3):
+    """The last lines of what was printed, as one line."""
+    lines = [it.strip() for it in text.decode(errors="replace").splitlines() if it.strip()]
+    return " / ".join(lines[-count:]) or "nothing was printed"
+
+
+def blocks(text):
+    """The texts after lines `== NAME`, by their names; the name is empty for what is before the first."""
+    pieces = re.split(rb"^== (.*)\n", text, flags=re.M)
+    return {b"": pieces[0], **dict(zip(pieces[1::2], pieces[2::2]))}
