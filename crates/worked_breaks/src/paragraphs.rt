@@ -211,15 +211,29 @@ const SPACE: Item = Item::Glue(Amounts {
     shrink: 0,
 });
 
-/// Glue of that width that cannot stretch.
-const fn fixed(width: i64) -> Item {
-    Item::Glue(Amounts {
-        width,
-        stretch: 0,
-        fil: 0,
-        shrink: 0,
-    })
-}
+/// Glue of no width.
+const BETWEEN: Item = Item::Glue(Amounts {
+    width: 0,
+    stretch: 0,
+    fil: 0,
+    shrink: 0,
+});
+
+/// Glue of 5pt.
+const FIRST: Item = Item::Glue(Amounts {
+    width: 5,
+    stretch: 0,
+    fil: 0,
+    shrink: 0,
+});
+
+/// Glue of 40pt.
+const DROPPED: Item = Item::Glue(Amounts {
+    width: 40,
+    stretch: 0,
+    fil: 0,
+    shrink: 0,
+});
 
 /// An overfull line in the middle; a negative kern after an overfull line; glue that comes first and is kept; penalties between two rules; a kern before glue;
 /// items that are dropped.
@@ -232,17 +246,17 @@ const ROWS: [Row; 11] = [
     Row {
         items: &[
             Item::Rule(50),
-            fixed(0),
+            BETWEEN,
             Item::Kern(-15),
             Item::Rule(5),
-            fixed(0),
+            BETWEEN,
             Item::Rule(10),
         ],
         places: &[4, 8],
         costs: (Pass::First, 0, 200),
     },
     Row {
-        items: &[fixed(5), Item::Rule(40)],
+        items: &[FIRST, Item::Rule(40)],
         places: &[4],
         costs: (Pass::Third, 327_680, 100_000_000),
     },
@@ -277,7 +291,7 @@ const ROWS: [Row; 11] = [
         costs: (Pass::Third, 0, 100_020_100),
     },
     Row {
-        items: &[Item::Rule(40), Item::Kern(5), fixed(0), Item::Rule(40)],
+        items: &[Item::Rule(40), Item::Kern(5), BETWEEN, Item::Rule(40)],
         places: &[1, 6],
         costs: (Pass::First, 0, 200),
     },
@@ -285,7 +299,7 @@ const ROWS: [Row; 11] = [
         items: &[
             Item::Rule(40),
             Item::Penalty(-10_000),
-            fixed(40),
+            DROPPED,
             Item::Penalty(-10_000),
             Item::Rule(10),
         ],
@@ -297,7 +311,7 @@ const ROWS: [Row; 11] = [
 #[test]
 fn paragraphs_of_rules(rt: HostRuntime) {
     let params = narrow(&rt);
-    for row in ROWS {
+    for row in &ROWS {
         let mut items = Vec::new(rt.alloc());
         for item in row.items {
             let pushed = items.push(node(&rt, item));
