@@ -14,6 +14,9 @@ TITLE = "the #[test] functions of a crate, by rt try --test"
 # Tests that end only where the code is compiled without run-time checks. `rt ci` runs them.
 NO_ANSWER = {("worked_jobs", "many_pages::a_job_ships_256_boxes_of_65536_nodes_and_no_more")}
 
+# Seconds for each test: the longest takes half a minute on a quiet machine.
+LIMIT = 100
+
 
 def tests_in(folder):
     """The names of the tests below a folder of sources, each with its module."""
@@ -36,7 +39,7 @@ def outcomes(printed):
 
 def run_tests(root, crate, names):
     """Runs the tests of a crate, once for all of its cases: what came of each, by its name."""
-    _, output, errors = rt_try(root, crate, ["--test"])
+    _, output, errors = rt_try(root, crate, ["--test", "--seconds", str(LIMIT)])
     found = outcomes((output + errors).decode(errors="replace"))
     if found and {*found} - {*names}:
         return dict.fromkeys(names, f"tests ran that were not found in the sources: {' '.join(sorted({*found} - {*names}))}")
@@ -47,7 +50,7 @@ def outcome(crate, name, results):
     """What came of one test."""
     found = results()[name]
     if found and (crate, name) in NO_ANSWER and "no-answer" in found:
-        return Skipped("no answer within 60 s as rt try compiles it; rt ci runs it")
+        return Skipped(f"no answer within {LIMIT} s as rt try compiles it; rt ci runs it")
     return found
 
 

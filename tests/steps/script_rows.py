@@ -25,7 +25,8 @@ def run_built(program, given):
 
 def run_tried(root, given):
     """Runs the program by `rt try`; returns the same."""
-    status, output, errors = rt_try(root, "script_rows", [], given)
+    # (the interpreter of `rt try` cannot run it; compiled, it takes more than the usual 60 seconds on a busy machine)
+    status, output, errors = rt_try(root, "script_rows", ["--steps", "1", "--seconds", str(LIMIT)], given)
     return output, f"rt try: {last_lines(errors)}" if status else None
 
 
