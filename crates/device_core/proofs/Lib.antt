@@ -1,1 +1,3 @@
 pub mod Tellings
+mod Walks
+pub mod Resumptions

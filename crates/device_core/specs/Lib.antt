@@ -1,2 +1,5 @@
 pub mod Told
 pub mod Held
+pub mod Fused
+pub mod Resumed
+pub mod Beginnings

@@ -16,12 +16,16 @@ pub struct DeviceFault;
 pub trait Device {
     ghost use Rattle.std.specs.Prelude.{◌≡◌, ◌≤◌, ◌<◌, ◌+◌, ◌^◌, ℕ, List, Option, length, take, IfOk, OnOk, OnErr};
     ghost use Rattle.device_core.specs.Told.{grown};
+    ghost use Rattle.device_core.specs.Beginnings.{Beginning};
 
     /// The bytes that it took since it was made, in order, where it tells them.
     ghost told: { Self → Option (List ℕ) };
 
     /// How many writes have failed.
     ghost failed: { Self → ℕ };
+
+    /// What was sent before it was made, and what the device that took it told then. Each write keeps it.
+    ghost began: { Self → Beginning };
 
     /// Takes the piece or a beginning of it, and answers how many bytes it took, at least one.
     /// An Err took nothing and counts as a failure.
@@ -32,7 +36,8 @@ pub trait Device {
         ensures taken { IfOk result (λ n. told self.new ≡ grown (told self.old) (take n piece.now)) }
         ensures stands { OnOk result (failed self.new ≡ failed self.old) }
         ensures none_taken { OnErr result (told self.new ≡ told self.old) }
-        ensures counted { OnErr result (failed self.new ≡ failed self.old + 1) };
+        ensures counted { OnErr result (failed self.new ≡ failed self.old + 1) }
+        ensures began { began self.new ≡ began self.old };
 
     /// How many writes have failed.
     fn failures(&self) -> u64
@@ -47,17 +52,18 @@ pub struct Memory {
 }
 
 impl Model for Memory {
+    ghost use Rattle.std.specs.Prelude.{vec_capacity};
     ghost use Rattle.device_core.specs.Held.{Held};
 
     ghost Value = { Held };
 
-    ghost view = { λ memory. record { bytes = memory.bytes.items; failures = memory.failures } };
+    ghost view = { λ memory. record { bytes = memory.bytes.items; capacity = vec_capacity memory.bytes; failures = memory.failures } };
 }
 
 impl Memory {
     /// A device without bytes, which has not failed. It takes no memory.
     pub fn new(alloc: Global) -> Memory
-        ensures { result ≡ record { bytes = []; failures = 0 } }
+        ensures { result ≡ record { bytes = []; capacity = 0; failures = 0 } }
     {
         Memory {
             bytes: Vec::new(alloc),
@@ -74,13 +80,26 @@ impl Memory {
 }
 
 impl Device for Memory {
-    ghost use Rattle.std.specs.Prelude.{Some};
+    ghost use Rattle.std.specs.Prelude.{◌≡◌, ◌<◌, ◌+◌, ◌^◌, ◌++◌, length, Some, IfOk, OnOk, OnErr};
+    ghost use Rattle.device_core.specs.Beginnings.{no_beginning};
 
     ghost told = { λ memory. Some memory.bytes };
 
     ghost failed = { λ memory. memory.failures };
 
-    fn write(&mut self, piece: &[u8]) -> Result<usize, DeviceFault> {
+    ghost began = { λ memory. no_beginning };
+
+    /// It takes the whole piece, and fails only where there is no room for it and a growth is refused.
+    fn write(&mut self, piece: &[u8]) -> Result<usize, DeviceFault>
+        requires some { 0 < length piece.now }
+        requires countable { self.old.failures + 1 < 2 ^ 64 }
+        ensures all { IfOk result (λ n. n ≡ length piece.now) }
+        ensures kept { OnOk result (self.new.bytes ≡ self.old.bytes ++ piece.now) }
+        ensures stands { OnOk result (self.new.failures ≡ self.old.failures) }
+        ensures none_taken { OnErr result (self.new.bytes ≡ self.old.bytes) }
+        ensures counted { OnErr result (self.new.failures ≡ self.old.failures + 1) }
+        ensures full { OnErr result (self.old.capacity < length self.old.bytes + length piece.now) }
+    {
         match self.bytes.extend_from_slice(piece) {
             Ok(()) => Ok(piece.len()),
             Err(_) => {
@@ -102,6 +121,7 @@ pub fn write_all<D: Device>(device: &mut D, bytes: &[u8]) -> Result<(), DeviceFa
     ensures stands { OnOk result (D.failed device.new ≡ D.failed device.old) }
     ensures front { OnErr result (GrowsByFront (D.told device.old) (D.told device.new) bytes.now) }
     ensures counted { OnErr result (D.failed device.new ≡ D.failed device.old + 1) }
+    ensures began { D.began device.new ≡ D.began device.old }
 {
     let mut sent = 0;
     while sent < bytes.len() {

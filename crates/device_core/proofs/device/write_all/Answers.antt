@@ -14,5 +14,6 @@ loop-sent-preserved g c =
     record {
       within = omega (arith, within.1, length-drop s xs);
       taken = taken ∙ (ap (λ told. grown told (take n (drop s xs))) c.loop-sent.invariant.taken ∙ grown_more _ xs s n);
+      began = c.in_ok-sent.ensures.began ∙ c.loop-sent.invariant.began;
       stands = c.in_ok-sent.ensures.stands ∙ c.loop-sent.invariant.stands;
     }

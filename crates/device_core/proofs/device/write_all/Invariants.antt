@@ -6,6 +6,7 @@ abbrev pub invariant-loop-sent : goal.invariant-loop-sent
 invariant-loop-sent g l = record {
   within : l.sent ≤ length l.bytes;
   taken : g.D.Device.told l.device ≡ grown (g.D.Device.told l.initial.device) (take l.sent l.bytes);
+  began : g.D.Device.began l.device ≡ g.D.Device.began l.initial.device;
   stands : g.D.Device.failed l.device ≡ g.D.Device.failed l.initial.device;
 }
 
