@@ -3,6 +3,7 @@ use Rattle.std.specs.Prelude.{◌≡◌, ◌≢◌, ◌⊎◌, ℕ, Bool, true, 
 use Rattle.std.specs.List.{AllByRecursion}
 use Rattle.ship_core.specs.Marks.{Page}
 use Rattle.device_core.specs.Told.{grown}
+use Rattle.device_core.specs.Beginnings.{Beginning}
 use Rattle.dvi_layout.specs.declared.progress.WriteFault.{WriteFault}
 use Rattle.dvi_layout.specs.declared.progress.WriteFault.TheVariants.{JobOver, OutOfMemory, Device}
 use Rattle.dvi_layout.specs.Fonts.{Slots}
@@ -11,12 +12,13 @@ use Rattle.dvi_layout.specs.Layout.{front}
 use Rattle.dvi_layout.specs.SoFar.{SoFar, so_far_of}
 use Rattle.dvi_layout.specs.Shippable.{IsRightPage}
 
--- What a writer is seen as: what it keeps of the pages so far, of its device the bytes that it tells and how often it failed, and whether the file is
--- over.
+-- What a writer is seen as: what it keeps of the pages so far; of its device the bytes that it tells, how often it failed, and what was sent before it was
+-- made; and whether the file is over.
 pub record Writing : Type 0 where
   pub so_far : SoFar
   pub told : Option (List ℕ)
   pub failed : ℕ
+  pub began : Beginning
   pub over : Bool
 
 -- The writer has written these pages, whose fonts are these, to a device that told `before` at the beginning: all bytes of them up to the last eop

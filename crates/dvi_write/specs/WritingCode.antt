@@ -1,6 +1,7 @@
 -- How the logic stores what a writer is seen as (own; the model of `DviWriter` alone, no public clause speaks of it).
 use Rattle.std.specs.Prelude.{ℕ, ℤ, Bool, List, Option, refl}
 use Rattle.std.specs.Coded.{Coded, code_by, coded×, coded_ℕ, coded_ℤ, coded_bool, coded_list, coded_option}
+use Rattle.device_core.specs.Beginnings.{Beginning}
 use Rattle.dvi_layout.specs.SoFar.{SoFar}
 use Rattle.dvi_write.specs.Writing.{Writing}
 
@@ -12,8 +13,16 @@ coded_so_far =
     (λ s. (((s.last, s.size), s.defined), (((s.tall, s.wide), s.deep), (s.pages, s.nodes))))
     (λ p. record { last = p.0.0.0; size = p.0.0.1; defined = p.0.1; tall = p.1.0.0.0; wide = p.1.0.0.1; deep = p.1.0.1; pages = p.1.1.0; nodes = p.1.1.1 }) (λ _. refl)
 
--- How what a writer is seen as is stored: what it keeps, what its device tells, how often it failed, and whether it is over.
+-- How what was sent before is stored: the bytes, and what the device that took them told.
+abbrev pub coded_beginning : Coded Beginning
+coded_beginning =
+    code_by (List ℕ × Option (List ℕ)) (coded× (coded_list coded_ℕ) (coded_option (coded_list coded_ℕ))) (λ b. (b.sent, b.told)) (λ p. record { sent = p.0; told = p.1 })
+    (λ _. refl)
+
+-- How what a writer is seen as is stored: what it keeps, and what its device tells; how often that failed, and what was sent before; and whether it is over.
 abbrev pub coded_writing : Coded Writing
 coded_writing =
-    code_by ((SoFar × Option (List ℕ)) × (ℕ × Bool)) (coded× (coded× coded_so_far (coded_option (coded_list coded_ℕ))) (coded× coded_ℕ coded_bool))
-    (λ w. ((w.so_far, w.told), (w.failed, w.over))) (λ p. record { so_far = p.0.0; told = p.0.1; failed = p.1.0; over = p.1.1 }) (λ _. refl)
+    code_by ((SoFar × Option (List ℕ)) × ((ℕ × Beginning) × Bool))
+    (coded× (coded× coded_so_far (coded_option (coded_list coded_ℕ))) (coded× (coded× coded_ℕ coded_beginning) coded_bool))
+    (λ w. ((w.so_far, w.told), ((w.failed, w.began), w.over)))
+    (λ p. record { so_far = p.0.0; told = p.0.1; failed = p.1.0.0; began = p.1.0.1; over = p.1.1 }) (λ _. refl)

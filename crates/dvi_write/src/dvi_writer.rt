@@ -35,7 +35,7 @@ impl<D: Device> Model for DviWriter<D> {
 
     ghost coded = { coded_writing };
 
-    ghost view = { λ w. record { so_far = w.progress; told = D.told w.device; failed = D.failed w.device; over = w.over } };
+    ghost view = { λ w. record { so_far = w.progress; told = D.told w.device; failed = D.failed w.device; began = D.began w.device; over = w.over } };
 
     ghost invariant = { λ w. HasRoom w.progress × (w.over ≡ false → D.failed w.device + 1 < 2 ^ 64) };
 }
@@ -59,6 +59,7 @@ impl<D: Device> DviWriter<D> {
         requires { D.failed device + 1 < 2 ^ 64 }
         ensures written { (fonts : Slots) → HasWritten fonts (D.told device) result [] }
         ensures failed { result.failed ≡ D.failed device }
+        ensures began { result.began ≡ D.began device }
     {
         DviWriter {
             progress: Progress::new(),
@@ -85,6 +86,7 @@ impl<D: Device> DviWriter<D> {
     pub fn into_device(self) -> D
         ensures told { D.told result ≡ self.told }
         ensures failed { D.failed result ≡ self.failed }
+        ensures began { D.began result ≡ self.began }
     {
         let DviWriter {
             progress: _progress,
@@ -105,6 +107,7 @@ impl<D: Device> DviWriter<D> {
         ensures front { OnErr result (GrowsByFront self.old.told self.new.told bytes.now) }
         ensures counted { OnErr result (self.new.failed ≡ self.old.failed + 1) }
         ensures over { OnErr result (self.new.over ≡ true) }
+        ensures began { self.new.began ≡ self.old.began }
     {
         if write_all(&mut self.device, bytes).is_err() {
             self.over = true;
@@ -174,6 +177,7 @@ impl<D: Device> DviWriter<D> {
         ensures failed { result ≡ Err WriteFault.Device → self.new.failed ≡ self.old.failed + 1 }
         ensures over { result ≡ Err WriteFault.Device → self.new.over ≡ true }
         ensures so_far { result ≡ Err WriteFault.Device → self.new.so_far ≡ self.old.so_far }
+        ensures began { self.new.began ≡ self.old.began }
     {
         let next = self.prepare(alloc, box_node, offsets, counts, fonts)?;
         self.send(&next.bytes)?;
@@ -204,6 +208,7 @@ impl<D: Device> DviWriter<D> {
         ensures failed { result ≡ Err WriteFault.Device → self.new.failed ≡ self.old.failed + 1 }
         ensures over { OnOk result (self.new.over ≡ true) }
         ensures lost { result ≡ Err WriteFault.Device → self.new.over ≡ true }
+        ensures began { self.new.began ≡ self.old.began }
     {
         if self.over {
             return Err(WriteFault::JobOver);
