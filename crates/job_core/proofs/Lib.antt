@@ -5,3 +5,4 @@ pub mod NewJobs
 pub mod Ships
 pub mod WholeRuns
 pub mod MeasuredPages
+pub mod RestsOfFiles

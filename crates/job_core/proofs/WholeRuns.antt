@@ -1,16 +1,18 @@
 -- Runs one behind another, and a job from its beginning to its end.
-use Rattle.std.proofs.Common.{◌≡◌, ℕ, List, [], ◌∷◌, ◌++◌, length, Result, Ok, Err, refl, ap, sym, ◌∙◌, subst}
+use Rattle.std.proofs.Common.{◌≡◌, ◌≢◌, ℕ, List, [], ◌∷◌, ◌++◌, length, Result, Ok, Err, refl, ap, sym, ◌∙◌, subst}
 use Rattle.std.specs.Prelude.{IfOk, IfSome}
 use Rattle.command_core.specs.declared.command.Command.{Command}
 use Rattle.command_core.specs.declared.command.Refusal.{Refusal}
+use Rattle.command_core.specs.declared.command.Refusal.TheVariants.{Device}
 use Rattle.command_core.specs.declared.command.Summary.{Summary}
 use Rattle.command_core.specs.Reply.{Reply}
 use Rattle.tfm_core.specs.NamedBytes.{NamedBytes}
 use Rattle.state_core.proofs.KeptRest.{job_kept}
 use Rattle.job_core.proofs.Moves.{counted}
+use Rattle.dvi_layout.specs.Layout.{whole}
 use Rattle.nest_core.specs.Checks.{first_of, checks}
 use Rattle.nest_core.specs.Machine.{Machine, first_machine}
-use Rattle.nest_core.specs.Runs.{Steps, Replies, LacksMemory, LosesDevice, Run}
+use Rattle.nest_core.specs.Runs.{Steps, Replies, LacksMemory, LosesDevice, Run, Finishes, Finished, Refuses, WantsMemory, LostDevice}
 use Rattle.job_core.specs.Jobs.{Seen, Holds, KeepsTo, RunsTo, FinishesTo}
 use Rattle.job_core.specs.Closing.{ClosesFile}
 use Rattle.job_core.specs.Shown.{FilesPages, GivesFiles}
@@ -41,6 +43,24 @@ pub one_run : (old new : Seen) (command : Command) (reply : Reply) → KeepsTo o
 one_run old new command reply keeps m holds =
     let next = keeps m holds in
     (next.0, (next.0, new.failed, next.1, (refl, refl)), next.2)
+
+abbrev refused_with : Refusal → Result Summary Refusal
+refused_with refusal = Err refusal
+
+same_refusal : {a b : Refusal} → refused_with a ≡ refused_with b → a ≡ b
+same_refusal e = cc
+
+-- An end that is refused, but not since the device failed, is a run of no command.
+unfinished : (m next : Machine) (n k : ℕ) (refusal : Refusal) → refusal ≢ Device → Finishes m n (Err refusal) next k → Run m n [] [] next k
+unfinished m next n k refusal other (Finished summary says may pages goes counts) = cc
+unfinished m next n k refusal other (Refuses r says is goes counts) = (goes, counts)
+unfinished m next n k refusal other (WantsMemory says may some goes counts) = (goes, counts)
+unfinished m next n k refusal other (LostDevice says may some goes counts) = absurd (other (same_refusal says))
+
+pub refused_end : (old new : Seen) (refusal : Refusal) → refusal ≢ Device → FinishesTo old (Err refusal) new → RunsTo old [] [] new
+refused_end old new refusal other finishes m holds =
+    let next = finishes m holds in
+    (next.0, unfinished m next.0 old.failed new.failed refusal other next.1, next.2)
 
 -- The state of a machine counts its pages.
 abbrev pub AreCounted : Machine → Type 0
@@ -88,12 +108,20 @@ sized : (result : Result Summary Refusal) (run ended : Seen) (m : Machine) → H
 sized (Ok summary) run ended m holds size = size m holds
 sized (Err refusal) run ended m holds size = tt
 
+-- The bytes of the summary, for the machine that the job stands for.
+counted_bytes : (result : Result Summary Refusal) (run : Seen) (m : Machine) → Holds run m
+    → IfOk result (λ summary. (m : Machine) → Holds run m → summary.bytes ≡ length (whole m.state.fonts m.pages))
+    → IfOk result (λ summary. summary.bytes ≡ length (whole m.state.fonts m.pages))
+counted_bytes (Ok summary) run m holds count = count m holds
+counted_bytes (Err refusal) run m holds count = tt
+
 pub done :
     (files : List NamedBytes) (commands : List Command) (replies : List Reply) (result : Result Summary Refusal) (new run ended : Seen)
     → Holds new (first_machine files) → RunsTo new commands replies run → FinishesTo run result ended → FilesPages run result ended → ClosesFile run result ended
     → IfOk result (λ summary. (m : Machine) → Holds run m → IfSome ended.told (λ bytes. summary.bytes ≡ length bytes))
+    → IfOk result (λ summary. (m : Machine) → Holds run m → summary.bytes ≡ length (whole m.state.fonts m.pages))
     → IsDone files commands replies result new run ended
-done files commands replies result new run ended begins runs finishes files_pages closes size =
+done files commands replies result new run ended begins runs finishes files_pages closes size count =
     let goes = runs (first_machine files) begins in
     let ends = finishes goes.0 goes.2 in
     record {
@@ -105,6 +133,7 @@ done files commands replies result new run ended begins runs finishes files_page
       over = ends.2.state;
       file = λ metrics gives. files_pages goes.0 metrics goes.2 (subst (GivesFiles metrics) (sym (files_kept (first_machine files) new.failed commands replies goes.0 run.failed goes.1)) gives);
       size = sized result run ended goes.0 goes.2 size;
+      count = counted_bytes result run goes.0 goes.2 count;
       closed = λ some. closes goes.0 goes.2 some;
       sent = ends.2.sent;
     }

@@ -10,6 +10,7 @@ use Rattle.nest_core.specs.Machine.{Machine, first_machine}
 use Rattle.nest_core.specs.Runs.{Run, Finishes}
 use Rattle.job_core.specs.Jobs.{Seen, HasSent}
 use Rattle.dvi_layout.specs.Closing.{IsClosedFor}
+use Rattle.dvi_layout.specs.Layout.{whole}
 use Rattle.dvi_layout.specs.Shippable.{IsFileOfPages}
 use Rattle.job_core.specs.Shown.{GivesFiles}
 
@@ -24,9 +25,10 @@ pub record IsDone (files : List NamedBytes) (commands : List Command) (replies :
   pub finished : Finishes machine run.failed result last ended.failed
   pub over : ended.state ≡ last.state
   -- Where the end succeeds, the device has taken a DVI file of exactly the pages of that machine, with the widths that the font files give,
-  -- and the summary has its length.
+  -- and the summary has its length, also where the device does not tell what it took.
   pub file : (metrics : Metrics) → GivesFiles metrics files → OnOk result (IfSome ended.told (λ bytes. IsFileOfPages metrics bytes machine.pages))
   pub size : IfOk result (λ summary. IfSome ended.told (λ bytes. summary.bytes ≡ length bytes))
+  pub count : IfOk result (λ summary. summary.bytes ≡ length (whole machine.state.fonts machine.pages))
   -- The file ends as one of these pages does, and each font that it defines is that of the machine's slot of its number.
   pub closed : machine.pages ≢ [] → OnOk result (IfSome ended.told (λ bytes. IsClosedFor machine.state.fonts bytes machine.pages))
   -- Where the job is over, whatever failed: the device has taken that file or a beginning of it, or a beginning of it with the page that was on its way.

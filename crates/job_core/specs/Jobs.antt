@@ -7,6 +7,7 @@ use Rattle.command_core.specs.declared.command.Summary.{Summary}
 use Rattle.command_core.specs.Reply.{Reply}
 use Rattle.ship_core.specs.Marks.{Page}
 use Rattle.device_core.specs.Told.{grown, GrowsByFront}
+use Rattle.device_core.specs.Beginnings.{Beginning}
 use Rattle.dvi_layout.specs.Layout.{front, whole}
 use Rattle.dvi_layout.specs.SoFar.{SoFar}
 use Rattle.dvi_write.specs.Writing.{Writing, HasWritten}
@@ -16,17 +17,18 @@ use Rattle.nest_core.specs.Effects.{new_pages}
 use Rattle.nest_core.specs.Machine.{Machine, state_by}
 use Rattle.nest_core.specs.Runs.{Steps, Run, Finishes}
 
--- What a job is seen as: its kept state, what its writer keeps of the pages that were sent, and of its device the bytes that it tells and how often
--- it failed.
+-- What a job is seen as: its kept state, what its writer keeps of the pages that were sent, and of its device the bytes that it tells, how often it
+-- failed, and what was sent before it was made.
 pub record Seen : Type 0 where
   pub state : State
   pub so_far : SoFar
   pub told : Option (List ℕ)
   pub failed : ℕ
+  pub began : Beginning
 
 -- The writer of a job: its file is over where the job is.
 abbrev pub writing_of : Seen → Writing
-writing_of job = record { so_far = job.so_far; told = job.told; failed = job.failed; over = job.state.over }
+writing_of job = record { so_far = job.so_far; told = job.told; failed = job.failed; began = job.began; over = job.state.over }
 
 -- What a device that tells these bytes told before it took one.
 abbrev pub untold : Option (List ℕ) → Option (List ℕ)

@@ -14,7 +14,7 @@ use Rattle.job_core.specs.Jobs.{Seen}
 -- A job that keeps this and has this writer: how many nodes and pages went out, and whether the job is over, the writer alone keeps.
 abbrev pub seen_by : Keeping → Writing → Seen
 seen_by kept w =
-    record { state = state_of kept w.so_far.nodes w.so_far.pages w.over; so_far = w.so_far; told = w.told; failed = w.failed }
+    record { state = state_of kept w.so_far.nodes w.so_far.pages w.over; so_far = w.so_far; told = w.told; failed = w.failed; began = w.began }
 
 -- Fonts and glyphs are those of the font files.
 pub record IsSound (s : State) : Type 0 where

@@ -55,6 +55,7 @@ fn ship_page<D: Device>(
     ensures unsent { IfErr result (λ refusal. refusal ≢ Refusal.Device → writer.new.told ≡ writer.old.told) }
     ensures part { result ≡ Err Refusal.Device → (m : Machine) → Holds (seen_by kept.old writer.old) m
         → GrowsByFront (untold writer.old.told) writer.new.told (front m.state.fonts (m.pages ++ new_pages m.state (commands.Ship register))) }
+    ensures began { writer.new.began ≡ writer.old.began }
 {
     let Some(box_node) = kept.held(register) else {
         return Err(Refusal::VoidBox);
@@ -145,6 +146,7 @@ impl<D: Device> Job<D> {
         ensures ok { IfOk result (λ job. Holds job (first_machine files.now)) }
         ensures failed { IfOk result (λ job. job.failed ≡ D.failed device) }
         ensures told { IfOk result (λ job. job.told ≡ D.told device) }
+        ensures began { IfOk result (λ job. job.began ≡ D.began device) }
         ensures back { IfErr result (λ back. back ≡ device) }
     {
         let Ok(kept) = Kept::new(alloc, files) else {
@@ -167,6 +169,7 @@ impl<D: Device> Job<D> {
         ensures unsent { IfErr result (λ refusal. refusal ≢ Refusal.Device → self.new.told ≡ self.old.told) }
         ensures part { result ≡ Err Refusal.Device → (m : Machine) → Holds self.old m
             → GrowsByFront (untold self.old.told) self.new.told (front m.state.fonts (m.pages ++ new_pages m.state command.now)) }
+        ensures began { self.new.began ≡ self.old.began }
     {
         if self.writer.is_over() {
             return Err(Refusal::JobOver);
@@ -187,6 +190,7 @@ impl<D: Device> Job<D> {
         ensures none { OnErr result (self.new ≡ self.old) }
         ensures cut { OnErr result (replies.new.items ≡ replies.old.items) }
         ensures idle { self.old.state.over ≡ true → self.new ≡ self.old }
+        ensures began { self.new.began ≡ self.old.began }
     {
         replies.reserve(commands.len())?;
         for command in commands {
@@ -214,6 +218,7 @@ impl<D: Device> Job<D> {
         ensures sent { OnOk result ((m : Machine) → Holds self.old m → self.new.told ≡ grown (untold self.old.told) (whole m.state.fonts m.pages)) }
         ensures part { result ≡ Err Refusal.Device → (m : Machine) → Holds self.old m → GrowsByFront (untold self.old.told) self.new.told (whole m.state.fonts m.pages) }
         ensures unsent { IfErr result (λ refusal. refusal ≢ Refusal.Device → self.new.told ≡ self.old.told) }
+        ensures began { self.new.began ≡ self.old.began }
     {
         if self.writer.is_over() {
             return Err(Refusal::JobOver);
@@ -236,6 +241,7 @@ impl<D: Device> Job<D> {
     pub fn into_device(self) -> D
         ensures told { D.told result ≡ self.told }
         ensures failed { D.failed result ≡ self.failed }
+        ensures began { D.began result ≡ self.began }
     {
         let Job {
             alloc: _alloc,

@@ -1,11 +1,13 @@
 //! What holds of a job from its beginning to its end, as the contracts of functions that do nothing.
 
-ghost use Rattle.std.specs.Prelude.{◌≡◌, ◌++◌, [], ◌∷◌, ℕ, List, length, Result, IfOk, IfSome};
+ghost use Rattle.std.specs.Prelude.{◌≡◌, ◌≢◌, ◌++◌, [], ◌∷◌, ℕ, List, length, Result, Err, IfOk, IfSome};
 ghost use Rattle.command_core.specs.declared.command.Command.{Command};
 ghost use Rattle.command_core.specs.declared.command.Refusal.{Refusal};
+ghost use Rattle.command_core.specs.declared.command.Refusal.TheVariants as refusals;
 ghost use Rattle.command_core.specs.declared.command.Summary.{Summary};
 ghost use Rattle.command_core.specs.Reply.{Reply};
 ghost use Rattle.tfm_core.specs.NamedBytes.{NamedBytes};
+ghost use Rattle.dvi_layout.specs.Layout.{whole};
 ghost use Rattle.nest_core.specs.Machine.{Machine, first_machine};
 ghost use Rattle.nest_core.specs.Runs.{Run};
 ghost use Rattle.job_core.specs.Jobs.{Seen, Holds, KeepsTo, RunsTo, FinishesTo};
@@ -26,6 +28,7 @@ pub fn headline()
         → RunsTo new commands replies run
         → FinishesTo run result ended → FilesPages run result ended → ClosesFile run result ended
         → IfOk result (λ summary. (m : Machine) → Holds run m → IfSome ended.told (λ bytes. summary.bytes ≡ length bytes))
+        → IfOk result (λ summary. (m : Machine) → Holds run m → summary.bytes ≡ length (whole m.state.fonts m.pages))
         → IsDone files commands replies result new run ended }
 {}
 
@@ -35,6 +38,12 @@ pub fn runs_are_joined()
     ensures step { (old new : Seen) (command : Command) (reply : Reply) → KeepsTo old command reply new → RunsTo old (command ∷ []) (reply ∷ []) new }
     ensures behind { (old middle new : Seen) (commands more : List Command) (replies others : List Reply)
         → RunsTo old commands replies middle → RunsTo middle more others new → RunsTo old (commands ++ more) (replies ++ others) new }
+{}
+
+/// An end that is refused, but with Device, is no step: it leaves what a run of no command leaves. So a run, a refused end, more commands and an end are one
+/// run and an end.
+pub fn a_refused_end_is_no_step()
+    ensures { (old new : Seen) (refusal : Refusal) → refusal ≢ refusals.Device → FinishesTo old (Err refusal) new → RunsTo old [] [] new }
 {}
 
 /// The font files stay those that the job was given.

@@ -4,13 +4,15 @@
 
 mod device_job;
 pub mod laws;
+mod resuming;
 
 pub use command_core::{
     Answer, BoxForm, BoxUse, Characters, Command, CountNumber, Counting, FontLoad, Opening,
     Parameter, Refusal, Register, Reply, Sizes, Summary, Taking, Unboxing,
 };
-pub use device_core::{Device, DeviceFault, Memory};
+pub use device_core::{Device, DeviceFault, Fuse, Memory, Rest};
 pub use device_job::Job;
 pub use pack_core::Target;
+pub use resuming::finish_rest;
 pub use state_core::totality;
 pub use tfm_core::{FontFile, FontName, FontSize, TfmCause};

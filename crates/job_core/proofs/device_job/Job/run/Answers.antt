@@ -26,5 +26,6 @@ loop-command-preserved g c =
       idle = λ over.
           let same = c.loop-command.invariant.idle over in
           c.step-reply.ensures.idle (ap (λ (job : Seen). job.state.over) same ∙ over) ∙ same;
+      began = c.step-reply.ensures.began ∙ c.loop-command.invariant.began;
       room = omega (arith, c.in-Ok.ensures.len, c.in-Ok.ensures.capacity);
     }

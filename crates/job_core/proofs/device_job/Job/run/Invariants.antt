@@ -8,5 +8,6 @@ abbrev pub invariant-loop-command : goal.invariant-loop-command
 invariant-loop-command g l = record {
   ran : (added : List Reply) × (l.replies.items ≡ l.initial.replies.items ++ added) × RunsTo l.initial.self (take l.command-index l.commands) added l.self;
   idle : l.initial.self.state.over ≡ true → l.self ≡ l.initial.self;
+  began : l.self.began ≡ l.initial.self.began;
   room : vec_len l.replies + (length l.commands - l.command-index) ≤ vec_capacity l.replies;
 }

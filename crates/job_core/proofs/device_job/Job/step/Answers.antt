@@ -1,4 +1,4 @@
-use Rattle.std.proofs.Common.{sym, subst, ◌∙◌, rules}
+use Rattle.std.proofs.Common.{refl, sym, subst, ◌∙◌, rules}
 use Rattle.nest_core.specs.Runs.{IsShip}
 use Rattle.state_core.specs.Keeping.{unshipped}
 use Rattle.job_core.specs.Sound.{IsSound, seen_by}
@@ -26,4 +26,5 @@ returns g c =
       unsent = told_stays c.in-Ok.reply w.told;
       part = λ is.
           absurd (never_device (seen_by kept w).state c.args.command.now c.in-Ok.reply (seen_reply kept w c.args.command.now other running c.in-Ok.reply c.in-Ok.ensures.reply) is);
+      began = refl;
     })
