@@ -1,5 +1,5 @@
 -- A job that runs the commands of a script and is finished.
-use Rattle.std.proofs.Common.{◌≡◌, inl, inr, ℕ, Bool, true, false, List, [], ◌++◌, length, take, Option, Some, None, IfSome, Result, Ok, Err, IfOk, OnOk, OnErr, is_err, refl, sym, ◌∙◌, ap, subst, ⊎_elim}
+use Rattle.std.proofs.Common.{◌≡◌, ◌+◌, inl, inr, ℕ, Bool, true, false, List, [], ◌++◌, length, take, Option, Some, None, IfSome, Result, Ok, Err, IfOk, OnOk, OnErr, is_err, refl, sym, ◌∙◌, ap, subst, ⊎_elim}
 use Rattle.command_core.specs.declared.command.Command.{Command}
 use Rattle.command_core.specs.declared.command.Refusal.{Refusal}
 use Rattle.command_core.specs.declared.command.Refusal.TheVariants as refusals
@@ -7,6 +7,8 @@ use Rattle.command_core.specs.declared.command.Summary.{Summary}
 use Rattle.command_core.specs.Reply.{Reply}
 use Rattle.tfm_core.specs.NamedBytes.{NamedBytes}
 use Rattle.device_core.specs.Told.{IsFrontOf}
+use Rattle.device_core.specs.Beginnings.{Beginning}
+use Rattle.device_core.specs.Resumed.{Resumed, told_by, began_by}
 use Rattle.dvi_layout.specs.Layout.{front, whole}
 use Rattle.job_core.specs.Shown.{GivesFiles, FilesPages}
 use Rattle.job_core.specs.Closing.{ClosesFile}
@@ -18,10 +20,11 @@ use Rattle.device_core.specs.Held.{Held}
 use Rattle.job_core.proofs.WholeRuns.{files_kept}
 use Rattle.job_core.proofs.Endings.{said}
 use Rattle.job_core.proofs.NewJobs.{front_none}
+use Rattle.job_core.proofs.RestsOfFiles.{beginning, completed}
 use Rattle.std.specs.Io.KnownBytes.{Keeps}
 use Rattle.std.proofs.lemmas.List.{append-nil}
 use Rattle.program_core.specs.Texts.{hexadecimal_text}
-use Rattle.program_core.specs.Runs.{commands_of, IsPart, WasRun, IsUntouched, IsAnswered, RanScript, RefusedScript, IsAnsweredInMemory, LacksMemory}
+use Rattle.program_core.specs.Runs.{commands_of, IsPart, WasRun, IsUntouched, IsAnswered, RanScript, RefusedScript, IsAnsweredInMemory, LacksMemory, CompletesFile, IsResumed}
 
 pub on_err : {A E : Type 0} {P : Type 0} (r : Result A E) → is_err r ≡ true → OnErr r P → P
 on_err (Ok x) e h = absurd (cc)
@@ -50,15 +53,21 @@ sent_part m told (inr (inl (n, less, is))) = said told told (take n (whole m.sta
 sent_part m told (inr (inr (r, (n, less, is)))) =
     said told told (take n (front m.state.fonts (m.pages ++ new_pages m.state (Ship r)))) (IsPart m) is (inr (inr (r, (n, refl))))
 
+count_at : (end : Result Summary Refusal) (run : Seen) (m : Machine) → Holds run m
+    → IfOk end (λ summary. (m : Machine) → Holds run m → summary.bytes ≡ length (whole m.state.fonts m.pages)) → IfOk end (λ summary. summary.bytes ≡ length (whole m.state.fonts m.pages))
+count_at (Ok summary) run m holds h = h m holds
+count_at (Err refusal) run m holds h = h
+
 pub was_run : (files : List NamedBytes) (commands : List Command) (replies : List Reply) (end : Result Summary Refusal) (job run done : Seen)
     → Holds job (first_machine files) → RunsTo job commands replies run → FinishesTo run end done
     → FilesPages run end done
     → ((m : Machine) → Holds run m → OnOk end (IfSome done.told (λ bytes. bytes ≡ whole m.state.fonts m.pages)))
     → IfOk end (λ summary. (m : Machine) → Holds run m → IfSome done.told (λ bytes. summary.bytes ≡ length bytes))
+    → IfOk end (λ summary. (m : Machine) → Holds run m → summary.bytes ≡ length (whole m.state.fonts m.pages))
     → ClosesFile run end done
     → (end ≡ Err refusals.Device → (m : Machine) → Holds run m → IfSome done.told (λ bytes. IsFrontOf bytes (whole m.state.fonts m.pages)))
     → WasRun files job.failed commands replies end done.failed done.told
-was_run files commands replies end job run done holds runs finishes dvi file size closed part =
+was_run files commands replies end job run done holds runs finishes dvi file size count closed part =
     let middle = runs (first_machine files) holds in
     let last = finishes middle.0 middle.2 in
     let same : middle.0.state.files ≡ files = files_kept (first_machine files) job.failed commands replies middle.0 run.failed middle.1 in
@@ -71,6 +80,7 @@ was_run files commands replies end job run done holds runs finishes dvi file siz
       dvi = λ metrics gives. dvi middle.0 metrics middle.2 (let P : List NamedBytes → Type 0 = λ all. GivesFiles metrics all in subst P (sym same) gives);
       file = file middle.0 middle.2;
       size = size_at end done.told run middle.0 middle.2 size;
+      count = count_at end run middle.0 middle.2 count;
       closed = closed middle.0 middle.2;
       front = λ e. part e middle.0 middle.2;
       part = λ over. sent_part last.0 done.told (last.2.sent over);
@@ -91,7 +101,7 @@ unfolding hexadecimal_text
 no_lines = refl
 
 -- the answers, and then the bytes of the memory
-pub answered_in_memory : (text : List ℕ) (files : List NamedBytes) (start memory : Held) (answer whole : List ℕ) (fine : Bool) → start ≡ record { bytes = []; failures = 0 }
+pub answered_in_memory : (text : List ℕ) (files : List NamedBytes) (start memory : Held) (answer whole : List ℕ) (fine : Bool) → start ≡ record { bytes = []; capacity = 0; failures = 0 }
     → IsAnswered {D = Held} (λ m. Some m.bytes) (λ m. m.failures) text files start memory answer fine
     → whole ≡ answer ++ hexadecimal_text memory.bytes → IsAnsweredInMemory text files memory whole fine
 answered_in_memory text files start memory answer whole fine fresh answered is = ⊎_elim
@@ -105,7 +115,7 @@ answered_in_memory text files start memory answer whole fine fresh answered is =
     answered
 
 -- where memory is refused behind the run, the whole script was run, or it is bad and the device is new
-pub lacking_in_memory : (text : List ℕ) (files : List NamedBytes) (start memory : Held) (answer : List ℕ) (fine : Bool) (old : Option (List ℕ)) → start ≡ record { bytes = []; failures = 0 }
+pub lacking_in_memory : (text : List ℕ) (files : List NamedBytes) (start memory : Held) (answer : List ℕ) (fine : Bool) (old : Option (List ℕ)) → start ≡ record { bytes = []; capacity = 0; failures = 0 }
     → IsAnswered {D = Held} (λ m. Some m.bytes) (λ m. m.failures) text files start memory answer fine
     → LacksMemory text files 0 memory.failures (Some memory.bytes) old old
 lacking_in_memory text files start memory answer fine old fresh answered =
@@ -123,3 +133,54 @@ lacking_in_memory text files start memory answer fine old fresh answered =
     keeps_same : (old : Option (List ℕ)) → Keeps old old
     keeps_same None = tt
     keeps_same (Some bytes) = refl
+
+-- A script that was run over the rest of a file completes it.
+pub script_completes : (text : List ℕ) (files : List NamedBytes) (n k : ℕ) (sent before : List ℕ) (start told inner : Option (List ℕ)) (answer : List ℕ) (fine : Bool) (began : Beginning)
+    → RanScript text files n k told answer fine → beginning sent start ≡ began → began ≡ beginning before (Some before)
+    → ((whole : List ℕ) → IfSome told (λ bytes. bytes ≡ whole) → IsFrontOf sent whole → start ≡ Some sent → inner ≡ Some whole)
+    → CompletesFile text files before inner answer fine
+script_completes text files n k sent before start told inner answer fine began ran is had got =
+    let m = ran.run.middle in
+    let all = whole m.state.fonts m.pages in
+    let sent_is : began.sent ≡ before = ap (λ (b : Beginning). b.sent) had in
+    let told_is : began.told ≡ Some began.sent = ap (λ (b : Beginning). b.told) had ∙ ap Some (sym sent_is) in
+    record {
+      lines = ran.lines;
+      replies = ran.replies;
+      end = ran.end;
+      script = ran.script;
+      before = n;
+      middle = m;
+      failed = ran.run.failed;
+      ran = ran.run.ran;
+      last = ran.run.last;
+      after = k;
+      finished = ran.run.finished;
+      answer_is = ran.answer_is;
+      fine_is = ran.fine_is;
+      file = λ front. completed ran.end told told start inner sent all began ran.run.file refl is told_is (subst (λ (s : List ℕ). IsFrontOf s all) (sym sent_is) front) (got all);
+    }
+
+-- A script that was run over a new device for the rest of a file is answered so.
+pub resumed : {D : Type 0} (told : D → Option (List ℕ)) (failed : D → ℕ) (text : List ℕ) (files : List NamedBytes) (device : D) (sent : List ℕ) (start rest : Resumed D) (inner : D)
+    (answer : List ℕ) (fine : Bool) → start ≡ record { device = device; start = device; sent = sent; met = 0; failures = 0 }
+    → IsAnswered (told_by told) (λ r. failed r.device + r.failures) text files start rest answer fine → began_by told rest ≡ began_by told start → told device ≡ Some sent
+    → inner ≡ rest.device
+    → ((whole : List ℕ) → IfSome (told_by told rest) (λ bytes. bytes ≡ whole) → IsFrontOf rest.sent whole → told rest.start ≡ Some rest.sent → told inner ≡ Some whole)
+    → IsResumed text files sent (told inner) answer fine
+resumed told failed text files device sent start rest inner answer fine new (inl ran) began had same got =
+    let began_so : began_by told start ≡ beginning sent (Some sent) = ap (began_by told) new ∙ ap (beginning sent) had in
+    inl (script_completes text files _ _ rest.sent sent (told rest.start) (told_by told rest) (told inner) answer fine (began_by told start) ran began began_so got)
+resumed {D = D} told failed text files device sent start rest inner answer fine new (inr (bad, back)) began had same got =
+    inr (bad, ap told (same ∙ ap (λ (r : Resumed D). r.device) (back ∙ new)) ∙ had)
+
+-- The file of no pages is empty.
+no_whole : (m : Machine) → m.pages ≡ [] → whole m.state.fonts m.pages ≡ []
+unfolding whole
+no_whole m none = rw none refl
+
+-- A run without a page has sent nothing, where its end succeeded.
+pub silent_run : (files : List NamedBytes) (n k : ℕ) (commands : List Command) (replies : List Reply) (end : Result Summary Refusal) (told : Option (List ℕ))
+    (run : WasRun files n commands replies end k told) → run.middle.pages ≡ [] → OnOk end (IfSome told (λ bytes. bytes ≡ []))
+silent_run files n k commands replies end told run none =
+    subst (λ (all : List ℕ). OnOk end (IfSome told (λ bytes. bytes ≡ all))) (no_whole run.middle none) run.file

@@ -1,7 +1,7 @@
 -- Runs of a script and what is written of them (own).
-use Rattle.std.specs.Prelude.{◌≡◌, ◌≢◌, ◌<◌, ◌≤◌, ◌⊎◌, ◌&&◌, ◌++◌, ℕ, Bool, false, true, List, [], length, map, take, codes, Option, Some, IfSome, Result, Err, IfOk, OnOk, is_ok}
+use Rattle.std.specs.Prelude.{◌≡◌, ◌≢◌, ◌<◌, ◌⊎◌, ◌&&◌, ◌++◌, ℕ, Bool, false, true, List, [], length, map, take, codes, Option, Some, IfSome, Result, Err, IfOk, OnOk, is_ok}
 use Rattle.std.specs.List.{list_all}
-use Rattle.std.specs.Io.KnownBytes.{Appends, Keeps, Consumes, IsAtEnd}
+use Rattle.std.specs.Io.KnownBytes.{Appends, Keeps}
 use Rattle.command_core.specs.declared.command.Command.{Command}
 use Rattle.command_core.specs.declared.command.Command.TheVariants.{Ship}
 use Rattle.command_core.specs.declared.command.Refusal.{Refusal}
@@ -59,6 +59,7 @@ pub record WasRun (files : List NamedBytes) (n : ℕ) (commands : List Command) 
   pub dvi : (metrics : Metrics) → GivesFiles metrics files → OnOk end (IfSome told (λ bytes. IsFileOfPages metrics bytes middle.pages))
   pub file : OnOk end (IfSome told (λ bytes. bytes ≡ whole middle.state.fonts middle.pages))
   pub size : IfOk end (λ summary. IfSome told (λ bytes. summary.bytes ≡ length bytes))
+  pub count : IfOk end (λ summary. summary.bytes ≡ length (whole middle.state.fonts middle.pages))
   pub closed : middle.pages ≢ [] → OnOk end (IfSome told (λ bytes. IsClosedFor middle.state.fonts bytes middle.pages))
   pub sent : last.state.over ≡ false → IfSome told (λ bytes. bytes ≡ front last.state.fonts last.pages)
   pub front : end ≡ Err refusals.Device → IfSome told (λ bytes. IsFrontOf bytes (whole middle.state.fonts middle.pages))
@@ -132,20 +133,33 @@ IsLeftInMemory text files (Memory memory) old new = LacksMemory text files 0 mem
 IsLeftInMemory text files (Answers memory) old new =
     (answer : List ℕ) × (fine : Bool) × IsAnsweredInMemory text files memory answer fine × WritesFront old new answer
 
+-- a script was run again over the rest of a file of which these bytes were sent before: where they are a beginning of the file of its machine's pages, and
+-- its end succeeded, the inner device then tells exactly this file
+pub record CompletesFile (text : List ℕ) (files : List NamedBytes) (sent : List ℕ) (told : Option (List ℕ)) (answer : List ℕ) (fine : Bool) : Type 0 where
+  pub lines : List Line
+  pub replies : List Reply
+  pub end : Result Summary Refusal
+  pub script : IsScript text lines
+  pub before : ℕ
+  pub middle : Machine
+  pub failed : ℕ
+  pub ran : Run (first_machine files) before (commands_of lines) replies middle failed
+  pub last : Machine
+  pub after : ℕ
+  pub finished : Finishes middle failed end last after
+  pub answer_is : answer ≡ answers_text (numbers_of lines) replies end
+  pub fine_is : fine ≡ is_accepted replies end
+  pub file : IsFrontOf sent (whole middle.state.fonts middle.pages) → OnOk end (told ≡ Some (whole middle.state.fonts middle.pages))
+
+-- what a script is answered with that is run again over the rest of a file of which these bytes were sent before; a bad one with its one line
+abbrev pub IsResumed : List ℕ → List NamedBytes → (sent : List ℕ) → (told : Option (List ℕ)) → (answer : List ℕ) → (fine : Bool) → Type 0
+IsResumed text files sent told answer fine = CompletesFile text files sent told answer fine ⊎ (RefusedScript text answer fine × (told ≡ Some sent))
+
+-- the device that comes back where a run failed
+abbrev pub device_of : {D : Type 0} → RunFault D → D
+device_of (Memory back) = back
+device_of (Answers back) = back
+
 -- the line that says that memory was refused
 abbrev pub memory_line : List ℕ
 memory_line = codes "refused 1 OutOfMemory\n"
-
--- the line that says that the input could not be read
-abbrev pub unreadable_line : List ℕ
-unreadable_line = codes "boxglue: cannot read -\n"
-
--- an input was read to its end, whole: it was this text, of at most 268,435,456 bytes
-pub record WasRead (old new : Option (List ℕ)) (text : List ℕ) : Type 0 where
-  pub all : Consumes old new text
-  pub end : IsAtEnd new
-  pub within : length text ≤ 268435456
-
--- an input was read to its end, run without font files on a device in memory, and answered with this text
-abbrev pub AnswersInput : (old new : Option (List ℕ)) → (answer : List ℕ) → (fine : Bool) → Type 0
-AnswersInput old new answer fine = (text : List ℕ) × WasRead old new text × IsAnswerInMemory text [] answer fine

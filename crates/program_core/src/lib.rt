@@ -4,17 +4,14 @@
 #![tactic(auto)]
 
 mod hexadecimal;
-mod input;
 pub mod laws;
 mod memory_run;
-mod program;
 mod run;
 mod texts;
 mod writing;
 
-pub use job_core::{Device, DeviceFault, FontFile, FontName, Memory};
+pub use job_core::{Device, DeviceFault, FontFile, FontName, Fuse, Memory, Rest};
 pub use memory_run::run_memory;
-pub use program::{ProgramFault, answer_input, refuse_memory};
-pub use run::{RunFault, run_script};
+pub use run::{RunFault, run_rest, run_script};
 pub use script_core::{Cause, Line, ScriptFault, read_script};
-pub use writing::{Unwritten, write_text};
+pub use writing::{Unwritten, refuse_memory, write_text};

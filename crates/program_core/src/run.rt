@@ -1,13 +1,13 @@
 //! Running a script.
 
-ghost use Rattle.std.specs.Prelude.{◌≡◌, ◌<◌, ◌+◌, ◌^◌, ◌⊎◌, ◌&&◌, ℕ, List, [], map, is_ok, IfOk, IfErr, IfSome};
+ghost use Rattle.std.specs.Prelude.{◌≡◌, ◌<◌, ◌+◌, ◌^◌, ◌⊎◌, ℕ, List, [], Some, is_ok, IfOk, IfErr, IfSome};
 ghost use Rattle.std.specs.List.{list_all};
 ghost use Rattle.std.specs.Io.KnownBytes.{Appends};
-ghost use Rattle.program_core.specs.Runs.{commands_of, numbers_of, is_accepted, WasRun, IsAnswered, IsUntouched, WasRunWhole, IsLeft};
+ghost use Rattle.program_core.specs.Runs.{commands_of, numbers_of, is_accepted, device_of, WasRun, IsAnswered, IsUntouched, WasRunWhole, IsLeft, IsResumed};
 
 use crate::texts::{answers_text, script_refusal_text};
 use crate::writing::{Unwritten, write_text};
-use job_core::{Command, Device, FontFile, Job, Refusal, Reply, Summary};
+use job_core::{Command, Device, FontFile, Job, Refusal, Reply, Rest, Summary};
 use script_core::{Cause, Line, ScriptFault, read_script};
 use std::alloc::{AllocError, Global};
 use std::io::Write;
@@ -45,6 +45,8 @@ pub fn answer_script<D: Device>(
     ensures answers { IfOk result (λ done. IsAnswered D.told D.failed text.now files.now device done.device done.text.items done.accepted) }
     ensures left { IfErr result (λ back. IsUntouched (D.failed device) (D.failed back) (D.told back)
         ⊎ WasRunWhole text.now files.now (D.failed device) (D.failed back) (D.told back)) }
+    ensures began { IfOk result (λ done. D.began done.device ≡ D.began device) }
+    ensures kept { IfErr result (λ back. D.began back ≡ D.began device) }
 {
     let lines = match read_script(alloc, text) {
         Ok(lines) => lines,
@@ -89,6 +91,8 @@ pub fn run_script<D: Device, W: Write>(
     ensures answers { IfOk result (λ done. (answer : List ℕ) × IsAnswered D.told D.failed text.now files.now device done.1 answer done.0
         × Appends (W.contents writer.old) (W.contents writer.new) answer) }
     ensures left { IfErr result (λ fault. IsLeft D.told D.failed text.now files.now device fault (W.contents writer.old) (W.contents writer.new)) }
+    ensures began { IfOk result (λ done. D.began done.1 ≡ D.began device) }
+    ensures kept { IfErr result (λ fault. D.began (device_of fault) ≡ D.began device) }
 {
     let done = match answer_script(alloc, text, files, device) {
         Ok(done) => done,
@@ -105,6 +109,27 @@ pub fn run_script<D: Device, W: Write>(
     }
 }
 
+/// Runs a script text again over `Rest` of a device, which was sent these bytes before, and hands that device back. Where it told just these bytes, they are
+/// a beginning of the file of the script's pages, and the end succeeds, the device then tells exactly that file.
+pub fn run_rest<D: Device, W: Write>(
+    alloc: Global,
+    text: &[u8],
+    files: &[FontFile],
+    device: D,
+    sent: Vec<u8>,
+    writer: &mut W,
+) -> Result<(bool, D), RunFault<D>>
+    requires { D.failed device + 1 < 2 ^ 64 }
+    ensures whole { D.told device ≡ Some sent.items → IfOk result (λ done. (answer : List ℕ) × IsResumed text.now files.now sent.items (D.told done.1) answer done.0
+        × Appends (W.contents writer.old) (W.contents writer.new) answer) }
+{
+    match run_script(alloc, text, files, Rest::new(device, sent), writer) {
+        Ok((accepted, rest)) => Ok((accepted, rest.into_device())),
+        Err(RunFault::Memory(rest)) => Err(RunFault::Memory(rest.into_device())),
+        Err(RunFault::Answers(rest)) => Err(RunFault::Answers(rest.into_device())),
+    }
+}
+
 /// Runs commands on a new job, and finishes it. Where memory is refused nothing was run, and the device comes back.
 fn run_commands<D: Device>(
     alloc: Global,
@@ -116,6 +141,8 @@ fn run_commands<D: Device>(
     requires fresh { IfSome (D.told device) (λ bytes. bytes ≡ []) }
     ensures ran { IfOk result (λ ran. WasRun files.now (D.failed device) commands.now ran.0.items ran.1 (D.failed ran.2) (D.told ran.2)) }
     ensures none { IfErr result (λ back. IsUntouched (D.failed device) (D.failed back) (D.told back)) }
+    ensures began { IfOk result (λ ran. D.began ran.2 ≡ D.began device) }
+    ensures kept { IfErr result (λ back. D.began back ≡ D.began device) }
 {
     let mut job = Job::new(alloc, device, files)?;
     let mut replies = Vec::new(alloc);

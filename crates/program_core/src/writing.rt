@@ -2,7 +2,7 @@
 
 ghost use Rattle.std.specs.Prelude.{◌≤◌, [], length, take, IfOk, OnOk, OnErr};
 ghost use Rattle.std.specs.Io.KnownBytes.{Appends};
-ghost use Rattle.program_core.specs.Runs.{WritesFront};
+ghost use Rattle.program_core.specs.Runs.{WritesFront, memory_line};
 
 use std::io::{ErrorKind, Write};
 use thiserror::Error;
@@ -48,4 +48,12 @@ pub fn write_text<W: Write>(writer: &mut W, text: &[u8]) -> Result<(), Unwritten
         return Err(Unwritten);
     }
     Ok(())
+}
+
+/// Says that memory was refused.
+pub fn refuse_memory<W: Write>(writer: &mut W) -> Result<(), Unwritten>
+    ensures said { OnOk result (Appends (W.contents writer.old) (W.contents writer.new) memory_line) }
+    ensures unsaid { OnErr result (WritesFront (W.contents writer.old) (W.contents writer.new) memory_line) }
+{
+    write_text(writer, b"refused 1 OutOfMemory\n")
 }

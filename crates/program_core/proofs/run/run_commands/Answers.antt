@@ -15,7 +15,10 @@ pub returns-clause-ran : goal.returns-clause-ran
 returns-clause-ran g c =
     let ran = on_ok c.run.result (sym c.is_err.ensures.value ∙ c.if-is_err.false) c.run.ensures.ran in
     let run = was_run c.args.files.now c.args.commands.now ran.0 c.finish-end.result c.in_ok-job.job c.run.new.self c.finish-end.new.self
-    c.in_ok-job.ensures.ok ran.2 c.finish-end.ensures.finished c.finish-end.ensures.dvi c.finish-end.ensures.file c.finish-end.ensures.size c.finish-end.ensures.end c.finish-end.ensures.front in
+    c.in_ok-job.ensures.ok ran.2 c.finish-end.ensures.finished c.finish-end.ensures.dvi c.finish-end.ensures.file c.finish-end.ensures.size c.finish-end.ensures.count c.finish-end.ensures.end c.finish-end.ensures.front in
     same_run c.args.files.now _ _ _ _ _ _ _ _ _ _ _
     (sym c.in_ok-job.ensures.failed) refl
     (added_to_none _ _ ran.0 c.new-replies.ensures.items ran.1) c.into_device-2.ensures.failed c.into_device-2.ensures.told run
+
+pub returns-then-is_err-clause-kept : goal.returns-then-is_err-clause-kept
+returns-then-is_err-clause-kept g c = c.into_device.ensures.began ∙ (c.run.ensures.began ∙ c.in_ok-job.ensures.began)
