@@ -1,6 +1,9 @@
 -- Files of fonts, and what a file device tells.
-use Rattle.std.proofs.Common.{◌≡◌, ◌++◌, ◌<◌, [], ◌∷◌, List, ℕ, Option, Some, None, length, refl, sym, ◌∙◌, ap, arith, zero, suc, take, drop, get_or, false}
+use Rattle.std.proofs.Common.{◌≡◌, ◌≢◌, ◌++◌, ◌<◌, ◌≤◌, length-append, [], ◌∷◌, List, ℕ, Option, Some, None, length, refl, sym, ◌∙◌, ap, arith, zero, suc, take, drop, get_or, false}
 use Rattle.std.specs.Prelude.{IfSome}
+use Rattle.std.specs.Option.{ForSome}
+use Rattle.std.proofs.lemmas.List.{length-take-le}
+use Rattle.device_core.specs.Told.{grown}
 use Rattle.tfm_core.specs.NamedBytes.{NamedBytes}
 use Rattle.word_core.specs.declared.fonts.NamedPath.{NamedPath}
 use Rattle.host_core.specs.declared.font_files.Unread.{Unread}
@@ -43,3 +46,16 @@ begun_twice (Some bytes) = refl
 pub nothing_told : (written : Option (List ℕ)) → IfSome (told_by false written) (λ bytes. bytes ≡ [])
 nothing_told None = tt
 nothing_told (Some bytes) = refl
+
+-- a file that took a byte is not empty, where it is known what it took
+pub grown_used : (before after : Option (List ℕ)) (n : ℕ) (piece : List ℕ) → after ≡ grown before (take n piece) → 1 ≤ n → n ≤ length piece → ForSome after (λ bytes. bytes ≢ [])
+grown_used None after n piece is some within bytes now = absurd (none_some (sym is ∙ now))
+  where
+    none_some : grown None (take n piece) ≡ Some bytes → ⊥
+    none_some e = cc
+grown_used (Some told) after n piece is some within bytes now = λ empty.
+    let same : told ++ take n piece ≡ [] = same_bytes (sym is ∙ now) ∙ empty in
+    absurd (omega (arith, ap length same, length-append told (take n piece), length-take-le n piece within, some))
+  where
+    same_bytes : grown (Some told) (take n piece) ≡ Some bytes → told ++ take n piece ≡ bytes
+    same_bytes e = cc
