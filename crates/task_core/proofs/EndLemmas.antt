@@ -4,7 +4,7 @@ use Rattle.std.proofs.Math.Seq.{take-append-add}
 use Rattle.std.proofs.lemmas.List.{take-append-le, length-append}
 use Rattle.std.specs.Borrow.{Bor}
 use Rattle.std.specs.Io.KnownBytes.{Appends, Keeps}
-use Rattle.std.specs.Prelude.{◌==◌}
+use Rattle.std.specs.Prelude.{◌==◌, [], IfSome, IsSome}
 use Rattle.host_core.specs.Hosts.{AreFilesOf, told_by}
 use Rattle.tfm_core.specs.NamedBytes.{NamedBytes}
 use Rattle.host_core.specs.declared.font_files.Unread.{Unread}
@@ -13,7 +13,7 @@ use Rattle.word_core.specs.declared.fonts.NamedPath.{NamedPath}
 use Rattle.task_core.specs.Inputs.{IsUnreadScript}
 use Rattle.task_core.specs.Programs.{end_of}
 use Rattle.host_core.specs.Readings.{IsReading}
-use Rattle.task_core.specs.Typesets.{HasTypeset, IsLeftAlone, IsLeftToFile, IsToFile, IsTypeset, TellsUnwritten}
+use Rattle.task_core.specs.Typesets.{HasTypeset, IsLeftAlone, IsLeftToFile, IsToFile, IsTypeset, IsUsed, TellsUnwritten}
 use Rattle.program_core.specs.Runs.{IsUntouched, RanScript, RefusedScript, WasRunWhole, WritesFront, memory_line}
 use Rattle.program_core.proofs.WritingLemmas.{appends_both, appends_keeps, keeps_appends, keeps_front}
 use Rattle.task_core.specs.Ends.{EndsOutput, EndsTask, HasEnded, Takes, TellsErrors, TellsOutput, status_of}
@@ -72,12 +72,12 @@ output_then A U L NoSuchPage old mid new ended told = (ended.0, keeps_twice old 
 -- what a device that writes a file tells, in the words of a script that was typeset
 pub answered_to_file : (text : List ℕ) (files : List NamedBytes) (start : ℕ) (begun : Bool) (failures : ℕ) (back : Option (List ℕ)) (Same Kept : Type 0) (answer : List ℕ) (fine created done : Bool) (written : Option (List ℕ))
     → start ≡ 0 → created ≡ begun → done ≡ (failures == 0) → written ≡ back → (Same → begun ≡ false) → (Same → failures ≡ 0) → (Same → Kept)
-    → RanScript text files start failures (told_by begun back) answer fine ⊎ (RefusedScript text answer fine × Same) → IsToFile text files written Kept created done answer fine
-answered_to_file text files start begun failures back Same Kept answer fine created done written fresh opened counted kept closed none same (inl ran) =
+    → IsUsed created done written → RanScript text files start failures (told_by begun back) answer fine ⊎ (RefusedScript text answer fine × Same) → IsToFile text files written Kept created done answer fine
+answered_to_file text files start begun failures back Same Kept answer fine created done written fresh opened counted kept closed none same used (inl ran) =
     let at_start = subst (λ (n : ℕ). RanScript text files n failures (told_by begun back) answer fine) fresh ran in
     let at_open = subst (λ (is : Bool). RanScript text files 0 failures (told_by is back) answer fine) (sym opened) at_start in
-    inl (failures, subst (λ (bytes : Option (List ℕ)). RanScript text files 0 failures (told_by created bytes) answer fine) (sym kept) at_open, counted)
-answered_to_file text files start begun failures back Same Kept answer fine created done written fresh opened counted kept closed none same (inr refused) =
+    inl (failures, subst (λ (bytes : Option (List ℕ)). RanScript text files 0 failures (told_by created bytes) answer fine) (sym kept) at_open, counted, used)
+answered_to_file text files start begun failures back Same Kept answer fine created done written fresh opened counted kept closed none same used (inr refused) =
     inr (
       refused.0,
       record { same = same refused.1; closed = opened ∙ closed refused.1; silent = counted ∙ ap (λ (n : ℕ). n == 0) (none refused.1) },
@@ -85,9 +85,9 @@ answered_to_file text files start begun failures back Same Kept answer fine crea
 
 -- what such a device tells where memory was refused
 pub left_to_file : (text : List ℕ) (files : List NamedBytes) (start : ℕ) (begun : Bool) (failures : ℕ) (back : Option (List ℕ)) (created done : Bool) (written : Option (List ℕ))
-    → start ≡ 0 → created ≡ begun → done ≡ (failures == 0) → written ≡ back
+    → start ≡ 0 → created ≡ begun → done ≡ (failures == 0) → written ≡ back → IsUsed created done written
     → IsUntouched start failures (told_by begun back) ⊎ WasRunWhole text files start failures (told_by begun back) → IsLeftToFile text files written created done
-left_to_file text files start begun failures back created done written fresh opened counted kept left =
+left_to_file text files start begun failures back created done written fresh opened counted kept used left =
     let at_start = subst
     (λ (n : ℕ). IsUntouched n failures (told_by begun back) ⊎ WasRunWhole text files n failures (told_by begun back)) fresh left in
     let at_open = subst
@@ -95,6 +95,7 @@ left_to_file text files start begun failures back created done written fresh ope
       failures,
       subst (λ (bytes : Option (List ℕ)). IsUntouched 0 failures (told_by created bytes) ⊎ WasRunWhole text files 0 failures (told_by created bytes)) (sym kept) at_open,
       counted,
+      used,
     )
 
 -- a task has ended, and its end was told
@@ -170,3 +171,10 @@ not_typeset told input fonts out written Same fault old new errors errors' statu
       told_is = told_end;
       status_is = is;
     }
+
+-- a file whose script made no page, or for which nothing was run, was not created, where its host tells what it took and no write failed
+pub not_created : (created done : Bool) (written : Option (List ℕ)) → IsUsed created done written → done ≡ true → IsSome written → IfSome (told_by created written) (λ bytes. bytes ≡ [])
+    → created ≡ false
+not_created false done written used fine told empty = refl
+not_created true done None used fine told empty = cc
+not_created true done (Some bytes) used fine told empty = absurd (used refl fine bytes refl empty)

@@ -1,5 +1,6 @@
 -- Scripts that are typeset to a file (own).
-use Rattle.std.specs.Prelude.{◌≡◌, ◌==◌, ◌⊎◌, ℕ, Bool, true, false, List, Option, codes}
+use Rattle.std.specs.Prelude.{◌≡◌, ◌≢◌, ◌==◌, ◌⊎◌, [], ℕ, Bool, true, false, List, Option, codes}
+use Rattle.std.specs.Option.{ForSome}
 use Rattle.std.specs.Io.KnownBytes.{Keeps}
 use Rattle.host_core.specs.Hosts.{AreFilesOf, told_by}
 use Rattle.host_core.specs.Readings.{IsReading}
@@ -18,17 +19,22 @@ pub record IsLeftAlone (Same : Type 0) (created done : Bool) : Type 0 where
   pub closed : created ≡ false
   pub silent : done ≡ true
 
+-- where a file was created and took all that was handed to it, it has taken a byte, if its host tells what it took
+abbrev pub IsUsed : (created done : Bool) → (written : Option (List ℕ)) → Type 0
+IsUsed created done written = created ≡ true → done ≡ true → ForSome written (λ bytes. bytes ≢ [])
+
 -- a script was run with these font files on a new device that writes a file, and this is what its host then tells of that file; or the script is bad, and
 -- nothing was run
 abbrev pub IsToFile : (text : List ℕ) → List NamedBytes → (written : Option (List ℕ)) → (Same : Type 0) → (created done : Bool) → (answer : List ℕ) → (fine : Bool) → Type 0
 IsToFile text files written Same created done answer fine =
-    ((failed : ℕ) × RanScript text files 0 failed (told_by created written) answer fine × (done ≡ (failed == 0)))
+    ((failed : ℕ) × RanScript text files 0 failed (told_by created written) answer fine × (done ≡ (failed == 0)) × IsUsed created done written)
     ⊎ (RefusedScript text answer fine × IsLeftAlone Same created done)
 
 -- memory was refused where a script was to be run with these font files on a new device that writes a file: nothing was run on it, or the whole script
 abbrev pub IsLeftToFile : (text : List ℕ) → List NamedBytes → (written : Option (List ℕ)) → (created done : Bool) → Type 0
 IsLeftToFile text files written created done =
     (failed : ℕ) × (IsUntouched 0 failed (told_by created written) ⊎ WasRunWhole text files 0 failed (told_by created written)) × (done ≡ (failed == 0))
+    × IsUsed created done written
 
 -- the files of the fonts and the script were read, and the script was typeset
 abbrev pub IsTypeset : (List ℕ → Option (Option (List ℕ))) → (input : Option (List ℕ)) → List NamedPath → (written : Option (List ℕ)) → (Same : Type 0) → (created done : Bool) → (answer : List ℕ) → (fine : Bool) → Type 0

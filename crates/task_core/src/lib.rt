@@ -4,6 +4,7 @@
 #![tactic(auto)]
 
 mod inputs;
+pub mod laws;
 mod printing;
 mod running;
 mod task_end;
@@ -18,8 +19,8 @@ pub use host_core::{
 pub use inputs::{Inputs, read_dvi_inputs, read_script_inputs};
 pub use printing::{PrintFault, list_file, paint_file};
 pub use program_core::{
-    Cause, Device, DeviceFault, FontFile, FontName, Line, Memory, ProgramFault, RunFault,
-    ScriptFault, Unwritten, read_script, refuse_memory, run_memory, run_script, write_text,
+    Cause, Device, DeviceFault, FontFile, FontName, Line, Memory, RunFault, ScriptFault, Unwritten,
+    read_script, refuse_memory, run_memory, run_script, write_text,
 };
 pub use running::program;
 pub use task_end::TaskEnd;

@@ -2,7 +2,7 @@
 
 ghost use Rattle.std.specs.Prelude.{◌≡◌, ◌==◌};
 ghost use Rattle.task_core.specs.Ends.{EndsTask};
-ghost use Rattle.task_core.specs.Typesets.{IsLeftToFile, IsToFile};
+ghost use Rattle.task_core.specs.Typesets.{IsLeftToFile, IsToFile, IsUsed};
 
 use crate::inputs::Inputs;
 use crate::task_end::TaskEnd;
@@ -49,11 +49,14 @@ fn end_with<'a, H: Host>(end: TaskEnd<'a>, device: FileDevice<'_, H>) -> Typeset
     ensures created { result.created ≡ device.entry.is_open }
     ensures written { result.written ≡ (device.entry.failures == 0) }
     ensures host { result.host ≡ device.entry.host }
+    ensures used { IsUsed result.created result.written (H.written result.host) }
 {
+    let created = device.is_open();
+    let written = device.failures() == 0;
     TypesetEnd {
         end,
-        created: device.is_open(),
-        written: device.failures() == 0,
+        created,
+        written,
         host: device.into_host(),
     }
 }

@@ -10,7 +10,7 @@ returns-in-Ok-clause-ends g c =
       done.0,
       answered_to_file c.args.inputs.now.bytes.items c.args.inputs.now.files.items c.new-device.result.failures c.in-Ok.device.is_open c.in-Ok.device.failures
           (g.H.Host.written c.in-Ok.device.host) (c.in-Ok.device ≡ c.new-device.result) (c.end_with.result.host ≡ c.args.host) done.0 c.in-Ok.accepted c.end_with.result.created c.end_with.result.written
-          (g.H.Host.written c.end_with.result.host) c.new-device.ensures.fine c.end_with.ensures.created c.end_with.ensures.written (cc) (λ same. cc) (λ same. cc) (λ same. cc) done.1,
+          (g.H.Host.written c.end_with.result.host) c.new-device.ensures.fine c.end_with.ensures.created c.end_with.ensures.written (cc) (λ same. cc) (λ same. cc) (λ same. cc) c.end_with.ensures.used done.1,
       done.2,
     )
 
@@ -24,7 +24,7 @@ returns-in-Err-Answers-clause-ends g c =
       answered_to_file c.args.inputs.now.bytes.items c.args.inputs.now.files.items c.new-device.result.failures c.in-Err-Answers.device.is_open
           c.in-Err-Answers.device.failures (g.H.Host.written c.in-Err-Answers.device.host) (c.in-Err-Answers.device ≡ c.new-device.result) (c.end_with-in-Err-Answers.result.host ≡ c.args.host) done.0 done.1
           c.end_with-in-Err-Answers.result.created c.end_with-in-Err-Answers.result.written (g.H.Host.written c.end_with-in-Err-Answers.result.host)
-          c.new-device.ensures.fine c.end_with-in-Err-Answers.ensures.created c.end_with-in-Err-Answers.ensures.written (cc) (λ same. cc) (λ same. cc) (λ same. cc) done.2,
+          c.new-device.ensures.fine c.end_with-in-Err-Answers.ensures.created c.end_with-in-Err-Answers.ensures.written (cc) (λ same. cc) (λ same. cc) (λ same. cc) c.end_with-in-Err-Answers.ensures.used done.2,
       done.3,
     )
 
@@ -35,4 +35,4 @@ returns-in-Err-Memory-clause-left g c =
     λ _. left_to_file c.args.inputs.now.bytes.items c.args.inputs.now.files.items c.new-device.result.failures c.in-Err-Memory.device.is_open
     c.in-Err-Memory.device.failures (g.H.Host.written c.in-Err-Memory.device.host) c.end_with-in-Err-Memory.result.created
     c.end_with-in-Err-Memory.result.written (g.H.Host.written c.end_with-in-Err-Memory.result.host) c.new-device.ensures.fine
-    c.end_with-in-Err-Memory.ensures.created c.end_with-in-Err-Memory.ensures.written (cc) lacks.device
+    c.end_with-in-Err-Memory.ensures.created c.end_with-in-Err-Memory.ensures.written (cc) c.end_with-in-Err-Memory.ensures.used lacks.device
