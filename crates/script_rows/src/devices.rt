@@ -30,10 +30,13 @@ impl Broken {
 
 impl Device for Broken {
     ghost use Rattle.std.specs.Prelude.{None};
+    ghost use Rattle.device_core.specs.Beginnings.{no_beginning};
 
     ghost told = { λ broken. None };
 
     ghost failed = { λ broken. broken.failures };
+
+    ghost began = { λ broken. no_beginning };
 
     fn write(&mut self, _piece: &[u8]) -> Result<usize, DeviceFault> {
         self.failures += 1;
