@@ -1,10 +1,12 @@
 //! A case, and what is printed of it.
 
-use crate::devices::{Broken, DeviceKind};
-use anyhow::{Context, Result, ensure};
-use program_core::{Device, FontFile, run_memory, run_script};
+use crate::devices::{DeviceKind, FuseKind, Rerun};
+use crate::runs::{Script, Written};
+use anyhow::{Context, Result, bail, ensure};
+use program_core::FontFile;
 use std::alloc::{AllocError, Global};
 use std::io::Write;
+use std::num::NonZeroUsize;
 
 /// A line of a script, or a piece of one.
 #[derive(Clone, Copy)]
@@ -68,6 +70,15 @@ impl<'a> Case<'a> {
         Ok(())
     }
 
+    /// Lets the script be run again, on the device that may fail.
+    pub fn resume(&mut self, rerun: Rerun) -> Result<()> {
+        match &mut self.device {
+            DeviceKind::Fuse(_, reruns) => reruns.push(rerun)?,
+            _ => bail!("no device that may fail at one call"),
+        }
+        Ok(())
+    }
+
     /// Runs the script, or each of them, and prints the name and what is written.
     pub fn run<W: Write>(&self, alloc: Global, output: &mut W) -> Result<()> {
         writeln!(output, "== {}", self.name)?;
@@ -85,34 +96,64 @@ impl<'a> Case<'a> {
         Ok(())
     }
 
-    /// Runs a script, and prints what is written and whether all was accepted.
-    fn run_one<W: Write>(&self, alloc: Global, script: &[u8], output: &mut W) -> Result<()> {
-        let mut written = Vec::new(alloc);
-        let accepted = self
-            .append_answers(alloc, script, &mut written)
-            .context("memory was refused")?;
-        self.print_last_lines(alloc, &written, output)?;
-        let verdict = if accepted { "accepted" } else { "refused" };
-        writeln!(output, "{verdict}")?;
+    /// Runs a script on the device, and prints what is written and whether all was accepted.
+    fn run_one<W: Write>(&self, alloc: Global, text: &[u8], output: &mut W) -> Result<()> {
+        let script = Script {
+            text,
+            fonts: &self.fonts,
+        };
+        match &self.device {
+            DeviceKind::Memory => self.print(alloc, &script.on_memory(alloc)?, output),
+            DeviceKind::Broken => self.print(alloc, &script.on_broken(alloc)?, output),
+            DeviceKind::Fuse(kind, reruns) => {
+                self.run_on_fuse(alloc, &script, kind, reruns, output)
+            }
+            DeviceKind::EachCall { most, calls } => {
+                self.run_for_each_call(alloc, &script, *most, *calls, output)
+            }
+        }
+    }
+
+    /// Runs a script on a device that may fail, and then again in each of these ways.
+    fn run_on_fuse<W: Write>(
+        &self,
+        alloc: Global,
+        script: &Script,
+        kind: &FuseKind,
+        reruns: &[Rerun],
+        output: &mut W,
+    ) -> Result<()> {
+        let mut run = script.on_fuse(alloc, kind)?;
+        self.print(alloc, &run.written(alloc)?, output)?;
+        for rerun in reruns {
+            run = script.again(alloc, run, rerun)?;
+            self.print(alloc, &run.written(alloc)?, output)?;
+        }
         Ok(())
     }
 
-    /// Appends what is written for a script, and tells whether all was accepted; none where memory is refused.
-    fn append_answers(&self, alloc: Global, script: &[u8], written: &mut Vec<u8>) -> Option<bool> {
-        match self.device {
-            DeviceKind::Memory => run_memory(alloc, script, &self.fonts, written).ok(),
-            DeviceKind::Broken => {
-                let (accepted, device) = run_script(
-                    alloc,
-                    script,
-                    &self.fonts,
-                    Broken::new(),
-                    written,
-                ).ok()?;
-                writeln!(written, "failures {}", device.failures()).ok()?;
-                Some(accepted)
-            }
+    /// Runs a script on a device that does not fail; then, for each call, on one that fails at it, and again over the rest of its file.
+    fn run_for_each_call<W: Write>(
+        &self,
+        alloc: Global,
+        script: &Script,
+        most: NonZeroUsize,
+        calls: u64,
+        output: &mut W,
+    ) -> Result<()> {
+        let whole = script.on_fuse(alloc, &FuseKind { most, at: 0 })?;
+        self.print(alloc, &whole.written(alloc)?, output)?;
+        for at in 1..=calls {
+            print_call(alloc, script, &FuseKind { most, at }, whole.bytes(), output)?;
         }
+        Ok(())
+    }
+
+    /// Prints what is shown of a text, and whether all was accepted.
+    fn print<W: Write>(&self, alloc: Global, written: &Written, output: &mut W) -> Result<()> {
+        self.print_last_lines(alloc, &written.text, output)?;
+        writeln!(output, "{}", verdict(written.accepted))?;
+        Ok(())
     }
 
     /// Prints the last lines of a text, and in front of them how many there are before.
@@ -129,6 +170,38 @@ impl<'a> Case<'a> {
         }
         Ok(())
     }
+}
+
+/// Runs a script on a device that fails at a call, and again over the rest of its file; prints how many bytes were taken before, and whether the device then
+/// has the whole file.
+fn print_call<W: Write>(
+    alloc: Global,
+    script: &Script,
+    kind: &FuseKind,
+    whole: &[u8],
+    output: &mut W,
+) -> Result<()> {
+    let run = script.on_fuse(alloc, kind)?;
+    write!(output, "call {}: ", kind.at)?;
+    write!(
+        output,
+        "{} bytes, {}; ",
+        run.bytes().len(),
+        verdict(run.is_accepted())
+    )?;
+    let again = script.again(alloc, run, &Rerun::Same)?;
+    let file = if again.bytes() == whole {
+        "whole"
+    } else {
+        "not whole"
+    };
+    writeln!(output, "resumed: {file}, {}", verdict(again.is_accepted()))?;
+    Ok(())
+}
+
+/// The word for a run of which all was accepted, or not.
+fn verdict(accepted: bool) -> &'static str {
+    if accepted { "accepted" } else { "refused" }
 }
 
 /// The script of some pieces.

@@ -1,12 +1,14 @@
 //! Named cases of scripts: the program reads a file of cases from its standard input, runs each, and prints what is written for it.
 //!
-//! The form of the file is in docs/FORMATS.md. In short: `file` and `bytes` give a font file, `case` begins a case, `font`, `device`, `each`
-//! and `last` say how its script is run and shown, and `|` or `\` stand in front of a line of the script.
+//! The form of the file is in docs/FORMATS.md. In short: `file` and `bytes` give a font file, `case` begins a case, `font`, `device`,
+//! `resume`, `each` and `last` say how its script is run and shown, and `|` or `\` stand in front of a line of the script.
 #![tactic(auto)]
 
 mod cases;
+mod change;
 mod devices;
 mod reading;
+mod runs;
 
 use anyhow::Result;
 use reading::read_cases;

@@ -1,7 +1,8 @@
 //! Reading a case file.
 
 use crate::cases::{Case, Piece};
-use crate::devices::DeviceKind;
+use crate::change::Change;
+use crate::devices::{DeviceKind, FuseKind, Rerun};
 use anyhow::{Context, Result, bail, ensure};
 use program_core::{FontFile, FontName};
 use std::alloc::Global;
@@ -12,13 +13,6 @@ use std::str;
 struct StoredFile<'a> {
     name: &'a str,
     bytes: Vec<u8>,
-}
-
-/// A byte of a font file that is changed.
-#[derive(Clone, Copy)]
-struct Change {
-    place: usize,
-    byte: u8,
 }
 
 /// What was read of a case file.
@@ -68,13 +62,22 @@ impl<'a> Reading<'a> {
             ["bytes", digits] => self.extend_file(digits)?,
             ["case", name] => self.begin_case(name)?,
             ["font", name] => self.hand_in(name, None)?,
-            ["font", name, place, byte] => {
-                let place = place.parse()?;
-                let byte = u8::from_str_radix(byte, 16)?;
-                self.hand_in(name, Some(Change { place, byte }))?;
-            }
+            ["font", name, place, byte] => self.hand_in(name, Some(change(place, byte)?))?,
             ["device", "memory"] => self.case()?.device = DeviceKind::Memory,
             ["device", "broken"] => self.case()?.device = DeviceKind::Broken,
+            ["device", "fuse", most, at] => {
+                let reruns = Vec::new(self.alloc);
+                self.case()?.device = DeviceKind::Fuse(fuse(most, at)?, reruns);
+            }
+            ["device", "fuse", most, "each", calls] => {
+                let (most, calls) = (most.parse()?, calls.parse()?);
+                self.case()?.device = DeviceKind::EachCall { most, calls };
+            }
+            ["resume"] => self.case()?.resume(Rerun::Same)?,
+            ["resume", place, byte] => {
+                self.case()?.resume(Rerun::Changed(change(place, byte)?))?;
+            }
+            ["resume", "fuse", most, at] => self.case()?.resume(Rerun::New(fuse(most, at)?))?,
             ["each"] => self.case()?.each = true,
             ["last", count] => self.case()?.last = Some(count.parse()?),
             ["repeat", count] => self.case()?.begin_repeat(count.parse()?)?,
@@ -103,8 +106,8 @@ impl<'a> Reading<'a> {
     fn hand_in(&mut self, name: &str, change: Option<Change>) -> Result<()> {
         let file = self.files.iter().find(|file| file.name == name);
         let mut bytes = file.context("no file has this name")?.bytes.clone()?;
-        if let Some(Change { place, byte }) = change {
-            *bytes.get_mut(place).context("the file ends before")? = byte;
+        if let Some(change) = change {
+            change.make(&mut bytes)?;
         }
         let name = FontName::try_new(name.as_bytes().to_vec(self.alloc)?);
         let file = FontFile::new(name.context("no name of a font")?, bytes);
@@ -128,4 +131,20 @@ impl<'a> Reading<'a> {
     fn case(&mut self) -> Result<&mut Case<'a>> {
         self.cases.last_mut().context("no case has begun")
     }
+}
+
+/// The change that two words say: a place, and a byte in two hexadecimal digits.
+fn change(place: &str, byte: &str) -> Result<Change> {
+    Ok(Change {
+        place: place.parse()?,
+        byte: u8::from_str_radix(byte, 16)?,
+    })
+}
+
+/// The device that two words say: how many bytes it takes a call, and the call at which it fails.
+fn fuse(most: &str, at: &str) -> Result<FuseKind> {
+    Ok(FuseKind {
+        most: most.parse()?,
+        at: at.parse()?,
+    })
 }

@@ -1,0 +1,18 @@
+//! A byte that is changed.
+
+use anyhow::{Context, Result};
+
+/// A byte that is to stand at a place.
+#[derive(Clone, Copy)]
+pub struct Change {
+    pub place: usize,
+    pub byte: u8,
+}
+
+impl Change {
+    /// Changes the byte at that place.
+    pub fn make(&self, bytes: &mut [u8]) -> Result<()> {
+        *bytes.get_mut(self.place).context("there are fewer bytes")? = self.byte;
+        Ok(())
+    }
+}
