@@ -70,7 +70,7 @@ impl<'a> Case<'a> {
         Ok(())
     }
 
-    /// Lets the script be run again, on the device that may fail.
+    /// Adds a run over the rest of the file; only a device that may fail at one call has one.
     pub fn resume(&mut self, rerun: Rerun) -> Result<()> {
         match &mut self.device {
             DeviceKind::Fuse(_, reruns) => reruns.push(rerun)?,
@@ -126,7 +126,7 @@ impl<'a> Case<'a> {
         let mut run = script.on_fuse(alloc, kind)?;
         self.print(alloc, &run.written(alloc)?, output)?;
         for rerun in reruns {
-            run = script.again(alloc, run, rerun)?;
+            run = script.run_again(alloc, run, rerun)?;
             self.print(alloc, &run.written(alloc)?, output)?;
         }
         Ok(())
@@ -189,7 +189,7 @@ fn print_call<W: Write>(
         run.bytes().len(),
         verdict(run.is_accepted())
     )?;
-    let again = script.again(alloc, run, &Rerun::Same)?;
+    let again = script.run_again(alloc, run, &Rerun::Same)?;
     let file = if again.bytes() == whole {
         "whole"
     } else {

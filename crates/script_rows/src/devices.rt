@@ -12,9 +12,9 @@ pub enum DeviceKind {
     Memory,
     /// Each write fails.
     Broken,
-    /// It takes pieces and may fail at one call; then the script is run again in these ways.
+    /// It takes pieces and may fail at one call. The script is then run again in these ways.
     Fuse(FuseKind, Vec<Rerun>),
-    /// Such a device for each of these calls, which fails at it.
+    /// It takes pieces of at most `most` bytes. For each of the calls 1 to `calls` there is a new one, which fails at that call.
     EachCall { most: NonZeroUsize, calls: u64 },
 }
 
@@ -40,11 +40,11 @@ impl FuseKind {
 /// How a script is run again over the rest of its file.
 #[derive(Clone, Copy)]
 pub enum Rerun {
-    /// The device goes on.
+    /// On the device that took the beginning of it.
     Same,
-    /// The same, but a byte of what is said to have been sent is another.
+    /// On that device, with a byte changed in what was sent to it.
     Changed(Change),
-    /// A new device goes on, to which all that was sent is written first.
+    /// On a new device, to which that beginning is written first.
     New(FuseKind),
 }
 

@@ -58,11 +58,9 @@ impl Script<'_> {
     /// What is written for it on a device in memory.
     pub fn on_memory(&self, alloc: Global) -> Result<Written> {
         let mut text = Vec::new(alloc);
-        let accepted = run_memory(alloc, self.text, self.fonts, &mut text).ok();
-        Ok(Written {
-            text,
-            accepted: accepted.context("memory was refused")?,
-        })
+        let done = run_memory(alloc, self.text, self.fonts, &mut text).ok();
+        let accepted = done.context("memory was refused")?;
+        Ok(Written { text, accepted })
     }
 
     /// What is written for it on a device that takes nothing.
@@ -87,8 +85,8 @@ impl Script<'_> {
         })
     }
 
-    /// Runs it again after a run.
-    pub fn again(&self, alloc: Global, run: FuseRun, rerun: &Rerun) -> Result<FuseRun> {
+    /// Runs it again over the rest of its file, after a run.
+    pub fn run_again(&self, alloc: Global, run: FuseRun, rerun: &Rerun) -> Result<FuseRun> {
         let mut sent = Vec::from_slice(alloc, run.bytes())?;
         match rerun {
             Rerun::Same => self.over_rest(alloc, run.device, sent),
@@ -104,7 +102,7 @@ impl Script<'_> {
         }
     }
 
-    /// Runs it over the rest of its file, on a device to which these bytes are said to have been sent before.
+    /// Runs it over the rest of its file, on a device to which these bytes were sent before.
     fn over_rest(&self, alloc: Global, device: Fuse, sent: Vec<u8>) -> Result<FuseRun> {
         ensure!(
             device.failures() < u64::MAX,
