@@ -1,55 +1,13 @@
 //! Jobs on devices.
 
-ghost use Rattle.std.specs.Prelude.{Some};
-
 use job_core::{
-    Answer, BoxForm, Command, Device, DeviceFault, FontFile, Job, Opening, Refusal, Register,
-    Reply, Summary, Target,
+    Answer, BoxForm, Command, Device, Fuse, Job, Memory, Opening, Refusal, Register, Reply, Rest,
+    Summary, Target, finish_rest,
 };
 use node_core::{Rule, RuleSize};
 use scaled_core::Dimen;
 use std::alloc::Global;
 use std::process::Abort;
-
-/// A device that takes one byte a call, and fails at one call.
-#[derive(Drop)]
-struct Dripping {
-    bytes: Vec<u8>,
-    calls: u64,
-    fails_at: u64,
-    failures: u64,
-}
-
-impl Device for Dripping {
-    ghost told = { λ device. Some device.bytes.items };
-
-    ghost failed = { λ device. device.failures };
-
-    fn write(&mut self, piece: &[u8]) -> Result<usize, DeviceFault> {
-        self.calls = self.calls.saturating_add(1);
-        let taken = self.calls != self.fails_at && self.bytes.push(piece[0]).is_ok();
-        if taken {
-            return Ok(1);
-        }
-        self.failures += 1;
-        Err(DeviceFault)
-    }
-
-    fn failures(&self) -> u64 {
-        self.failures
-    }
-}
-
-/// A job on such a device.
-fn job(alloc: Global, files: &[FontFile], fails_at: u64) -> Option<Job<Dripping>> {
-    let device = Dripping {
-        bytes: Vec::new(alloc),
-        calls: 0,
-        fails_at,
-        failures: 0,
-    };
-    Job::new(alloc, device, files).ok()
-}
 
 /// The opening of a horizontal list for the first register.
 fn hbox() -> Command {
@@ -61,12 +19,12 @@ fn hbox() -> Command {
 }
 
 /// Whether a command of a job is taken.
-fn is_taken(job: &mut Job<Dripping>, command: &Command) -> bool {
+fn is_taken<D: Device>(job: &mut Job<D>, command: &Command) -> bool {
     job.step(command).is_ok()
 }
 
 /// A page of a rule 1pt wide and high is made, and its `ship` is answered.
-fn ship_a_rule(job: &mut Job<Dripping>, point: Dimen) -> Option<Reply> {
+fn ship_a_rule<D: Device>(job: &mut Job<D>, point: Dimen) -> Option<Reply> {
     let rule = Rule {
         width: RuleSize::Fixed(point),
         height: RuleSize::Fixed(point),
@@ -81,16 +39,13 @@ fn ship_a_rule(job: &mut Job<Dripping>, point: Dimen) -> Option<Reply> {
     None
 }
 
-/// A job with that page on a device that fails at one call: how the page was answered, how the job ended, and the bytes that went out.
-fn end_and_bytes(
-    alloc: Global,
-    fails_at: u64,
-) -> Option<(Reply, Result<Summary, Refusal>, Vec<u8>)> {
+/// A job with that page on a device that takes one byte a call and fails at one call: how the page was answered, how the job ended, and the device.
+fn end_and_device(alloc: Global, fails_at: u64) -> Option<(Reply, Result<Summary, Refusal>, Fuse)> {
     let point = Dimen::try_new(65_536)?;
-    let mut job = job(alloc, &[], fails_at)?;
+    let mut job = Job::new(alloc, Fuse::new(alloc, 1, fails_at), &[]).ok()?;
     let shipped = ship_a_rule(&mut job, point)?;
     let end = job.finish();
-    Some((shipped, end, job.into_device().bytes))
+    Some((shipped, end, job.into_device()))
 }
 
 /// The file of that page: bop at 15, post at 74, seven bytes 223 (by DVItype's table of instructions).
@@ -113,12 +68,12 @@ fn ends_so(
     end: &Result<Summary, Refusal>,
     count: usize,
 ) -> bool {
-    match end_and_bytes(alloc, fails_at) {
+    match end_and_device(alloc, fails_at) {
         None => false,
-        Some((shipped, finished, bytes)) => {
+        Some((shipped, finished, device)) => {
             shipped == *page
                 && finished == *end
-                && ONE_RULE_PAGE.get(..count) == Some(bytes.as_slice())
+                && ONE_RULE_PAGE.get(..count) == Some(device.bytes())
         }
     }
 }
@@ -135,4 +90,61 @@ fn a_device_takes_one_byte_a_call_and_may_fail(rt: HostRuntime) {
     assert!(rt; ends_so(rt.alloc(), 0, &shipped, &Ok(summary), 116));
     assert!(rt; ends_so(rt.alloc(), 75, &shipped, &Err(Refusal::Device), 74));
     assert!(rt; ends_so(rt.alloc(), 74, &lost, &over, 73));
+}
+
+/// The same job again over the rest of its file, on the device that took the first of its bytes: how it ended, and the device.
+fn resumed(
+    alloc: Global,
+    device: Fuse,
+    sent: &[u8],
+) -> Option<(Reply, Result<Summary, Refusal>, Fuse)> {
+    let point = Dimen::try_new(65_536)?;
+    if device.failures() == u64::MAX {
+        return None;
+    }
+    let rest = Rest::new(device, Vec::from_slice(alloc, sent).ok()?);
+    let mut job = Job::new(alloc, rest, &[]).ok()?;
+    let shipped = ship_a_rule(&mut job, point)?;
+    let (end, device) = finish_rest(job);
+    Some((shipped, end, device))
+}
+
+#[test]
+fn a_job_is_resumed_after_each_failure(rt: HostRuntime) {
+    let alloc = rt.alloc();
+    let summary = Summary {
+        pages: 1,
+        bytes: 116,
+    };
+    for fails_at in [1, 2, 15, 16, 73, 74, 75, 115, 116] {
+        let (_, _, device) = end_and_device(alloc, fails_at).expect(&rt, "it runs");
+        let sent = Vec::from_slice(alloc, device.bytes()).expect(&rt, "there is memory");
+        let (page, end, device) = resumed(alloc, device, &sent).expect(&rt, "it runs again");
+        assert_eq!(rt; page, Ok(Answer::Shipped(1)));
+        assert_eq!(rt; end, Ok(summary));
+        assert_eq!(rt; device.bytes(), ONE_RULE_PAGE.as_slice());
+    }
+}
+
+#[test]
+fn a_job_is_not_resumed_after_other_bytes(rt: HostRuntime) {
+    let alloc = rt.alloc();
+    let (_, _, device) = end_and_device(alloc, 74).expect(&rt, "it runs");
+    let mut sent = Vec::from_slice(alloc, device.bytes()).expect(&rt, "there is memory");
+    sent[72] = 0;
+    let (page, end, device) = resumed(alloc, device, &sent).expect(&rt, "it runs again");
+    assert_eq!(rt; page, Err(Refusal::Device));
+    assert_eq!(rt; end, Err(Refusal::JobOver));
+    assert_eq!(rt; device.bytes().len(), 73);
+}
+
+#[test]
+fn a_memory_takes_all_that_there_is_room_for(rt: HostRuntime) {
+    let mut memory = Memory::new(rt.alloc());
+    let piece = [7; 1_000];
+    for _ in 0..100 {
+        assert_eq!(rt; memory.write(&piece), Ok(1_000));
+    }
+    assert_eq!(rt; memory.bytes().len(), 100_000);
+    assert_eq!(rt; memory.failures(), 0);
 }

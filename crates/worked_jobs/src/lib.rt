@@ -7,3 +7,5 @@ mod jobs;
 mod many_pages;
 #[cfg(test)]
 mod scripts;
+#[cfg(test)]
+mod streams;

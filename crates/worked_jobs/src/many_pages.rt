@@ -110,9 +110,13 @@ struct Tally {
 }
 
 impl Device for Tally {
+    ghost use Rattle.device_core.specs.Beginnings.{no_beginning};
+
     ghost told = { λ tally. None };
 
     ghost failed = { λ tally. 0 };
+
+    ghost began = { λ tally. no_beginning };
 
     fn write(&mut self, piece: &[u8]) -> Result<usize, DeviceFault> {
         self.taken = self.taken.saturating_add(piece.len() as u64);
