@@ -12,6 +12,8 @@ from steps.texts import blocks, first_difference, last_lines
 from steps.trying import rt_try
 
 STREAMS = {"closed-stdin", "closed-stdout", "full-stdout"}
+# Seconds for each run: much more than it takes, for machines with other work.
+LIMIT = 300
 LINE = re.compile(rb"^case=(\S+) run=(\S+)(?: status=(\d+))?.* proved=no\n", re.M)
 
 
@@ -80,7 +82,7 @@ class Batch:
                 write(f"{to}.args", case_folder.read(case, "words"))
         for name, content in self.files.items():
             write(f"{room}/{name}", content)
-        return [word for name in self.files for word in ("--data", f"{name}={room}/{name}")] + ["--cases", f"{room}/cases"]
+        return [word for name in self.files for word in ("--data", f"{name}={room}/{name}")] + ["--seconds", str(LIMIT), "--cases", f"{room}/cases"]
 
     @cached_property
     def found(self):
