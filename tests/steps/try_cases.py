@@ -1,5 +1,5 @@
 """Case folders in one build, by `rt try --cases`. It gives each run its words, its standard input and copies of files that all runs share,
-and prints what each run prints, and its status."""
+and prints what each run prints, and its status. The word {} names a copy of what standard input gives: so a run gets a file of its own."""
 import os
 import re
 import tempfile
@@ -67,10 +67,28 @@ class Batch:
             return "under rt try /dev/stdout is no pipe"
         if not is_text(case_folder.words_of(case)):
             return "rt try gives only words in UTF-8"
-        for name in case_folder.files_in(f"{case}/files"):
-            if case_folder.read(case, f"files/{name}") != self.files[name]:
-                return f"rt try gives all cases the same {name}, and it has another one"
+        own = self.own_files(case)
+        if own and not self.takes_as_input(case, own):
+            return f"rt try gives all cases the same {own[0]}, and it has another one"
         return None
+
+    def own_files(self, case):
+        """The files of a case whose names stand for other bytes in more of the cases."""
+        return [name for name in case_folder.files_in(f"{case}/files") if case_folder.read(case, f"files/{name}") != self.files[name]]
+
+    def takes_as_input(self, case, own):
+        """Whether the files of its own are one file that standard input can give, and {} can name."""
+        name, printed = own[0].encode(), case_folder.read(case, "stdout") + case_folder.read(case, "stderr")
+        is_free = not case_folder.input_of(case, self.root) and name not in printed
+        return len(own) == 1 and is_free and case_folder.words_of(case).count(name) == 1
+
+    def given(self, case):
+        """What standard input gives to a case, and its words, one a line."""
+        own = self.own_files(case)
+        if not own:
+            return case_folder.input_of(case, self.root), case_folder.read(case, "words")
+        words = [b"{}" if it == own[0].encode() else it for it in case_folder.words_of(case)]
+        return case_folder.read(case, f"files/{own[0]}"), b"\n".join([*words, b""])
 
     def lay_out(self, room):
         """Writes the cases and the shared files in the form of `rt try --cases`, and returns the words for it."""
@@ -78,8 +96,9 @@ class Batch:
         for case in self.cases:
             if not self.reason(case):
                 to = f"{room}/cases/{os.path.basename(case)}"
-                write(to, case_folder.input_of(case, self.root))
-                write(f"{to}.args", case_folder.read(case, "words"))
+                content, words = self.given(case)
+                write(to, content)
+                write(f"{to}.args", words)
         for name, content in self.files.items():
             write(f"{room}/{name}", content)
         return [word for name in self.files for word in ("--data", f"{name}={room}/{name}")] + ["--seconds", str(LIMIT), "--cases", f"{room}/cases"]
