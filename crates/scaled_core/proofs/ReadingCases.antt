@@ -1,8 +1,7 @@
 -- What reading a text gives, case by case.
-use Rattle.std.proofs.Common.{◌≡◌, ℕ, ℤ, pos, negsuc, ◌≤◌, true, false, List, Option, Some, None, Result, Ok, Err, ◌⊎◌, ⊎_elim, inl, inr, ◌↔◌, subst, ◌∙◌, refl, arith, unsigned_abs}
+use Rattle.std.proofs.Common.{◌≡◌, ℕ, ℤ, true, false, List, Option, Some, None, Result, Ok, Err, ◌⊎◌, ⊎_elim, inl, inr, ◌↔◌, subst, ◌∙◌, refl}
 use Rattle.std.specs.Result.{IfOk}
-use Rattle.std.proofs.lemmas.Bool.{leb-true, le-leb, cases_Bool}
-use Rattle.std.proofs.lemmas.Int.{ints}
+use Rattle.std.proofs.lemmas.Bool.{cases_Bool}
 use Rattle.scaled_core.specs.declared.fault.DimenFault.{DimenFault}
 use Rattle.scaled_core.specs.declared.fault.DimenFault.TheVariants.{TooLarge, NotADimension}
 use Rattle.scaled_core.specs.Dimensions.{Fits, fits}

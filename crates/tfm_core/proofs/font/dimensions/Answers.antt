@@ -1,5 +1,5 @@
 -- A turn of the loop: the word at the index fits, and its dimension is appended.
-use Rattle.std.proofs.Common.{◌≡◌, ◌∙◌, pos, get_or, to_z, of_z, w32, ap, refl, rules, SFits}
+use Rattle.std.proofs.Common.{◌≡◌, ◌∙◌, pos, get_or, w32, ap, refl, rules, SFits}
 use Rattle.std.proofs.lemmas.Int.{to_z-of_z}
 use Rattle.std.proofs.lemmas.List.{map_more}
 use Rattle.tfm_core.specs.Scaling.{scaled}
