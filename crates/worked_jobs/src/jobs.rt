@@ -131,7 +131,7 @@ fn a_job_is_not_resumed_after_other_bytes(rt: HostRuntime) {
     let alloc = rt.alloc();
     let (_, _, device) = end_and_device(alloc, 74).expect(&rt, "it runs");
     let mut sent = Vec::from_slice(alloc, device.bytes()).expect(&rt, "there is memory");
-    sent[72] = 1;
+    *sent.get_mut(72).expect(&rt, "73 bytes were sent") = 1;
     let (page, end, device) = resumed(alloc, device, &sent).expect(&rt, "it runs again");
     assert_eq!(rt; page, Err(Refusal::Device));
     assert_eq!(rt; end, Err(Refusal::JobOver));
