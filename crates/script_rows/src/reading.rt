@@ -63,21 +63,8 @@ impl<'a> Reading<'a> {
             ["case", name] => self.begin_case(name)?,
             ["font", name] => self.hand_in(name, None)?,
             ["font", name, place, byte] => self.hand_in(name, Some(change(place, byte)?))?,
-            ["device", "memory"] => self.case()?.device = DeviceKind::Memory,
-            ["device", "broken"] => self.case()?.device = DeviceKind::Broken,
-            ["device", "fuse", most, at] => {
-                let reruns = Vec::new(self.alloc);
-                self.case()?.device = DeviceKind::Fuse(fuse(most, at)?, reruns);
-            }
-            ["device", "fuse", most, "each", calls] => {
-                let (most, calls) = (most.parse()?, calls.parse()?);
-                self.case()?.device = DeviceKind::EachCall { most, calls };
-            }
-            ["resume"] => self.case()?.resume(Rerun::Same)?,
-            ["resume", place, byte] => {
-                self.case()?.resume(Rerun::Changed(change(place, byte)?))?;
-            }
-            ["resume", "fuse", most, at] => self.case()?.resume(Rerun::New(fuse(most, at)?))?,
+            ["device", ..] => self.case()?.device = device(self.alloc, words)?,
+            ["resume", ..] => self.case()?.resume(rerun(words)?)?,
             ["each"] => self.case()?.each = true,
             ["last", count] => self.case()?.last = Some(count.parse()?),
             ["repeat", count] => self.case()?.begin_repeat(count.parse()?)?,
@@ -131,6 +118,30 @@ impl<'a> Reading<'a> {
     fn case(&mut self) -> Result<&mut Case<'a>> {
         self.cases.last_mut().context("no case has begun")
     }
+}
+
+/// The device that the words of a line say.
+fn device(alloc: Global, words: &[&str]) -> Result<DeviceKind> {
+    Ok(match *words {
+        ["device", "memory"] => DeviceKind::Memory,
+        ["device", "broken"] => DeviceKind::Broken,
+        ["device", "fuse", most, at] => DeviceKind::Fuse(fuse(most, at)?, Vec::new(alloc)),
+        ["device", "fuse", most, "each", calls] => DeviceKind::EachCall {
+            most: most.parse()?,
+            calls: calls.parse()?,
+        },
+        _ => bail!("the form has no such device"),
+    })
+}
+
+/// The run over the rest of a file that the words of a line say.
+fn rerun(words: &[&str]) -> Result<Rerun> {
+    Ok(match *words {
+        ["resume"] => Rerun::Same,
+        ["resume", place, byte] => Rerun::Changed(change(place, byte)?),
+        ["resume", "fuse", most, at] => Rerun::New(fuse(most, at)?),
+        _ => bail!("the form has no such run"),
+    })
 }
 
 /// The change that two words say: a place, and a byte in two hexadecimal digits.
