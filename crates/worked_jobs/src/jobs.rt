@@ -143,6 +143,7 @@ fn a_memory_takes_all_that_there_is_room_for(rt: HostRuntime) {
     let mut memory = Memory::new(rt.alloc());
     let piece = [7; 1_000];
     for _ in 0..100 {
+        assert!(rt; memory.failures() == 0);
         assert_eq!(rt; memory.write(&piece), Ok(1_000));
     }
     assert_eq!(rt; memory.bytes().len(), 100_000);
