@@ -1,4 +1,6 @@
-//! The limits of a job.
+//! The limits of a job, and their numbers as a law.
+
+ghost use Rattle.std.specs.Prelude.{◌≡◌};
 
 /// How many box registers there are.
 pub const REGISTERS: usize = 256;
@@ -20,3 +22,14 @@ pub const MOST_PAGES: u32 = 65_535;
 
 /// How many nodes a job may ship, on all its pages together.
 pub const MOST_SHIPPED: u64 = 16_777_216;
+
+/// The limits of a job are these numbers. The definitions take them from the constants.
+pub fn limits_of_a_job()
+    ensures registers { REGISTERS ≡ 256 }
+    ensures counts { COUNTS ≡ 10 }
+    ensures open { MOST_OPEN ≡ 64 }
+    ensures items { MOST_ITEMS ≡ 65536 }
+    ensures deep { MOST_DEEP ≡ 200 }
+    ensures pages { MOST_PAGES ≡ 65535 }
+    ensures shipped { MOST_SHIPPED ≡ 16777216 }
+{}
