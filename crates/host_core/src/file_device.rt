@@ -9,7 +9,7 @@ use crate::host::Host;
 use device_core::{Device, DeviceFault};
 
 /// A device that writes a file at a path of its host: it creates the file at its first write. A file that cannot be created or written is its failure. So a
-/// file that was created has taken a byte, where its host tells what it took, or a write has failed.
+/// file that was created has taken a byte, where its host tells what it took, or a write has failed. It fails only where its host has failed.
 #[derive(Debug, Drop)]
 pub struct FileDevice<'a, H: Host> {
     host: H,
@@ -17,6 +17,7 @@ pub struct FileDevice<'a, H: Host> {
     is_open: bool,
     failures: u64,
     ghost used: { is_open ≡ true → failures ≡ 0 → ForSome (H.written host) (λ bytes. bytes ≢ []) },
+    ghost blamed: { failures ≢ 0 → H.has_failed host ≡ true },
 }
 
 impl<'a, H: Host> FileDevice<'a, H> {
@@ -41,10 +42,11 @@ impl<'a, H: Host> FileDevice<'a, H> {
         self.is_open
     }
 
-    /// Its host. Where its file was created and no write failed, the file has taken a byte.
+    /// Its host. Where its file was created and no write failed, the file has taken a byte. Where one failed, the host has failed.
     pub fn into_host(self) -> H
         ensures host { result ≡ self.entry.host }
         ensures used { self.entry.is_open ≡ true → self.entry.failures ≡ 0 → ForSome (H.written result) (λ bytes. bytes ≢ []) }
+        ensures blamed { self.entry.failures ≢ 0 → H.has_failed result ≡ true }
     {
         self.host
     }
@@ -54,6 +56,8 @@ impl<'a, H: Host> FileDevice<'a, H> {
 fn open<H: Host>(host: &mut H, path: &str, is_open: &mut bool) -> Result<(), DeviceFault>
     ensures told { told_by is_open.new (H.written host.new) ≡ told_by is_open.old (H.written host.old) }
     ensures open { OnOk result (is_open.new ≡ true) }
+    ensures stands { OnOk result (H.has_failed host.new ≡ H.has_failed host.old) }
+    ensures fails { OnErr result (H.has_failed host.new ≡ true) }
 {
     if *is_open {
         return Ok(());
@@ -79,6 +83,8 @@ fn put<H: Host>(
     ensures taken { IfOk result (λ n. told_by is_open.new (H.written host.new) ≡ grown (told_by is_open.old (H.written host.old)) (take n piece.now)) }
     ensures none_taken { OnErr result (told_by is_open.new (H.written host.new) ≡ told_by is_open.old (H.written host.old)) }
     ensures used { OnOk result (ForSome (H.written host.new) (λ bytes. bytes ≢ [])) }
+    ensures stands { OnOk result (H.has_failed host.new ≡ H.has_failed host.old) }
+    ensures fails { OnErr result (H.has_failed host.new ≡ true) }
 {
     open(host, path, is_open)?;
     match host.write(piece) {
@@ -88,6 +94,7 @@ fn put<H: Host>(
 }
 
 impl<H: Host> Device for FileDevice<'_, H> {
+    ghost use Rattle.std.specs.Prelude.{◌≡◌, ◌≤◌, ◌<◌, ◌+◌, ◌^◌, true, length, take, IfOk, OnOk, OnErr};
     ghost use Rattle.device_core.specs.Beginnings.{no_beginning};
 
     ghost told = { λ device. told_by device.is_open (H.written device.host) };
@@ -96,7 +103,18 @@ impl<H: Host> Device for FileDevice<'_, H> {
 
     ghost began = { λ device. no_beginning };
 
-    fn write(&mut self, piece: &[u8]) -> Result<usize, DeviceFault> {
+    /// It fails only where its host did: at the creation of its file, or at the write.
+    fn write(&mut self, piece: &[u8]) -> Result<usize, DeviceFault>
+        requires some { 0 < length piece.now }
+        requires countable { self.old.failures + 1 < 2 ^ 64 }
+        ensures within { IfOk result (λ n. (1 ≤ n) × (n ≤ length piece.now)) }
+        ensures taken { IfOk result (λ n. told_by self.new.is_open (H.written self.new.host) ≡ grown (told_by self.old.is_open (H.written self.old.host)) (take n piece.now)) }
+        ensures stands { OnOk result (self.new.failures ≡ self.old.failures) }
+        ensures none_taken { OnErr result (told_by self.new.is_open (H.written self.new.host) ≡ told_by self.old.is_open (H.written self.old.host)) }
+        ensures counted { OnErr result (self.new.failures ≡ self.old.failures + 1) }
+        ensures fine { OnOk result (H.has_failed self.new.host ≡ H.has_failed self.old.host) }
+        ensures blamed { OnErr result (H.has_failed self.new.host ≡ true) }
+    {
         match put(&mut self.host, self.path, &mut self.is_open, piece) {
             Ok(count) => Ok(count),
             Err(fault) => {

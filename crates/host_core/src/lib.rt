@@ -12,7 +12,7 @@ mod writing;
 
 pub use file_device::FileDevice;
 pub use font_files::{Unread, read_fonts};
-pub use host::{Host, HostFault, READ_LIMIT};
+pub use host::{Host, HostFault, READ_LIMIT, limit_of_a_reading};
 pub use memory_host::{HeldFile, MemoryHost};
 pub use reading::read_all;
 pub use writing::write_some;

@@ -56,6 +56,7 @@ pub struct MemoryHost {
     is_created: bool,
     created: Vec<u8>,
     written: Vec<u8>,
+    has_failed: bool,
 }
 
 impl Model for MemoryHost {
@@ -63,13 +64,13 @@ impl Model for MemoryHost {
 
     ghost Value = { InMemory };
 
-    ghost view = { λ host. record { files = host.files.items; input = host.input.items; is_created = host.is_created; created = host.created.items; written = host.written.items } };
+    ghost view = { λ host. record { files = host.files.items; input = host.input.items; is_created = host.is_created; created = host.created.items; written = host.written.items; has_failed = host.has_failed } };
 }
 
 impl MemoryHost {
     /// A host with these files and this standard input, where no file was created yet. It takes no memory.
     pub fn new(alloc: Global, files: Vec<HeldFile>, input: Vec<u8>) -> MemoryHost
-        ensures { result ≡ record { files = files.items; input = input.items; is_created = false; created = []; written = [] } }
+        ensures { result ≡ record { files = files.items; input = input.items; is_created = false; created = []; written = []; has_failed = false } }
     {
         MemoryHost {
             alloc,
@@ -78,6 +79,7 @@ impl MemoryHost {
             is_created: false,
             created: Vec::new(alloc),
             written: Vec::new(alloc),
+            has_failed: false,
         }
     }
 
@@ -102,13 +104,21 @@ impl MemoryHost {
         &self.written
     }
 
-    /// Keeps the path of a file that is created, or leaves all as it was.
+    /// Whether a creation or a write has failed.
+    pub fn has_failed(&self) -> bool
+        ensures { result ≡ self.now.has_failed }
+    {
+        self.has_failed
+    }
+
+    /// Keeps the path of a file that is created, or leaves all as it was and says that it failed.
     fn keep_path(&mut self, path: &[u8]) -> Result<(), HostFault>
         ensures ok { OnOk result (self.new ≡ record self.old { is_created = true; created = path.now }) }
-        ensures err { OnErr result (self.new ≡ self.old) }
+        ensures err { OnErr result (self.new ≡ record self.old { has_failed = true }) }
         ensures memory { IfErr result (λ fault. fault ≡ HostFault.OutOfMemory) }
     {
         let Ok(created) = Vec::from_slice(self.alloc, path) else {
+            self.has_failed = true;
             return Err(HostFault::OutOfMemory);
         };
         self.is_created = true;
@@ -121,6 +131,7 @@ impl MemoryHost {
 fn copy(alloc: Global, bytes: &[u8]) -> Result<Vec<u8>, HostFault>
     ensures ok { IfOk result (λ read. (read.items ≡ bytes.now) × (length bytes.now ≤ READ_LIMIT)) }
     ensures failed { result ≡ Err HostFault.Failed → READ_LIMIT < length bytes.now }
+    ensures memory { result ≡ Err HostFault.OutOfMemory → length bytes.now ≤ READ_LIMIT }
 {
     if bytes.len() > READ_LIMIT {
         return Err(HostFault::Failed);
@@ -148,6 +159,8 @@ impl Host for MemoryHost {
 
     ghost written = { λ host. Some host.written };
 
+    ghost has_failed = { λ host. host.has_failed };
+
     fn read_file(&self, alloc: Global, path: &str) -> Result<Vec<u8>, HostFault> {
         match held_at(&self.files, path.as_bytes()) {
             Some(bytes) => copy(alloc, bytes),
@@ -161,7 +174,7 @@ impl Host for MemoryHost {
 
     fn create(&mut self, path: &str) -> Result<(), HostFault>
         ensures made { OnOk result (self.new ≡ record self.old { is_created = true; created = path.now; written = [] }) }
-        ensures unchanged { OnErr result (self.new ≡ self.old) }
+        ensures unchanged { OnErr result (self.new ≡ record self.old { has_failed = true }) }
         ensures memory { IfErr result (λ fault. fault ≡ HostFault.OutOfMemory) }
     {
         self.keep_path(path.as_bytes())?;
@@ -173,12 +186,15 @@ impl Host for MemoryHost {
         requires some { 0 < length piece.now }
         ensures all { IfOk result (λ n. n ≡ length piece.now) }
         ensures kept { OnOk result (self.new ≡ record self.old { written = self.old.written ++ piece.now }) }
-        ensures unchanged { OnErr result (self.new ≡ self.old) }
+        ensures unchanged { OnErr result (self.new ≡ record self.old { has_failed = true }) }
         ensures memory { IfErr result (λ fault. fault ≡ HostFault.OutOfMemory) }
     {
         match self.written.extend_from_slice(piece) {
             Ok(()) => Ok(piece.len()),
-            Err(_) => Err(HostFault::OutOfMemory),
+            Err(_) => {
+                self.has_failed = true;
+                Err(HostFault::OutOfMemory)
+            }
         }
     }
 }

@@ -1,7 +1,8 @@
 //! Reading to the end.
 
-ghost use Rattle.std.specs.Prelude.{◌≡◌, ◌≤◌, ◌++◌, length, IfOk, OnOk};
+ghost use Rattle.std.specs.Prelude.{◌≡◌, ◌≢◌, ◌≤◌, ◌<◌, ◌+◌, ◌++◌, length, IfOk, IfErr, OnOk};
 ghost use Rattle.std.specs.Io.KnownBytes.{Consumes, IsAtEnd};
+ghost use Rattle.std.specs.IoError.{error_kind};
 ghost use Rattle.host_core.specs.declared.host.TheConstants.{READ_LIMIT};
 
 use crate::host::{HostFault, READ_LIMIT};
@@ -30,11 +31,13 @@ pub fn read_all<R: Read>(alloc: Global, reader: &mut R) -> Result<Vec<u8>, HostF
     Err(HostFault::Failed)
 }
 
-/// Puts what was read behind what was read before, where it is not too much.
+/// Puts what was read behind what was read before. It fails exactly where that is too much; else only memory may be refused.
 fn push_piece(bytes: &mut Vec<u8>, piece: &[u8]) -> Result<(), HostFault>
     requires small { length bytes.old.items ≤ READ_LIMIT }
     ensures ok { OnOk result (bytes.new.items ≡ bytes.old.items ++ piece.now) }
     ensures within { OnOk result (length bytes.new.items ≤ READ_LIMIT) }
+    ensures failed { result ≡ Err HostFault.Failed → READ_LIMIT < length bytes.old.items + length piece.now }
+    ensures memory { result ≡ Err HostFault.OutOfMemory → length bytes.old.items + length piece.now ≤ READ_LIMIT }
 {
     if piece.len() > READ_LIMIT - bytes.len() {
         return Err(HostFault::Failed);
@@ -46,7 +49,10 @@ fn push_piece(bytes: &mut Vec<u8>, piece: &[u8]) -> Result<(), HostFault>
 }
 
 /// Says that a call failed, unless it was only interrupted.
-pub(crate) fn refuse_unless_interrupted(fault: &Error) -> Result<(), HostFault> {
+pub(crate) fn refuse_unless_interrupted(fault: &Error) -> Result<(), HostFault>
+    ensures again { OnOk result (error_kind fault.now ≡ ErrorKind.Interrupted) }
+    ensures refused { IfErr result (λ refusal. (refusal ≡ HostFault.Failed) × (error_kind fault.now ≢ ErrorKind.Interrupted)) }
+{
     if fault.kind() == ErrorKind::Interrupted {
         Ok(())
     } else {
