@@ -16,6 +16,7 @@ ghost use Rattle.ship_core.specs.Pages.{page_at, reach_down, reach_right};
 ghost use Rattle.dvi_layout.specs.Sheets.{definitions_of, written_body};
 ghost use Rattle.dvi_layout.specs.SoFar.{closing_so_far, last_bytes, next_bytes, nothing_so_far, opening, stop_so_far, with_next};
 ghost use Rattle.dvi_layout.specs.Limits.{HasRoom, limit_of};
+ghost use Rattle.dvi_layout.specs.declared.fonts.TheConstants.{FONT_SLOTS};
 
 use crate::defined::DefinedSlots;
 use crate::fonts::Fonts;
@@ -40,6 +41,14 @@ pub const MOST_SHIPPED: u64 = 16_777_216;
 
 /// How deep boxes may nest in the box of a page, that box counted.
 pub const MOST_DEEP: u64 = 200;
+
+/// The limits of a file are these numbers. The definitions take them from the constants.
+pub fn limits_of_a_file()
+    ensures pages { MOST_PAGES ≡ 65535 }
+    ensures shipped { MOST_SHIPPED ≡ 16777216 }
+    ensures deep { MOST_DEEP ≡ 200 }
+    ensures slots { FONT_SLOTS ≡ 256 }
+{}
 
 /// Why a page was not taken, or a file not ended.
 #[derive(Clone, Copy, Debug, PartialEq, Eq, Error)]
