@@ -54,6 +54,7 @@ fn stack_line(
     ensures depth { IfOk result (λ depth. depth ≡ line_box.depth) }
     ensures fits { OnOk result (is_ok (interline params.now previous_depth line_box.height) ≡ true) }
     ensures refused { IfErr result (λ fault. fault ≡ LinesFault.DimensionTooLarge → is_ok (interline params.now previous_depth line_box.height) ≡ false) }
+    ensures memory { IfErr result (λ fault. fault ≡ LinesFault.OutOfMemory → is_ok (interline params.now previous_depth line_box.height) ≡ true) }
 {
     match append_box(list, line_box, Dimen::ZERO, previous_depth, params) {
         Err(unappended) => match unappended.fault {
