@@ -1,6 +1,6 @@
 //! The listing of a DVI file and the bitmap of one of its pages.
 
-ghost use Rattle.std.specs.Prelude.{◌≡◌, ◌≢◌, ◌≤◌, false, Err, IfOk, OnOk};
+ghost use Rattle.std.specs.Prelude.{◌≡◌, ◌≢◌, ◌≤◌, ◌↔◌, false, Err, IfOk, IsTrue, OnOk};
 ghost use Rattle.dvi_ops.specs.File.{AreUnits};
 ghost use Rattle.dvi_ops.specs.View.{units as units_of};
 ghost use Rattle.dvi_pass.specs.View.{page_of};
@@ -40,7 +40,7 @@ pub enum PaintFault {
 
 /// Whether a file is refused for want of memory.
 fn wants_memory(fault: DviFault) -> bool
-    ensures { result ≡ false → fault ≢ DviFault.OutOfMemory }
+    ensures { IsTrue result ↔ fault ≡ DviFault.OutOfMemory }
 {
     match fault {
         DviFault::OutOfMemory => true,
