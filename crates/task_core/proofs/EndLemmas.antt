@@ -131,12 +131,12 @@ keeps_same None = tt
 keeps_same (Some bytes) = refl
 
 -- a script was typeset, and its end was told
-pub typeset_ended : (told : List ℕ → Option (Option (List ℕ))) (input : Option (List ℕ)) (fonts : List NamedPath) (out : List ℕ) (written : Option (List ℕ)) (Same : Type 0) (created done : Bool)
+pub typeset_ended : (told : List ℕ → Option (Option (List ℕ))) (input : Option (List ℕ)) (fonts : List NamedPath) (out : List ℕ) (written : Option (List ℕ)) (has_failed : Bool) (Same : Type 0) (created done : Bool)
     (text : List ℕ) (files : List NamedBytes) (end : TaskEnd) (old mid new errors between errors' : Option (List ℕ)) (status : ℕ)
     → IsReading input text → AreFilesOf told fonts files → EndsTask (IsToFile text files written Same created done) (λ path. ⊥) ⊥ end old mid
-    → (end ≡ OutOfMemory → IsLeftToFile text files written created done) → TellsUnwritten done out errors between → TellsOutput end mid new → TellsErrors end between errors' → status ≡ status_of end
-    → HasTypeset told input fonts out written Same old new errors errors' status
-typeset_ended told input fonts out written Same created done text files end old mid new errors between errors' status read filed ended left unwritten said told_end is =
+    → (end ≡ OutOfMemory → IsLeftToFile text files written created done) → TellsUnwritten done out errors between → (done ≡ false → has_failed ≡ true) → TellsOutput end mid new → TellsErrors end between errors' → status ≡ status_of end
+    → HasTypeset told input fonts out written has_failed Same old new errors errors' status
+typeset_ended told input fonts out written has_failed Same created done text files end old mid new errors between errors' status read filed ended left unwritten blamed said told_end is =
     let A : List ℕ → Bool → Type 0 = IsTypeset told input fonts written Same created done in
     let U : Bor (List ℕ) → Type 0 = λ path. IsUnreadScript told input fonts (File path) × IsLeftAlone Same created done in
     record {
@@ -149,16 +149,20 @@ typeset_ended told input fonts out written Same created done text files end old 
       wanting = λ wants. inr (text, files, read, filed, left wants);
       middle = between;
       unwritten = unwritten;
+      blamed = blamed;
       told_is = told_end;
       status_is = is;
     }
 
+true_false : true ≡ false → ⊥
+true_false is = cc
+
 -- what is to be typeset was not read, and that was told
-pub not_typeset : (told : List ℕ → Option (Option (List ℕ))) (input : Option (List ℕ)) (fonts : List NamedPath) (out : List ℕ) (written : Option (List ℕ)) (Same : Type 0)
+pub not_typeset : (told : List ℕ → Option (Option (List ℕ))) (input : Option (List ℕ)) (fonts : List NamedPath) (out : List ℕ) (written : Option (List ℕ)) (has_failed : Bool) (Same : Type 0)
     (fault : Unread) (old new errors errors' : Option (List ℕ)) (status : ℕ)
     → Same → IsUnreadScript told input fonts fault → TellsOutput (end_of fault) old new → TellsErrors (end_of fault) errors errors' → status ≡ status_of (end_of fault)
-    → HasTypeset told input fonts out written Same old new errors errors' status
-not_typeset told input fonts out written Same fault old new errors errors' status same unread said told_end is =
+    → HasTypeset told input fonts out written has_failed Same old new errors errors' status
+not_typeset told input fonts out written has_failed Same fault old new errors errors' status same unread said told_end is =
     let alone : IsLeftAlone Same false true = record { same = same; closed = refl; silent = refl } in
     record {
       end = end_of fault;
@@ -168,6 +172,7 @@ not_typeset told input fonts out written Same fault old new errors errors' statu
       wanting = λ _. inl alone;
       middle = errors;
       unwritten = keeps_same errors;
+      blamed = λ is. absurd (true_false is);
       told_is = told_end;
       status_is = is;
     }

@@ -53,20 +53,21 @@ RefusesWords (faults.NotPair word) output output' errors errors' status =
 RefusesWords (faults.NameTwice name) output output' errors errors' status =
     Keeps output output' × Takes errors errors' (line_of (codes "boxglue: name given twice: ") name.now) × (status ≡ 2)
 
--- a task was done with the files and the standard input of a host, whose created file then has taken these bytes; but for `typeset` the host came back as it was
-abbrev pub HasDone : (told : List ℕ → Option (Option (List ℕ))) → (input written : Option (List ℕ)) → (Same : Type 0) → Task → (output output' errors errors' : Option (List ℕ)) → (status : ℕ) → Type 0
-HasDone told input written Same tasks.Memory output output' errors errors' status =
+-- a task was done with the files and the standard input of a host, whose created file then has taken these bytes, and which then says whether it has
+-- failed; but for `typeset` the host came back as it was
+abbrev pub HasDone : (told : List ℕ → Option (Option (List ℕ))) → (input written : Option (List ℕ)) → (has_failed : Bool) → (Same : Type 0) → Task → (output output' errors errors' : Option (List ℕ)) → (status : ℕ) → Type 0
+HasDone told input written has_failed Same tasks.Memory output output' errors errors' status =
     Same × HasEnded (IsAnsweredInput input) (IsUnreadInput input) ⊥ output output' errors errors' status
-HasDone told input written Same (tasks.Typeset out fonts) output output' errors errors' status =
-    HasTypeset told input fonts.items out.now written Same output output' errors errors' status
-HasDone told input written Same (tasks.Listing dvi fonts) output output' errors errors' status =
+HasDone told input written has_failed Same (tasks.Typeset out fonts) output output' errors errors' status =
+    HasTypeset told input fonts.items out.now written has_failed Same output output' errors errors' status
+HasDone told input written has_failed Same (tasks.Listing dvi fonts) output output' errors errors' status =
     Same × HasEnded (IsListing told dvi.now fonts.items) (λ path. IsUnreadDvi told dvi.now fonts.items (File path)) ⊥ output output' errors errors' status
-HasDone told input written Same (tasks.Painting sheet dvi fonts) output output' errors errors' status =
+HasDone told input written has_failed Same (tasks.Painting sheet dvi fonts) output output' errors errors' status =
     Same × HasEnded (IsPainting told sheet dvi.now fonts.items) (λ path. IsUnreadDvi told dvi.now fonts.items (File path))
     (HasNoPage told sheet dvi.now fonts.items) output output' errors errors' status
 
 -- the program was run: its words are refused, and the host came back as it was; or what they ask for was done
-abbrev pub HasRun : (words : List (List ℕ)) → (told : List ℕ → Option (Option (List ℕ))) → (input written : Option (List ℕ)) → (Same : Type 0) → (output output' errors errors' : Option (List ℕ)) → (status : ℕ) → Type 0
-HasRun words told input written Same output output' errors errors' status =
+abbrev pub HasRun : (words : List (List ℕ)) → (told : List ℕ → Option (Option (List ℕ))) → (input written : Option (List ℕ)) → (has_failed : Bool) → (Same : Type 0) → (output output' errors errors' : Option (List ℕ)) → (status : ℕ) → Type 0
+HasRun words told input written has_failed Same output output' errors errors' status =
     ((fault : WordFault) × IsRefused words fault × Same × RefusesWords fault output output' errors errors' status)
-    ⊎ ((task : Task) × IsTask words task × HasDone told input written Same task output output' errors errors' status)
+    ⊎ ((task : Task) × IsTask words task × HasDone told input written has_failed Same task output output' errors errors' status)

@@ -114,7 +114,7 @@ pub fn typeset<H: Host, W: Write, E: Write>(
     output: &mut W,
     errors: &mut E,
 ) -> (u8, H)
-    ensures { HasTypeset (H.file host) (H.input host) fonts.now out.now (H.written result.1) (result.1 ≡ host) (W.contents output.old)
+    ensures { HasTypeset (H.file host) (H.input host) fonts.now out.now (H.written result.1) (H.has_failed result.1) (result.1 ≡ host) (W.contents output.old)
         (W.contents output.new) (E.contents errors.old) (E.contents errors.new) result.0 }
 {
     let inputs = match read_script_inputs(alloc, &host, fonts) {
