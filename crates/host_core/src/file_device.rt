@@ -56,6 +56,7 @@ impl<'a, H: Host> FileDevice<'a, H> {
 fn open<H: Host>(host: &mut H, path: &str, is_open: &mut bool) -> Result<(), DeviceFault>
     ensures told { told_by is_open.new (H.written host.new) ≡ told_by is_open.old (H.written host.old) }
     ensures open { OnOk result (is_open.new ≡ true) }
+    ensures closed { is_open.new ≡ false → H.written host.new ≡ H.written host.old }
     ensures stands { OnOk result (H.has_failed host.new ≡ H.has_failed host.old) }
     ensures fails { OnErr result (H.has_failed host.new ≡ true) }
 {
@@ -83,6 +84,7 @@ fn put<H: Host>(
     ensures taken { IfOk result (λ n. told_by is_open.new (H.written host.new) ≡ grown (told_by is_open.old (H.written host.old)) (take n piece.now)) }
     ensures none_taken { OnErr result (told_by is_open.new (H.written host.new) ≡ told_by is_open.old (H.written host.old)) }
     ensures used { OnOk result (ForSome (H.written host.new) (λ bytes. bytes ≢ [])) }
+    ensures closed { is_open.new ≡ false → H.written host.new ≡ H.written host.old }
     ensures stands { OnOk result (H.has_failed host.new ≡ H.has_failed host.old) }
     ensures fails { OnErr result (H.has_failed host.new ≡ true) }
 {
@@ -103,7 +105,7 @@ impl<H: Host> Device for FileDevice<'_, H> {
 
     ghost began = { λ device. no_beginning };
 
-    /// It fails only where its host did: at the creation of its file, or at the write.
+    /// It fails only where its host did: at the creation of its file, or at the write. Until the file is created, its host tells of it what it told before.
     fn write(&mut self, piece: &[u8]) -> Result<usize, DeviceFault>
         requires some { 0 < length piece.now }
         requires countable { self.old.failures + 1 < 2 ^ 64 }
@@ -114,6 +116,7 @@ impl<H: Host> Device for FileDevice<'_, H> {
         ensures counted { OnErr result (self.new.failures ≡ self.old.failures + 1) }
         ensures fine { OnOk result (H.has_failed self.new.host ≡ H.has_failed self.old.host) }
         ensures blamed { OnErr result (H.has_failed self.new.host ≡ true) }
+        ensures closed { self.new.is_open ≡ false → H.written self.new.host ≡ H.written self.old.host }
     {
         match put(&mut self.host, self.path, &mut self.is_open, piece) {
             Ok(count) => Ok(count),
