@@ -8,17 +8,22 @@ use std::io::{Error, ErrorKind, Input, Read};
 use std::rt::Files;
 use task_core::{Host, HostFault, read_all, write_some};
 
-/// The host of a real program. It tells nothing of what its files hold.
+/// The host of a real program. It tells nothing of what its files hold, but whether a creation or a write has failed.
 #[derive(Drop)]
 pub struct SystemHost<'a> {
     rt: &'a HostRuntime,
     file: Option<File>,
+    has_failed: bool,
 }
 
 impl<'a> SystemHost<'a> {
     /// The host of a runtime, where no file was created yet.
     pub fn new(rt: &'a HostRuntime) -> SystemHost<'a> {
-        SystemHost { rt, file: None }
+        SystemHost {
+            rt,
+            file: None,
+            has_failed: false,
+        }
     }
 }
 
@@ -40,6 +45,8 @@ impl Host for SystemHost<'_> {
 
     ghost written = { λ host. None };
 
+    ghost has_failed = { λ host. host.has_failed };
+
     fn read_file(&self, alloc: Global, path: &str) -> Result<Vec<u8>, HostFault> {
         match File::open(self.rt, path) {
             Ok(mut file) => read_all(alloc, &mut file),
@@ -57,14 +64,21 @@ impl Host for SystemHost<'_> {
                 self.file = Some(file);
                 Ok(())
             }
-            Err(fault) => Err(fault_of(&fault)),
+            Err(fault) => {
+                self.has_failed = true;
+                Err(fault_of(&fault))
+            }
         }
     }
 
     fn write(&mut self, piece: &[u8]) -> Result<usize, HostFault> {
-        match &mut self.file {
+        let written = match &mut self.file {
             Some(file) => write_some(file, piece),
             None => Err(HostFault::Failed),
+        };
+        if written.is_err() {
+            self.has_failed = true;
         }
+        written
     }
 }
