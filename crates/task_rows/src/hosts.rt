@@ -91,6 +91,7 @@ impl Write for Closed {
 pub struct Unwritable {
     pub inner: MemoryHost,
     pub creates: bool,
+    pub has_failed: bool,
 }
 
 impl Host for Unwritable {
@@ -101,6 +102,8 @@ impl Host for Unwritable {
     ghost input = { λ host. None };
 
     ghost written = { λ host. None };
+
+    ghost has_failed = { λ host. host.has_failed };
 
     fn read_file(&self, alloc: Global, path: &str) -> Result<Vec<u8>, HostFault> {
         self.inner.read_file(alloc, path)
@@ -114,11 +117,16 @@ impl Host for Unwritable {
         if self.creates {
             Ok(())
         } else {
+            self.has_failed = true;
             Err(HostFault::Failed)
         }
     }
 
     fn write(&mut self, piece: &[u8]) -> Result<usize, HostFault> {
-        write_some(&mut Closed, piece)
+        let written = write_some(&mut Closed, piece);
+        if written.is_err() {
+            self.has_failed = true;
+        }
+        written
     }
 }

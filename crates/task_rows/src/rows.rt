@@ -95,7 +95,11 @@ fn a_file_that_is_not_written(rt: HostRuntime) {
     let alloc = rt.alloc();
     for creates in [false, true] {
         let inner = host_of(alloc, ONE_RULE, &[]).expect(&rt, "memory");
-        let host = Unwritable { inner, creates };
+        let host = Unwritable {
+            inner,
+            creates,
+            has_failed: false,
+        };
         let ran = run(alloc, &["typeset", "away/out.dvi"], host).expect(&rt, "memory");
         assert_eq!(rt;
             ran.errors.as_slice(),

@@ -117,7 +117,7 @@ fn rows_of_every_width(rt: HostRuntime) -> Result<(), Fail> {
 }
 
 #[test]
-fn sizes_of_a_bitmap(rt: HostRuntime) {
+fn sizes_of_a_bitmap(rt: HostRuntime) -> Result<(), Fail> {
     for (width, height, refused) in [
         (0, 1, true),
         (1, 0, true),
@@ -130,7 +130,8 @@ fn sizes_of_a_bitmap(rt: HostRuntime) {
         match Bitmap::new(rt.alloc(), width, height) {
             Ok(_) => assert!(rt; !refused),
             Err(BitmapFault::DimensionTooLarge) => assert!(rt; refused),
-            Err(BitmapFault::OutOfMemory) => {}
+            Err(fault) => return Err(fault.into()),
         }
     }
+    Ok(())
 }
