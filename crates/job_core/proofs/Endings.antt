@@ -76,6 +76,16 @@ open_refused old running nested m holds =
 accepted : (old : Seen) (m : Machine) → Holds old m → first_of (finish_checks old.state) ≡ None → first_of (finish_checks m.state) ≡ None
 accepted old m holds may = sym (ap (λ s. first_of (finish_checks s)) holds.state) ∙ may
 
+-- Where the end is not refused, the job is not over, so no page is on its way.
+runs_by : (s : State) (over : Bool) → s.over ≡ over → first_of (finish_checks s) ≡ None → over ≡ false
+runs_by s true is may =
+    let refused : first_of (finish_checks s) ≡ Some JobOver = rw is refl in
+    cc
+runs_by s false is may = refl
+
+none_flies : (old : Seen) (m : Machine) → Holds old m → first_of (finish_checks old.state) ≡ None → m.flight ≡ []
+none_flies old m holds may = holds.none (runs_by m.state m.state.over refl (accepted old m holds may))
+
 pub finished :
     (old new : Seen) (summary : Summary)
     → first_of (finish_checks old.state) ≡ None
@@ -87,7 +97,7 @@ pub finished :
 finished old new summary may goes counts fails sent m holds = (
   stopped_machine m,
   Finished summary refl (accepted old m holds may) (counts m holds) refl fails,
-  stops old new m holds goes (inl (told_on old.told new.told (whole m.state.fonts m.pages) (sent m holds))),
+  stops old new m m.flight holds goes (inl (none_flies old m holds may, inl (told_on old.told new.told (whole m.state.fonts m.pages) (sent m holds)))),
 )
 
 pub wanting : (old : Seen) → first_of (finish_checks old.state) ≡ None → old.state.over ≡ false → old.so_far.pages ≢ 0 → FinishesTo old (Err OutOfMemory) old
@@ -99,13 +109,13 @@ pub losing :
     → old.state.over ≡ false
     → old.so_far.pages ≢ 0
     → new.state ≡ record (old.state) { over = true }
-    → old.failed < new.failed
+    → new.failed ≡ old.failed + 1
     → ((m : Machine) → Holds old m → GrowsByFront (untold old.told) new.told (whole m.state.fonts m.pages))
     → FinishesTo old (Err Device) new
 losing old new may running some goes fails part m holds = (
   stopped_machine m,
   LostDevice refl (accepted old m holds may) (some_pages old m holds running some) refl fails,
-  stops old new m holds goes (inr (inl (grows_on old.told new.told (whole m.state.fonts m.pages) (part m holds)))),
+  stops old new m m.flight holds goes (inl (none_flies old m holds may, inr (grows_on old.told new.told (whole m.state.fonts m.pages) (part m holds)))),
 )
 
 -- A job whose writer has ended is stopped.

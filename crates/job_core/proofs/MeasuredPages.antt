@@ -109,7 +109,7 @@ new_sized s (Count counting) sized = tt
 new_sized s (Ship r) sized = sized_page s r (held_in s.registers r) refl sized
 
 known_step : (m : Machine) (command : Command) (refused : Option Refusal) → first_of (checks m.state command) ≡ refused → IsKnown m
-    → IsKnown (record { state = state_by refused m.state (after m.state command); pages = state_by refused m.pages (m.pages ++ new_pages m.state command) })
+    → IsKnown (record { state = state_by refused m.state (after m.state command); pages = state_by refused m.pages (m.pages ++ new_pages m.state command); flight = m.flight })
 known_step m command (Some refusal) is known = record { read = known.read; sized = known.sized; pages = known.pages }
 known_step m command None is known =
     record {

@@ -19,7 +19,7 @@ use Rattle.nest_core.specs.Checks.{checks, own_checks, first_of}
 use Rattle.nest_core.specs.NextPages.{is_huge_in, pages_of}
 use Rattle.nest_core.specs.Answers.{answer_of}
 use Rattle.nest_core.specs.Effects.{after, new_pages}
-use Rattle.nest_core.specs.Machine.{Machine, reply_by, reply_to, state_by, state_after, step, stopped_machine}
+use Rattle.nest_core.specs.Machine.{Machine, reply_by, reply_to, state_by, state_after, step, stopped_machine, lost_machine}
 use Rattle.nest_core.specs.Runs.{IsShip, TakesMemory, early_checks, Steps, Replies, LacksMemory, LosesDevice, Run}
 use Rattle.job_core.specs.Jobs.{GoesOn, Seen, writing_of, untold, pages_after, HasSent, Holds, KeepsTo, RunsTo}
 use Rattle.job_core.specs.Sound.{IsSound, seen_by}
@@ -106,13 +106,13 @@ pub grows_on : (told new : Option (List ℕ)) (bytes : List ℕ) → GrowsByFron
 grows_on told new bytes (n, less, is) = (n, less, told_on told new (take n bytes) is)
 
 -- A machine that is over stays, and so does what went out.
-sent_stays : (m : Machine) (command : Command) (old new : Option (List ℕ)) → m.state.over ≡ true → new ≡ old → HasSent m.state m.pages old
-    → HasSent (state_after m.state command) (pages_after m.state m.pages command) new
+sent_stays : (m : Machine) (command : Command) (old new : Option (List ℕ)) → m.state.over ≡ true → new ≡ old → HasSent m old → HasSent (step m command) new
 sent_stays m command old new over same sent =
     let s = m.state in
     let refused : first_of (checks s command) ≡ Some JobOver = ap (λ over. if over then Some JobOver else first_of (own_checks s command)) over in
-    subst (λ (r : Option Refusal). HasSent (state_by r s (after s command)) (state_by r m.pages (m.pages ++ new_pages s command)) new) (sym refused)
-    (subst (HasSent s m.pages) (sym same) sent)
+    let on : Option Refusal → Machine =
+    λ r. record { state = state_by r s (after s command); pages = state_by r m.pages (m.pages ++ new_pages s command); flight = m.flight } in
+    subst (λ (r : Option Refusal). HasSent (on r) new) (sym refused) (subst (HasSent m) (sym same) sent)
 
 -- A job that replies as the table says keeps to the machine.
 pub replied :
@@ -135,6 +135,7 @@ replied old new command reply says goes writes stays fails m holds =
             told_before (state_after m.state command).fonts old.told (writing_of new) (pages_after m.state m.pages command)
             (with_fonts m.state command (first_of (checks m.state command)) refl (untold old.told) (writing_of new) (pages_after m.state m.pages command)
             (on ran (untold old.told) m.pages (holds.written ran)));
+        none = λ running. holds.none (sym (job_kept m.state command).over ∙ running);
         sent = λ ended.
             let over : m.state.over ≡ true = sym (job_kept m.state command).over ∙ ended in
             sent_stays m command old.told new.told over (stays (ap (λ (s : State). s.over) holds.state ∙ over)) (holds.sent over);
@@ -154,8 +155,8 @@ lacking old command reply says takes accepted m holds =
 -- No reply of the machine says that the device failed.
 pub never_device : (s : State) (command : Command) (reply : Reply) → reply ≡ reply_to s command → reply ≡ Err Device → ⊥
 never_device s command reply says is =
-    let m : Machine = record { state = s; pages = [] } in
-    let less : 0 < 0 = counted_fault m (step m command) 0 0 command (Replies (sym is ∙ says) refl refl) in
+    let m : Machine = record { state = s; pages = []; flight = [] } in
+    let less : 0 ≡ 0 + 1 = counted_fault m (step m command) 0 0 command (Replies (sym is ∙ says) refl refl) in
     omega (arith, less)
 
 -- A device that was not called tells what it told.
@@ -176,36 +177,38 @@ pub over_replies : (old : Seen) (command : Command) → old.state.over ≡ true 
 over_replies old command over = refuses old command JobOver (ap (λ over. if over then Some JobOver else first_of (own_checks old.state command)) over)
 
 -- A job that is stopped stands for the stopped machine.
-pub stops : (old new : Seen) (m : Machine) → Holds old m → new.state ≡ record (old.state) { over = true } → HasSent (record (m.state) { over = true }) m.pages new.told → Holds new (stopped_machine m)
-stops old new m holds goes sent =
+pub stops : (old new : Seen) (m : Machine) (flight : List Page) → Holds old m → new.state ≡ record (old.state) { over = true }
+    → HasSent (record (stopped_machine m) { flight = flight }) new.told → Holds new (record (stopped_machine m) { flight = flight })
+stops old new m flight holds goes sent =
     record {
       state = goes ∙ ap (λ (s : State). record s { over = true }) holds.state;
       count = holds.count;
       written = λ running. absurd (true_or_false refl running);
+      none = λ running. absurd (true_or_false refl running);
       sent = λ over. sent;
     }
 
--- The page of a register's box is the same when the job is over.
-over_page : (s : State) (held : Option BoxNode) → pages_of s held ≡ pages_of (record s { over = true }) held
-over_page s None = refl
-over_page s (Some b) = refl
+-- A ship that is accepted makes a page.
+some_page : (s : State) (r : ℕ) → first_of (checks s (Ship r)) ≡ None → new_pages s (Ship r) ≢ []
+some_page s r none = cases (held_in s.registers r) (box_is_held s r none)
+  where
+    cases : (held : Option BoxNode) → is_none held ≡ false → pages_of s held ≢ []
+    cases None isnt = cc
+    cases (Some b) isnt = λ empty. cc
 
 -- A job whose device fails in a ship that is accepted keeps to the machine.
 pub losing_page :
     (old new : Seen) (r : ℕ)
     → first_of (checks old.state (Ship r)) ≡ None
     → new.state ≡ record (old.state) { over = true }
-    → old.failed < new.failed
+    → new.failed ≡ old.failed + 1
     → ((m : Machine) → Holds old m → GrowsByFront (untold old.told) new.told (front m.state.fonts (m.pages ++ new_pages m.state (Ship r))))
     → KeepsTo old (Ship r) (Err Device) new
 losing_page old new r accepted goes fails part m holds =
     let s = m.state in
-    let page = over_page s (held_in s.registers r) in
-    let grows = grows_on old.told new.told (front s.fonts (m.pages ++ new_pages s (Ship r))) (part m holds) in (
-      stopped_machine m,
-      LosesDevice refl tt (sym (ap (λ s. first_of (checks s (Ship r))) holds.state) ∙ accepted) refl fails,
-      stops old new m holds goes (inr (inr (r, subst (λ (more : List Page). GrowsByFront (untold new.told) new.told (front s.fonts (m.pages ++ more))) page grows))),
-    )
+    let taken : first_of (checks s (Ship r)) ≡ None = sym (ap (λ s. first_of (checks s (Ship r))) holds.state) ∙ accepted in
+    let grows = grows_on old.told new.told (front s.fonts (m.pages ++ new_pages s (Ship r))) (part m holds) in
+    (lost_machine m (Ship r), LosesDevice refl tt taken refl fails, stops old new m (new_pages s (Ship r)) holds goes (inr (some_page s r taken, grows)))
 
 -- What is written stays with a command that ships nothing.
 pub goes_on_without : (old new : Seen) (command : Command) → (IsShip command → ⊥) → new.state ≡ state_after old.state command → new.so_far ≡ old.so_far → new.told ≡ old.told

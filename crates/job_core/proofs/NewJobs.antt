@@ -42,6 +42,7 @@ new_holds files device kept w fresh is written =
       state = ap (λ (x : SoFar). state_of kept x.nodes x.pages w.over) written.so_far ∙ (ap (λ over. state_of kept 0 0 over) written.running ∙ is);
       count = refl;
       written = λ running. subst (λ before. HasWritten fonts before w []) before written;
+      none = λ running. refl;
       sent = λ over. absurd (true_or_false over refl);
     }
 

@@ -157,9 +157,8 @@ module _ (kept : Keeping) (w : Writing) (r : ℕ) (b : BoxNode) (page : Page) (i
       subst (λ (x : Writing). KeepsTo (seen_by kept w) (Ship r) (Err (refusal_for fault)) (seen_by kept x)) (sym (stays other))
       (lacking (seen_by kept w) (Ship r) (Err (refusal_for fault)) (ap (λ fault. Err (refusal_for fault)) wants) tt (accepted none))
   unshipped_for new fault (inr (none, lost)) stays fails over keeps running part =
-      let more : w.failed < new.failed = omega (arith, fails lost) in
       subst (λ (x : Refusal). KeepsTo (seen_by kept w) (Ship r) (Err x) (seen_by kept new)) (ap refusal_for (sym lost))
-      (losing_page (seen_by kept w) (seen_by kept new) r (accepted none) (stopped kept w new (keeps lost) (over lost)) more (part_of new running (part lost)))
+      (losing_page (seen_by kept w) (seen_by kept new) r (accepted none) (stopped kept w new (keeps lost) (over lost)) (fails lost) (part_of new running (part lost)))
 
 -- Only a device that failed is replied so.
 pub is_lost : (fault : WriteFault) (reply : Reply) → reply ≡ Err (refusal_for fault) → reply ≡ Err Device → fault ≡ faults.Device

@@ -31,5 +31,6 @@ pub record IsDone (files : List NamedBytes) (commands : List Command) (replies :
   pub count : IfOk result (λ summary. summary.bytes ≡ length (whole machine.state.fonts machine.pages))
   -- The file ends as one of these pages does, and each font that it defines is that of the machine's slot of its number.
   pub closed : machine.pages ≢ [] → OnOk result (IfSome ended.told (λ bytes. IsClosedFor machine.state.fonts bytes machine.pages))
-  -- Where the job is over, whatever failed: the device has taken that file or a beginning of it, or a beginning of it with the page that was on its way.
-  pub sent : last.state.over ≡ true → HasSent last.state last.pages ended.told
+  -- Where the job is over, whatever failed: the device has taken that file or a beginning of it; or, where it failed in a `ship`, a beginning of it with the
+  -- page of that command.
+  pub sent : last.state.over ≡ true → HasSent last ended.told

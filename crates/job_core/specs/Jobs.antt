@@ -1,7 +1,6 @@
 -- A job, and the machine that it stands for (own).
-use Rattle.std.specs.Prelude.{◌≡◌, ◌⊎◌, ◌++◌, [], ℕ, false, true, List, length, Option, Some, None, Result}
+use Rattle.std.specs.Prelude.{◌≡◌, ◌≢◌, ◌⊎◌, ◌++◌, [], ℕ, false, true, List, length, Option, Some, None, Result}
 use Rattle.command_core.specs.declared.command.Command.{Command}
-use Rattle.command_core.specs.declared.command.Command.TheVariants.{Ship}
 use Rattle.command_core.specs.declared.command.Refusal.{Refusal}
 use Rattle.command_core.specs.declared.command.Summary.{Summary}
 use Rattle.command_core.specs.Reply.{Reply}
@@ -44,21 +43,21 @@ abbrev pub GoesOn : State → Command → Writing → Writing → Type 0
 GoesOn s command old new =
     (before : Option (List ℕ)) (pages : List Page) → HasWritten s.fonts before old pages → HasWritten s.fonts before new (pages_after s pages command)
 
--- What the device of a job that is over tells behind what it told before: the file of the machine's pages, or a beginning of it; or, where it failed in a
--- `ship`, a beginning of the file up to the eop of that page, whose box is still in its register.
-abbrev pub HasSent : State → List Page → Option (List ℕ) → Type 0
-HasSent s pages told =
-    (told ≡ grown (untold told) (whole s.fonts pages))
-    ⊎ GrowsByFront (untold told) told (whole s.fonts pages)
-    ⊎ ((register : ℕ) × GrowsByFront (untold told) told (front s.fonts (pages ++ new_pages s (Ship register))))
+-- What the device of a job that is over tells after what it told before: where no page was on its way, the file of the machine's pages or a beginning of it;
+-- where one was, a beginning of the file up to the eop of that page.
+abbrev pub HasSent : Machine → Option (List ℕ) → Type 0
+HasSent m told =
+    ((m.flight ≡ []) × ((told ≡ grown (untold told) (whole m.state.fonts m.pages)) ⊎ GrowsByFront (untold told) told (whole m.state.fonts m.pages)))
+    ⊎ ((m.flight ≢ []) × GrowsByFront (untold told) told (front m.state.fonts (m.pages ++ m.flight)))
 
 -- A job stands for a machine: it keeps the machine's state, and until it is over it has written the machine's pages: what its device tells are all
--- bytes of them up to the last eop, and no other. Once it is over, no other than these went out, or than a beginning of one page more.
+-- bytes of them up to the last eop, and no other. Once it is over, no other than these went out, or than a beginning of the page that was on its way.
 pub record Holds (job : Seen) (m : Machine) : Type 0 where
   pub state : job.state ≡ m.state
   pub count : m.state.pages ≡ length m.pages
   pub written : m.state.over ≡ false → HasWritten m.state.fonts (untold job.told) (writing_of job) m.pages
-  pub sent : m.state.over ≡ true → HasSent m.state m.pages job.told
+  pub none : m.state.over ≡ false → m.flight ≡ []
+  pub sent : m.state.over ≡ true → HasSent m job.told
 
 -- Each machine that the job stood for has stepped to one that it stands for.
 abbrev pub KeepsTo : Seen → Command → Reply → Seen → Type 0

@@ -1,6 +1,6 @@
 -- Lists and registers that change in one place, and change back.
 use Rattle.std.proofs.Common.{◌≡◌, ◌∙◌, ℕ, zero, suc, ◌-◌, ◌==◌, ◌≤◌, ◌<◌, List, [], ◌∷◌, ◌++◌, length, take, set, get_or, Bool, true, false, Option, Some, None, Result, Ok, Err, OnErr, refl, ap, sym, arith}
-use Rattle.std.specs.Prelude.{pos, slice_get, slice_set}
+use Rattle.std.specs.Prelude.{pos, IsSome, is_some, slice_get, slice_set}
 use Rattle.std.proofs.Math.Seq.{take-set-lt}
 use Rattle.std.proofs.lemmas.List.{take-set-le, length-take-le, length-set}
 use Rattle.node_core.specs.declared.tree.BoxNode.{BoxNode}
@@ -17,7 +17,7 @@ use Rattle.paragraph_core.specs.declared.paragraph.SetParagraph.{SetParagraph}
 use Rattle.nest_core.specs.declared.nest.ListPurpose.TheVariants.{Box}
 use Rattle.nest_core.specs.OpenLists.{packed_list}
 use Rattle.nest_core.specs.Paragraphs.{with_lines}
-use Rattle.nest_core.specs.Checks.{checks, place_checks, packed_checks, purpose_checks, close_checks, first_of}
+use Rattle.nest_core.specs.Checks.{checks, box_checks, place_checks, packed_checks, purpose_checks, close_checks, first_of}
 use Rattle.nest_core.specs.Effects.{list_with_box, with_box}
 use Rattle.nest_core.specs.EmptiedNest.{refilled_nest, emptied_nest}
 
@@ -186,3 +186,23 @@ end_refused s l opening p now found running is opened packed taken asked =
 pub on_err : {A E : Type 0} {P : Type 0} (r : Result A E) → P → OnErr r P
 on_err (Ok x) p = tt
 on_err (Err e) p = p
+
+-- A list that is open.
+pub no_list : (l : Option OpenList) → IsSome l → l ≡ None → ⊥
+no_list None some is = cc
+no_list (Some l) some is = cc
+
+pub no_box : (params : Params) (l : Option OpenList) (b : BoxNode) → first_of (box_checks params l b) ≡ None → l ≡ None → ⊥
+no_box params None b free is = cc
+no_box params (Some l) b free is = cc
+
+-- Where fewer than two lists are open, there is none around the innermost one.
+pub none_around : (nest : List OpenList) (count : ℕ) → count ≡ length nest → count < 2 → innermost (outer nest) ≡ None
+none_around [] count is few = refl
+none_around (x ∷ []) count is few = refl
+none_around (x ∷ (y ∷ zs)) count is few = absurd (omega (arith, is, few))
+
+-- Where a list is around the innermost one, that one is open.
+pub has_innermost : (nest : List OpenList) → IsSome (innermost (outer nest)) → IsSome (innermost nest)
+has_innermost [] some = cc
+has_innermost (x ∷ xs) some = ap is_some (get_some (x ∷ xs) (length (x ∷ xs) - 1) x (omega arith))

@@ -29,14 +29,15 @@ state_by (Some refusal) old new = old
 abbrev pub state_after : State → Command → State
 state_after m command = state_by (first_of (checks m command)) m (after m command)
 
--- The machine: a state, and the pages that were shipped, in order.
+-- The machine: a state; the pages that were shipped, in order; and, where the device failed in a `ship`, the page that was on its way.
 pub record Machine : Type 0 where
   pub state : State
   pub pages : List Page
+  pub flight : List Page
 
 -- The machine of a new job.
 abbrev pub first_machine : List NamedBytes → Machine
-first_machine files = record { state = first_state files; pages = [] }
+first_machine files = record { state = first_state files; pages = []; flight = [] }
 
 -- The machine after a command.
 abbrev pub step : Machine → Command → Machine
@@ -44,8 +45,13 @@ step m command =
     record {
       state = state_after m.state command;
       pages = state_by (first_of (checks m.state command)) m.pages (m.pages ++ new_pages m.state command);
+      flight = m.flight;
     }
 
 -- The machine whose job is over.
 abbrev pub stopped_machine : Machine → Machine
 stopped_machine m = record m { state = record (m.state) { over = true } }
+
+-- The machine whose device failed in a command: it is over, and the page of this command was on its way.
+abbrev pub lost_machine : Machine → Command → Machine
+lost_machine m command = record (stopped_machine m) { flight = new_pages m.state command }

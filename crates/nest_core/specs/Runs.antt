@@ -1,5 +1,5 @@
 -- Runs of the machine, with what it does not choose: want of memory and a device that fails (own).
-use Rattle.std.specs.Prelude.{◌≡◌, ◌≢◌, ◌<◌, ◌==◌, [], ◌∷◌, ℕ, Bool, true, not, List, length, Option, Some, None, is_none, is_some, IsSome, Result, Ok, Err}
+use Rattle.std.specs.Prelude.{◌≡◌, ◌≢◌, ◌+◌, ◌==◌, [], ◌∷◌, ℕ, Bool, true, not, List, length, Option, Some, None, is_none, is_some, IsSome, Result, Ok, Err}
 use Rattle.command_core.specs.declared.command.Command.{Command}
 use Rattle.command_core.specs.declared.command.Command.TheVariants.{LoadFont, UseFont, Open, Paragraph, End, Text, Character, Rule, Kern, Glue, Penalty, Append, Unbox, LastBox, Split, Measure, Void, Set, Count, Ship}
 use Rattle.command_core.specs.declared.command.Refusal.{Refusal}
@@ -15,7 +15,7 @@ use Rattle.nest_core.specs.declared.nest.ListPurpose.TheVariants as purposes
 use Rattle.nest_core.specs.State.{State, innermost, outer, held_in}
 use Rattle.nest_core.specs.OpenLists.{GoesIntoList}
 use Rattle.nest_core.specs.Checks.{checks, character_checks, purpose_checks, first_of}
-use Rattle.nest_core.specs.Machine.{Machine, reply_to, step, stopped_machine}
+use Rattle.nest_core.specs.Machine.{Machine, reply_to, step, stopped_machine, lost_machine}
 
 -- The commands for which memory may be wanted. The end of a list wants none where its box goes into a register; a command that takes the box
 -- of a register, or splits it, wants none where the register is void.
@@ -68,11 +68,12 @@ IsShip (Ship r) = Unit {0}
 IsShip command = ⊥
 
 -- A machine takes a command, replies and goes on, while the device's count of failures goes from n to k. It replies as the table
--- says; or memory was wanted for a command that no early check refuses, and it stays; or the device failed in an accepted ship, and it stops.
+-- says; or memory was wanted for a command that no early check refuses, and it stays; or the device failed once, in an accepted ship, and it stops, with the
+-- page of this command on its way.
 pub data Steps (m : Machine) (n : ℕ) (command : Command) (reply : Reply) (next : Machine) (k : ℕ) : Type 0 where
   Replies : reply ≡ reply_to m.state command → next ≡ step m command → k ≡ n → Steps m n command reply next k
   LacksMemory : reply ≡ Err OutOfMemory → TakesMemory m.state command → first_of (early_checks m.state command) ≡ None → next ≡ m → k ≡ n → Steps m n command reply next k
-  LosesDevice : reply ≡ Err Device → IsShip command → first_of (checks m.state command) ≡ None → next ≡ stopped_machine m → n < k → Steps m n command reply next k
+  LosesDevice : reply ≡ Err Device → IsShip command → first_of (checks m.state command) ≡ None → next ≡ lost_machine m command → k ≡ n + 1 → Steps m n command reply next k
 
 -- A machine takes the commands one after the other, one reply a command.
 abbrev pub Run : Machine → ℕ → List Command → List Reply → Machine → ℕ → Type 0
@@ -86,9 +87,9 @@ Run m n (command ∷ commands) (reply ∷ replies) next k =
 abbrev pub finish_checks : State → List (Bool × Refusal)
 finish_checks m = (m.over, JobOver) ∷ (not (length m.nest == 0), ListsOpen) ∷ []
 
--- The job is finished: with the number of pages; or refused; or memory was wanted, and it stays; or there are pages and the device failed.
+-- The job is finished: with the number of pages; or refused; or memory was wanted, and it stays; or there are pages and the device failed once.
 pub data Finishes (m : Machine) (n : ℕ) (result : Result Summary Refusal) (next : Machine) (k : ℕ) : Type 0 where
   Finished : (summary : Summary) → result ≡ Ok summary → first_of (finish_checks m.state) ≡ None → summary.pages ≡ length m.pages → next ≡ stopped_machine m → k ≡ n → Finishes m n result next k
   Refuses : (refusal : Refusal) → result ≡ Err refusal → first_of (finish_checks m.state) ≡ Some refusal → next ≡ m → k ≡ n → Finishes m n result next k
   WantsMemory : result ≡ Err OutOfMemory → first_of (finish_checks m.state) ≡ None → m.pages ≢ [] → next ≡ m → k ≡ n → Finishes m n result next k
-  LostDevice : result ≡ Err Device → first_of (finish_checks m.state) ≡ None → m.pages ≢ [] → next ≡ stopped_machine m → n < k → Finishes m n result next k
+  LostDevice : result ≡ Err Device → first_of (finish_checks m.state) ≡ None → m.pages ≢ [] → next ≡ stopped_machine m → k ≡ n + 1 → Finishes m n result next k

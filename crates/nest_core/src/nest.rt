@@ -1,6 +1,6 @@
 //! The open lists of a job.
 
-ghost use Rattle.std.specs.Prelude.{◌≡◌, ◌<◌, ◌≤◌, ◌+◌, ◌-◌, ◌++◌, ◌∷◌, [], pos, max, List, length, None, ◌≢◌, Ok, Err, OnOk, OnErr, IfOk, IfErr, IfSome, IsOk, Some, option_copied};
+ghost use Rattle.std.specs.Prelude.{◌≡◌, ◌<◌, ◌≤◌, ◌+◌, ◌-◌, ◌++◌, ◌∷◌, [], pos, max, List, length, None, ◌≢◌, Ok, Err, OnOk, OnErr, IfOk, IfErr, IfSome, IsOk, IsSome, Some, option_copied};
 ghost use Rattle.node_core.specs.Items.{none};
 ghost use Rattle.node_core.specs.Nodes.{most_nodes, items_of, nodes_of, last_box};
 ghost use Rattle.vert_core.specs.Interline.{interline, glue_of, appended};
@@ -203,7 +203,7 @@ impl OpenList {
     {
         let depth = box_node.depth;
         let Ok(glue) = interline_glue(self.previous_depth, box_node.height, params) else {
-            return Err(box_node);
+            unreachable!()
         };
         append_with_glue(&mut self.list, glue, shift, box_node)?;
         self.previous_depth = depth;
@@ -410,7 +410,7 @@ impl Nest {
         ensures back { IfErr result (λ back. back ≡ box_node) }
     {
         let Some(innermost) = innermost_of(&mut self.lists) else {
-            return Err(box_node);
+            unreachable!()
         };
         innermost.append_with_glue(box_node, shift, params)
     }
@@ -482,10 +482,10 @@ impl Nest {
     {
         let count = self.lists.len();
         if count < 2 {
-            return Err(box_node);
+            unreachable!()
         }
         let Some(around) = self.lists.get_mut(count - 2) else {
-            return Err(box_node);
+            unreachable!()
         };
         around.append_with_glue(box_node, Dimen::ZERO, params)?;
         let _ = self.lists.pop();
@@ -499,13 +499,14 @@ impl Nest {
         previous_depth: Dimen,
         params: &Params,
     ) -> Result<SetParagraph, ParagraphFault>
+        requires { IsSome (innermost self.old) }
         ensures ok { IfOk result (λ set. setting (nodes_of (items_in (innermost self.old))) params.now previous_depth ≡ Ok set) }
         ensures refused { IfErr result (λ fault. fault ≢ ParagraphFault.OutOfMemory → setting (nodes_of (items_in (innermost self.old))) params.now previous_depth ≡ Err fault) }
         ensures same { self.new ≡ self.old }
     {
         let alloc = *self.lists.allocator();
         let Some(innermost) = innermost_of(&mut self.lists) else {
-            return Err(ParagraphFault::OutOfMemory);
+            unreachable!()
         };
         set_paragraph(alloc, &mut innermost.list, params, previous_depth)
     }
@@ -514,16 +515,17 @@ impl Nest {
     /// lists are as they were.
     #[tactic(auto, using(crate::proofs::ShortLists::short_with_nodes))]
     pub(crate) fn close_paragraph(&mut self, set: SetParagraph) -> Result<(), AllocError>
-        requires { length (nodes_of (items_in (innermost (outer self.old)))) + length (nodes_of set.items) ≤ MOST_ITEMS }
+        requires open { IsSome (innermost (outer self.old)) }
+        requires room { length (nodes_of (items_in (innermost (outer self.old)))) + length (nodes_of set.items) ≤ MOST_ITEMS }
         ensures ok { OnOk result (self.new ≡ with_lines (outer self.old) (innermost (outer self.old)) (Ok set)) }
         ensures err { OnErr result (self.new ≡ self.old) }
     {
         let count = self.lists.len();
         if count < 2 {
-            return Err(AllocError);
+            unreachable!()
         }
         let Some(around) = self.lists.get_mut(count - 2) else {
-            return Err(AllocError);
+            unreachable!()
         };
         around.append_lines(set)?;
         let _ = self.lists.pop();

@@ -12,9 +12,7 @@ use Rattle.device_core.specs.Resumed.{Resumed, told_by, began_by}
 use Rattle.dvi_layout.specs.Layout.{front, whole}
 use Rattle.job_core.specs.Shown.{GivesFiles, FilesPages}
 use Rattle.job_core.specs.Closing.{ClosesFile}
-use Rattle.nest_core.specs.Effects.{new_pages}
 use Rattle.nest_core.specs.Machine.{Machine, first_machine}
-use Rattle.command_core.specs.declared.command.Command.TheVariants.{Ship}
 use Rattle.job_core.specs.Jobs.{Seen, HasSent, Holds, RunsTo, FinishesTo}
 use Rattle.device_core.specs.Held.{Held}
 use Rattle.job_core.proofs.WholeRuns.{files_kept}
@@ -47,11 +45,10 @@ size_at (Ok summary) told run m holds h = h m holds
 size_at (Err refusal) told run m holds h = h
 
 -- what a job that is over has sent, where it is told
-sent_part : (m : Machine) (told : Option (List ℕ)) → HasSent m.state m.pages told → IfSome told (IsPart m)
-sent_part m told (inl is) = said told told (whole m.state.fonts m.pages) (IsPart m) is (inl refl)
-sent_part m told (inr (inl (n, less, is))) = said told told (take n (whole m.state.fonts m.pages)) (IsPart m) is (inr (inl (n, refl)))
-sent_part m told (inr (inr (r, (n, less, is)))) =
-    said told told (take n (front m.state.fonts (m.pages ++ new_pages m.state (Ship r)))) (IsPart m) is (inr (inr (r, (n, refl))))
+sent_part : (m : Machine) (told : Option (List ℕ)) → HasSent m told → IfSome told (IsPart m)
+sent_part m told (inl (none, (inl is))) = said told told (whole m.state.fonts m.pages) (IsPart m) is (inl (none, inl refl))
+sent_part m told (inl (none, (inr (n, less, is)))) = said told told (take n (whole m.state.fonts m.pages)) (IsPart m) is (inl (none, inr (n, refl)))
+sent_part m told (inr (some, (n, less, is))) = said told told (take n (front m.state.fonts (m.pages ++ m.flight))) (IsPart m) is (inr (some, (n, refl)))
 
 count_at : (end : Result Summary Refusal) (run : Seen) (m : Machine) → Holds run m
     → IfOk end (λ summary. (m : Machine) → Holds run m → summary.bytes ≡ length (whole m.state.fonts m.pages)) → IfOk end (λ summary. summary.bytes ≡ length (whole m.state.fonts m.pages))

@@ -3,7 +3,6 @@ use Rattle.std.specs.Prelude.{◌≡◌, ◌≢◌, ◌<◌, ◌⊎◌, ◌&&◌
 use Rattle.std.specs.List.{list_all}
 use Rattle.std.specs.Io.KnownBytes.{Appends, Keeps}
 use Rattle.command_core.specs.declared.command.Command.{Command}
-use Rattle.command_core.specs.declared.command.Command.TheVariants.{Ship}
 use Rattle.command_core.specs.declared.command.Refusal.{Refusal}
 use Rattle.command_core.specs.declared.command.Refusal.TheVariants as refusals
 use Rattle.command_core.specs.declared.command.Summary.{Summary}
@@ -16,7 +15,6 @@ use Rattle.dvi_layout.specs.Shippable.{IsFileOfPages}
 use Rattle.job_core.specs.Shown.{GivesFiles}
 use Rattle.dvi_layout.specs.Closing.{IsClosedFor}
 use Rattle.device_core.specs.Held.{Held}
-use Rattle.nest_core.specs.Effects.{new_pages}
 use Rattle.nest_core.specs.Machine.{Machine, first_machine}
 use Rattle.nest_core.specs.Runs.{Run, Finishes}
 use Rattle.script_core.specs.declared.cause.Cause.{Cause}
@@ -38,12 +36,12 @@ numbers_of lines = map (λ line. line.number) lines
 abbrev pub is_accepted : List Reply → Result Summary Refusal → Bool
 is_accepted replies end = list_all is_ok replies && is_ok end
 
--- what a job that is over has sent: the file of its machine's pages, or a beginning of it; or, where the device failed in a `ship`, a beginning of the file up
--- to the eop of that page, whose box is still in its register
+-- what a job that is over has sent: where no page was on its way, the file of its machine's pages or a beginning of it; where the device failed in a `ship`, a
+-- beginning of the file up to the eop of the page of that command
 abbrev pub IsPart : Machine → List ℕ → Type 0
 IsPart m bytes =
-    (bytes ≡ whole m.state.fonts m.pages) ⊎ IsFrontOf bytes (whole m.state.fonts m.pages)
-    ⊎ ((register : ℕ) × IsFrontOf bytes (front m.state.fonts (m.pages ++ new_pages m.state (Ship register))))
+    ((m.flight ≡ []) × ((bytes ≡ whole m.state.fonts m.pages) ⊎ IsFrontOf bytes (whole m.state.fonts m.pages)))
+    ⊎ ((m.flight ≢ []) × IsFrontOf bytes (front m.state.fonts (m.pages ++ m.flight)))
 
 -- a new job with these font files took these commands and gave these replies, and was then finished with this end; its device's
 -- count of failures went from n to k, and the device then told these bytes: a DVI file of exactly the machine's pages, by the definition

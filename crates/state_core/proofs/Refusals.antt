@@ -149,7 +149,7 @@ takes_memory m next n k command (Replies says goes counts) =
 takes_memory m next n k command (LacksMemory says takes may goes counts) = takes
 takes_memory m next n k command (LosesDevice says ships may goes counts) = cc
 
-pub counted_fault : (m next : Machine) (n k : ℕ) (command : Command) → Steps m n command (Err Device) next k → n < k
+pub counted_fault : (m next : Machine) (n k : ℕ) (command : Command) → Steps m n command (Err Device) next k → k ≡ n + 1
 counted_fault m next n k command (Replies says goes counts) =
     absurd (first_chosen (checks m.state command) Device (all_chosen m.state command) (refuses m.state command Device says))
 counted_fault m next n k command (LacksMemory says takes may goes counts) = cc
@@ -233,7 +233,7 @@ memory_for_pages m next n k (Refuses refusal says is goes fails) =
 memory_for_pages m next n k (WantsMemory says may some goes fails) = some
 memory_for_pages m next n k (LostDevice says may some goes fails) = cc
 
-pub device_counted : (m next : Machine) (n k : ℕ) → Finishes m n (Err Device) next k → n < k
+pub device_counted : (m next : Machine) (n k : ℕ) → Finishes m n (Err Device) next k → k ≡ n + 1
 device_counted m next n k (Finished summary says may counts goes fails) = cc
 device_counted m next n k (Refuses refusal says is goes fails) =
     absurd (end_chosen m.state Device (is ∙ ap Some (err_same (sym says))))

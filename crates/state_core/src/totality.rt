@@ -1,6 +1,6 @@
 //! What holds of every step and every run, whatever memory and the device do: laws as the contracts of functions that do nothing.
 
-ghost use Rattle.std.specs.Prelude.{◌≡◌, ◌≢◌, ◌<◌, [], ℕ, true, List, Result, Err};
+ghost use Rattle.std.specs.Prelude.{◌≡◌, ◌≢◌, ◌+◌, [], ℕ, true, List, Result, Err};
 ghost use Rattle.std.specs.List.{AllByRecursion};
 ghost use Rattle.command_core.specs.declared.command.Command.{Command};
 ghost use Rattle.command_core.specs.declared.command.Refusal.{Refusal as ARefusal};
@@ -21,9 +21,9 @@ pub fn memory_is_wanted_by_few()
     ensures { (m next : Machine) (n k : ℕ) (command : Command) → Steps m n command (Err refusals.OutOfMemory) next k → TakesMemory m.state command }
 {}
 
-/// A fault of the device is answered only where its count of failures rose.
+/// A fault of the device is answered only where its count of failures rose by one.
 pub fn faults_are_counted()
-    ensures { (m next : Machine) (n k : ℕ) (command : Command) → Steps m n command (Err refusals.Device) next k → n < k }
+    ensures { (m next : Machine) (n k : ℕ) (command : Command) → Steps m n command (Err refusals.Device) next k → k ≡ n + 1 }
 {}
 
 /// A job that is over answers that to every command and to its end, for good, and stays as it is.
@@ -32,10 +32,10 @@ pub fn over_for_good()
     ensures finish { (m next : Machine) (n k : ℕ) (result : Result Summary ARefusal) → m.state.over ≡ true → Finishes m n result next k → (result ≡ Err refusals.JobOver) × (next ≡ m) × (k ≡ n) }
 {}
 
-/// The end of a job is refused for want of memory only where there are pages, and a fault of the device is answered only where its count of failures rose.
+/// The end of a job is refused for want of memory only where there are pages, and a fault of the device is answered only where its count of failures rose by one.
 /// But for that fault and for success, the machine stays as it was.
 pub fn ends()
     ensures memory { (m next : Machine) (n k : ℕ) → Finishes m n (Err refusals.OutOfMemory) next k → m.pages ≢ [] }
-    ensures device { (m next : Machine) (n k : ℕ) → Finishes m n (Err refusals.Device) next k → n < k }
+    ensures device { (m next : Machine) (n k : ℕ) → Finishes m n (Err refusals.Device) next k → k ≡ n + 1 }
     ensures refused { (m next : Machine) (n k : ℕ) (refusal : ARefusal) → refusal ≢ refusals.Device → Finishes m n (Err refusal) next k → next ≡ m }
 {}

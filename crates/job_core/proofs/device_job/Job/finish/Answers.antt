@@ -58,6 +58,6 @@ returns-in-Err-Device-clause-finished g c =
     rw (← c.self.view_is)
     (losing old _ (may_finish old.state running (sym c.is_open.ensures ∙ c.if-is_open.false)) running
     (some_where c.self.inside.writer _ running c.in-Err-Device.ensures.refused)
-    (stopped c.self.inside.kept c.self.inside.writer c.finish.new.self c.finish.ensures.so_far (c.finish.ensures.lost lost)) (omega (arith, more))
+    (stopped c.self.inside.kept c.self.inside.writer c.finish.new.self c.finish.ensures.so_far (c.finish.ensures.lost lost)) more
     (λ m holds.
     part_by old m c.fonts.result.now c.finish.new.self.told holds c.fonts.ensures (c.finish.ensures.part lost _ m.pages (has_written_by old m c.fonts.result.now holds running c.fonts.ensures))))

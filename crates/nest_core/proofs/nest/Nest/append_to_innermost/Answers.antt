@@ -4,6 +4,7 @@ use Rattle.nest_core.specs.declared.nest.OpenList.{OpenList}
 use Rattle.nest_core.specs.State.{innermost}
 use Rattle.nest_core.specs.Checks.{box_checks, first_of}
 use Rattle.nest_core.specs.ShortLists.{IsShort}
+use Rattle.nest_core.proofs.Nests.{no_box}
 use Rattle.nest_core.proofs.ShortLists.{one_changed, box_fits}
 use Rattle.nest_core.proofs.nest.Nest.append_to_innermost.Goals as goal
 
@@ -17,3 +18,7 @@ invariant_of-self-2 c =
     one_changed nest (length nest - 1) c.append_with_glue.new.self c.self.invariant.0 c.self.invariant.1
     (box_fits c.append_with_glue.result c.args.params.now c.args.shift c.args.box_node l c.append_with_glue.new.self free
     (each_at IsShort nest (length nest - 1) l c.self.invariant.1 found) c.append_with_glue.ensures.ok c.append_with_glue.ensures.err)
+
+pub unreachable-requires : goal.unreachable-requires
+unreachable-requires c =
+    no_box c.args.params.now (innermost c.args.self.now) c.args.box_node c.requires (ap innermost (sym c.self.view_is) ∙ c.innermost_of.ensures.none c.in_default.is)

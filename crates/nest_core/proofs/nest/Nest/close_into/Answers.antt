@@ -4,7 +4,7 @@ use Rattle.nest_core.specs.declared.nest.OpenList.{OpenList}
 use Rattle.nest_core.specs.State.{innermost, outer}
 use Rattle.nest_core.specs.Checks.{box_checks, first_of}
 use Rattle.nest_core.specs.ShortLists.{IsShort}
-use Rattle.nest_core.proofs.Nests.{around_found, closing_into}
+use Rattle.nest_core.proofs.Nests.{around_found, closing_into, no_box, none_around}
 use Rattle.nest_core.proofs.ShortLists.{changed_and_taken, short_with_box}
 use Rattle.nest_core.proofs.nest.Nest.close_into.Goals as goal
 
@@ -31,3 +31,10 @@ invariant_of-self-2 c =
     ∙ (ap (λ (lists : List OpenList). first_of (box_checks c.args.params.now (innermost (outer lists)) c.args.box_node)) c.self.view_is ∙ c.requires) in
     changed_and_taken nest (count - 2) (length (set nest (count - 2) changed) - 1) changed c.pop.new.self.items c.self.invariant.0 c.self.invariant.1
     (subst IsShort (sym c.in_ok-append_with_glue.ensures.ok) (short_with_box c.args.params.now (pos 0) c.args.box_node c.in-Some.around.now free)) c.pop.ensures.rest
+
+pub unreachable-requires : goal.unreachable-requires
+unreachable-requires c =
+    let nest : List OpenList = c.self.inside.lists.items in
+    no_box c.args.params.now (innermost (outer nest)) c.args.box_node
+    (ap (λ (lists : List OpenList). first_of (box_checks c.args.params.now (innermost (outer lists)) c.args.box_node)) c.self.view_is ∙ c.requires)
+    (none_around nest c.len-count.result c.len-count.ensures.value c.if-count-lt2.true)

@@ -4,7 +4,8 @@ use Rattle.node_core.specs.Nodes.{nodes_of}
 use Rattle.nest_core.specs.declared.nest.OpenList.{OpenList}
 use Rattle.nest_core.specs.ShortLists.{IsShort}
 use Rattle.nest_core.specs.State.{innermost, outer, items_in}
-use Rattle.nest_core.proofs.Nests.{around_found, lines_left}
+use Rattle.std.specs.Prelude.{IsSome}
+use Rattle.nest_core.proofs.Nests.{around_found, lines_left, no_list, none_around}
 use Rattle.nest_core.proofs.ShortLists.{changed_and_taken, short_with_nodes}
 use Rattle.nest_core.proofs.nest.Nest.close_paragraph.Goals as goal
 
@@ -21,6 +22,12 @@ invariant_of-self-2 c =
     let changed : OpenList = c.append_lines.new.self in
     let found = around_found nest around count c.len-count.ensures.value (omega (arith, c.if-count-lt2.false, c.len-count.ensures.value)) c.in-Some.ensures.value in
     let room : length (nodes_of around.list) + length (nodes_of c.args.set.items) ≤ MOST_ITEMS =
-    omega (arith, c.requires, ap (λ (lists : List OpenList). length (nodes_of (items_in (innermost (outer lists))))) c.self.view_is, ap (λ (l : Option OpenList). length (nodes_of (items_in l))) found) in
+    omega (arith, c.requires.room, ap (λ (lists : List OpenList). length (nodes_of (items_in (innermost (outer lists))))) c.self.view_is, ap (λ (l : Option OpenList). length (nodes_of (items_in l))) found) in
     changed_and_taken nest (count - 2) (length (set nest (count - 2) changed) - 1) changed c.pop.new.self.items c.self.invariant.0 c.self.invariant.1
     (subst IsShort (sym c.in_ok-append_lines.ensures.ok) (short_with_nodes (nodes_of around.list) (nodes_of c.args.set.items) room)) c.pop.ensures.rest
+
+pub unreachable-requires : goal.unreachable-requires
+unreachable-requires c =
+    let nest : List OpenList = c.self.inside.lists.items in
+    let some : IsSome (innermost (outer nest)) = subst (λ (lists : List OpenList). IsSome (innermost (outer lists))) (sym c.self.view_is) c.requires.open in
+    no_list (innermost (outer nest)) some (none_around nest c.len-count.result c.len-count.ensures.value c.if-count-lt2.true)

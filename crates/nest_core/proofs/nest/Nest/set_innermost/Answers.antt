@@ -4,6 +4,7 @@ use Rattle.paragraph_core.specs.declared.paragraph.ParagraphFault.TheVariants.{O
 use Rattle.paragraph_core.specs.Setting.{setting}
 use Rattle.nest_core.specs.declared.nest.OpenList.{OpenList}
 use Rattle.nest_core.specs.State.{innermost, items_in}
+use Rattle.nest_core.proofs.Nests.{no_list}
 use Rattle.nest_core.proofs.ParagraphEnds.{set_so, unset_so}
 use Rattle.nest_core.proofs.nest.Nest.set_innermost.Goals as goal
 
@@ -18,3 +19,6 @@ returns-clause-refused c =
     let found : innermost c.args.self.now ≡ Some c.in-Some.innermost.now = ap innermost (sym c.self.view_is) ∙ c.in-Some.ensures.some in
     subst (λ (l : Option OpenList). IfErr c.set_paragraph.result (λ fault. fault ≢ OutOfMemory → setting (nodes_of (items_in l)) c.args.params.now c.args.previous_depth ≡ Err fault)) (sym found)
     (unset_so (nodes_of c.in-Some.innermost.now.list) c.args.params.now c.args.previous_depth c.set_paragraph.result c.set_paragraph.ensures.some c.set_paragraph.ensures.refused)
+
+pub unreachable-requires : goal.unreachable-requires
+unreachable-requires c = no_list (innermost c.args.self.now) c.requires (ap innermost (sym c.self.view_is) ∙ c.innermost_of.ensures.none c.in_default.is)
