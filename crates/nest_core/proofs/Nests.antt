@@ -1,9 +1,12 @@
 -- Lists and registers that change in one place, and change back.
-use Rattle.std.proofs.Common.{◌≡◌, ◌∙◌, ℕ, zero, suc, ◌-◌, ◌==◌, ◌≤◌, ◌<◌, List, [], ◌∷◌, ◌++◌, length, take, set, get_or, Bool, true, false, Option, Some, None, Result, Ok, Err, OnErr, refl, ap, sym, arith}
-use Rattle.std.specs.Prelude.{pos, IsSome, is_some, slice_get, slice_set}
+use Rattle.std.proofs.Common.{◌≡◌, ◌≢◌, ◌∙◌, ℕ, zero, suc, ◌-◌, ◌==◌, ◌≤◌, ◌<◌, List, [], ◌∷◌, ◌++◌, length, take, set, get_or, Bool, true, false, Option, Some, None, Result, Ok, Err, OnErr, refl, ap, sym, arith}
+use Rattle.std.specs.Prelude.{pos, IsSome, slice_get, slice_set}
 use Rattle.std.proofs.Math.Seq.{take-set-lt}
-use Rattle.std.proofs.lemmas.List.{take-set-le, length-take-le, length-set}
+use Rattle.std.proofs.lemmas.Bool.{eqb-true}
+use Rattle.std.proofs.lemmas.List.{append-nil, take-set-le, length-take-le, length-set}
 use Rattle.node_core.specs.declared.tree.BoxNode.{BoxNode}
+use Rattle.node_core.specs.declared.tree.Node.{Node}
+use Rattle.node_core.proofs.NodeLemmas.{items_of-nodes_of}
 use Rattle.node_core.specs.Items.{Items, none}
 use Rattle.nest_core.specs.declared.nest.OpenList.{OpenList}
 use Rattle.node_core.specs.declared.params.Params.{Params}
@@ -18,7 +21,7 @@ use Rattle.nest_core.specs.declared.nest.ListPurpose.TheVariants.{Box}
 use Rattle.nest_core.specs.OpenLists.{packed_list}
 use Rattle.nest_core.specs.Paragraphs.{with_lines}
 use Rattle.nest_core.specs.Checks.{checks, box_checks, place_checks, packed_checks, purpose_checks, close_checks, first_of}
-use Rattle.nest_core.specs.Effects.{list_with_box, with_box}
+use Rattle.nest_core.specs.Effects.{with_nodes, list_with_box, with_box}
 use Rattle.nest_core.specs.EmptiedNest.{refilled_nest, emptied_nest}
 
 module _ {A : Type 0} where
@@ -202,7 +205,18 @@ none_around [] count is few = refl
 none_around (x ∷ []) count is few = refl
 none_around (x ∷ (y ∷ zs)) count is few = absurd (omega (arith, is, few))
 
--- Where a list is around the innermost one, that one is open.
-pub has_innermost : (nest : List OpenList) → IsSome (innermost (outer nest)) → IsSome (innermost nest)
-has_innermost [] some = cc
-has_innermost (x ∷ xs) some = ap is_some (get_some (x ∷ xs) (length (x ∷ xs) - 1) x (omega arith))
+-- Without more nodes the nest is as it was.
+pub none_added : (nest : List OpenList) (more : List Node) → (length more == 0) ≡ true → nest ≡ with_nodes nest more (innermost nest)
+none_added nest (n ∷ more) empty = absurd (omega (arith, eqb-true (length (n ∷ more)) 0 empty))
+none_added nest [] empty = by (innermost nest) refl
+  where
+    same : (l : OpenList) → record l { list = items_of (nodes_of l.list ++ []) } ≡ l
+    same l = ap (λ (items : Items). record l { list = items }) (ap items_of (append-nil (nodes_of l.list)) ∙ items_of-nodes_of l.list)
+
+    by : (l : Option OpenList) → innermost nest ≡ l → nest ≡ with_nodes nest [] l
+    by None is = refl
+    by (Some l) is = sym (ap (with_innermost nest) (same l) ∙ same_innermost nest l is)
+
+pub some_nodes : (nodes : List Node) → (length nodes == 0) ≡ false → nodes ≢ []
+some_nodes [] is = λ none. cc
+some_nodes (n ∷ nodes) is = λ none. cc

@@ -1,5 +1,5 @@
 -- Runs of the machine, with what it does not choose: want of memory and a device that fails (own).
-use Rattle.std.specs.Prelude.{◌≡◌, ◌≢◌, ◌+◌, ◌==◌, [], ◌∷◌, ℕ, Bool, true, not, List, length, Option, Some, None, is_none, is_some, IsSome, Result, Ok, Err}
+use Rattle.std.specs.Prelude.{◌≡◌, ◌≢◌, ◌+◌, ◌==◌, [], ◌∷◌, ℕ, ℤ, Bool, true, not, List, length, Option, Some, None, is_none, is_some, IsSome, Result, Ok, Err}
 use Rattle.command_core.specs.declared.command.Command.{Command}
 use Rattle.command_core.specs.declared.command.Command.TheVariants.{LoadFont, UseFont, Open, Paragraph, End, Text, Character, Rule, Kern, Glue, Penalty, Append, Unbox, LastBox, Split, Measure, Void, Set, Count, Ship}
 use Rattle.command_core.specs.declared.command.Refusal.{Refusal}
@@ -9,32 +9,41 @@ use Rattle.command_core.specs.Reply.{Reply}
 use Rattle.tfm_core.specs.NamedBytes.{file_named}
 use Rattle.dvi_layout.specs.Fonts.{font_in}
 use Rattle.node_core.specs.declared.params.Params.{Params}
+use Rattle.node_core.specs.declared.params.SplitParams.{SplitParams}
+use Rattle.node_core.specs.declared.tree.BoxNode.{BoxNode}
+use Rattle.node_core.specs.Nodes.{nodes_of}
+use Rattle.split_core.specs.Split.{rest_of}
 use Rattle.nest_core.specs.declared.nest.OpenList.{OpenList}
 use Rattle.nest_core.specs.declared.nest.ListPurpose.{ListPurpose}
 use Rattle.nest_core.specs.declared.nest.ListPurpose.TheVariants as purposes
-use Rattle.nest_core.specs.State.{State, innermost, outer, held_in}
+use Rattle.nest_core.specs.State.{State, innermost, outer, held_in, nodes_in}
 use Rattle.nest_core.specs.OpenLists.{GoesIntoList}
 use Rattle.nest_core.specs.Checks.{checks, character_checks, purpose_checks, first_of}
 use Rattle.nest_core.specs.Machine.{Machine, reply_to, step, stopped_machine, lost_machine}
 
--- The commands for which memory may be wanted. The end of a list wants none where its box goes into a register; a command that takes the box
--- of a register, or splits it, wants none where the register is void.
+-- Whether a split of the box of a register leaves a rest.
+abbrev pub LeavesRest : SplitParams → (height : ℤ) → (held : Option BoxNode) → Type 0
+LeavesRest params height None = ⊥
+LeavesRest params height (Some b) = IsSome (rest_of params height (nodes_of b.list))
+
+-- The commands for which memory may be wanted. A text without characters wants none, nor the end of a list whose box goes into a register, nor the use
+-- of a void register, nor unboxing without items, nor a split that leaves no rest.
 abbrev pub TakesMemory : State → Command → Type 0
 TakesMemory m (LoadFont load) = Unit {0}
 TakesMemory m (UseFont slot) = ⊥
 TakesMemory m (Open opening) = Unit {0}
 TakesMemory m Paragraph = Unit {0}
 TakesMemory m End = GoesIntoList (innermost m.nest)
-TakesMemory m (Text text) = Unit {0}
+TakesMemory m (Text text) = text ≢ []
 TakesMemory m (Character code) = Unit {0}
 TakesMemory m (Rule rule) = Unit {0}
 TakesMemory m (Kern width) = Unit {0}
 TakesMemory m (Glue glue) = Unit {0}
 TakesMemory m (Penalty n) = Unit {0}
 TakesMemory m (Append taken) = IsSome (held_in m.registers taken.register)
-TakesMemory m (Unbox taken) = IsSome (held_in m.registers taken.register)
+TakesMemory m (Unbox taken) = nodes_in (held_in m.registers taken.register) ≢ []
 TakesMemory m (LastBox r) = ⊥
-TakesMemory m (Split splitting) = IsSome (held_in m.registers splitting.register)
+TakesMemory m (Split splitting) = LeavesRest m.params.split splitting.height (held_in m.registers splitting.register)
 TakesMemory m (Measure r) = ⊥
 TakesMemory m (Void r) = ⊥
 TakesMemory m (Set parameter) = ⊥

@@ -349,13 +349,17 @@ impl Nest {
         }
     }
 
-    /// Puts nodes at the end of the innermost list, in order.
-    #[tactic(auto, using(crate::proofs::Nests::same_innermost))]
+    /// Puts nodes at the end of the innermost list, in order. No nodes take no memory.
+    #[tactic(auto, using(crate::proofs::Nests::same_innermost, crate::proofs::Nests::none_added, crate::proofs::Nests::some_nodes))]
     pub fn extend(&mut self, nodes: Vec<Node>) -> Result<(), AllocError>
         requires { length (nodes_of (items_in (innermost self.old))) + length nodes.items ≤ MOST_ITEMS }
         ensures ok { OnOk result (self.new ≡ with_nodes self.old nodes.items (innermost self.old)) }
         ensures err { OnErr result (self.new ≡ self.old) }
+        ensures takes { OnErr result (nodes.items ≢ []) }
     {
+        if nodes.is_empty() {
+            return Ok(());
+        }
         let Some(innermost) = innermost_of(&mut self.lists) else {
             return Ok(());
         };
@@ -382,14 +386,18 @@ impl Nest {
     }
 
     /// Puts the nodes of another list, which is then empty, at the end of the innermost list, in order. Where memory is refused, both are as
-    /// they were.
-    #[tactic(auto, using(crate::proofs::Nests::same_innermost))]
+    /// they were; a list without nodes takes none.
+    #[tactic(auto, using(crate::proofs::Nests::same_innermost, crate::proofs::Nests::none_added, crate::proofs::Nests::some_nodes))]
     pub fn append_list(&mut self, list: &mut NodeList) -> Result<(), AllocError>
         requires { length (nodes_of (items_in (innermost self.old))) + length (nodes_of list.old) ≤ MOST_ITEMS }
         ensures ok { OnOk result (self.new ≡ with_nodes self.old (nodes_of list.old) (innermost self.old)) }
         ensures err { OnErr result (self.new ≡ self.old) }
         ensures back { OnErr result (list.new ≡ list.old) }
+        ensures takes { OnErr result (nodes_of list.old ≢ []) }
     {
+        if list.is_empty() {
+            return Ok(());
+        }
         let Some(innermost) = innermost_of(&mut self.lists) else {
             return Ok(());
         };

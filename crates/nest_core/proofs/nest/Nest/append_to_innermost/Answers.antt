@@ -8,8 +8,8 @@ use Rattle.nest_core.proofs.Nests.{no_box}
 use Rattle.nest_core.proofs.ShortLists.{one_changed, box_fits}
 use Rattle.nest_core.proofs.nest.Nest.append_to_innermost.Goals as goal
 
-pub invariant_of-self-2 : goal.invariant_of-self-2
-invariant_of-self-2 c =
+pub invariant_of-self : goal.invariant_of-self
+invariant_of-self c =
     let nest : List OpenList = c.self.inside.lists.items in
     let l : OpenList = c.in-Some.innermost.now in
     let found : innermost nest ≡ Some l = c.in-Some.ensures.some in
