@@ -1,6 +1,6 @@
 -- The refusals of a split, and what it makes of the registers.
 use Rattle.std.proofs.Common.{◌≡◌, ◌∙◌, ℤ, Bool, true, false, List, [], ◌∷◌, Option, Some, None, refl, ap, sym}
-use Rattle.std.specs.Prelude.{not, slice_set}
+use Rattle.std.specs.Prelude.{not, IsSome, is_some, slice_set}
 use Rattle.std.specs.Option.{option_map}
 use Rattle.std.specs.List.{list_all, list_any}
 use Rattle.scaled_core.specs.Dimensions.{fits}
@@ -10,6 +10,8 @@ use Rattle.node_core.specs.declared.tree.Kind.TheVariants.{Vertical}
 use Rattle.node_core.specs.declared.tree.BoxNode.{BoxNode}
 use Rattle.node_core.specs.Nodes.{nodes_of}
 use Rattle.pack_core.specs.declared.pack.Packed as packs
+use Rattle.split_core.specs.declared.parts.SplitFault.{SplitFault}
+use Rattle.split_core.specs.declared.parts.SplitFault.TheVariants as faults
 use Rattle.split_core.specs.Split.{shrinks_infinitely, split_numbers, refusal, fault_of, front_of, rest_of}
 use Rattle.command_core.specs.declared.command.Refusal.{Refusal}
 use Rattle.command_core.specs.declared.command.Refusal.TheVariants.{InfiniteShrink, DimensionTooLarge}
@@ -34,6 +36,26 @@ fault_refused params height items = by (list_any shrinks_infinitely items) (list
     by true large e f = rw e refl
     by false true e f = rw (e, f) refl
     by false false e f = rw (e, f) refl
+
+-- Where memory alone is wanted, nothing speaks against the split.
+none_against : (params : SplitParams) (height : ℤ) (items : List Node) → refusal_for (fault_of (refusal params height items)) ≡ None → refusal params height items ≡ None
+unfolding refusal
+none_against params height items none = by (list_any shrinks_infinitely items) (list_all fits (split_numbers params height items)) refl refl
+  where
+    told : (found : Option SplitFault) → refusal params height items ≡ found → refusal_for (fault_of found) ≡ None
+    told found is = ap (λ o. refusal_for (fault_of o)) (sym is) ∙ none
+
+    by : (shrinks large : Bool) → list_any shrinks_infinitely items ≡ shrinks → list_all fits (split_numbers params height items) ≡ large
+        → refusal params height items ≡ None
+    by true large e f = let shrunk : Some InfiniteShrink ≡ None = told (Some faults.InfiniteShrink) (rw e refl) in cc
+    by false false e f = let huge : Some DimensionTooLarge ≡ None = told (Some faults.DimensionTooLarge) (rw (e, f) refl) in cc
+    by false true e f = rw (e, f) refl
+
+-- Memory is wanted only where a rest is left.
+pub left_by : (params : SplitParams) (height : ℤ) (items : List Node) (fault : SplitFault)
+    → fault ≡ fault_of (refusal params height items) → (refusal params height items ≡ None → is_some (rest_of params height items) ≡ true)
+    → refusal_for fault ≡ None → IsSome (rest_of params height items)
+left_by params height items fault is growth none = growth (none_against params height items (sym (ap refusal_for is) ∙ none))
 
 -- A vbox that can be split is not refused.
 pub vbox_free : (params : SplitParams) (height : ℤ) (b : BoxNode) → is_other Vertical b.kind ≡ false → refusal params height (nodes_of b.list) ≡ None

@@ -1,11 +1,12 @@
 //! The box registers of a job.
 
-ghost use Rattle.std.specs.Prelude.{◌≡◌, ◌<◌, List, Option, None, Some, IfOk, OnOk, OnErr, IsSome, option_copied, replicate, slice_set};
+ghost use Rattle.std.specs.Prelude.{◌≡◌, ◌<◌, List, Option, None, Some, IfOk, OnOk, OnErr, option_copied, replicate, slice_set};
 ghost use Rattle.nest_core.specs.State.{held_in};
 ghost use Rattle.nest_core.specs.Checks.{split_checks, first_of};
 ghost use Rattle.nest_core.specs.Answers.{sizes_of, parts_answer, split_answer};
 ghost use Rattle.nest_core.specs.Effects.{with_parts, with_split};
 ghost use Rattle.nest_core.specs.Machine.{reply_by, state_by};
+ghost use Rattle.nest_core.specs.Runs.{LeavesRest};
 
 use crate::splits::split_box;
 use command_core::limits::REGISTERS;
@@ -88,7 +89,7 @@ impl Registers {
     }
 
     /// Splits the vbox of a register: what is left goes back into it, and then the front into the other one. Where it is void, so is then the
-    /// other one. Where the split or memory is refused, all is as it was.
+    /// other one. Where the split or memory is refused, all is as it was. Only a split that leaves a rest takes memory.
     pub fn split(
         &mut self,
         splitting: &Splitting,
@@ -98,7 +99,7 @@ impl Registers {
         ensures state { OnOk result (self.new ≡ state_by (first_of (split_checks params.now splitting.now.height (held_in self.old splitting.now.register))) self.old (with_split params.now self.old splitting.now (held_in self.old splitting.now.register))) }
         ensures err { OnErr result (self.new ≡ self.old) }
         ensures admitted { OnErr result (first_of (split_checks params.now splitting.now.height (held_in self.old splitting.now.register)) ≡ None) }
-        ensures takes { OnErr result (IsSome (held_in self.old splitting.now.register)) }
+        ensures takes { OnErr result (LeavesRest params.now splitting.now.height (held_in self.old splitting.now.register)) }
     {
         let Some(box_node) = self.take(splitting.register) else {
             self.put(splitting.into, None);

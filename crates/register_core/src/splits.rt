@@ -1,6 +1,6 @@
 //! The boxes of a job are split.
 
-ghost use Rattle.std.specs.Prelude.{◌≡◌, None, Some, IfOk, IfErr, OnOk};
+ghost use Rattle.std.specs.Prelude.{◌≡◌, None, Some, IfOk, IfErr, OnOk, IsSome};
 ghost use Rattle.node_core.specs.Nodes.{nodes_of};
 ghost use Rattle.split_core.specs.Split.{front_of, rest_of};
 ghost use Rattle.nest_core.specs.Checks.{split_checks, first_of};
@@ -41,6 +41,8 @@ pub fn split_box(
     ensures rest { IfOk result (λ parts. parts.rest ≡ rest_of params.now height (nodes_of box_node.list)) }
     ensures ok { OnOk result (first_of (split_checks params.now height (Some box_node)) ≡ None) }
     ensures err { IfErr result (λ unsplit. unsplit.refusal ≡ first_of (split_checks params.now height (Some box_node))) }
+    // Memory is wanted only where something is left.
+    ensures growth { IfErr result (λ unsplit. unsplit.refusal ≡ None → IsSome (rest_of params.now height (nodes_of box_node.list))) }
     ensures back { IfErr result (λ unsplit. unsplit.box_node ≡ box_node) }
 {
     if is_other(Kind::Vertical, box_node.kind) {

@@ -1,5 +1,7 @@
 -- What a split makes of the registers, and what it leaves.
-use Rattle.std.proofs.Common.{◌∙◌, sym}
+use Rattle.std.proofs.Common.{◌∙◌, Option, subst, sym}
+use Rattle.node_core.specs.declared.tree.BoxNode.{BoxNode}
+use Rattle.nest_core.specs.Runs.{LeavesRest}
 use Rattle.register_core.proofs.SplitRefusals.{void_split, parts_split, box_back, refused_split}
 use Rattle.register_core.proofs.registers.Registers.split.Goals as goal
 
@@ -21,3 +23,7 @@ pub returns-in-None-clause-err : goal.returns-in-None-clause-err
 returns-in-None-clause-err c =
     box_back c.args.params.now c.args.splitting.now c.args.self.now c.take.new.self c.take.ensures.void c.in-Some.box_node (sym c.take.ensures.value ∙ c.in-Some.is) c.put-in-Err.new.self
     c.in-Err.unsplit.box_node c.in-Err.ensures.back c.put-in-Err.ensures
+
+pub returns-in-None-clause-takes : goal.returns-in-None-clause-takes
+returns-in-None-clause-takes c =
+    subst (λ (held : Option BoxNode). LeavesRest c.args.params.now c.args.splitting.now.height held) (sym (sym c.take.ensures.value ∙ c.in-Some.is)) (c.in-Err.ensures.growth c.in-None.is)
