@@ -1,5 +1,7 @@
 -- What the commands on characters answer and change, by what their characters come to.
-use Rattle.std.proofs.Common.{◌≡◌, ◌∙◌, ℕ, Bool, true, false, List, [], ◌∷◌, ◌++◌, Option, Some, None, refl, ap, sym}
+use Rattle.std.proofs.Common.{◌≡◌, ◌≢◌, ◌==◌, ◌∙◌, ℕ, Bool, true, false, List, [], ◌∷◌, ◌++◌, length, Option, Some, None, Result, Ok, Err, OnErr, refl, ap, arith, sym}
+use Rattle.std.proofs.lemmas.Bool.{eqb-true}
+use Rattle.command_core.specs.Reply.{Reply}
 use Rattle.node_core.specs.declared.tree.Node.{Node}
 use Rattle.tfm_core.specs.Fonts.{glyph_of, step_of}
 use Rattle.shape_core.specs.Shaping.{shaped_items, shaped_missing}
@@ -17,6 +19,27 @@ use Rattle.nest_core.specs.Checks.{character_checks, length_checks, shape_checks
 use Rattle.nest_core.specs.Answers.{shaped_answer}
 use Rattle.nest_core.specs.Effects.{with_items}
 use Rattle.nest_core.specs.Machine.{reply_by, reply_to, state_by, state_after}
+
+-- A text without characters comes to nothing.
+pub no_items : (slot : ℕ) (loaded : LoadedFont) (text : List ℕ) → (length text == 0) ≡ true
+    → [] ≡ text_items slot (glyph_of loaded.font) (step_of loaded.font) (space_glue loaded.font.space) text
+unfolding text_items
+no_items slot loaded [] empty = refl
+no_items slot loaded (c ∷ text) empty = absurd (omega (arith, eqb-true (length (c ∷ text)) 0 empty))
+
+pub none_missing : (loaded : LoadedFont) (text : List ℕ) → (length text == 0) ≡ true → 0 ≡ text_missing (glyph_of loaded.font) (step_of loaded.font) text
+unfolding text_missing
+none_missing loaded [] empty = refl
+none_missing loaded (c ∷ text) empty = absurd (omega (arith, eqb-true (length (c ∷ text)) 0 empty))
+
+-- So a text that comes to items has characters.
+pub some_text : {E : Type 0} (result : Result Reply E) (slot : ℕ) (loaded : LoadedFont) (text : List ℕ) (items : List Node)
+    → items ≡ text_items slot (glyph_of loaded.font) (step_of loaded.font) (space_glue loaded.font.space) text → OnErr result (items ≢ []) → OnErr result (text ≢ [])
+some_text (Ok reply) slot loaded text items are takes = tt
+some_text (Err e) slot loaded text items are takes =
+    λ none.
+    takes
+    (are ∙ (ap (text_items slot (glyph_of loaded.font) (step_of loaded.font) (space_glue loaded.font.space)) none ∙ sym (no_items slot loaded [] refl)))
 
 -- Where nothing speaks against any characters, only their number counts.
 none_before : (own more : List (Bool × Refusal)) → first_of own ≡ None → first_of (own ++ more) ≡ first_of more

@@ -1,6 +1,6 @@
 //! What a job keeps, but for its device and its bytes.
 
-ghost use Rattle.std.specs.Prelude.{◌≡◌, ◌==◌, ◌≤◌, ◌+◌, ◌∷◌, [], not, None, Some, IfOk, IfErr, OnOk, OnErr, IsSome, length, option_copied, slice_set};
+ghost use Rattle.std.specs.Prelude.{◌≡◌, ◌≢◌, ◌==◌, ◌≤◌, ◌+◌, ◌∷◌, [], not, None, Some, IfOk, IfErr, OnOk, OnErr, IsSome, length, option_copied, slice_set};
 ghost use Rattle.command_core.specs.declared.command.Command.TheVariants as commands;
 ghost use Rattle.dvi_layout.specs.Fonts.{font_in};
 ghost use Rattle.state_core.specs.Keeping.{unshipped};
@@ -14,7 +14,10 @@ ghost use Rattle.nest_core.specs.Checks.{checks, first_of, character_checks, ite
 ghost use Rattle.nest_core.specs.Answers.{sizes_of, shaped_answer};
 ghost use Rattle.nest_core.specs.Effects.{with_items, with_used, with_unboxed, with_home};
 ghost use Rattle.nest_core.specs.Machine.{reply_by, reply_to, state_by, state_after};
-ghost use Rattle.nest_core.specs.Runs.{early_checks};
+ghost use Rattle.nest_core.specs.Runs.{early_checks, LeavesRest};
+ghost use Rattle.shape_core.specs.Texts.{text_items, text_missing};
+ghost use Rattle.shape_core.specs.Spaces.{space_glue};
+ghost use Rattle.tfm_core.specs.Fonts.{glyph_of, step_of};
 
 use command_core::limits::{COUNTS, MOST_DEEP, MOST_ITEMS, MOST_OPEN};
 use command_core::{
@@ -65,6 +68,25 @@ fn copies(alloc: Global, files: &[FontFile]) -> Result<Vec<FontFile>, AllocError
         copies.push(file.copy(alloc)?)?;
     }
     Ok(copies)
+}
+
+/// What a text comes to in the font of a slot: its items, and how many of its characters are missing. Only characters take memory.
+fn text_items(
+    alloc: Global,
+    loaded: &LoadedFont,
+    slot: u8,
+    text: &[u8],
+) -> Result<(Vec<Node>, Missing), AllocError>
+    ensures items { IfOk result (λ shaped. shaped.0.items ≡ text_items slot (glyph_of loaded.now.font) (step_of loaded.now.font) (space_glue loaded.now.font.space) text.now) }
+    ensures missing { IfOk result (λ shaped. shaped.1.characters ≡ text_missing (glyph_of loaded.now.font) (step_of loaded.now.font) text.now) }
+    ensures takes { OnErr result (text.now ≢ []) }
+{
+    let mut items = Vec::new(alloc);
+    if text.is_empty() {
+        return Ok((items, Missing { characters: 0 }));
+    }
+    let missing = shape_text(&loaded.font, slot, text, &mut items)?;
+    Ok((items, missing))
 }
 
 impl Kept {
@@ -136,11 +158,13 @@ impl Kept {
         Ok(Answer::Done)
     }
 
-    /// Appends the items that characters come to, where the innermost list has room for them.
+    /// Appends the items that characters come to, where the innermost list has room for them; only then, and only for items, memory is wanted.
     fn append_shaped(&mut self, items: Vec<Node>, missing: Missing) -> Result<Reply, AllocError>
         ensures reply { IfOk result (λ reply. reply ≡ reply_by (first_of (length_checks (unshipped self.old) items.items)) (shaped_answer (record { items = items.items; missing = missing.characters }))) }
         ensures state { OnOk result (unshipped self.new ≡ state_by (first_of (length_checks (unshipped self.old) items.items)) (unshipped self.old) (with_items (unshipped self.old) items.items)) }
         ensures err { OnErr result (self.new ≡ self.old) }
+        ensures fits { OnErr result (first_of (length_checks (unshipped self.old) items.items) ≡ None) }
+        ensures takes { OnErr result (items.items ≢ []) }
     {
         if self.nest.item_count().saturating_add(items.len()) > MOST_ITEMS {
             return Ok(Err(Refusal::ListTooLong));
@@ -175,19 +199,19 @@ impl Kept {
         Ok((slot, loaded))
     }
 
-    /// Appends a text in the current font.
+    /// Appends a text in the current font. One without characters takes no memory.
     pub fn append_text(&mut self, text: &Characters) -> Result<Reply, AllocError>
         ensures reply { IfOk result (λ reply. reply ≡ reply_to (unshipped self.old) (commands.Text text.now)) }
         ensures state { OnOk result (unshipped self.new ≡ state_after (unshipped self.old) (commands.Text text.now)) }
         ensures err { OnErr result (self.new ≡ self.old) }
         ensures early { OnErr result (first_of (early_checks (unshipped self.old) (commands.Text text.now)) ≡ None) }
+        ensures takes { OnErr result (text.now ≢ []) }
     {
         let (slot, loaded) = match self.font_for_characters() {
             Ok(font) => font,
             Err(refusal) => return Ok(Err(refusal)),
         };
-        let mut items = Vec::new(*self.files.allocator());
-        let missing = shape_text(&loaded.font, slot, text.codes(), &mut items)?;
+        let (items, missing) = text_items(*self.files.allocator(), loaded, slot, text.codes())?;
         self.append_shaped(items, missing)
     }
 
@@ -331,13 +355,13 @@ impl Kept {
         }
     }
 
-    /// Appends the items of the box of a register.
+    /// Appends the items of the box of a register. Where there are none, it takes no memory.
     pub fn unbox(&mut self, taken: &Unboxing) -> Result<Reply, AllocError>
         ensures reply { IfOk result (λ reply. reply ≡ reply_to (unshipped self.old) (commands.Unbox taken.now)) }
         ensures state { OnOk result (unshipped self.new ≡ state_after (unshipped self.old) (commands.Unbox taken.now)) }
         ensures err { OnErr result (self.new ≡ self.old) }
         ensures admitted { OnErr result (first_of (checks (unshipped self.old) (commands.Unbox taken.now)) ≡ None) }
-        ensures takes { OnErr result (IsSome (held_in self.old.registers taken.now.register)) }
+        ensures takes { OnErr result (nodes_in (held_in self.old.registers taken.now.register) ≢ []) }
     {
         let Some(innermost) = self.nest.innermost() else {
             return Ok(Err(Refusal::NoOpenList));
@@ -360,7 +384,7 @@ impl Kept {
         requires { length (nodes_of (items_in (innermost self.old.nest))) + length (nodes_in (held_in self.old.registers register)) ≤ MOST_ITEMS }
         ensures ok { OnOk result (unshipped self.new ≡ with_unboxed (unshipped self.old) Taking.Moved register (held_in self.old.registers register)) }
         ensures err { OnErr result (self.new ≡ self.old) }
-        ensures takes { OnErr result (IsSome (held_in self.old.registers register)) }
+        ensures takes { OnErr result (nodes_in (held_in self.old.registers register) ≢ []) }
     {
         let Some(mut box_node) = self.registers.take(register) else {
             return Ok(());
@@ -379,11 +403,14 @@ impl Kept {
         requires { length (nodes_of (items_in (innermost self.old.nest))) + length (nodes_in (held_in self.old.registers register)) ≤ MOST_ITEMS }
         ensures ok { OnOk result (unshipped self.new ≡ with_unboxed (unshipped self.old) Taking.Copied register (held_in self.old.registers register)) }
         ensures err { OnErr result (self.new ≡ self.old) }
-        ensures takes { OnErr result (IsSome (held_in self.old.registers register)) }
+        ensures takes { OnErr result (nodes_in (held_in self.old.registers register) ≢ []) }
     {
         let Some(box_node) = self.registers.get(register) else {
             return Ok(());
         };
+        if box_node.list.is_empty() {
+            return Ok(());
+        }
         let mut copy = box_node.list.copy(*self.files.allocator())?;
         self.nest.append_list(&mut copy)
     }
@@ -401,13 +428,13 @@ impl Kept {
         Ok(Answer::Done)
     }
 
-    /// Splits the vbox of a register: what is left goes back into it, and then the front into the other one.
+    /// Splits the vbox of a register: what is left goes back into it, and then the front into the other one. Only a rest takes memory.
     pub fn split(&mut self, splitting: &Splitting) -> Result<Reply, AllocError>
         ensures reply { IfOk result (λ reply. reply ≡ reply_to (unshipped self.old) (commands.Split splitting.now)) }
         ensures state { OnOk result (unshipped self.new ≡ state_after (unshipped self.old) (commands.Split splitting.now)) }
         ensures err { OnErr result (self.new ≡ self.old) }
         ensures admitted { OnErr result (first_of (checks (unshipped self.old) (commands.Split splitting.now)) ≡ None) }
-        ensures takes { OnErr result (IsSome (held_in self.old.registers splitting.now.register)) }
+        ensures takes { OnErr result (LeavesRest self.old.params.split splitting.now.height (held_in self.old.registers splitting.now.register)) }
     {
         self.registers.split(splitting, &self.params.split)
     }

@@ -10,7 +10,7 @@ use Rattle.nest_core.specs.Machine.{reply_by, state_by}
 use Rattle.nest_core.proofs.Nests.{first_refused}
 use Rattle.command_core.specs.Reply.{Reply}
 use Rattle.nest_core.specs.State.{State}
-use Rattle.state_core.proofs.ShapedItems.{text_answers}
+use Rattle.state_core.proofs.ShapedItems.{text_answers, some_text}
 use Rattle.state_core.specs.Keeping.{unshipped}
 use Rattle.state_core.proofs.kept.Kept.append_text.Goals as goal
 
@@ -29,11 +29,15 @@ returns-in-Err-clause-state c =
 pub returns-clause-reply : goal.returns-clause-reply
 returns-clause-reply c =
     let s = unshipped c.args.self.now in
-    let right = text_answers s c.in-Ok.font.0 c.in-Ok.font.1.now refl c.in-Ok.ensures.slot c.in-Ok.ensures.font c.in-Ok.ensures.ok c.args.text.now _ _ (c.in_ok-missing.ensures.ok ∙ (rw (c.new-items.ensures.items, c.codes.ensures) refl)) (c.in_ok-missing.ensures.number ∙ (rw c.codes.ensures refl)) in
+    let right = text_answers s c.in-Ok.font.0 c.in-Ok.font.1.now refl c.in-Ok.ensures.slot c.in-Ok.ensures.font c.in-Ok.ensures.ok c.args.text.now _ _ (c.in_ok-items.ensures.items ∙ rw c.codes.ensures refl) (c.in_ok-items.ensures.missing ∙ rw c.codes.ensures refl) in
     subst (λ (r : Reply). IfOk c.append_shaped.result (λ reply. reply ≡ r)) right.reply c.append_shaped.ensures.reply
 
 pub returns-clause-state : goal.returns-clause-state
 returns-clause-state c =
     let s = unshipped c.args.self.now in
-    let right = text_answers s c.in-Ok.font.0 c.in-Ok.font.1.now refl c.in-Ok.ensures.slot c.in-Ok.ensures.font c.in-Ok.ensures.ok c.args.text.now _ _ (c.in_ok-missing.ensures.ok ∙ (rw (c.new-items.ensures.items, c.codes.ensures) refl)) (c.in_ok-missing.ensures.number ∙ (rw c.codes.ensures refl)) in
+    let right = text_answers s c.in-Ok.font.0 c.in-Ok.font.1.now refl c.in-Ok.ensures.slot c.in-Ok.ensures.font c.in-Ok.ensures.ok c.args.text.now _ _ (c.in_ok-items.ensures.items ∙ rw c.codes.ensures refl) (c.in_ok-items.ensures.missing ∙ rw c.codes.ensures refl) in
     subst (λ (t : State). OnOk c.append_shaped.result (unshipped c.append_shaped.new.self ≡ t)) right.state c.append_shaped.ensures.state
+
+pub returns-clause-takes : goal.returns-clause-takes
+returns-clause-takes c =
+    some_text c.append_shaped.result c.in-Ok.font.0 c.in-Ok.font.1.now c.args.text.now _ (c.in_ok-items.ensures.items ∙ rw c.codes.ensures refl) c.append_shaped.ensures.takes
