@@ -1,5 +1,5 @@
 -- The end of a job and of its machine.
-use Rattle.std.proofs.Common.{◌+◌, ◌≡◌, ◌≢◌, inl, inr, ℕ, ◌<◌, Bool, true, false, List, [], length, take, Option, Some, None, Ok, Err, refl, ap, subst, sym, ◌∙◌}
+use Rattle.std.proofs.Common.{◌+◌, ◌≡◌, ◌≢◌, inl, inr, ℕ, Bool, true, false, List, [], length, take, Option, Some, None, Ok, Err, refl, ap, subst, sym, ◌∙◌}
 use Rattle.std.specs.Prelude.{◌==◌, not, IfSome}
 use Rattle.command_core.specs.declared.command.Refusal.TheVariants.{OutOfMemory, Device, JobOver, ListsOpen}
 use Rattle.command_core.specs.declared.command.Summary.{Summary}

@@ -1,5 +1,5 @@
 -- How a job and the machine that it stands for move together.
-use Rattle.std.proofs.Common.{◌≡◌, ℕ, ◌+◌, ◌<◌, Bool, true, false, List, [], ◌∷◌, ◌++◌, length, length-append, take, Option, Some, None, Err, refl, ap, sym, ◌∙◌, subst, inr, arith, append-nil}
+use Rattle.std.proofs.Common.{◌≡◌, ℕ, ◌+◌, Bool, true, false, List, [], ◌∷◌, ◌++◌, length, length-append, take, Option, Some, None, Err, refl, ap, sym, ◌∙◌, subst, inr, arith, append-nil}
 use Rattle.std.specs.Prelude.{◌≢◌, Ok, is_none, if◌then◌else◌, IfOk, IfErr, nat_le, nat_lt}
 use Rattle.node_core.specs.declared.tree.BoxNode.{BoxNode}
 use Rattle.command_core.specs.declared.command.Command.{Command}
