@@ -7,15 +7,25 @@ use crate::entry::{Best, replaces};
 use crate::state::Line;
 use std::alloc::{AllocError, Global};
 
+/// Takes all offers out of a row, which gets the size that the states of a place need. It takes no memory where the row had that size before.
+pub fn reset_row(row: &mut Vec<Option<Best>>, cut: usize) -> Result<(), AllocError>
+    requires few { cut < 1000 }
+    ensures { OnOk result (row.new.items ≡ replicate (slots cut) None) }
+{
+    row.clear();
+    for _ in 0..4 * (cut + 1) {
+        row.push(None)?;
+    }
+    Ok(())
+}
+
 /// A row without an offer.
 pub fn empty_row(alloc: Global, cut: usize) -> Result<Vec<Option<Best>>, AllocError>
     requires few { cut < 1000 }
     ensures { IfOk result (λ row. row.items ≡ replicate (slots cut) None) }
 {
-    let mut row = Vec::new(alloc);
-    for _ in 0..4 * (cut + 1) {
-        row.push(None)?;
-    }
+    let mut row = Vec::with_capacity(alloc, 4 * (cut + 1))?;
+    reset_row(&mut row, cut)?;
     Ok(row)
 }
 
