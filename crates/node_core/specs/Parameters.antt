@@ -13,8 +13,8 @@ rigid width = record { width = width; stretch = pos 0; stretch_order = Normal; s
 abbrev pub first_split_params : SplitParams
 first_split_params = record { split_max_depth = pos 1073741823; split_top_skip = rigid (pos 655360) }
 
--- boxmaxdepth is the greatest dimension, baselineskip 12pt, lineskip 1pt, lineskiplimit 0pt, hsize 6.5in and parfillskip 0pt plus 1fil; then the
--- numbers, hoffset and voffset 0pt, and the parameters of splits.
+-- boxmaxdepth is the greatest dimension, baselineskip 12pt, lineskip 1pt, lineskiplimit 0pt and hsize 6.5in; no first line has a width of its own,
+-- firstsize is 6.5in (both own), and parfillskip 0pt plus 1fil; then the numbers, hoffset and voffset 0pt, and the parameters of splits.
 abbrev pub first_params : Params
 first_params =
     record {
@@ -23,6 +23,8 @@ first_params =
       line_skip = rigid (pos 65536);
       line_skip_limit = pos 0;
       hsize = pos 30785863;
+      first_lines = 0;
+      first_size = pos 30785863;
       par_fill_skip = record (rigid (pos 0)) { stretch = pos 65536; stretch_order = Fil };
       pretolerance = pos 100;
       tolerance = pos 200;

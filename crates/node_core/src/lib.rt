@@ -8,7 +8,7 @@ pub mod params;
 pub mod tree;
 
 pub use class::ItemClass;
-pub use params::{Number, Params, SplitParams};
+pub use params::{FirstLines, Number, Params, SplitParams};
 pub use tree::{
     BoxNode, Glue, Glyph, Kind, Node, NodeList, Order, Rule, RuleSize, Setting, push_box,
 };

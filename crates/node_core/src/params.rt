@@ -1,6 +1,6 @@
 //! The parameters of lists and boxes, and the numbers that they and penalties have (TeX: The Program, part 17).
 
-ghost use Rattle.std.specs.Prelude.{◌≡◌};
+ghost use Rattle.std.specs.Prelude.{◌≡◌, ◌≤◌};
 ghost use Rattle.std.specs.Option.{SomeIff};
 ghost use Rattle.scaled_core.specs.Dimensions.{Within};
 ghost use Rattle.node_core.specs.Parameters.{rigid, first_params, first_split_params};
@@ -53,6 +53,44 @@ impl Number {
     }
 }
 
+/// How many of the first lines of a paragraph have a width of their own: at most 32.
+#[derive(Clone, Copy, Debug, PartialEq, Eq)]
+pub struct FirstLines {
+    count: usize,
+}
+
+impl Model for FirstLines {
+    ghost use Rattle.std.specs.Prelude.{ℕ, ◌≤◌};
+
+    ghost Value = { ℕ };
+
+    ghost view = { λ n. n.count };
+
+    ghost invariant = { λ n. n.count ≤ 32 };
+
+    ghost inverse = { λ n. record { count = n } };
+}
+
+impl FirstLines {
+    /// A number of first lines, or None exactly where it is above 32.
+    pub fn try_new(count: usize) -> Option<FirstLines>
+        ensures { SomeIff result (count ≤ 32) count }
+    {
+        if count > 32 {
+            return None;
+        }
+        Some(FirstLines { count })
+    }
+
+    /// The number.
+    pub fn get(self) -> usize
+        ensures value { result ≡ self }
+        ensures few { result ≤ 32 }
+    {
+        self.count
+    }
+}
+
 /// The parameters.
 #[derive(Clone, Copy, Debug, PartialEq, Eq)]
 pub struct Params {
@@ -66,6 +104,10 @@ pub struct Params {
     pub line_skip_limit: Dimen,
     /// How wide the lines of a paragraph are, in scaled points: hsize.
     pub hsize: Dimen,
+    /// How many of the first lines of a paragraph have a width of their own: firstlines.
+    pub first_lines: FirstLines,
+    /// How wide these first lines are, in scaled points: firstsize.
+    pub first_size: Dimen,
     /// The glue at the end of a paragraph: parfillskip.
     pub par_fill_skip: Glue,
     /// How bad a line may be in the first pass over a paragraph; below 0 there is no such pass: pretolerance.
@@ -105,8 +147,8 @@ fn rigid(width: Dimen) -> Glue
 
 impl Params {
     /// The parameters of a new job: a vbox may be as deep as a dimension can be, baselines are 12pt apart, and boxes that would come nearer
-    /// than 0pt are 1pt apart. Lines are 6.5in wide, the last one is filled up with glue of order fil, and the numbers are those of plain TeX.
-    /// Pages are not moved.
+    /// than 0pt are 1pt apart. Lines are 6.5in wide, the first ones too, the last one is filled up with glue of order fil, and the numbers are those
+    /// of plain TeX. Pages are not moved.
     pub fn first() -> Params
         ensures { result ≡ first_params }
     {
@@ -116,6 +158,8 @@ impl Params {
             line_skip: rigid(Dimen::points(1)),
             line_skip_limit: Dimen::ZERO,
             hsize: Dimen::new(30_785_863),
+            first_lines: FirstLines { count: 0 },
+            first_size: Dimen::new(30_785_863),
             par_fill_skip: Glue {
                 stretch: Dimen::points(1),
                 stretch_order: Order::Fil,
