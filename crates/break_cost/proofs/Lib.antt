@@ -1,3 +1,4 @@
 -- Lemmas on the cost of a line.
 pub mod Costs
 pub mod Bounds
+pub mod Widths

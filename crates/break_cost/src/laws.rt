@@ -1,10 +1,12 @@
 //! Laws of the definitions, each on a function that does nothing.
 
-ghost use Rattle.std.specs.Prelude.{◌≡◌, ◌≤◌, ◌<ℤ◌, ℤ, pos, true, false};
+ghost use Rattle.std.specs.Prelude.{◌≡◌, ◌≤◌, ◌<ℤ◌, ◌≤ℤ◌, ℕ, ℤ, pos, true, false, ◌&&◌};
+ghost use Rattle.node_core.specs.declared.params.Params.{Params};
 ghost use Rattle.node_core.specs.Parameters.{first_params};
 ghost use Rattle.break_table.specs.declared.state.Class.TheVariants.{VeryLoose, Decent, Tight};
 ghost use Rattle.break_cost.specs.declared.sums.Sums.{Sums};
 ghost use Rattle.break_cost.specs.Costs.{judged, demerits_of};
+ghost use Rattle.break_cost.specs.Sizes.{line_size, greatest_size, judgement, judged_after};
 ghost use Rattle.break_cost.specs.Examples.{line_of_points};
 
 /// A line is at most as bad as 10000, whatever its sums are.
@@ -44,4 +46,22 @@ pub fn overfull_line()
     ensures class { (line_of_points 50 0 0).class ≡ Tight }
     ensures overhang { (line_of_points 50 0 0).overhang ≡ pos 655360 }
     ensures demerits { demerits_of first_params (pos 0) Decent (line_of_points 50 0 0) ≡ pos 100000000 }
+{}
+
+/// Without first lines each line is as wide as hsize, whatever firstsize is.
+pub fn no_first_lines()
+    ensures size { (params : Params) → (lines : ℕ) → params.first_lines ≡ 0 → line_size params lines ≡ params.hsize }
+    ensures greatest { (params : Params) → params.first_lines ≡ 0 → greatest_size params ≡ params.hsize }
+{}
+
+/// One judgement serves each number of lines before the line. A line is overfull by both parts of its judgement exactly where it is so at the greatest
+/// width of a line, and then it is overfull after any number of lines.
+pub fn one_judgement_serves_all()
+    ensures after { (params : Params) → (sums : Sums) → (lines : ℕ) →
+        judged_after params.first_lines lines (judgement params sums) ≡ judged sums (line_size params lines) }
+    ensures greatest { (params : Params) → (sums : Sums) →
+        ((judgement params sums).first.overfull && (judgement params sums).rest.overfull) ≡ (judged sums (greatest_size params)).overfull }
+    ensures each { (params : Params) → (sums : Sums) → (lines : ℕ) →
+        (judged sums (greatest_size params)).overfull ≡ true → (judged sums (line_size params lines)).overfull ≡ true }
+    ensures most { (params : Params) → (lines : ℕ) → line_size params lines ≤ℤ greatest_size params }
 {}
