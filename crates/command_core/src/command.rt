@@ -5,7 +5,7 @@ ghost use Rattle.std.specs.Option.{SomeIff};
 ghost use Rattle.command_core.specs.BoxForms.{kind_of};
 
 use crate::limits::{COUNTS, REGISTERS};
-use node_core::{Glue, Kind, Number, Rule};
+use node_core::{FirstLines, Glue, Kind, Number, Rule};
 use pack_core::Target;
 use scaled_core::Dimen;
 use std::marker::Model;
@@ -227,6 +227,10 @@ pub enum Parameter {
     SplitTopSkip(Glue),
     /// How wide the lines of a paragraph are, in scaled points: hsize.
     Hsize(Dimen),
+    /// How many of the first lines of a paragraph have a width of their own: firstlines.
+    FirstLines(FirstLines),
+    /// How wide these first lines are, in scaled points: firstsize.
+    FirstSize(Dimen),
     /// The glue at the end of a paragraph: parfillskip.
     ParFillSkip(Glue),
     /// How bad a line may be in the first pass over a paragraph; below 0 there is no such pass: pretolerance.
