@@ -18,6 +18,7 @@ use Rattle.break_cost.specs.declared.cost.Judged.{Judged}
 use Rattle.break_cost.specs.declared.cost.Bound.{Bound}
 use Rattle.break_cost.specs.declared.cost.Bound.TheVariants.{Any, AtMost}
 use Rattle.break_cost.specs.Costs.{judged, admits, line_of, demerits_of}
+use Rattle.break_cost.specs.Sizes.{line_size}
 use Rattle.break_core.specs.declared.broken.Pass.{Pass}
 use Rattle.break_core.specs.declared.broken.Pass.TheVariants.{First, Second, Third}
 use Rattle.line_meter.specs.Facts.{Facts}
@@ -52,7 +53,7 @@ pub negative_admits_none :
 negative_admits_none facts params most below some places q is_list admitted =
     let p = problem_of facts params (AtMost most) in
     let way = way_of_break_list p places q is_list admitted in
-    no_way p q way.0 (λ s b. none_below params most (facts.penalty b) s.class (judged (facts.sums s.place b) params.hsize) below) (omega (arith, way.1))
+    no_way p q way.0 (λ s b. none_below params most (facts.penalty b) s.class (judged (facts.sums s.place b) (line_size params s.lines)) below) (omega (arith, way.1))
 
 -- Each place can be reached from the one before it.
 reached : (p : Problem) → ((s : State) (b : ℕ) → (l : Line) × (p.line s b ≡ Some l)) → (n : ℕ) → (q : Path) × Way p q × (q.last.place ≡ n)
@@ -69,7 +70,7 @@ reached p line (suc n) = more (reached p line n)
 pub last_admits : (facts : Facts) (params : Params) → AdmitsNone (problem_of facts params Any) → ⊥
 last_admits facts params none =
     let p = problem_of facts params Any in
-    let way = reached p (λ s b. some_line params (facts.penalty b) s.class (judged (facts.sums s.place b) params.hsize)) facts.places in
+    let way = reached p (λ s b. some_line params (facts.penalty b) s.class (judged (facts.sums s.place b) (line_size params s.lines))) facts.places in
     let list = break_list_of_way p way.0 way.1 way.2 in
     none _ way.0 list.0 list.1
 

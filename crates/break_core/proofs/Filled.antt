@@ -14,9 +14,11 @@ use Rattle.break_table.proofs.Rows.{row_silent}
 use Rattle.break_table.proofs.Live.{live_more, live_forced, new_group, first_live}
 use Rattle.node_core.specs.declared.params.Params.{Params}
 use Rattle.break_cost.specs.declared.sums.Sums.{Sums}
-use Rattle.break_cost.specs.declared.cost.Judged.{Judged}
+use Rattle.break_cost.specs.declared.sizes.Judgement.{Judgement}
 use Rattle.break_cost.specs.declared.cost.Bound.{Bound}
 use Rattle.break_cost.specs.Costs.{judged, line_of}
+use Rattle.break_cost.specs.Sizes.{line_size, judgement, judged_after}
+use Rattle.break_cost.proofs.Widths.{after_is}
 use Rattle.line_meter.specs.Facts.{Facts}
 use Rattle.break_core.specs.Passes.{problem_of}
 use Rattle.break_core.specs.Filling.{IsOf, IsJudged, AreRising, IsFilled, AreTried}
@@ -34,8 +36,8 @@ next_live p table b at i live g is here =
     subst (λ groups. IsLive p table b at groups) same here
 
 -- The entries of a live group are of its place.
-pub group_of : (p : Problem) (table : List Entry) (b : ℕ) (g : Group) → p.cut ≡ 0 → IsTable p b table → IsGroup p table b g → IsOf table g
-group_of p table b g cut is group k e low high at = (group.entries k e low high at, omega (arith, (is.below k e at).1, cut))
+pub group_of : (p : Problem) (table : List Entry) (b : ℕ) (g : Group) → IsTable p b table → IsGroup p table b g → IsOf p.cut table g
+group_of p table b g is group k e low high at = (group.entries k e low high at, (is.below k e at).1)
 
 -- Lines from one more group were tried.
 pub tried_more :
@@ -137,13 +139,15 @@ row_end p table b at i live row past here is =
 
 -- A line that was judged by its sums is that of the problem.
 pub judged_is :
-    (f h : Facts) (params : Params) (bound : Bound) (g : Group) (place : ℕ) (penalty : ℤ) (sums : Sums) (line : Judged)
-    → penalty ≡ f.penalty place → line ≡ judged sums params.hsize → sums ≡ h.sums g.place place → h ≡ f
+    (f h : Facts) (params : Params) (bound : Bound) (g : Group) (place : ℕ) (penalty : ℤ) (sums : Sums) (line : Judgement)
+    → penalty ≡ f.penalty place → line ≡ judgement params sums → sums ≡ h.sums g.place place → h ≡ f
     → IsJudged (problem_of f params bound) params bound g place penalty line
 judged_is f h params bound g place penalty sums line is_penalty is_line is_sums same s at =
     let all : sums ≡ f.sums s.place place = is_sums ∙ ap (λ x. x.sums g.place place) same ∙ ap (λ n. f.sums n place) (sym at) in
-    ap (λ x. line_of params bound x s.class (judged (f.sums s.place place) params.hsize)) (sym is_penalty)
-    ∙ ap (λ x. line_of params bound penalty s.class x) (ap (λ x. judged x params.hsize) (sym all) ∙ sym is_line)
+    let line_is : judged_after params.first_lines s.lines line ≡ judged (f.sums s.place place) (line_size params s.lines) =
+    ap (judged_after params.first_lines s.lines) is_line ∙ after_is params sums s.lines ∙ ap (λ x. judged x (line_size params s.lines)) all in
+    ap (λ x. line_of params bound x s.class (judged (f.sums s.place place) (line_size params s.lines))) (sym is_penalty)
+    ∙ ap (λ x. line_of params bound penalty s.class x) (sym line_is)
 
 pub on_ok_then : {A E : Type 0} {P Q : Type 0} (r : Result A E) → OnOk r P → (P → Q) → OnOk r Q
 on_ok_then (Ok x) h f = f h

@@ -10,27 +10,29 @@ use Rattle.break_table.specs.Live.{IsLive}
 use Rattle.break_table.specs.declared.answer.Least.{Least}
 use Rattle.break_table.specs.Chosen.{AdmitsNone, IsAnswer}
 use Rattle.break_core.specs.declared.broken.Pass.{Pass}
-use Rattle.break_cost.specs.declared.cost.Judged.{Judged}
+use Rattle.break_cost.specs.declared.sizes.Judgement.{Judgement}
 use Rattle.break_cost.specs.declared.cost.Bound.{Bound}
 use Rattle.break_cost.specs.Costs.{line_of}
+use Rattle.break_cost.specs.Sizes.{judged_after}
 use Rattle.line_meter.specs.Facts.{Facts}
 use Rattle.break_core.specs.Passes.{problem_of, bound_of, IsBefore}
 
--- The entries of a group are of its place, and no lines are counted.
-abbrev pub IsOf : (table : List Entry) → Group → Type 0
-IsOf table group =
-    (k : ℕ) (e : Entry) → group.start ≤ k → k < group.end → slice_get table k ≡ Some e → (e.end.place ≡ group.place) × (e.end.lines ≤ 0)
+-- The entries of a group are of its place, and at most that many lines are counted.
+abbrev pub IsOf : (cut : ℕ) (table : List Entry) → Group → Type 0
+IsOf cut table group =
+    (k : ℕ) (e : Entry) → group.start ≤ k → k < group.end → slice_get table k ≡ Some e → (e.end.place ≡ group.place) × (e.end.lines ≤ cut)
 
 -- The lines of a problem from the place of a group to another place are those that are judged so.
-abbrev pub IsJudged : Problem → Params → Bound → Group → (place : ℕ) → (penalty : ℤ) → Judged → Type 0
+abbrev pub IsJudged : Problem → Params → Bound → Group → (place : ℕ) → (penalty : ℤ) → Judgement → Type 0
 IsJudged p params bound group place penalty line =
-    (s : State) → s.place ≡ group.place → p.line s place ≡ line_of params bound penalty s.class line
+    (s : State) → s.place ≡ group.place
+    → p.line s place ≡ line_of params bound penalty s.class (judged_after params.first_lines s.lines line)
 
 -- Between two rows the entries from one number up to another were offered, by lines that are judged so.
 abbrev pub IsOffering :
-    (table : List Entry) → Params → Bound → Group → (place : ℕ) → (penalty : ℤ) → Judged → (from to : ℕ) → (old new : List (Option Entry)) → Type 0
+    (table : List Entry) → Params → Bound → Group → (place : ℕ) → (penalty : ℤ) → Judgement → (from to : ℕ) → (old new : List (Option Entry)) → Type 0
 IsOffering table params bound group place penalty line from to old new =
-    (p : Problem) → p.cut ≡ 0 → since p place ≤ group.place → IsJudged p params bound group place penalty line
+    (p : Problem) → p.cut ≡ params.first_lines → since p place ≤ group.place → IsJudged p params bound group place penalty line
     → IsRow p table place from old → IsRow p table place to new
 
 -- Each group is of an earlier place than those behind it.

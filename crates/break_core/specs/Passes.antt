@@ -14,6 +14,7 @@ use Rattle.break_core.specs.declared.broken.LineEnd.{LineEnd}
 use Rattle.line_meter.specs.Legal.{is_forced}
 use Rattle.line_meter.specs.Facts.{Facts}
 use Rattle.break_cost.specs.Costs.{judged, line_of}
+use Rattle.break_cost.specs.Sizes.{line_size}
 
 -- What a pass admits: the first one lines up to pretolerance, the second one up to tolerance, the last one each line.
 abbrev pub bound_of : Params → Pass → Bound
@@ -21,14 +22,15 @@ bound_of params First = AtMost params.pretolerance
 bound_of params Second = AtMost params.tolerance
 bound_of params Third = Any
 
--- A paragraph in a pass; no lines are counted, since each is as wide as hsize.
+-- A paragraph in a pass: the lines are counted up to firstlines, and each line is measured against its own width.
 abbrev pub problem_of : Facts → Params → Bound → Problem
 problem_of facts params bound =
     record {
       places = facts.places;
       forced = λ place. is_forced (facts.penalty place);
-      cut = 0;
-      line = λ before place. line_of params bound (facts.penalty place) before.class (judged (facts.sums before.place place) params.hsize);
+      cut = params.first_lines;
+      line = λ before place.
+          line_of params bound (facts.penalty place) before.class (judged (facts.sums before.place place) (line_size params before.lines));
     }
 
 -- A pass comes before another one.

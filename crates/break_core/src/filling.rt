@@ -3,10 +3,10 @@
 ghost use Rattle.std.specs.Prelude.{◌≡◌, ◌+◌, ◌<◌, ◌≤◌, ◌++◌, ◌<ℤ◌, ℕ, pos, [], ◌∷◌, length, if◌then◌else◌, OnOk, OnErr, IfOk};
 ghost use Rattle.break_table.specs.Tables.{most_places, slots, IsTable, IsRow};
 ghost use Rattle.break_core.specs.Passes.{problem_of};
-ghost use Rattle.break_cost.specs.Small.{IsSmallJudged};
+ghost use Rattle.break_cost.specs.Sizes.{IsSmallJudgement};
 ghost use Rattle.break_core.specs.Filling.{IsOf, IsOffering, IsFilled, IsGrown, AreFew};
 
-use break_cost::{Bound, Judged, judge, line_from};
+use break_cost::{Bound, Judgement, judge_both, line_from};
 use break_table::{Best, Group, empty_row, improve, keep};
 use line_meter::{Meter, Place};
 use node_core::Params;
@@ -21,23 +21,31 @@ pub fn offer_group(
     at: &Place,
     params: &Params,
     bound: &Bound,
-    line: &Judged,
+    line: &Judgement,
 )
-    requires wide { length row.old.items ≡ slots 0 }
+    requires wide { length row.old.items ≡ slots params.now.first_lines }
     requires rises { group.start ≤ group.end }
     requires within { group.end ≤ length table.now }
     requires earlier { group.place < place }
     requires places { place ≤ most_places }
-    requires entries { IsOf table.now group }
+    requires entries { IsOf params.now.first_lines table.now group }
     requires penalty { at.now.penalty <ℤ pos 10000 }
-    requires small { IsSmallJudged line.now }
+    requires small { IsSmallJudgement line.now }
     ensures row { IsOffering table.now params.now bound.now group place at.now.penalty line.now group.start group.end row.old.items row.new.items }
-    ensures wide { length row.new.items ≡ slots 0 }
+    ensures wide { length row.new.items ≡ slots params.now.first_lines }
 {
+    let cut = params.first_lines.get();
     for index in group.start..group.end {
         let entry = table[index];
-        let offered = line_from(params, bound, at.penalty, entry.end().class, line);
-        improve(row, entry, index, place, offered, 0);
+        let end = entry.end();
+        let offered = line_from(
+            params,
+            bound,
+            at.penalty,
+            end.class,
+            line.after(cut, end.lines),
+        );
+        improve(row, entry, index, place, offered, cut);
     }
 }
 
@@ -61,10 +69,10 @@ fn row_at<M: Meter>(
     ensures trials { IsGrown 1 (M.trials meter.old) (M.trials meter.new) }
 {
     let at = meter.place(place);
-    let mut row = empty_row(alloc, 0)?;
+    let mut row = empty_row(alloc, params.first_lines.get())?;
     for group in live {
         let sums = meter.try_line(group.place, place);
-        let line = judge(&sums, params.hsize);
+        let line = judge_both(&sums, params);
         offer_group(&mut row, table, *group, place, &at, params, bound, &line);
     }
     Ok(row)

@@ -1,13 +1,19 @@
 //! Laws of the definitions, each on a function that does nothing.
 
 ghost use Rattle.std.specs.Prelude.{◌≡◌, ◌∷◌, ℕ, pos, negsuc, min, List, [], take, Option, None, Some};
+ghost use Rattle.node_core.specs.declared.params.Params.{Params};
 ghost use Rattle.node_core.specs.declared.tree.Node.{Node};
 ghost use Rattle.node_core.specs.declared.tree.Node.TheVariants.{Kern, Penalty};
 ghost use Rattle.node_core.specs.declared.tree.Kind.TheVariants.{Horizontal};
 ghost use Rattle.pack_core.specs.ListTotals.{totals_of};
+ghost use Rattle.break_table.specs.declared.state.State.{State};
+ghost use Rattle.break_cost.specs.declared.cost.Bound.{Bound};
+ghost use Rattle.break_cost.specs.Costs.{judged, line_of};
 ghost use Rattle.break_cost.specs.Examples.{sums_of_points};
+ghost use Rattle.line_meter.specs.Facts.{Facts};
 ghost use Rattle.line_meter.specs.Legal.{legal_places};
 ghost use Rattle.line_meter.specs.Kept.{BeginsBefore, kept, first_kept, sums_of, minus};
+ghost use Rattle.break_core.specs.Passes.{problem_of};
 ghost use Rattle.break_core.specs.Examples.{rule, space, five_rules, kern_and_glue, glue_among_penalties};
 
 /// The sums over what a line keeps are a difference of sums over the first items of the list: those in front of its end, less those in front of its first
@@ -47,4 +53,12 @@ pub fn line_of_dropped_items()
     ensures places { legal_places glue_among_penalties ≡ 1 ∷ 3 ∷ 7 ∷ [] }
     ensures kept { kept glue_among_penalties (Some 1) 3 ≡ Penalty (negsuc 9999) ∷ [] }
     ensures sums { sums_of (kept glue_among_penalties (Some 1) 3) ≡ sums_of_points 0 0 0 }
+{}
+
+/// Without first lines no line is counted, and each one is measured against hsize.
+pub fn no_line_is_counted()
+    ensures cut { (facts : Facts) → (params : Params) → (bound : Bound) → params.first_lines ≡ 0 → (problem_of facts params bound).cut ≡ 0 }
+    ensures line { (facts : Facts) → (params : Params) → (bound : Bound) → (before : State) → (place : ℕ) → params.first_lines ≡ 0 →
+        (problem_of facts params bound).line before place ≡
+        line_of params bound (facts.penalty place) before.class (judged (facts.sums before.place place) params.hsize) }
 {}

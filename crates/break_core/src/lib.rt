@@ -11,7 +11,7 @@ mod filling;
 pub mod laws;
 mod passes;
 
-pub use break_cost::{Bound, Judged, judge, line_from};
+pub use break_cost::{Bound, Judgement, judge_both, line_from};
 pub use break_table::Class;
 pub use breaking::breaks;
 pub use broken::{Breaks, LineEnd, Pass};

@@ -1,7 +1,8 @@
-use Rattle.std.proofs.Common.{◌∙◌, length, refl, ap, sym, subst, arith}
+use Rattle.std.proofs.Common.{◌∙◌, length, replicate, None, refl, ap, sym, subst, arith}
+use Rattle.std.proofs.lemmas.List.{length-replicate}
 use Rattle.std.specs.Prelude.{slice_index_or}
 use Rattle.std.proofs.lemmas.Option.{slice_get-get_or}
-use Rattle.break_table.specs.Tables.{IsRow}
+use Rattle.break_table.specs.Tables.{slots, IsRow}
 use Rattle.break_table.proofs.Rows.{row_empty, row_silent}
 use Rattle.break_core.specs.Passes.{problem_of}
 use Rattle.break_core.proofs.Filled.{next_live, group_of, tried_more, row_end, judged_is}
@@ -10,13 +11,14 @@ use Rattle.break_core.proofs.filling.row_at.Goals as goal
 pub loop-group-init : goal.loop-group-init
 loop-group-init g c =
     let p = problem_of (g.M.Meter.facts c.args.meter.now) c.args.params.now c.args.bound.now in
+    let empty = c.in_ok-row.ensures ∙ ap (λ n. replicate (slots n) None) c.get.ensures.value in
     record {
-      wide = ap length c.in_ok-row.ensures;
+      wide = ap length empty ∙ length-replicate (slots p.cut) None;
       facts = refl;
       tried = record { grown = λ place. omega arith; fresh = λ k h low at. omega arith };
       at = 0;
       live = c.requires.filled.is_live;
-      row = subst (λ row. IsRow p c.args.table.now c.args.place 0 row) (sym c.in_ok-row.ensures) (row_empty p c.args.table.now c.args.place);
+      row = subst (λ row. IsRow p c.args.table.now c.args.place 0 row) (sym empty) (row_empty p c.args.table.now c.args.place);
     }
 
 pub offer_group-requires-clause-entries : goal.offer_group-requires-clause-entries
@@ -25,7 +27,7 @@ offer_group-requires-clause-entries g c =
     let group = slice_index_or c.args.live.now c.loop-group.group-index (record { place = 0; start = 0; end = 0 }) in
     let at = slice_get-get_or c.args.live.now c.loop-group.group-index (record { place = 0; start = 0; end = 0 }) c.loop-group-test.true in
     let next = next_live p c.args.table.now c.args.place c.loop-group.invariant.at c.loop-group.group-index c.args.live.now group at c.loop-group.invariant.live in
-    group_of p c.args.table.now c.args.place group refl c.requires.filled.is_table next.2
+    group_of p c.args.table.now c.args.place group c.requires.filled.is_table next.2
 
 pub loop-group-preserved : goal.loop-group-preserved
 loop-group-preserved g c =
@@ -36,8 +38,8 @@ loop-group-preserved g c =
     let at = slice_get-get_or c.args.live.now c.loop-group.group-index (record { place = 0; start = 0; end = 0 }) c.loop-group-test.true in
     let inv = c.loop-group.invariant in
     let next = next_live p c.args.table.now c.args.place inv.at c.loop-group.group-index c.args.live.now group at inv.live in
-    let judged = judged_is f h c.args.params.now c.args.bound.now group c.args.place c.place-at.result.penalty c.try_line-sums.result c.judge-line.result
-    c.place-at.ensures.penalty c.judge-line.ensures.value c.try_line-sums.ensures.sums inv.facts in
+    let judged = judged_is f h c.args.params.now c.args.bound.now group c.args.place c.place-at.result.penalty c.try_line-sums.result c.judge_both-line.result
+    c.place-at.ensures.penalty c.judge_both-line.ensures.value c.try_line-sums.ensures.sums inv.facts in
     record {
       wide = c.offer_group.ensures.wide;
       facts = c.try_line-sums.ensures.facts ∙ inv.facts;

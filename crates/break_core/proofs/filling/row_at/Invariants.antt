@@ -7,7 +7,7 @@ use Rattle.break_core.proofs.filling.row_at.Given as goal
 
 abbrev pub invariant-loop-group : goal.invariant-loop-group
 invariant-loop-group g l = record {
-  wide : length l.row.items ≡ slots 0;
+  wide : length l.row.items ≡ slots l.params.first_lines;
   facts : g.M.Meter.facts l.meter ≡ g.M.Meter.facts l.initial.meter;
   tried : AreTried l.live l.group-index (g.M.Meter.trials l.initial.meter) (g.M.Meter.trials l.meter);
   at : ℕ;
