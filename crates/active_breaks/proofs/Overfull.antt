@@ -14,64 +14,16 @@ use Rattle.break_cost.specs.declared.sums.Sums.{Sums}
 use Rattle.break_cost.specs.declared.cost.Judged.{Judged}
 use Rattle.break_cost.specs.declared.cost.Bound.{Bound}
 use Rattle.break_cost.specs.declared.cost.Bound.TheVariants.{Any, AtMost}
-use Rattle.break_cost.specs.Costs.{stretches_forever, judged_short, judged_long, judged, admits, line_of}
-use Rattle.break_cost.proofs.Costs.{by_short, by_long}
+use Rattle.break_cost.specs.declared.sizes.Judgement.{Judgement}
+use Rattle.break_cost.specs.Costs.{judged, admits, line_of}
+use Rattle.break_cost.specs.Sizes.{line_size, greatest_size, judgement}
+use Rattle.break_cost.proofs.Widths.{overfull_means, overfull_is, overfull_each, both_overfull}
 use Rattle.line_meter.specs.Legal.{is_forced}
 use Rattle.line_meter.specs.Facts.{Facts}
 use Rattle.break_core.specs.Passes.{problem_of}
 use Rattle.line_meter.specs.Steady.{IsNoNarrower, IsSteady}
 use Rattle.active_breaks.specs.Trials.{is_overfull}
 use Rattle.active_breaks.specs.Active.{stops, is_limit, MayDrop, IsQuiet}
-
-either : (t : Bool) (x y : Judged) (o : Bool) → x.overfull ≡ true → y.overfull ≡ false → (cond t x y).overfull ≡ t
-either true x y o is is_not = is
-either false x y o is is_not = is_not
-
-neither : (t : Bool) (x y : Judged) → x.overfull ≡ false → y.overfull ≡ false → (cond t x y).overfull ≡ false
-neither true x y is is_not = is
-neither false x y is is_not = is_not
-
--- A line that is too short is not overfull.
-short_overfull : (s : Sums) (x : ℤ) → (judged_short s x).overfull ≡ false
-unfolding judged_short
-short_overfull s x = neither (stretches_forever s) _ _ refl refl
-
--- One that is too long is overfull if it can't shrink by so much.
-long_overfull : (s : Sums) (x : ℤ) → (judged_long s x).overfull ≡ int_lt s.shrink x
-unfolding judged_long
-long_overfull s x = either (int_lt s.shrink x) _ _ true refl refl
-
-lt_is : (x y : ℤ) → int_lt x y ≡ true → x <ℤ y
-lt_is x y is = grind (arith, ints)
-
-is_lt : (x y : ℤ) → x <ℤ y → int_lt x y ≡ true
-is_lt x y is = grind (arith, ints)
-
-overfull_means : (s : Sums) (size : ℤ) → (judged s size).overfull ≡ true → (size ≤ℤ s.width) × (s.shrink <ℤ (s.width -ℤ size))
-unfolding judged
-overfull_means s size is = by_lt_z (pos 0) (size -ℤ s.width) short_case long_case
-  where
-    short_case : pos 0 <ℤ (size -ℤ s.width) → (size ≤ℤ s.width) × (s.shrink <ℤ (s.width -ℤ size))
-    short_case short =
-        let no : false ≡ true =
-        sym (short_overfull s (size -ℤ s.width)) ∙ ap (λ j. j.overfull) (sym (by_short s (size -ℤ s.width) short)) ∙ is in
-        absurd (cc)
-
-    long_case : (size -ℤ s.width) ≤ℤ pos 0 → (size ≤ℤ s.width) × (s.shrink <ℤ (s.width -ℤ size))
-    long_case long =
-        let t = s.width -ℤ size in
-        let same : t ≡ neg_ℤ (size -ℤ s.width) = omega (arith, ints) in
-        let test : int_lt s.shrink t ≡ true =
-        sym (long_overfull s t) ∙ ap (λ j. j.overfull) (sym (by_long s (size -ℤ s.width) t long same)) ∙ is in
-        (omega (arith, ints, long), lt_is s.shrink t test)
-
-overfull_is : (s : Sums) (size : ℤ) → size ≤ℤ s.width → s.shrink <ℤ (s.width -ℤ size) → (judged s size).overfull ≡ true
-unfolding judged
-overfull_is s size wide long =
-    let t = s.width -ℤ size in
-    let same : t ≡ neg_ℤ (size -ℤ s.width) = omega (arith, ints) in
-    let low : (size -ℤ s.width) ≤ℤ pos 0 = omega (arith, ints, wide) in
-    ap (λ j. j.overfull) (by_long s (size -ℤ s.width) t low same) ∙ long_overfull s t ∙ is_lt s.shrink t long
 
 -- A line that is no narrower than an overfull one is overfull.
 overfull_more : (s t : Sums) (size : ℤ) → IsNoNarrower t s → (judged s size).overfull ≡ true → (judged t size).overfull ≡ true
@@ -89,7 +41,7 @@ overfull_by facts params a b (suc n) steady earlier within is =
     let before = overfull_by facts params a b n steady earlier (omega arith) is in
     let same : b + n + 1 ≡ b + suc n = omega arith in
     subst (λ l. is_overfull facts params a l ≡ true) same
-    (overfull_more (facts.sums a (b + n)) (facts.sums a (b + n + 1)) params.hsize (steady a (b + n) (omega arith) (omega arith)) before)
+    (overfull_more (facts.sums a (b + n)) (facts.sums a (b + n + 1)) (greatest_size params) (steady a (b + n) (omega arith) (omega arith)) before)
 
 -- Where the line to a place is overfull, so are those to later ones.
 pub overfull_stays :
@@ -128,14 +80,16 @@ overfull_quiet facts params bound table b g may group is k e low high at l behin
     let late : is_overfull facts params e.end.place l ≡ true =
     ap (λ a. is_overfull facts params a l) place ∙ overfull_stays facts params g.place b l may.0 group.earlier (omega arith) within is in
     no_offer (problem_of facts params bound) e k l
-    (overfull_none params bound (facts.penalty l) e.end.class (judged (facts.sums e.end.place l) params.hsize) may.1 late)
+    (overfull_none params bound (facts.penalty l) e.end.class (judged (facts.sums e.end.place l) (line_size params e.end.lines)) may.1
+    (overfull_each params (facts.sums e.end.place l) e.end.lines late))
 
 -- Whether a line that was judged is overfull is whether that of the paragraph is.
 pub overfull_of :
-    (f h : Facts) (params : Params) (a b : ℕ) (sums : Sums) (line : Judged)
-    → line ≡ judged sums params.hsize → sums ≡ h.sums a b → h ≡ f → line.overfull ≡ is_overfull f params a b
+    (f h : Facts) (params : Params) (a b : ℕ) (sums : Sums) (line : Judgement)
+    → line ≡ judgement params sums → sums ≡ h.sums a b → h ≡ f → (line.first.overfull && line.rest.overfull) ≡ is_overfull f params a b
 overfull_of f h params a b sums line is_line is_sums same =
-    ap (λ j. j.overfull) is_line ∙ ap (λ s. (judged s params.hsize).overfull) (is_sums ∙ ap (λ x. x.sums a b) same)
+    ap (λ j. j.first.overfull && j.rest.overfull) is_line ∙ both_overfull params sums
+    ∙ ap (λ s. (judged s (greatest_size params)).overfull) (is_sums ∙ ap (λ x. x.sums a b) same)
 
 -- Trying goes on where the place is not forced and it has not ended.
 pub goes_on :

@@ -2,6 +2,7 @@
 use Rattle.std.specs.Prelude.{◌≡◌, ◌<◌, ◌≤◌, ◌+◌, ◌-◌, ◌⊎◌, ◌++◌, ℕ, pos, int_lt, Bool, true, false, List, [], ◌∷◌, if◌then◌else◌}
 use Rattle.node_core.specs.declared.params.Params.{Params}
 use Rattle.break_cost.specs.Costs.{judged}
+use Rattle.break_cost.specs.Sizes.{greatest_size}
 use Rattle.break_core.specs.declared.broken.Pass.{Pass}
 use Rattle.break_core.specs.declared.broken.Pass.TheVariants.{First, Second, Third}
 use Rattle.break_core.specs.declared.broken.Breaks.{Breaks}
@@ -9,9 +10,9 @@ use Rattle.line_meter.specs.Legal.{is_forced}
 use Rattle.line_meter.specs.Facts.{Facts}
 use Rattle.line_meter.specs.Steady.{IsSteady}
 
--- Whether the line from a place to another one is overfull.
+-- Whether the line from a place to another one is overfull at the greatest width of a line, and so after any number of lines.
 abbrev pub is_overfull : Facts → Params → (a l : ℕ) → Bool
-is_overfull facts params a l = (judged (facts.sums a l) params.hsize).overfull
+is_overfull facts params a l = (judged (facts.sums a l) (greatest_size params)).overfull
 
 -- Whether a pass admits lines up to a bound alone.
 abbrev pub is_bounded : Pass → Bool

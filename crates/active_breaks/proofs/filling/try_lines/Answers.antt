@@ -1,4 +1,4 @@
-use Rattle.std.proofs.Common.{◌∙◌, ◌+◌, refl}
+use Rattle.std.proofs.Common.{◌∙◌, ◌+◌, ◌&&◌, refl}
 use Rattle.std.specs.Prelude.{slice_index_or}
 use Rattle.std.proofs.lemmas.Option.{slice_get-get_or}
 use Rattle.break_core.specs.Passes.{problem_of}
@@ -18,7 +18,7 @@ offer_group-requires-clause-entries g c =
     let inv = c.loop-group.invariant in
     let next = next_active p (stops f c.args.params.now c.args.drops) c.args.table.now c.args.place c.args.place inv.at inv.low c.loop-group.group-index c.args.live.now
     group at inv.live in
-    group_of p c.args.table.now c.args.place group refl c.requires.filled.is_table next.0.group
+    group_of p c.args.table.now c.args.place group c.requires.filled.is_table next.0.group
 
 pub returns-in_err-keep_group-clause-trials : goal.returns-in_err-keep_group-clause-trials
 returns-in_err-keep_group-clause-trials g c =
@@ -46,9 +46,9 @@ loop-group-preserved g c =
     let inv = c.loop-group.invariant in
     let both = next_active p stop table c.args.place c.args.place inv.at inv.low c.loop-group.group-index c.args.live.now group at inv.live in
     let next = both.0 in
-    let judged = judged_is f h params c.args.bound.now group c.args.place c.place-at.result.penalty c.try_line-sums.result c.judge-line.result
-    c.place-at.ensures.penalty c.judge-line.ensures.value c.try_line-sums.ensures.sums inv.facts in
-    let over = overfull_of f h params group.place c.args.place c.try_line-sums.result c.judge-line.result c.judge-line.ensures.value
+    let judged = judged_is f h params c.args.bound.now group c.args.place c.place-at.result.penalty c.try_line-sums.result c.judge_both-line.result
+    c.place-at.ensures.penalty c.judge_both-line.ensures.value c.try_line-sums.ensures.sums inv.facts in
+    let over = overfull_of f h params group.place c.args.place c.try_line-sums.result c.judge_both-line.result c.judge_both-line.ensures.value
     c.try_line-sums.ensures.sums inv.facts in
     record {
       wide = c.offer_group.ensures.wide;
@@ -65,8 +65,8 @@ loop-group-preserved g c =
           (row_quiet p table c.args.place inv.at group.start c.loop-group.row.items next.gap c.requires.last next.quiet inv.row);
       front = front_more p stop table c.args.place c.args.place inv.at inv.low c.loop-group.next.items c.keep_group.new.live.items group c.has_ended.result
           inv.front next
-          (goes_on f params c.args.drops group.place c.args.place c.judge-line.result.overfull c.has_ended.result c.has_ended.ensures over)
-          (ended_quiet f params c.args.bound.now table c.args.place group c.args.drops c.judge-line.result.overfull c.has_ended.result c.has_ended.ensures
+          (goes_on f params c.args.drops group.place c.args.place (c.judge_both-line.result.first.overfull && c.judge_both-line.result.rest.overfull) c.has_ended.result c.has_ended.ensures over)
+          (ended_quiet f params c.args.bound.now table c.args.place group c.args.drops (c.judge_both-line.result.first.overfull && c.judge_both-line.result.rest.overfull) c.has_ended.result c.has_ended.ensures
           over c.requires.drops next.group)
           c.in_ok-keep_group.ensures;
     }

@@ -7,7 +7,7 @@ use Rattle.active_breaks.proofs.filling.try_lines.Given as goal
 
 abbrev pub invariant-loop-group : goal.invariant-loop-group
 invariant-loop-group g l = record {
-  wide : length l.row.items ≡ slots 0;
+  wide : length l.row.items ≡ slots l.params.first_lines;
   facts : g.M.Meter.facts l.meter ≡ g.M.Meter.facts l.initial.meter;
   swept : IsSwept (stops (g.M.Meter.facts l.initial.meter) l.params l.drops) l.place (g.M.Meter.trials l.initial.meter) (g.M.Meter.trials l.meter);
   at : ℕ;
