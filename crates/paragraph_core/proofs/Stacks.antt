@@ -4,6 +4,7 @@ use Rattle.std.specs.Prelude.{ℤ, slice_get, flat_map}
 use Rattle.std.specs.List.{list_all}
 use Rattle.std.proofs.lemmas.List.Concat.{flat_map-append}
 use Rattle.std.proofs.lemmas.List.Folds.{list_all-append}
+use Rattle.break_cost.specs.Sizes.{line_size}
 use Rattle.break_core.specs.declared.broken.LineEnd.{LineEnd}
 use Rattle.line_meter.specs.Legal.{up_to}
 use Rattle.node_core.specs.declared.tree.Node.{Node}
@@ -62,25 +63,25 @@ all_but test (suc n) k below fails = cases (λ earlier. all_but test n k earlier
 -- One more line.
 pub stacked_one :
     (p : BrokenParagraph) (line : ℕ) (old new : List Node) (depth : ℤ) → old ≡ flat_map (brought_by p) (up_to line) → depth ≡ depth_before p line
-    → new ≡ old ++ line_brings p.params (length p.places) line depth (boxed_line p.params (line_items p line))
+    → new ≡ old ++ line_brings p.params (length p.places) line depth (boxed_line (line_size p.params line) (line_items p line))
     → new ≡ flat_map (brought_by p) (up_to (line + 1))
 unfolding brought_by line_box
 stacked_one p line old new depth items is more =
     more
-    ∙ ap (λ xs. xs ++ line_brings p.params (length p.places) line depth (boxed_line p.params (line_items p line))) items
-    ∙ ap (λ d. flat_map (brought_by p) (up_to line) ++ line_brings p.params (length p.places) line d (boxed_line p.params (line_items p line))) is
+    ∙ ap (λ xs. xs ++ line_brings p.params (length p.places) line depth (boxed_line (line_size p.params line) (line_items p line))) items
+    ∙ ap (λ d. flat_map (brought_by p) (up_to line) ++ line_brings p.params (length p.places) line d (boxed_line (line_size p.params line) (line_items p line))) is
     ∙ sym (brought_more (brought_by p) line)
 
-pub depth_behind : (p : BrokenParagraph) (line : ℕ) (depth : ℤ) → depth ≡ (boxed_line p.params (line_items p line)).depth → depth ≡ depth_before p (line + 1)
+pub depth_behind : (p : BrokenParagraph) (line : ℕ) (depth : ℤ) → depth ≡ (boxed_line (line_size p.params line) (line_items p line)).depth → depth ≡ depth_before p (line + 1)
 unfolding line_box
 depth_behind p line depth is =
     let one : line + 1 ≡ suc line = omega arith in
     is ∙ ap (depth_before p) (sym one)
 
 pub fits_one :
-    (p : BrokenParagraph) (line : ℕ) (depth : ℤ) (b : Bool) → depth ≡ depth_before p line → fits_behind p.params depth (line_items p line) ≡ b → line_fits p line ≡ b
+    (p : BrokenParagraph) (line : ℕ) (depth : ℤ) (b : Bool) → depth ≡ depth_before p line → fits_behind p.params (line_size p.params line) depth (line_items p line) ≡ b → line_fits p line ≡ b
 unfolding line_fits
-fits_one p line depth b is fits = ap (λ d. fits_behind p.params d (line_items p line)) (sym is) ∙ fits
+fits_one p line depth b is fits = ap (λ d. fits_behind p.params (line_size p.params line) d (line_items p line)) (sym is) ∙ fits
 
 -- There are as many lines as ends.
 pub count_places : (ends : List LineEnd) → length (places_of ends) ≡ length ends

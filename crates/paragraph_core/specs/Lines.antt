@@ -12,6 +12,7 @@ use Rattle.pack_core.specs.declared.pack.Target.TheVariants.{To}
 use Rattle.pack_core.specs.Boxes.{hbox, hbox_numbers}
 use Rattle.pack_core.specs.Glue.{is_zero}
 use Rattle.scaled_core.specs.Dimensions.{fits}
+use Rattle.break_cost.specs.Sizes.{line_size}
 use Rattle.break_core.specs.declared.broken.LineEnd.{LineEnd}
 use Rattle.line_meter.specs.Legal.{up_to}
 use Rattle.line_meter.specs.Kept.{kept}
@@ -42,17 +43,17 @@ line_begin places (suc line) = slice_get places line
 abbrev pub line_items : BrokenParagraph → ℕ → List Node
 line_items p line = kept p.nodes (line_begin p.places line) (get_or p.places line 0)
 
--- The box of the items of a line: as wide as hsize (TeX: The Program, part 39, §889).
-unfoldable pub boxed_line : Params → List Node → BoxNode
-boxed_line params items = hbox (To params.hsize) (items_of items)
+-- The box of the items of a line of that width (TeX: The Program, part 39, §889).
+unfoldable pub boxed_line : (size : ℤ) → List Node → BoxNode
+boxed_line size items = hbox (To size) (items_of items)
 
 -- Whether the numbers of this box fit (own: TeX looks at none).
-unfoldable pub items_fit : Params → List Node → Bool
-items_fit params items = list_all fits (hbox_numbers (To params.hsize) items)
+unfoldable pub items_fit : (size : ℤ) → List Node → Bool
+items_fit size items = list_all fits (hbox_numbers (To size) items)
 
--- The box of a line.
+-- The box of a line: one of the first lines is as wide as firstsize, another one as hsize.
 unfoldable pub line_box : BrokenParagraph → ℕ → BoxNode
-line_box p line = boxed_line p.params (line_items p line)
+line_box p line = boxed_line (line_size p.params line) (line_items p line)
 
 -- The depth that is previous in front of a line: that of the list for the first one, and for another one the depth of the line before it.
 abbrev pub depth_before : BrokenParagraph → ℕ → ℤ
@@ -90,13 +91,13 @@ vertical_items p = flat_map (brought_by p) (up_to (length p.places))
 unfoldable pub last_depth : BrokenParagraph → ℤ
 last_depth p = depth_before p (length p.places)
 
--- Whether a line of these items fits behind that previous depth: its box, and the glue in front of it (own: TeX does not look).
-abbrev pub fits_behind : Params → (previous_depth : ℤ) → List Node → Bool
-fits_behind params previous_depth items = items_fit params items && is_ok (interline params previous_depth (boxed_line params items).height)
+-- Whether a line of that width and of these items fits after that previous depth: its box, and the glue in front of it (own: TeX does not look).
+abbrev pub fits_behind : Params → (size previous_depth : ℤ) → List Node → Bool
+fits_behind params size previous_depth items = items_fit size items && is_ok (interline params previous_depth (boxed_line size items).height)
 
 -- Whether a line fits.
 unfoldable pub line_fits : BrokenParagraph → ℕ → Bool
-line_fits p line = fits_behind p.params (depth_before p line) (line_items p line)
+line_fits p line = fits_behind p.params (line_size p.params line) (depth_before p line) (line_items p line)
 
 -- Whether each line fits.
 unfoldable pub lines_fit : BrokenParagraph → Bool

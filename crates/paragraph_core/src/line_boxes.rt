@@ -7,7 +7,7 @@ ghost use Rattle.node_core.specs.Nodes.{most_nodes, items_of, nodes_of};
 ghost use Rattle.line_meter.specs.Kept.{at_break, without_first, kept};
 ghost use Rattle.paragraph_core.specs.Lines.{boxed_line, items_fit};
 
-use node_core::{BoxNode, Node, NodeList, Params};
+use node_core::{BoxNode, Node, NodeList};
 use pack_core::{Target, hpack};
 use scaled_core::Dimen;
 use std::alloc::{AllocError, Global};
@@ -105,35 +105,35 @@ fn line_list(
     Ok(NodeList::from_vec(items))
 }
 
-/// The box of a line, as wide as hsize.
+/// The box of a line of that width.
 #[tactic(auto, using(node_core::proofs::NodeLemmas::nodes), unfolding(crate::specs::Lines::boxed_line, crate::specs::Lines::items_fit))]
-fn pack_line(list: NodeList, params: &Params) -> Result<BoxNode, LinesFault>
-    ensures ok { IfOk result (λ line. line ≡ boxed_line params.now (nodes_of list)) }
-    ensures fits { is_ok result ≡ items_fit params.now (nodes_of list) }
+fn pack_line(list: NodeList, size: Dimen) -> Result<BoxNode, LinesFault>
+    ensures ok { IfOk result (λ line. line ≡ boxed_line size (nodes_of list)) }
+    ensures fits { is_ok result ≡ items_fit size (nodes_of list) }
     ensures fault { IfErr result (λ fault. fault ≡ LinesFault.DimensionTooLarge) }
 {
-    match hpack(list, Target::To(params.hsize)) {
+    match hpack(list, Target::To(size)) {
         Ok(packed) => Ok(packed.box_node),
         Err(_) => Err(LinesFault::DimensionTooLarge),
     }
 }
 
-/// The box of the line from one place to another.
+/// The box of the line of that width from one place to another.
 #[tactic(auto, using(node_core::proofs::NodeLemmas::nodes))]
 pub fn set_line(
     alloc: Global,
     nodes: &[Node],
     begin: Option<usize>,
     end: usize,
-    params: &Params,
+    size: Dimen,
 ) -> Result<BoxNode, LinesFault>
     requires { length nodes.now ≤ most_nodes }
-    ensures ok { IfOk result (λ line. line ≡ boxed_line params.now (kept nodes.now begin end)) }
-    ensures fits { OnOk result (items_fit params.now (kept nodes.now begin end) ≡ true) }
-    ensures refused { IfErr result (λ fault. fault ≡ LinesFault.DimensionTooLarge → items_fit params.now (kept nodes.now begin end) ≡ false) }
+    ensures ok { IfOk result (λ line. line ≡ boxed_line size (kept nodes.now begin end)) }
+    ensures fits { OnOk result (items_fit size (kept nodes.now begin end) ≡ true) }
+    ensures refused { IfErr result (λ fault. fault ≡ LinesFault.DimensionTooLarge → items_fit size (kept nodes.now begin end) ≡ false) }
 {
     match line_list(alloc, nodes, begin, end) {
-        Ok(list) => pack_line(list, params),
+        Ok(list) => pack_line(list, size),
         Err(_) => Err(LinesFault::OutOfMemory),
     }
 }

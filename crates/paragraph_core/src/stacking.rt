@@ -4,11 +4,13 @@ ghost use Rattle.std.specs.Prelude.{◌≡◌, ◌≤◌, ◌<◌, ◌++◌, pos
 ghost use Rattle.std.specs.Result.{is_ok};
 ghost use Rattle.node_core.specs.Nodes.{most_nodes};
 ghost use Rattle.vert_core.specs.Interline.{interline};
+ghost use Rattle.break_cost.specs.Sizes.{line_size};
 ghost use Rattle.paragraph_core.specs.Lines.{places_of, broken_list, line_begin, line_items, boxed_line, line_brings, fits_behind, vertical_items, last_depth, lines_fit};
 
 use crate::line_boxes::{LinesFault, set_line};
 use crate::penalties::push_behind_line;
 use break_core::{Breaks, LineEnd};
+use break_cost::line_size;
 use node_core::{BoxNode, Node, Params};
 use scaled_core::Dimen;
 use std::alloc::Global;
@@ -81,18 +83,18 @@ fn add_line(
     requires short { length nodes.now ≤ most_nodes }
     requires within { line < length ends.now }
     ensures ok { OnOk result (list.new.items ≡ list.old.items
-        ++ line_brings params.now (length ends.now) line previous_depth (boxed_line params.now (line_items (broken_list nodes.now ends.now params.now previous_depth) line))) }
-    ensures depth { IfOk result (λ depth. depth ≡ (boxed_line params.now (line_items (broken_list nodes.now ends.now params.now previous_depth) line)).depth) }
-    ensures fits { OnOk result (fits_behind params.now previous_depth (line_items (broken_list nodes.now ends.now params.now previous_depth) line) ≡ true) }
+        ++ line_brings params.now (length ends.now) line previous_depth (boxed_line (line_size params.now line) (line_items (broken_list nodes.now ends.now params.now previous_depth) line))) }
+    ensures depth { IfOk result (λ depth. depth ≡ (boxed_line (line_size params.now line) (line_items (broken_list nodes.now ends.now params.now previous_depth) line)).depth) }
+    ensures fits { OnOk result (fits_behind params.now (line_size params.now line) previous_depth (line_items (broken_list nodes.now ends.now params.now previous_depth) line) ≡ true) }
     ensures refused { IfErr result (λ fault. fault ≡ LinesFault.DimensionTooLarge →
-        fits_behind params.now previous_depth (line_items (broken_list nodes.now ends.now params.now previous_depth) line) ≡ false) }
+        fits_behind params.now (line_size params.now line) previous_depth (line_items (broken_list nodes.now ends.now params.now previous_depth) line) ≡ false) }
 {
     let line_box = set_line(
         alloc,
         nodes,
         line_begin(ends, line),
         line_end(ends, line),
-        params,
+        line_size(params, line),
     )?;
     stack_line(list, line_box, previous_depth, params, ends.len(), line)
 }

@@ -2,6 +2,7 @@ use Rattle.std.proofs.Common.{◌≡◌, ◌∙◌, ℕ, ◌++◌, ◌<◌, leng
 use Rattle.std.specs.Prelude.{flat_map}
 use Rattle.std.specs.List.{list_all}
 use Rattle.line_meter.specs.Legal.{up_to}
+use Rattle.break_cost.specs.Sizes.{line_size}
 use Rattle.paragraph_core.specs.Lines.{BrokenParagraph, broken_list, line_items, boxed_line, line_brings, depth_before, brought_by, line_fits, vertical_items, last_depth, lines_fit}
 use Rattle.paragraph_core.proofs.Stacks.{count_places, stacked_one, depth_behind, fits_one, all_more, all_but}
 use Rattle.paragraph_core.proofs.stacking.stack_lines.Goals as goal
@@ -13,7 +14,7 @@ loop-line-preserved c =
     let count : length c.args.ends.now ≡ length p.places = sym (count_places c.args.ends.now) in
     let items = line_items p line in
     let ok = c.in-Ok.ensures.ok
-    ∙ ap (λ (n : ℕ). c.loop-line.list.items ++ line_brings c.args.params.now n line c.loop-line.depth (boxed_line c.args.params.now items)) count in
+    ∙ ap (λ (n : ℕ). c.loop-line.list.items ++ line_brings c.args.params.now n line c.loop-line.depth (boxed_line (line_size c.args.params.now line) items)) count in
     record {
       items = stacked_one p line c.loop-line.list.items c.add_line.new.list.items c.loop-line.depth c.loop-line.invariant.items c.loop-line.invariant.depth ok;
       depth = depth_behind p line c.in-Ok.line_depth c.in-Ok.ensures.depth;
