@@ -7,6 +7,7 @@ use Rattle.pack_core.specs.declared.pack.Target.TheVariants.{Natural, To, Spread
 use Rattle.command_core.specs.declared.command.BoxForm.{BoxForm}
 use Rattle.command_core.specs.declared.command.Taking.{Taking}
 use Rattle.command_core.specs.declared.command.Parameter.{Parameter}
+use Rattle.command_core.specs.declared.command.Parameter.TheVariants.{FirstLines}
 use Rattle.command_core.specs.declared.command.Command.{Command}
 use Rattle.command_core.specs.declared.command.Command.TheVariants.{UseFont, Paragraph, End, Character, Kern, Glue, Penalty, LastBox, Measure, Void, Set, Ship}
 use Rattle.script_core.specs.declared.cause.Cause.{Cause}
@@ -20,13 +21,13 @@ use Rattle.script_core.specs.declared.parameter.SkipParameter.TheVariants as ski
 use Rattle.script_core.specs.declared.parameter.NumberParameter.{NumberParameter}
 use Rattle.script_core.specs.declared.parameter.NumberParameter.TheVariants as numbers
 use Rattle.script_core.specs.Names.{name_of}
-use Rattle.script_core.specs.ParameterNames.{size_name, skip_name, number_name, with_size, with_skip, with_number}
-use Rattle.script_core.specs.Grammar.{register_count, slot_count, character_count, count_count, IsNumberAmong, IsCount, IsPenalty, IsDimension, form_text, IsTarget, taking_text, unboxing_text, IsGlue, Says}
+use Rattle.script_core.specs.ParameterNames.{size_name, skip_name, number_name, names_first_lines, with_size, with_skip, with_number}
+use Rattle.script_core.specs.Grammar.{register_count, slot_count, character_count, count_count, first_lines_count, IsNumberAmong, IsCount, IsPenalty, IsDimension, form_text, IsTarget, taking_text, unboxing_text, IsGlue, Says}
 use Rattle.script_core.specs.Reading.{rest_of, some_or, count_of, count_first, last_count, counting, counting_of, number_first, dimension_first, map_ok, no_field_left, last_number, last_dimension, right_and, font_of, rule_of, last_penalty, opening, opening_with_register, opening_into, opening_with_size, opening_of, append, shift_of, append_of, unboxing, split, split_into, split_height, split_to, split_of, glue_of, parameter_by, parameter_of, command_named, named_by, command_of}
 use Rattle.script_core.proofs.FieldLaws.{same_bytes}
 use Rattle.script_core.proofs.CountNumbers.{writes_count}
 use Rattle.script_core.proofs.NameLaws.{name_text, name_written}
-use Rattle.script_core.proofs.ParameterNameLaws.{size_text, skip_text, number_text, size_written, skip_written, number_written}
+use Rattle.script_core.proofs.ParameterNameLaws.{size_text, skip_text, number_text, first_lines_text, size_written, skip_written, number_written, first_lines_written}
 use Rattle.script_core.proofs.ReadFields.{nothing_after, number_last, dimension_last, number_read, font_name_read, two_fields, chosen_size_read, size_read, nothing_left, rule_read, font_read, made, then_read, dimension_first_read, shift_read, glue_read, penalty_last}
 
 along : (fields : List (List ℕ)) (c d : Command) → c ≡ d → Says fields c → Says fields d
@@ -175,6 +176,7 @@ says_size sizes.BoxMaxDepth d z is = (d, refl, is)
 says_size sizes.LineSkipLimit d z is = (d, refl, is)
 says_size sizes.SplitMaxDepth d z is = (d, refl, is)
 says_size sizes.Hsize d z is = (d, refl, is)
+says_size sizes.FirstSize d z is = (d, refl, is)
 says_size sizes.Hoffset d z is = (d, refl, is)
 says_size sizes.Voffset d z is = (d, refl, is)
 
@@ -216,17 +218,27 @@ by_number w rest p name written h =
     let P : List (List ℕ) → Type 0 = λ xs. Says (codes "set" ∷ xs) (Set (with_number name m.0)) in
     along _ _ _ (ap (λ (x : Parameter). Set x) m.2) (subst P (sym (two_fields w (number_text name) rest last.0 written last.1)) (says_number name last.0 m.0 last.2))
 
-by_names : (w : List ℕ) (rest : List (List ℕ)) (p : Parameter) (size : Option SizeParameter) (skip : Option SkipParameter) (number : Option NumberParameter)
-    → size_name w ≡ size → skip_name w ≡ skip → number_name w ≡ number → parameter_by size skip number rest ≡ Ok p → Says (codes "set" ∷ w ∷ rest) (Set p)
-by_names w rest p (Some name) skip number a b c h = by_size w rest p name (size_written w name a) h
-by_names w rest p None (Some name) number a b c h = by_skip w rest p name (skip_written w name b) h
-by_names w rest p None None (Some name) a b c h = by_number w rest p name (number_written w name c) h
-by_names w rest p None None None a b c h = absurd (cc)
+by_lines : (w : List ℕ) (rest : List (List ℕ)) (p : Parameter) → w ≡ first_lines_text → map_ok FirstLines (last_number first_lines_count rest) ≡ Ok p
+    → Says (codes "set" ∷ w ∷ rest) (Set p)
+by_lines w rest p written h =
+    let m = made FirstLines (last_number first_lines_count rest) p h in
+    let last = number_last first_lines_count rest m.0 m.1 in
+    let P : List (List ℕ) → Type 0 = λ xs. Says (codes "set" ∷ xs) (Set (FirstLines m.0)) in
+    along _ _ _ (ap (λ (x : Parameter). Set x) m.2) (subst P (sym (two_fields w first_lines_text rest last.0 written last.1)) (last.0, refl, last.2))
+
+by_names : (w : List ℕ) (rest : List (List ℕ)) (p : Parameter) (size : Option SizeParameter) (skip : Option SkipParameter) (number : Option NumberParameter) (lines : Bool)
+    → size_name w ≡ size → skip_name w ≡ skip → number_name w ≡ number → names_first_lines w ≡ lines → parameter_by size skip number lines rest ≡ Ok p
+    → Says (codes "set" ∷ w ∷ rest) (Set p)
+by_names w rest p (Some name) skip number lines a b c e h = by_size w rest p name (size_written w name a) h
+by_names w rest p None (Some name) number lines a b c e h = by_skip w rest p name (skip_written w name b) h
+by_names w rest p None None (Some name) lines a b c e h = by_number w rest p name (number_written w name c) h
+by_names w rest p None None None true a b c e h = by_lines w rest p (first_lines_written w e) h
+by_names w rest p None None None false a b c e h = absurd (cc)
 
 says_parameter : (rest : List (List ℕ)) (p : Parameter) → parameter_of rest ≡ Ok p → Says (codes "set" ∷ rest) (Set p)
 unfolding parameter_of
 says_parameter [] p h = absurd (cc)
-says_parameter (w ∷ rest) p h = by_names w rest p (size_name w) (skip_name w) (number_name w) refl refl refl h
+says_parameter (w ∷ rest) p h = by_names w rest p (size_name w) (skip_name w) (number_name w) (names_first_lines w) refl refl refl refl h
 
 says_set : (rest : List (List ℕ)) (command : Command) → map_ok Set (parameter_of rest) ≡ Ok command → Says (codes "set" ∷ rest) command
 says_set rest command h =

@@ -6,13 +6,13 @@ use Rattle.pack_core.specs.declared.pack.Target.{Target}
 use Rattle.pack_core.specs.declared.pack.Target.TheVariants.{Natural, To, Spread}
 use Rattle.command_core.specs.declared.command.BoxForm.{BoxForm}
 use Rattle.command_core.specs.declared.command.Taking.{Taking}
-use Rattle.command_core.specs.declared.command.Parameter.TheVariants.{BoxMaxDepth, BaselineSkip, LineSkip, LineSkipLimit, SplitMaxDepth, SplitTopSkip, Hsize, ParFillSkip, Pretolerance, Tolerance, LinePenalty, AdjDemerits, ClubPenalty, WidowPenalty, InterlinePenalty, Hoffset, Voffset}
+use Rattle.command_core.specs.declared.command.Parameter.TheVariants.{BoxMaxDepth, BaselineSkip, LineSkip, LineSkipLimit, SplitMaxDepth, SplitTopSkip, Hsize, FirstLines, FirstSize, ParFillSkip, Pretolerance, Tolerance, LinePenalty, AdjDemerits, ClubPenalty, WidowPenalty, InterlinePenalty, Hoffset, Voffset}
 use Rattle.command_core.specs.declared.command.Command.{Command}
 use Rattle.command_core.specs.declared.command.Command.TheVariants.{LoadFont, UseFont, Open, Paragraph, End, Text, Character, Rule, Kern, Glue, Penalty, Append, Unbox, LastBox, Split, Measure, Void, Set, Count, Ship}
 use Rattle.script_core.specs.declared.name.Name.TheVariants as names
 use Rattle.script_core.specs.declared.amounts.Amount.{Amount}
-use Rattle.script_core.specs.Grammar.{register_count, slot_count, character_count, count_count, IsCountNumber, IsCount, IsNumberAmong, IsRegister, IsChosenSize, IsTarget, IsDestination, IsShift, IsDimension, IsAmount, IsPart, IsGlue, Says}
-use Rattle.script_core.specs.ParameterNames.{size_name, skip_name, number_name}
+use Rattle.script_core.specs.Grammar.{register_count, slot_count, character_count, count_count, first_lines_count, IsFirstLines, IsCountNumber, IsCount, IsNumberAmong, IsRegister, IsChosenSize, IsTarget, IsDestination, IsShift, IsDimension, IsAmount, IsPart, IsGlue, Says}
+use Rattle.script_core.specs.ParameterNames.{size_name, skip_name, number_name, names_first_lines}
 use Rattle.script_core.specs.Reading.{count_first, last_count, counting, counting_of, number_first, dimension_first, size_of_font_first, name_first, map_ok, size_first, last_number, last_dimension, chosen_size_of, font_of, rule_of, penalty_first, last_penalty, amount, amount_first, last_amount, opening, opening_with_register, opening_into, opening_with_size, opening_of, append, shift_of, append_of, unboxing, split, split_into, split_height, split_to, split_of, no_amount, glue, last_shrink_of, shrink_of, parts_of, glue_of, parameter_of, command_named, command_of}
 use Rattle.script_core.proofs.AmountLaws.{amount_given}
 use Rattle.script_core.proofs.FieldLaws.{number_written, penalty_written, dimension_read, size_given, font_named, size_of_font_is}
@@ -94,9 +94,13 @@ unfolding glue_of dimension_first
 glue_given fields g (d, plus, minus, e, width, stretch, shrink) =
     rw (e, dimension_read d g.width width) (parts_given g.width plus minus g.stretch_order g.stretch g.shrink_order g.shrink stretch shrink)
 
+first_lines_given : (l : List ℕ) (n : ℕ) → IsFirstLines l n → map_ok Set (map_ok FirstLines (last_number first_lines_count (l ∷ []))) ≡ Ok (Set (FirstLines n))
+unfolding last_number number_first
+first_lines_given l n h = rw (number_written first_lines_count l n h) refl
+
 -- the fields of a command are read as it
 pub complete : (fields : List (List ℕ)) (command : Command) → Says fields command → command_of fields ≡ Ok command
-unfolding command_named font_of number_first name_first rule_of parameter_of size_name skip_name number_name size_first last_dimension dimension_first last_penalty penalty_first
+unfolding command_named font_of number_first name_first rule_of parameter_of size_name skip_name number_name names_first_lines size_first last_dimension dimension_first last_penalty penalty_first
 complete fields (LoadFont load) (s, more, e, slot, name, size) =
     rw e (named names.Font (s ∷ load.name ∷ more) ∙ (rw (number_written slot_count s load.slot slot, font_named load.name name, chosen_size_given more load.size size) refl))
 complete fields (UseFont n) (s, e, h) = rw e (named names.Use (s ∷ []) ∙ number_alone slot_count UseFont s n h)
@@ -125,6 +129,8 @@ complete fields (Set (LineSkipLimit z)) (d, e, h) = rw e (named names.Set (codes
 complete fields (Set (SplitMaxDepth z)) (d, e, h) = rw e (named names.Set (codes "splitmaxdepth" ∷ d ∷ []) ∙ (rw (dimension_read d z h) refl))
 complete fields (Set (SplitTopSkip g)) (more, e, h) = rw e (named names.Set (codes "splittopskip" ∷ more) ∙ (rw (glue_given more g h) refl))
 complete fields (Set (Hsize z)) (d, e, h) = rw e (named names.Set (codes "hsize" ∷ d ∷ []) ∙ (rw (dimension_read d z h) refl))
+complete fields (Set (FirstLines n)) (l, e, h) = rw e (named names.Set (codes "firstlines" ∷ l ∷ []) ∙ first_lines_given l n h)
+complete fields (Set (FirstSize z)) (d, e, h) = rw e (named names.Set (codes "firstsize" ∷ d ∷ []) ∙ (rw (dimension_read d z h) refl))
 complete fields (Set (ParFillSkip g)) (more, e, h) = rw e (named names.Set (codes "parfillskip" ∷ more) ∙ (rw (glue_given more g h) refl))
 complete fields (Set (Pretolerance z)) (p, e, h) = rw e (named names.Set (codes "pretolerance" ∷ p ∷ []) ∙ (rw (penalty_written p z h) refl))
 complete fields (Set (Tolerance z)) (p, e, h) = rw e (named names.Set (codes "tolerance" ∷ p ∷ []) ∙ (rw (penalty_written p z h) refl))

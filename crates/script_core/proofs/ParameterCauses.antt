@@ -1,6 +1,7 @@
 -- The cause that the function names holds of the fields behind `set`.
-use Rattle.std.proofs.Common.{◌≡◌, ℕ, ℤ, pos, List, [], ◌∷◌, Option, Some, None, Ok, Err, codes, refl, sym, ◌∙◌, subst}
+use Rattle.std.proofs.Common.{◌≡◌, ℕ, ℤ, pos, Bool, true, false, arith, List, [], ◌∷◌, Option, Some, None, Ok, Err, codes, refl, sym, ◌∙◌, subst}
 use Rattle.node_core.specs.declared.tree.Glue as glues
+use Rattle.command_core.specs.declared.command.Parameter.TheVariants.{FirstLines}
 use Rattle.command_core.specs.declared.command.Command.{Command}
 use Rattle.command_core.specs.declared.command.Command.TheVariants.{Glue, Set}
 use Rattle.script_core.specs.declared.cause.Cause.{Cause}
@@ -10,12 +11,14 @@ use Rattle.script_core.specs.declared.parameter.SizeParameter.{SizeParameter}
 use Rattle.script_core.specs.declared.parameter.SizeParameter.TheVariants as sizes
 use Rattle.script_core.specs.declared.parameter.SkipParameter.{SkipParameter}
 use Rattle.script_core.specs.declared.parameter.NumberParameter.{NumberParameter}
+use Rattle.script_core.specs.Grammar.{first_lines_count}
 use Rattle.script_core.specs.Causes.{IsWord, IsFieldCause}
-use Rattle.script_core.specs.ParameterNames.{size_name, skip_name, number_name, with_size, with_skip, with_number}
-use Rattle.script_core.specs.Reading.{dimension_first, last_dimension, last_penalty, map_ok, no_amount, glue, parts_of, glue_of, parameter_by, parameter_of, command_named, command_of}
+use Rattle.script_core.specs.ParameterNames.{size_name, skip_name, number_name, names_first_lines, with_size, with_skip, with_number}
+use Rattle.script_core.specs.Reading.{dimension_first, last_dimension, last_number, last_penalty, map_ok, no_amount, glue, parts_of, glue_of, parameter_by, parameter_of, command_named, command_of}
 use Rattle.script_core.proofs.NameLaws.{named}
-use Rattle.script_core.proofs.ParameterNameLaws.{size_text, skip_text, number_text, size_written, skip_written, number_written, size_read, skip_read, number_read, skip_no_size, number_no_size, number_no_skip}
+use Rattle.script_core.proofs.ParameterNameLaws.{size_text, skip_text, number_text, size_written, skip_written, number_written, size_read, skip_read, number_read, skip_no_size, number_no_size, number_no_skip, first_lines_text, first_lines_written, first_lines_no_size, first_lines_no_skip, first_lines_no_number, first_lines_read}
 use Rattle.script_core.proofs.CauseForms.{missing, has_bad_elsewhere, as_cause, not_made, twice, zero_dimension, depth_is_word, letter, dimension_cause, penalty_cause}
+use Rattle.script_core.proofs.CauseForms as forms
 use Rattle.script_core.proofs.GlueCauses.{glue_reads, glue_cause}
 use Rattle.script_core.proofs.SharedCauses.{shared_cause}
 
@@ -27,9 +30,10 @@ set_lacks : command_of (codes "set" ∷ []) ≡ Err Missing
 unfolding parameter_of
 set_lacks = set_reads []
 
-no_parameter : (w : List ℕ) (rest : List (List ℕ)) → size_name w ≡ None → skip_name w ≡ None → number_name w ≡ None → command_of (codes "set" ∷ w ∷ rest) ≡ Err Word
+no_parameter : (w : List ℕ) (rest : List (List ℕ)) → size_name w ≡ None → skip_name w ≡ None → number_name w ≡ None → names_first_lines w ≡ false
+    → command_of (codes "set" ∷ w ∷ rest) ≡ Err Word
 unfolding parameter_of
-no_parameter w rest a b c = set_reads (w ∷ rest) ∙ (rw (a, b, c) refl)
+no_parameter w rest a b c d = set_reads (w ∷ rest) ∙ (rw (a, b, c, d) refl)
 
 letter_no_size : size_name letter ≡ None
 unfolding size_name
@@ -42,6 +46,10 @@ letter_no_skip = refl
 letter_no_number : number_name letter ≡ None
 unfolding number_name
 letter_no_number = refl
+
+letter_no_lines : names_first_lines letter ≡ false
+unfolding names_first_lines
+letter_no_lines = refl
 
 -- a dimension
 abbrev set_size : SizeParameter → ℤ → Command
@@ -71,6 +79,21 @@ number_reads name rest =
 number_cause : (name : NumberParameter) (rest : List (List ℕ)) (cause : Cause) → command_of (codes "set" ∷ number_text name ∷ rest) ≡ Err cause → IsFieldCause cause (codes "set" ∷ number_text name ∷ rest)
 number_cause name rest cause h =
     penalty_cause (codes "set" ∷ number_text name ∷ []) (set_number name) (number_reads name) rest cause (not_made (set_number name) (last_penalty rest) cause (sym (number_reads name rest) ∙ h))
+
+-- a number of first lines
+abbrev set_lines : ℕ → Command
+set_lines n = Set (FirstLines n)
+
+lines_read : (rest : List (List ℕ)) → command_of (codes "set" ∷ first_lines_text ∷ rest) ≡ map_ok set_lines (last_number first_lines_count rest)
+unfolding parameter_of
+lines_read rest =
+    set_reads (first_lines_text ∷ rest)
+    ∙ (rw (first_lines_no_size, first_lines_no_skip, first_lines_no_number, first_lines_read) (twice Set FirstLines (last_number first_lines_count rest)))
+
+lines_cause : (rest : List (List ℕ)) (cause : Cause) → command_of (codes "set" ∷ first_lines_text ∷ rest) ≡ Err cause → IsFieldCause cause (codes "set" ∷ first_lines_text ∷ rest)
+lines_cause rest cause h =
+    forms.number_cause first_lines_count (omega arith) (codes "set" ∷ first_lines_text ∷ []) set_lines lines_read rest cause
+    (not_made set_lines (last_number first_lines_count rest) cause (sym (lines_read rest) ∙ h))
 
 -- a glue
 abbrev set_skip : SkipParameter → glues.Glue → Command
@@ -102,18 +125,20 @@ along_word w word rest cause is there h =
     let Q : List ℕ → Type 0 = λ x. command_of (codes "set" ∷ x ∷ rest) ≡ Err cause in
     subst P (sym is) (there (subst Q is h))
 
-by_word : (w : List ℕ) (rest : List (List ℕ)) (size : Option SizeParameter) (skip : Option SkipParameter) (number : Option NumberParameter) (cause : Cause)
-    → size_name w ≡ size → skip_name w ≡ skip → number_name w ≡ number → command_of (codes "set" ∷ w ∷ rest) ≡ Err cause → IsFieldCause cause (codes "set" ∷ w ∷ rest)
-by_word w rest (Some name) skip number cause a b c h = along_word w (size_text name) rest cause (size_written w name a) (size_cause name rest cause) h
-by_word w rest None (Some name) number cause a b c h = along_word w (skip_text name) rest cause (skip_written w name b) (skip_cause name rest cause) h
-by_word w rest None None (Some name) cause a b c h = along_word w (number_text name) rest cause (number_written w name c) (number_cause name rest cause) h
-by_word w rest None None None cause a b c h =
-    as_cause _ Word cause (let no = no_parameter w rest a b c in cc)
+by_word : (w : List ℕ) (rest : List (List ℕ)) (size : Option SizeParameter) (skip : Option SkipParameter) (number : Option NumberParameter) (lines : Bool) (cause : Cause)
+    → size_name w ≡ size → skip_name w ≡ skip → number_name w ≡ number → names_first_lines w ≡ lines
+    → command_of (codes "set" ∷ w ∷ rest) ≡ Err cause → IsFieldCause cause (codes "set" ∷ w ∷ rest)
+by_word w rest (Some name) skip number lines cause a b c d h = along_word w (size_text name) rest cause (size_written w name a) (size_cause name rest cause) h
+by_word w rest None (Some name) number lines cause a b c d h = along_word w (skip_text name) rest cause (skip_written w name b) (skip_cause name rest cause) h
+by_word w rest None None (Some name) lines cause a b c d h = along_word w (number_text name) rest cause (number_written w name c) (number_cause name rest cause) h
+by_word w rest None None None true cause a b c d h = along_word w first_lines_text rest cause (first_lines_written w d) (lines_cause rest cause) h
+by_word w rest None None None false cause a b c d h =
+    as_cause _ Word cause (let no = no_parameter w rest a b c d in cc)
     (has_bad_elsewhere IsWord (codes "set" ∷ []) w rest (codes "boxmaxdepth") (codes "0sp" ∷ []) (set_size sizes.BoxMaxDepth (pos 0)) depth_is_word depth_zero
-    (λ later. (Word, no_parameter w later a b c)) (λ later. (Word, no_parameter letter later letter_no_size letter_no_skip letter_no_number)))
+    (λ later. (Word, no_parameter w later a b c d)) (λ later. (Word, no_parameter letter later letter_no_size letter_no_skip letter_no_number letter_no_lines)))
 
 pub set_cause : (rest : List (List ℕ)) (cause : Cause) → command_of (codes "set" ∷ rest) ≡ Err cause → IsFieldCause cause (codes "set" ∷ rest)
 set_cause [] cause h =
     as_cause _ Missing cause (let lacks = set_lacks in cc)
     (missing (codes "set" ∷ []) (codes "boxmaxdepth" ∷ codes "0sp" ∷ []) (set_size sizes.BoxMaxDepth (pos 0)) (Missing, set_lacks) depth_zero)
-set_cause (w ∷ rest) cause h = by_word w rest (size_name w) (skip_name w) (number_name w) cause refl refl refl h
+set_cause (w ∷ rest) cause h = by_word w rest (size_name w) (skip_name w) (number_name w) (names_first_lines w) cause refl refl refl refl h

@@ -7,7 +7,7 @@ use Rattle.script_core.specs.declared.parameter.SkipParameter.{SkipParameter}
 use Rattle.script_core.specs.declared.parameter.SkipParameter.TheVariants as skips
 use Rattle.script_core.specs.declared.parameter.NumberParameter.{NumberParameter}
 use Rattle.script_core.specs.declared.parameter.NumberParameter.TheVariants as numbers
-use Rattle.script_core.specs.ParameterNames.{size_name, skip_name, number_name}
+use Rattle.script_core.specs.ParameterNames.{size_name, skip_name, number_name, names_first_lines}
 use Rattle.script_core.proofs.FieldLaws.{same_bytes}
 
 -- how a parameter of a dimension is written
@@ -16,6 +16,7 @@ size_text sizes.BoxMaxDepth = codes "boxmaxdepth"
 size_text sizes.LineSkipLimit = codes "lineskiplimit"
 size_text sizes.SplitMaxDepth = codes "splitmaxdepth"
 size_text sizes.Hsize = codes "hsize"
+size_text sizes.FirstSize = codes "firstsize"
 size_text sizes.Hoffset = codes "hoffset"
 size_text sizes.Voffset = codes "voffset"
 
@@ -50,8 +51,9 @@ size_written word name h =
     (one_of size_text _ word (codes "lineskiplimit") sizes.LineSkipLimit _ name refl refl
     (one_of size_text _ word (codes "splitmaxdepth") sizes.SplitMaxDepth _ name refl refl
     (one_of size_text _ word (codes "hsize") sizes.Hsize _ name refl refl
+    (one_of size_text _ word (codes "firstsize") sizes.FirstSize _ name refl refl
     (one_of size_text _ word (codes "hoffset") sizes.Hoffset _ name refl refl
-    (one_of size_text _ word (codes "voffset") sizes.Voffset None name refl refl (λ e. absurd (cc))))))) h
+    (one_of size_text _ word (codes "voffset") sizes.Voffset None name refl refl (λ e. absurd (cc)))))))) h
 
 pub skip_written : (word : List ℕ) (name : SkipParameter) → skip_name word ≡ Some name → word ≡ skip_text name
 unfolding skip_name
@@ -78,6 +80,7 @@ size_read sizes.BoxMaxDepth = refl
 size_read sizes.LineSkipLimit = refl
 size_read sizes.SplitMaxDepth = refl
 size_read sizes.Hsize = refl
+size_read sizes.FirstSize = refl
 size_read sizes.Hoffset = refl
 size_read sizes.Voffset = refl
 
@@ -124,3 +127,27 @@ number_no_skip numbers.AdjDemerits = refl
 number_no_skip numbers.ClubPenalty = refl
 number_no_skip numbers.WidowPenalty = refl
 number_no_skip numbers.InterlinePenalty = refl
+
+-- how the parameter that is a number of first lines is written
+abbrev pub first_lines_text : List ℕ
+first_lines_text = codes "firstlines"
+
+pub first_lines_written : (word : List ℕ) → names_first_lines word ≡ true → word ≡ first_lines_text
+unfolding names_first_lines
+first_lines_written word h = same_bytes word (codes "firstlines") h
+
+pub first_lines_no_size : size_name first_lines_text ≡ None
+unfolding size_name
+first_lines_no_size = refl
+
+pub first_lines_no_skip : skip_name first_lines_text ≡ None
+unfolding skip_name
+first_lines_no_skip = refl
+
+pub first_lines_no_number : number_name first_lines_text ≡ None
+unfolding number_name
+first_lines_no_number = refl
+
+pub first_lines_read : names_first_lines first_lines_text ≡ true
+unfolding names_first_lines
+first_lines_read = refl

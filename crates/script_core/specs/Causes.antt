@@ -22,7 +22,7 @@ abbrev pub IsInnerWord : List ℕ → Type 0
 IsInnerWord field =
     Contains (codes "at" ∷ codes "to" ∷ codes "spread" ∷ codes "into" ∷ codes "plus" ∷ codes "minus" ∷ codes "shift"
     ∷ codes "boxmaxdepth" ∷ codes "baselineskip" ∷ codes "lineskip" ∷ codes "lineskiplimit" ∷ codes "splitmaxdepth" ∷ codes "splittopskip"
-    ∷ codes "hsize" ∷ codes "parfillskip" ∷ codes "pretolerance" ∷ codes "tolerance" ∷ codes "linepenalty" ∷ codes "adjdemerits" ∷ codes "clubpenalty"
+    ∷ codes "hsize" ∷ codes "firstlines" ∷ codes "firstsize" ∷ codes "parfillskip" ∷ codes "pretolerance" ∷ codes "tolerance" ∷ codes "linepenalty" ∷ codes "adjdemerits" ∷ codes "clubpenalty"
     ∷ codes "widowpenalty" ∷ codes "interlinepenalty" ∷ codes "hoffset" ∷ codes "voffset" ∷ []) field
 
 -- one of the words of the grammar of fields, to which `text` does not belong: it begins a command, or stands behind others

@@ -19,7 +19,7 @@ use Rattle.command_core.specs.declared.command.BoxForm.{BoxForm}
 use Rattle.command_core.specs.declared.command.BoxForm.TheVariants.{Hbox, Vbox, Vtop}
 use Rattle.command_core.specs.declared.command.Taking.{Taking}
 use Rattle.command_core.specs.declared.command.Taking.TheVariants.{Moved, Copied}
-use Rattle.command_core.specs.declared.command.Parameter.TheVariants.{BoxMaxDepth, BaselineSkip, LineSkip, LineSkipLimit, SplitMaxDepth, SplitTopSkip, Hsize, ParFillSkip, Pretolerance, Tolerance, LinePenalty, AdjDemerits, ClubPenalty, WidowPenalty, InterlinePenalty, Hoffset, Voffset}
+use Rattle.command_core.specs.declared.command.Parameter.TheVariants.{BoxMaxDepth, BaselineSkip, LineSkip, LineSkipLimit, SplitMaxDepth, SplitTopSkip, Hsize, FirstLines, FirstSize, ParFillSkip, Pretolerance, Tolerance, LinePenalty, AdjDemerits, ClubPenalty, WidowPenalty, InterlinePenalty, Hoffset, Voffset}
 use Rattle.command_core.specs.declared.command.Command.{Command}
 use Rattle.command_core.specs.declared.command.Command.TheVariants.{LoadFont, UseFont, Open, Paragraph, End, Text, Character, Rule, Kern, Glue, Penalty, Append, Unbox, LastBox, Split, Measure, Void, Set, Count, Ship}
 
@@ -64,6 +64,14 @@ IsCharacterCode field n = IsNumberAmong character_count field n
 -- a field that writes the number of this count of a page
 abbrev pub IsCountNumber : List ℕ → ℕ → Type 0
 IsCountNumber field n = IsNumberAmong count_count field n
+
+-- how many numbers of first lines there are, from 0 (own)
+abbrev pub first_lines_count : ℕ
+first_lines_count = 33
+
+-- a field that writes this number of first lines
+abbrev pub IsFirstLines : List ℕ → ℕ → Type 0
+IsFirstLines field n = IsNumberAmong first_lines_count field n
 
 -- a field that writes this count of a page: a whole number of signed 32 bits
 pub record IsCount (field : List ℕ) (z : ℤ) : Type 0 where
@@ -202,6 +210,8 @@ Says fields (Set (LineSkipLimit z)) = (d : List ℕ) × (fields ≡ codes "set" 
 Says fields (Set (SplitMaxDepth z)) = (d : List ℕ) × (fields ≡ codes "set" ∷ codes "splitmaxdepth" ∷ d ∷ []) × IsDimension d z
 Says fields (Set (SplitTopSkip glue)) = (more : List (List ℕ)) × (fields ≡ codes "set" ∷ codes "splittopskip" ∷ more) × IsGlue more glue
 Says fields (Set (Hsize z)) = (d : List ℕ) × (fields ≡ codes "set" ∷ codes "hsize" ∷ d ∷ []) × IsDimension d z
+Says fields (Set (FirstLines n)) = (l : List ℕ) × (fields ≡ codes "set" ∷ codes "firstlines" ∷ l ∷ []) × IsFirstLines l n
+Says fields (Set (FirstSize z)) = (d : List ℕ) × (fields ≡ codes "set" ∷ codes "firstsize" ∷ d ∷ []) × IsDimension d z
 Says fields (Set (ParFillSkip glue)) = (more : List (List ℕ)) × (fields ≡ codes "set" ∷ codes "parfillskip" ∷ more) × IsGlue more glue
 Says fields (Set (Pretolerance z)) = (p : List ℕ) × (fields ≡ codes "set" ∷ codes "pretolerance" ∷ p ∷ []) × IsPenalty p z
 Says fields (Set (Tolerance z)) = (p : List ℕ) × (fields ≡ codes "set" ∷ codes "tolerance" ∷ p ∷ []) × IsPenalty p z

@@ -1,5 +1,5 @@
 -- The names of parameters, by the kind of value that they take (own; private calls alone, no public clause speaks of it).
-use Rattle.std.specs.Prelude.{ℕ, ℤ, if◌then◌else◌, List, Option, None, Some, codes}
+use Rattle.std.specs.Prelude.{ℕ, ℤ, Bool, if◌then◌else◌, List, Option, None, Some, codes}
 use Rattle.std.specs.Str.{bytes_eq}
 use Rattle.node_core.specs.declared.tree.Glue as glues
 use Rattle.command_core.specs.declared.command.Parameter.{Parameter}
@@ -18,9 +18,10 @@ size_name word =
     else (if bytes_eq word (codes "lineskiplimit") then Some sizes.LineSkipLimit
     else (if bytes_eq word (codes "splitmaxdepth") then Some sizes.SplitMaxDepth
     else (if bytes_eq word (codes "hsize") then Some sizes.Hsize
+    else (if bytes_eq word (codes "firstsize") then Some sizes.FirstSize
     else (if bytes_eq word (codes "hoffset") then Some sizes.Hoffset
     else (if bytes_eq word (codes "voffset") then Some sizes.Voffset
-    else None)))))
+    else None))))))
 
 -- the parameter of glue that a word names
 unfoldable pub skip_name : List ℕ → Option SkipParameter
@@ -43,12 +44,17 @@ number_name word =
     else (if bytes_eq word (codes "interlinepenalty") then Some numbers.InterlinePenalty
     else None))))))
 
+-- whether a word names the parameter that is a number of first lines
+unfoldable pub names_first_lines : List ℕ → Bool
+names_first_lines word = bytes_eq word (codes "firstlines")
+
 -- a parameter that is a dimension, with a value for it
 abbrev pub with_size : SizeParameter → ℤ → Parameter
 with_size sizes.BoxMaxDepth z = parameters.BoxMaxDepth z
 with_size sizes.LineSkipLimit z = parameters.LineSkipLimit z
 with_size sizes.SplitMaxDepth z = parameters.SplitMaxDepth z
 with_size sizes.Hsize z = parameters.Hsize z
+with_size sizes.FirstSize z = parameters.FirstSize z
 with_size sizes.Hoffset z = parameters.Hoffset z
 with_size sizes.Voffset z = parameters.Voffset z
 

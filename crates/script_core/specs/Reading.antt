@@ -1,5 +1,5 @@
 -- What the functions that read a script compute (own; private calls alone, no public clause speaks of it).
-use Rattle.std.specs.Prelude.{◌≡◌, ◌==◌, ℕ, ℤ, pos, negsuc, Bool, not, ◌&&◌, if◌then◌else◌, List, [], ◌∷◌, ◌++◌, ◌+◌, ◌-◌, Option, None, Some, Result, Ok, Err, codes, drop, take, length, nat_lt, nat_le, unsigned_abs}
+use Rattle.std.specs.Prelude.{◌≡◌, ◌==◌, ℕ, ℤ, pos, negsuc, Bool, true, false, not, ◌&&◌, if◌then◌else◌, List, [], ◌∷◌, ◌++◌, ◌+◌, ◌-◌, Option, None, Some, Result, Ok, Err, codes, drop, take, length, nat_lt, nat_le, unsigned_abs}
 use Rattle.std.specs.List.{prefix_len, list_all}
 use Rattle.std.specs.Char.{digit_value}
 use Rattle.std.specs.Str.{bytes_eq}
@@ -17,6 +17,7 @@ use Rattle.pack_core.specs.declared.pack.Target.TheVariants.{Natural, To, Spread
 use Rattle.command_core.specs.declared.command.BoxForm.{BoxForm}
 use Rattle.command_core.specs.declared.command.Taking.{Taking}
 use Rattle.command_core.specs.declared.command.Parameter.{Parameter}
+use Rattle.command_core.specs.declared.command.Parameter.TheVariants.{FirstLines}
 use Rattle.command_core.specs.declared.command.Command.{Command}
 use Rattle.command_core.specs.declared.command.Command.TheVariants.{LoadFont, UseFont, Open, Paragraph, End, Text, Character, Rule, Kern, Glue, Penalty, Append, Unbox, LastBox, Split, Measure, Void, Set, Count, Ship}
 use Rattle.script_core.specs.declared.cause.Cause.{Cause}
@@ -32,9 +33,9 @@ use Rattle.script_core.specs.declared.parameter.SizeParameter.{SizeParameter}
 use Rattle.script_core.specs.declared.parameter.SkipParameter.{SkipParameter}
 use Rattle.script_core.specs.declared.parameter.NumberParameter.{NumberParameter}
 use Rattle.script_core.specs.Names.{name_of}
-use Rattle.script_core.specs.ParameterNames.{size_name, skip_name, number_name, with_size, with_skip, with_number}
+use Rattle.script_core.specs.ParameterNames.{size_name, skip_name, number_name, names_first_lines, with_size, with_skip, with_number}
 use Rattle.script_core.specs.ScriptLines.{is_space, is_printable, is_passed_over, fields_of}
-use Rattle.script_core.specs.Grammar.{register_count, slot_count, character_count, count_count, is_name_byte}
+use Rattle.script_core.specs.Grammar.{register_count, slot_count, character_count, count_count, first_lines_count, is_name_byte}
 
 -- a byte before the end of a line: any but a line feed
 abbrev pub in_line : ℕ → Bool
@@ -366,17 +367,19 @@ parts_of width (word ∷ rest) =
 unfoldable pub glue_of : List (List ℕ) → Result glues.Glue Cause
 glue_of fields = and_then (dimension_first fields) (λ width. parts_of width (rest_of fields))
 
--- what stands behind the name of a parameter, by the kind of value that it takes: a dimension, glue or a number; the cause is Word where there is no name
-abbrev pub parameter_by : Option SizeParameter → Option SkipParameter → Option NumberParameter → List (List ℕ) → Result Parameter Cause
-parameter_by (Some name) skip number rest = map_ok (with_size name) (last_dimension rest)
-parameter_by None (Some name) number rest = map_ok (with_skip name) (glue_of rest)
-parameter_by None None (Some name) rest = map_ok (with_number name) (last_penalty rest)
-parameter_by None None None rest = Err Word
+-- what comes after the name of a parameter, by the kind of value that it takes: a dimension, glue, a number or a number of first lines; the cause is Word
+-- where there is no name
+abbrev pub parameter_by : Option SizeParameter → Option SkipParameter → Option NumberParameter → (lines : Bool) → List (List ℕ) → Result Parameter Cause
+parameter_by (Some name) skip number lines rest = map_ok (with_size name) (last_dimension rest)
+parameter_by None (Some name) number lines rest = map_ok (with_skip name) (glue_of rest)
+parameter_by None None (Some name) lines rest = map_ok (with_number name) (last_penalty rest)
+parameter_by None None None true rest = map_ok FirstLines (last_number first_lines_count rest)
+parameter_by None None None false rest = Err Word
 
 -- what the fields behind `set` say: the name of a parameter and its value
 unfoldable pub parameter_of : List (List ℕ) → Result Parameter Cause
 parameter_of [] = Err Missing
-parameter_of (word ∷ rest) = parameter_by (size_name word) (skip_name word) (number_name word) rest
+parameter_of (word ∷ rest) = parameter_by (size_name word) (skip_name word) (number_name word) (names_first_lines word) rest
 
 -- the command that gives a count of the pages that follow a value
 abbrev pub counting : (count : ℕ) → (value : ℤ) → Command

@@ -5,7 +5,7 @@ ghost use Rattle.std.specs.Int.{w64};
 ghost use Rattle.std.specs.List.{list_all};
 ghost use Rattle.tfm_core.specs.NamedBytes.{IsFontName};
 ghost use Rattle.command_core.specs.declared.command.Command.TheVariants as commands;
-ghost use Rattle.script_core.specs.Grammar.{register_count, slot_count, character_count, count_count, IsInteger, is_name_byte};
+ghost use Rattle.script_core.specs.Grammar.{register_count, slot_count, character_count, count_count, first_lines_count, IsInteger, is_name_byte};
 ghost use Rattle.script_core.specs.ScriptLines.{fields_of};
 ghost use Rattle.script_core.specs.Reading.{first_of, rest_of, number_among, number_of, number_first, count_value, count_of, count_first, last_count, counting, and_right, counting_of, dimension_first, size_of_font, size_of_font_first, is_short, is_name, name_first, size_of, size_first, no_field_left, last_number, last_dimension, map_ok, chosen_size_of, font_of, penalty_of, penalty_first, last_penalty, amount_first, last_amount, opening, opening_with_register, opening_into, opening_of, shift_of, append_of, unboxing, split_into, split_height, split_to, split_of, glue, shrink_of, last_shrink_of, parts_of, glue_of, parameter_of, rule_of, command_named, command_of};
 
@@ -13,12 +13,14 @@ use crate::amounts::{Amount, amount_of};
 use crate::cause::Cause;
 use crate::lines::first_field;
 use crate::name::Name;
-use crate::parameter::{number_name, size_name, skip_name, with_number, with_size, with_skip};
+use crate::parameter::{
+    names_first_lines, number_name, size_name, skip_name, with_number, with_size, with_skip,
+};
 use command_core::{
     BoxForm, BoxUse, Command, CountNumber, Counting, FontLoad, FontName, FontSize, Opening,
     Parameter, Register, Splitting, Taking, Target, Unboxing,
 };
-use node_core::{Glue, Kind, Number, Rule, RuleSize};
+use node_core::{FirstLines, Glue, Kind, Number, Rule, RuleSize};
 use scaled_core::{Dimen, parse_dimen};
 use std::alloc::{AllocError, Global};
 
@@ -95,6 +97,15 @@ impl<'a> Fields<'a> {
         ensures rest { fields_of self.new.rest.now ≡ rest_of (fields_of self.old.rest.now) }
     {
         count_number_of(self.field()?).ok_or(Cause::Number)
+    }
+
+    /// The next field as a number of first lines.
+    #[tactic(auto, unfolding(crate::specs::Reading::number_first))]
+    fn first_lines(&mut self) -> Result<FirstLines, Cause>
+        ensures value { result ≡ number_first first_lines_count (fields_of self.old.rest.now) }
+        ensures rest { fields_of self.new.rest.now ≡ rest_of (fields_of self.old.rest.now) }
+    {
+        first_lines_of(self.field()?).ok_or(Cause::Number)
     }
 
     /// The next field as a count.
@@ -201,6 +212,15 @@ impl<'a> Fields<'a> {
     {
         let code = self.character();
         self.as_last(code)
+    }
+
+    /// The next field, which is the last, as a number of first lines.
+    #[tactic(auto, unfolding(crate::specs::Reading::last_number))]
+    fn last_first_lines(&mut self) -> Result<FirstLines, Cause>
+        ensures { result ≡ last_number first_lines_count (fields_of self.old.rest.now) }
+    {
+        let lines = self.first_lines();
+        self.as_last(lines)
     }
 
     /// The next field, which is the last, as a dimension.
@@ -466,11 +486,15 @@ impl<'a> Fields<'a> {
             let glue = self.glue()?;
             return Ok(with_skip(name, glue));
         }
-        let Some(name) = number_name(word) else {
+        if let Some(name) = number_name(word) {
+            let number = self.last_penalty()?;
+            return Ok(with_number(name, number));
+        }
+        if !names_first_lines(word) {
             return Err(Cause::Word);
-        };
-        let number = self.last_penalty()?;
-        Ok(with_number(name, number))
+        }
+        let lines = self.last_first_lines()?;
+        Ok(Parameter::FirstLines(lines))
     }
 
     /// What stands behind `count`: the number of a count, and its value.
@@ -712,6 +736,27 @@ fn count_numbered(number: i64) -> Option<CountNumber>
         return None;
     }
     CountNumber::try_new(number as u64)
+}
+
+/// The number of first lines that a field writes.
+#[tactic(auto, using(crate::proofs::Numbers::numbers))]
+fn first_lines_of(field: &[u8]) -> Option<FirstLines>
+    ensures { result ≡ number_of first_lines_count field.now }
+{
+    match integer_of(field) {
+        Some(number) => first_lines_numbered(number),
+        None => None,
+    }
+}
+
+/// That number of first lines, where there is one.
+fn first_lines_numbered(number: i64) -> Option<FirstLines>
+    ensures { result ≡ number_among first_lines_count number }
+{
+    if number < 0 {
+        return None;
+    }
+    FirstLines::try_new(number as usize)
 }
 
 /// The count that a field writes.

@@ -1,7 +1,7 @@
 //! The names of parameters, by the kind of value that they take.
 
 ghost use Rattle.std.specs.Prelude.{◌≡◌};
-ghost use Rattle.script_core.specs.ParameterNames.{size_name, skip_name, number_name, with_size, with_skip, with_number};
+ghost use Rattle.script_core.specs.ParameterNames.{size_name, skip_name, number_name, names_first_lines, with_size, with_skip, with_number};
 
 use command_core::Parameter;
 use node_core::{Glue, Number};
@@ -14,6 +14,7 @@ pub enum SizeParameter {
     LineSkipLimit,
     SplitMaxDepth,
     Hsize,
+    FirstSize,
     Hoffset,
     Voffset,
 }
@@ -55,6 +56,9 @@ pub fn size_name(word: &[u8]) -> Option<SizeParameter>
     }
     if word == b"hsize".as_slice() {
         return Some(SizeParameter::Hsize);
+    }
+    if word == b"firstsize".as_slice() {
+        return Some(SizeParameter::FirstSize);
     }
     if word == b"hoffset".as_slice() {
         return Some(SizeParameter::Hoffset);
@@ -114,6 +118,14 @@ pub fn number_name(word: &[u8]) -> Option<NumberParameter>
     None
 }
 
+/// Whether a word names the parameter that is a number of first lines.
+#[tactic(auto, unfolding(crate::specs::ParameterNames::names_first_lines))]
+pub fn names_first_lines(word: &[u8]) -> bool
+    ensures { result ≡ names_first_lines word.now }
+{
+    word == b"firstlines".as_slice()
+}
+
 /// A parameter that is a dimension, with a value for it.
 pub fn with_size(name: SizeParameter, size: Dimen) -> Parameter
     ensures { result ≡ with_size name size }
@@ -123,6 +135,7 @@ pub fn with_size(name: SizeParameter, size: Dimen) -> Parameter
         SizeParameter::LineSkipLimit => Parameter::LineSkipLimit(size),
         SizeParameter::SplitMaxDepth => Parameter::SplitMaxDepth(size),
         SizeParameter::Hsize => Parameter::Hsize(size),
+        SizeParameter::FirstSize => Parameter::FirstSize(size),
         SizeParameter::Hoffset => Parameter::Hoffset(size),
         SizeParameter::Voffset => Parameter::Voffset(size),
     }

@@ -2,7 +2,7 @@
 
 use crate::paragraphs::expect_same;
 use break_core::{Breaks, Class, Pass, breaks};
-use node_core::{Glue, Node, Number, Order, Params, Rule, RuleSize};
+use node_core::{FirstLines, Glue, Node, Number, Order, Params, Rule, RuleSize};
 use scaled_core::{Dimen, badness};
 use std::alloc::Global;
 use std::process::Abort;
@@ -31,6 +31,8 @@ pub(crate) struct Amounts {
 #[derive(Clone, Copy)]
 struct Setting {
     hsize: i64,
+    first_lines: i64,
+    first_size: i64,
     pretolerance: i64,
     tolerance: i64,
     line_penalty: i64,
@@ -92,6 +94,8 @@ impl Random {
     fn setting(&mut self) -> Setting {
         Setting {
             hsize: self.one_of(&[20, 30, 40]),
+            first_lines: self.one_of(&[0, 0, 1, 2, 3, 32]),
+            first_size: self.one_of(&[20, 30, 40, 60]),
             pretolerance: self.one_of(&[-1, 100, 10]),
             tolerance: self.one_of(&[200, 10_000, 12]),
             line_penalty: self.one_of(&[10, 0, -20, 9_990]),
@@ -188,9 +192,18 @@ fn stretched(badness: i64) -> Line {
     }
 }
 
-/// How a line of these amounts is set.
-fn judge(sums: &Amounts, hsize: i64) -> Line {
-    let shortfall = hsize.saturating_sub(sums.width);
+/// How wide a line is, by its number from 1.
+fn size_of(setting: &Setting, line: i64) -> i64 {
+    if line <= setting.first_lines {
+        setting.first_size
+    } else {
+        setting.hsize
+    }
+}
+
+/// How a line of these amounts is set in that width.
+fn judge(sums: &Amounts, size: i64) -> Line {
+    let shortfall = size.saturating_sub(sums.width);
     if shortfall > 0 {
         if sums.fil != 0 {
             return stretched(0);
@@ -201,7 +214,7 @@ fn judge(sums: &Amounts, hsize: i64) -> Line {
         );
         return stretched(i64::from(badness));
     }
-    let excess = sums.width.saturating_sub(hsize);
+    let excess = sums.width.saturating_sub(size);
     if excess > sums.shrink {
         return Line {
             overfull: true,
@@ -269,6 +282,7 @@ fn numbers_of(
     numbers.push(1).ok().expect(rt, "there is memory");
     let mut from = None;
     let mut before = 2;
+    let mut lines: i64 = 0;
     let mut overhang: i64 = 0;
     let mut total: i64 = 0;
     let mut digits = mask;
@@ -280,7 +294,9 @@ fn numbers_of(
             return None;
         }
         if taken {
-            let line = judge(&line_amounts(items, from, *place), setting.hsize);
+            lines = lines.saturating_add(1);
+            let size = size_of(setting, lines);
+            let line = judge(&line_amounts(items, from, *place), size);
             if let Some(most) = bound {
                 if line.overfull || line.badness > most {
                     return None;
@@ -290,11 +306,9 @@ fn numbers_of(
             overhang = overhang.saturating_add(line.overhang);
             before = line.class;
             from = Some(*place);
-            numbers.push(line.class).ok().expect(rt, "there is memory");
-            numbers
-                .push(fallen(*place))
-                .ok()
-                .expect(rt, "there is memory");
+            for number in [line.class, lines.min(setting.first_lines), fallen(*place)] {
+                numbers.push(number).ok().expect(rt, "there is memory");
+            }
         }
     }
     numbers.push(total).ok().expect(rt, "there is memory");
@@ -397,6 +411,9 @@ pub(crate) fn node(rt: &impl Abort, item: &Item) -> Node {
 fn params_of(rt: &impl Abort, setting: &Setting) -> Params {
     let mut params = Params::first();
     params.hsize = points(rt, setting.hsize);
+    params.first_lines =
+        FirstLines::try_new(usize::try_from(setting.first_lines).unwrap_or(0)).expect(rt, "they are few");
+    params.first_size = points(rt, setting.first_size);
     params.pretolerance = number(rt, setting.pretolerance);
     params.tolerance = number(rt, setting.tolerance);
     params.line_penalty = number(rt, setting.line_penalty);
@@ -405,21 +422,21 @@ fn params_of(rt: &impl Abort, setting: &Setting) -> Params {
 }
 
 /// The numbers of the breaks that were found, the last one first, as those of a list of places.
-fn found_numbers(rt: &impl Abort, alloc: Global, found: &Breaks) -> Vec<i64> {
+fn found_numbers(rt: &impl Abort, alloc: Global, setting: &Setting, found: &Breaks) -> Vec<i64> {
     let mut numbers = Vec::new(alloc);
     numbers.push(1).ok().expect(rt, "there is memory");
+    let mut lines: i64 = 0;
     for line in &found.lines {
+        lines = lines.saturating_add(1);
         let class = match line.class {
             Class::VeryLoose => 0,
             Class::Loose => 1,
             Class::Decent => 2,
             Class::Tight => 3,
         };
-        numbers.push(class).ok().expect(rt, "there is memory");
-        numbers
-            .push(fallen(line.place))
-            .ok()
-            .expect(rt, "there is memory");
+        for number in [class, lines.min(setting.first_lines), fallen(line.place)] {
+            numbers.push(number).ok().expect(rt, "there is memory");
+        }
     }
     numbers
         .push(found.demerits)
@@ -452,7 +469,7 @@ fn expect_chosen(rt: &impl Abort, alloc: Global, items: &[Item], setting: &Setti
         Pass::Third => 3,
     };
     assert_eq!(rt; named, pass);
-    assert!(rt; found_numbers(rt, alloc, &found) == numbers);
+    assert!(rt; found_numbers(rt, alloc, setting, &found) == numbers);
 }
 
 /// A random finished list of up to 22 items.
@@ -546,6 +563,8 @@ fn lists_that_are_not_chosen(rt: HostRuntime) {
     let alloc = rt.alloc();
     let mut setting = Setting {
         hsize: 40,
+        first_lines: 0,
+        first_size: 20,
         pretolerance: -1,
         tolerance: 10_000,
         line_penalty: 10,
@@ -568,4 +587,39 @@ fn lists_that_are_not_chosen(rt: HostRuntime) {
     expect_chosen(&rt, alloc, &items, &setting);
     expect_cost(&rt, alloc, &items, &setting, 1, 200);
     expect_cost(&rt, alloc, &items, &setting, 2, 200);
+}
+
+#[test]
+fn first_lines(rt: HostRuntime) {
+    let alloc = rt.alloc();
+    let mut setting = Setting {
+        hsize: 40,
+        first_lines: 1,
+        first_size: 20,
+        pretolerance: 100,
+        tolerance: 200,
+        line_penalty: 10,
+        adj_demerits: 10_000,
+    };
+    // three lines, the first one of 20pt
+    let between = [elastic(0, 0), elastic(0, 0)];
+    let items = ruled(&rt, alloc, &[20, 40, 10], &between);
+    expect_chosen(&rt, alloc, &items, &setting);
+    expect_cost(&rt, alloc, &items, &setting, 1 + 2, 300);
+    // ties: lists of two and of three lines cost nothing, and the one with fewer counted lines is chosen
+    setting.line_penalty = 0;
+    setting.first_size = 40;
+    let spring = Amounts {
+        width: 0,
+        stretch: 0,
+        fil: 1,
+        shrink: 0,
+    };
+    let items = ruled(&rt, alloc, &[10, 10, 10, 10, 10, 10], &[spring, spring, spring, spring, spring]);
+    for lines in [0, 1, 2, 3, 32] {
+        setting.first_lines = lines;
+        expect_chosen(&rt, alloc, &items, &setting);
+        expect_cost(&rt, alloc, &items, &setting, 8, 0);
+        expect_cost(&rt, alloc, &items, &setting, 4 + 16, 0);
+    }
 }
