@@ -13,7 +13,7 @@ use Rattle.nest_core.specs.declared.nest.OpenList.{OpenList}
 use Rattle.nest_core.specs.declared.nest.ListPurpose.{ListPurpose}
 use Rattle.nest_core.specs.declared.nest.ListPurpose.TheVariants as purposes
 use Rattle.command_core.specs.declared.command.Parameter.{Parameter}
-use Rattle.command_core.specs.declared.command.Parameter.TheVariants.{BoxMaxDepth, BaselineSkip, LineSkip, LineSkipLimit, SplitMaxDepth, SplitTopSkip, Hsize, ParFillSkip, Pretolerance, Tolerance, LinePenalty, AdjDemerits, ClubPenalty, WidowPenalty, InterlinePenalty, Hoffset, Voffset}
+use Rattle.command_core.specs.declared.command.Parameter.TheVariants.{BoxMaxDepth, BaselineSkip, LineSkip, LineSkipLimit, SplitMaxDepth, SplitTopSkip, Hsize, FirstLines, FirstSize, ParFillSkip, Pretolerance, Tolerance, LinePenalty, AdjDemerits, ClubPenalty, WidowPenalty, InterlinePenalty, Hoffset, Voffset}
 use Rattle.command_core.specs.declared.command.Splitting.{Splitting}
 use Rattle.command_core.specs.declared.command.Taking.{Taking}
 use Rattle.command_core.specs.declared.command.Taking.TheVariants.{Moved, Copied}
@@ -76,6 +76,8 @@ with_parameter params (LineSkipLimit limit) = record params { line_skip_limit = 
 with_parameter params (SplitMaxDepth depth) = record params { split = record params.split { split_max_depth = depth } }
 with_parameter params (SplitTopSkip glue) = record params { split = record params.split { split_top_skip = glue } }
 with_parameter params (Hsize size) = record params { hsize = size }
+with_parameter params (FirstLines lines) = record params { first_lines = lines }
+with_parameter params (FirstSize size) = record params { first_size = size }
 with_parameter params (ParFillSkip glue) = record params { par_fill_skip = glue }
 with_parameter params (Pretolerance number) = record params { pretolerance = number }
 with_parameter params (Tolerance number) = record params { tolerance = number }
