@@ -101,13 +101,13 @@ module _ (fonts : Slots) where
       (first_have (drop (a + 1) (take b list)) (each_dropped (HasGlyphs fonts) (a + 1) (take b list) (each_taken (HasGlyphs fonts) b list all))) (at_break_have (slice_get list b))
 
   -- What a line brings.
-  boxed_have : (params : Params) (items : List Node) → HaveGlyphs fonts items → EachLeaf (IsSizedLeaf fonts) (boxed_line params items).list
+  boxed_have : (size : ℤ) (items : List Node) → HaveGlyphs fonts items → EachLeaf (IsSizedLeaf fonts) (boxed_line size items).list
   unfolding boxed_line hbox
-  boxed_have params items all = leaves_have fonts items all
+  boxed_have size items all = leaves_have fonts items all
 
   line_have : (p : BrokenParagraph) (line : ℕ) → HaveGlyphs fonts p.nodes → EachLeaf (IsSizedLeaf fonts) (line_box p line).list
   unfolding line_box
-  line_have p line all = boxed_have p.params (line_items p line) (kept_have p.nodes (line_begin p.places line) (get_or p.places line 0) all)
+  line_have p line all = boxed_have _ (line_items p line) (kept_have p.nodes (line_begin p.places line) (get_or p.places line 0) all)
 
   appended_have : (glue : Option glues.Glue) (b : BoxNode) → EachLeaf (IsSizedLeaf fonts) b.list → HaveGlyphs fonts (appended glue (pos 0) b)
   appended_have None b all = (all, tt)

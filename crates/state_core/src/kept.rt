@@ -550,6 +550,8 @@ impl Kept {
             Parameter::SplitMaxDepth(depth) => self.params.split.split_max_depth = depth,
             Parameter::SplitTopSkip(glue) => self.params.split.split_top_skip = glue,
             Parameter::Hsize(size) => self.params.hsize = size,
+            Parameter::FirstLines(lines) => self.params.first_lines = lines,
+            Parameter::FirstSize(size) => self.params.first_size = size,
             Parameter::ParFillSkip(glue) => self.params.par_fill_skip = glue,
             Parameter::Pretolerance(number) => self.params.pretolerance = number,
             Parameter::Tolerance(number) => self.params.tolerance = number,
