@@ -1,7 +1,7 @@
 -- Overfull lines of steady paragraphs stay overfull.
 use Rattle.std.proofs.Common.{◌≡◌, ◌∙◌, ℕ, zero, suc, ◌+◌, ◌-◌, ◌<◌, ◌≤◌, Bool, true, false, not, cond, ◌&&◌, ◌||◌, refl, ap, sym, subst, arith, Option, None, List}
-use Rattle.std.specs.Prelude.{ℤ, pos, neg_ℤ, int_lt, int_le, nat_le, ◌<ℤ◌, ◌≤ℤ◌, ◌-ℤ◌}
-use Rattle.std.proofs.lemmas.Int.{ints, by_lt_z}
+use Rattle.std.specs.Prelude.{ℤ, pos, int_le, nat_le}
+use Rattle.std.proofs.lemmas.Int.{ints}
 use Rattle.node_core.specs.declared.params.Params.{Params}
 use Rattle.break_table.specs.declared.state.Class.{Class}
 use Rattle.break_table.specs.declared.state.Line.{Line}

@@ -1,5 +1,5 @@
 -- How wide lines are: the first lines of a paragraph have a width of their own (own; TeX: The Program, part 38, §847 to §850, has more kinds of widths).
-use Rattle.std.specs.Prelude.{◌≡◌, ◌≤ℤ◌, ℕ, ℤ, Bool, ◌&&◌, nat_lt, int_lt, if◌then◌else◌}
+use Rattle.std.specs.Prelude.{ℕ, ℤ, ◌&&◌, nat_lt, int_lt, if◌then◌else◌}
 use Rattle.node_core.specs.declared.params.Params.{Params}
 use Rattle.break_cost.specs.declared.sums.Sums.{Sums}
 use Rattle.break_cost.specs.declared.cost.Judged.{Judged}
