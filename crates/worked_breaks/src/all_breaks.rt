@@ -411,8 +411,9 @@ pub(crate) fn node(rt: &impl Abort, item: &Item) -> Node {
 fn params_of(rt: &impl Abort, setting: &Setting) -> Params {
     let mut params = Params::first();
     params.hsize = points(rt, setting.hsize);
-    params.first_lines =
-        FirstLines::try_new(usize::try_from(setting.first_lines).unwrap_or(0)).expect(rt, "they are few");
+    params.first_lines = FirstLines::try_new(usize::try_from(setting.first_lines).unwrap_or(
+        0,
+    )).expect(rt, "they are few");
     params.first_size = points(rt, setting.first_size);
     params.pretolerance = number(rt, setting.pretolerance);
     params.tolerance = number(rt, setting.tolerance);
@@ -615,7 +616,12 @@ fn first_lines(rt: HostRuntime) {
         fil: 1,
         shrink: 0,
     };
-    let items = ruled(&rt, alloc, &[10, 10, 10, 10, 10, 10], &[spring, spring, spring, spring, spring]);
+    let items = ruled(
+        &rt,
+        alloc,
+        &[10, 10, 10, 10, 10, 10],
+        &[spring, spring, spring, spring, spring],
+    );
     for lines in [0, 1, 2, 3, 32] {
         setting.first_lines = lines;
         expect_chosen(&rt, alloc, &items, &setting);
