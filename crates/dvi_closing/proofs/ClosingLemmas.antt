@@ -16,9 +16,9 @@ use Rattle.dvi_frame.specs.declared.fault.DviCause.TheVariants.{Opcode, Truncate
 use Rattle.dvi_frame.specs.declared.fault.FrameFault.{FrameFault}
 use Rattle.dvi_frame.specs.declared.fault.FrameFault.TheVariants.{OutOfMemory, Bad}
 use Rattle.dvi_frame.proofs.PlaceLemmas.{one_stands}
-use Rattle.dvi_closing.specs.Known.{HasSame}
-use Rattle.dvi_closing.specs.Closing.{BreaksClosing, Closes, ClosesOne, ClosesTo, IsClosingFault, IsFaultAt, IsLookedAhead}
-use Rattle.dvi_closing.proofs.KnownLemmas.{same_after, same_right, same_self, same_sym}
+use Rattle.dvi_pass.specs.Known.{HasSame}
+use Rattle.dvi_closing.specs.Closing.{BreaksClosing, Closes, ClosesOne, ClosesTo, IsClosingFault, IsFaultAt}
+use Rattle.dvi_pass.proofs.KnownLemmas.{same_after, same_right, same_self, same_sym}
 
 -- What was read stands there.
 pub read_found : (bytes : List ℕ) (place next bound : ℕ) (i j : Instruction) → place < next → next ≤ bound → Spells i (take (next - place) (drop place bytes)) → i ≡ j → StandsAt bytes place bound j
@@ -130,15 +130,7 @@ broken_closing bytes from to old new known fault tail high same (low, below, (fr
     by_first (t ∷ more) (here, spelled) rest (first, idle) ds (right, fonts) ones =
         broken_here bytes fault.place to new fault.cause t.says broken (first_stands bytes fault.place to t more (omega arith) high here rest) first (same_right ds new t.says ones right)
 
--- What was looked ahead is what stands there.
-pub looked : (bytes : List ℕ) (from to : ℕ) (table : List Definition) (tail : List Token) → to ≤ length bytes → IsLookedAhead bytes from to table → Closes bytes from to [] tail → table ≡ definitions (says tail)
-looked bytes from to table tail high (inl (found, closes, table_is)) all =
-    let same : found ≡ tail = one_list found tail closes.spelled all.spelled (closes.whole ∙ sym all.whole) in
-    table_is ∙ ap (λ (ts : List Token). definitions (says ts)) same
-looked bytes from to table tail high (inr (fault, broken)) all = absurd (broken_closing bytes from to [] table [] fault tail high (same_self []) broken all)
-
 -- Definitions that are right have a size.
-
 sized_one : (known : List Definition) (i : Instruction) → IsRightAfter known i → AllByRecursion (λ d. IsSize d.size) (definition_of i)
 sized_one known (Do (FontDef d)) (size, agrees) = (size, tt)
 sized_one known i right = tt
@@ -146,10 +138,3 @@ sized_one known i right = tt
 pub sized_all : (known : List Definition) (is : List Instruction) → FontsAreRight known is → AllByRecursion (λ d. IsSize d.size) (definitions is)
 sized_all known [] right = tt
 sized_all known (i ∷ is) (here, right) = all_append (λ d. IsSize d.size) (definition_of i) (definitions is) (sized_one known i here) (sized_all (definition_of i ++ known) is right)
-
-closed_sizes : (bytes : List ℕ) (from to : ℕ) (table : List Definition) → ClosesTo bytes from to [] table → AllByRecursion (λ d. IsSize d.size) table
-closed_sizes bytes from to table (tail, closes, table_is) = subst (λ (ds : List Definition). AllByRecursion (λ d. IsSize d.size) ds) (sym table_is) (sized_all [] (says tail) closes.fonts)
-
-pub looked_sizes : (bytes : List ℕ) (from to : ℕ) (table : List Definition) → IsLookedAhead bytes from to table → AllByRecursion (λ d. IsSize d.size) table
-looked_sizes bytes from to table (inl closes) = closed_sizes bytes from to table closes
-looked_sizes bytes from to table (inr (fault, (low, below, closes, broken))) = closed_sizes bytes from fault.place table closes

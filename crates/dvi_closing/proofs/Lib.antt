@@ -1,2 +1,2 @@
-pub mod KnownLemmas
 pub mod ClosingLemmas
+pub mod AheadLemmas

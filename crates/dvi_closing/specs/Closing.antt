@@ -1,5 +1,5 @@
 -- The instructions between post and post_post: nops and definitions of fonts (DVItype, 18 and 19); and how that may be broken (own).
-use Rattle.std.specs.Prelude.{◌≡◌, ◌≤◌, ◌<◌, ◌-◌, ◌++◌, ◌⊎◌, [], List, drop, slice_index, take, ℕ}
+use Rattle.std.specs.Prelude.{◌≡◌, ◌≤◌, ◌<◌, ◌-◌, ◌++◌, ◌⊎◌, List, drop, slice_index, take, ℕ}
 use Rattle.std.specs.List.{AllByRecursion}
 use Rattle.dvi_ops.specs.File.{IsIdle}
 use Rattle.dvi_ops.specs.Fonts.{FontsAreRight, IsRightAfter, definition_of, definitions}
@@ -61,12 +61,3 @@ IsClosingFault bytes from to old new frames.OutOfMemory =
     (place : ℕ) × (from ≤ place) × (place < to) × ClosesTo bytes from place old new × (d : Definition) × StandsAt bytes place to (Do (FontDef d)) × IsRightAfter new (Do (FontDef d))
 IsClosingFault bytes from to old new (frames.Bad fault) =
     (from ≤ fault.place) × (fault.place < to) × ClosesTo bytes from fault.place old new × BreaksClosing bytes fault.place to new fault.cause
-
--- The definitions up to the first thing that is wrong.
-abbrev pub IsLookedAhead : List ℕ → (from to : ℕ) → (table : List Definition) → Type 0
-IsLookedAhead bytes from to table =
-    ClosesTo bytes from to [] table ⊎ (fault : BadDvi) × IsClosingFault bytes from to [] table (frames.Bad fault)
-
--- They are not found: memory is wanting for a right definition, up to which all is right.
-abbrev pub IsUnlooked : List ℕ → (from to : ℕ) → FrameFault → Type 0
-IsUnlooked bytes from to fault = (fault ≡ frames.OutOfMemory) × (known : List Definition) × IsClosingFault bytes from to [] known frames.OutOfMemory

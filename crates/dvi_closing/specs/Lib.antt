@@ -1,2 +1,2 @@
-pub mod Known
 pub mod Closing
+pub mod Ahead

@@ -1,14 +1,13 @@
 //! The instructions between post and post_post (DVItype, 18 and 19).
 
-ghost use Rattle.std.specs.Prelude.{◌≡◌, ◌≤◌, ◌<◌, [], length, OnOk, IfErr, IfOk};
-ghost use Rattle.dvi_closing.specs.Closing.{ClosesOne, ClosesTo, IsClosingFault, IsFaultAt, IsLookedAhead, IsUnlooked};
+ghost use Rattle.std.specs.Prelude.{◌≡◌, ◌≤◌, ◌<◌, length, OnOk, IfErr, IfOk};
+ghost use Rattle.dvi_closing.specs.Closing.{ClosesOne, ClosesTo, IsClosingFault, IsFaultAt};
 
 use crate::known::define;
 use dvi_fonts::KnownFonts;
 use dvi_frame::{BadDvi, DviCause, FrameFault, read_at};
 use dvi_ops::{Op, OpFault};
 use dvi_pass::PassFault;
-use std::alloc::Global;
 
 /// Why no instruction stands at a place.
 fn fault_at(place: usize, fault: OpFault) -> FrameFault
@@ -75,25 +74,4 @@ pub fn close<'a>(
         };
     }
     Ok(())
-}
-
-/// The definitions between two places, up to the first thing that is wrong there (own). It takes memory for them.
-pub fn look_ahead<'a>(
-    alloc: Global,
-    bytes: &'a [u8],
-    from: usize,
-    to: usize,
-) -> Result<KnownFonts<'a>, FrameFault>
-    requires low { from ≤ to }
-    requires high { to ≤ length bytes.now }
-    ensures ok { IfOk result (IsLookedAhead bytes.now from to) }
-    // Only memory may be wanting, and only for a right definition.
-    ensures memory { IfErr result (IsUnlooked bytes.now from to) }
-{
-    let mut fonts = KnownFonts::new(alloc);
-    match close(bytes, from, to, &mut fonts) {
-        Ok(()) => Ok(fonts),
-        Err(FrameFault::Bad(_)) => Ok(fonts),
-        Err(FrameFault::OutOfMemory) => Err(FrameFault::OutOfMemory),
-    }
 }

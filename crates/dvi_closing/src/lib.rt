@@ -3,9 +3,11 @@
 //! The walk over the pages stands above it.
 #![tactic(auto)]
 
+mod ahead;
 mod closing;
 mod known;
 pub mod laws;
 
-pub use closing::{close, look_ahead};
+pub use ahead::{NumbersAhead, is_ahead, look_ahead};
+pub use closing::close;
 pub use known::define;

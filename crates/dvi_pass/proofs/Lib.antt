@@ -1,3 +1,5 @@
+pub mod KnownLemmas
+pub mod FontLemmas
 pub mod PartLemmas
 pub mod DrawLemmas
 pub mod TurnLemmas

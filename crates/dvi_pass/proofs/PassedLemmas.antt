@@ -1,14 +1,16 @@
 -- What the pass goes over is a file of its pages, and the pass goes over each file.
-use Rattle.std.proofs.Common.{◌≡◌, ◌≤◌, ◌+◌, ◌-◌, ◌%◌, ◌++◌, min, [], ◌∷◌, List, length, replicate, reverse, slice_index, take, drop, drop-cons, ℕ, suc, pos, Some, refl, sym, ◌∙◌, ap, ap₂, subst, subst₂, length-append, arith}
+use Rattle.std.proofs.Common.{◌≡◌, ◌≤◌, ◌+◌, ◌-◌, ◌%◌, ◌++◌, min, [], ◌∷◌, List, length, replicate, reverse, slice_index, take, drop, drop-cons, ℕ, ℤ, suc, pos, Option, Some, refl, sym, ◌∙◌, ap, ap₂, subst, subst₂, length-append, arith}
 use Rattle.std.proofs.lemmas.Grind.{same_number_lists}
 use Rattle.std.proofs.lemmas.List.{take-append-drop, take_more, drop-drop, drop_at, take_at, length-drop, length-take-le, length-replicate, get_or-drop, get_or-replicate, reverse-reverse, length-reverse}
+use Rattle.std.specs.Prelude.{IsSome}
 use Rattle.std.specs.List.{AllByRecursion, flat_map}
-use Rattle.dvi_ops.specs.Instruction.{Postamble, Pre, Post}
+use Rattle.dvi_ops.specs.Instruction.{Definition, Instruction, Postamble, Pre, Post}
 use Rattle.dvi_ops.specs.Table.{Spells, signed}
 use Rattle.dvi_ops.specs.Tokens.{Token, IsSpelled, says, written, places, pointers}
 use Rattle.dvi_ops.specs.File.{AreUnits, Frame, IsFile, MarkedPage, instructions}
-use Rattle.dvi_ops.specs.Fonts.{Metrics}
-use Rattle.dvi_ops.proofs.Appends.{length-places, length-pages}
+use Rattle.dvi_ops.specs.Fonts.{Metrics, FontsAreRight, defined, definitions, font_in, selections, width_in, widths_of}
+use Rattle.dvi_ops.proofs.Appends.{all_both, all_weaker, fonts_front, length-places, length-pages}
+use Rattle.dvi_ops.proofs.SameMeaning.{SameWidths, same_pages}
 use Rattle.dvi_frame.specs.Chain.{Links}
 use Rattle.dvi_frame.proofs.ChainLemmas.{says_front}
 use Rattle.dvi_frame.proofs.EndLemmas.{one_end, frame_ends, frame_last}
@@ -17,7 +19,45 @@ use Rattle.dvi_frame.proofs.LinkLemmas.{one_chain}
 use Rattle.dvi_frame.proofs.FaultLemmas.{chained, file_chain}
 use Rattle.dvi_pass.specs.Pass.{Between, passes}
 use Rattle.dvi_pass.specs.Passed.{IsFramed, IsPassed, drawing_by}
+use Rattle.dvi_pass.specs.Reached.{HasWidths, IsDefined}
+use Rattle.dvi_pass.proofs.FontLemmas.{has_definition, same_definition, selected_defined}
 use Rattle.dvi_pass.proofs.PartLemmas.{passes-parts, passed_parts}
+
+-- What is selected is defined before post; where it is defined after post too, both definitions are the same.
+front_tail : (front tail : List Instruction) → FontsAreRight [] (front ++ tail) → AllByRecursion (IsDefined (definitions tail)) (selections front)
+    → AllByRecursion (λ f. defined f (definitions front) ≡ defined f (definitions tail)) (selections front)
+front_tail front tail right named =
+    all_weaker (λ (f : ℤ). IsDefined (definitions front) f × IsDefined (definitions tail) f) (λ (f : ℤ). defined f (definitions front) ≡ defined f (definitions tail)) (selections front)
+    (λ f both. same_definition front tail f right both.0 both.1)
+    (all_both (IsDefined (definitions front)) (IsDefined (definitions tail)) (selections front) (selected_defined front (fonts_front [] front tail right)) named)
+
+pub front_and_tail : (metrics : Metrics) (front tail : List Instruction) → FontsAreRight [] (front ++ tail) → AllByRecursion (IsDefined (definitions tail)) (selections front)
+    → AllByRecursion (SameWidths (widths_of metrics (definitions front)) (widths_of metrics (definitions tail))) (selections front)
+front_and_tail metrics front tail right named =
+    all_weaker (λ (f : ℤ). defined f (definitions front) ≡ defined f (definitions tail)) (SameWidths (widths_of metrics (definitions front)) (widths_of metrics (definitions tail))) (selections front)
+    (λ f same c. ap (λ (o : Option Definition). width_in (font_in metrics o) c) same) (front_tail front tail right named)
+
+closed_behind : (metrics : Metrics) (front tail : List Instruction) → FontsAreRight [] (front ++ tail) → AllByRecursion (HasWidths metrics (definitions front)) (selections front)
+    → AllByRecursion (IsDefined (definitions tail)) (selections front) → AllByRecursion (HasWidths metrics (definitions tail)) (selections front)
+closed_behind metrics front tail right closing named =
+    all_weaker (λ (f : ℤ). HasWidths metrics (definitions front) f × (defined f (definitions front) ≡ defined f (definitions tail))) (HasWidths metrics (definitions tail)) (selections front)
+    (λ f both. subst (λ (o : Option Definition). IsSome (font_in metrics o)) both.1 both.0)
+    (all_both (HasWidths metrics (definitions front)) (λ (f : ℤ). defined f (definitions front) ≡ defined f (definitions tail)) (selections front) closing (front_tail front tail right named))
+
+closed_before : (metrics : Metrics) (front tail : List Instruction) → FontsAreRight [] (front ++ tail) → AllByRecursion (HasWidths metrics (definitions tail)) (selections front)
+    → AllByRecursion (HasWidths metrics (definitions front)) (selections front)
+closed_before metrics front tail right closing =
+    all_weaker (λ (f : ℤ). HasWidths metrics (definitions tail) f × (defined f (definitions front) ≡ defined f (definitions tail))) (HasWidths metrics (definitions front)) (selections front)
+    (λ f both. subst (λ (o : Option Definition). IsSome (font_in metrics o)) (sym both.1) both.0)
+    (all_both (HasWidths metrics (definitions tail)) (λ (f : ℤ). defined f (definitions front) ≡ defined f (definitions tail)) (selections front) closing
+    (front_tail front tail right (all_weaker (HasWidths metrics (definitions tail)) (IsDefined (definitions tail)) (selections front) (has_definition metrics (definitions tail)) closing)))
+
+-- In a file the first definition of a selected font before post is the first one after post.
+pub one_definition : (metrics : Metrics) (bytes : List ℕ) (pages : List MarkedPage) (f : IsFile metrics bytes pages)
+    → AllByRecursion (λ n. defined n (definitions (says f.frame.front)) ≡ defined n (definitions (says f.frame.tail))) (selections (says f.frame.front))
+one_definition metrics bytes pages f =
+    front_tail (says f.frame.front) (says f.frame.tail) f.fonts
+    (all_weaker (HasWidths metrics (definitions (says f.frame.tail))) (IsDefined (definitions (says f.frame.tail))) (selections (says f.frame.front)) (has_definition metrics (definitions (says f.frame.tail))) f.closing)
 
 -- What stands behind a place, cut once more.
 cut_behind : (bytes : List ℕ) (at n next : ℕ) → at + n ≡ next → drop at bytes ≡ take n (drop at bytes) ++ drop next bytes
@@ -105,13 +145,13 @@ module _ (bytes : List ℕ) (post behind last : ℕ) (stop : Postamble) (chain :
   pub passed_file : (metrics : Metrics) (pages : List MarkedPage) → stop.pages ≡ length chain % 65536 → IsPassed metrics bytes post behind last stop chain pages → IsFile metrics bytes pages
   unfolding frame_of
   passed_file metrics pages count p =
-      let (parts, whole, shows, deep) = passed_parts (drawing_by metrics p.tail) (min 1024 stop.stack_depth) p.body pages p.passed in
+      let (parts, whole, shows, deep) = passed_parts (drawing_by metrics p.front) (min 1024 stop.stack_depth) p.body pages p.passed in
       let frame = frame_of p.front p.tail p.front_spelled p.tail_spelled p.front_whole p.tail_whole in
       let front_is : says p.front ≡ Pre 2 stop.units p.comment ∷ flat_map instructions parts = p.front_is ∙ ap (λ is. Pre 2 stop.units p.comment ∷ is) whole in
       let bops : reverse (places 0 p.front) ≡ chain = ap (λ (ns : List ℕ). reverse ns) p.bops ∙ reverse-reverse chain in
       let linked = chained bytes p.front _ post stop.last_bop (frame.whole) p.front_spelled (subst (λ (c : List ℕ). Links bytes post stop.last_bop c) (sym bops) framed.links) in
       let as_many : length chain ≡ length pages =
-      sym (length-reverse chain) ∙ (ap (λ (ns : List ℕ). length ns) (sym p.bops) ∙ (length-places 0 p.front ∙ (ap (λ is. length (pointers is)) front_is ∙ length-pages (drawing_by metrics p.tail) parts pages shows))) in
+      sym (length-reverse chain) ∙ (ap (λ (ns : List ℕ). length ns) (sym p.bops) ∙ (length-places 0 p.front ∙ (ap (λ is. length (pointers is)) front_is ∙ length-pages (drawing_by metrics p.front) parts pages shows))) in
       record {
         frame = frame;
         comment = p.comment;
@@ -122,9 +162,13 @@ module _ (bytes : List ℕ) (post behind last : ℕ) (stop : Postamble) (chain :
         chain = linked;
         count = count ∙ ap (λ n. n % 65536) as_many;
         fonts = p.fonts;
-        closing = p.closing;
+        closing = closed_behind metrics (says p.front) (says p.tail) p.fonts p.closing p.named;
         depth = deep;
-        shows = shows;
+        shows =
+            sym (same_pages (widths_of metrics (definitions (says p.front))) (widths_of metrics (definitions (says p.tail))) parts
+            (subst (λ (is : List Instruction). AllByRecursion (SameWidths (widths_of metrics (definitions (says p.front))) (widths_of metrics (definitions (says p.tail)))) (selections is)) front_is
+            (front_and_tail metrics (says p.front) (says p.tail) p.fonts p.named)))
+            ∙ shows;
       }
 
   -- A file is passed.
@@ -146,7 +190,11 @@ module _ (bytes : List ℕ) (post behind last : ℕ) (stop : Postamble) (chain :
       let links : Links bytes post stop.last_bop (reverse (places 0 g.front)) =
       subst₂ (λ (n : ℕ) (s : Postamble). Links bytes n s.last_bop (reverse (places 0 g.front))) (sym posts) (sym stops) (file_chain metrics bytes pages f) in
       let chains : chain ≡ reverse (places 0 g.front) = one_chain bytes post post stop.last_bop chain (reverse (places 0 g.front)) framed.links links in
-      let passed = passes-parts (drawing_by metrics g.tail) (min 1024 g.stop.stack_depth) f.parts [] pages f.shows f.depth in
+      let named = all_weaker (HasWidths metrics (definitions (says g.tail))) (IsDefined (definitions (says g.tail))) (selections (says g.front)) (has_definition metrics (definitions (says g.tail))) f.closing in
+      let shows = same_pages (widths_of metrics (definitions (says g.front))) (widths_of metrics (definitions (says g.tail))) f.parts
+      (subst (λ (is : List Instruction). AllByRecursion (SameWidths (widths_of metrics (definitions (says g.front))) (widths_of metrics (definitions (says g.tail)))) (selections is)) f.front_is
+      (front_and_tail metrics (says g.front) (says g.tail) f.fonts named)) ∙ f.shows in
+      let passed = passes-parts (drawing_by metrics g.front) (min 1024 g.stop.stack_depth) f.parts [] pages shows f.depth in
       record {
         front = g.front;
         tail = g.tail;
@@ -158,11 +206,12 @@ module _ (bytes : List ℕ) (post behind last : ℕ) (stop : Postamble) (chain :
         body = flat_map instructions f.parts;
         front_is = f.front_is ∙ ap (λ (s : Postamble). Pre 2 s.units f.comment ∷ flat_map instructions f.parts) (sym stops);
         units = subst (λ (s : Postamble). AreUnits s.units) (sym stops) f.units;
-        passed = subst (λ (s : Postamble). passes (drawing_by metrics g.tail) (min 1024 s.stack_depth) (flat_map instructions f.parts) (Between []) ≡ Some (Between pages)) (sym stops) passed;
+        passed = subst (λ (s : Postamble). passes (drawing_by metrics g.front) (min 1024 s.stack_depth) (flat_map instructions f.parts) (Between []) ≡ Some (Between pages)) (sym stops) passed;
         bops = sym (ap (λ (ns : List ℕ). reverse ns) chains ∙ reverse-reverse (places 0 g.front));
         tail_is = f.tail_is;
         fonts = f.fonts;
-        closing = f.closing;
+        closing = closed_before metrics (says g.front) (says g.tail) f.fonts f.closing;
+        named = named;
       }
     where
       sizes : take (behind - post) (drop post bytes) ≡ take (length f.frame.post) (drop post bytes) → take post bytes ≡ written f.frame.front

@@ -1,18 +1,22 @@
 -- The pass goes on by right instructions, and in a file each instruction is right.
-use Rattle.std.proofs.Common.{◌≡◌, ◌≤◌, ◌<◌, ◌+◌, ◌-◌, ◌++◌, min, [], ◌∷◌, false, List, length, reverse, take, drop, ℕ, Option, Some, None, refl, sym, ◌∙◌, ap, ap₂, subst, append_assoc, append-nil, length-append, arith}
+use Rattle.std.proofs.Common.{◌≡◌, ◌≤◌, ◌<◌, ◌+◌, ◌-◌, ◌++◌, min, [], ◌∷◌, false, List, length, reverse, take, drop, ℕ, ℤ, Option, Some, None, refl, sym, ◌∙◌, ap, ap₂, subst, append_assoc, append-nil, length-append, arith}
 use Rattle.std.proofs.lemmas.List.{take-append-drop, take-take, take_at, length-drop, length-take-le}
+use Rattle.std.specs.Prelude.{IsSome}
 use Rattle.std.specs.List.{AllByRecursion}
-use Rattle.dvi_ops.specs.Instruction.{Definition, Instruction, Postamble, Pre}
+use Rattle.dvi_ops.specs.Instruction.{Definition, FontNum, Instruction, Do, Postamble, Pre}
 use Rattle.dvi_ops.specs.Table.{Spells}
 use Rattle.dvi_ops.specs.Body.{Acts, acts, kept}
 use Rattle.dvi_ops.specs.Tokens.{Token, IsSpelled, says, written, place_of, places}
-use Rattle.dvi_ops.specs.Fonts.{Metrics, FontsAreRight, IsRightAfter, definition_of, definitions, known_after, selection_of, selections, widths_of}
+use Rattle.dvi_ops.specs.Fonts.{Metrics, FontsAreRight, IsRightAfter, defined, definition_of, definitions, font_in, known_after, selection_of, selections, widths_of}
 use Rattle.dvi_ops.specs.File.{MarkedPage, AreUnits}
-use Rattle.dvi_ops.proofs.Appends.{all_append, all_front, all_back, says-append, written-append, places-append, fonts_append, fonts_front, fonts_back, known_after-append, selections-append}
+use Rattle.dvi_ops.proofs.Appends.{all_append, all_front, all_back, says-append, written-append, places-append, fonts_append, fonts_front, fonts_back, definitions-append, selections-append}
 use Rattle.dvi_ops.proofs.Frames.{begins, not_empty, one_list}
+use Rattle.dvi_pass.specs.Known.{HasSame}
 use Rattle.dvi_pass.specs.Pass.{Pass, Between, turn, goes, passes}
 use Rattle.dvi_pass.specs.Passed.{IsPassed}
-use Rattle.dvi_pass.specs.Reached.{HasRight, HasWidths, IsReached, IsRightAt, IsTail, Left, all_left, behind_bops}
+use Rattle.dvi_pass.specs.Reached.{HasRight, HasWidths, IsDefined, IsReached, IsRightAt, IsTail, Left, SoFar, all_left, at_first, behind_bops}
+use Rattle.dvi_pass.proofs.FontLemmas.{SameNow, all_more_widths, all_same_widths, defined_more, same_passes, same_turn, some_definition}
+use Rattle.dvi_pass.proofs.KnownLemmas.{fonts_same, same_after, same_right, same_self, same_sym}
 use Rattle.dvi_pass.proofs.LeftLemmas.{behind_bops-append, bops_met, none_missed}
 use Rattle.dvi_pass.proofs.PartLemmas.{passes-append}
 
@@ -29,50 +33,74 @@ take_next bytes at next low high =
 abbrev pub token : Instruction → List ℕ → Token
 token i bytes = record { says = i; bytes = bytes }
 
--- What is known behind one more instruction.
-known_more : (is : List Instruction) (i : Instruction) (known : List Definition) → known_after [] is ≡ known → known_after [] (is ++ i ∷ []) ≡ definition_of i ++ known
-known_more is i known e = known_after-append [] is (i ∷ []) ∙ ap (λ (ds : List Definition). definition_of i ++ ds) e
+-- What is defined or selected by one instruction more.
+definitions_more : (is : List Instruction) (i : Instruction) → definitions (is ++ i ∷ []) ≡ definitions is ++ definition_of i
+definitions_more is i = definitions-append is (i ∷ []) ∙ ap (λ (ds : List Definition). definitions is ++ ds) (append-nil (definition_of i))
 
-module _ (metrics : Metrics) (table : List Definition) (bytes : List ℕ) (stop : Postamble) (chain : List ℕ) where
-  does : Acts
-  does = kept (acts (widths_of metrics table))
+selections_more : (is : List Instruction) (i : Instruction) → selections (is ++ i ∷ []) ≡ selections is ++ selection_of i
+selections_more is i = selections-append is (i ∷ []) ∙ ap (λ (fs : List ℤ). selections is ++ fs) (append-nil (selection_of i))
+
+-- The definitions in order are those that are known, of which the last one stands first.
+same_order : (is : List Instruction) (known : List Definition) → definitions is ≡ known → HasSame known (known_after [] is)
+same_order is known e = subst (λ (ds : List Definition). HasSame ds (known_after [] is)) e (same_after [] [] is (same_self []))
+
+-- No page is open between pages, so no font is selected there.
+none_now : (v w : List Definition) (metrics : Metrics) → SameNow (widths_of metrics v) (widths_of metrics w) (Between [])
+none_now v w metrics f e = absurd cc
+
+module _ (metrics : Metrics) (ahead : List Definition) (bytes : List ℕ) (stop : Postamble) (chain : List ℕ) where
+  -- More definitions change nothing in what was passed.
+  pub passed_more : (at : ℕ) (s : SoFar) (r : IsReached metrics ahead bytes stop chain at s) (ds : List Definition)
+      → (passes (kept (acts (widths_of metrics (s.known ++ ds)))) (min 1024 stop.stack_depth) r.body (Between []) ≡ Some s.pass) × SameNow (widths_of metrics s.known) (widths_of metrics (s.known ++ ds)) s.pass
+  passed_more at s r ds =
+      let body : selections r.body ≡ s.selected = sym (ap (λ (is : List Instruction). selections is) r.front_is) ∙ r.selected_is in
+      same_passes (widths_of metrics s.known) (widths_of metrics (s.known ++ ds)) (min 1024 stop.stack_depth) r.body (Between []) s.pass (none_now s.known (s.known ++ ds) metrics)
+      (all_same_widths metrics s.known ds (selections r.body) (subst (AllByRecursion (HasWidths metrics s.known)) (sym body) r.closing)) r.passed
 
   -- One instruction more.
-  pub reached_next : (at next : ℕ) (p q : Pass) (known : List Definition) (left later : Left) (i : Instruction) → at ≤ next → next ≤ length bytes → IsReached metrics table bytes stop chain at p known left
-      → Spells i (take (next - at) (drop at bytes)) → IsRightAt metrics table stop at p known left i q later → IsReached metrics table bytes stop chain next q (definition_of i ++ known) later
-  reached_next at next p q known left later i low high r spelled right =
-      let t = token i (take (next - at) (drop at bytes)) in
-      let says_more : says (r.before ++ t ∷ []) ≡ says r.before ++ i ∷ [] = says-append r.before (t ∷ []) in
+  pub reached_next : (at next : ℕ) (s t : SoFar) (i : Instruction) → at ≤ next → next ≤ length bytes → IsReached metrics ahead bytes stop chain at s
+      → Spells i (take (next - at) (drop at bytes)) → IsRightAt metrics ahead stop at s i t → IsReached metrics ahead bytes stop chain next t
+  reached_next at next s t i low high r spelled right =
+      let one = token i (take (next - at) (drop at bytes)) in
+      let says_more : says (r.before ++ one ∷ []) ≡ says r.before ++ i ∷ [] = says-append r.before (one ∷ []) in
       let size : length (written r.before) ≡ at = ap (λ (x : List ℕ). length x) (r.whole) ∙ length-take-le at bytes (omega arith) in
-      let bops_are : places 0 (r.before ++ t ∷ []) ≡ places 0 r.before ++ place_of at i =
-      places-append 0 r.before (t ∷ [])
-      ∙ (ap (λ (n : ℕ). places 0 r.before ++ places n (t ∷ [])) (ap (λ (n : ℕ). 0 + n) size ∙ zero_first at)
+      let bops_are : places 0 (r.before ++ one ∷ []) ≡ places 0 r.before ++ place_of at i =
+      places-append 0 r.before (one ∷ [])
+      ∙ (ap (λ (n : ℕ). places 0 r.before ++ places n (one ∷ [])) (ap (λ (n : ℕ). 0 + n) size ∙ zero_first at)
       ∙ ap (λ (ns : List ℕ). places 0 r.before ++ ns) (append-nil (place_of at i))) in
-      let goes_on : passes (kept (acts (widths_of metrics table))) (min 1024 stop.stack_depth) (r.body ++ i ∷ []) (Between []) ≡ Some q =
-      passes-append (kept (acts (widths_of metrics table))) (min 1024 stop.stack_depth) r.body (i ∷ []) (Between []) p r.passed ∙ ap (goes (λ p. Some p)) right.goes_on in
+      let (before, now) = passed_more at s r (definition_of i) in
+      let known : s.known ++ definition_of i ≡ t.known = sym right.known_is in
+      let selected : s.selected ++ selection_of i ≡ t.selected = sym right.selected_is in
+      let turned : turn (kept (acts (widths_of metrics (s.known ++ definition_of i)))) (min 1024 stop.stack_depth) i s.pass ≡ Some t.pass =
+      sym (same_turn (widths_of metrics s.known) (widths_of metrics (s.known ++ definition_of i)) (min 1024 stop.stack_depth) i s.pass now) ∙ right.goes_on in
+      let goes_on : passes (kept (acts (widths_of metrics (s.known ++ definition_of i)))) (min 1024 stop.stack_depth) (r.body ++ i ∷ []) (Between []) ≡ Some t.pass =
+      passes-append (kept (acts (widths_of metrics (s.known ++ definition_of i)))) (min 1024 stop.stack_depth) r.body (i ∷ []) (Between []) s.pass before ∙ ap (goes (λ p. Some p)) turned in
+      let closing : AllByRecursion (HasWidths metrics (s.known ++ definition_of i)) (s.selected ++ selection_of i) =
+      all_append (HasWidths metrics (s.known ++ definition_of i)) s.selected (selection_of i) (all_more_widths metrics s.known (definition_of i) s.selected r.closing)
+      (all_more_widths metrics s.known (definition_of i) (selection_of i) right.closing) in
+      let closed = subst (λ (fs : List ℤ). AllByRecursion (HasWidths metrics (s.known ++ definition_of i)) fs) selected closing in
+      let first = same_right s.known (known_after [] (says r.before)) i (same_order (says r.before) s.known r.known_is) right.fonts in
       record {
-        before = r.before ++ t ∷ [];
-        spelled = all_append IsSpelled r.before (t ∷ []) r.spelled (spelled, tt);
-        whole = written-append r.before (t ∷ []) ∙ (ap₂ (λ (x y : List ℕ). x ++ y) r.whole (append-nil (take (next - at) (drop at bytes))) ∙ sym (take_next bytes at next low high));
+        before = r.before ++ one ∷ [];
+        spelled = all_append IsSpelled r.before (one ∷ []) r.spelled (spelled, tt);
+        whole = written-append r.before (one ∷ []) ∙ (ap₂ (λ (x y : List ℕ). x ++ y) r.whole (append-nil (take (next - at) (drop at bytes))) ∙ sym (take_next bytes at next low high));
         comment = r.comment;
         body = r.body ++ i ∷ [];
         front_is = says_more ∙ ap (λ (is : List Instruction). is ++ i ∷ []) r.front_is;
-        passed = goes_on;
-        bops = ap (λ (ns : List ℕ). behind_bops ns (all_left chain)) bops_are ∙ (behind_bops-append (places 0 r.before) (place_of at i) (all_left chain) left r.bops ∙ right.bop);
-        fonts =
-            subst (λ (is : List Instruction). FontsAreRight [] is) (sym says_more)
-            (fonts_append [] (says r.before) (i ∷ []) r.fonts (subst (λ (ds : List Definition). FontsAreRight ds (i ∷ [])) (sym r.known_is) (right.fonts, tt)));
-        known_is = ap (λ (is : List Instruction). known_after [] is) says_more ∙ known_more (says r.before) i known r.known_is;
-        closing =
-            subst (AllByRecursion (HasWidths metrics table)) (sym (ap (λ (is : List Instruction). selections is) says_more ∙ selections-append (says r.before) (i ∷ [])))
-            (all_append (HasWidths metrics table) (selections (says r.before)) (selections (i ∷ [])) r.closing (subst (AllByRecursion (HasWidths metrics table)) (sym (append-nil (selection_of i))) right.closing));
+        known_is = ap (λ (is : List Instruction). definitions is) says_more ∙ (definitions_more (says r.before) i ∙ (ap (λ (ds : List Definition). ds ++ definition_of i) r.known_is ∙ known));
+        selected_is = ap (λ (is : List Instruction). selections is) says_more ∙ (selections_more (says r.before) i ∙ (ap (λ (fs : List ℤ). fs ++ selection_of i) r.selected_is ∙ selected));
+        passed = subst (λ (ds : List Definition). passes (kept (acts (widths_of metrics ds))) (min 1024 stop.stack_depth) (r.body ++ i ∷ []) (Between []) ≡ Some t.pass) known goes_on;
+        bops = ap (λ (ns : List ℕ). behind_bops ns (all_left chain)) bops_are ∙ (behind_bops-append (places 0 r.before) (place_of at i) (all_left chain) s.left r.bops ∙ right.bop);
+        fonts = subst (λ (is : List Instruction). FontsAreRight [] is) (sym says_more) (fonts_append [] (says r.before) (i ∷ []) r.fonts (first, tt));
+        closing = subst (λ (ds : List Definition). AllByRecursion (HasWidths metrics ds) t.selected) known closed;
+        named = subst (AllByRecursion (IsDefined ahead)) selected (all_append (IsDefined ahead) s.selected (selection_of i) r.named right.named);
       }
     where
       zero_first : (n : ℕ) → 0 + n ≡ n
       zero_first n = omega arith
 
   -- The preamble.
-  pub reached_first : (next : ℕ) (comment : List ℕ) → next ≤ length bytes → Spells (Pre 2 stop.units comment) (take next bytes) → IsReached metrics table bytes stop chain next (Between []) [] (all_left chain)
+  pub reached_first : (next : ℕ) (comment : List ℕ) → next ≤ length bytes → Spells (Pre 2 stop.units comment) (take next bytes) → IsReached metrics ahead bytes stop chain next (at_first chain)
   reached_first next comment high spelled =
       record {
         before = token (Pre 2 stop.units comment) (take next bytes) ∷ [];
@@ -81,11 +109,13 @@ module _ (metrics : Metrics) (table : List Definition) (bytes : List ℕ) (stop 
         comment = comment;
         body = [];
         front_is = refl;
+        known_is = refl;
+        selected_is = refl;
         passed = refl;
         bops = refl;
         fonts = (tt, tt);
-        known_is = refl;
         closing = tt;
+        named = tt;
       }
 
 -- Where the pass goes on it has taken the first instruction.
@@ -96,9 +126,19 @@ first_turn does most i rest p end e = go (turn does most i p) e
     go None e = absurd cc
     go (Some q) e = (q, refl)
 
+-- What is selected right after some definitions has the widths that it has among more.
+fewer_widths : (metrics : Metrics) (xs ys : List Definition) (f : ℤ) → IsDefined xs f → HasWidths metrics (xs ++ ys) f → HasWidths metrics xs f
+fewer_widths metrics xs ys f some widths =
+    let (d, e) = some_definition (defined f xs) some in
+    subst (λ (o : Option Definition). IsSome (font_in metrics o)) (defined_more f xs ys d e ∙ sym e) widths
+
+selected_widths : (metrics : Metrics) (xs ys : List Definition) (i : Instruction) → IsRightAfter xs i → AllByRecursion (HasWidths metrics (xs ++ ys)) (selection_of i) → AllByRecursion (HasWidths metrics xs) (selection_of i)
+selected_widths metrics xs ys (Do (FontNum f)) some (widths, none) = (fewer_widths metrics xs ys f some widths, tt)
+selected_widths metrics xs ys i right all = tt
+
 module _ (metrics : Metrics) (bytes : List ℕ) (post behind last : ℕ) (stop : Postamble) (chain : List ℕ) (pages : List MarkedPage)
     (f : IsPassed metrics bytes post behind last stop chain pages) (small : post ≤ length bytes)
-    (at : ℕ) (p : Pass) (known : List Definition) (left : Left) (low : at ≤ post) (r : IsReached metrics (definitions (says f.tail)) bytes stop chain at p known left) where
+    (at : ℕ) (s : SoFar) (low : at ≤ post) (r : IsReached metrics (definitions (says f.tail)) bytes stop chain at s) where
   -- The instructions that are still to come.
   pub record Rest : Type 0 where
     pub more : List Token
@@ -106,8 +146,10 @@ module _ (metrics : Metrics) (bytes : List ℕ) (post behind last : ℕ) (stop :
     pub spelled : AllByRecursion IsSpelled more
     pub whole : written more ≡ take (post - at) (drop at bytes)
     pub body : f.body ≡ r.body ++ says more
-    pub passed : passes (kept (acts (widths_of metrics (definitions (says f.tail))))) (min 1024 stop.stack_depth) (says more) p ≡ Some (Between pages)
-    pub bops : left ≡ record { missed = false; places = places at more }
+    pub known : definitions (says f.front) ≡ s.known ++ definitions (says more)
+    pub passed : passes (kept (acts (widths_of metrics (s.known ++ definitions (says more))))) (min 1024 stop.stack_depth) (says more) s.pass ≡ Some (Between pages)
+    pub now : SameNow (widths_of metrics s.known) (widths_of metrics (s.known ++ definitions (says more))) s.pass
+    pub bops : s.left ≡ record { missed = false; places = places at more }
 
   pub rest : Rest
   rest =
@@ -122,7 +164,12 @@ module _ (metrics : Metrics) (bytes : List ℕ) (post behind last : ℕ) (stop :
       sym f.bops
       ∙ (ap (λ (ts : List Token). places 0 ts) front
       ∙ (places-append 0 r.before more ∙ ap (λ (n : ℕ). places 0 r.before ++ places n more) (ap (λ (n : ℕ). 0 + n) size ∙ zero_first at))) in
-      let still : Some left ≡ Some (record { missed = false; places = places at more }) =
+      let fronts : says f.front ≡ says r.before ++ says more = ap (λ (ts : List Token). says ts) front ∙ says-append r.before more in
+      let known : definitions (says f.front) ≡ s.known ++ definitions (says more) =
+      ap (λ (is : List Instruction). definitions is) fronts ∙ (definitions-append (says r.before) (says more) ∙ ap (λ (ds : List Definition). ds ++ definitions (says more)) r.known_is) in
+      let (before, now) = passed_more metrics (definitions (says f.tail)) bytes stop chain at s r (definitions (says more)) in
+      let all_passed = subst (λ (ds : List Definition). passes (kept (acts (widths_of metrics ds))) (min 1024 stop.stack_depth) f.body (Between []) ≡ Some (Between pages)) known f.passed in
+      let still : Some s.left ≡ Some (record { missed = false; places = places at more }) =
       sym r.bops ∙ (ap (λ (ns : List ℕ). behind_bops (places 0 r.before) (record { missed = false; places = ns })) all_places ∙ bops_met (places 0 r.before) (places at more)) in
       record {
         more = more;
@@ -130,8 +177,10 @@ module _ (metrics : Metrics) (bytes : List ℕ) (post behind last : ℕ) (stop :
         spelled = spelled;
         whole = whole;
         body = body;
-        passed = sym (passes-append (kept (acts (widths_of metrics (definitions (says f.tail))))) (min 1024 stop.stack_depth) r.body (says more) (Between []) p r.passed)
-            ∙ (ap (λ (is : List Instruction). passes (kept (acts (widths_of metrics (definitions (says f.tail))))) (min 1024 stop.stack_depth) is (Between [])) (sym body) ∙ f.passed);
+        known = known;
+        passed = sym (passes-append (kept (acts (widths_of metrics (s.known ++ definitions (says more))))) (min 1024 stop.stack_depth) r.body (says more) (Between []) s.pass before)
+            ∙ (ap (λ (is : List Instruction). passes (kept (acts (widths_of metrics (s.known ++ definitions (says more))))) (min 1024 stop.stack_depth) is (Between [])) (sym body) ∙ all_passed);
+        now = now;
         bops = cc;
       }
     where
@@ -139,44 +188,61 @@ module _ (metrics : Metrics) (bytes : List ℕ) (post behind last : ℕ) (stop :
       zero_first n = omega arith
 
   -- Before post there is a right instruction.
-  pub next_right : at < post → HasRight metrics (definitions (says f.tail)) bytes stop at post p known left
+  pub next_right : at < post → HasRight metrics (definitions (says f.tail)) bytes stop at post s
   unfolding rest
-  next_right below = by_first rest.more rest.front rest.spelled rest.whole rest.passed rest.bops
+  next_right below = by_first rest.more rest.front rest.spelled rest.whole rest.known rest.passed rest.now rest.bops
     where
-      by_first : (more : List Token) → f.front ≡ r.before ++ more → AllByRecursion IsSpelled more → written more ≡ take (post - at) (drop at bytes)
-          → passes (kept (acts (widths_of metrics (definitions (says f.tail))))) (min 1024 stop.stack_depth) (says more) p ≡ Some (Between pages) → left ≡ record { missed = false; places = places at more }
-          → HasRight metrics (definitions (says f.tail)) bytes stop at post p known left
-      by_first [] front spelled whole passed bops =
+      by_first : (more : List Token) → f.front ≡ r.before ++ more → AllByRecursion IsSpelled more → written more ≡ take (post - at) (drop at bytes) → definitions (says f.front) ≡ s.known ++ definitions (says more)
+          → passes (kept (acts (widths_of metrics (s.known ++ definitions (says more))))) (min 1024 stop.stack_depth) (says more) s.pass ≡ Some (Between pages)
+          → SameNow (widths_of metrics s.known) (widths_of metrics (s.known ++ definitions (says more))) s.pass → s.left ≡ record { missed = false; places = places at more }
+          → HasRight metrics (definitions (says f.tail)) bytes stop at post s
+      by_first [] front spelled whole known passed now bops =
           let none : 0 ≡ length (take (post - at) (drop at bytes)) = ap (λ (x : List ℕ). length x) whole in
           let some = length-take-le (post - at) (drop at bytes) (omega (arith, length-drop at bytes)) in
           absurd (omega arith)
-      by_first (t ∷ more) front (here, spelled) whole passed bops =
+      by_first (t ∷ more) front (here, spelled) whole known passed now bops =
           let size : length t.bytes + length (written more) ≡ post - at =
           sym (length-append t.bytes (written more)) ∙ (ap (λ (x : List ℕ). length x) whole ∙ length-take-le (post - at) (drop at bytes) (omega (arith, length-drop at bytes))) in
           let cut : take (length t.bytes) (drop at bytes) ≡ t.bytes =
           sym (take-take (length t.bytes) (post - at) (drop at bytes) (omega arith)) ∙ (ap (λ (x : List ℕ). take (length t.bytes) x) (sym whole) ∙ take_at t.bytes (written more) (length t.bytes) refl) in
           let span : at + length t.bytes - at ≡ length t.bytes = omega arith in
-          let (q, goes_on) = first_turn (kept (acts (widths_of metrics (definitions (says f.tail))))) (min 1024 stop.stack_depth) t.says (says more) p (Between pages) passed in
+          let all_known : List Definition = s.known ++ definitions (t.says ∷ says more) in
+          let (q, turned) = first_turn (kept (acts (widths_of metrics all_known))) (min 1024 stop.stack_depth) t.says (says more) s.pass (Between pages) passed in
+          let goes_on = same_turn (widths_of metrics s.known) (widths_of metrics all_known) (min 1024 stop.stack_depth) t.says s.pass now ∙ turned in
           let fronts : says f.front ≡ says r.before ++ (t.says ∷ says more) = ap (λ (ts : List Token). says ts) front ∙ says-append r.before (t ∷ more) in
           let fonts = fonts_back [] (says r.before) (t.says ∷ says more) (subst (λ (is : List Instruction). FontsAreRight [] is) fronts (fonts_front [] (says f.front) (says f.tail) f.fonts)) in
-          let selected = all_back (HasWidths metrics (definitions (says f.tail))) (selections (says r.before)) (selections (t.says ∷ says more))
-          (subst (AllByRecursion (HasWidths metrics (definitions (says f.tail)))) (ap (λ (is : List Instruction). selections is) fronts ∙ selections-append (says r.before) (t.says ∷ says more)) f.closing) in
+          let all_selected : selections (says f.front) ≡ selections (says r.before) ++ (selection_of t.says ++ selections (says more)) =
+          ap (λ (is : List Instruction). selections is) fronts ∙ selections-append (says r.before) (t.says ∷ says more) in
+          let widths = subst (λ (ds : List Definition). AllByRecursion (HasWidths metrics ds) (selection_of t.says)) known (here_of (HasWidths metrics (definitions (says f.front))) t.says more all_selected f.closing) in
+          let right = same_right (known_after [] (says r.before)) s.known t.says (same_sym s.known (known_after [] (says r.before)) (same_order (says r.before) s.known r.known_is)) fonts.0 in
           record {
             next = at + length t.bytes;
             forward = some_bytes t here;
             within = omega arith;
             here = t.says;
             spelled = subst (λ (x : List ℕ). Spells t.says x) (sym (ap (λ (n : ℕ). take n (drop at bytes)) span ∙ cut)) here;
-            after = q;
-            later = record { missed = false; places = places (at + length t.bytes) more };
+            new = record {
+              pass = q;
+              known = s.known ++ definition_of t.says;
+              selected = s.selected ++ selection_of t.says;
+              left = record { missed = false; places = places (at + length t.bytes) more };
+            };
             right = record {
               goes_on = goes_on;
               bop = ap (behind_bops (place_of at t.says)) bops ∙ bops_met (place_of at t.says) (places (at + length t.bytes) more);
-              fonts = subst (λ (ds : List Definition). IsRightAfter ds t.says) r.known_is fonts.0;
-              closing = all_front (HasWidths metrics (definitions (says f.tail))) (selection_of t.says) (selections (says more)) selected;
+              fonts = right;
+              known_is = refl;
+              selected_is = refl;
+              closing = selected_widths metrics s.known (definitions (t.says ∷ says more)) t.says right widths;
+              named = here_of (IsDefined (definitions (says f.tail))) t.says more all_selected f.named;
             };
           }
         where
+          here_of : (P : ℤ → Type 0) (i : Instruction) (more : List Token) → selections (says f.front) ≡ selections (says r.before) ++ (selection_of i ++ selections (says more))
+              → AllByRecursion P (selections (says f.front)) → AllByRecursion P (selection_of i)
+          here_of P i more e all =
+              all_front P (selection_of i) (selections (says more)) (all_back P (selections (says r.before)) (selection_of i ++ selections (says more)) (subst (AllByRecursion P) e all))
+
           some_bytes : (t : Token) → IsSpelled t → at < at + length t.bytes
           some_bytes t here = by_bytes t.bytes here
             where
@@ -185,13 +251,14 @@ module _ (metrics : Metrics) (bytes : List ℕ) (post behind last : ℕ) (stop :
               by_bytes (x ∷ b) here = omega arith
 
   -- At post's place the pass stands between pages, and none is still to come.
-  pub end_right : at ≡ post → (p ≡ Between pages) × (left ≡ all_left [])
+  pub end_right : at ≡ post → (s.pass ≡ Between pages) × (s.left ≡ all_left [])
   unfolding rest
   end_right same = by_first rest.more rest.spelled rest.whole rest.passed rest.bops
     where
       by_first : (more : List Token) → AllByRecursion IsSpelled more → written more ≡ take (post - at) (drop at bytes)
-          → passes (kept (acts (widths_of metrics (definitions (says f.tail))))) (min 1024 stop.stack_depth) (says more) p ≡ Some (Between pages) → left ≡ record { missed = false; places = places at more } → (p ≡ Between pages) × (left ≡ all_left [])
-      by_first [] spelled whole passed bops = let e : p ≡ Between pages = cc in (e, bops)
+          → passes (kept (acts (widths_of metrics (s.known ++ definitions (says more))))) (min 1024 stop.stack_depth) (says more) s.pass ≡ Some (Between pages) → s.left ≡ record { missed = false; places = places at more }
+          → (s.pass ≡ Between pages) × (s.left ≡ all_left [])
+      by_first [] spelled whole passed bops = let e : s.pass ≡ Between pages = cc in (e, bops)
       by_first (t ∷ more) (here, spelled) whole passed bops =
           let none : take (post - at) (drop at bytes) ≡ [] = (let zero : post - at ≡ 0 = omega arith in ap (λ (n : ℕ). take n (drop at bytes)) zero) in
           absurd (by_bytes t.bytes here (whole ∙ none))
@@ -201,9 +268,12 @@ module _ (metrics : Metrics) (bytes : List ℕ) (post behind last : ℕ) (stop :
           by_bytes (x ∷ b) here e = cc
 
 -- The end of the pass.
-pub reached_end : (metrics : Metrics) (bytes : List ℕ) (post behind last : ℕ) (stop : Postamble) (chain : List ℕ) (pages : List MarkedPage) (known : List Definition) (tail : List Token) → AreUnits stop.units
-    → IsReached metrics (definitions (says tail)) bytes stop chain post (Between pages) known (all_left []) → IsTail bytes behind last known tail → IsPassed metrics bytes post behind last stop chain pages
-reached_end metrics bytes post behind last stop chain pages known tail units r t =
+pub reached_end : (metrics : Metrics) (bytes : List ℕ) (post behind last : ℕ) (stop : Postamble) (chain : List ℕ) (pages : List MarkedPage) (s : SoFar) (tail : List Token) → AreUnits stop.units
+    → IsReached metrics (definitions (says tail)) bytes stop chain post s → s.pass ≡ Between pages → s.left ≡ all_left [] → IsTail bytes behind last s.known tail
+    → IsPassed metrics bytes post behind last stop chain pages
+reached_end metrics bytes post behind last stop chain pages s tail units r pass_is left_is t =
+    let bops = r.bops ∙ ap (λ (l : Left). Some l) left_is in
+    let order = same_order (says r.before) s.known r.known_is in
     record {
       front = r.before;
       tail = tail;
@@ -215,22 +285,29 @@ reached_end metrics bytes post behind last stop chain pages known tail units r t
       body = r.body;
       front_is = r.front_is;
       units = units;
-      passed = r.passed;
-      bops = sym (append-nil (places 0 r.before)) ∙ (none_missed (places 0 r.before) (all_left chain) [] r.bops).1;
+      passed =
+          subst (λ (ds : List Definition). passes (kept (acts (widths_of metrics ds))) (min 1024 stop.stack_depth) r.body (Between []) ≡ Some (Between pages)) (sym r.known_is)
+          (r.passed ∙ ap (λ (p : Pass). Some p) pass_is);
+      bops = sym (append-nil (places 0 r.before)) ∙ (none_missed (places 0 r.before) (all_left chain) [] bops).1;
       tail_is = t.idle;
-      fonts = fonts_append [] (says r.before) (says tail) r.fonts (subst (λ (ds : List Definition). FontsAreRight ds (says tail)) (sym r.known_is) t.fonts);
-      closing = r.closing;
+      fonts = fonts_append [] (says r.before) (says tail) r.fonts (fonts_same s.known (known_after [] (says r.before)) (says tail) order t.fonts);
+      closing =
+          subst (λ (ds : List Definition). AllByRecursion (HasWidths metrics ds) (selections (says r.before))) (sym r.known_is)
+          (subst (AllByRecursion (HasWidths metrics s.known)) (sym r.selected_is) r.closing);
+      named = subst (AllByRecursion (IsDefined (definitions (says tail)))) (sym r.selected_is) r.named;
     }
 
--- The tail of a file, behind the fonts that are known at post's place.
+-- The tail of a file, after the fonts that are known at post's place.
 pub tail_right : (metrics : Metrics) (bytes : List ℕ) (post behind last : ℕ) (stop : Postamble) (chain : List ℕ) (pages : List MarkedPage) (f : IsPassed metrics bytes post behind last stop chain pages)
-    → post ≤ length bytes → (p : Pass) (known : List Definition) (left : Left) → IsReached metrics (definitions (says f.tail)) bytes stop chain post p known left → IsTail bytes behind last known f.tail
-tail_right metrics bytes post behind last stop chain pages f small p known left r =
+    → post ≤ length bytes → (s : SoFar) → IsReached metrics (definitions (says f.tail)) bytes stop chain post s → IsTail bytes behind last s.known f.tail
+tail_right metrics bytes post behind last stop chain pages f small s r =
     let same : f.front ≡ r.before = one_list f.front r.before f.front_spelled r.spelled (f.front_whole ∙ sym r.whole) in
     let fonts = fonts_back [] (says f.front) (says f.tail) f.fonts in
+    let before = subst (λ (ts : List Token). FontsAreRight (known_after [] (says ts)) (says f.tail)) same fonts in
+    let order = same_sym s.known (known_after [] (says r.before)) (same_order (says r.before) s.known r.known_is) in
     record {
       spelled = f.tail_spelled;
       whole = f.tail_whole;
       idle = f.tail_is;
-      fonts = subst (λ (ds : List Definition). FontsAreRight ds (says f.tail)) (ap (λ (ts : List Token). known_after [] (says ts)) same ∙ r.known_is) fonts;
+      fonts = fonts_same (known_after [] (says r.before)) s.known (says f.tail) order before;
     }

@@ -12,8 +12,7 @@ use Rattle.dvi_ops.specs.Table.{Spells}
 use Rattle.dvi_ops.specs.Tokens.{Token, IsSpelled, place_of, places, written}
 use Rattle.dvi_ops.proofs.Appends.{all_append}
 use Rattle.dvi_ops.proofs.Frames.{not_empty}
-use Rattle.dvi_pass.specs.Pass.{Pass}
-use Rattle.dvi_pass.specs.Reached.{IsIn, IsReached, Left, all_left, behind_bop, behind_bops}
+use Rattle.dvi_pass.specs.Reached.{IsIn, IsReached, Left, SoFar, all_left, behind_bop, behind_bops}
 use Rattle.dvi_pass.proofs.LeftLemmas.{bops_met}
 
 -- Each number is less than those behind it.
@@ -30,7 +29,7 @@ all_from x bound [] low all = tt
 all_from x bound (y ∷ ys) low (here, all) = (omega arith, all_from x bound ys low all)
 
 -- An instruction has bytes.
-ends_behind : (bytes : List ℕ) (place bound : ℕ) (i : Instruction) → StandsAt bytes place bound i → place < bound
+pub ends_behind : (bytes : List ℕ) (place bound : ℕ) (i : Instruction) → StandsAt bytes place bound i → place < bound
 ends_behind bytes place bound i (zero, within, spelled) = absurd (not_empty i spelled)
 ends_behind bytes place bound i (suc n, within, spelled) = omega arith
 
@@ -115,20 +114,19 @@ bops_below n most (t ∷ ts) (here, spelled) high =
     some_bytes [] here = absurd (not_empty t.says here)
     some_bytes (x ∷ b) here = omega arith
 
-module _ (metrics : Metrics) (table : List Definition) (bytes : List ℕ) (stop : Postamble) (chain : List ℕ) (at : ℕ) (p : Pass) (known : List Definition) (left : Left)
-    (r : IsReached metrics table bytes stop chain at p known left) where
+module _ (metrics : Metrics) (ahead : List Definition) (bytes : List ℕ) (stop : Postamble) (chain : List ℕ) (at : ℕ) (s : SoFar) (r : IsReached metrics ahead bytes stop chain at s) where
   -- A place of the chain that is not before the place of the pass is left.
-  pub later_left : (bound : ℕ) (pointer : ℤ) (c : ℕ) → at ≤ length bytes → Links bytes bound pointer chain → IsIn c (reverse chain) → at ≤ c → IsIn c left.places
+  pub later_left : (bound : ℕ) (pointer : ℤ) (c : ℕ) → at ≤ length bytes → Links bytes bound pointer chain → IsIn c (reverse chain) → at ≤ c → IsIn c s.left.places
   later_left bound pointer c high links there low =
       let rises : Rises (reverse chain) = subst Rises (append-nil (reverse chain)) (links_rise bytes bound pointer chain [] links tt tt) in
       let size : length (written r.before) ≡ at = ap (λ (x : List ℕ). length x) r.whole ∙ length-take-le at bytes (omega arith) in
-      left_all c at (places 0 r.before) (all_left chain) left rises low (bops_below 0 at r.before r.spelled (omega arith)) r.bops there
+      left_all c at (places 0 r.before) (all_left chain) s.left rises low (bops_below 0 at r.before r.spelled (omega arith)) r.bops there
 
   -- Where the bops are the places of the chain, none was missed and none is left.
-  pub all_met : places 0 r.before ≡ reverse chain → left ≡ all_left []
+  pub all_met : places 0 r.before ≡ reverse chain → s.left ≡ all_left []
   all_met same =
       let whole : reverse chain ≡ places 0 r.before ++ [] = sym same ∙ sym (append-nil (places 0 r.before)) in
       let met : behind_bops (places 0 r.before) (all_left chain) ≡ Some (record { missed = false; places = [] }) =
       ap (λ (ns : List ℕ). behind_bops (places 0 r.before) (record { missed = false; places = ns })) whole ∙ bops_met (places 0 r.before) [] in
-      let both : Some left ≡ Some (record { missed = false; places = [] }) = sym r.bops ∙ met in
+      let both : Some s.left ≡ Some (record { missed = false; places = [] }) = sym r.bops ∙ met in
       cc

@@ -1,3 +1,4 @@
+pub mod Known
 pub mod Pass
 pub mod View
 pub mod Drawing

@@ -1,15 +1,16 @@
 -- The instructions of a file, as a reader finds them that knows its end and the chain of its pages (own; what it has to do with the file is a law).
-use Rattle.std.specs.Prelude.{◌≡◌, ◌≤◌, ◌+◌, ◌-◌, ◌++◌, min, [], ◌∷◌, List, drop, reverse, take, ℕ, Some, IsSome}
+use Rattle.std.specs.Prelude.{◌≡◌, ◌≤◌, ◌+◌, ◌-◌, ◌++◌, min, [], ◌∷◌, List, drop, reverse, take, ℕ, Some}
 use Rattle.std.specs.List.{AllByRecursion}
 use Rattle.dvi_ops.specs.Instruction.{Postamble, Instruction, Pre, Post}
 use Rattle.dvi_ops.specs.Table.{Spells}
 use Rattle.dvi_ops.specs.Body.{Acts, acts, kept}
 use Rattle.dvi_ops.specs.Tokens.{Token, IsSpelled, says, written, places}
-use Rattle.dvi_ops.specs.Fonts.{Metrics, FontsAreRight, definitions, selections, font, widths_of}
+use Rattle.dvi_ops.specs.Fonts.{Metrics, FontsAreRight, definitions, selections, widths_of}
 use Rattle.dvi_ops.specs.File.{MarkedPage, IsIdle, AreUnits}
 use Rattle.dvi_frame.specs.Ends.{Ends}
 use Rattle.dvi_frame.specs.Chain.{Links}
 use Rattle.dvi_pass.specs.Pass.{Between, passes}
+use Rattle.dvi_pass.specs.Reached.{HasWidths, IsDefined}
 
 -- Where the parts of a file stand that it names at its end, and its pages from the last one back: what was found before the pass.
 pub record IsFramed (bytes : List ℕ) (post behind last : ℕ) (stop : Postamble) (chain : List ℕ) : Type 0 where
@@ -19,9 +20,9 @@ pub record IsFramed (bytes : List ℕ) (post behind last : ℕ) (stop : Postambl
   pub high : behind + 5 ≤ last
   pub links : Links bytes post stop.last_bop chain
 
--- What each instruction of a body does, with these metric files and with the fonts that the postamble defines.
-abbrev pub drawing_by : Metrics → (tail : List Token) → Acts
-drawing_by metrics tail = kept (acts (widths_of metrics (definitions (says tail))))
+-- What each instruction of a body does, with these metric files and with the fonts that these instructions define, each by its first definition.
+abbrev pub drawing_by : Metrics → List Token → Acts
+drawing_by metrics tokens = kept (acts (widths_of metrics (definitions (says tokens))))
 
 -- The pass over a file: its preamble, the instructions up to post, and those behind it up to post_post.
 pub record IsPassed (metrics : Metrics) (bytes : List ℕ) (post behind last : ℕ) (stop : Postamble) (chain : List ℕ) (pages : List MarkedPage) : Type 0 where
@@ -36,10 +37,11 @@ pub record IsPassed (metrics : Metrics) (bytes : List ℕ) (post behind last : �
   pub body : List Instruction
   pub front_is : says front ≡ Pre 2 stop.units comment ∷ body
   pub units : AreUnits stop.units
-  pub passed : passes (drawing_by metrics tail) (min 1024 stop.stack_depth) body (Between []) ≡ Some (Between pages)
+  pub passed : passes (drawing_by metrics front) (min 1024 stop.stack_depth) body (Between []) ≡ Some (Between pages)
   -- The bops are those of the chain.
   pub bops : places 0 front ≡ reverse chain
-  -- Behind post there are nops and font definitions; all definitions are right, and each selected font is in the postamble too and has widths.
+  -- After post there are nops and font definitions; all definitions are right. Each selected font has widths, and its number is defined after post too.
   pub tail_is : AllByRecursion IsIdle (says tail)
   pub fonts : FontsAreRight [] (says front ++ says tail)
-  pub closing : AllByRecursion (λ f. IsSome (font metrics (definitions (says tail)) f)) (selections (says front))
+  pub closing : AllByRecursion (HasWidths metrics (definitions (says front))) (selections (says front))
+  pub named : AllByRecursion (IsDefined (definitions (says tail))) (selections (says front))

@@ -1,17 +1,21 @@
 -- How far the pass over a file has come, and what it knows there (own).
-use Rattle.std.specs.Prelude.{◌≡◌, ◌≤◌, ◌<◌, ◌-◌, ◌⊎◌, min, [], ◌∷◌, Bool, false, if◌then◌else◌, List, drop, nat_eq, option_and_then, reverse, take, true, ℕ, ℤ, Option, Some, None, IsSome}
+use Rattle.std.specs.Prelude.{◌≡◌, ◌≤◌, ◌<◌, ◌-◌, ◌++◌, ◌⊎◌, min, [], ◌∷◌, Bool, false, if◌then◌else◌, List, drop, nat_eq, option_and_then, reverse, take, true, ℕ, ℤ, Option, Some, None, IsSome}
 use Rattle.std.specs.List.{AllByRecursion}
 use Rattle.dvi_ops.specs.Instruction.{Definition, Postamble, Instruction, Pre}
 use Rattle.dvi_ops.specs.File.{IsIdle}
 use Rattle.dvi_ops.specs.Table.{Spells}
 use Rattle.dvi_ops.specs.Body.{acts, kept}
 use Rattle.dvi_ops.specs.Tokens.{Token, IsSpelled, says, written, place_of, places}
-use Rattle.dvi_ops.specs.Fonts.{Metrics, FontsAreRight, IsRightAfter, known_after, selection_of, selections, font, widths_of}
+use Rattle.dvi_ops.specs.Fonts.{Metrics, FontsAreRight, IsRightAfter, defined, definition_of, definitions, selection_of, selections, font, widths_of}
 use Rattle.dvi_pass.specs.Pass.{Pass, Between, passes, turn}
 
 -- The font of a number is among these definitions and has widths.
 abbrev pub HasWidths : Metrics → (table : List Definition) → ℤ → Type 0
 HasWidths metrics table f = IsSome (font metrics table f)
+
+-- A number is among these definitions.
+abbrev pub IsDefined : List Definition → ℤ → Type 0
+IsDefined table f = IsSome (defined f table)
 
 -- The places of a chain that are still to come, in rising order, and whether one before them was missed: no bop stood there.
 pub record Left : Type 0 where
@@ -37,41 +41,57 @@ abbrev pub behind_bops : List ℕ → Left → Option Left
 behind_bops [] left = Some left
 behind_bops (at ∷ more) left = option_and_then (behind_bops more) (behind_bop at left.missed left.places)
 
--- The instructions up to a place are right: the pass over them stands at p, the fonts `known` are defined (the last one first), and each bop is among the chain,
--- of which `left` is left.
--- `table` are the definitions of the postamble.
-pub record IsReached (metrics : Metrics) (table : List Definition) (bytes : List ℕ) (stop : Postamble) (chain : List ℕ) (at : ℕ) (p : Pass) (known : List Definition) (left : Left) : Type 0 where
+-- What was read of a file up to a place (own): where the pass stands, the definitions and the selections of fonts so far, in the order of the file, and what is left
+-- of the chain of pages.
+pub record SoFar : Type 0 where
+  pub pass : Pass
+  pub known : List Definition
+  pub selected : List ℤ
+  pub left : Left
+
+-- Directly after the preamble: no page, no font, and all places of the chain are still to come.
+abbrev pub at_first : List ℕ → SoFar
+at_first chain = record { pass = Between []; known = []; selected = []; left = all_left chain }
+
+-- The instructions up to a place are right. The pass over them takes a character's width from the first definition of its font: each selected font is defined before it, so a later
+-- definition changes no width. Each bop is among the chain. Each selected font has widths, and its number is among the definitions `ahead`, which are those after post.
+pub record IsReached (metrics : Metrics) (ahead : List Definition) (bytes : List ℕ) (stop : Postamble) (chain : List ℕ) (at : ℕ) (s : SoFar) : Type 0 where
   pub before : List Token
   pub spelled : AllByRecursion IsSpelled before
   pub whole : written before ≡ take at bytes
   pub comment : List ℕ
   pub body : List Instruction
   pub front_is : says before ≡ Pre 2 stop.units comment ∷ body
-  pub passed : passes (kept (acts (widths_of metrics table))) (min 1024 stop.stack_depth) body (Between []) ≡ Some p
-  pub bops : behind_bops (places 0 before) (all_left chain) ≡ Some left
+  pub known_is : definitions (says before) ≡ s.known
+  pub selected_is : selections (says before) ≡ s.selected
+  pub passed : passes (kept (acts (widths_of metrics s.known))) (min 1024 stop.stack_depth) body (Between []) ≡ Some s.pass
+  pub bops : behind_bops (places 0 before) (all_left chain) ≡ Some s.left
   pub fonts : FontsAreRight [] (says before)
-  pub known_is : known_after [] (says before) ≡ known
-  pub closing : AllByRecursion (HasWidths metrics table) (selections (says before))
+  pub closing : AllByRecursion (HasWidths metrics s.known) s.selected
+  pub named : AllByRecursion (IsDefined ahead) s.selected
 
--- An instruction is right at a place, and the pass stands at q behind it: it goes on; a bop is among what is left of the chain; fonts are right; a selected one has widths.
-pub record IsRightAt (metrics : Metrics) (table : List Definition) (stop : Postamble) (at : ℕ) (p : Pass) (known : List Definition) (left : Left) (i : Instruction) (q : Pass) (later : Left) : Type 0 where
-  pub goes_on : turn (kept (acts (widths_of metrics table))) (min 1024 stop.stack_depth) i p ≡ Some q
-  pub bop : behind_bops (place_of at i) left ≡ Some later
-  pub fonts : IsRightAfter known i
-  pub closing : AllByRecursion (HasWidths metrics table) (selection_of i)
+-- An instruction is right at a place, and `new` is what was read after it: the pass goes on; a bop is among what is left of the chain; fonts are right; a selected one has widths,
+-- and its number is among the definitions after post.
+pub record IsRightAt (metrics : Metrics) (ahead : List Definition) (stop : Postamble) (at : ℕ) (old : SoFar) (i : Instruction) (new : SoFar) : Type 0 where
+  pub goes_on : turn (kept (acts (widths_of metrics old.known))) (min 1024 stop.stack_depth) i old.pass ≡ Some new.pass
+  pub bop : behind_bops (place_of at i) old.left ≡ Some new.left
+  pub fonts : IsRightAfter old.known i
+  pub known_is : new.known ≡ old.known ++ definition_of i
+  pub selected_is : new.selected ≡ old.selected ++ selection_of i
+  pub closing : AllByRecursion (HasWidths metrics old.known) (selection_of i)
+  pub named : AllByRecursion (IsDefined ahead) (selection_of i)
 
 -- A right instruction stands at a place and ends at or before a bound.
-pub record HasRight (metrics : Metrics) (table : List Definition) (bytes : List ℕ) (stop : Postamble) (at bound : ℕ) (p : Pass) (known : List Definition) (left : Left) : Type 0 where
+pub record HasRight (metrics : Metrics) (ahead : List Definition) (bytes : List ℕ) (stop : Postamble) (at bound : ℕ) (old : SoFar) : Type 0 where
   pub next : ℕ
   pub forward : at < next
   pub within : next ≤ bound
   pub here : Instruction
   pub spelled : Spells here (take (next - at) (drop at bytes))
-  pub after : Pass
-  pub later : Left
-  pub right : IsRightAt metrics table stop at p known left here after later
+  pub new : SoFar
+  pub right : IsRightAt metrics ahead stop at old here new
 
--- The instructions behind post: nops and font definitions, up to post_post, whose fonts are right behind those that are known.
+-- The instructions after post: nops and font definitions, up to post_post, whose fonts are right after those that are known.
 pub record IsTail (bytes : List ℕ) (behind last : ℕ) (known : List Definition) (tail : List Token) : Type 0 where
   pub spelled : AllByRecursion IsSpelled tail
   pub whole : written tail ≡ take (last - 5 - behind) (drop behind bytes)

@@ -1,9 +1,11 @@
 //! The pass over a whole file, as the contracts of functions that do nothing: it is the definition of a file of these pages, read from front to back.
 
 ghost use Rattle.std.specs.Prelude.{◌≡◌, ◌%◌, List, length, ℕ};
+ghost use Rattle.std.specs.List.{AllByRecursion};
 ghost use Rattle.dvi_ops.specs.File.{IsFile, MarkedPage};
-ghost use Rattle.dvi_ops.specs.Fonts.{Metrics};
+ghost use Rattle.dvi_ops.specs.Fonts.{Metrics, defined, definitions, selections};
 ghost use Rattle.dvi_ops.specs.Instruction.{Postamble};
+ghost use Rattle.dvi_ops.specs.Tokens.{says};
 ghost use Rattle.dvi_pass.specs.Passed.{IsFramed, IsPassed};
 
 /// What the pass goes over is a file of its pages.
@@ -18,4 +20,11 @@ pub fn file_is_passed()
     ensures { (metrics : Metrics) (bytes : List ℕ) (post behind last : ℕ) (stop : Postamble) (chain : List ℕ) (pages : List MarkedPage)
         → IsFramed bytes post behind last stop chain
         → IsFile metrics bytes pages → IsPassed metrics bytes post behind last stop chain pages }
+{}
+
+/// In a file a selected font has one definition: the first one of its number in the file, which is before the selection, is the first one after post.
+/// So it does not matter of which of them the widths are taken.
+pub fn selected_fonts_have_one_definition()
+    ensures { (metrics : Metrics) (bytes : List ℕ) (pages : List MarkedPage) (f : IsFile metrics bytes pages)
+        → AllByRecursion (λ n. defined n (definitions (says f.frame.front)) ≡ defined n (definitions (says f.frame.tail))) (selections (says f.frame.front)) }
 {}

@@ -5,7 +5,7 @@ use Rattle.std.specs.List.{AllByRecursion}
 use Rattle.std.proofs.lemmas.List.{reverse-reverse}
 use Rattle.dvi_closing.specs.Closing.{Closes, IsClosingFault, IsLookedAhead}
 use Rattle.dvi_closing.proofs.ClosingLemmas.{broken_closing, first_stands, looked}
-use Rattle.dvi_closing.proofs.KnownLemmas.{fonts_fewer}
+use Rattle.dvi_pass.proofs.KnownLemmas.{fonts_fewer}
 use Rattle.dvi_frame.specs.Ends.{StandsAt}
 use Rattle.dvi_frame.specs.Preamble.{IsPreambleFault}
 use Rattle.dvi_frame.specs.declared.fault.BadDvi.{BadDvi}

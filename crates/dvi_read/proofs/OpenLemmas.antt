@@ -4,9 +4,9 @@ use Rattle.std.proofs.lemmas.List.{drop-drop, drop_at, take_at, length-drop, len
 use Rattle.std.specs.Prelude.{IfOk, IfErr}
 use Rattle.std.proofs.lemmas.Grind.{flat_map-append}
 use Rattle.dvi_closing.specs.Closing.{Closes, ClosesTo, IsClosingFault}
-use Rattle.dvi_closing.specs.Known.{HasSame}
+use Rattle.dvi_pass.specs.Known.{HasSame}
 use Rattle.dvi_closing.proofs.ClosingLemmas.{looked}
-use Rattle.dvi_closing.proofs.KnownLemmas.{fonts_fewer, fonts_same, same_after, same_more, same_self, same_sym}
+use Rattle.dvi_pass.proofs.KnownLemmas.{fonts_fewer, fonts_same, same_after, same_more, same_self, same_sym}
 use Rattle.dvi_frame.specs.Chain.{IsChainRefusal}
 use Rattle.dvi_frame.specs.Ends.{Ends}
 use Rattle.dvi_frame.specs.declared.fault.BadDvi.{BadDvi}

@@ -1,6 +1,6 @@
 -- What is kept of a file that was opened, and what its file says of it (own).
 use Rattle.std.specs.Prelude.{◌≡◌, ◌++◌, List, ℕ, Result, Ok, Err}
-use Rattle.dvi_closing.specs.Known.{HasSame}
+use Rattle.dvi_pass.specs.Known.{HasSame}
 use Rattle.dvi_ops.specs.File.{Frame, IsFile, MarkedPage}
 use Rattle.dvi_ops.specs.Fonts.{definitions}
 use Rattle.dvi_ops.specs.Instruction.{Definition, Units}

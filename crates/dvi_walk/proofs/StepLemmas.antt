@@ -66,76 +66,9 @@ room_same widths width most (Do leaf) (Inside pages counts marks stack s) asked 
     (mark, t, subst (λ (m : Meaning). kept_in m ≡ Some (mark ∷ [], t)) (same_act widths width leaf pages counts marks stack s asked) e)
 room_same widths width most i p asked b = b
 
--- The font that is selected where a pass stands.
-abbrev pub current_of : Pass → Option ℤ
-current_of (Between pages) = None
-current_of (Inside pages counts marks stack s) = s.font
-
 current_same : (pages : List MarkedPage) (stand : Stand) → current_of (pass_at pages stand) ≡ selected_in stand
 current_same pages stands.Between = refl
 current_same pages (stands.Inside page) = refl
-
--- Behind an instruction of a body the font is as it was, or it was selected.
-abbrev ranged : Bool → Meaning → Meaning
-ranged b m = if b then m else None
-
-by_range : (b : Bool) (marks more : List Mark) (s t : State) → ranged b (Some (marks, s)) ≡ Some (more, t) → s ≡ t
-by_range true marks more s t e =
-    let pair : ◌≡◌ {A = List Mark × State} (marks, s) (more, t) = cc in ap (λ (p : List Mark × State). p.1) pair
-by_range false marks more s t e = absurd cc
-
-set_font : (g : Option (Mark × ℤ)) (s t : State) (marks : List Mark) → kept_in (set_glyph g s) ≡ Some (marks, t) → s.font ≡ t.font
-set_font None s t marks e = absurd cc
-set_font (Some (mark, width)) s t marks e = ap (λ (s : State). s.font) (by_range _ (mark ∷ []) marks (right s width) t e)
-
-put_font : (g : Option (Mark × ℤ)) (s t : State) (marks : List Mark) → kept_in (put_glyph g s) ≡ Some (marks, t) → s.font ≡ t.font
-put_font None s t marks e = absurd cc
-put_font (Some (mark, width)) s t marks e = ap (λ (s : State). s.font) (by_range _ (mark ∷ []) marks s t e)
-
-same_font : (b : Bool) (marks more : List Mark) (s u t : State) → s.font ≡ u.font → ranged b (Some (marks, u)) ≡ Some (more, t) → s.font ≡ t.font
-same_font b marks more s u t same e = same ∙ ap (λ (s : State). s.font) (by_range b marks more u t e)
-
-act_font : (widths : Widths) (leaf : Leaf) (s t : State) (marks : List Mark) → kept_in (acts widths leaf s) ≡ Some (marks, t) → (s.font ≡ t.font) ⊎ ((f : ℤ) × (leaf ≡ FontNum f) × (t.font ≡ Some f))
-act_font widths (SetChar c) s t marks e = inl (set_font (glyph widths c s.place s.font) s t marks e)
-act_font widths (PutChar c) s t marks e = inl (put_font (glyph widths c s.place s.font) s t marks e)
-act_font widths (SetRule height width) s t marks e = inl (same_font _ (rule_at height width s.place) marks s (right s width) t refl e)
-act_font widths (PutRule height width) s t marks e = inl (same_font _ (rule_at height width s.place) marks s s t refl e)
-act_font widths Nop s t marks e = inl (same_font _ [] marks s s t refl e)
-act_font widths (Move axis step) s t marks e = inl (same_font _ [] marks s (record s { place = place_after axis step s.place }) t refl e)
-act_font widths (FontNum f) s t marks e = inr (f, refl, ap (λ (s : State). s.font) (sym (by_range _ [] marks (record s { font = Some f }) t e)))
-act_font widths (FontDef d) s t marks e = inl (same_font _ [] marks s s t refl e)
-act_font widths (Xxx text) s t marks e = inl (same_font _ [] marks s s t refl e)
-
-drawn_font : (widths : Widths) (leaf : Leaf) (pages : List MarkedPage) (counts : List ℤ) (marks : List Mark) (stack : List Place) (s : State) (m : Meaning) (q : Pass) (f : ℤ) → kept_in (acts widths leaf s) ≡ m
-    → drawn pages counts marks stack m ≡ Some q → current_of q ≡ Some f → (s.font ≡ Some f) ⊎ (Do leaf ≡ Do (FontNum f))
-drawn_font widths leaf pages counts marks stack s None q f is e at = absurd cc
-drawn_font widths leaf pages counts marks stack s (Some (more, t)) q f is e at =
-    let same : Inside pages counts (marks ++ more) stack t ≡ q = cc in
-    by_font (act_font widths leaf s t more is) (ap current_of same ∙ at)
-  where
-    by_font : (s.font ≡ t.font) ⊎ ((g : ℤ) × (leaf ≡ FontNum g) × (t.font ≡ Some g)) → t.font ≡ Some f → (s.font ≡ Some f) ⊎ (Do leaf ≡ Do (FontNum f))
-    by_font (inl kept) font = inl (kept ∙ font)
-    by_font (inr (g, leaf_is, font_is)) font =
-        let same : Some g ≡ Some f = sym font_is ∙ font in let equal : g ≡ f = cc in inr (ap (λ (l : Leaf). Do l) leaf_is ∙ ap (λ (n : ℤ). Do (FontNum n)) equal)
-
-push_font : (b : Bool) (p q : Pass) (f : ℤ) → (if b then Some p else None) ≡ Some q → current_of q ≡ Some f → current_of p ≡ Some f
-push_font true p q f e at = let same : p ≡ q = cc in ap current_of same ∙ at
-push_font false p q f e at = absurd cc
-
-turn_font : (widths : Widths) (most : ℕ) (i : Instruction) (p q : Pass) (f : ℤ) → turn (kept (acts widths)) most i p ≡ Some q → current_of q ≡ Some f → (current_of p ≡ Some f) ⊎ (i ≡ Do (FontNum f))
-turn_font widths most (Do Nop) (Between pages) q f e at = let same : Between pages ≡ q = cc in let none : None ≡ Some f = ap current_of same ∙ at in absurd cc
-turn_font widths most (Do (FontDef d)) (Between pages) q f e at = let same : Between pages ≡ q = cc in let none : None ≡ Some f = ap current_of same ∙ at in absurd cc
-turn_font widths most (Bop counts pointer) (Between pages) q f e at = let same : Inside pages counts [] [] start ≡ q = cc in let none : None ≡ Some f = ap current_of same ∙ at in absurd cc
-turn_font widths most i (Between pages) q f e at = absurd cc
-turn_font widths most (Do leaf) (Inside pages counts marks stack s) q f e at = drawn_font widths leaf pages counts marks stack s (kept_in (acts widths leaf s)) q f refl e at
-turn_font widths most Push (Inside pages counts marks stack s) q f e at = inl (push_font (nat_lt (length stack) most) (Inside pages counts marks (s.place ∷ stack) s) q f e at)
-turn_font widths most Pop (Inside pages counts marks [] s) q f e at = absurd cc
-turn_font widths most Pop (Inside pages counts marks (p ∷ stack) s) q f e at =
-    let same : Inside pages counts marks stack (record { place = p; font = s.font }) ≡ q = cc in inl (ap current_of same ∙ at)
-turn_font widths most Eop (Inside pages counts marks [] s) q f e at =
-    let same : Between (pages ++ record { counts = counts; marks = marks } ∷ []) ≡ q = cc in let none : None ≡ Some f = ap current_of same ∙ at in absurd cc
-turn_font widths most Eop (Inside pages counts marks (p ∷ stack) s) q f e at = absurd cc
-turn_font widths most i (Inside pages counts marks stack s) q f e at = absurd cc
 
 -- One instruction more.
 pub stepped : (files : List NamedBytes) (table : List Definition) (most at : ℕ) (i : Instruction) (old mid new : Walk) → AreSound (file_widths files) table old.fonts

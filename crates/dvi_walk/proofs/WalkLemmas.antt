@@ -5,8 +5,8 @@ use Rattle.std.specs.BTreeMap.{is_at}
 use Rattle.std.specs.List.{AllByRecursion}
 use Rattle.std.specs.Map.{lookup}
 use Rattle.std.specs.Ordering.{int_cmp}
-use Rattle.dvi_closing.specs.Known.{HasSame}
-use Rattle.dvi_closing.proofs.KnownLemmas.{same_more, same_right, same_self, same_sym}
+use Rattle.dvi_pass.specs.Known.{HasSame}
+use Rattle.dvi_pass.proofs.KnownLemmas.{same_more, same_right, same_self, same_sym}
 use Rattle.dvi_fonts.specs.declared.widths.FontRefusal.{FontRefusal}
 use Rattle.dvi_fonts.specs.declared.widths.FontRefusal.TheVariants as refusals
 use Rattle.dvi_fonts.proofs.RefusalLemmas.{no_widths}

@@ -1,7 +1,7 @@
 -- The walk over the pages of a file (own): what was read of it, and why it stops.
 use Rattle.std.specs.Prelude.{◌≡◌, ◌≢◌, ◌≤◌, ◌<◌, ◌-◌, ◌⊎◌, min, [], false, true, List, drop, slice_index, take, ℕ, ℤ}
 use Rattle.std.specs.BTreeMap.{IsEmpty}
-use Rattle.dvi_closing.specs.Known.{HasSame}
+use Rattle.dvi_pass.specs.Known.{HasSame}
 use Rattle.dvi_fonts.specs.declared.widths.FontRefusal.{FontRefusal}
 use Rattle.dvi_fonts.specs.declared.widths.FontRefusal.TheVariants as refusals
 use Rattle.dvi_frame.specs.Ends.{StandsAt}

@@ -7,10 +7,10 @@ use Rattle.std.proofs.lemmas.Bool.Decides.{Decides-int_eq}
 use Rattle.dvi_ops.specs.Instruction.{Definition, Nop, FontDef, FontNum, Instruction, Do}
 use Rattle.dvi_ops.specs.File.{IsIdle}
 use Rattle.dvi_ops.specs.Fonts.{AgreesWith, FontsAreRight, IsRightAfter, definition_of, definitions, defined, known_after}
-use Rattle.dvi_closing.specs.Known.{IsAmong, HasSame}
+use Rattle.dvi_pass.specs.Known.{IsAmong, HasSame}
 
 -- All of a list, and each of it.
-all_each : (P : Definition → Type 0) (xs : List Definition) → AllByRecursion P xs → (d : Definition) → IsAmong d xs → P d
+pub all_each : (P : Definition → Type 0) (xs : List Definition) → AllByRecursion P xs → (d : Definition) → IsAmong d xs → P d
 all_each P [] all d there = absurd there
 all_each P (x ∷ xs) (here, all) d (inl e) = subst P (sym e) here
 all_each P (x ∷ xs) (here, all) d (inr there) = all_each P xs all d there

@@ -1,0 +1,75 @@
+//! The numbers of fonts that are defined after post, as they are found before the pages are read (DVItype, 18 and 19).
+
+ghost use Rattle.std.specs.Prelude.{◌≡◌, ◌≤◌, ◌<◌, false, length, IfNone, IfOk, IfSome, OnErr};
+ghost use Rattle.std.specs.BTreeSet.{IsUnchanged, contains};
+ghost use Rattle.std.specs.Ordering.{int_cmp};
+ghost use Rattle.dvi_closing.specs.Ahead.{HasAhead, IsUnlooked, LooksOne, MeetsNumber, NothingIdle};
+
+use dvi_fonts::Number;
+use dvi_frame::read_at;
+use dvi_ops::Op;
+use std::alloc::{AllocError, Global};
+use std::collections::BTreeSet;
+
+/// The numbers of fonts that are defined after post. Whether one is there is found in time by the logarithm of how many there are.
+pub type NumbersAhead = BTreeSet<i32>;
+
+/// Whether a number is defined after post. It takes no memory.
+pub fn is_ahead(numbers: &NumbersAhead, number: Number) -> bool
+    ensures { result ≡ contains int_cmp numbers.now number.value }
+{
+    numbers.contains(&number.value)
+}
+
+/// Keeps the number of a definition, and says which place is after the instruction, if it is a nop or a definition. The size and the name of a definition are not looked at.
+fn look_one(
+    bytes: &[u8],
+    at: usize,
+    to: usize,
+    numbers: &mut NumbersAhead,
+) -> Result<Option<usize>, AllocError>
+    requires low { at < to }
+    requires high { to ≤ length bytes.now }
+    ensures some { IfOk result (λ found. IfSome found (LooksOne bytes.now at to numbers.old numbers.new)) }
+    ensures none { IfOk result (λ found. IfNone found (NothingIdle bytes.now at to × IsUnchanged numbers.old numbers.new)) }
+    ensures memory { OnErr result (MeetsNumber bytes.now at to numbers.old) }
+{
+    let (op, next) = match read_at(bytes, at, to) {
+        Ok(found) => found,
+        Err(_) => return Ok(None),
+    };
+    match op {
+        Op::Nop => Ok(Some(next)),
+        Op::FontDef(font) => match numbers.insert(font.number) {
+            Ok(_) => Ok(Some(next)),
+            Err(_) => Err(AllocError),
+        },
+        _ => Ok(None),
+    }
+}
+
+/// The numbers that are defined between two places: from the first place on, up to the first instruction that is cut off or is neither a nop nor a definition.
+/// It takes memory for them.
+pub fn look_ahead(
+    alloc: Global,
+    bytes: &[u8],
+    from: usize,
+    to: usize,
+) -> Result<NumbersAhead, AllocError>
+    requires low { from ≤ to }
+    requires high { to ≤ length bytes.now }
+    ensures ok { IfOk result (HasAhead bytes.now from to) }
+    // Memory may be wanting only for a number that was not met before.
+    ensures memory { OnErr result (IsUnlooked bytes.now from to) }
+{
+    let mut numbers = BTreeSet::new(alloc);
+    let mut at = from;
+    while at < to {
+        at = match look_one(bytes, at, to, &mut numbers) {
+            Ok(Some(next)) => next,
+            Ok(None) => return Ok(numbers),
+            Err(refusal) => return Err(refusal),
+        };
+    }
+    Ok(numbers)
+}
