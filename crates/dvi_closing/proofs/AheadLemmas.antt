@@ -2,7 +2,8 @@
 use Rattle.std.proofs.Common.{◌≡◌, ◌≢◌, ◌≤◌, ◌<◌, ◌+◌, ◌-◌, ◌++◌, ◌||◌, [], ◌∷◌, List, length, take, drop, ℕ, ℤ, Bool, true, false, Option, Some, None, if◌then◌else◌, cond, refl, sym, ◌∙◌, ap, ap₂, subst, append-nil, length-append, arith}
 use Rattle.std.proofs.lemmas.List.{length-drop, length-take-le}
 use Rattle.std.specs.BTreeSet.{BTreeSet, Updates, contains}
-use Rattle.std.specs.List.{AllByRecursion}
+use Rattle.std.specs.BTreeMap.{is_at}
+use Rattle.std.specs.List.{AllByRecursion, list_any}
 use Rattle.std.specs.Option.{is_some}
 use Rattle.std.specs.Ordering.{int_cmp, int_eq}
 use Rattle.std.proofs.lemmas.Bool.Decides.{Decides-int_eq}
@@ -13,6 +14,7 @@ use Rattle.dvi_ops.specs.Tokens.{Token, IsSpelled, says, written}
 use Rattle.dvi_ops.proofs.Appends.{all_append, all_back, says-append, written-append, definitions-append}
 use Rattle.dvi_ops.proofs.Frames.{begins}
 use Rattle.dvi_frame.specs.Ends.{StandsAt}
+use Rattle.dvi_frame.proofs.PlaceLemmas.{one_stands}
 use Rattle.dvi_pass.proofs.StrayLemmas.{ends_behind}
 use Rattle.dvi_closing.specs.Ahead.{AreIdle, HasAhead, HasNumbers, IsLookedAhead, IsUnlooked, LooksOne, MeetsNumber, NothingIdle}
 use Rattle.dvi_closing.specs.Closing.{Closes}
@@ -125,3 +127,11 @@ looked bytes from to ahead known tail high look all =
         → definitions (says look.tokens) ≡ definitions (says tail)
     by_first [] whole spelled rest idle = ap (λ (ts : List Token). definitions (says ts)) (sym (whole ∙ append-nil look.tokens))
     by_first (t ∷ more) whole (here, spelled) rest (first, idle) = let within = look.high in absurd (look.stops t.says (first_stands bytes look.place to t more within high here rest) first)
+
+-- What stands there is neither a nop nor a definition.
+pub none_idle : (bytes : List ℕ) (at to : ℕ) (j : Instruction) → StandsAt bytes at to j → (IsIdle j → ⊥) → NothingIdle bytes at to
+none_idle bytes at to j there other i stands idle = other (subst (λ (i : Instruction). IsIdle i) (one_stands bytes at to to i j stands there) idle)
+
+-- The same numbers, from tree to tree.
+pub same_numbers : (old new : BTreeSet ℤ) (ahead : List Definition) → new.keys ≡ old.keys → HasNumbers old ahead → HasNumbers new ahead
+same_numbers old new ahead same has f = ap (λ (ks : List ℤ). list_any (is_at (int_cmp f)) ks) same ∙ has f
