@@ -1,9 +1,8 @@
 -- What is looked ahead, one instruction after the other.
 use Rattle.std.proofs.Common.{◌≡◌, ◌≢◌, ◌≤◌, ◌<◌, ◌+◌, ◌-◌, ◌++◌, ◌||◌, [], ◌∷◌, List, length, take, drop, ℕ, ℤ, Bool, true, false, Option, Some, None, if◌then◌else◌, cond, refl, sym, ◌∙◌, ap, ap₂, subst, append-nil, length-append, arith}
 use Rattle.std.proofs.lemmas.List.{length-drop, length-take-le}
-use Rattle.std.specs.BTreeSet.{BTreeSet, Updates, contains}
-use Rattle.std.specs.BTreeMap.{is_at}
-use Rattle.std.specs.List.{AllByRecursion, list_any}
+use Rattle.std.specs.BTreeSet.{BTreeSet, Updates}
+use Rattle.std.specs.List.{AllByRecursion}
 use Rattle.std.specs.Option.{is_some}
 use Rattle.std.specs.Ordering.{int_cmp, int_eq}
 use Rattle.std.proofs.lemmas.Bool.Decides.{Decides-int_eq}
@@ -15,8 +14,9 @@ use Rattle.dvi_ops.proofs.Appends.{all_append, all_back, says-append, written-ap
 use Rattle.dvi_ops.proofs.Frames.{begins}
 use Rattle.dvi_frame.specs.Ends.{StandsAt}
 use Rattle.dvi_frame.proofs.PlaceLemmas.{one_stands}
+use Rattle.dvi_pass.specs.Reached.{AreNumbersOf, has_number}
 use Rattle.dvi_pass.proofs.StrayLemmas.{ends_behind}
-use Rattle.dvi_closing.specs.Ahead.{AreIdle, HasAhead, HasNumbers, IsLookedAhead, IsUnlooked, LooksOne, MeetsNumber, NothingIdle}
+use Rattle.dvi_closing.specs.Ahead.{AreIdle, IsLookedAhead, IsUnlooked, LooksOne, MeetsNumber, NothingIdle}
 use Rattle.dvi_closing.specs.Closing.{Closes}
 use Rattle.dvi_closing.proofs.ClosingLemmas.{first_stands, span_next}
 
@@ -43,11 +43,11 @@ put true false d = refl
 put false true d = refl
 put false false d = refl
 
-pub number_put : (d : Definition) (old new : BTreeSet ℤ) → Updates int_cmp old new d.number true → (f : ℤ) → contains int_cmp new f ≡ (contains int_cmp old f || is_some (defined f (definition_of (Do (FontDef d)))))
+pub number_put : (d : Definition) (old new : BTreeSet ℤ) → Updates int_cmp old new d.number true → (f : ℤ) → has_number new.keys f ≡ (has_number old.keys f || is_some (defined f (definition_of (Do (FontDef d)))))
 number_put d old new updates f =
     updates.0 f
-    ∙ (put (int_eq d.number f) (contains int_cmp old f) d
-    ∙ ap (λ (b : Bool). contains int_cmp old f || is_some (if b then Some d else None)) (same_test d.number f (int_eq d.number f) (int_eq f d.number) refl refl))
+    ∙ (put (int_eq d.number f) (has_number old.keys f) d
+    ∙ ap (λ (b : Bool). has_number old.keys f || is_some (if b then Some d else None)) (same_test d.number f (int_eq d.number f) (int_eq f d.number) refl refl))
 
 pub or_none : (b : Bool) → b ≡ (b || false)
 or_none true = refl
@@ -59,8 +59,8 @@ idle_none bytes from =
     let zero : from - from ≡ 0 = omega arith in record { spelled = tt; whole = sym (ap (λ (n : ℕ). take n (drop from bytes)) zero); idle = tt }
 
 -- One instruction more.
-pub idle_more : (bytes : List ℕ) (from at to next : ℕ) (tokens : List Token) (old new : BTreeSet ℤ) → from ≤ at → to ≤ length bytes → AreIdle bytes from at tokens → HasNumbers old (definitions (says tokens))
-    → LooksOne bytes at to old new next → (more : List Token) × AreIdle bytes from next more × HasNumbers new (definitions (says more))
+pub idle_more : (bytes : List ℕ) (from at to next : ℕ) (tokens : List Token) (old new : List ℤ) → from ≤ at → to ≤ length bytes → AreIdle bytes from at tokens → AreNumbersOf old (definitions (says tokens))
+    → LooksOne bytes at to old new next → (more : List Token) × AreIdle bytes from next more × AreNumbersOf new (definitions (says more))
 idle_more bytes from at to next tokens old new low high idle numbers one =
     let forward = one.forward in
     let within = one.within in
@@ -87,17 +87,16 @@ pub nothing_at_bound : (bytes : List ℕ) (to : ℕ) → NothingIdle bytes to to
 nothing_at_bound bytes to i stands idle = let below = ends_behind bytes to to i stands in absurd (omega arith)
 
 -- What was looked ahead, where no such instruction stands.
-pub looked_there : (bytes : List ℕ) (from at to : ℕ) (tokens : List Token) (numbers : BTreeSet ℤ) → from ≤ at → at ≤ to → AreIdle bytes from at tokens → HasNumbers numbers (definitions (says tokens))
-    → NothingIdle bytes at to → HasAhead bytes from to numbers
-looked_there bytes from at to tokens numbers low high idle has stops =
-    (definitions (says tokens), record { place = at; low = low; high = high; tokens = tokens; there = idle; stops = stops; ahead_is = refl }, has)
+pub looked_there : (bytes : List ℕ) (from at to : ℕ) (tokens : List Token) (numbers : List ℤ) → from ≤ at → at ≤ to → AreIdle bytes from at tokens → AreNumbersOf numbers (definitions (says tokens))
+    → NothingIdle bytes at to → IsLookedAhead bytes from to numbers
+looked_there bytes from at to tokens numbers low high idle has stops = record { place = at; low = low; high = high; tokens = tokens; there = idle; stops = stops; numbers = has }
 
 -- Memory is wanting on the way.
 not_some : (o : Option Definition) → false ≡ is_some o → o ≡ None
 not_some None e = refl
 not_some (Some d) e = absurd cc
 
-pub unlooked_there : (bytes : List ℕ) (from at to : ℕ) (tokens : List Token) (numbers : BTreeSet ℤ) → from ≤ at → at < to → AreIdle bytes from at tokens → HasNumbers numbers (definitions (says tokens))
+pub unlooked_there : (bytes : List ℕ) (from at to : ℕ) (tokens : List Token) (numbers : List ℤ) → from ≤ at → at < to → AreIdle bytes from at tokens → AreNumbersOf numbers (definitions (says tokens))
     → MeetsNumber bytes at to numbers → IsUnlooked bytes from to
 unlooked_there bytes from at to tokens numbers low high idle has (d, stands, new) =
     record {
@@ -112,7 +111,8 @@ unlooked_there bytes from at to tokens numbers low high idle has (d, stands, new
     }
 
 -- Where nops and definitions stand between two places, all definitions are looked ahead.
-pub looked : (bytes : List ℕ) (from to : ℕ) (ahead known : List Definition) (tail : List Token) → to ≤ length bytes → IsLookedAhead bytes from to ahead → Closes bytes from to known tail → ahead ≡ definitions (says tail)
+pub looked : (bytes : List ℕ) (from to : ℕ) (ahead : List ℤ) (known : List Definition) (tail : List Token) → to ≤ length bytes → IsLookedAhead bytes from to ahead → Closes bytes from to known tail
+    → AreNumbersOf ahead (definitions (says tail))
 looked bytes from to ahead known tail high look all =
     let low = look.low in
     let within = look.high in
@@ -121,7 +121,7 @@ looked bytes from to ahead known tail high look all =
     let (more, whole, spelled, rest) = begins look.tokens tail (take (to - look.place) (drop look.place bytes)) look.there.spelled all.spelled cut in
     let tokens : says tail ≡ says look.tokens ++ says more = ap (λ (ts : List Token). says ts) whole ∙ says-append look.tokens more in
     let idle = all_back IsIdle (says look.tokens) (says more) (subst (λ (is : List Instruction). AllByRecursion IsIdle is) tokens all.idle) in
-    look.ahead_is ∙ by_first more whole spelled rest idle
+    let same = by_first more whole spelled rest idle in λ f. look.numbers f ∙ ap (λ (ds : List Definition). is_some (defined f ds)) same
   where
     by_first : (more : List Token) → tail ≡ look.tokens ++ more → AllByRecursion IsSpelled more → written more ≡ take (to - look.place) (drop look.place bytes) → AllByRecursion IsIdle (says more)
         → definitions (says look.tokens) ≡ definitions (says tail)
@@ -132,6 +132,6 @@ looked bytes from to ahead known tail high look all =
 pub none_idle : (bytes : List ℕ) (at to : ℕ) (j : Instruction) → StandsAt bytes at to j → (IsIdle j → ⊥) → NothingIdle bytes at to
 none_idle bytes at to j there other i stands idle = other (subst (λ (i : Instruction). IsIdle i) (one_stands bytes at to to i j stands there) idle)
 
--- The same numbers, from tree to tree.
-pub same_numbers : (old new : BTreeSet ℤ) (ahead : List Definition) → new.keys ≡ old.keys → HasNumbers old ahead → HasNumbers new ahead
-same_numbers old new ahead same has f = ap (λ (ks : List ℤ). list_any (is_at (int_cmp f)) ks) same ∙ has f
+-- The same numbers, from list to list.
+pub same_numbers : (old new : List ℤ) (ahead : List Definition) → new ≡ old → AreNumbersOf old ahead → AreNumbersOf new ahead
+same_numbers old new ahead same has f = ap (λ (ks : List ℤ). has_number ks f) same ∙ has f

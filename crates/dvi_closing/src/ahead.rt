@@ -1,9 +1,9 @@
 //! The numbers of fonts that are defined after post, as they are found before the pages are read (DVItype, 18 and 19).
 
 ghost use Rattle.std.specs.Prelude.{◌≡◌, ◌≤◌, ◌<◌, false, length, IfNone, IfOk, IfSome, OnErr};
-ghost use Rattle.std.specs.BTreeSet.{IsUnchanged, contains};
-ghost use Rattle.std.specs.Ordering.{int_cmp};
-ghost use Rattle.dvi_closing.specs.Ahead.{HasAhead, IsUnlooked, LooksOne, MeetsNumber, NothingIdle};
+ghost use Rattle.std.specs.BTreeSet.{IsUnchanged};
+ghost use Rattle.dvi_pass.specs.Reached.{has_number};
+ghost use Rattle.dvi_closing.specs.Ahead.{IsLookedAhead, IsUnlooked, LooksOne, MeetsNumber, NothingIdle};
 
 use dvi_fonts::Number;
 use dvi_frame::read_at;
@@ -16,7 +16,7 @@ pub type NumbersAhead = BTreeSet<i32>;
 
 /// Whether a number is defined after post. It takes no memory.
 pub fn is_ahead(numbers: &NumbersAhead, number: Number) -> bool
-    ensures { result ≡ contains int_cmp numbers.now number.value }
+    ensures { result ≡ has_number numbers.now.keys number.value }
 {
     numbers.contains(&number.value)
 }
@@ -30,9 +30,9 @@ fn look_one(
 ) -> Result<Option<usize>, AllocError>
     requires low { at < to }
     requires high { to ≤ length bytes.now }
-    ensures some { IfOk result (λ found. IfSome found (LooksOne bytes.now at to numbers.old numbers.new)) }
+    ensures some { IfOk result (λ found. IfSome found (LooksOne bytes.now at to numbers.old.keys numbers.new.keys)) }
     ensures none { IfOk result (λ found. IfNone found (NothingIdle bytes.now at to × IsUnchanged numbers.old numbers.new)) }
-    ensures memory { OnErr result (MeetsNumber bytes.now at to numbers.old) }
+    ensures memory { OnErr result (MeetsNumber bytes.now at to numbers.old.keys) }
 {
     let (op, next) = match read_at(bytes, at, to) {
         Ok(found) => found,
@@ -58,7 +58,7 @@ pub fn look_ahead(
 ) -> Result<NumbersAhead, AllocError>
     requires low { from ≤ to }
     requires high { to ≤ length bytes.now }
-    ensures ok { IfOk result (HasAhead bytes.now from to) }
+    ensures ok { IfOk result (λ numbers. IsLookedAhead bytes.now from to numbers.keys) }
     // Memory may be wanting only for a number that was not met before.
     ensures memory { OnErr result (IsUnlooked bytes.now from to) }
 {

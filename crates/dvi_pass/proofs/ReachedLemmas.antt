@@ -1,5 +1,5 @@
 -- The pass goes on by right instructions, and in a file each instruction is right.
-use Rattle.std.proofs.Common.{◌≡◌, ◌≤◌, ◌<◌, ◌+◌, ◌-◌, ◌++◌, min, [], ◌∷◌, false, List, length, reverse, take, drop, ℕ, ℤ, Option, Some, None, refl, sym, ◌∙◌, ap, ap₂, subst, append_assoc, append-nil, length-append, arith}
+use Rattle.std.proofs.Common.{◌≡◌, ◌≤◌, ◌<◌, ◌+◌, ◌-◌, ◌++◌, min, [], ◌∷◌, true, false, List, length, reverse, take, drop, ℕ, ℤ, Option, Some, None, refl, sym, ◌∙◌, ap, ap₂, subst, append_assoc, append-nil, length-append, arith}
 use Rattle.std.proofs.lemmas.List.{take-append-drop, take-take, take_at, length-drop, length-take-le}
 use Rattle.std.specs.Prelude.{IsSome}
 use Rattle.std.specs.List.{AllByRecursion}
@@ -9,12 +9,12 @@ use Rattle.dvi_ops.specs.Body.{Acts, acts, kept}
 use Rattle.dvi_ops.specs.Tokens.{Token, IsSpelled, says, written, place_of, places}
 use Rattle.dvi_ops.specs.Fonts.{Metrics, FontsAreRight, IsRightAfter, defined, definition_of, definitions, font_in, known_after, selection_of, selections, widths_of}
 use Rattle.dvi_ops.specs.File.{MarkedPage, AreUnits}
-use Rattle.dvi_ops.proofs.Appends.{all_append, all_front, all_back, says-append, written-append, places-append, fonts_append, fonts_front, fonts_back, definitions-append, selections-append}
+use Rattle.dvi_ops.proofs.Appends.{all_append, all_front, all_back, all_weaker, says-append, written-append, places-append, fonts_append, fonts_front, fonts_back, definitions-append, selections-append}
 use Rattle.dvi_ops.proofs.Frames.{begins, not_empty, one_list}
 use Rattle.dvi_pass.specs.Known.{HasSame}
 use Rattle.dvi_pass.specs.Pass.{Pass, Between, turn, goes, passes}
 use Rattle.dvi_pass.specs.Passed.{IsPassed}
-use Rattle.dvi_pass.specs.Reached.{HasRight, HasWidths, IsDefined, IsReached, IsRightAt, IsTail, Left, SoFar, all_left, at_first, behind_bops}
+use Rattle.dvi_pass.specs.Reached.{AreNumbersOf, HasRight, HasWidths, IsDefined, IsReached, IsRightAt, IsTail, Left, SoFar, all_left, at_first, behind_bops, has_number}
 use Rattle.dvi_pass.proofs.FontLemmas.{SameNow, all_more_widths, all_same_widths, defined_more, same_passes, same_turn, some_definition}
 use Rattle.dvi_pass.proofs.KnownLemmas.{fonts_same, same_after, same_right, same_self, same_sym}
 use Rattle.dvi_pass.proofs.LeftLemmas.{behind_bops-append, bops_met, none_missed}
@@ -48,7 +48,7 @@ same_order is known e = subst (λ (ds : List Definition). HasSame ds (known_afte
 none_now : (v w : List Definition) (metrics : Metrics) → SameNow (widths_of metrics v) (widths_of metrics w) (Between [])
 none_now v w metrics f e = absurd cc
 
-module _ (metrics : Metrics) (ahead : List Definition) (bytes : List ℕ) (stop : Postamble) (chain : List ℕ) where
+module _ (metrics : Metrics) (ahead : List ℤ) (bytes : List ℕ) (stop : Postamble) (chain : List ℕ) where
   -- More definitions change nothing in what was passed.
   pub passed_more : (at : ℕ) (s : SoFar) (r : IsReached metrics ahead bytes stop chain at s) (ds : List Definition)
       → (passes (kept (acts (widths_of metrics (s.known ++ ds)))) (min 1024 stop.stack_depth) r.body (Between []) ≡ Some s.pass) × SameNow (widths_of metrics s.known) (widths_of metrics (s.known ++ ds)) s.pass
@@ -93,7 +93,7 @@ module _ (metrics : Metrics) (ahead : List Definition) (bytes : List ℕ) (stop 
         bops = ap (λ (ns : List ℕ). behind_bops ns (all_left chain)) bops_are ∙ (behind_bops-append (places 0 r.before) (place_of at i) (all_left chain) s.left r.bops ∙ right.bop);
         fonts = subst (λ (is : List Instruction). FontsAreRight [] is) (sym says_more) (fonts_append [] (says r.before) (i ∷ []) r.fonts (first, tt));
         closing = subst (λ (ds : List Definition). AllByRecursion (HasWidths metrics ds) t.selected) known closed;
-        named = subst (AllByRecursion (IsDefined ahead)) selected (all_append (IsDefined ahead) s.selected (selection_of i) r.named right.named);
+        named = subst (AllByRecursion (λ f. has_number ahead f ≡ true)) selected (all_append (λ f. has_number ahead f ≡ true) s.selected (selection_of i) r.named right.named);
       }
     where
       zero_first : (n : ℕ) → 0 + n ≡ n
@@ -138,7 +138,7 @@ selected_widths metrics xs ys i right all = tt
 
 module _ (metrics : Metrics) (bytes : List ℕ) (post behind last : ℕ) (stop : Postamble) (chain : List ℕ) (pages : List MarkedPage)
     (f : IsPassed metrics bytes post behind last stop chain pages) (small : post ≤ length bytes)
-    (at : ℕ) (s : SoFar) (low : at ≤ post) (r : IsReached metrics (definitions (says f.tail)) bytes stop chain at s) where
+    (ahead : List ℤ) (numbers : AreNumbersOf ahead (definitions (says f.tail))) (at : ℕ) (s : SoFar) (low : at ≤ post) (r : IsReached metrics ahead bytes stop chain at s) where
   -- The instructions that are still to come.
   pub record Rest : Type 0 where
     pub more : List Token
@@ -167,7 +167,7 @@ module _ (metrics : Metrics) (bytes : List ℕ) (post behind last : ℕ) (stop :
       let fronts : says f.front ≡ says r.before ++ says more = ap (λ (ts : List Token). says ts) front ∙ says-append r.before more in
       let known : definitions (says f.front) ≡ s.known ++ definitions (says more) =
       ap (λ (is : List Instruction). definitions is) fronts ∙ (definitions-append (says r.before) (says more) ∙ ap (λ (ds : List Definition). ds ++ definitions (says more)) r.known_is) in
-      let (before, now) = passed_more metrics (definitions (says f.tail)) bytes stop chain at s r (definitions (says more)) in
+      let (before, now) = passed_more metrics ahead bytes stop chain at s r (definitions (says more)) in
       let all_passed = subst (λ (ds : List Definition). passes (kept (acts (widths_of metrics ds))) (min 1024 stop.stack_depth) f.body (Between []) ≡ Some (Between pages)) known f.passed in
       let still : Some s.left ≡ Some (record { missed = false; places = places at more }) =
       sym r.bops ∙ (ap (λ (ns : List ℕ). behind_bops (places 0 r.before) (record { missed = false; places = ns })) all_places ∙ bops_met (places 0 r.before) (places at more)) in
@@ -188,14 +188,14 @@ module _ (metrics : Metrics) (bytes : List ℕ) (post behind last : ℕ) (stop :
       zero_first n = omega arith
 
   -- Before post there is a right instruction.
-  pub next_right : at < post → HasRight metrics (definitions (says f.tail)) bytes stop at post s
+  pub next_right : at < post → HasRight metrics ahead bytes stop at post s
   unfolding rest
   next_right below = by_first rest.more rest.front rest.spelled rest.whole rest.known rest.passed rest.now rest.bops
     where
       by_first : (more : List Token) → f.front ≡ r.before ++ more → AllByRecursion IsSpelled more → written more ≡ take (post - at) (drop at bytes) → definitions (says f.front) ≡ s.known ++ definitions (says more)
           → passes (kept (acts (widths_of metrics (s.known ++ definitions (says more))))) (min 1024 stop.stack_depth) (says more) s.pass ≡ Some (Between pages)
           → SameNow (widths_of metrics s.known) (widths_of metrics (s.known ++ definitions (says more))) s.pass → s.left ≡ record { missed = false; places = places at more }
-          → HasRight metrics (definitions (says f.tail)) bytes stop at post s
+          → HasRight metrics ahead bytes stop at post s
       by_first [] front spelled whole known passed now bops =
           let none : 0 ≡ length (take (post - at) (drop at bytes)) = ap (λ (x : List ℕ). length x) whole in
           let some = length-take-le (post - at) (drop at bytes) (omega (arith, length-drop at bytes)) in
@@ -234,7 +234,7 @@ module _ (metrics : Metrics) (bytes : List ℕ) (post behind last : ℕ) (stop :
               known_is = refl;
               selected_is = refl;
               closing = selected_widths metrics s.known (definitions (t.says ∷ says more)) t.says right widths;
-              named = here_of (IsDefined (definitions (says f.tail))) t.says more all_selected f.named;
+              named = all_weaker (IsDefined (definitions (says f.tail))) (λ f. has_number ahead f ≡ true) (selection_of t.says) (λ f some. numbers f ∙ some) (here_of (IsDefined (definitions (says f.tail))) t.says more all_selected f.named);
             };
           }
         where
@@ -268,10 +268,10 @@ module _ (metrics : Metrics) (bytes : List ℕ) (post behind last : ℕ) (stop :
           by_bytes (x ∷ b) here e = cc
 
 -- The end of the pass.
-pub reached_end : (metrics : Metrics) (bytes : List ℕ) (post behind last : ℕ) (stop : Postamble) (chain : List ℕ) (pages : List MarkedPage) (s : SoFar) (tail : List Token) → AreUnits stop.units
-    → IsReached metrics (definitions (says tail)) bytes stop chain post s → s.pass ≡ Between pages → s.left ≡ all_left [] → IsTail bytes behind last s.known tail
+pub reached_end : (metrics : Metrics) (bytes : List ℕ) (post behind last : ℕ) (stop : Postamble) (chain : List ℕ) (pages : List MarkedPage) (ahead : List ℤ) (s : SoFar) (tail : List Token) → AreUnits stop.units
+    → AreNumbersOf ahead (definitions (says tail)) → IsReached metrics ahead bytes stop chain post s → s.pass ≡ Between pages → s.left ≡ all_left [] → IsTail bytes behind last s.known tail
     → IsPassed metrics bytes post behind last stop chain pages
-reached_end metrics bytes post behind last stop chain pages s tail units r pass_is left_is t =
+reached_end metrics bytes post behind last stop chain pages ahead s tail units numbers r pass_is left_is t =
     let bops = r.bops ∙ ap (λ (l : Left). Some l) left_is in
     let order = same_order (says r.before) s.known r.known_is in
     record {
@@ -294,13 +294,15 @@ reached_end metrics bytes post behind last stop chain pages s tail units r pass_
       closing =
           subst (λ (ds : List Definition). AllByRecursion (HasWidths metrics ds) (selections (says r.before))) (sym r.known_is)
           (subst (AllByRecursion (HasWidths metrics s.known)) (sym r.selected_is) r.closing);
-      named = subst (AllByRecursion (IsDefined (definitions (says tail)))) (sym r.selected_is) r.named;
+      named =
+          all_weaker (λ f. has_number ahead f ≡ true) (IsDefined (definitions (says tail))) (selections (says r.before)) (λ f has. sym (numbers f) ∙ has)
+          (subst (AllByRecursion (λ f. has_number ahead f ≡ true)) (sym r.selected_is) r.named);
     }
 
 -- The tail of a file, after the fonts that are known at post's place.
 pub tail_right : (metrics : Metrics) (bytes : List ℕ) (post behind last : ℕ) (stop : Postamble) (chain : List ℕ) (pages : List MarkedPage) (f : IsPassed metrics bytes post behind last stop chain pages)
-    → post ≤ length bytes → (s : SoFar) → IsReached metrics (definitions (says f.tail)) bytes stop chain post s → IsTail bytes behind last s.known f.tail
-tail_right metrics bytes post behind last stop chain pages f small s r =
+    → post ≤ length bytes → (ahead : List ℤ) (s : SoFar) → IsReached metrics ahead bytes stop chain post s → IsTail bytes behind last s.known f.tail
+tail_right metrics bytes post behind last stop chain pages f small ahead s r =
     let same : f.front ≡ r.before = one_list f.front r.before f.front_spelled r.spelled (f.front_whole ∙ sym r.whole) in
     let fonts = fonts_back [] (says f.front) (says f.tail) f.fonts in
     let before = subst (λ (ts : List Token). FontsAreRight (known_after [] (says ts)) (says f.tail)) same fonts in

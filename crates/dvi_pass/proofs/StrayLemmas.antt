@@ -7,7 +7,7 @@ use Rattle.std.specs.List.{AllByRecursion}
 use Rattle.dvi_frame.specs.Chain.{Links}
 use Rattle.dvi_frame.specs.Ends.{StandsAt}
 use Rattle.dvi_ops.specs.Fonts.{Metrics}
-use Rattle.dvi_ops.specs.Instruction.{Definition, Instruction, Bop, Postamble}
+use Rattle.dvi_ops.specs.Instruction.{Instruction, Bop, Postamble}
 use Rattle.dvi_ops.specs.Table.{Spells}
 use Rattle.dvi_ops.specs.Tokens.{Token, IsSpelled, place_of, places, written}
 use Rattle.dvi_ops.proofs.Appends.{all_append}
@@ -114,7 +114,7 @@ bops_below n most (t ∷ ts) (here, spelled) high =
     some_bytes [] here = absurd (not_empty t.says here)
     some_bytes (x ∷ b) here = omega arith
 
-module _ (metrics : Metrics) (ahead : List Definition) (bytes : List ℕ) (stop : Postamble) (chain : List ℕ) (at : ℕ) (s : SoFar) (r : IsReached metrics ahead bytes stop chain at s) where
+module _ (metrics : Metrics) (ahead : List ℤ) (bytes : List ℕ) (stop : Postamble) (chain : List ℕ) (at : ℕ) (s : SoFar) (r : IsReached metrics ahead bytes stop chain at s) where
   -- A place of the chain that is not before the place of the pass is left.
   pub later_left : (bound : ℕ) (pointer : ℤ) (c : ℕ) → at ≤ length bytes → Links bytes bound pointer chain → IsIn c (reverse chain) → at ≤ c → IsIn c s.left.places
   later_left bound pointer c high links there low =

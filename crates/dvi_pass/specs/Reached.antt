@@ -1,6 +1,8 @@
 -- How far the pass over a file has come, and what it knows there (own).
 use Rattle.std.specs.Prelude.{◌≡◌, ◌≤◌, ◌<◌, ◌-◌, ◌++◌, ◌⊎◌, min, [], ◌∷◌, Bool, false, if◌then◌else◌, List, drop, nat_eq, option_and_then, reverse, take, true, ℕ, ℤ, Option, Some, None, IsSome}
-use Rattle.std.specs.List.{AllByRecursion}
+use Rattle.std.specs.List.{AllByRecursion, list_any}
+use Rattle.std.specs.Option.{is_some}
+use Rattle.std.specs.Ordering.{int_eq}
 use Rattle.dvi_ops.specs.Instruction.{Definition, Postamble, Instruction, Pre}
 use Rattle.dvi_ops.specs.File.{IsIdle}
 use Rattle.dvi_ops.specs.Table.{Spells}
@@ -16,6 +18,14 @@ HasWidths metrics table f = IsSome (font metrics table f)
 -- A number is among these definitions.
 abbrev pub IsDefined : List Definition → ℤ → Type 0
 IsDefined table f = IsSome (defined f table)
+
+-- Whether a number is among these.
+abbrev pub has_number : List ℤ → ℤ → Bool
+has_number numbers f = list_any (int_eq f) numbers
+
+-- These are the numbers of these definitions, in whatever order.
+abbrev pub AreNumbersOf : List ℤ → List Definition → Type 0
+AreNumbersOf numbers table = (f : ℤ) → has_number numbers f ≡ is_some (defined f table)
 
 -- The places of a chain that are still to come, in rising order, and whether one before them was missed: no bop stood there.
 pub record Left : Type 0 where
@@ -54,8 +64,8 @@ abbrev pub at_first : List ℕ → SoFar
 at_first chain = record { pass = Between []; known = []; selected = []; left = all_left chain }
 
 -- The instructions up to a place are right. The pass over them takes a character's width from the first definition of its font: each selected font is defined before it, so a later
--- definition changes no width. Each bop is among the chain. Each selected font has widths, and its number is among the definitions `ahead`, which are those after post.
-pub record IsReached (metrics : Metrics) (ahead : List Definition) (bytes : List ℕ) (stop : Postamble) (chain : List ℕ) (at : ℕ) (s : SoFar) : Type 0 where
+-- definition changes no width. Each bop is among the chain. Each selected font has widths, and its number is among `ahead`, which are those that are defined after post.
+pub record IsReached (metrics : Metrics) (ahead : List ℤ) (bytes : List ℕ) (stop : Postamble) (chain : List ℕ) (at : ℕ) (s : SoFar) : Type 0 where
   pub before : List Token
   pub spelled : AllByRecursion IsSpelled before
   pub whole : written before ≡ take at bytes
@@ -68,21 +78,21 @@ pub record IsReached (metrics : Metrics) (ahead : List Definition) (bytes : List
   pub bops : behind_bops (places 0 before) (all_left chain) ≡ Some s.left
   pub fonts : FontsAreRight [] (says before)
   pub closing : AllByRecursion (HasWidths metrics s.known) s.selected
-  pub named : AllByRecursion (IsDefined ahead) s.selected
+  pub named : AllByRecursion (λ f. has_number ahead f ≡ true) s.selected
 
 -- An instruction is right at a place, and `new` is what was read after it: the pass goes on; a bop is among what is left of the chain; fonts are right; a selected one has widths,
--- and its number is among the definitions after post.
-pub record IsRightAt (metrics : Metrics) (ahead : List Definition) (stop : Postamble) (at : ℕ) (old : SoFar) (i : Instruction) (new : SoFar) : Type 0 where
+-- and its number is among those that are defined after post.
+pub record IsRightAt (metrics : Metrics) (ahead : List ℤ) (stop : Postamble) (at : ℕ) (old : SoFar) (i : Instruction) (new : SoFar) : Type 0 where
   pub goes_on : turn (kept (acts (widths_of metrics old.known))) (min 1024 stop.stack_depth) i old.pass ≡ Some new.pass
   pub bop : behind_bops (place_of at i) old.left ≡ Some new.left
   pub fonts : IsRightAfter old.known i
   pub known_is : new.known ≡ old.known ++ definition_of i
   pub selected_is : new.selected ≡ old.selected ++ selection_of i
   pub closing : AllByRecursion (HasWidths metrics old.known) (selection_of i)
-  pub named : AllByRecursion (IsDefined ahead) (selection_of i)
+  pub named : AllByRecursion (λ f. has_number ahead f ≡ true) (selection_of i)
 
 -- A right instruction stands at a place and ends at or before a bound.
-pub record HasRight (metrics : Metrics) (ahead : List Definition) (bytes : List ℕ) (stop : Postamble) (at bound : ℕ) (old : SoFar) : Type 0 where
+pub record HasRight (metrics : Metrics) (ahead : List ℤ) (bytes : List ℕ) (stop : Postamble) (at bound : ℕ) (old : SoFar) : Type 0 where
   pub next : ℕ
   pub forward : at < next
   pub within : next ≤ bound

@@ -2,18 +2,18 @@
 
 ghost use Rattle.std.specs.Prelude.{◌≡◌, ◌≤◌, ◌<◌, ◌-◌, ◌∷◌, [], List, None, drop, length, reverse, take, ℕ, ℤ};
 ghost use Rattle.dvi_ops.specs.Fonts.{Metrics, definitions};
-ghost use Rattle.dvi_ops.specs.Instruction.{Definition, Instruction, Postamble, Pre};
+ghost use Rattle.dvi_ops.specs.Instruction.{Instruction, Postamble, Pre};
 ghost use Rattle.dvi_ops.specs.Table.{Spells};
 ghost use Rattle.dvi_ops.specs.File.{AreUnits, MarkedPage};
 ghost use Rattle.dvi_ops.specs.Tokens.{Token, places, says};
 ghost use Rattle.dvi_frame.specs.Chain.{Links};
 ghost use Rattle.dvi_pass.specs.Passed.{IsPassed};
 ghost use Rattle.dvi_pass.specs.Pass.{Between};
-ghost use Rattle.dvi_pass.specs.Reached.{HasRight, IsIn, IsReached, IsRightAt, IsTail, Left, SoFar, all_left, at_first, behind_bops};
+ghost use Rattle.dvi_pass.specs.Reached.{AreNumbersOf, HasRight, IsIn, IsReached, IsRightAt, IsTail, Left, SoFar, all_left, at_first, behind_bops};
 
 /// A right instruction takes the pass on.
 pub fn right_goes_on()
-    ensures { (metrics : Metrics) (ahead : List Definition) (bytes : List ℕ) (stop : Postamble) (chain : List ℕ) (at next : ℕ) (old new : SoFar) (i : Instruction)
+    ensures { (metrics : Metrics) (ahead : List ℤ) (bytes : List ℕ) (stop : Postamble) (chain : List ℕ) (at next : ℕ) (old new : SoFar) (i : Instruction)
         → at ≤ next → next ≤ length bytes → IsReached metrics ahead bytes stop chain at old
         → Spells i (take (next - at) (drop at bytes)) → IsRightAt metrics ahead stop at old i new
         → IsReached metrics ahead bytes stop chain next new }
@@ -21,7 +21,7 @@ pub fn right_goes_on()
 
 /// A preamble of version 2, with the units of the postamble, begins the pass: it stands between pages, no font is known, and all pages are still to come.
 pub fn preamble_begins()
-    ensures { (metrics : Metrics) (ahead : List Definition) (bytes : List ℕ) (stop : Postamble) (chain : List ℕ) (next : ℕ) (comment : List ℕ)
+    ensures { (metrics : Metrics) (ahead : List ℤ) (bytes : List ℕ) (stop : Postamble) (chain : List ℕ) (next : ℕ) (comment : List ℕ)
         → next ≤ length bytes → Spells (Pre 2 stop.units comment) (take next bytes)
         → IsReached metrics ahead bytes stop chain next (at_first chain) }
 {}
@@ -29,18 +29,18 @@ pub fn preamble_begins()
 /// Of a chain, those places are left that do not lie before the place of the pass. So a bop that is not among what is left is not in the chain; and where all bops
 /// are the places of the chain, none was missed and none is left.
 pub fn later_places_are_left()
-    ensures left { (metrics : Metrics) (ahead : List Definition) (bytes : List ℕ) (stop : Postamble) (chain : List ℕ) (at : ℕ) (s : SoFar)
+    ensures left { (metrics : Metrics) (ahead : List ℤ) (bytes : List ℕ) (stop : Postamble) (chain : List ℕ) (at : ℕ) (s : SoFar)
         (r : IsReached metrics ahead bytes stop chain at s) (bound : ℕ) (pointer : ℤ) (place : ℕ)
         → at ≤ length bytes → Links bytes bound pointer chain → IsIn place (reverse chain) → at ≤ place → IsIn place s.left.places }
     ensures stray { (at : ℕ) (left : Left) → behind_bops (at ∷ []) left ≡ None → IsIn at left.places → ⊥ }
-    ensures met { (metrics : Metrics) (ahead : List Definition) (bytes : List ℕ) (stop : Postamble) (chain : List ℕ) (at : ℕ) (s : SoFar)
+    ensures met { (metrics : Metrics) (ahead : List ℤ) (bytes : List ℕ) (stop : Postamble) (chain : List ℕ) (at : ℕ) (s : SoFar)
         (r : IsReached metrics ahead bytes stop chain at s) → places 0 r.before ≡ reverse chain → s.left ≡ all_left [] }
 {}
 
 /// The pass ends at post's place: between pages, with no page still to come, and with a right tail.
 pub fn pass_ends()
-    ensures { (metrics : Metrics) (bytes : List ℕ) (post behind last : ℕ) (stop : Postamble) (chain : List ℕ) (pages : List MarkedPage) (s : SoFar) (tail : List Token)
-        → AreUnits stop.units → IsReached metrics (definitions (says tail)) bytes stop chain post s → s.pass ≡ Between pages → s.left ≡ all_left []
+    ensures { (metrics : Metrics) (bytes : List ℕ) (post behind last : ℕ) (stop : Postamble) (chain : List ℕ) (pages : List MarkedPage) (ahead : List ℤ) (s : SoFar) (tail : List Token)
+        → AreUnits stop.units → AreNumbersOf ahead (definitions (says tail)) → IsReached metrics ahead bytes stop chain post s → s.pass ≡ Between pages → s.left ≡ all_left []
         → IsTail bytes behind last s.known tail → IsPassed metrics bytes post behind last stop chain pages }
 {}
 
@@ -48,13 +48,13 @@ pub fn pass_ends()
 pub fn files_are_right()
     ensures next { (metrics : Metrics) (bytes : List ℕ) (post behind last : ℕ) (stop : Postamble) (chain : List ℕ) (pages : List MarkedPage)
         (f : IsPassed metrics bytes post behind last stop chain pages) (small : post ≤ length bytes)
-        (at : ℕ) (s : SoFar) (low : at ≤ post) (r : IsReached metrics (definitions (says f.tail)) bytes stop chain at s)
-        → at < post → HasRight metrics (definitions (says f.tail)) bytes stop at post s }
+        (ahead : List ℤ) (numbers : AreNumbersOf ahead (definitions (says f.tail))) (at : ℕ) (s : SoFar) (low : at ≤ post) (r : IsReached metrics ahead bytes stop chain at s)
+        → at < post → HasRight metrics ahead bytes stop at post s }
     ensures end { (metrics : Metrics) (bytes : List ℕ) (post behind last : ℕ) (stop : Postamble) (chain : List ℕ) (pages : List MarkedPage)
         (f : IsPassed metrics bytes post behind last stop chain pages) (small : post ≤ length bytes)
-        (at : ℕ) (s : SoFar) (low : at ≤ post) (r : IsReached metrics (definitions (says f.tail)) bytes stop chain at s)
+        (ahead : List ℤ) (numbers : AreNumbersOf ahead (definitions (says f.tail))) (at : ℕ) (s : SoFar) (low : at ≤ post) (r : IsReached metrics ahead bytes stop chain at s)
         → at ≡ post → (s.pass ≡ Between pages) × (s.left ≡ all_left []) }
     ensures tail { (metrics : Metrics) (bytes : List ℕ) (post behind last : ℕ) (stop : Postamble) (chain : List ℕ) (pages : List MarkedPage)
-        (f : IsPassed metrics bytes post behind last stop chain pages) → post ≤ length bytes → (s : SoFar)
-        → IsReached metrics (definitions (says f.tail)) bytes stop chain post s → IsTail bytes behind last s.known f.tail }
+        (f : IsPassed metrics bytes post behind last stop chain pages) → post ≤ length bytes → (ahead : List ℤ) (s : SoFar)
+        → IsReached metrics ahead bytes stop chain post s → IsTail bytes behind last s.known f.tail }
 {}

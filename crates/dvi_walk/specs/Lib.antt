@@ -1,3 +1,4 @@
 pub mod ReadFonts
+pub mod Stops
 pub mod Steps
 pub mod Walks

@@ -1,12 +1,13 @@
 use Rattle.std.proofs.Common.{◌≤◌, ◌-◌, List}
 use Rattle.dvi_ops.specs.Fonts.{definitions}
 use Rattle.dvi_ops.specs.Tokens.{Token, says}
-use Rattle.dvi_closing.specs.Ahead.{AreIdle, HasNumbers}
+use Rattle.dvi_pass.specs.Reached.{AreNumbersOf}
+use Rattle.dvi_closing.specs.Ahead.{AreIdle}
 use Rattle.dvi_closing.proofs.ahead.look_ahead.Given as goal
 
 -- nops and definitions stand up to the place, and their numbers are kept
 abbrev pub invariant-loop-at : goal.invariant-loop-at
-invariant-loop-at l = (l.from ≤ l.at) × (l.at ≤ l.to) × (tokens : List Token) × AreIdle l.bytes l.from l.at tokens × HasNumbers l.numbers (definitions (says tokens))
+invariant-loop-at l = (l.from ≤ l.at) × (l.at ≤ l.to) × (tokens : List Token) × AreIdle l.bytes l.from l.at tokens × AreNumbersOf l.numbers.keys (definitions (says tokens))
 
 abbrev pub decreases-loop-at : goal.decreases-loop-at
 decreases-loop-at l = l.to - l.at
