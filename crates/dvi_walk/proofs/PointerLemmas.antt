@@ -1,25 +1,22 @@
 -- What a fault says that names a pointer: a bop is not in the chain, or the bops are not its places.
-use Rattle.std.proofs.Common.{◌≡◌, ◌≢◌, ◌≤◌, [], ◌∷◌, List, true, false, ℕ, ℤ, min, None, length, reverse, sym, ◌∙◌, ap, subst, inl, inr, arith}
+use Rattle.std.proofs.Common.{◌≡◌, ◌≢◌, ◌≤◌, [], ◌∷◌, List, ℕ, ℤ, min, None, length, reverse, sym, ◌∙◌, subst, inl, inr, arith}
 use Rattle.std.specs.Prelude.{◌⊎◌}
-use Rattle.std.proofs.lemmas.List.{reverse-reverse}
 use Rattle.dvi_frame.specs.Chain.{IsPageAt, Links}
 use Rattle.dvi_frame.specs.Ends.{StandsAt}
 use Rattle.dvi_frame.specs.declared.fault.BadDvi.{BadDvi}
 use Rattle.dvi_frame.specs.declared.fault.DviCause.{DviCause}
 use Rattle.dvi_frame.specs.declared.fault.DviCause.TheVariants.{Opcode, Pointer}
 use Rattle.dvi_ops.specs.Body.{Acts, acts}
+use Rattle.dvi_ops.specs.File.{MarkedPage}
 use Rattle.dvi_ops.specs.Fonts.{Metrics, widths_of}
-use Rattle.dvi_ops.specs.Instruction.{Definition, Instruction, Do, Push, Pop, Bop, Eop, Postamble}
+use Rattle.dvi_ops.specs.Instruction.{Instruction, Do, Push, Pop, Bop, Eop, Postamble}
 use Rattle.dvi_ops.specs.Tokens.{place_of, places}
 use Rattle.dvi_pass.specs.Pass.{Pass, Between, Inside}
-use Rattle.dvi_pass.specs.Reached.{IsIn, Left, behind_bops}
+use Rattle.dvi_pass.specs.Reached.{IsIn, IsReached, Left, SoFar, all_left, behind_bops}
 use Rattle.dvi_pass.specs.Turning.{BreaksTurn}
-use Rattle.dvi_pass.specs.declared.turning.Stand.TheVariants as stands
 use Rattle.dvi_pass.proofs.StrayLemmas.{all_met, later_left, stray}
-use Rattle.dvi_walk.specs.Steps.{BreaksRule, places_left, stand_of}
-use Rattle.dvi_walk.specs.Walks.{BreaksPages, IsUnended, IsWalked, IsWalkFault}
+use Rattle.dvi_walk.specs.Stops.{BreaksPages, BreaksRule, IsUnended, IsWalkFault}
 use Rattle.dvi_walk.specs.declared.fault.DviFault.TheVariants.{Bad}
-use Rattle.dvi_walk.specs.declared.walk.Walk.{Walk}
 use Rattle.tfm_core.specs.FileWidths.{file_widths}
 use Rattle.tfm_core.specs.NamedBytes.{NamedBytes}
 
@@ -41,40 +38,36 @@ bop_at : (bytes : List ℕ) (at post : ℕ) (i : Instruction) (left : Left) → 
 bop_at bytes at post (Bop counts pointer) left e stands = (counts, pointer, stands)
 bop_at bytes at post i left e stands = absurd cc
 
-pub stray_bop : (files : List NamedBytes) (table : List Definition) (bytes : List ℕ) (stop : Postamble) (chain : List ℕ) (post : ℕ) (bad : BadDvi)
-    → bad.cause ≡ Pointer → IsWalkFault files table bytes stop chain post (Bad bad) → IsPageAt bytes bad.place post
-stray_bop files table bytes stop chain post bad cause (at, walk, stops) =
+pub stray_bop : (files : List NamedBytes) (ahead : List ℤ) (bytes : List ℕ) (stop : Postamble) (chain : List ℕ) (post : ℕ) (bad : BadDvi)
+    → bad.cause ≡ Pointer → IsWalkFault files ahead bytes stop chain post (Bad bad) → IsPageAt bytes bad.place post
+stray_bop files ahead bytes stop chain post bad cause (at, stops) =
     let metrics : Metrics = file_widths files in
     let (place, broken) = stops.stops in
-    let (i, stands, rule) = subst (λ (cause : DviCause). BreaksPages metrics table bytes (min 1024 stop.stack_depth) at post walk cause) cause broken in
+    let (i, stands, rule) = subst (λ (cause : DviCause). BreaksPages metrics ahead bytes (min 1024 stop.stack_depth) at post stops.seen cause) cause broken in
     subst (λ (n : ℕ). IsPageAt bytes n post) (sym place) (by_rule i stands rule)
   where
-    by_rule : (i : Instruction) → StandsAt bytes at post i → BreaksRule (file_widths files) table (min 1024 stop.stack_depth) at i walk Pointer → IsPageAt bytes at post
-    by_rule i stands (inl b) = absurd (no_pointer (acts (widths_of (file_widths files) table)) (min 1024 stop.stack_depth) i (stand_of walk) b)
-    by_rule i stands (inr (on, b)) = bop_at bytes at post i (places_left walk) b stands
+    by_rule : (i : Instruction) → StandsAt bytes at post i → BreaksRule (file_widths files) ahead (min 1024 stop.stack_depth) at stops.seen i Pointer → IsPageAt bytes at post
+    by_rule i stands (inl b) = absurd (no_pointer (acts (widths_of (file_widths files) stops.seen.known)) (min 1024 stop.stack_depth) i stops.seen.pass b)
+    by_rule i stands (inr (on, b)) = bop_at bytes at post i stops.seen.left b stands
 
-pub stray_pointer : (files : List NamedBytes) (table : List Definition) (bytes : List ℕ) (stop : Postamble) (chain : List ℕ) (post bound : ℕ) (pointer : ℤ) (bad : BadDvi)
-    → post ≤ length bytes → Links bytes bound pointer chain → bad.cause ≡ Pointer → IsWalkFault files table bytes stop chain post (Bad bad) → IsIn bad.place (reverse chain) → ⊥
-stray_pointer files table bytes stop chain post bound pointer bad high links cause (at, walk, stops) there =
+pub stray_pointer : (files : List NamedBytes) (ahead : List ℤ) (bytes : List ℕ) (stop : Postamble) (chain : List ℕ) (post bound : ℕ) (pointer : ℤ) (bad : BadDvi)
+    → post ≤ length bytes → Links bytes bound pointer chain → bad.cause ≡ Pointer → IsWalkFault files ahead bytes stop chain post (Bad bad) → IsIn bad.place (reverse chain) → ⊥
+stray_pointer files ahead bytes stop chain post bound pointer bad high links cause (at, stops) there =
     let metrics : Metrics = file_widths files in
     let (place, broken) = stops.stops in
     let below = stops.before in
-    let (i, stands, rule) = subst (λ (cause : DviCause). BreaksPages metrics table bytes (min 1024 stop.stack_depth) at post walk cause) cause broken in
+    let (i, stands, rule) = subst (λ (cause : DviCause). BreaksPages metrics ahead bytes (min 1024 stop.stack_depth) at post stops.seen cause) cause broken in
     let here : IsIn at (reverse chain) = subst (λ (n : ℕ). IsIn n (reverse chain)) place there in
-    by_rule i rule
-    (later_left metrics table bytes stop chain at (stand_of walk) stops.walked.known (places_left walk) stops.walked.reached bound pointer at (omega arith) links here (omega arith))
+    by_rule i rule (later_left metrics ahead bytes stop chain at stops.seen stops.reached bound pointer at (omega arith) links here (omega arith))
   where
-    by_rule : (i : Instruction) → BreaksRule (file_widths files) table (min 1024 stop.stack_depth) at i walk Pointer → IsIn at (places_left walk).places → ⊥
-    by_rule i (inl b) left = no_pointer (acts (widths_of (file_widths files) table)) (min 1024 stop.stack_depth) i (stand_of walk) b
-    by_rule i (inr (on, b)) left = stray at (places_left walk) (not_left at i (places_left walk) b) left
+    by_rule : (i : Instruction) → BreaksRule (file_widths files) ahead (min 1024 stop.stack_depth) at stops.seen i Pointer → IsIn at stops.seen.left.places → ⊥
+    by_rule i (inl b) left = no_pointer (acts (widths_of (file_widths files) stops.seen.known)) (min 1024 stop.stack_depth) i stops.seen.pass b
+    by_rule i (inr (on, b)) left = stray at stops.seen.left (not_left at i stops.seen.left b) left
 
-pub unmet_pointer : (metrics : Metrics) (table : List Definition) (bytes : List ℕ) (stop : Postamble) (chain : List ℕ) (post : ℕ) (walk : Walk) (bad : BadDvi)
-    (walked : IsWalked metrics table bytes stop chain post walk) → bad.cause ≡ Pointer → IsUnended walk post bad → places 0 walked.reached.before ≢ reverse chain
-unmet_pointer metrics table bytes stop chain post walk bad walked cause (place, broken) same =
-    let left = all_met metrics table bytes stop chain post (stand_of walk) walked.known (places_left walk) walked.reached same in
-    by_rule broken (ap (λ (l : Left). l.missed) left) (sym (reverse-reverse walk.left.items) ∙ ap (λ (l : Left). reverse l.places) left)
+pub unmet_pointer : (metrics : Metrics) (ahead : List ℤ) (bytes : List ℕ) (stop : Postamble) (chain : List ℕ) (post : ℕ) (s : SoFar) (bad : BadDvi)
+    (r : IsReached metrics ahead bytes stop chain post s) → bad.cause ≡ Pointer → IsUnended s.pass s.left post bad → places 0 r.before ≢ reverse chain
+unmet_pointer metrics ahead bytes stop chain post s bad r cause (place, broken) same = by_rule broken (all_met metrics ahead bytes stop chain post s r same)
   where
-    by_rule : (bad.cause ≡ Opcode) × (walk.stand ≡ stands.Between → ⊥) ⊎ (bad.cause ≡ Pointer) × (walk.stand ≡ stands.Between) × ((walk.missed ≡ true) ⊎ (walk.left.items ≢ [])) → walk.missed ≡ false → walk.left.items ≡ [] → ⊥
-    by_rule (inl (other, inside)) met empty = let both : Opcode ≡ Pointer = sym other ∙ cause in absurd cc
-    by_rule (inr (same, closed, inl missed)) met empty = let both : true ≡ false = sym missed ∙ met in absurd cc
-    by_rule (inr (same, closed, inr some)) met empty = some empty
+    by_rule : (bad.cause ≡ Opcode) × ((pages : List MarkedPage) → s.pass ≡ Between pages → ⊥) ⊎ (bad.cause ≡ Pointer) × ((pages : List MarkedPage) × (s.pass ≡ Between pages)) × (s.left ≢ all_left []) → s.left ≡ all_left [] → ⊥
+    by_rule (inl (other, inside)) met = let both : Opcode ≡ Pointer = sym other ∙ cause in absurd cc
+    by_rule (inr (same, closed, some)) met = some met

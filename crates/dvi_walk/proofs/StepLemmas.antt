@@ -1,27 +1,30 @@
 -- One instruction of the pages: its width is that of the file's fonts, and the font that is selected behind it was read.
-use Rattle.std.proofs.Common.{◌≡◌, ◌++◌, [], ◌∷◌, List, map, ℕ, ℤ, Bool, true, false, Option, Some, None, nat_lt, length, if◌then◌else◌, refl, sym, ◌∙◌, ap, ap₂, subst, subst₂, inl, inr}
+use Rattle.std.proofs.Common.{◌≡◌, ◌++◌, [], ◌∷◌, List, map, ℕ, ℤ, true, Option, Some, None, refl, sym, ◌∙◌, ap, ap₂, subst, subst₂, inl, inr}
 use Rattle.std.specs.Prelude.{◌⊎◌, IsSome}
+use Rattle.std.specs.List.{AllByRecursion}
 use Rattle.dvi_frame.specs.declared.fault.DviCause.{DviCause}
 use Rattle.dvi_frame.specs.declared.fault.DviCause.TheVariants.{Glyph, Range}
-use Rattle.dvi_ops.specs.Body.{Mark, Place, State, Meaning, Widths, acts, glyph, glyph_of, kept, kept_in, place_after, put_glyph, right, rule_at, set_glyph, start}
+use Rattle.dvi_ops.specs.Body.{Mark, Place, State, Meaning, Widths, acts, glyph, glyph_of, kept, kept_in, put_glyph, set_glyph}
 use Rattle.dvi_ops.specs.File.{MarkedPage}
-use Rattle.dvi_ops.specs.Fonts.{Metrics, IsRightAfter, definition_of, widths_of, width_in as width_of_font}
+use Rattle.dvi_ops.specs.Fonts.{Metrics, IsRightAfter, definition_of, font, selection_of, widths_of, width_in as width_of_font}
 use Rattle.dvi_ops.specs.Tokens.{place_of}
-use Rattle.dvi_ops.specs.Instruction.{Definition, Leaf, SetChar, PutChar, SetRule, PutRule, Nop, Move, FontNum, FontDef, Xxx, Instruction, Do, Push, Pop, Bop, Eop}
+use Rattle.dvi_ops.specs.Instruction.{Definition, Leaf, SetChar, PutChar, FontNum, FontDef, Instruction, Do}
 use Rattle.dvi_pass.specs.Drawing.{always}
-use Rattle.dvi_pass.specs.Pass.{Pass, Between, Inside, drawn, turn}
-use Rattle.dvi_pass.specs.Reached.{Left, behind_bops}
+use Rattle.dvi_pass.specs.Pass.{Pass, Between, Inside, turn}
+use Rattle.dvi_pass.specs.Reached.{Left, behind_bops, has_number}
 use Rattle.dvi_pass.specs.Turning.{BreaksTurn, IsAsked, TakesRoom, pass_at}
 use Rattle.dvi_pass.specs.View.{page_of}
 use Rattle.dvi_pass.specs.declared.turning.Stand.{Stand}
 use Rattle.dvi_pass.specs.declared.turning.Stand.TheVariants as stands
+use Rattle.dvi_pass.proofs.FontLemmas.{current_of, turn_font}
 use Rattle.dvi_pass.proofs.WidthLemmas.{one_width}
 use Rattle.dvi_walk.specs.ReadFonts.{AreSound, IsCurrent, ReadFonts, asked_width, code_in, read_of, selected_in, width_in}
-use Rattle.dvi_walk.specs.Steps.{BreaksNote, BreaksPass, BreaksRest, BreaksStep, GoesOn, IsUnread, LacksRoom, Notes, PassesOn, Steps, WantsMemory, stand_of}
+use Rattle.dvi_walk.specs.Steps.{AreRead, BreaksNote, BreaksPass, LacksFont, LacksNote, Notes, PassesOn, Steps, StopsStep, known_of, places_left, so_far, stand_of}
+use Rattle.dvi_walk.specs.Stops.{BreaksRest, GoesOn, IsUnread, LacksRoom, WantsMemory}
 use Rattle.dvi_walk.specs.declared.fault.StepFault.{StepFault}
 use Rattle.dvi_walk.specs.declared.fault.StepFault.TheVariants.{OutOfMemory, Broken, Refused}
 use Rattle.dvi_walk.specs.declared.walk.Walk.{Walk}
-use Rattle.dvi_walk.proofs.SelectLemmas.{some_is}
+use Rattle.dvi_walk.proofs.SelectLemmas.{not_read, some_is, sound_more}
 use Rattle.tfm_core.specs.FileWidths.{file_widths}
 use Rattle.tfm_core.specs.Fonts.{SizedFont}
 use Rattle.tfm_core.specs.NamedBytes.{NamedBytes}
@@ -71,10 +74,11 @@ current_same pages stands.Between = refl
 current_same pages (stands.Inside page) = refl
 
 -- One instruction more.
-pub stepped : (files : List NamedBytes) (table : List Definition) (most at : ℕ) (i : Instruction) (old mid new : Walk) → AreSound (file_widths files) table old.fonts
-    → IsCurrent old.fonts old.stand → PassesOn most i old mid → Notes (file_widths files) table at i mid new → Steps (file_widths files) table most at i old new
-stepped files table most at i old mid new sound current passes notes =
+pub stepped : (files : List NamedBytes) (ahead : List ℤ) (most at : ℕ) (i : Instruction) (old mid new : Walk) → AreSound (file_widths files) (known_of old) old.fonts
+    → IsCurrent old.fonts old.stand → PassesOn most i old mid → Notes (file_widths files) ahead at i mid new → Steps (file_widths files) ahead most at i old new
+stepped files ahead most at i old mid new sound current passes notes =
     let metrics : Metrics = file_widths files in
+    let table : List Definition = known_of old in
     let asked = asked_is metrics table old.fonts (map page_of old.done.items) i old.stand sound current in
     let same_stand : stand_of new ≡ stand_of mid = ap₂ (λ (pages : List MarkedPage) (stand : Stand). pass_at pages stand) notes.pages notes.stand in
     let goes_on : turn (kept (acts (widths_of metrics table))) most i (stand_of old) ≡ Some (stand_of new) =
@@ -84,8 +88,11 @@ stepped files table most at i old mid new sound current passes notes =
       bop = ap (behind_bops (place_of at i)) (sym passes.left) ∙ notes.bop;
       right = subst (λ (ds : List Definition). IsRightAfter ds i) passes.known notes.right;
       known_is = notes.known_is ∙ ap (λ (ds : List Definition). ds ++ definition_of i) passes.known;
-      widths = notes.widths;
-      sound = notes.sound;
+      widths = subst (λ (ds : List Definition). AllByRecursion (λ f. IsSome (font metrics ds f)) (selection_of i)) passes.known notes.widths;
+      named = notes.named;
+      read = notes.read;
+      kept = λ g some. notes.kept g (subst (λ (fonts : ReadFonts). IsSome (read_of g fonts)) (sym passes.fonts) some);
+      sound = subst (λ (ds : List Definition). AreSound metrics ds new.fonts) (sym notes.known_is) (sound_more metrics (known_of mid) (definition_of i) new.fonts notes.sound);
       current = λ f at_new.
           by_font f
           (turn_font (widths_of metrics table) most i (stand_of old) (stand_of new) f goes_on (current_same (map page_of new.done.items) new.stand ∙ at_new));
@@ -94,45 +101,51 @@ stepped files table most at i old mid new sound current passes notes =
     by_font : (f : ℤ) → (current_of (stand_of old) ≡ Some f) ⊎ (i ≡ Do (FontNum f)) → IsSome (read_of f new.fonts)
     by_font f (inl before) =
         notes.kept f (subst (λ (fonts : ReadFonts). IsSome (read_of f fonts)) (sym passes.fonts) (current f (sym (current_same (map page_of old.done.items) old.stand) ∙ before)))
-    by_font f (inr selected) = notes.read f selected
+    by_font f (inr is) = let there : AreRead new.fonts (f ∷ []) = subst (λ (i : Instruction). AreRead new.fonts (selection_of i)) is notes.read in there.0
 
 -- A fault of the pass, and one of what is noted.
-pub pass_fault : (files : List NamedBytes) (table : List Definition) (most at : ℕ) (i : Instruction) (old : Walk) (fault : StepFault) → AreSound (file_widths files) table old.fonts
-    → IsCurrent old.fonts old.stand → BreaksPass most i old fault → BreaksStep files table most at i old fault
-pass_fault files table most at i old OutOfMemory sound current b =
-    inl (room_same (widths_of (file_widths files) table) (asked_width old.fonts (selected_in old.stand) (code_in i)) most i (stand_of old)
-    (asked_is (file_widths files) table old.fonts (map page_of old.done.items) i old.stand sound current) b)
-pass_fault files table most at i old (Broken cause) sound current b =
-    inl (breaks_same (widths_of (file_widths files) table) (asked_width old.fonts (selected_in old.stand) (code_in i)) most i (stand_of old) cause
-    (asked_is (file_widths files) table old.fonts (map page_of old.done.items) i old.stand sound current) b)
-pass_fault files table most at i old (Refused refusal) sound current b = absurd b
+pub pass_fault : (files : List NamedBytes) (ahead : List ℤ) (most at : ℕ) (i : Instruction) (old : Walk) (fault : StepFault) → AreSound (file_widths files) (known_of old) old.fonts
+    → IsCurrent old.fonts old.stand → BreaksPass most i old fault → StopsStep files ahead most at i old fault
+pass_fault files ahead most at i old OutOfMemory sound current b selected read =
+    inl (room_same (widths_of (file_widths files) (known_of old)) (asked_width old.fonts (selected_in old.stand) (code_in i)) most i (stand_of old)
+    (asked_is (file_widths files) (known_of old) old.fonts (map page_of old.done.items) i old.stand sound current) b)
+pass_fault files ahead most at i old (Broken cause) sound current b selected read =
+    inl (breaks_same (widths_of (file_widths files) (known_of old)) (asked_width old.fonts (selected_in old.stand) (code_in i)) most i (stand_of old) cause
+    (asked_is (file_widths files) (known_of old) old.fonts (map page_of old.done.items) i old.stand sound current) b)
+pass_fault files ahead most at i old (Refused refusal) sound current b selected read = absurd b
 
--- Behind the pass the fonts are as they were.
-lacks_same : (files : List NamedBytes) (table : List Definition) (most : ℕ) (i : Instruction) (old mid : Walk) → PassesOn most i old mid → LacksRoom files table i mid → LacksRoom files table i old
-lacks_same files table most (Do (FontDef d)) old mid passes right = subst (λ (ds : List Definition). IsRightAfter ds (Do (FontDef d))) passes.known right
-lacks_same files table most (Do (FontNum f)) old mid passes wants =
-    subst₂ (λ (ds : List Definition) (fonts : ReadFonts). WantsMemory files table ds f fonts) passes.known passes.fonts wants
-lacks_same files table most i old mid passes none = absurd none
+-- After the pass the fonts are as they were.
+wants_of : (files : List NamedBytes) (ahead : List ℤ) (selected : List ℤ) (f : ℤ) (old : Walk) → AreRead old.fonts selected → LacksFont files ahead (known_of old) f old.fonts → WantsMemory files ahead (so_far selected old) f
+wants_of files ahead selected f old read lacks = record { named = lacks.named; new = not_read f old.fonts selected lacks.new read; font = lacks.font; found = lacks.found; file = lacks.file }
+
+lacks_same : (files : List NamedBytes) (ahead : List ℤ) (selected : List ℤ) (most : ℕ) (i : Instruction) (old mid : Walk) → AreRead old.fonts selected → PassesOn most i old mid → LacksNote files ahead i mid
+    → LacksRoom files ahead (so_far selected old) i
+lacks_same files ahead selected most (Do (FontDef d)) old mid read passes right = subst (λ (ds : List Definition). IsRightAfter ds (Do (FontDef d))) passes.known right
+lacks_same files ahead selected most (Do (FontNum f)) old mid read passes wants =
+    wants_of files ahead selected f old read (subst₂ (λ (ds : List Definition) (fonts : ReadFonts). LacksFont files ahead ds f fonts) passes.known passes.fonts wants)
+lacks_same files ahead selected most i old mid read passes none = absurd none
 
 -- The pass goes on with the widths of the file's fonts, too.
-pub goes_on : (files : List NamedBytes) (table : List Definition) (most : ℕ) (i : Instruction) (old mid : Walk) → AreSound (file_widths files) table old.fonts → IsCurrent old.fonts old.stand
-    → PassesOn most i old mid → GoesOn (file_widths files) table most i old
-goes_on files table most i old mid sound current passes =
+pub goes_on : (files : List NamedBytes) (selected : List ℤ) (most : ℕ) (i : Instruction) (old mid : Walk) → AreSound (file_widths files) (known_of old) old.fonts → IsCurrent old.fonts old.stand
+    → PassesOn most i old mid → GoesOn (file_widths files) most (so_far selected old) i
+goes_on files selected most i old mid sound current passes =
+    let table : List Definition = known_of old in
     let asked = asked_is (file_widths files) table old.fonts (map page_of old.done.items) i old.stand sound current in
     let next : turn (kept (acts (widths_of (file_widths files) table))) most i (stand_of old) ≡ Some (stand_of mid) =
     sym (one_width (widths_of (file_widths files) table) (asked_width old.fonts (selected_in old.stand) (code_in i)) most i (stand_of old) asked) ∙ passes.goes_on in
     subst (λ (p : Option Pass). IsSome p) (sym next) refl
 
-pub note_fault : (files : List NamedBytes) (table : List Definition) (most at : ℕ) (i : Instruction) (old mid : Walk) (fault : StepFault) → AreSound (file_widths files) table old.fonts
-    → IsCurrent old.fonts old.stand → PassesOn most i old mid → BreaksNote files table at i mid fault → BreaksStep files table most at i old fault
-note_fault files table most at i old mid OutOfMemory sound current passes b = inr (goes_on files table most i old mid sound current passes, lacks_same files table most i old mid passes b)
-note_fault files table most at i old mid (Broken cause) sound current passes b =
-    inr (goes_on files table most i old mid sound current passes, subst₂ (λ (ds : List Definition) (left : Left). BreaksRest table ds at left i cause) passes.known passes.left b)
-note_fault files table most at i old mid (Refused refusal) sound current passes (f, is, unread) = (
+pub note_fault : (files : List NamedBytes) (ahead : List ℤ) (most at : ℕ) (i : Instruction) (old mid : Walk) (fault : StepFault) → AreSound (file_widths files) (known_of old) old.fonts
+    → IsCurrent old.fonts old.stand → PassesOn most i old mid → BreaksNote files ahead at i mid fault → StopsStep files ahead most at i old fault
+note_fault files ahead most at i old mid OutOfMemory sound current passes b selected read =
+    inr (goes_on files selected most i old mid sound current passes, lacks_same files ahead selected most i old mid read passes b)
+note_fault files ahead most at i old mid (Broken cause) sound current passes b selected read =
+    inr (goes_on files selected most i old mid sound current passes, subst₂ (λ (ds : List Definition) (left : Left). BreaksRest ahead ds at left i cause) passes.known passes.left b)
+note_fault files ahead most at i old mid (Refused refusal) sound current passes (f, is, unread) selected read = (
   f,
   is,
   record {
-    goes_on = subst (λ (i : Instruction). GoesOn (file_widths files) table most i old) is (goes_on files table most i old mid sound current passes);
-    unread = subst (λ (ds : List Definition). IsUnread files table ds f refusal) passes.known unread;
+    goes_on = subst (λ (i : Instruction). GoesOn (file_widths files) most (so_far selected old) i) is (goes_on files selected most i old mid sound current passes);
+    unread = subst (λ (ds : List Definition). IsUnread files ahead ds f refusal) passes.known unread;
   },
 )

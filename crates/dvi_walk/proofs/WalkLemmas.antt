@@ -1,12 +1,12 @@
 -- The walk over the pages: one instruction more, and why it stops.
-use Rattle.std.proofs.Common.{◌≡◌, ◌≢◌, ◌≤◌, ◌-◌, ◌++◌, min, [], ◌∷◌, Bool, List, length, reverse, ℕ, ℤ, Option, Some, None, map, refl, sym, ◌∙◌, ap, ap₂, subst, subst₂, inl, inr, arith}
-use Rattle.std.specs.Prelude.{IsSome}
+use Rattle.std.proofs.Common.{◌≡◌, ◌≢◌, ◌≤◌, ◌-◌, ◌++◌, min, [], ◌∷◌, Bool, true, false, List, length, reverse, ℕ, ℤ, Option, Some, None, map, refl, sym, ◌∙◌, ap, ap₂, subst, inl, inr, arith}
+use Rattle.std.specs.Prelude.{◌⊎◌, IsSome}
+use Rattle.std.proofs.lemmas.List.{reverse-reverse}
 use Rattle.std.specs.BTreeMap.{is_at}
 use Rattle.std.specs.List.{AllByRecursion}
 use Rattle.std.specs.Map.{lookup}
 use Rattle.std.specs.Ordering.{int_cmp}
-use Rattle.dvi_pass.specs.Known.{HasSame}
-use Rattle.dvi_pass.proofs.KnownLemmas.{same_more, same_right, same_self, same_sym}
+use Rattle.dvi_closing.proofs.ClosingLemmas.{sized_all}
 use Rattle.dvi_fonts.specs.declared.widths.FontRefusal.{FontRefusal}
 use Rattle.dvi_fonts.specs.declared.widths.FontRefusal.TheVariants as refusals
 use Rattle.dvi_fonts.proofs.RefusalLemmas.{no_widths}
@@ -15,22 +15,25 @@ use Rattle.dvi_frame.specs.declared.fault.DviCause.{DviCause}
 use Rattle.dvi_frame.specs.declared.fault.DviCause.TheVariants.{Opcode, Truncated, Pointer, Font}
 use Rattle.dvi_frame.proofs.PlaceLemmas.{one_stands}
 use Rattle.dvi_ops.specs.Body.{Acts, acts}
-use Rattle.dvi_ops.specs.Fonts.{Metrics, defined, definition_of, definitions, font_in, selection_of, widths_of}
-use Rattle.dvi_ops.specs.Instruction.{Definition, FontNum, Instruction, Do, Push, Pop, Eop, Postamble}
 use Rattle.dvi_ops.specs.File.{MarkedPage}
+use Rattle.dvi_ops.specs.Fonts.{Metrics, IsSize, definition_of, definitions, font_in, selection_of, widths_of}
+use Rattle.dvi_ops.specs.Instruction.{Definition, FontNum, Instruction, Do, Push, Pop, Eop, Postamble}
 use Rattle.dvi_ops.specs.Tokens.{says}
+use Rattle.dvi_ops.proofs.Appends.{all_append, all_weaker}
+use Rattle.dvi_pass.specs.Pass.{Pass, Between, Inside}
+use Rattle.dvi_pass.specs.Passed.{IsPassed}
+use Rattle.dvi_pass.specs.Reached.{AreNumbersOf, HasWidths, IsReached, IsRightAt, Left, SoFar, all_left, at_first, has_number}
+use Rattle.dvi_pass.specs.Turning.{BreaksTurn, pass_at}
 use Rattle.dvi_pass.specs.View.{page_of}
 use Rattle.dvi_pass.specs.declared.page.Page.{Page}
 use Rattle.dvi_pass.specs.declared.turning.Stand.{Stand}
-use Rattle.dvi_walk.specs.ReadFonts.{IsCurrent}
-use Rattle.dvi_pass.specs.Pass.{Pass, Between, Inside}
-use Rattle.dvi_pass.specs.Passed.{IsPassed}
-use Rattle.dvi_pass.specs.Reached.{HasWidths, IsReached, IsRightAt, Left, all_left}
-use Rattle.dvi_pass.specs.Turning.{BreaksTurn, pass_at}
+use Rattle.dvi_pass.specs.declared.turning.Stand.TheVariants as stands
 use Rattle.dvi_pass.proofs.ReachedLemmas.{next_right, reached_next}
 use Rattle.dvi_pass.proofs.TurnLemmas.{broken_turn}
-use Rattle.dvi_walk.specs.Steps.{BreaksRest, BreaksRule, BreaksStep, known_of, places_left, stand_of}
-use Rattle.dvi_walk.specs.Walks.{BreaksPages, IsBegun, IsPagesFault, IsWalked, IsWalkFault, LacksWidths, Reads, fault_in}
+use Rattle.dvi_walk.specs.ReadFonts.{IsCurrent, read_of}
+use Rattle.dvi_walk.specs.Steps.{AreRead, BreaksStep, StopsStep, known_of, places_left, so_far, stand_of}
+use Rattle.dvi_walk.specs.Stops.{BreaksPages, BreaksRest, BreaksRule, IsPagesFault, IsUnended, IsWalkFault, LacksWidths}
+use Rattle.dvi_walk.specs.Walks.{IsBegun, IsWalked, Reads, StopsReading, fault_in}
 use Rattle.dvi_walk.specs.declared.fault.DviFault.{DviFault}
 use Rattle.dvi_walk.specs.declared.fault.DviFault.TheVariants as faults
 use Rattle.dvi_walk.specs.declared.fault.StepFault.{StepFault}
@@ -50,90 +53,98 @@ no_cut does most i (Inside pages counts marks stack s) b = b
 no_cut does most i (Between pages) b = b
 
 -- A rule that an instruction breaks is one of the pages.
-pages_break : (metrics : Metrics) (table : List Definition) (bytes : List ℕ) (most at post : ℕ) (walk : Walk) (cause : DviCause) (i : Instruction) → StandsAt bytes at post i
-    → BreaksRule metrics table most at i walk cause → BreaksPages metrics table bytes most at post walk cause
-pages_break metrics table bytes most at post walk Truncated i stands (inl b) = absurd (no_cut (acts (widths_of metrics table)) most i (stand_of walk) b)
-pages_break metrics table bytes most at post walk Truncated i stands (inr (on, b)) = absurd b
-pages_break metrics table bytes most at post walk Opcode i stands b = inr (i, stands, b)
-pages_break metrics table bytes most at post walk cause i stands b = (i, stands, b)
+pages_break : (metrics : Metrics) (ahead : List ℤ) (bytes : List ℕ) (most at post : ℕ) (s : SoFar) (cause : DviCause) (i : Instruction) → StandsAt bytes at post i
+    → BreaksRule metrics ahead most at s i cause → BreaksPages metrics ahead bytes most at post s cause
+pages_break metrics ahead bytes most at post s Truncated i stands (inl b) = absurd (no_cut (acts (widths_of metrics s.known)) most i s.pass b)
+pages_break metrics ahead bytes most at post s Truncated i stands (inr (on, b)) = absurd b
+pages_break metrics ahead bytes most at post s Opcode i stands b = inr (i, stands, b)
+pages_break metrics ahead bytes most at post s cause i stands b = (i, stands, b)
 
 -- The fault of an instruction that stands there.
-pub taken_fault : (files : List NamedBytes) (table : List Definition) (bytes : List ℕ) (most at post : ℕ) (walk : Walk) (i : Instruction) (fault : StepFault) → StandsAt bytes at post i
-    → BreaksStep files table most at i walk fault → IsPagesFault files table bytes most at post walk (fault_in at fault)
-taken_fault files table bytes most at post walk i OutOfMemory stands b = (i, stands, b)
-taken_fault files table bytes most at post walk i (Broken cause) stands b = (refl, pages_break (file_widths files) table bytes most at post walk cause i stands b)
-taken_fault files table bytes most at post walk i (Refused refusals.OutOfMemory) stands (f, is, selects) = absurd (selects.unread.other refl)
-taken_fault files table bytes most at post walk i (Refused refusals.NoFont) stands (f, is, unread) = (f, subst (λ (i : Instruction). StandsAt bytes at post i) is stands, unread)
-taken_fault files table bytes most at post walk i (Refused (refusals.BadTfm cause)) stands (f, is, unread) = (f, subst (λ (i : Instruction). StandsAt bytes at post i) is stands, unread)
-taken_fault files table bytes most at post walk i (Refused refusals.DimensionTooLarge) stands (f, is, unread) = (f, subst (λ (i : Instruction). StandsAt bytes at post i) is stands, unread)
+taken : (files : List NamedBytes) (ahead : List ℤ) (bytes : List ℕ) (most at post : ℕ) (s : SoFar) (i : Instruction) (fault : StepFault) → StandsAt bytes at post i
+    → BreaksStep files ahead most at s i fault → IsPagesFault files ahead bytes most at post s (fault_in at fault)
+taken files ahead bytes most at post s i OutOfMemory stands b = (i, stands, b)
+taken files ahead bytes most at post s i (Broken cause) stands b = (refl, pages_break (file_widths files) ahead bytes most at post s cause i stands b)
+taken files ahead bytes most at post s i (Refused refusals.OutOfMemory) stands (f, is, selects) = absurd (selects.unread.other refl)
+taken files ahead bytes most at post s i (Refused refusals.NoFont) stands (f, is, unread) = (f, subst (λ (i : Instruction). StandsAt bytes at post i) is stands, unread)
+taken files ahead bytes most at post s i (Refused (refusals.BadTfm cause)) stands (f, is, unread) = (f, subst (λ (i : Instruction). StandsAt bytes at post i) is stands, unread)
+taken files ahead bytes most at post s i (Refused refusals.DimensionTooLarge) stands (f, is, unread) = (f, subst (λ (i : Instruction). StandsAt bytes at post i) is stands, unread)
+
+pub taken_fault : (files : List NamedBytes) (ahead : List ℤ) (bytes : List ℕ) (most at post : ℕ) (walk : Walk) (i : Instruction) (fault : StepFault) → StandsAt bytes at post i
+    → StopsStep files ahead most at i walk fault → StopsReading files ahead bytes most at post walk (fault_in at fault)
+taken_fault files ahead bytes most at post walk i fault stands b selected read = taken files ahead bytes most at post (so_far selected walk) i fault stands (b selected read)
 
 -- One instruction more.
-pub walked_more : (metrics : Metrics) (table : List Definition) (bytes : List ℕ) (stop : Postamble) (chain : List ℕ) (at post next : ℕ) (old new : Walk) → post ≤ length bytes
-    → IsWalked metrics table bytes stop chain at old → Reads metrics table bytes (min 1024 stop.stack_depth) at post old new next → IsWalked metrics table bytes stop chain next new
-walked_more metrics table bytes stop chain at post next old new high walked reads =
+pub walked_more : (metrics : Metrics) (ahead : List ℤ) (bytes : List ℕ) (stop : Postamble) (chain : List ℕ) (at post next : ℕ) (old new : Walk) → post ≤ length bytes
+    → IsWalked metrics ahead bytes stop chain at old → Reads metrics ahead bytes (min 1024 stop.stack_depth) at post old new next → IsWalked metrics ahead bytes stop chain next new
+walked_more metrics ahead bytes stop chain at post next old new high walked reads =
     let steps = reads.steps in
     let forward = reads.forward in
     let within = reads.within in
-    let right : IsRightAt metrics table stop at (stand_of old) walked.known (places_left old) reads.here (stand_of new) (places_left new) =
-    record { goes_on = steps.goes_on; bop = steps.bop; fonts = same_right (known_of old) walked.known reads.here walked.same steps.right; closing = steps.widths } in
+    let selected : List ℤ = walked.selected ++ selection_of reads.here in
+    let right : IsRightAt metrics ahead stop at (so_far walked.selected old) reads.here (so_far selected new) =
+    record { goes_on = steps.goes_on; bop = steps.bop; fonts = steps.right; known_is = steps.known_is; selected_is = refl; closing = steps.widths; named = steps.named } in
     record {
-      known = definition_of reads.here ++ walked.known;
-      same = subst (λ (ds : List Definition). HasSame ds (definition_of reads.here ++ walked.known)) (sym steps.known_is) (same_more (known_of old) walked.known (definition_of reads.here) walked.same);
-      reached = reached_next metrics table bytes stop chain at next (stand_of old) (stand_of new) walked.known (places_left old) (places_left new) reads.here (omega arith) (omega arith) walked.reached reads.spelled right;
+      selected = selected;
+      reached = reached_next metrics ahead bytes stop chain at next (so_far walked.selected old) (so_far selected new) reads.here (omega arith) (omega arith) walked.reached reads.spelled right;
+      read =
+          all_append (λ f. IsSome (read_of f new.fonts)) walked.selected (selection_of reads.here)
+          (all_weaker (λ f. IsSome (read_of f old.fonts)) (λ f. IsSome (read_of f new.fonts)) walked.selected steps.kept walked.read) steps.read;
       sound = steps.sound;
       current = steps.current;
     }
 
+-- What a walk knows has sizes.
+pub known_sizes : (metrics : Metrics) (ahead : List ℤ) (bytes : List ℕ) (stop : Postamble) (chain : List ℕ) (at : ℕ) (walk : Walk) → IsWalked metrics ahead bytes stop chain at walk
+    → AllByRecursion (λ d. IsSize d.size) (known_of walk)
+known_sizes metrics ahead bytes stop chain at walk walked =
+    let r = walked.reached in subst (λ (ds : List Definition). AllByRecursion (λ d. IsSize d.size) ds) r.known_is (sized_all [] (says r.before) r.fonts)
+
 -- A right instruction breaks no rule.
-none_defined : (metrics : Metrics) (table : List Definition) (f : ℤ) → defined f table ≡ None → HasWidths metrics table f → ⊥
-none_defined metrics table f e widths = let none : IsSome (font_in metrics None) = subst (λ (o : Option Definition). IsSome (font_in metrics o)) e widths in cc
+selected_has : (P : ℤ → Type 0) (f : ℤ) (i : Instruction) → i ≡ Do (FontNum f) → AllByRecursion P (selection_of i) → P f
+selected_has P f i is all = let there : AllByRecursion P (f ∷ []) = subst (λ (i : Instruction). AllByRecursion P (selection_of i)) is all in there.0
 
-selected_widths : (metrics : Metrics) (table : List Definition) (f : ℤ) (i : Instruction) → i ≡ Do (FontNum f) → AllByRecursion (HasWidths metrics table) (selection_of i) → HasWidths metrics table f
-selected_widths metrics table f i is all =
-    let there : AllByRecursion (HasWidths metrics table) (f ∷ []) = subst (λ (i : Instruction). AllByRecursion (HasWidths metrics table) (selection_of i)) is all in there.0
-
-module _ (metrics : Metrics) (table : List Definition) (stop : Postamble) (at : ℕ) (walk : Walk) (known : List Definition) (same : HasSame (known_of walk) known) (i : Instruction) (q : Pass) (later : Left)
-    (right : IsRightAt metrics table stop at (stand_of walk) known (places_left walk) i q later) where
-  rest_holds : (cause : DviCause) → BreaksRest table (known_of walk) at (places_left walk) i cause → ⊥
-  rest_holds Pointer b = let both : Some later ≡ None = sym right.bop ∙ b in cc
-  rest_holds Font (inl wrong) = wrong (same_right known (known_of walk) i (same_sym (known_of walk) known same) right.fonts)
-  rest_holds Font (inr (f, is, none)) = none_defined metrics table f none (selected_widths metrics table f i is right.closing)
+module _ (metrics : Metrics) (ahead : List ℤ) (stop : Postamble) (at : ℕ) (s : SoFar) (i : Instruction) (t : SoFar) (right : IsRightAt metrics ahead stop at s i t) where
+  rest_holds : (cause : DviCause) → BreaksRest ahead s.known at s.left i cause → ⊥
+  rest_holds Pointer b = let both : Some t.left ≡ None = sym right.bop ∙ b in cc
+  rest_holds Font (inl wrong) = wrong right.fonts
+  rest_holds Font (inr (f, is, none)) = let both : true ≡ false = sym (selected_has (λ f. has_number ahead f ≡ true) f i is right.named) ∙ none in cc
   rest_holds cause b = b
 
-  rule_holds : (cause : DviCause) → BreaksRule metrics table (min 1024 stop.stack_depth) at i walk cause → ⊥
+  rule_holds : (cause : DviCause) → BreaksRule metrics ahead (min 1024 stop.stack_depth) at s i cause → ⊥
   rule_holds cause (inl b) =
-      let none = broken_turn (acts (widths_of metrics table)) (min 1024 stop.stack_depth) i (stand_of walk) cause b in
-      let both : Some q ≡ None = sym right.goes_on ∙ none in cc
+      let none = broken_turn (acts (widths_of metrics s.known)) (min 1024 stop.stack_depth) i s.pass cause b in
+      let both : Some t.pass ≡ None = sym right.goes_on ∙ none in cc
   rule_holds cause (inr (on, b)) = rest_holds cause b
 
 -- So where a rule is broken no right instruction stands there.
-pub nothing_right : (files : List NamedBytes) (table : List Definition) (bytes : List ℕ) (stop : Postamble) (at post : ℕ) (walk : Walk) (known : List Definition) (i : Instruction) (q : Pass) (later : Left)
-    (fault : DviFault) → fault ≢ faults.OutOfMemory → HasSame (known_of walk) known → StandsAt bytes at post i
-    → IsRightAt (file_widths files) table stop at (stand_of walk) known (places_left walk) i q later → IsPagesFault files table bytes (min 1024 stop.stack_depth) at post walk fault → ⊥
-nothing_right files table bytes stop at post walk known i q later fault other same stands right = by_fault fault other
+pub nothing_right : (files : List NamedBytes) (ahead : List ℤ) (bytes : List ℕ) (stop : Postamble) (at post : ℕ) (s : SoFar) (i : Instruction) (t : SoFar)
+    (fault : DviFault) → fault ≢ faults.OutOfMemory → StandsAt bytes at post i
+    → IsRightAt (file_widths files) ahead stop at s i t → IsPagesFault files ahead bytes (min 1024 stop.stack_depth) at post s fault → ⊥
+nothing_right files ahead bytes stop at post s i t fault other stands right = by_fault fault other
   where
-    rule : (cause : DviCause) (j : Instruction) → StandsAt bytes at post j → BreaksRule (file_widths files) table (min 1024 stop.stack_depth) at j walk cause → ⊥
+    rule : (cause : DviCause) (j : Instruction) → StandsAt bytes at post j → BreaksRule (file_widths files) ahead (min 1024 stop.stack_depth) at s j cause → ⊥
     rule cause j there b =
-        rule_holds (file_widths files) table stop at walk known same i q later right cause
-        (subst (λ (i : Instruction). BreaksRule (file_widths files) table (min 1024 stop.stack_depth) at i walk cause) (one_stands bytes at post post j i there stands) b)
+        rule_holds (file_widths files) ahead stop at s i t right cause
+        (subst (λ (i : Instruction). BreaksRule (file_widths files) ahead (min 1024 stop.stack_depth) at s i cause) (one_stands bytes at post post j i there stands) b)
 
-    pages : (cause : DviCause) → BreaksPages (file_widths files) table bytes (min 1024 stop.stack_depth) at post walk cause → ⊥
+    pages : (cause : DviCause) → BreaksPages (file_widths files) ahead bytes (min 1024 stop.stack_depth) at post s cause → ⊥
     pages Truncated (begins, none) = none i stands
     pages Opcode (inl (code, none)) = none i stands
     pages Opcode (inr (j, there, b)) = rule Opcode j there b
     pages cause b = rule cause b.0 b.1 b.2
 
-    widths : (refusal : FontRefusal) → LacksWidths files table bytes (min 1024 stop.stack_depth) at post walk refusal → ⊥
+    widths : (refusal : FontRefusal) → LacksWidths files ahead bytes (min 1024 stop.stack_depth) at post s refusal → ⊥
     widths refusal (f, there, selects) =
         let unread = selects.unread in
         let is : i ≡ Do (FontNum f) = one_stands bytes at post post i (Do (FontNum f)) stands there in
-        let some = selected_widths (file_widths files) table f i is right.closing in
+        let some = selected_has (HasWidths (file_widths files) s.known) f i is right.closing in
         let found : IsSome (font_in (file_widths files) (Some unread.font)) = subst (λ (o : Option Definition). IsSome (font_in (file_widths files) o)) unread.found some in
         let nowhere : Option (ℤ → Option ℤ) = None in
         let none : IsSome nowhere = subst (λ (o : Option (ℤ → Option ℤ)). IsSome o) (no_widths files unread.font refusal unread.other unread.refused) found in
         cc
 
-    by_fault : (fault : DviFault) → fault ≢ faults.OutOfMemory → IsPagesFault files table bytes (min 1024 stop.stack_depth) at post walk fault → ⊥
+    by_fault : (fault : DviFault) → fault ≢ faults.OutOfMemory → IsPagesFault files ahead bytes (min 1024 stop.stack_depth) at post s fault → ⊥
     by_fault faults.OutOfMemory other b = other refl
     by_fault (faults.Bad bad) other (place, b) = pages bad.cause b
     by_fault faults.NoFont other b = widths refusals.NoFont b
@@ -141,33 +152,44 @@ nothing_right files table bytes stop at post walk known i q later fault other sa
     by_fault faults.DimensionTooLarge other b = widths refusals.DimensionTooLarge b
 
 -- In a file no walk stops.
-pub walk_fault : (files : List NamedBytes) (table : List Definition) (bytes : List ℕ) (post behind last : ℕ) (stop : Postamble) (chain : List ℕ) (pages : List MarkedPage) (fault : DviFault) → post ≤ length bytes
-    → fault ≢ faults.OutOfMemory → IsWalkFault files table bytes stop chain post fault → (f : IsPassed (file_widths files) bytes post behind last stop chain pages) → table ≡ definitions (says f.tail) → ⊥
-walk_fault files table bytes post behind last stop chain pages fault high other (at, walk, stops) f e =
-    let walked = stops.walked in
+pub walk_fault : (files : List NamedBytes) (ahead : List ℤ) (bytes : List ℕ) (post behind last : ℕ) (stop : Postamble) (chain : List ℕ) (pages : List MarkedPage) (fault : DviFault) → post ≤ length bytes
+    → fault ≢ faults.OutOfMemory → IsWalkFault files ahead bytes stop chain post fault → (f : IsPassed (file_widths files) bytes post behind last stop chain pages) → AreNumbersOf ahead (definitions (says f.tail)) → ⊥
+walk_fault files ahead bytes post behind last stop chain pages fault high other (at, stops) f numbers =
     let below = stops.before in
-    let reached = subst (λ (ds : List Definition). IsReached (file_widths files) ds bytes stop chain at (stand_of walk) walked.known (places_left walk)) e walked.reached in
-    let next = next_right (file_widths files) bytes post behind last stop chain pages f high at (stand_of walk) walked.known (places_left walk) (omega arith) reached below in
+    let next = next_right (file_widths files) bytes post behind last stop chain pages f high ahead numbers at stops.seen (omega arith) stops.reached below in
     let forward = next.forward in
     let within = next.within in
-    let right = subst (λ (ds : List Definition). IsRightAt (file_widths files) ds stop at (stand_of walk) walked.known (places_left walk) next.here next.after next.later) (sym e) next.right in
-    nothing_right files table bytes stop at post walk walked.known next.here next.after next.later fault other walked.same (next.next - at, omega arith, next.spelled) right stops.stops
+    nothing_right files ahead bytes stop at post stops.seen next.here next.new fault other (next.next - at, omega arith, next.spelled) next.right stops.stops
 
 -- The walk before the first page.
-pub walked_first : (metrics : Metrics) (table : List Definition) (bytes : List ℕ) (stop : Postamble) (chain : List ℕ) (from : ℕ) (walk : Walk) → IsBegun chain walk
-    → IsReached metrics table bytes stop chain from (Between []) [] (all_left chain) → IsWalked metrics table bytes stop chain from walk
-walked_first metrics table bytes stop chain from walk begun reached =
-    let known : [] ≡ known_of walk = sym begun.known in
-    let stand : Between [] ≡ stand_of walk = sym (ap₂ (λ (pages : List Page) (stand : Stand). pass_at (map page_of pages) stand) begun.done begun.stand) in
+pub walked_first : (metrics : Metrics) (ahead : List ℤ) (bytes : List ℕ) (stop : Postamble) (chain : List ℕ) (from : ℕ) (walk : Walk) → IsBegun chain walk
+    → IsReached metrics ahead bytes stop chain from (at_first chain) → IsWalked metrics ahead bytes stop chain from walk
+walked_first metrics ahead bytes stop chain from walk begun reached =
+    let pass : Between [] ≡ stand_of walk = sym (ap₂ (λ (pages : List Page) (stand : Stand). pass_at (map page_of pages) stand) begun.done begun.stand) in
     let left : all_left chain ≡ places_left walk = ap₂ (λ (missed : Bool) (ns : List ℕ). record { missed = missed; places = reverse ns }) (sym begun.missed) (sym begun.left_is) in
+    let nothing : List ℤ = [] in
+    let one : IsReached metrics ahead bytes stop chain from (record { pass = stand_of walk; known = []; selected = []; left = all_left chain }) =
+    subst (λ (p : Pass). IsReached metrics ahead bytes stop chain from (record { pass = p; known = []; selected = nothing; left = all_left chain })) pass reached in
+    let two : IsReached metrics ahead bytes stop chain from (record { pass = stand_of walk; known = known_of walk; selected = []; left = all_left chain }) =
+    subst (λ (ds : List Definition). IsReached metrics ahead bytes stop chain from (record { pass = stand_of walk; known = ds; selected = nothing; left = all_left chain })) (sym begun.known) one in
     record {
-      known = [];
-      same = subst (λ (ds : List Definition). HasSame ds []) known (same_self []);
-      reached = subst₂ (λ (p : Pass) (left : Left). IsReached metrics table bytes stop chain from p [] left) stand left reached;
+      selected = [];
+      reached = subst (λ (l : Left). IsReached metrics ahead bytes stop chain from (record { pass = stand_of walk; known = known_of walk; selected = nothing; left = l })) left two;
+      read = tt;
       sound = λ f read there.
           let none : None ≡ Some read = sym (ap (λ (fonts : List (ℤ × SizedFont)). lookup (is_at (int_cmp f)) fonts) begun.fonts) ∙ there in absurd cc;
       current = subst (λ (stand : Stand). IsCurrent walk.fonts stand) (sym begun.stand) (λ f none. absurd cc);
     }
+
+-- At post's place no page is open, and some place of the chain was no bop.
+pub left_over : (walk : Walk) (post : ℕ) → walk.stand ≡ stands.Between → (walk.missed ≡ true) ⊎ (walk.left.items ≢ [])
+    → IsUnended (stand_of walk) (places_left walk) post (record { place = post; cause = Pointer })
+left_over walk post closed some =
+    (refl, inr (refl, (map page_of walk.done.items, ap (λ (stand : Stand). pass_at (map page_of walk.done.items) stand) closed), λ same. by_rule some same))
+  where
+    by_rule : (walk.missed ≡ true) ⊎ (walk.left.items ≢ []) → places_left walk ≡ all_left [] → ⊥
+    by_rule (inl missed) same = let both : true ≡ false = sym missed ∙ ap (λ (l : Left). l.missed) same in cc
+    by_rule (inr some) same = some (sym (reverse-reverse walk.left.items) ∙ ap (λ (l : Left). reverse l.places) same)
 
 -- The lesser of two, either way.
 pub least : (a b : ℕ) → min a b ≡ min b a

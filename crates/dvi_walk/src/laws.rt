@@ -6,31 +6,30 @@ ghost use Rattle.dvi_frame.specs.declared.fault.BadDvi.{BadDvi};
 ghost use Rattle.dvi_frame.specs.declared.fault.DviCause.TheVariants.{Pointer};
 ghost use Rattle.dvi_ops.specs.File.{MarkedPage};
 ghost use Rattle.dvi_ops.specs.Fonts.{Metrics, definitions};
-ghost use Rattle.dvi_ops.specs.Instruction.{Definition, Postamble};
+ghost use Rattle.dvi_ops.specs.Instruction.{Postamble};
 ghost use Rattle.dvi_ops.specs.Tokens.{places, says};
 ghost use Rattle.dvi_pass.specs.Passed.{IsPassed};
-ghost use Rattle.dvi_pass.specs.Reached.{IsIn};
-ghost use Rattle.dvi_walk.specs.Walks.{IsUnended, IsWalkFault, IsWalked};
+ghost use Rattle.dvi_pass.specs.Reached.{AreNumbersOf, IsIn, IsReached, SoFar};
+ghost use Rattle.dvi_walk.specs.Stops.{IsUnended, IsWalkFault};
 ghost use Rattle.dvi_walk.specs.declared.fault.DviFault.{DviFault};
 ghost use Rattle.dvi_walk.specs.declared.fault.DviFault.TheVariants.{Bad, OutOfMemory};
-ghost use Rattle.dvi_walk.specs.declared.walk.Walk.{Walk};
 ghost use Rattle.tfm_core.specs.FileWidths.{file_widths};
 ghost use Rattle.tfm_core.specs.NamedBytes.{NamedBytes};
 
 /// Where a walk stops for another reason than want of memory, the pass over a file does not go on: the bytes are no file with these font files.
 pub fn no_walk_stops_in_a_file()
-    ensures { (files : List NamedBytes) (table : List Definition) (bytes : List ℕ) (post behind last : ℕ) (stop : Postamble) (chain : List ℕ) (pages : List MarkedPage) (fault : DviFault)
-        → post ≤ length bytes → fault ≢ OutOfMemory → IsWalkFault files table bytes stop chain post fault
-        → (f : IsPassed (file_widths files) bytes post behind last stop chain pages) → table ≡ definitions (says f.tail) → ⊥ }
+    ensures { (files : List NamedBytes) (ahead : List ℤ) (bytes : List ℕ) (post behind last : ℕ) (stop : Postamble) (chain : List ℕ) (pages : List MarkedPage) (fault : DviFault)
+        → post ≤ length bytes → fault ≢ OutOfMemory → IsWalkFault files ahead bytes stop chain post fault
+        → (f : IsPassed (file_widths files) bytes post behind last stop chain pages) → AreNumbersOf ahead (definitions (says f.tail)) → ⊥ }
 {}
 
 /// Where a walk stops at a pointer, a bop stands there that is not in the chain; where it says so at post's place, the bops are not the places of the chain.
 pub fn pointers_are_wrong()
-    ensures bop { (files : List NamedBytes) (table : List Definition) (bytes : List ℕ) (stop : Postamble) (chain : List ℕ) (post : ℕ) (bad : BadDvi)
-        → bad.cause ≡ Pointer → IsWalkFault files table bytes stop chain post (Bad bad) → IsPageAt bytes bad.place post }
-    ensures stray { (files : List NamedBytes) (table : List Definition) (bytes : List ℕ) (stop : Postamble) (chain : List ℕ) (post bound : ℕ) (pointer : ℤ) (bad : BadDvi)
-        → post ≤ length bytes → Links bytes bound pointer chain → bad.cause ≡ Pointer → IsWalkFault files table bytes stop chain post (Bad bad)
+    ensures bop { (files : List NamedBytes) (ahead : List ℤ) (bytes : List ℕ) (stop : Postamble) (chain : List ℕ) (post : ℕ) (bad : BadDvi)
+        → bad.cause ≡ Pointer → IsWalkFault files ahead bytes stop chain post (Bad bad) → IsPageAt bytes bad.place post }
+    ensures stray { (files : List NamedBytes) (ahead : List ℤ) (bytes : List ℕ) (stop : Postamble) (chain : List ℕ) (post bound : ℕ) (pointer : ℤ) (bad : BadDvi)
+        → post ≤ length bytes → Links bytes bound pointer chain → bad.cause ≡ Pointer → IsWalkFault files ahead bytes stop chain post (Bad bad)
         → IsIn bad.place (reverse chain) → ⊥ }
-    ensures unmet { (metrics : Metrics) (table : List Definition) (bytes : List ℕ) (stop : Postamble) (chain : List ℕ) (post : ℕ) (walk : Walk) (bad : BadDvi)
-        (walked : IsWalked metrics table bytes stop chain post walk) → bad.cause ≡ Pointer → IsUnended walk post bad → places 0 walked.reached.before ≢ reverse chain }
+    ensures unmet { (metrics : Metrics) (ahead : List ℤ) (bytes : List ℕ) (stop : Postamble) (chain : List ℕ) (post : ℕ) (s : SoFar) (bad : BadDvi)
+        (r : IsReached metrics ahead bytes stop chain post s) → bad.cause ≡ Pointer → IsUnended s.pass s.left post bad → places 0 r.before ≢ reverse chain }
 {}

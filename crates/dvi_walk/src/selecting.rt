@@ -7,6 +7,7 @@ ghost use Rattle.std.specs.Ordering.{int_cmp};
 ghost use Rattle.dvi_fonts.specs.Widths.{IsFontRefusal};
 ghost use Rattle.dvi_ops.specs.Fonts.{IsSize, defined};
 ghost use Rattle.dvi_ops.specs.View.{definition};
+ghost use Rattle.dvi_pass.specs.Reached.{has_number};
 ghost use Rattle.dvi_walk.specs.ReadFonts.{AreSound, IsReadFor, read_of};
 ghost use Rattle.dvi_walk.specs.Steps.{IsSelectFault, Selects};
 ghost use Rattle.tfm_core.specs.FileWidths.{file_widths};
@@ -14,19 +15,12 @@ ghost use Rattle.tfm_core.specs.Fonts.{SizedFont};
 
 use crate::fault::StepFault;
 use crate::read_fonts::ReadFonts;
+use dvi_closing::{NumbersAhead, is_ahead};
 use dvi_fonts::{FontRefusal, KnownFonts, Number, read_font};
 use dvi_frame::DviCause;
 use dvi_ops::FontDefinition;
 use std::alloc::Global;
 use tfm_core::FontFile;
-
-/// Whether a number is defined.
-fn is_defined(fonts: &KnownFonts<'_>, number: Number) -> bool
-    ensures yes { result ≡ true → IsSome (defined number.value fonts.now) }
-    ensures no { result ≡ false → defined number.value fonts.now ≡ None }
-{
-    fonts.get(number).is_some()
-}
 
 /// Reads the font of a definition, and puts it at a number.
 fn read_more(
@@ -59,38 +53,39 @@ fn is_read(fonts: &ReadFonts, number: Number) -> bool
     fonts.contains_key(&number.value)
 }
 
-/// The definition of a number in the postamble, where the number is defined before, too.
+/// The first definition of a number, where the number is defined after post, too.
 fn definition_in<'f, 'a>(
-    table: &'f KnownFonts<'a>,
-    known: &KnownFonts<'_>,
+    ahead: &NumbersAhead,
+    known: &'f KnownFonts<'a>,
     number: Number,
 ) -> Option<&'f FontDefinition<'a>>
-    ensures some { IfSome result (λ font. IsSome (defined number.value known.now) × (defined number.value table.now ≡ Some (definition font.now))) }
-    ensures none { result ≡ None → (defined number.value known.now ≡ None) ⊎ (defined number.value table.now ≡ None) }
+    ensures some { IfSome result (λ font. (has_number ahead.now.keys number.value ≡ true) × (defined number.value known.now ≡ Some (definition font.now))) }
+    ensures none { result ≡ None → (defined number.value known.now ≡ None) ⊎ (has_number ahead.now.keys number.value ≡ false) }
 {
-    if !is_defined(known, number) {
+    if !is_ahead(ahead, number) {
         return None;
     }
-    table.get(number)
+    known.get(number)
 }
 
-/// Selects the font of a number: it is defined before and in the postamble, and its metric file was handed in and is good. The font is read where it was not.
+/// Selects the font of a number: it is defined before, its number is defined after post, and the metric file of its first definition was handed in and is good.
+/// The font is read where it was not.
 pub fn select(
     alloc: Global,
     files: &[FontFile],
-    table: &KnownFonts<'_>,
+    ahead: &NumbersAhead,
     known: &KnownFonts<'_>,
     fonts: &mut ReadFonts,
     number: Number,
 ) -> Result<(), StepFault>
-    requires sizes { AllByRecursion (λ d. IsSize d.size) table.now }
-    requires sound { AreSound (file_widths files.now) table.now fonts.old }
-    ensures ok { OnOk result (Selects (file_widths files.now) table.now known.now number.value fonts.old fonts.new) }
+    requires sizes { AllByRecursion (λ d. IsSize d.size) known.now }
+    requires sound { AreSound (file_widths files.now) known.now fonts.old }
+    ensures ok { OnOk result (Selects (file_widths files.now) ahead.now.keys known.now number.value fonts.old fonts.new) }
     // Want of memory comes only for a font that was not read before, and has a file of its name that is not too short.
-    ensures bad { IfErr result (IsSelectFault files.now table.now known.now fonts.old number.value) }
+    ensures bad { IfErr result (IsSelectFault files.now ahead.now.keys known.now fonts.old number.value) }
     ensures unchanged { OnErr result (IsUnchanged fonts.old fonts.new) }
 {
-    let Some(font) = definition_in(table, known, number) else {
+    let Some(font) = definition_in(ahead, known, number) else {
         return Err(StepFault::Broken(DviCause::Font));
     };
     if is_read(fonts, number) {

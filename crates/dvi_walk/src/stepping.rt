@@ -6,15 +6,15 @@ ghost use Rattle.dvi_ops.specs.Fonts.{IsSize};
 ghost use Rattle.dvi_ops.specs.View.{view};
 ghost use Rattle.dvi_pass.specs.Reached.{behind_bop};
 ghost use Rattle.dvi_walk.specs.ReadFonts.{AreSound, HaveByteCodes, IsCurrent};
-ghost use Rattle.dvi_walk.specs.Steps.{BreaksNote, BreaksPass, BreaksStep, Notes, PassesOn, Steps};
+ghost use Rattle.dvi_walk.specs.Steps.{BreaksNote, BreaksPass, Notes, PassesOn, Steps, StopsStep, known_of};
 ghost use Rattle.tfm_core.specs.FileWidths.{file_widths};
 
 use crate::fault::StepFault;
 use crate::read_fonts::width_asked;
 use crate::selecting::select;
 use crate::walk::Walk;
-use dvi_closing::define;
-use dvi_fonts::{KnownFonts, Number};
+use dvi_closing::{NumbersAhead, define};
+use dvi_fonts::Number;
 use dvi_frame::DviCause;
 use dvi_ops::Op;
 use dvi_pass::{PassFault, Stand, turn};
@@ -40,15 +40,15 @@ fn is_named(left: &mut Vec<usize>, missed: &mut bool, at: usize) -> bool
 fn note<'a>(
     alloc: Global,
     files: &[FontFile],
-    table: &KnownFonts<'_>,
+    ahead: &NumbersAhead,
     walk: &mut Walk<'a>,
     at: usize,
     op: &Op<'a>,
 ) -> Result<(), StepFault>
-    requires sizes { AllByRecursion (λ d. IsSize d.size) table.now }
-    requires sound { AreSound (file_widths files.now) table.now walk.old.fonts }
-    ensures ok { OnOk result (Notes (file_widths files.now) table.now at (view op.now) walk.old walk.new) }
-    ensures bad { IfErr result (BreaksNote files.now table.now at (view op.now) walk.old) }
+    requires sizes { AllByRecursion (λ d. IsSize d.size) (known_of walk.old) }
+    requires sound { AreSound (file_widths files.now) (known_of walk.old) walk.old.fonts }
+    ensures ok { OnOk result (Notes (file_widths files.now) ahead.now.keys at (view op.now) walk.old walk.new) }
+    ensures bad { IfErr result (BreaksNote files.now ahead.now.keys at (view op.now) walk.old) }
 {
     match *op {
         Op::Bop { .. } => {
@@ -66,7 +66,7 @@ fn note<'a>(
         Op::FontNum(value) => select(
             alloc,
             files,
-            table,
+            ahead,
             &walk.known,
             &mut walk.fonts,
             Number { value },
@@ -97,23 +97,23 @@ fn pass_on(alloc: Global, most: usize, op: &Op<'_>, walk: &mut Walk<'_>) -> Resu
 pub fn step<'a>(
     alloc: Global,
     files: &[FontFile],
-    table: &KnownFonts<'_>,
+    ahead: &NumbersAhead,
     most: usize,
     at: usize,
     op: &Op<'a>,
     walk: &mut Walk<'a>,
 ) -> Result<(), StepFault>
-    requires sizes { AllByRecursion (λ d. IsSize d.size) table.now }
-    requires sound { AreSound (file_widths files.now) table.now walk.old.fonts }
+    requires sizes { AllByRecursion (λ d. IsSize d.size) (known_of walk.old) }
+    requires sound { AreSound (file_widths files.now) (known_of walk.old) walk.old.fonts }
     requires current { IsCurrent walk.old.fonts walk.old.stand }
-    ensures ok { OnOk result (Steps (file_widths files.now) table.now most at (view op.now) walk.old walk.new) }
+    ensures ok { OnOk result (Steps (file_widths files.now) ahead.now.keys most at (view op.now) walk.old walk.new) }
     // The rule that a fault names is broken.
-    ensures bad { IfErr result (BreaksStep files.now table.now most at (view op.now) walk.old) }
+    ensures bad { IfErr result (StopsStep files.now ahead.now.keys most at (view op.now) walk.old) }
 {
     if let Err(fault) = pass_on(alloc, most, op, walk) {
         return Err(fault);
     }
-    match note(alloc, files, table, walk, at, op) {
+    match note(alloc, files, ahead, walk, at, op) {
         Ok(()) => Ok(()),
         Err(fault) => Err(fault),
     }
