@@ -1,12 +1,10 @@
 -- A whole file: what was found makes a file, and each refusal says why.
-use Rattle.std.proofs.Common.{◌≡◌, ◌≢◌, ◌+◌, ◌-◌, ◌++◌, [], Bool, List, length, map, replicate, reverse, take, drop, ℕ, Result, Ok, Err, refl, sym, ◌∙◌, ap, ap₂, subst, subst₂, inl, inr, length-append, arith}
+use Rattle.std.proofs.Common.{◌≡◌, ◌≢◌, ◌+◌, ◌-◌, ◌++◌, List, length, replicate, take, drop, ℕ, ℤ, Result, Ok, Err, refl, sym, ◌∙◌, ap, ap₂, subst, inl, inr, length-append, arith}
 use Rattle.std.proofs.lemmas.List.{drop-drop, drop_at, take_at, length-drop, length-take-le}
 use Rattle.std.specs.Prelude.{IfOk, IfErr}
 use Rattle.std.proofs.lemmas.Grind.{flat_map-append}
-use Rattle.dvi_closing.specs.Closing.{Closes, ClosesTo, IsClosingFault}
-use Rattle.dvi_pass.specs.Known.{HasSame}
-use Rattle.dvi_closing.proofs.ClosingLemmas.{looked}
-use Rattle.dvi_pass.proofs.KnownLemmas.{fonts_fewer, fonts_same, same_after, same_more, same_self, same_sym}
+use Rattle.dvi_closing.specs.Closing.{ClosesTo, IsClosingFault}
+use Rattle.dvi_closing.proofs.AheadLemmas.{looked}
 use Rattle.dvi_frame.specs.Chain.{IsChainRefusal}
 use Rattle.dvi_frame.specs.Ends.{Ends}
 use Rattle.dvi_frame.specs.declared.fault.BadDvi.{BadDvi}
@@ -15,27 +13,23 @@ use Rattle.dvi_frame.specs.declared.fault.FrameFault.TheVariants as frames
 use Rattle.dvi_frame.proofs.EndLemmas.{frame_ends, frame_last, one_end}
 use Rattle.dvi_frame.proofs.PlaceLemmas.{same_front}
 use Rattle.dvi_ops.specs.File.{Frame, IsFile, MarkedPage}
-use Rattle.dvi_ops.specs.Fonts.{Metrics, definition_of, definitions, known_after}
+use Rattle.dvi_ops.specs.Fonts.{Metrics, definition_of, definitions}
 use Rattle.dvi_ops.specs.Instruction.{Definition, Post, Postamble}
 use Rattle.dvi_ops.specs.Table.{Spells}
 use Rattle.dvi_ops.specs.Tokens.{Token, says, written}
 use Rattle.dvi_ops.proofs.Frames.{one_list, one_list_of_pages}
-use Rattle.dvi_pass.specs.Pass.{Pass, Between}
+use Rattle.dvi_pass.specs.Pass.{Pass}
 use Rattle.dvi_pass.specs.Passed.{IsFramed}
-use Rattle.dvi_pass.specs.Reached.{IsReached, IsTail, Left, all_left}
-use Rattle.dvi_pass.specs.Turning.{pass_at}
-use Rattle.dvi_pass.specs.View.{page_of}
-use Rattle.dvi_pass.specs.declared.turning.Stand.{Stand}
+use Rattle.dvi_pass.specs.Reached.{IsReached, IsTail, Left, SoFar, at_first}
 use Rattle.dvi_pass.proofs.PassedLemmas.{passed_file}
 use Rattle.dvi_pass.proofs.ReachedLemmas.{reached_end, reached_first}
 use Rattle.dvi_read.specs.Opened.{Opened, GivesPages, HasFontsOf, HasUnitsOf, IsExact, IsNoFile, IsReadFrom}
-use Rattle.dvi_read.specs.Opening.{HasPages, IsDviFault, IsFinishFault, IsStray, StartsAt, ForPlaces, InTheChain, AtPost, BehindPost, ForDefinitions}
+use Rattle.dvi_read.specs.Opening.{HasPages, IsDviFault, IsStray, StartsAt, ForPlaces, InTheChain, AtPost, AfterPost, ForDefinitions}
+use Rattle.dvi_read.specs.Parts.{IsFinishFault}
 use Rattle.dvi_read.proofs.FaultLemmas.{behind_within, no_fault, post_within}
-use Rattle.dvi_walk.specs.Steps.{known_of, places_left, stand_of}
-use Rattle.dvi_walk.specs.Walks.{HasEnded, IsWalked, IsWalkFault}
+use Rattle.dvi_walk.specs.Stops.{HasEnded, IsWalkFault}
 use Rattle.dvi_walk.specs.declared.fault.DviFault.{DviFault}
 use Rattle.dvi_walk.specs.declared.fault.DviFault.TheVariants as faults
-use Rattle.dvi_walk.specs.declared.walk.Walk.{Walk}
 use Rattle.dvi_walk.proofs.PointerLemmas.{stray_bop, stray_pointer, unmet_pointer}
 use Rattle.tfm_core.specs.FileWidths.{file_widths}
 use Rattle.tfm_core.specs.NamedBytes.{NamedBytes}
@@ -46,41 +40,31 @@ pub chain_refused : (files : List NamedBytes) (bytes : List ℕ) (post e : ℕ) 
 chain_refused files bytes post e stop frames.OutOfMemory result ends named bad memory = ForPlaces post e stop (memory refl) ends named
 chain_refused files bytes post e stop (frames.Bad fault) result ends broken bad memory = InTheChain fault post e stop (bad fault refl) ends broken
 
--- What is behind the preamble begins the walk.
-pub starts_reached : (files : List NamedBytes) (bytes : List ℕ) (post behind last : ℕ) (stop : Postamble) (chain : List ℕ) (from : ℕ) (table : List Definition) → StartsAt bytes post behind last stop chain from
-    → IsReached (file_widths files) table bytes stop chain from (Between []) [] (all_left chain)
-starts_reached files bytes post behind last stop chain from table starts =
+-- What is after the preamble begins the walk.
+pub starts_reached : (files : List NamedBytes) (bytes : List ℕ) (post behind last : ℕ) (stop : Postamble) (chain : List ℕ) (from : ℕ) (ahead : List ℤ) → StartsAt bytes post behind last stop chain from
+    → IsReached (file_widths files) ahead bytes stop chain from (at_first chain)
+starts_reached files bytes post behind last stop chain from ahead starts =
     let high = post_within files bytes post behind last stop chain starts.chained.framed in
     let within = starts.preamble.within in
-    reached_first (file_widths files) table bytes stop chain from starts.preamble.comment (omega arith) starts.preamble.spelled
+    reached_first (file_widths files) ahead bytes stop chain from starts.preamble.comment (omega arith) starts.preamble.spelled
 
 -- A pointer that is named in the pages is that of a bop that is not in the chain.
-pub strays : (files : List NamedBytes) (table : List Definition) (bytes : List ℕ) (post behind last : ℕ) (stop : Postamble) (chain : List ℕ) (fault : DviFault) → IsFramed bytes post behind last stop chain
-    → IsWalkFault files table bytes stop chain post fault → IsStray bytes post chain fault
-strays files table bytes post behind last stop chain fault framed broken = λ bad is cause.
-    let walk = subst (λ (fault : DviFault). IsWalkFault files table bytes stop chain post fault) is broken in
+pub strays : (files : List NamedBytes) (ahead : List ℤ) (bytes : List ℕ) (post behind last : ℕ) (stop : Postamble) (chain : List ℕ) (fault : DviFault) → IsFramed bytes post behind last stop chain
+    → IsWalkFault files ahead bytes stop chain post fault → IsStray bytes post chain fault
+strays files ahead bytes post behind last stop chain fault framed broken = λ bad is cause.
+    let walk = subst (λ (fault : DviFault). IsWalkFault files ahead bytes stop chain post fault) is broken in
     let high = post_within files bytes post behind last stop chain framed in
-    (stray_bop files table bytes stop chain post bad cause walk, stray_pointer files table bytes stop chain post post stop.last_bop bad high framed.links cause walk)
+    (stray_bop files ahead bytes stop chain post bad cause walk, stray_pointer files ahead bytes stop chain post post stop.last_bop bad high framed.links cause walk)
 
 -- What was found makes a file of the pages.
-pub opened : (files : List NamedBytes) (bytes : List ℕ) (post behind last : ℕ) (stop : Postamble) (chain : List ℕ) (from : ℕ) (table new : List Definition) (walk : Walk)
-    → HasPages files bytes post behind last stop chain from table walk → HasEnded walk → ClosesTo bytes behind (last - 5) (known_of walk) new → IsFile (file_widths files) bytes (map page_of walk.done.items)
-opened files bytes post behind last stop chain from table new walk has ended (tail, closes, new_is) =
+pub opened : (files : List NamedBytes) (bytes : List ℕ) (post behind last : ℕ) (stop : Postamble) (chain : List ℕ) (from : ℕ) (ahead : List ℤ) (seen : SoFar) (pages : List MarkedPage) (new : List Definition)
+    → HasPages files bytes post behind last stop chain from ahead seen → HasEnded seen.pass seen.left pages → ClosesTo bytes behind (last - 5) seen.known new → IsFile (file_widths files) bytes pages
+opened files bytes post behind last stop chain from ahead seen pages new has ended (tail, closes, new_is) =
     let framed = has.starts.chained.framed in
-    let known = has.walked.known in
-    let pages = map page_of walk.done.items in
-    let right = fonts_same (known_of walk) known (says tail) has.walked.same closes.fonts in
-    let alone : Closes bytes behind (last - 5) [] tail =
-    record { spelled = closes.spelled; whole = closes.whole; idle = closes.idle; fonts = fonts_fewer known [] (says tail) closes.idle (λ d none. absurd none) right } in
-    let table_is = looked bytes behind (last - 5) table tail (behind_within files bytes post behind last stop chain framed) has.ahead alone in
-    let stand : stand_of walk ≡ Between pages = ap (λ (stand : Stand). pass_at (map page_of walk.done.items) stand) ended.between in
-    let left : places_left walk ≡ all_left [] = ap₂ (λ (missed : Bool) (ns : List ℕ). record { missed = missed; places = reverse ns }) ended.met ended.none in
-    let one = subst (λ (ds : List Definition). IsReached (file_widths files) ds bytes stop chain post (stand_of walk) known (places_left walk)) table_is has.walked.reached in
-    let two = subst (λ (p : Pass). IsReached (file_widths files) (definitions (says tail)) bytes stop chain post p known (places_left walk)) stand one in
-    let three = subst (λ (left : Left). IsReached (file_widths files) (definitions (says tail)) bytes stop chain post (Between pages) known left) left two in
-    let is_tail : IsTail bytes behind last known tail = record { spelled = closes.spelled; whole = closes.whole; idle = closes.idle; fonts = right } in
+    let numbers = looked bytes behind (last - 5) ahead seen.known tail (behind_within files bytes post behind last stop chain framed) has.looked closes in
+    let is_tail : IsTail bytes behind last seen.known tail = record { spelled = closes.spelled; whole = closes.whole; idle = closes.idle; fonts = closes.fonts } in
     passed_file bytes post behind last stop chain framed (file_widths files) pages has.starts.chained.count
-    (reached_end (file_widths files) bytes post behind last stop chain pages known tail has.starts.preamble.units three is_tail)
+    (reached_end (file_widths files) bytes post behind last stop chain pages ahead seen tail has.starts.preamble.units numbers has.reached ended.between ended.none is_tail)
 
 -- The units are those of post.
 pub units_of_post : (bytes : List ℕ) (post e : ℕ) (stop : Postamble) → Ends bytes post e stop → (f : Frame bytes) → stop.units ≡ f.stop.units
@@ -89,21 +73,16 @@ units_of_post bytes post e stop ends f =
     let (lasts, posts, stops) = one_end bytes post e (length (written f.front)) found.0 stop f.stop ends found.1 in
     ap (λ (s : Postamble). s.units) stops
 
--- A refusal at post's place or behind it.
-pub finish_refused : (files : List NamedBytes) (bytes : List ℕ) (post behind last : ℕ) (stop : Postamble) (chain : List ℕ) (from : ℕ) (table : List Definition) (walk : Walk) (fault : DviFault)
-    → HasPages files bytes post behind last stop chain from table walk → IsFinishFault bytes post behind last walk fault → IsDviFault files bytes fault
-finish_refused files bytes post behind last stop chain from table walk faults.OutOfMemory has (ended, new, wants) = ForDefinitions post behind last stop chain from table new walk refl has ended wants
-finish_refused files bytes post behind last stop chain from table walk (faults.Bad bad) has (inl unended) =
-    AtPost bad post behind last stop chain from table walk refl has unended (λ cause. unmet_pointer (file_widths files) table bytes stop chain post walk bad has.walked cause unended)
-finish_refused files bytes post behind last stop chain from table walk (faults.Bad bad) has (inr (ended, new, broken)) = BehindPost bad post behind last stop chain from table new walk refl has ended broken
-finish_refused files bytes post behind last stop chain from table walk fault has broken = absurd broken
-
--- The same definitions, from list to list.
-same_trans : (xs ys zs : List Definition) → HasSame xs ys → HasSame ys zs → HasSame xs zs
-same_trans xs ys zs one other = record { there = λ d at. other.there d (one.there d at); back = λ d at. one.back d (other.back d at) }
-
-same_front_of : (xs ys ds : List Definition) → HasSame xs ys → HasSame (xs ++ ds) (ys ++ ds)
-same_front_of xs ys ds same = same_trans (xs ++ ds) (ds ++ ys) (ys ++ ds) (same_more xs ys ds same) (same_sym (ys ++ ds) (ds ++ ys) (same_more ys ys ds (same_self ys)))
+-- A refusal at post's place or after it.
+pub finish_refused : (files : List NamedBytes) (bytes : List ℕ) (post behind last : ℕ) (stop : Postamble) (chain : List ℕ) (from : ℕ) (ahead : List ℤ) (seen : SoFar) (fault : DviFault)
+    → HasPages files bytes post behind last stop chain from ahead seen → IsFinishFault bytes post behind last seen.pass seen.left seen.known fault → IsDviFault files bytes fault
+finish_refused files bytes post behind last stop chain from ahead seen faults.OutOfMemory has (pages, ended, new, wants) =
+    ForDefinitions post behind last stop chain from ahead seen pages new refl has ended wants
+finish_refused files bytes post behind last stop chain from ahead seen (faults.Bad bad) has (inl unended) =
+    AtPost bad post behind last stop chain from ahead seen refl has unended (λ cause. unmet_pointer (file_widths files) ahead bytes stop chain post seen bad has.reached cause unended)
+finish_refused files bytes post behind last stop chain from ahead seen (faults.Bad bad) has (inr (pages, ended, new, broken)) =
+    AfterPost bad post behind last stop chain from ahead seen pages new refl has ended broken
+finish_refused files bytes post behind last stop chain from ahead seen fault has broken = absurd broken
 
 -- Where the parts of each frame stand.
 frame_parts : (bytes : List ℕ) (post behind last : ℕ) (stop : Postamble) (chain : List ℕ) → IsFramed bytes post behind last stop chain → (g : Frame bytes)
@@ -137,34 +116,28 @@ frame_parts bytes post behind last stop chain framed g =
         let equal = ap (λ (x : List ℕ). length x) same in
         omega arith
 
--- The definitions that a walk has kept at the end are those of the whole file.
-pub fonts_read : (metrics : Metrics) (table : List Definition) (bytes : List ℕ) (post behind last : ℕ) (stop : Postamble) (chain : List ℕ) (walk : Walk) (new : List Definition)
-    → IsFramed bytes post behind last stop chain → IsWalked metrics table bytes stop chain post walk → ClosesTo bytes behind (last - 5) (known_of walk) new
-    → (f : Frame bytes) → HasSame new (definitions (says f.front ++ says f.tail))
-fonts_read metrics table bytes post behind last stop chain walk new framed walked (tail, closes, new_is) f =
-    let r = walked.reached in
+-- The definitions that were read up to post and after it are those of the whole file.
+pub fonts_read : (metrics : Metrics) (ahead : List ℤ) (bytes : List ℕ) (post behind last : ℕ) (stop : Postamble) (chain : List ℕ) (seen : SoFar) (new : List Definition)
+    → IsFramed bytes post behind last stop chain → IsReached metrics ahead bytes stop chain post seen → ClosesTo bytes behind (last - 5) seen.known new
+    → (f : Frame bytes) → new ≡ definitions (says f.front ++ says f.tail)
+fonts_read metrics ahead bytes post behind last stop chain seen new framed r (tail, closes, new_is) f =
     let parts = frame_parts bytes post behind last stop chain framed f in
     let front : r.before ≡ f.front = one_list r.before f.front r.spelled f.front_spelled (r.whole ∙ sym parts.0) in
     let behind_it : tail ≡ f.tail = one_list tail f.tail closes.spelled f.tail_spelled (closes.whole ∙ sym parts.1) in
-    let before = definitions (says r.before) in
-    let ds = definitions (says tail) in
-    let there : HasSame before (known_after [] (says r.before)) = same_after [] [] (says r.before) (same_self []) in
-    let known : HasSame before walked.known = subst (λ (ks : List Definition). HasSame before ks) r.known_is there in
-    let both = same_front_of (known_of walk) before ds (same_trans (known_of walk) walked.known before walked.same (same_sym before walked.known known)) in
-    let joined : definitions (says r.before ++ says tail) ≡ before ++ ds = flat_map-append definition_of (says r.before) (says tail) in
-    let whole = subst (λ (ks : List Definition). HasSame ks (before ++ ds)) (sym new_is) both in
-    let all = subst (λ (ks : List Definition). HasSame new ks) (sym joined) whole in
-    subst₂ (λ (a b : List Token). HasSame new (definitions (says a ++ says b))) front behind_it all
+    new_is
+    ∙ (ap (λ (ds : List Definition). ds ++ definitions (says tail)) (sym r.known_is)
+    ∙ (sym (flat_map-append definition_of (says r.before) (says tail))
+    ∙ ap₂ (λ (a b : List Token). definitions (says a ++ says b)) front behind_it))
 
 -- What was read of a whole file.
-pub read_from : (files : List NamedBytes) (bytes : List ℕ) (post behind last : ℕ) (stop : Postamble) (chain : List ℕ) (from : ℕ) (table new : List Definition) (walk : Walk)
-    → HasPages files bytes post behind last stop chain from table walk → HasEnded walk → ClosesTo bytes behind (last - 5) (known_of walk) new
-    → IsReadFrom files bytes (record { units = stop.units; pages = map page_of walk.done.items; fonts = new })
-read_from files bytes post behind last stop chain from table new walk has ended closes =
+pub read_from : (files : List NamedBytes) (bytes : List ℕ) (post behind last : ℕ) (stop : Postamble) (chain : List ℕ) (from : ℕ) (ahead : List ℤ) (seen : SoFar) (pages : List MarkedPage) (new : List Definition)
+    → HasPages files bytes post behind last stop chain from ahead seen → HasEnded seen.pass seen.left pages → ClosesTo bytes behind (last - 5) seen.known new
+    → IsReadFrom files bytes (record { units = stop.units; pages = pages; fonts = new })
+read_from files bytes post behind last stop chain from ahead seen pages new has ended closes =
     record {
-      pages = opened files bytes post behind last stop chain from table new walk has ended closes;
+      pages = opened files bytes post behind last stop chain from ahead seen pages new has ended closes;
       units = units_of_post bytes post last stop has.starts.chained.framed.ends;
-      fonts = fonts_read (file_widths files) table bytes post behind last stop chain walk new has.starts.chained.framed has.walked closes;
+      fonts = fonts_read (file_widths files) ahead bytes post behind last stop chain seen new has.starts.chained.framed has.reached closes;
     }
 
 -- What follows for a whole answer.
@@ -193,19 +166,19 @@ exactly files bytes (Err fault) pages read bad f = absurd (no_fault files bytes 
 pub exact_open : (files : List NamedBytes) (bytes : List ℕ) (result : Result Opened DviFault) → IfOk result (IsReadFrom files bytes) → IfErr result (IsDviFault files bytes) → IsExact files bytes result
 exact_open files bytes result read bad = λ pages f. exactly files bytes result pages read bad f
 
--- What is wrong behind post.
-pub tail_refused : (bytes : List ℕ) (post behind last : ℕ) (walk : Walk) (new : List Definition) (fault : FrameFault) (result : DviFault) → HasEnded walk
-    → IsClosingFault bytes behind (last - 5) (known_of walk) new fault
-    → ((bad : BadDvi) → fault ≡ frames.Bad bad → result ≡ faults.Bad bad) → (fault ≡ frames.OutOfMemory → result ≡ faults.OutOfMemory) → IsFinishFault bytes post behind last walk result
-tail_refused bytes post behind last walk new frames.OutOfMemory result ended wants bad memory =
-    subst (λ (f : DviFault). IsFinishFault bytes post behind last walk f) (sym (memory refl)) (ended, new, wants)
-tail_refused bytes post behind last walk new (frames.Bad fault) result ended broken bad memory =
-    subst (λ (f : DviFault). IsFinishFault bytes post behind last walk f) (sym (bad fault refl)) (inr (ended, new, broken))
+-- What is wrong after post.
+pub tail_refused : (bytes : List ℕ) (post behind last : ℕ) (p : Pass) (left : Left) (pages : List MarkedPage) (known new : List Definition) (fault : FrameFault) (result : DviFault) → HasEnded p left pages
+    → IsClosingFault bytes behind (last - 5) known new fault
+    → ((bad : BadDvi) → fault ≡ frames.Bad bad → result ≡ faults.Bad bad) → (fault ≡ frames.OutOfMemory → result ≡ faults.OutOfMemory) → IsFinishFault bytes post behind last p left known result
+tail_refused bytes post behind last p left pages known new frames.OutOfMemory result ended wants bad memory =
+    subst (λ (f : DviFault). IsFinishFault bytes post behind last p left known f) (sym (memory refl)) (pages, ended, new, wants)
+tail_refused bytes post behind last p left pages known new (frames.Bad fault) result ended broken bad memory =
+    subst (λ (f : DviFault). IsFinishFault bytes post behind last p left known f) (sym (bad fault refl)) (inr (pages, ended, new, broken))
 
 -- The same, of pages that are equal to those of the walk.
-pub read_kept : (files : List NamedBytes) (bytes : List ℕ) (post behind last : ℕ) (stop : Postamble) (chain : List ℕ) (from : ℕ) (table new : List Definition) (walk : Walk) (pages : List MarkedPage)
-    → HasPages files bytes post behind last stop chain from table walk → HasEnded walk → ClosesTo bytes behind (last - 5) (known_of walk) new → pages ≡ map page_of walk.done.items
-    → IsReadFrom files bytes (record { units = stop.units; pages = pages; fonts = new })
-read_kept files bytes post behind last stop chain from table new walk pages has ended closes same =
+pub read_kept : (files : List NamedBytes) (bytes : List ℕ) (post behind last : ℕ) (stop : Postamble) (chain : List ℕ) (from : ℕ) (ahead : List ℤ) (seen : SoFar) (pages kept : List MarkedPage)
+    (new : List Definition) → HasPages files bytes post behind last stop chain from ahead seen → HasEnded seen.pass seen.left pages → ClosesTo bytes behind (last - 5) seen.known new → kept ≡ pages
+    → IsReadFrom files bytes (record { units = stop.units; pages = kept; fonts = new })
+read_kept files bytes post behind last stop chain from ahead seen pages kept new has ended closes same =
     subst (λ (ps : List MarkedPage). IsReadFrom files bytes (record { units = stop.units; pages = ps; fonts = new })) (sym same)
-    (read_from files bytes post behind last stop chain from table new walk has ended closes)
+    (read_from files bytes post behind last stop chain from ahead seen pages new has ended closes)

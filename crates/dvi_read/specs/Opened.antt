@@ -1,6 +1,5 @@
 -- What is kept of a file that was opened, and what its file says of it (own).
 use Rattle.std.specs.Prelude.{◌≡◌, ◌++◌, List, ℕ, Result, Ok, Err}
-use Rattle.dvi_pass.specs.Known.{HasSame}
 use Rattle.dvi_ops.specs.File.{Frame, IsFile, MarkedPage}
 use Rattle.dvi_ops.specs.Fonts.{definitions}
 use Rattle.dvi_ops.specs.Instruction.{Definition, Units}
@@ -20,9 +19,9 @@ pub record Opened : Type 0 where
 abbrev pub HasUnitsOf : List ℕ → Opened → Type 0
 HasUnitsOf bytes dvi = (f : Frame bytes) → dvi.units ≡ f.stop.units
 
--- The definitions are those of the whole file: the same ones, each at least once, up to post and behind it.
+-- The definitions are those of the whole file, in order: up to post and after it.
 abbrev pub HasFontsOf : List ℕ → Opened → Type 0
-HasFontsOf bytes dvi = (f : Frame bytes) → HasSame dvi.fonts (definitions (says f.front ++ says f.tail))
+HasFontsOf bytes dvi = (f : Frame bytes) → dvi.fonts ≡ definitions (says f.front ++ says f.tail)
 
 -- In a file of these pages a call gives exactly them, or memory is wanting.
 abbrev pub GivesPages : List MarkedPage → Result Opened DviFault → Type 0

@@ -1,23 +1,21 @@
 -- What is found in a file before its pages, and the rules that a refusal names, in the order of the checks (DVItype, 15 to 20; the order is own).
-use Rattle.std.specs.Prelude.{◌≡◌, ◌≢◌, ◌⊎◌, ◌-◌, ◌%◌, [], List, length, reverse, ℕ}
-use Rattle.dvi_closing.specs.Closing.{IsClosingFault, IsLookedAhead}
+use Rattle.std.specs.Prelude.{◌≡◌, ◌≢◌, ◌⊎◌, ◌-◌, ◌%◌, List, length, reverse, ℕ, ℤ}
+use Rattle.dvi_closing.specs.Ahead.{IsLookedAhead, IsUnlooked}
+use Rattle.dvi_closing.specs.Closing.{IsClosingFault}
 use Rattle.dvi_frame.specs.Chain.{BreaksChain, IsPageAt, NamesPage}
 use Rattle.dvi_frame.specs.Ends.{BreaksEnd, Ends}
 use Rattle.dvi_frame.specs.Preamble.{HasPreamble, IsPreambleFault}
 use Rattle.dvi_frame.specs.declared.fault.BadDvi.{BadDvi}
 use Rattle.dvi_frame.specs.declared.fault.DviCause.TheVariants.{Pointer}
 use Rattle.dvi_frame.specs.declared.fault.FrameFault.TheVariants as frames
+use Rattle.dvi_ops.specs.File.{MarkedPage}
 use Rattle.dvi_ops.specs.Instruction.{Definition, Postamble}
 use Rattle.dvi_ops.specs.Tokens.{Token, places}
-use Rattle.dvi_ops.specs.View.{postamble}
 use Rattle.dvi_pass.specs.Passed.{IsFramed}
-use Rattle.dvi_pass.specs.Reached.{IsIn}
-use Rattle.dvi_read.specs.declared.before_pages.Front.{Front}
-use Rattle.dvi_walk.specs.Steps.{known_of}
-use Rattle.dvi_walk.specs.Walks.{HasEnded, IsUnended, IsWalkFault, IsWalked}
+use Rattle.dvi_pass.specs.Reached.{IsIn, IsReached, SoFar}
+use Rattle.dvi_walk.specs.Stops.{HasEnded, IsUnended, IsWalkFault}
 use Rattle.dvi_walk.specs.declared.fault.DviFault.{DviFault}
 use Rattle.dvi_walk.specs.declared.fault.DviFault.TheVariants.{Bad, OutOfMemory}
-use Rattle.dvi_walk.specs.declared.walk.Walk.{Walk}
 use Rattle.tfm_core.specs.FileWidths.{file_widths}
 use Rattle.tfm_core.specs.NamedBytes.{NamedBytes}
 
@@ -31,15 +29,11 @@ pub record StartsAt (bytes : List ℕ) (post behind last : ℕ) (stop : Postambl
   pub chained : HasChain bytes post behind last stop chain
   pub preamble : HasPreamble bytes post stop from
 
--- What was found before the pages.
-abbrev pub HasFront : List ℕ → Front → Type 0
-HasFront bytes f = StartsAt bytes f.ending.post f.ending.behind f.ending.last (postamble f.ending.stop) f.chain.items f.from
-
--- All up to post is right, and the walk holds what it gives; `table` are the definitions of the postamble.
-pub record HasPages (files : List NamedBytes) (bytes : List ℕ) (post behind last : ℕ) (stop : Postamble) (chain : List ℕ) (from : ℕ) (table : List Definition) (walk : Walk) : Type 0 where
+-- All up to post is right: `seen` is what was read there, and `ahead` are the numbers of fonts that are defined after post.
+pub record HasPages (files : List NamedBytes) (bytes : List ℕ) (post behind last : ℕ) (stop : Postamble) (chain : List ℕ) (from : ℕ) (ahead : List ℤ) (seen : SoFar) : Type 0 where
   pub starts : StartsAt bytes post behind last stop chain from
-  pub ahead : IsLookedAhead bytes behind (last - 5) table
-  pub walked : IsWalked (file_widths files) table bytes stop chain post walk
+  pub looked : IsLookedAhead bytes behind (last - 5) ahead
+  pub reached : IsReached (file_widths files) ahead bytes stop chain post seen
 
 -- Where a fault in the pages names Pointer, a bop stands at its place, and that place is not in the chain.
 abbrev pub IsStray : List ℕ → (post : ℕ) → (chain : List ℕ) → DviFault → Type 0
@@ -50,31 +44,24 @@ abbrev pub IsUnmet : (before : List Token) → (chain : List ℕ) → BadDvi →
 IsUnmet before chain bad = bad.cause ≡ Pointer → places 0 before ≢ reverse chain
 
 -- Why a file is refused. Each choice says that the rules of the checks before it hold, and which rule is broken at the place that the fault names:
--- of the end; of the chain of pages; of the preamble; of the pages; of post's place, where no page is open and each place of the chain was a bop; of what is behind post.
--- Memory may be wanting for the places of the chain, where post names a page; for an instruction of the pages; for a right definition behind post: looked ahead, and where it stands.
+-- of the end; of the chain of pages; of the preamble; of the pages; of post's place, where no page is open and each place of the chain was a bop; of what is after post.
+-- Memory may be wanting for the places of the chain, where post names a page; for a number that is looked ahead; for an instruction of the pages; for a right definition after post.
 pub data IsDviFault (files : List NamedBytes) (bytes : List ℕ) (fault : DviFault) : Type 0 where
   ForPlaces : (post e : ℕ) (stop : Postamble) → fault ≡ OutOfMemory → Ends bytes post e stop → NamesPage bytes post stop.last_bop → IsDviFault files bytes fault
-  LookingAhead : (post behind last : ℕ) (stop : Postamble) (chain : List ℕ) (from : ℕ) (table : List Definition) → fault ≡ OutOfMemory → StartsAt bytes post behind last stop chain from
-      → IsClosingFault bytes behind (last - 5) [] table frames.OutOfMemory → IsDviFault files bytes fault
+  LookingAhead : (post behind last : ℕ) (stop : Postamble) (chain : List ℕ) (from : ℕ) → fault ≡ OutOfMemory → StartsAt bytes post behind last stop chain from
+      → IsUnlooked bytes behind (last - 5) → IsDviFault files bytes fault
   AtTheEnd : (bad : BadDvi) → fault ≡ Bad bad → BreaksEnd bytes bad.place bad.cause → IsDviFault files bytes fault
   InTheChain : (bad : BadDvi) (post e : ℕ) (stop : Postamble) → fault ≡ Bad bad → Ends bytes post e stop → BreaksChain bytes post stop bad.place bad.cause → IsDviFault files bytes fault
   InThePreamble : (bad : BadDvi) (post behind last : ℕ) (stop : Postamble) (chain : List ℕ) → fault ≡ Bad bad → HasChain bytes post behind last stop chain
       → IsPreambleFault bytes post stop bad → IsDviFault files bytes fault
-  InThePages : (post behind last : ℕ) (stop : Postamble) (chain : List ℕ) (from : ℕ) (table : List Definition) → StartsAt bytes post behind last stop chain from
-      → IsLookedAhead bytes behind (last - 5) table → IsWalkFault files table bytes stop chain post fault → IsStray bytes post chain fault
+  InThePages : (post behind last : ℕ) (stop : Postamble) (chain : List ℕ) (from : ℕ) (ahead : List ℤ) → StartsAt bytes post behind last stop chain from
+      → IsLookedAhead bytes behind (last - 5) ahead → IsWalkFault files ahead bytes stop chain post fault → IsStray bytes post chain fault
       → IsDviFault files bytes fault
-  AtPost : (bad : BadDvi) (post behind last : ℕ) (stop : Postamble) (chain : List ℕ) (from : ℕ) (table : List Definition) (walk : Walk) → fault ≡ Bad bad
-      → (has : HasPages files bytes post behind last stop chain from table walk) → IsUnended walk post bad → IsUnmet has.walked.reached.before chain bad → IsDviFault files bytes fault
-  BehindPost : (bad : BadDvi) (post behind last : ℕ) (stop : Postamble) (chain : List ℕ) (from : ℕ) (table new : List Definition) (walk : Walk) → fault ≡ Bad bad
-      → HasPages files bytes post behind last stop chain from table walk → HasEnded walk → IsClosingFault bytes behind (last - 5) (known_of walk) new (frames.Bad bad)
-      → IsDviFault files bytes fault
-  ForDefinitions : (post behind last : ℕ) (stop : Postamble) (chain : List ℕ) (from : ℕ) (table new : List Definition) (walk : Walk) → fault ≡ OutOfMemory
-      → HasPages files bytes post behind last stop chain from table walk → HasEnded walk → IsClosingFault bytes behind (last - 5) (known_of walk) new frames.OutOfMemory
-      → IsDviFault files bytes fault
-
--- Why a walk does not end at post's place, or what is behind post is wrong, or memory is wanting for a definition there.
-abbrev pub IsFinishFault : List ℕ → (post behind last : ℕ) → Walk → DviFault → Type 0
-IsFinishFault bytes post behind last walk OutOfMemory = HasEnded walk × (new : List Definition) × IsClosingFault bytes behind (last - 5) (known_of walk) new frames.OutOfMemory
-IsFinishFault bytes post behind last walk (Bad bad) =
-    IsUnended walk post bad ⊎ HasEnded walk × (new : List Definition) × IsClosingFault bytes behind (last - 5) (known_of walk) new (frames.Bad bad)
-IsFinishFault bytes post behind last walk fault = ⊥
+  AtPost : (bad : BadDvi) (post behind last : ℕ) (stop : Postamble) (chain : List ℕ) (from : ℕ) (ahead : List ℤ) (seen : SoFar) → fault ≡ Bad bad
+      → (has : HasPages files bytes post behind last stop chain from ahead seen) → IsUnended seen.pass seen.left post bad → IsUnmet has.reached.before chain bad → IsDviFault files bytes fault
+  AfterPost : (bad : BadDvi) (post behind last : ℕ) (stop : Postamble) (chain : List ℕ) (from : ℕ) (ahead : List ℤ) (seen : SoFar) (pages : List MarkedPage) (new : List Definition)
+      → fault ≡ Bad bad → HasPages files bytes post behind last stop chain from ahead seen → HasEnded seen.pass seen.left pages
+      → IsClosingFault bytes behind (last - 5) seen.known new (frames.Bad bad) → IsDviFault files bytes fault
+  ForDefinitions : (post behind last : ℕ) (stop : Postamble) (chain : List ℕ) (from : ℕ) (ahead : List ℤ) (seen : SoFar) (pages : List MarkedPage) (new : List Definition)
+      → fault ≡ OutOfMemory → HasPages files bytes post behind last stop chain from ahead seen → HasEnded seen.pass seen.left pages
+      → IsClosingFault bytes behind (last - 5) seen.known new frames.OutOfMemory → IsDviFault files bytes fault

@@ -2,7 +2,8 @@
 
 ghost use Rattle.std.specs.Prelude.{◌≡◌, List, IfErr, IfOk};
 ghost use Rattle.dvi_frame.specs.declared.fault.BadDvi.{BadDvi};
-ghost use Rattle.dvi_read.specs.Opening.{HasFront, IsDviFault};
+ghost use Rattle.dvi_read.specs.Opening.{IsDviFault};
+ghost use Rattle.dvi_read.specs.Parts.{HasFront};
 ghost use Rattle.tfm_core.specs.NamedBytes.{NamedBytes};
 
 use dvi_frame::{Ending, FrameFault, chain, ends, preamble};

@@ -2,7 +2,7 @@
 
 ghost use Rattle.std.specs.Prelude.{◌≡◌, ◌≢◌, ◌++◌, ◌<◌, length, map, slice_get, IfErr, IfOk, OnErr, OnOk, Some};
 ghost use Rattle.dvi_listing.specs.Listing.{listing as listing_of};
-ghost use Rattle.dvi_ops.specs.File.{IsFile};
+ghost use Rattle.dvi_ops.specs.File.{AreUnits, IsFile};
 ghost use Rattle.dvi_ops.specs.View.{definition, units as view_units};
 ghost use Rattle.dvi_pass.specs.View.{page_of};
 ghost use Rattle.dvi_read.specs.Opened.{HasFontsOf, HasUnitsOf, IsExact, IsNoFile, IsReadFrom};
@@ -30,6 +30,7 @@ pub struct Dvi<'a> {
 
 impl<'a> Model for Dvi<'a> {
     ghost use Rattle.std.specs.Prelude.{map};
+    ghost use Rattle.dvi_ops.specs.File.{AreUnits};
     ghost use Rattle.dvi_ops.specs.View.{definition, units as view_units};
     ghost use Rattle.dvi_pass.specs.View.{page_of};
     ghost use Rattle.dvi_read.specs.Opened.{Opened};
@@ -37,10 +38,13 @@ impl<'a> Model for Dvi<'a> {
     ghost Value = { Opened };
 
     ghost view = { λ dvi. record { units = view_units dvi.units; pages = map page_of dvi.pages.items; fonts = map definition dvi.fonts.items } };
+
+    ghost invariant = { λ dvi. AreUnits (view_units dvi.units) };
 }
 
 /// What is kept of a walk over all pages.
 fn kept(units: Units, walk: Walk<'_>) -> Dvi<'_>
+    requires { AreUnits (view_units units) }
     ensures { result ≡ record { units = view_units units; pages = map page_of walk.entry.done.items; fonts = walk.entry.known } }
 {
     let Walk { done, known, .. } = walk;
@@ -110,14 +114,15 @@ impl<'a> Dvi<'a> {
         &self.pages[index]
     }
 
-    /// The units of the file: num, den and mag.
+    /// The units of the file: num, den and mag, which are positive.
     pub fn units(&self) -> Units
-        ensures { view_units result ≡ self.now.units }
+        ensures value { view_units result ≡ self.now.units }
+        ensures positive { AreUnits (view_units result) }
     {
         self.units
     }
 
-    /// The definitions of the fonts of the file.
+    /// The definitions of the fonts of the file, in its order.
     pub fn fonts(&self) -> &[FontDefinition<'a>]
         ensures { map definition result.now ≡ self.now.fonts }
     {
