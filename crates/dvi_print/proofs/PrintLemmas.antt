@@ -1,9 +1,8 @@
 -- What is printed of files that are refused, and of pages.
-use Rattle.std.proofs.Common.{◌≡◌, ◌-◌, ℕ, Bool, true, false, List, Some, ◌++◌, Result, Ok, Err, OnOk, IfOk, append_assoc, inr, refl, sym, ◌∙◌, ap, subst}
+use Rattle.std.proofs.Common.{◌≡◌, ◌-◌, ℕ, Bool, true, false, List, Some, ◌++◌, Result, Ok, Err, OnOk, IfOk, append_assoc, inr, refl, ◌∙◌, ap}
 use Rattle.std.specs.Prelude.{◌≢◌, slice_get}
 use Rattle.std.specs.declared.alloc.AllocError.{AllocError}
-use Rattle.dvi_ops.specs.File.{AreUnits, Frame, IsFile, MarkedPage}
-use Rattle.dvi_ops.specs.Fonts.{Metrics}
+use Rattle.dvi_ops.specs.File.{Frame, IsFile, MarkedPage}
 use Rattle.dvi_ops.specs.Instruction.{Units}
 use Rattle.dvi_print.specs.Faults.{fault_line}
 use Rattle.dvi_print.specs.Outputs.{IsListed, Paints, Refuses}
@@ -37,11 +36,6 @@ pub listed_refusal : (files : List NamedBytes) (bytes : List ℕ) (fault : DviFa
 listed_refusal files bytes fault (Ok output) broken none other text accepted =
     inr (refuses files bytes output.text.items fault output.accepted other broken none text accepted)
 listed_refusal files bytes fault (Err e) broken none other text accepted = tt
-
--- the units of a file are units
-pub units_are : (metrics : Metrics) (bytes : List ℕ) (pages : List MarkedPage) (u v : Units) → IsFile metrics bytes pages → u ≡ v
-    → ((f : Frame bytes) → v ≡ f.stop.units) → AreUnits u
-units_are metrics bytes pages u v file same of_file = subst (λ (units : Units). AreUnits units) (sym (same ∙ of_file file.frame)) file.units
 
 -- the bitmap of a page is printed
 pub paints : (files : List NamedBytes) (bytes : List ℕ) (page dpi width height : ℕ) (pages : List MarkedPage) (shown : MarkedPage) (u v : Units) (text : List ℕ)

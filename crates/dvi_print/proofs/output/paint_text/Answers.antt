@@ -1,6 +1,6 @@
 -- The line of the refusal, or the page with its units.
 use Rattle.std.proofs.Common.{inl, inr}
-use Rattle.dvi_print.proofs.PrintLemmas.{paints, refuses, units_are}
+use Rattle.dvi_print.proofs.PrintLemmas.{paints, refuses}
 use Rattle.dvi_print.proofs.output.paint_text.Goals as goal
 
 pub returns-in-Ok-refusal-clause-ok : goal.returns-in-Ok-refusal-clause-ok
@@ -8,10 +8,7 @@ returns-in-Ok-refusal-clause-ok c =
     inr (refuses c.args.files.now c.args.dvi.now _ c.in-Err.fault _ c.in-Ok-refusal.ensures.other c.in-Err.ensures.bad c.in-Err.ensures.refused
     c.in-Ok-refusal.ensures.text c.in-Ok-refusal.ensures.refused)
 
-pub page_text-requires-clause-units : goal.page_text-requires-clause-units
-page_text-requires-clause-units c = units_are _ c.args.dvi.now _ _ _ c.in-Ok.ensures.ok c.units.ensures c.in-Ok.ensures.units
-
 pub returns-in-Ok-page_text-clause-ok : goal.returns-in-Ok-page_text-clause-ok
 returns-in-Ok-page_text-clause-ok c =
     inl (paints c.args.files.now c.args.dvi.now c.args.page c.args.dpi c.args.width c.args.height _ _ _ _ _
-    c.in-Ok.ensures.ok c.page-shown.ensures c.units.ensures c.in-Ok.ensures.units c.in-Ok-page_text.ensures)
+    c.in-Ok.ensures.ok c.page-shown.ensures c.units.ensures.value c.in-Ok.ensures.units c.in-Ok-page_text.ensures)
