@@ -1,6 +1,5 @@
 -- What is looked ahead, one instruction after the other.
-use Rattle.std.proofs.Common.{◌≡◌, ◌≢◌, ◌≤◌, ◌<◌, ◌+◌, ◌-◌, ◌++◌, ◌||◌, [], ◌∷◌, List, length, take, drop, ℕ, ℤ, Bool, true, false, Option, Some, None, if◌then◌else◌, cond, refl, sym, ◌∙◌, ap, ap₂, subst, append-nil, length-append, arith}
-use Rattle.std.proofs.lemmas.List.{length-drop, length-take-le}
+use Rattle.std.proofs.Common.{◌≡◌, ◌≤◌, ◌<◌, ◌+◌, ◌-◌, ◌++◌, ◌||◌, [], ◌∷◌, List, length, take, drop, ℕ, ℤ, Bool, true, false, Option, Some, None, if◌then◌else◌, cond, refl, sym, ◌∙◌, ap, ap₂, subst, append-nil, arith}
 use Rattle.std.specs.BTreeSet.{BTreeSet, Updates}
 use Rattle.std.specs.List.{AllByRecursion}
 use Rattle.std.specs.Option.{is_some}

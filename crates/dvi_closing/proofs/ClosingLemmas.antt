@@ -8,7 +8,7 @@ use Rattle.dvi_ops.specs.Fonts.{FontsAreRight, IsRightAfter, IsSize, definition_
 use Rattle.dvi_ops.specs.Table.{Spells}
 use Rattle.dvi_ops.specs.Tokens.{Token, IsSpelled, says, written}
 use Rattle.dvi_ops.proofs.Appends.{all_append, all_back, says-append, written-append, definitions-append, fonts_append, fonts_back}
-use Rattle.dvi_ops.proofs.Frames.{begins, one_list}
+use Rattle.dvi_ops.proofs.Frames.{begins}
 use Rattle.dvi_frame.specs.Ends.{StandsAt}
 use Rattle.dvi_frame.specs.declared.fault.BadDvi.{BadDvi}
 use Rattle.dvi_frame.specs.declared.fault.DviCause.{DviCause}

@@ -7,7 +7,6 @@ use Rattle.dvi_ops.specs.Instruction.{Definition, FontDef, Instruction, Do}
 use Rattle.dvi_ops.specs.Table.{Spells}
 use Rattle.dvi_ops.specs.Tokens.{Token, IsSpelled, says, written}
 use Rattle.dvi_frame.specs.Ends.{StandsAt}
-use Rattle.dvi_frame.specs.declared.fault.BadDvi.{BadDvi}
 use Rattle.dvi_frame.specs.declared.fault.DviCause.{DviCause}
 use Rattle.dvi_frame.specs.declared.fault.DviCause.TheVariants.{Opcode, Truncated, Font}
 use Rattle.dvi_frame.specs.declared.fault.FrameFault.{FrameFault}

@@ -1,14 +1,14 @@
 -- The font that is selected where a pass stands, and the widths that it has: the pass asks only for the widths of fonts that were selected.
 use Rattle.std.proofs.Common.{◌≡◌, ◌++◌, [], ◌∷◌, List, ℕ, ℤ, Bool, true, false, Option, Some, None, nat_lt, length, if◌then◌else◌, refl, sym, ◌∙◌, ap, subst, inl, inr}
 use Rattle.std.specs.Prelude.{◌⊎◌, IsSome}
-use Rattle.std.specs.List.{AllByRecursion, flat_map}
+use Rattle.std.specs.List.{AllByRecursion}
 use Rattle.std.specs.Ordering.{int_eq}
 use Rattle.std.proofs.lemmas.Bool.Decides.{Decides-int_eq}
 use Rattle.dvi_ops.specs.Body.{Mark, Place, State, Meaning, Widths, acts, glyph, glyph_of, kept, kept_in, place_after, put_glyph, right, rule_at, set_glyph, start}
 use Rattle.dvi_ops.specs.File.{MarkedPage}
 use Rattle.dvi_ops.specs.Fonts.{Metrics, AgreesWith, FontsAreRight, IsRightAfter, defined, definition_of, definitions, font_in, known_after, selection_of, selections, width_in, widths_of}
 use Rattle.dvi_ops.specs.Instruction.{Definition, Leaf, SetChar, PutChar, SetRule, PutRule, Nop, Move, FontNum, FontDef, Xxx, Instruction, Do, Push, Pop, Bop, Eop, Pre, Post, PostPost}
-use Rattle.dvi_ops.proofs.Appends.{all_append, all_back, all_both, all_front, all_weaker, fonts_back, fonts_front}
+use Rattle.dvi_ops.proofs.Appends.{all_append, all_back, all_front, all_weaker, fonts_back}
 use Rattle.dvi_ops.proofs.SameMeaning.{SameWidths}
 use Rattle.dvi_pass.specs.Known.{IsAmong}
 use Rattle.dvi_pass.specs.Pass.{Pass, Between, Inside, drawn, goes, passes, turn}
@@ -193,8 +193,8 @@ pub later_agrees : (known : List Definition) (is : List Instruction) (d e : Defi
 later_agrees known [] d e right there none = absurd none
 later_agrees known (i ∷ is) d e (here, right) there later =
     elim (among_cut e (definition_of i) (definitions is) later) [
-      inl one ↦ one_agrees known i d e here there one
-    | inr rest ↦ later_agrees (definition_of i ++ known) is d e right (among_back d (definition_of i) known there) rest
+      | inl one ↦ one_agrees known i d e here there one
+      | inr rest ↦ later_agrees (definition_of i ++ known) is d e right (among_back d (definition_of i) known there) rest
     ]
 
 -- Where a number is defined among right instructions and among right ones after them, both first definitions are the same.

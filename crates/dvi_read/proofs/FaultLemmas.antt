@@ -1,5 +1,5 @@
 -- Where a rule is broken that a fault names, the bytes are no file.
-use Rattle.std.proofs.Common.{◌≡◌, ◌≢◌, ◌≤◌, ◌-◌, [], ◌∷◌, List, length, take, ℕ, ℤ, refl, sym, ◌∙◌, ap, subst, inl, inr, arith}
+use Rattle.std.proofs.Common.{◌≡◌, ◌≢◌, ◌≤◌, ◌-◌, [], ◌∷◌, List, length, take, ℕ, ℤ, refl, subst, inl, inr, arith}
 use Rattle.std.specs.Prelude.{◌⊎◌}
 use Rattle.std.specs.List.{AllByRecursion}
 use Rattle.dvi_closing.specs.Ahead.{IsLookedAhead}

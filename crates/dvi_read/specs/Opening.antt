@@ -1,5 +1,5 @@
 -- What is found in a file before its pages, and the rules that a refusal names, in the order of the checks (DVItype, 15 to 20; the order is own).
-use Rattle.std.specs.Prelude.{◌≡◌, ◌≢◌, ◌⊎◌, ◌-◌, ◌%◌, List, length, reverse, ℕ, ℤ}
+use Rattle.std.specs.Prelude.{◌≡◌, ◌≢◌, ◌-◌, ◌%◌, List, length, reverse, ℕ, ℤ}
 use Rattle.dvi_closing.specs.Ahead.{IsLookedAhead, IsUnlooked}
 use Rattle.dvi_closing.specs.Closing.{IsClosingFault}
 use Rattle.dvi_frame.specs.Chain.{BreaksChain, IsPageAt, NamesPage}

@@ -1,5 +1,5 @@
 -- One instruction of the pages: its width is that of the file's fonts, and the font that is selected behind it was read.
-use Rattle.std.proofs.Common.{◌≡◌, ◌++◌, [], ◌∷◌, List, map, ℕ, ℤ, true, Option, Some, None, refl, sym, ◌∙◌, ap, ap₂, subst, subst₂, inl, inr}
+use Rattle.std.proofs.Common.{◌≡◌, ◌++◌, [], ◌∷◌, List, map, ℕ, ℤ, Option, Some, None, refl, sym, ◌∙◌, ap, ap₂, subst, subst₂, inl, inr}
 use Rattle.std.specs.Prelude.{◌⊎◌, IsSome}
 use Rattle.std.specs.List.{AllByRecursion}
 use Rattle.dvi_frame.specs.declared.fault.DviCause.{DviCause}
@@ -11,7 +11,7 @@ use Rattle.dvi_ops.specs.Tokens.{place_of}
 use Rattle.dvi_ops.specs.Instruction.{Definition, Leaf, SetChar, PutChar, FontNum, FontDef, Instruction, Do}
 use Rattle.dvi_pass.specs.Drawing.{always}
 use Rattle.dvi_pass.specs.Pass.{Pass, Between, Inside, turn}
-use Rattle.dvi_pass.specs.Reached.{Left, behind_bops, has_number}
+use Rattle.dvi_pass.specs.Reached.{Left, behind_bops}
 use Rattle.dvi_pass.specs.Turning.{BreaksTurn, IsAsked, TakesRoom, pass_at}
 use Rattle.dvi_pass.specs.View.{page_of}
 use Rattle.dvi_pass.specs.declared.turning.Stand.{Stand}
@@ -19,7 +19,7 @@ use Rattle.dvi_pass.specs.declared.turning.Stand.TheVariants as stands
 use Rattle.dvi_pass.proofs.FontLemmas.{current_of, turn_font}
 use Rattle.dvi_pass.proofs.WidthLemmas.{one_width}
 use Rattle.dvi_walk.specs.ReadFonts.{AreSound, IsCurrent, ReadFonts, asked_width, code_in, read_of, selected_in, width_in}
-use Rattle.dvi_walk.specs.Steps.{AreRead, BreaksNote, BreaksPass, LacksFont, LacksNote, Notes, PassesOn, Steps, StopsStep, known_of, places_left, so_far, stand_of}
+use Rattle.dvi_walk.specs.Steps.{AreRead, BreaksNote, BreaksPass, LacksFont, LacksNote, Notes, PassesOn, Steps, StopsStep, known_of, so_far, stand_of}
 use Rattle.dvi_walk.specs.Stops.{BreaksRest, GoesOn, IsUnread, LacksRoom, WantsMemory}
 use Rattle.dvi_walk.specs.declared.fault.StepFault.{StepFault}
 use Rattle.dvi_walk.specs.declared.fault.StepFault.TheVariants.{OutOfMemory, Broken, Refused}

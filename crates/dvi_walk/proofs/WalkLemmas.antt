@@ -16,7 +16,7 @@ use Rattle.dvi_frame.specs.declared.fault.DviCause.TheVariants.{Opcode, Truncate
 use Rattle.dvi_frame.proofs.PlaceLemmas.{one_stands}
 use Rattle.dvi_ops.specs.Body.{Acts, acts}
 use Rattle.dvi_ops.specs.File.{MarkedPage}
-use Rattle.dvi_ops.specs.Fonts.{Metrics, IsSize, definition_of, definitions, font_in, selection_of, widths_of}
+use Rattle.dvi_ops.specs.Fonts.{Metrics, IsSize, definitions, font_in, selection_of, widths_of}
 use Rattle.dvi_ops.specs.Instruction.{Definition, FontNum, Instruction, Do, Push, Pop, Eop, Postamble}
 use Rattle.dvi_ops.specs.Tokens.{says}
 use Rattle.dvi_ops.proofs.Appends.{all_append, all_weaker}
@@ -31,7 +31,7 @@ use Rattle.dvi_pass.specs.declared.turning.Stand.TheVariants as stands
 use Rattle.dvi_pass.proofs.ReachedLemmas.{next_right, reached_next}
 use Rattle.dvi_pass.proofs.TurnLemmas.{broken_turn}
 use Rattle.dvi_walk.specs.ReadFonts.{IsCurrent, read_of}
-use Rattle.dvi_walk.specs.Steps.{AreRead, BreaksStep, StopsStep, known_of, places_left, so_far, stand_of}
+use Rattle.dvi_walk.specs.Steps.{BreaksStep, StopsStep, known_of, places_left, so_far, stand_of}
 use Rattle.dvi_walk.specs.Stops.{BreaksPages, BreaksRest, BreaksRule, IsPagesFault, IsUnended, IsWalkFault, LacksWidths}
 use Rattle.dvi_walk.specs.Walks.{IsBegun, IsWalked, Reads, StopsReading, fault_in}
 use Rattle.dvi_walk.specs.declared.fault.DviFault.{DviFault}

@@ -1,4 +1,4 @@
-use Rattle.std.proofs.Common.{arith, sym, subst, ◌≡◌, ℕ, Option}
+use Rattle.std.proofs.Common.{arith, subst, ◌≡◌, ℕ, Option}
 use Rattle.std.specs.Prelude.{IfNone, IfSome}
 use Rattle.std.specs.BTreeSet.{IsUnchanged}
 use Rattle.dvi_ops.specs.Fonts.{definitions}
