@@ -1,4 +1,4 @@
--- The instructions between post and post_post: nops and definitions of fonts (DVItype, 18 and 19); and how that may be broken (own).
+-- The instructions between post and post_post: nops and definitions of fonts (DVItype, 18 and 19); and how that may be broken (own). `ClosesOne` and `IsFaultAt` are said of a private call.
 use Rattle.std.specs.Prelude.{◌≡◌, ◌≤◌, ◌<◌, ◌-◌, ◌++◌, ◌⊎◌, List, drop, slice_index, take, ℕ}
 use Rattle.std.specs.List.{AllByRecursion}
 use Rattle.dvi_ops.specs.File.{IsIdle}

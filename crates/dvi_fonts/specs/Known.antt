@@ -1,4 +1,4 @@
--- The definitions that are known, and the first one of each number (own).
+-- The definitions that are known, and the first one of each number (own). No public clause reaches these definitions: they are the invariant of `KnownFonts`, and what a private call adds.
 use Rattle.std.specs.Prelude.{◌≡◌, ℤ, List, Option, [], ◌∷◌, option_map}
 use Rattle.std.specs.BTreeMap.{BTreeMap, get}
 use Rattle.std.specs.List.{AllByRecursion}

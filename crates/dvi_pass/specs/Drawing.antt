@@ -1,4 +1,4 @@
--- One instruction of a body, where the width of its character is known (DVItype, 15).
+-- One instruction of a body, where the width of its character is known (DVItype, 15). Public clauses reach `always` alone; what else stands here is said of private calls.
 use Rattle.std.specs.Prelude.{◌≡◌, ◌&&◌, if◌then◌else◌, List, ℤ, Option, Some, None, Result, Ok, Err, IsSome}
 use Rattle.dvi_ops.specs.Instruction.{Downward, Leaf, PutChar, PutRule, Nop, Move, FontNum, FontDef, Xxx, Instruction, Do, Push, Pop}
 use Rattle.dvi_ops.specs.Body.{Mark, Place, State, Meaning, Widths, Acts, in_range, kept_in, place_after}

@@ -1,4 +1,4 @@
--- The fonts that were read, and what they say of the fonts of a file (own).
+-- The fonts that were read, and what they say of the fonts of a file (own). No clause of a call that other crates use to read a file reaches these definitions: they speak of what the code holds.
 use Rattle.std.specs.Prelude.{◌≡◌, List, ℤ, Option, Some, None, IsSome}
 use Rattle.std.specs.BTreeMap.{BTreeMap, get}
 use Rattle.std.specs.Ordering.{int_cmp}
