@@ -1,7 +1,6 @@
 pub mod KnownLemmas
 pub mod FontLemmas
 pub mod PartLemmas
-pub mod DrawLemmas
 pub mod TurnLemmas
 pub mod PassedLemmas
 pub mod LeftLemmas

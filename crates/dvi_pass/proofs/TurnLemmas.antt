@@ -1,20 +1,27 @@
 -- One instruction, where the pass stands.
-use Rattle.std.proofs.Common.{◌≡◌, ◌≢◌, ◌≤◌, ◌<◌, ◌++◌, [], ◌∷◌, List, length, map, reverse, ℕ, ℤ, Some, None, true, nat_lt, refl, sym, ◌∙◌, ap, arith}
+use Rattle.std.proofs.Common.{◌≡◌, ◌≢◌, ◌≤◌, ◌<◌, ◌++◌, ◌⊎◌, inl, inr, [], ◌∷◌, List, length, map, reverse, ℕ, ℤ, Option, Some, None, Result, Ok, Err, true, nat_lt, refl, sym, ◌∙◌, ap, arith, subst, Bool, false, ◌&&◌, if◌then◌else◌, OnErr}
+use Rattle.std.specs.Option.{option_map}
 use Rattle.std.proofs.lemmas.Bool.{lt-ltb, le-ltb}
 use Rattle.std.proofs.lemmas.List.{map-append, reverse-append, length-reverse, length-map}
-use Rattle.dvi_ops.specs.Instruction.{Nop, FontDef, Instruction, Do, Push, Pop, Bop, Eop}
-use Rattle.dvi_ops.specs.Body.{Mark, Place, State, Acts, kept, kept_in}
+use Rattle.dvi_ops.specs.Instruction.{Leaf, Nop, FontDef, Xxx, Instruction, Do, Push, Pop, Bop, Eop}
+use Rattle.dvi_ops.specs.Body.{Mark, Place, State, Meaning, Acts, acts, in_range, kept, kept_in, only}
 use Rattle.dvi_ops.specs.File.{MarkedPage}
-use Rattle.dvi_ops.specs.View.{view}
+use Rattle.dvi_ops.specs.View.{definition, view}
 use Rattle.dvi_ops.specs.declared.op.Op.{Op}
 use Rattle.dvi_ops.specs.declared.op.Op.TheVariants as ops
 use Rattle.dvi_frame.specs.declared.fault.DviCause.{DviCause}
 use Rattle.dvi_frame.specs.declared.fault.DviCause.TheVariants.{Opcode, Stack, Glyph, Range}
-use Rattle.dvi_pass.specs.Drawing.{IsLeaf, IsStaying, IsUndrawn, does_of}
+use Rattle.dvi_pass.specs.Drawing.{Draws, always, leads, reached}
 use Rattle.dvi_pass.specs.Pass.{Pass, Between, Inside, turn, popped, ended}
-use Rattle.dvi_pass.specs.Turning.{BreaksTurn, TakesRoom}
-use Rattle.dvi_pass.specs.View.{placed}
+use Rattle.dvi_pass.specs.Turning.{BreaksTurn, Turns, TurnsPage, inside_of, pass_at}
+use Rattle.dvi_pass.specs.View.{mark_of, marks_in, placed, stated}
+use Rattle.dvi_pass.specs.declared.turning.OpenPage.{OpenPage}
+use Rattle.dvi_pass.specs.declared.turning.PassFault.{PassFault}
+use Rattle.dvi_pass.specs.declared.turning.PassFault.TheVariants.{OutOfMemory, Broken}
+use Rattle.dvi_pass.specs.declared.page.Mark.{Mark as Seen}
 use Rattle.dvi_pass.specs.declared.page.Place.{Place as Spot}
+use Rattle.dvi_pass.specs.declared.turning.Stand.{Stand}
+use Rattle.dvi_pass.specs.declared.turning.Stand.TheVariants as stands
 
 -- The place that was saved last stands first.
 pub reverse_more : (xs : List Spot) (x : Spot) → reverse (map placed (xs ++ x ∷ [])) ≡ placed x ∷ reverse (map placed xs)
@@ -54,46 +61,66 @@ pub end_turn : (does : Acts) (most : ℕ) (pages : List MarkedPage) (counts : Li
     → turn does most Eop (Inside pages counts marks stack s) ≡ Some (Between (pages ++ record { counts = counts; marks = marks } ∷ []))
 end_turn does most pages counts marks s stack e = ap (λ (stack : List Place). ended pages counts marks stack) e
 
--- An instruction of a body.
-pub draw_turn : (does : Acts) (most : ℕ) (i : Instruction) (pages : List MarkedPage) (counts : List ℤ) (marks more : List Mark) (stack : List Place) (s t : State) → IsLeaf i
-    → kept_in (does_of does i s) ≡ Some (more, t) → turn (kept does) most i (Inside pages counts marks stack s) ≡ Some (Inside pages counts (marks ++ more) stack t)
-draw_turn does most (Do leaf) pages counts marks more stack s t is e = rw e refl
-draw_turn does most i pages counts marks more stack s t is e = absurd is
+-- What was found for the meaning of a leaf was found for the leaf.
+pub leaf_turns : (width : Option ℤ) (most : ℕ) (op known : Op) (leaf : Leaf) (pages : List MarkedPage) (old new : OpenPage) (r : Result Unit PassFault) → op ≡ known → view known ≡ Do leaf
+    → Draws (acts (always width) leaf (stated old.state)) pages old new r → TurnsPage (acts (always width)) most (view op) pages old new r
+leaf_turns width most op known leaf pages old new r is does d = subst (λ (i : Instruction). TurnsPage (acts (always width)) most i pages old new r) (sym (ap view is ∙ does)) (turns r d)
+  where
+    turns : (r : Result Unit PassFault) → Draws (acts (always width) leaf (stated old.state)) pages old new r → TurnsPage (acts (always width)) most (Do leaf) pages old new r
+    turns (Ok done) d = d
+    turns (Err OutOfMemory) d = d
+    turns (Err (Broken Glyph)) d = d
+    turns (Err (Broken Range)) d = d
+    turns (Err (Broken cause)) d = absurd (d.0)
 
-pub draw_fault : (does : Acts) (most : ℕ) (i : Instruction) (pages : List MarkedPage) (counts : List ℤ) (marks : List Mark) (stack : List Place) (s : State) (cause : DviCause) → IsLeaf i
-    → IsUndrawn i (does_of does i s) cause → BreaksTurn does most i (Inside pages counts marks stack s) cause
-draw_fault does most (Do leaf) pages counts marks stack s Opcode is u = absurd (u leaf refl)
-draw_fault does most (Do leaf) pages counts marks stack s Glyph is u = u
-draw_fault does most (Do leaf) pages counts marks stack s Range is u = u
-draw_fault does most (Do leaf) pages counts marks stack s cause is u = absurd u
-draw_fault does most i pages counts marks stack s cause is u = absurd is
+-- A nop, a font definition and a special change nothing.
+pub idle_turns : (width : Option ℤ) (most : ℕ) (op : Op) (pages : List MarkedPage) (old new : OpenPage) (r : Result Unit PassFault)
+    → (op ≡ ops.Nop) ⊎ (((d : _) × (op ≡ ops.FontDef d)) ⊎ ((text : _) × (op ≡ ops.Xxx text)))
+    → Draws (only (stated old.state)) pages old new r → TurnsPage (acts (always width)) most (view op) pages old new r
+idle_turns width most op pages old new r (inl is) d = leaf_turns width most op ops.Nop Nop pages old new r is refl d
+idle_turns width most op pages old new r (inr (inl (font, is))) d = leaf_turns width most op (ops.FontDef font) (FontDef (definition font)) pages old new r is refl d
+idle_turns width most op pages old new r (inr (inr (text, is))) d = leaf_turns width most op (ops.Xxx text) (Xxx text.now) pages old new r is refl d
 
--- An instruction that leaves a mark.
-pub draw_room : (does : Acts) (most : ℕ) (i : Instruction) (pages : List MarkedPage) (counts : List ℤ) (marks : List Mark) (stack : List Place) (s t : State) (mark : Mark) → IsLeaf i
-    → kept_in (does_of does i s) ≡ Some (mark ∷ [], t) → TakesRoom does most i (Inside pages counts marks stack s)
-draw_room does most (Do leaf) pages counts marks stack s t mark is e = (mark, t, e)
-draw_room does most i pages counts marks stack s t mark is e = absurd is
+-- A fault is found whatever place the pass is left at.
+pub refused_turn : (does : Acts) (most : ℕ) (i : Instruction) (old new other : Pass) (r : Result Unit PassFault) (fault : PassFault) → r ≡ Err fault
+    → Turns does most i old new r → Turns does most i old other r
+refused_turn does most i old new other r fault is t =
+    subst (λ (r : Result Unit PassFault). Turns does most i old other r) (sym is) (subst (λ (r : Result Unit PassFault). Turns does most i old new r) is t)
 
--- What neither begins nor ends a page nor stands outside of one leaves it open.
-pub stay_left : (op : Op) → (op ≡ ops.Eop → ⊥) → ((counts : _) (pointer : _) → op ≡ ops.Bop counts pointer → ⊥) → ((id : _) (units : _) (comment : _) → op ≡ ops.Pre id units comment → ⊥)
-    → ((stop : _) → op ≡ ops.Post stop → ⊥) → ((place : _) (id : _) → op ≡ ops.PostPost place id → ⊥) → IsStaying (view op)
-stay_left ops.Eop eop bop pre post post_post = absurd (eop refl)
-stay_left (ops.Bop counts pointer) eop bop pre post post_post = absurd (bop counts pointer refl)
-stay_left (ops.Pre id units comment) eop bop pre post post_post = absurd (pre id units comment refl)
-stay_left (ops.Post stop) eop bop pre post post_post = absurd (post stop refl)
-stay_left (ops.PostPost place id) eop bop pre post post_post = absurd (post_post place id refl)
-stay_left op eop bop pre post post_post = tt
+-- What was found in an open page was found where the pass stands.
+pub page_turns : (does : Acts) (most : ℕ) (i : Instruction) (pages : List MarkedPage) (old new : OpenPage) (r : Result Unit PassFault) → TurnsPage does most i pages old new r
+    → Turns does most i (inside_of pages old) (inside_of pages new) r
+page_turns does most i pages old new (Ok done) t = t
+page_turns does most i pages old new (Err fault) t = t.0
 
--- What leaves it open and is neither push nor pop stands in a body.
-pub leaf_left : (op : Op) → IsStaying (view op) → (op ≡ ops.Push → ⊥) → (op ≡ ops.Pop → ⊥) → IsLeaf (view op)
-leaf_left ops.Push stays push pop = absurd (push refl)
-leaf_left ops.Pop stays push pop = absurd (pop refl)
-leaf_left ops.Eop stays push pop = stays
-leaf_left (ops.Bop counts pointer) stays push pop = stays
-leaf_left (ops.Pre id units comment) stays push pop = stays
-leaf_left (ops.Post stop) stays push pop = stays
-leaf_left (ops.PostPost place id) stays push pop = stays
-leaf_left op stays push pop = tt
+-- A refusal in an open page leaves the pass where it was.
+pub page_stays : {A : Type 0} (does : Acts) (most : ℕ) (i : Instruction) (done : A) (stand : Stand) (old new : OpenPage) (r : Result Unit PassFault) → stand ≡ stands.Inside old
+    → ((pages : List MarkedPage) → TurnsPage does most i pages old new r) → OnErr r ((done ≡ done) × ((pages : List MarkedPage) → inside_of pages new ≡ pass_at pages stand))
+page_stays does most i done stand old new (Ok x) is t = tt
+page_stays does most i done stand old new (Err fault) is t = (refl, λ pages. (t pages).1 ∙ sym (ap (λ (s : Stand). pass_at pages s) is))
+
+-- What was found for an equal instruction at an equal place.
+pub at_turn : (does : Acts) (most : ℕ) (op known : Op) (stand here : Stand) (pages : List MarkedPage) (new : Pass) (r : Result Unit PassFault) → op ≡ known → stand ≡ here
+    → Turns does most (view known) (pass_at pages here) new r → Turns does most (view op) (pass_at pages stand) new r
+at_turn does most op known stand here pages new r is at t =
+    subst (λ (s : Stand). Turns does most (view op) (pass_at pages s) new r) (sym at) (subst (λ (o : Op). Turns does most (view o) (pass_at pages here) new r) (sym is) t)
+
+-- A place that is reached is in range, so that a meaning which leads there is kept.
+pub reached_kept : (place : Option Spot) (p : Spot) (marks : List Mark) (s : State) → place ≡ Some p → option_map placed place ≡ reached s.place
+    → kept_in (Some (marks, s)) ≡ Some (marks, s)
+reached_kept place p marks s is e = go (in_range s.place.h && in_range s.place.v) (sym (ap (λ (o : Option Spot). option_map placed o) is) ∙ e) (Some (marks, s))
+  where
+    go : (b : Bool) → Some (placed p) ≡ (if b then Some s.place else None) → (m : Meaning) → (if b then m else None) ≡ m
+    go true e m = refl
+    go false e m = absurd cc
+
+-- No memory is there for a mark that would be made at a place which is reached.
+pub no_room : (place : Option Spot) (p : Spot) (mark : Option Seen) (one : Seen) (to : Place) (pages : List MarkedPage) (old new : OpenPage) → place ≡ Some p → mark ≡ Some one
+    → option_map placed place ≡ reached to → inside_of pages new ≡ inside_of pages old → Draws {A = Unit {0}} (leads (marks_in mark) to old) pages old new (Err OutOfMemory)
+no_room place p mark one to pages old new at is e same =
+    let t : State = record { place = to; font = old.state.font } in
+    subst (λ (m : Option Seen). Draws {A = Unit {0}} (leads (marks_in m) to old) pages old new (Err OutOfMemory)) (sym is)
+    ((mark_of one, t, reached_kept place p (mark_of one ∷ []) t at e), same)
 
 -- Where a rule is broken the pass does not go on.
 pub broken_turn : (does : Acts) (most : ℕ) (i : Instruction) (p : Pass) (cause : DviCause) → BreaksTurn does most i p cause → turn (kept does) most i p ≡ None

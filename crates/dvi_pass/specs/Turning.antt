@@ -57,15 +57,15 @@ abbrev pub IsTurnFault : Acts → (most : ℕ) → Instruction → Pass → Pass
 IsTurnFault does most i p OutOfMemory = TakesRoom does most i p
 IsTurnFault does most i p (Broken cause) = BreaksTurn does most i p cause
 
--- What was found for an instruction in an open page that stays open.
-abbrev pub TurnsPage : Acts → (most : ℕ) → Instruction → List MarkedPage → OpenPage → Result OpenPage PassFault → Type 0
-TurnsPage does most i pages page (Ok next) = turn (kept does) most i (inside_of pages page) ≡ Some (inside_of pages next)
-TurnsPage does most i pages page (Err fault) = IsTurnFault does most i (inside_of pages page) fault
+-- What was found for an instruction that takes the pass from one place to another.
+abbrev pub Turns : {A : Type 0} → Acts → (most : ℕ) → Instruction → (old new : Pass) → Result A PassFault → Type 0
+Turns does most i old new (Ok done) = turn (kept does) most i old ≡ Some new
+Turns does most i old new (Err fault) = IsTurnFault does most i old fault
 
--- What was found for an instruction, with the pages behind it.
-abbrev pub Turns : Acts → (most : ℕ) → Instruction → Pass → (now : List MarkedPage) → Result Stand PassFault → Type 0
-Turns does most i p now (Ok next) = turn (kept does) most i p ≡ Some (pass_at now next)
-Turns does most i p now (Err fault) = IsTurnFault does most i p fault
+-- What was found for an instruction in an open page that stays open; a refusal leaves it as it was.
+abbrev pub TurnsPage : {A : Type 0} → Acts → (most : ℕ) → Instruction → List MarkedPage → (old new : OpenPage) → Result A PassFault → Type 0
+TurnsPage does most i pages old new (Ok done) = turn (kept does) most i (inside_of pages old) ≡ Some (inside_of pages new)
+TurnsPage does most i pages old new (Err fault) = IsTurnFault does most i (inside_of pages old) fault × (inside_of pages new ≡ inside_of pages old)
 
 -- The width that is asked for where the pass stands: that of the character which an instruction sets or puts, in the current font, if one is selected.
 abbrev pub IsAsked : Widths → Instruction → Pass → Option ℤ → Type 0

@@ -1,21 +1,23 @@
 //! One instruction, where the pass stands (DVItype, 15).
 
-ghost use Rattle.std.specs.Prelude.{◌≡◌, List, OnErr, Option, map, ℕ};
+ghost use Rattle.std.specs.Prelude.{◌≡◌, ◌≢◌, List, OnErr, map, ℕ};
 ghost use Rattle.dvi_ops.specs.Body.{Acts, acts};
 ghost use Rattle.dvi_ops.specs.File.{MarkedPage};
 ghost use Rattle.dvi_ops.specs.Instruction.{Eop, Pop, Push};
 ghost use Rattle.dvi_ops.specs.View.{view};
-ghost use Rattle.dvi_pass.specs.Drawing.{IsLeaf, IsStaying, always};
+ghost use Rattle.dvi_pass.specs.Drawing.{always};
 ghost use Rattle.dvi_pass.specs.Pass.{Between};
 ghost use Rattle.dvi_pass.specs.Turning.{Turns, TurnsPage, inside_of, pass_at};
 ghost use Rattle.dvi_pass.specs.View.{page_of};
+ghost use Rattle.dvi_pass.specs.declared.turning.PassFault.TheVariants.{OutOfMemory, Broken};
 
-use crate::drawing::act;
+use crate::drawing::Size;
 use crate::page::{Mark, Page, Place, State};
 use dvi_frame::DviCause;
 use dvi_ops::Op;
 use smallvec::SmallVec;
-use std::alloc::Global;
+use std::alloc::{AllocError, AllocFailed, Global};
+use std::mem;
 use thiserror::Error;
 
 /// A page whose eop is still to come: what is on it so far, the saved places, the last one at the end, and the state.
@@ -45,144 +47,152 @@ pub enum PassFault {
     Broken(DviCause),
 }
 
-/// The first instruction of a part of the file.
-fn begun(alloc: Global, op: &Op<'_>) -> Result<Stand, PassFault>
-    ensures { (does : Acts) (most : ℕ) (pages : List MarkedPage) → Turns does most (view op.now) (Between pages) pages result }
+impl From<AllocError> for PassFault {
+    ghost from_gives = { λ _ fault. fault ≡ OutOfMemory };
+
+    fn from(_error: AllocError) -> PassFault {
+        PassFault::OutOfMemory
+    }
+}
+
+impl<T: Drop> From<AllocFailed<T>> for PassFault {
+    ghost from_gives = { λ _ fault. fault ≡ OutOfMemory };
+
+    fn from(_error: AllocFailed<T>) -> PassFault {
+        PassFault::OutOfMemory
+    }
+}
+
+impl From<DviCause> for PassFault {
+    ghost from_gives = { λ cause fault. fault ≡ Broken cause };
+
+    fn from(cause: DviCause) -> PassFault {
+        PassFault::Broken(cause)
+    }
+}
+
+impl OpenPage {
+    /// Saves the place, if fewer than so many pushes are open.
+    fn push(&mut self, most: usize) -> Result<(), PassFault>
+        ensures { (does : Acts) (pages : List MarkedPage) → TurnsPage does most Push pages self.old self.new result }
+    {
+        if most <= self.stack.len() {
+            return Err(PassFault::Broken(DviCause::Stack));
+        }
+        let place = self.state.place;
+        self.stack.push(place)?;
+        Ok(())
+    }
+
+    /// Goes back to the place that was saved last.
+    fn pop(&mut self) -> Result<(), PassFault>
+        ensures { (does : Acts) (most : ℕ) (pages : List MarkedPage) → TurnsPage does most Pop pages self.old self.new result }
+    {
+        let place = self.stack.pop().ok_or(DviCause::Stack)?;
+        self.state.place = place;
+        Ok(())
+    }
+
+    /// Takes an instruction that does not end the page.
+    fn take(&mut self, most: usize, op: &Op<'_>, width: Option<i32>) -> Result<(), PassFault>
+        requires { view op.now ≢ Eop }
+        ensures { (pages : List MarkedPage) → TurnsPage (acts (always width)) most (view op.now) pages self.old self.new result }
+    {
+        let place = self.state.place;
+        match *op {
+            Op::SetChar(code) => self.set_char(code, width),
+            Op::PutChar(code) => self.put_char(code, width),
+            Op::SetRule { height, width } => self.set_rule(Size { height, width }),
+            Op::PutRule { height, width } => self.put_rule(Size { height, width }),
+            Op::Push => self.push(most),
+            Op::Pop => self.pop(),
+            Op::Right(by) => self.go(place.right(by)),
+            Op::W0 => self.go(place.right(place.w)),
+            Op::W(w) => self.go(Place { w, ..place }.right(w)),
+            Op::X0 => self.go(place.right(place.x)),
+            Op::X(x) => self.go(Place { x, ..place }.right(x)),
+            Op::Down(by) => self.go(place.down(by)),
+            Op::Y0 => self.go(place.down(place.y)),
+            Op::Y(y) => self.go(Place { y, ..place }.down(y)),
+            Op::Z0 => self.go(place.down(place.z)),
+            Op::Z(z) => self.go(Place { z, ..place }.down(z)),
+            Op::FontNum(font) => {
+                self.state = self.state.with_font(font);
+                Ok(())
+            }
+            Op::Nop | Op::FontDef(_) | Op::Xxx(_) => self.go(place.here()),
+            Op::Bop { .. } | Op::Eop | Op::Pre { .. } | Op::Post(_) | Op::PostPost { .. } => {
+                Err(PassFault::Broken(DviCause::Opcode))
+            }
+        }
+    }
+
+    /// Ends the page, which goes to the others.
+    fn end(&mut self, alloc: Global, done: &mut Vec<Page>) -> Result<(), PassFault>
+        ensures turns { (does : Acts) (most : ℕ) → Turns does most Eop (inside_of (map page_of done.old.items) self.old) (Between (map page_of done.new.items)) result }
+        ensures err { OnErr result ((self.new ≡ self.old) × (done.new.items ≡ done.old.items)) }
+    {
+        if !self.stack.is_empty() {
+            return Err(PassFault::Broken(DviCause::Stack));
+        }
+        done.reserve(1)?;
+        let page = Page {
+            counts: self.counts,
+            marks: mem::replace(&mut self.marks, Vec::new(alloc)),
+        };
+        done.push(page).unwrap();
+        Ok(())
+    }
+}
+
+/// Takes an instruction between two pages.
+fn begin(alloc: Global, stand: &mut Stand, op: &Op<'_>) -> Result<(), PassFault>
+    requires { stand.old ≡ Stand.Between }
+    ensures turns { (does : Acts) (most : ℕ) (pages : List MarkedPage) → Turns does most (view op.now) (Between pages) (pass_at pages stand.new) result }
+    ensures err { OnErr result (stand.new ≡ stand.old) }
 {
     match *op {
-        Op::Nop => Ok(Stand::Between),
-        Op::FontDef(_) => Ok(Stand::Between),
-        Op::Bop { counts, .. } => Ok(Stand::Inside(OpenPage {
-            counts,
-            marks: Vec::new(alloc),
-            stack: SmallVec::new(alloc),
-            state: State {
-                place: Place::START,
-                font: None,
-            },
-        })),
+        Op::Nop | Op::FontDef(_) => Ok(()),
+        Op::Bop { counts, .. } => {
+            *stand = Stand::Inside(OpenPage {
+                counts,
+                marks: Vec::new(alloc),
+                stack: SmallVec::new(alloc),
+                state: State {
+                    place: Place::START,
+                    font: None,
+                },
+            });
+            Ok(())
+        }
         _ => Err(PassFault::Broken(DviCause::Opcode)),
     }
 }
 
-/// A page behind push.
-fn pushed(mut page: OpenPage, most: usize) -> Result<OpenPage, PassFault>
-    ensures { (does : Acts) (pages : List MarkedPage) → TurnsPage does most Push pages page result }
-{
-    if most <= page.stack.len() {
-        return Err(PassFault::Broken(DviCause::Stack));
-    }
-    if page.stack.push(page.state.place).is_err() {
-        return Err(PassFault::OutOfMemory);
-    }
-    Ok(page)
-}
-
-/// A page behind pop.
-fn popped(mut page: OpenPage) -> Result<OpenPage, PassFault>
-    ensures { (does : Acts) (most : ℕ) (pages : List MarkedPage) → TurnsPage does most Pop pages page result }
-{
-    let Some(place) = page.stack.pop() else {
-        return Err(PassFault::Broken(DviCause::Stack));
-    };
-    page.state.place = place;
-    Ok(page)
-}
-
-/// A page behind another instruction.
-fn drawn(mut page: OpenPage, op: &Op<'_>, width: Option<i32>) -> Result<OpenPage, PassFault>
-    requires { IsLeaf (view op.now) }
-    ensures { (most : ℕ) (pages : List MarkedPage) → TurnsPage (acts (always width)) most (view op.now) pages page result }
-{
-    let drawn = match act(page.state, op, width) {
-        Ok(drawn) => drawn,
-        Err(cause) => return Err(PassFault::Broken(cause)),
-    };
-    if let Some(mark) = drawn.mark
-        && page.marks.push(mark).is_err()
-    {
-        return Err(PassFault::OutOfMemory);
-    }
-    page.state = drawn.state;
-    Ok(page)
-}
-
-/// The end of a page, which goes to the others.
-fn ended(page: OpenPage, done: &mut Vec<Page>) -> Result<Stand, PassFault>
-    ensures turns { (does : Acts) (most : ℕ) → Turns does most Eop (inside_of (map page_of done.old.items) page) (map page_of done.new.items) result }
-    ensures err { OnErr result (done.new.items ≡ done.old.items) }
-{
-    if !page.stack.is_empty() {
-        return Err(PassFault::Broken(DviCause::Stack));
-    }
-    let page = Page {
-        counts: page.counts,
-        marks: page.marks,
-    };
-    if done.push(page).is_err() {
-        return Err(PassFault::OutOfMemory);
-    }
-    Ok(Stand::Between)
-}
-
-/// A page behind an instruction of its body, or push or pop.
-fn staying(
-    page: OpenPage,
-    most: usize,
-    op: &Op<'_>,
-    width: Option<i32>,
-) -> Result<OpenPage, PassFault>
-    requires { IsStaying (view op.now) }
-    ensures { (pages : List MarkedPage) → TurnsPage (acts (always width)) most (view op.now) pages page result }
-{
-    match *op {
-        Op::Push => pushed(page, most),
-        Op::Pop => popped(page),
-        _ => drawn(page, op, width),
-    }
-}
-
-/// An instruction inside a page.
-fn within(
-    page: OpenPage,
-    done: &mut Vec<Page>,
-    most: usize,
-    op: &Op<'_>,
-    width: Option<i32>,
-) -> Result<Stand, PassFault>
-    ensures turns { Turns (acts (always width)) most (view op.now) (inside_of (map page_of done.old.items) page) (map page_of done.new.items) result }
-    ensures err { OnErr result (done.new.items ≡ done.old.items) }
-{
-    match *op {
-        Op::Eop => ended(page, done),
-        Op::Bop { .. } => Err(PassFault::Broken(DviCause::Opcode)),
-        Op::Pre { .. } => Err(PassFault::Broken(DviCause::Opcode)),
-        Op::Post(_) => Err(PassFault::Broken(DviCause::Opcode)),
-        Op::PostPost { .. } => Err(PassFault::Broken(DviCause::Opcode)),
-        _ => match staying(page, most, op, width) {
-            Ok(page) => Ok(Stand::Inside(page)),
-            Err(fault) => Err(fault),
-        },
-    }
-}
-
-/// Takes an instruction where the pass stands, at most so many pushes being open, and puts a page that ends behind the others (DVItype, 15). `width` is the width of the
+/// Takes an instruction where the pass stands, at most so many pushes being open, and adds a page that ends to the others (DVItype, 15). `width` is the width of the
 /// character that the instruction sets or puts, in the current font; None where it is not there. It takes memory for marks, pages and saved places.
 pub fn turn(
     alloc: Global,
-    stand: Stand,
+    stand: &mut Stand,
     done: &mut Vec<Page>,
     most: usize,
     op: &Op<'_>,
     width: Option<i32>,
-) -> Result<Stand, PassFault>
+) -> Result<(), PassFault>
     // The pass goes on as it is defined; or the rule that a fault names is broken.
-    ensures turns { Turns (acts (always width)) most (view op.now) (pass_at (map page_of done.old.items) stand) (map page_of done.new.items) result }
-    // A refusal leaves the pages as they were.
-    ensures err { OnErr result (done.new.items ≡ done.old.items) }
+    ensures turns { Turns (acts (always width)) most (view op.now) (pass_at (map page_of done.old.items) stand.old) (pass_at (map page_of done.new.items) stand.new) result }
+    // A refusal leaves no mark: the pass is where it was, and the pages are as they were.
+    ensures err { OnErr result ((done.new.items ≡ done.old.items) × ((pages : List MarkedPage) → pass_at pages stand.new ≡ pass_at pages stand.old)) }
 {
     match stand {
-        Stand::Between => begun(alloc, op),
-        Stand::Inside(page) => within(page, done, most, op, width),
+        Stand::Between => begin(alloc, stand, op),
+        Stand::Inside(page) => match *op {
+            Op::Eop => {
+                page.end(alloc, done)?;
+                *stand = Stand::Between;
+                Ok(())
+            }
+            _ => page.take(most, op, width),
+        },
     }
 }

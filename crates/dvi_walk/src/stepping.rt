@@ -17,9 +17,8 @@ use dvi_closing::{NumbersAhead, define};
 use dvi_fonts::Number;
 use dvi_frame::DviCause;
 use dvi_ops::Op;
-use dvi_pass::{PassFault, Stand, turn};
+use dvi_pass::{PassFault, turn};
 use std::alloc::Global;
-use std::mem;
 use tfm_core::FontFile;
 
 /// Takes the place of a bop, if it is among those that are still to come; those before it are missed. They stand with the last one first.
@@ -82,12 +81,8 @@ fn pass_on(alloc: Global, most: usize, op: &Op<'_>, walk: &mut Walk<'_>) -> Resu
     ensures bad { IfErr result (BreaksPass most (view op.now) walk.old) }
 {
     let width = width_asked(&walk.stand, &walk.fonts, op);
-    let stand = mem::replace(&mut walk.stand, Stand::Between);
-    match turn(alloc, stand, &mut walk.done, most, op, width) {
-        Ok(next) => {
-            walk.stand = next;
-            Ok(())
-        }
+    match turn(alloc, &mut walk.stand, &mut walk.done, most, op, width) {
+        Ok(()) => Ok(()),
         Err(PassFault::Broken(cause)) => Err(StepFault::Broken(cause)),
         Err(PassFault::OutOfMemory) => Err(StepFault::OutOfMemory),
     }

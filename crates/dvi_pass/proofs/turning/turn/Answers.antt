@@ -1,19 +1,48 @@
-use Rattle.std.proofs.Common.{map, sym, subst}
+use Rattle.std.proofs.Common.{◌≡◌, rules, map, refl, subst, sym, Ok, Result}
 use Rattle.dvi_ops.specs.Body.{acts}
+use Rattle.dvi_ops.specs.Instruction.{Eop}
 use Rattle.dvi_ops.specs.View.{view}
+use Rattle.dvi_ops.specs.declared.op.Op.TheVariants as ops
 use Rattle.dvi_pass.specs.Drawing.{always}
-use Rattle.dvi_pass.specs.Turning.{Turns, pass_at}
+use Rattle.dvi_pass.specs.Pass.{Between}
+use Rattle.dvi_pass.specs.Turning.{Turns, inside_of}
 use Rattle.dvi_pass.specs.View.{page_of}
-use Rattle.dvi_pass.specs.declared.turning.Stand.{Stand}
+use Rattle.dvi_pass.specs.declared.turning.PassFault.{PassFault}
+use Rattle.dvi_pass.specs.declared.turning.Stand.TheVariants as stands
+use Rattle.dvi_pass.proofs.TurnLemmas.{at_turn, page_stays, page_turns, refused_turn}
 use Rattle.dvi_pass.proofs.turning.turn.Goals as goal
+
+pub returns-in_err-end-in-Eop-clause-turns : goal.returns-in_err-end-in-Eop-clause-turns
+returns-in_err-end-in-Eop-clause-turns c =
+    let does = acts (always c.args.width) in
+    let pages = map page_of c.args.done.now.items in
+    let ended = map page_of c.end.new.done.items in
+    let now = inside_of ended c.end.new.self in
+    let same : c.from_residual.result ≡ c.end.result = search rules in
+    at_turn does c.args.most c.args.op.now ops.Eop c.args.stand.now (stands.Inside c.in-Inside.page) pages now c.from_residual.result c.in-Eop.is c.in-Inside.is
+    (subst (λ (r : Result Unit PassFault). Turns does c.args.most Eop (inside_of pages c.in-Inside.page) now r) (sym same)
+    (refused_turn does c.args.most Eop (inside_of pages c.in-Inside.page) (Between ended) now c.end.result _ c.in_err-end-in-Eop.was (c.end.ensures.turns does c.args.most)))
+
+pub returns-in_ok-end-in-Eop-clause-turns : goal.returns-in_ok-end-in-Eop-clause-turns
+returns-in_ok-end-in-Eop-clause-turns c =
+    let does = acts (always c.args.width) in
+    let pages = map page_of c.args.done.now.items in
+    at_turn does c.args.most c.args.op.now ops.Eop c.args.stand.now (stands.Inside c.in-Inside.page) pages (Between (map page_of c.end.new.done.items)) (Ok tt) c.in-Eop.is c.in-Inside.is
+    (c.in_ok-end-in-Eop.ensures.turns does c.args.most)
 
 pub returns-in-Between-clause-turns : goal.returns-in-Between-clause-turns
 returns-in-Between-clause-turns c =
+    let does = acts (always c.args.width) in
     let pages = map page_of c.args.done.now.items in
-    subst (λ (stand : Stand). Turns (acts (always c.args.width)) c.args.most (view c.args.op.now) (pass_at pages stand) pages c.begun.result) (sym c.in-Between.is)
-    (c.begun.ensures (acts (always c.args.width)) c.args.most pages)
+    at_turn does c.args.most c.args.op.now c.args.op.now c.args.stand.now stands.Between pages _ c.begin.result refl c.in-Between.is (c.begin.ensures.turns does c.args.most pages)
 
-pub returns-in-Inside-clause-turns : goal.returns-in-Inside-clause-turns
-returns-in-Inside-clause-turns c =
-    subst (λ (stand : Stand). Turns (acts (always c.args.width)) c.args.most (view c.args.op.now) (pass_at (map page_of c.args.done.now.items) stand) (map page_of c.within.new.done.items) c.within.result) (sym c.in-Inside.is)
-    c.within.ensures.turns
+pub returns-in_default : goal.returns-in_default
+returns-in_default c =
+    let does = acts (always c.args.width) in
+    let pages = map page_of c.args.done.now.items in
+    let i = view c.args.op.now in
+    record {
+      turns = at_turn does c.args.most c.args.op.now c.args.op.now c.args.stand.now (stands.Inside c.in-Inside.page) pages _ c.take.result refl c.in-Inside.is
+          (page_turns does c.args.most i pages c.in-Inside.page c.take.new.self c.take.result (c.take.ensures pages));
+      err = page_stays does c.args.most i c.args.done.now.items c.args.stand.now c.in-Inside.page c.take.new.self c.take.result c.in-Inside.is c.take.ensures;
+    }
