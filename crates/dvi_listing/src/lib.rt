@@ -2,7 +2,11 @@
 //! has the pages, and the program's command `list`.
 #![tactic(auto)]
 
+mod ahead;
+mod lines;
 mod text;
 
+pub use ahead::Lines;
 pub use dvi_pass::{Mark, Page};
+pub use lines::{LINE, Line};
 pub use text::listing;

@@ -1,0 +1,44 @@
+-- The lines of a listing that are still to come.
+use Rattle.std.proofs.Common.{◌≡◌, ℕ, ℤ, ◌+◌, ◌++◌, ◌<◌, ◌-◌, take, List, [], ◌∷◌, length, drop, map, get_or, codes, decimal, ap, sym, subst, refl, ◌∙◌, append_assoc, arith, length-append}
+use Rattle.std.proofs.lemmas.List.{take_all}
+use Rattle.std.specs.Fmt.{signed_decimal}
+use Rattle.std.specs.List.{flat_map}
+use Rattle.dvi_ops.specs.Body.{Mark, Glyph, Rule}
+use Rattle.dvi_pass.specs.declared.page.Mark.{Mark as Seen}
+use Rattle.dvi_pass.specs.declared.page.Page.{Page}
+use Rattle.dvi_pass.specs.View.{mark_of, page_of}
+use Rattle.dvi_listing.specs.Listing.{line, mark_line, page_lines, pages_lines}
+
+-- A line has its line feed.
+pub line_there : (words : List ℕ) (numbers : List ℤ) → 0 < length (line words numbers)
+unfolding line
+line_there words numbers =
+    let texts = flat_map (λ number. codes " " ++ signed_decimal number) numbers in
+    omega (arith, length-append words (texts ++ (10 ∷ [])), length-append texts (10 ∷ []))
+
+pub mark_there : (mark : Mark) → 0 < length (mark_line mark)
+mark_there (Glyph font code h v) = line_there _ _
+mark_there (Rule h v height width) = line_there _ _
+
+-- Without marks there are no lines of marks.
+pub no_marks : (marks : List Seen) → length marks < 1 → flat_map mark_line (map mark_of marks) ≡ []
+no_marks [] few = refl
+no_marks (mark ∷ marks) few = absurd (omega arith)
+
+-- All but the first are the rest.
+rest_whole : {X : Type 0} (x : X) (xs : List X) → take (length (x ∷ xs) - 1) xs ≡ xs
+rest_whole x xs = take_all (length (x ∷ xs) - 1) xs (omega arith)
+
+-- The line of a page comes before those of its marks and of the pages after it.
+pub page_first : (pages : List Page) (before : ℕ) (page : Page) (bytes : List ℕ) → 0 < length pages → page ≡ get_or pages 0 page
+    → bytes ≡ line (codes "page " ++ (decimal (before + 1) ++ codes " counts")) page.counts
+    → pages_lines (before + 1) (map page_of pages)
+        ≡ bytes ++ (flat_map mark_line (map mark_of page.marks.items) ++ pages_lines (before + 1 + 1) (map page_of (take (length pages - 1) (drop 1 pages))))
+unfolding page_lines
+page_first [] before page bytes some is text = absurd (omega arith)
+page_first (p ∷ ps) before page bytes some is text =
+    let rest = pages_lines (before + 1 + 1) (map page_of ps) in
+    ap (λ (q : Page). line (codes "page " ++ (decimal (before + 1) ++ codes " counts")) q.counts ++ flat_map mark_line (map mark_of q.marks.items) ++ rest) (sym is)
+    ∙ (append_assoc (line (codes "page " ++ (decimal (before + 1) ++ codes " counts")) page.counts) (flat_map mark_line (map mark_of page.marks.items)) rest
+    ∙ (ap (λ (bs : List ℕ). bs ++ (flat_map mark_line (map mark_of page.marks.items) ++ rest)) (sym text)
+    ∙ ap (λ (qs : List Page). bytes ++ (flat_map mark_line (map mark_of page.marks.items) ++ pages_lines (before + 1 + 1) (map page_of qs))) (sym (rest_whole p ps))))
