@@ -1,5 +1,5 @@
 -- The lines of a listing that are still to come.
-use Rattle.std.proofs.Common.{◌≡◌, ℕ, ℤ, ◌+◌, ◌++◌, ◌<◌, ◌-◌, take, List, [], ◌∷◌, length, drop, map, get_or, codes, decimal, ap, sym, subst, refl, ◌∙◌, append_assoc, arith, length-append}
+use Rattle.std.proofs.Common.{◌≡◌, ℕ, ℤ, ◌+◌, ◌++◌, ◌<◌, ◌-◌, take, List, [], ◌∷◌, length, drop, map, get_or, codes, decimal, ap, sym, refl, ◌∙◌, append_assoc, arith, length-append}
 use Rattle.std.proofs.lemmas.List.{take_all}
 use Rattle.std.specs.Fmt.{signed_decimal}
 use Rattle.std.specs.List.{flat_map}
@@ -33,7 +33,7 @@ rest_whole x xs = take_all (length (x ∷ xs) - 1) xs (omega arith)
 pub page_first : (pages : List Page) (before : ℕ) (page : Page) (bytes : List ℕ) → 0 < length pages → page ≡ get_or pages 0 page
     → bytes ≡ line (codes "page " ++ (decimal (before + 1) ++ codes " counts")) page.counts
     → pages_lines (before + 1) (map page_of pages)
-        ≡ bytes ++ (flat_map mark_line (map mark_of page.marks.items) ++ pages_lines (before + 1 + 1) (map page_of (take (length pages - 1) (drop 1 pages))))
+    ≡ bytes ++ (flat_map mark_line (map mark_of page.marks.items) ++ pages_lines (before + 1 + 1) (map page_of (take (length pages - 1) (drop 1 pages))))
 unfolding page_lines
 page_first [] before page bytes some is text = absurd (omega arith)
 page_first (p ∷ ps) before page bytes some is text =
