@@ -5,6 +5,7 @@ ghost use Rattle.dvi_ops.specs.File.{AreUnits};
 ghost use Rattle.dvi_ops.specs.View.{units as units_of};
 ghost use Rattle.dvi_pass.specs.View.{page_of};
 ghost use Rattle.dvi_print.specs.Faults.{fault_line};
+ghost use Rattle.dvi_print.specs.declared.output.PaintFault.TheVariants.{OutOfMemory};
 ghost use Rattle.dvi_print.specs.Outputs.{IsListed, IsPainted, LacksPage};
 ghost use Rattle.raster_core.specs.Pictures.{painted, white};
 ghost use Rattle.raster_core.specs.Pixels.{is_covered, scale_of};
@@ -36,6 +37,14 @@ pub enum PaintFault {
     /// The file is accepted, and has no such page.
     #[error("no such page")]
     NoSuchPage,
+}
+
+impl From<AllocError> for PaintFault {
+    ghost from_gives = { λ _ fault. fault ≡ OutOfMemory };
+
+    fn from(_error: AllocError) -> PaintFault {
+        PaintFault::OutOfMemory
+    }
 }
 
 /// Whether a file is refused for want of memory.
@@ -124,23 +133,16 @@ pub fn paint_text(
 {
     let opened = match Dvi::open(alloc, dvi, files) {
         Ok(opened) => opened,
-        Err(fault) => {
-            return match refusal(alloc, fault) {
-                Ok(output) => Ok(output),
-                Err(_) => Err(PaintFault::OutOfMemory),
-            };
-        }
+        Err(fault) => return Ok(refusal(alloc, fault)?),
     };
     let index = page as usize - 1;
     if index >= opened.pages() {
         return Err(PaintFault::NoSuchPage);
     }
     let shown = opened.page(index);
-    match page_text(alloc, shown, opened.units(), dpi, width, height) {
-        Ok(text) => Ok(Output {
-            text,
-            accepted: true,
-        }),
-        Err(_) => Err(PaintFault::OutOfMemory),
-    }
+    let text = page_text(alloc, shown, opened.units(), dpi, width, height)?;
+    Ok(Output {
+        text,
+        accepted: true,
+    })
 }
