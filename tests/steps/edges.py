@@ -1,0 +1,132 @@
+"""DVI files at the edges of their numbers. Each is made by arithmetic from docs/FORMATS.md, section 7, which also says what must be answered."""
+from steps.dvi_writer import Font, Page, definition, down, dvi_file, number, put_rule, right, select, set_char
+from steps.large_inputs import PT, TINY, ZERO_COUNTS, listed, rule_mark
+from steps.long_runs import Run, Work
+from steps.sizes import call_of
+
+TITLE = "DVI files at the edges of their numbers: lengths, names, pointers, sizes and places"
+NEEDS_PROGRAM = True
+
+BOP, POINTER = 15, 41  # where the first bop is that has no definition before it; where the pointer of a bop is in it
+BODY = BOP + 45
+GREATEST, LEAST = (1 << 31) - 1, -(1 << 31)
+TINY_10PT = Font(0, b"tiny")
+DEFINITION = len(definition(TINY_10PT))
+
+
+def changed(data, at, bytes_there):
+    """The bytes of a file with others at a place."""
+    return data[:at] + bytes_there + data[at + len(bytes_there):]
+
+
+def refused(data, place, cause):
+    """A file, and the line of its refusal."""
+    return data, f"refused 20 BadDvi {place} {cause}\n".encode()
+
+
+def accepted(data, marks):
+    """A file of one page, and its listing."""
+    return data, listed([(ZERO_COUNTS, marks)])
+
+
+def work(*files):
+    """Lists files with the metric file `tiny`. Each comes with what must be printed."""
+    names = {f"{at}.dvi": it for at, it in enumerate(files, 1)}
+    runs = [Run(("list", name, "tiny=tiny.tfm"), stdout=(printed,), status=int(printed.startswith(b"refused"))) for name, (_, printed) in names.items()]
+    return Work({"tiny.tfm": TINY, **{name: data for name, (data, _) in names.items()}}, runs)
+
+
+def long_specials():
+    """xxx4 with lengths of 2^31 and more: the special reaches past post."""
+    lengths = (1 << 31, (1 << 31) + 1, (1 << 32) - 1)
+    return work(*[refused(dvi_file([Page([b"\xf2" + number(it, 4)])], 0, 0).data, BODY, "Truncated") for it in lengths])
+
+
+def cut_names():
+    """Definitions whose length of the name, the byte before it, is too large. In a page the longer name takes the eop, or more than there is up to post;
+    behind post there is less up to post_post, and a font that a page selects is then not defined there."""
+    in_page = dvi_file([Page([definition(TINY_10PT)])], 0, 0)
+    length = BODY + DEFINITION - 5
+    unused = dvi_file([Page([], new_fonts=(TINY_10PT,))], 0, 0)
+    used = dvi_file([Page([select(0), set_char(99)], new_fonts=(TINY_10PT,))], 0, 0)
+    behind = 29  # the bytes of post, behind which the definition begins
+    last = behind + DEFINITION - 5
+    return work(
+        accepted(in_page.data, []),
+        refused(changed(in_page.data, length, b"\5"), in_page.post, "Opcode"),
+        refused(changed(in_page.data, length, b"\6"), BODY, "Truncated"),
+        accepted(unused.data, []),
+        refused(changed(unused.data, unused.post + last, b"\5"), unused.post + behind, "Truncated"),
+        accepted(used.data, ["glyph 0 99 0 0"]),
+        refused(changed(used.data, used.post + last, b"\5"), BODY + DEFINITION, "Font"),
+    )
+
+
+def negative_pointers():
+    """-2 in the place of each pointer: of the bops, of post and of post_post. No place is below -1, which is that of no page."""
+    file = dvi_file([Page([]), Page([])], 0, 0)
+    second = file.page_ends[0]
+    places = (BOP + POINTER, second + POINTER, file.post + 1, file.post + 30)
+    return work(*[refused(changed(file.data, at, number(-2, 4)), at, "Pointer") for at in places])
+
+
+def pages_that_overlap():
+    """Two bops of which the first one has the second among its counts. Each page is right alone: the first has a special of 15 bytes, whose length is the
+    second one's pointer. And two bops without a byte between, which the chain of pages allows: there the second is in the first one's page."""
+    count = dvi_file([Page([b"\xf2" + number(BOP, 4) + bytes(BOP)])], 0, 0)
+    second = BODY + 1 - POINTER
+    inner = changed(count.data, second, b"\x8b")
+    both = changed(changed(inner, count.post + 1, number(second, 4)), count.post + 27, number(2, 2))
+    touching = dvi_file([Page([b"\x8b" + bytes(40) + number(BOP, 4)])], 0, 0)
+    two = changed(changed(touching.data, touching.post + 1, number(BODY, 4)), touching.post + 27, number(2, 2))
+    value = int.from_bytes(inner[BOP + 1 + 4:BOP + 1 + 8], "big")
+    assert inner[second] == 0x8b and inner[second + POINTER:second + POINTER + 4] == number(BOP, 4)
+    counts = f"0 {value - (1 << 32)} 0 0 0 0 0 0 0 0"
+    return work(
+        (inner, listed([(counts, [])])),
+        refused(both, second + POINTER, "Pointer"),
+        refused(two, BODY, "Opcode"),
+    )
+
+
+def greatest_font_size():
+    """A font at 2^27 - 1. TeX halves this size four times, to 2^23 - 1, and a `c` is 8/16 wide: 8 * (2^23 - 1)."""
+    font = Font(0, b"tiny", (1 << 27) - 1)
+    file = dvi_file([Page([select(0), set_char(99), set_char(99)], new_fonts=(font,))], 0, 0)
+    too_large = Font(0, b"tiny", 1 << 27)
+    beyond = dvi_file([Page([select(0), set_char(99)], new_fonts=(too_large,))], 0, 0)
+    return work(
+        accepted(file.data, ["glyph 0 99 0 0", f"glyph 0 99 {8 * ((1 << 23) - 1)} 0"]),
+        refused(beyond.data, BOP, "Font"),
+    )
+
+
+def furthest_places():
+    """h and v of -2^31 and of 2^31 - 1, where rules are; and h of 2^31 - 1 behind a glyph, which is 5pt wide, and one more."""
+    rule = put_rule(1, 1)
+    ways = [(right, GREATEST), (right, LEAST), (down, GREATEST), (down, LEAST)]
+    marks = [rule_mark(GREATEST, 0, 1, 1), rule_mark(LEAST, 0, 1, 1), rule_mark(0, GREATEST, 1, 1), rule_mark(0, LEAST, 1, 1)]
+    rules = dvi_file([Page([[move(by), rule] for move, by in ways])], 0, 0)
+    last, wide = GREATEST - 5 * PT, [right(GREATEST - 5 * PT), select(0), set_char(99)]
+    glyph = dvi_file([Page(wide, new_fonts=(TINY_10PT,))], 0, 0)
+    beyond = dvi_file([Page([*wide, right(1)], new_fonts=(TINY_10PT,))], 0, 0)
+    return work(
+        accepted(rules.data, marks),
+        accepted(glyph.data, [f"glyph 0 99 {last} 0"]),
+        refused(beyond.data, BODY + DEFINITION + 5 + 1 + 1, "Range"),
+    )
+
+
+WORKS = {
+    "specials_of_two_gibibytes_and_more": long_specials,
+    "definitions_cut_in_their_names": cut_names,
+    "pointers_of_minus_2": negative_pointers,
+    "pages_that_overlap": pages_that_overlap,
+    "fonts_at_the_greatest_size": greatest_font_size,
+    "places_at_the_ends_of_32_bits": furthest_places,
+}
+
+
+def cases(programs, root):
+    """The cases, by name."""
+    return [(name, call_of(make, programs)) for name, make in WORKS.items()]
