@@ -4,7 +4,6 @@ use anyhow::{Context, Result, bail};
 use dvi_print::{FontFile, Output, list_text};
 use program_core::run_memory;
 use std::alloc::Global;
-use std::io::Write;
 use tfm_core::{Tfm, TfmFault};
 
 /// What a file is.
@@ -31,19 +30,16 @@ impl FileKind {
 
 /// The answer to a metric file: `accepted`, or the line of the refusal.
 fn metrics_answer(alloc: Global, bytes: &[u8]) -> Result<Output> {
-    let mut text = Vec::new(alloc);
-    let accepted = match Tfm::read(alloc, bytes) {
-        Ok(_) => {
-            writeln!(text, "accepted")?;
-            true
-        }
-        Err(TfmFault::Bad(cause)) => {
-            writeln!(text, "refused 5 BadTfm {cause:?}")?;
-            false
-        }
-        Err(TfmFault::OutOfMemory) => bail!("memory was refused"),
+    let fault = Tfm::read(alloc, bytes).err();
+    let text = match fault {
+        None => format!(in alloc; "accepted\n")?,
+        Some(TfmFault::Bad(cause)) => format!(in alloc; "refused 5 BadTfm {cause:?}\n")?,
+        Some(TfmFault::OutOfMemory) => bail!("memory was refused"),
     };
-    Ok(Output { text, accepted })
+    Ok(Output {
+        text: text.into_bytes(),
+        accepted: fault.is_none(),
+    })
 }
 
 /// The answers to a script, and the bytes of its pages.

@@ -29,32 +29,21 @@ pub fn take_lines<W: Write>(alloc: Global, text: &str, output: &mut W) -> Result
 }
 
 impl<'a> Samples<'a> {
-    /// Takes a line.
+    /// Takes a line: its first word says what it is about.
     fn take<W: Write>(&mut self, line: &'a str, output: &mut W) -> Result<()> {
-        if let Some(text) = line.strip_prefix('|') {
-            return self.last()?.push_line(text);
+        let (word, rest) = line.split_once(' ').unwrap_or((line, ""));
+        match word {
+            "" | "%" => Ok(()),
+            "dvi" => self.begin(FileKind::Dvi, rest, output),
+            "metrics" => self.begin(FileKind::Metrics, rest, output),
+            "script" => self.begin(FileKind::Script, rest, output),
+            "bytes" => self.extend(rest),
+            "line" => self.push_line(rest),
+            "font" => self.hand_in(rest),
+            "change" => self.change(rest, output),
+            "each" => self.change_each(rest, output),
+            _ => bail!("no line begins with {word}"),
         }
-        let alloc = self.alloc;
-        let words: Vec<&str> = line.split(' ').collect(alloc)?;
-        match *words {
-            [""] | ["%", ..] => {}
-            ["dvi", name] => self.begin(FileKind::Dvi, name, output)?,
-            ["metrics", name] => self.begin(FileKind::Metrics, name, output)?,
-            ["script", name] => self.begin(FileKind::Script, name, output)?,
-            ["bytes", digits] => {
-                let bytes = hex::decode(alloc, digits)?;
-                self.last()?.bytes.extend_from_slice(&bytes)?;
-            }
-            ["font", name] => self.hand_in(name)?,
-            ["change", place, value] => {
-                let (place, value) = (place.parse()?, u8::from_str_radix(value, 16)?);
-                self.last()?.change_byte(alloc, place, value, output)?;
-            }
-            ["each", "byte"] => self.last()?.change_each_byte(alloc, output)?,
-            ["each", "beginning"] => self.last()?.cut_to_each_length(alloc, output)?,
-            _ => bail!("the form has no such line"),
-        }
-        Ok(())
     }
 
     /// Begins a file without bytes, and prints its name.
@@ -64,7 +53,22 @@ impl<'a> Samples<'a> {
         Ok(())
     }
 
-    /// Hands the first file of that name to the copies of the last one, as a metric file.
+    /// Adds bytes to the file.
+    fn extend(&mut self, digits: &str) -> Result<()> {
+        let bytes = hex::decode(self.alloc, digits)?;
+        self.last()?.bytes.extend_from_slice(&bytes)?;
+        Ok(())
+    }
+
+    /// Adds a text and a line feed to the file.
+    fn push_line(&mut self, text: &str) -> Result<()> {
+        let sample = self.last()?;
+        sample.bytes.extend_from_slice(text.as_bytes())?;
+        sample.bytes.push(b'\n')?;
+        Ok(())
+    }
+
+    /// Hands in the first file of that name, as a metric file, with the copies of the file.
     fn hand_in(&mut self, name: &str) -> Result<()> {
         let file = self.samples.iter().find(|sample| sample.name == name);
         let bytes = file.context("no file has this name")?.bytes.clone()?;
@@ -72,6 +76,24 @@ impl<'a> Samples<'a> {
         let font = FontFile::new(name.context("no name of a font")?, bytes);
         self.last()?.fonts.push(font)?;
         Ok(())
+    }
+
+    /// Changes one byte of the file.
+    fn change<W: Write>(&mut self, words: &str, output: &mut W) -> Result<()> {
+        let alloc = self.alloc;
+        let (place, value) = words.split_once(' ').context("no byte is given")?;
+        let (place, value) = (place.parse()?, u8::from_str_radix(value, 16)?);
+        self.last()?.change_byte(alloc, place, value, output)
+    }
+
+    /// Changes each byte of the file, or cuts it to each length.
+    fn change_each<W: Write>(&mut self, what: &str, output: &mut W) -> Result<()> {
+        let alloc = self.alloc;
+        match what {
+            "byte" => self.last()?.change_each_byte(alloc, output),
+            "beginning" => self.last()?.cut_to_each_length(alloc, output),
+            _ => bail!("neither each byte nor each beginning"),
+        }
     }
 
     /// The file that the lines are about.

@@ -28,13 +28,6 @@ impl<'a> Sample<'a> {
         }
     }
 
-    /// Adds a line to the file, and a line feed.
-    pub fn push_line(&mut self, line: &str) -> Result<()> {
-        self.bytes.extend_from_slice(line.as_bytes())?;
-        self.bytes.push(b'\n')?;
-        Ok(())
-    }
-
     /// Prints what is answered to the file with this value at a place.
     pub fn change_byte<W: Write>(
         &self,
