@@ -1,16 +1,30 @@
 //! Writing a text.
 
-ghost use Rattle.std.specs.Prelude.{◌≤◌, [], length, take, IfOk, OnOk, OnErr};
+ghost use Rattle.std.specs.Prelude.{◌≡◌, ◌≢◌, ◌≤◌, [], length, take, IfOk, OnOk, OnErr};
 ghost use Rattle.std.specs.Io.KnownBytes.{Appends};
+ghost use Rattle.std.specs.IoError.{error_kind};
 ghost use Rattle.program_core.specs.Runs.{WritesFront, memory_line};
 
-use std::io::{ErrorKind, Write};
+use std::io::{Error, ErrorKind, Write};
 use thiserror::Error;
 
 /// A writer did not take all of a text.
 #[derive(Clone, Copy, Debug, PartialEq, Eq, Error)]
 #[error("the text could not be written")]
 pub struct Unwritten;
+
+/// What a call that took nothing comes to: it is made again exactly where it was only interrupted.
+fn nothing_taken(fault: &Error) -> Result<usize, Unwritten>
+    ensures none { IfOk result (λ count. count ≡ 0) }
+    ensures again { OnOk result (error_kind fault.now ≡ ErrorKind.Interrupted) }
+    ensures refused { OnErr result (error_kind fault.now ≢ ErrorKind.Interrupted) }
+{
+    if fault.kind() == ErrorKind::Interrupted {
+        Ok(0)
+    } else {
+        Err(Unwritten)
+    }
+}
 
 /// Hands a writer a piece of a text, and tells how many bytes of it were taken: none only where the call was interrupted.
 #[tactic(auto, using(crate::proofs::WritingLemmas::nothing_written))]
@@ -22,12 +36,7 @@ fn write_piece<W: Write>(writer: &mut W, piece: &[u8]) -> Result<usize, Unwritte
     match writer.write(piece) {
         Ok(0) => Err(Unwritten),
         Ok(count) => Ok(count),
-        Err(fault) => {
-            if fault.kind() == ErrorKind::Interrupted {
-                return Ok(0);
-            }
-            Err(Unwritten)
-        }
+        Err(fault) => nothing_taken(&fault),
     }
 }
 
