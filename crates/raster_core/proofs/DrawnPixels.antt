@@ -1,11 +1,11 @@
 -- Pictures by their pixels.
-use Rattle.std.proofs.Common.{◌≡◌, ◌==◌, ℕ, ◌+◌, ◌*◌, ◌/◌, ◌%◌, ◌<◌, ◌≤◌, Bool, false, ◌||◌, List, [], length, get_or, map, replicate, sym, ap, ◌∙◌, arith, inl, inr, ◌⊎◌}
+use Rattle.std.proofs.Common.{◌≡◌, ◌==◌, ℕ, ◌+◌, ◌*◌, ◌/◌, ◌%◌, ◌<◌, ◌≤◌, Bool, true, false, ◌||◌, List, [], length, get_or, map, replicate, sym, ap, ◌∙◌, arith, inl, inr, ◌⊎◌}
 use Rattle.std.proofs.lemmas.Bool.{cases_lt}
 use Rattle.std.proofs.lemmas.List.{get_or-replicate, length-replicate, get_or_past}
 use Rattle.std.proofs.lemmas.Nat.Bits.{bit_at-zero}
 use Rattle.std.specs.List.{range_with_len}
 use Rattle.std.proofs.lemmas.List.FromFn.{fill_by_all, length-map-range_with_len, get_or-map-range_with_len}
-use Rattle.raster_rows.specs.Words.{in_rows, is_set}
+use Rattle.raster_rows.specs.Words.{AreFull, in_rows, is_set}
 use Rattle.dvi_pass.specs.View.{mark_of}
 use Rattle.dvi_pass.specs.declared.page.Mark.{Mark as Seen}
 use Rattle.raster_core.specs.Pixels.{Scale, is_covered}
@@ -68,6 +68,15 @@ no_word n i = go (cases_lt i n)
     go : (i < n) ⊎ (n ≤ i) → get_or (zeros n) i 0 ≡ 0
     go (inl h) = get_or-replicate n i 0 0 h
     go (inr h) = let l = length-replicate {A = ℕ} n 0 in get_or_past (zeros n) i 0 (omega (arith, l))
+
+-- of bits that are 0 none says that a word is black
+pub none_full : (n stride : ℕ) (full words : List ℕ) → full ≡ zeros n → AreFull full words stride
+unfolding in_rows
+none_full n stride full words cleared x y h is =
+    let white : is_set (get_or full (y * 3 + x / 64 / 64) 0) (x / 64 % 64) ≡ false =
+        ap (λ l. is_set (get_or l (y * 3 + x / 64 / 64) 0) (x / 64 % 64)) cleared
+        ∙ (ap (λ k. is_set k (x / 64 % 64)) (no_word n (y * 3 + x / 64 / 64)) ∙ ap (λ bit. bit == 1) (bit_at-zero (x / 64 % 64))) in
+    let both : true ≡ false = sym is ∙ white in absurd cc
 
 -- words that are 0 show a white picture
 pub white_is : (w h n stride : ℕ) (words : List ℕ) → words ≡ zeros n → drawn w h (in_rows words stride) ≡ white w h

@@ -27,3 +27,8 @@ painted_more s marks i x y d n m old mid new h same step before =
     ∙ (ap (λ b. b || covers s (mark_of (get_or marks i d)) x y) before
     ∙ (or_assoc (in_rows old m x y) (is_covered s (take i (map mark_of marks)) x y) (covers s (mark_of (get_or marks i d)) x y)
     ∙ ap (λ b. in_rows old m x y || b) (sym (covered_more s marks i x y d h))))
+
+-- no mark is painted yet
+pub none_painted : (s : Scale) (marks : List Seen) (x y : ℕ) (b : Bool) → b ≡ (b || is_covered s (take 0 (map mark_of marks)) x y)
+none_painted s marks x y true = refl
+none_painted s marks x y false = refl

@@ -1,18 +1,20 @@
 -- What a bitmap shows by its words (own).
 use Rattle.std.specs.Prelude.{◌≤◌, ◌*◌, length}
+use Rattle.std.specs.Box.{boxed_slice_items}
 use Rattle.raster_rows.specs.Words.{in_rows}
 use Rattle.raster_core.specs.Pictures.{Picture, drawn}
 use Rattle.raster_core.specs.declared.painting.Bitmap.TheInside.{Inside}
 
 -- The picture that a bitmap shows; its rows have as many words as its mask (own).
 abbrev pub picture : Inside → Picture
-picture b = drawn b.width b.height (in_rows b.words.items (length b.mask.items))
+picture b = drawn b.width b.height (in_rows (boxed_slice_items b.words) (length (boxed_slice_items b.mask)))
 
--- The words have room for the pixels (own).
+-- The words have room for the pixels, and for a bit for each word of a row, of which there are at most 192 (own).
 pub record IsBitmap (b : Inside) : Type 0 where
   pub some_columns : 1 ≤ b.width
   pub some_rows : 1 ≤ b.height
-  pub columns : b.width ≤ 64 * length b.mask.items
-  pub rows : b.height * length b.mask.items ≤ length b.words.items
-  pub few_columns : length b.mask.items ≤ 157
+  pub columns : b.width ≤ 64 * length (boxed_slice_items b.mask)
+  pub rows : b.height * length (boxed_slice_items b.mask) ≤ length (boxed_slice_items b.words)
+  pub full_rows : b.height * 3 ≤ length (boxed_slice_items b.full)
+  pub few_columns : length (boxed_slice_items b.mask) ≤ 157
   pub few_rows : b.height ≤ 10000

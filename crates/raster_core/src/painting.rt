@@ -4,7 +4,7 @@ ghost use Rattle.std.specs.Prelude.{◌≡◌, ◌+◌, ◌*◌, ◌^◌, ◌<�
 ghost use Rattle.dvi_ops.specs.File.{AreUnits};
 ghost use Rattle.dvi_ops.specs.View.{units as units_of};
 ghost use Rattle.dvi_pass.specs.View.{mark_of, page_of};
-ghost use Rattle.raster_rows.specs.Words.{in_rows};
+ghost use Rattle.raster_rows.specs.Words.{AreFull, in_rows};
 ghost use Rattle.raster_core.specs.Pixels.{covers, is_covered, scale_of};
 ghost use Rattle.raster_core.specs.Pictures.{is_size, painted, white};
 ghost use Rattle.raster_core.specs.PlainText.{pbm};
@@ -16,15 +16,18 @@ use dvi_ops::Units;
 use dvi_pass::{Mark, Page};
 use raster_rows::blacken;
 use std::alloc::{AllocError, Global};
+use std::boxed::BoxedSlice;
 use std::marker::Model;
 
-/// A bitmap of black and white pixels, with room for the mask of one row.
+/// A bitmap of black and white pixels, with room for the mask of one row, and for a bit for each word. Its memory is taken once: a boxed slice has
+/// no call that lets it grow.
 #[derive(Debug, Drop)]
 pub struct Bitmap {
     width: usize,
     height: usize,
-    words: Vec<u64>,
-    mask: Vec<u64>,
+    words: BoxedSlice<u64>,
+    mask: BoxedSlice<u64>,
+    full: BoxedSlice<u64>,
 }
 
 impl Model for Bitmap {
@@ -59,7 +62,7 @@ impl Bitmap {
     /// Makes black what the rules of a page cover, with positive units and at most 10,000 pixels to an inch. The pixel of column 0 and row 0 is that
     /// of the page's origin, columns go to the right and rows downward; what lies outside is cut. A rule's bottom left corner falls on the nearest
     /// pixel, halves away from zero, its sizes are rounded up (DVItype, pixel_round and rule_pixels), and no glyph is painted. It takes no memory,
-    /// and its time is that of the words that the rules touch.
+    /// and its time is that of the rows that the rules touch, and of the words that they make black.
     pub fn paint(&mut self, page: &Page, units: Units, dpi: u32)
         requires units { AreUnits (units_of units) }
         requires dpi { dpi ≤ 10000 }
@@ -69,6 +72,7 @@ impl Bitmap {
         paint_marks(
             &mut self.words,
             &mut self.mask,
+            &mut self.full,
             self.width,
             self.height,
             scale,
@@ -98,20 +102,23 @@ fn white(alloc: Global, width: usize, height: usize) -> Result<Bitmap, AllocErro
     ensures { IfOk result (λ bitmap. bitmap ≡ white width height) }
 {
     let stride = width.div_ceil(64);
-    let words = vec![in alloc; 0; height * stride]?;
-    let mask = vec![in alloc; 0; stride]?;
+    let words = vec![in alloc; 0; height * stride]?.into_boxed_slice();
+    let mask = vec![in alloc; 0; stride]?.into_boxed_slice();
+    let full = vec![in alloc; 0; height * 3]?.into_boxed_slice();
     Ok(Bitmap {
         width,
         height,
         words,
         mask,
+        full,
     })
 }
 
-/// Paints a mark into the pixels of a bitmap of that size.
+/// Paints a mark into the pixels of a bitmap of that size. A bit of `full` that is 1 says that a word is black.
 fn paint_mark(
     words: &mut [u64],
     mask: &mut [u64],
+    full: &mut [u64],
     width: usize,
     height: usize,
     scale: Scale,
@@ -120,7 +127,10 @@ fn paint_mark(
     requires columns { width ≤ 64 * length mask.old }
     requires rows { height * length mask.old ≤ length words.old }
     requires short { length mask.old ≤ 157 }
-    ensures { (x y : ℕ) → x < width → y < height
+    requires full_rows { height * 3 ≤ length full.old }
+    requires full { AreFull full.old words.old (length mask.old) }
+    ensures full { AreFull full.new words.new (length mask.old) }
+    ensures pixels { (x y : ℕ) → x < width → y < height
         → in_rows words.new (length mask.old) x y ≡ (in_rows words.old (length mask.old) x y || covers scale (mark_of mark) x y) }
 {
     if let Mark::Rule {
@@ -132,14 +142,15 @@ fn paint_mark(
     {
         let columns = scale.columns(h, wide, width);
         let rows = scale.rows(v, high, height);
-        blacken(words, mask, columns, rows);
+        blacken(words, mask, full, columns, rows);
     }
 }
 
-/// Paints marks, one after the other.
+/// Paints marks, one after the other. What it writes to are slices, so it cannot take memory. No word is known to be black at first.
 fn paint_marks(
     words: &mut [u64],
     mask: &mut [u64],
+    full: &mut [u64],
     width: usize,
     height: usize,
     scale: Scale,
@@ -148,10 +159,12 @@ fn paint_marks(
     requires columns { width ≤ 64 * length mask.old }
     requires rows { height * length mask.old ≤ length words.old }
     requires short { length mask.old ≤ 157 }
+    requires full_rows { height * 3 ≤ length full.old }
     ensures { (x y : ℕ) → x < width → y < height
         → in_rows words.new (length mask.old) x y ≡ (in_rows words.old (length mask.old) x y || is_covered scale (map mark_of marks.now) x y) }
 {
+    full.fill(0);
     for mark in marks {
-        paint_mark(words, mask, width, height, scale, *mark);
+        paint_mark(words, mask, full, width, height, scale, *mark);
     }
 }

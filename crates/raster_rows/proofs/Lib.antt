@@ -1,3 +1,4 @@
 pub mod OredWords
 pub mod MaskBits
 pub mod RowSteps
+pub mod FullRows

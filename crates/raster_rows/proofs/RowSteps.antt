@@ -45,7 +45,7 @@ same_row old new stride row mask from to ors x = go (cases_lt (x / 64) from) (ca
         ∙ (or-false _ ∙ ap (λ m. is_set (get_or old (row * stride + x / 64) 0) (x % 64) || (m && is_set (get_or mask (x / 64) 0) (x % 64))) (sym (after_words from to x b)))
 
 -- a pixel of any row
-one_row : (old new : List ℕ) (stride row : ℕ) (mask : List ℕ) (from to : ℕ) → to ≤ stride → Ors old new (row * stride) mask from to → (x y : ℕ) → x < 64 * stride
+pub one_row : (old new : List ℕ) (stride row : ℕ) (mask : List ℕ) (from to : ℕ) → to ≤ stride → Ors old new (row * stride) mask from to → (x y : ℕ) → x < 64 * stride
     → in_rows new stride x y ≡ (in_rows old stride x y || (eqb y row && (between (64 * from) (64 * to) x && in_row mask x)))
 unfolding in_rows
 one_row old new stride row mask from to fits ors x y h = go (cases_order y row)
@@ -86,12 +86,12 @@ more_rows top row y le = go (cases_order y row) (cases_lt y top)
     go (inr (inr high)) (inl t) = rw (lt-leb top y t, ne_eqb y row (λ e. omega arith))
     go (inr (inr high)) (inr t) = rw (le-leb top y t, le-ltb y row (omega arith), ne_eqb y row (λ e. omega arith), le-ltb y (row + 1) (omega arith))
 
-pub rows_more : (first old new : List ℕ) (stride top row : ℕ) (mask : List ℕ) (from to : ℕ) → top ≤ row → to ≤ stride
-    → ((x y : ℕ) → x < 64 * stride → in_rows old stride x y ≡ (in_rows first stride x y || (between top row y && (between (64 * from) (64 * to) x && in_row mask x))))
-    → Ors old new (row * stride) mask from to
-    → (x y : ℕ) → x < 64 * stride → in_rows new stride x y ≡ (in_rows first stride x y || (between top (row + 1) y && (between (64 * from) (64 * to) x && in_row mask x)))
-rows_more first old new stride top row mask from to le fits before ors x y h =
-    one_row old new stride row mask from to fits ors x y h
-    ∙ (ap (λ o. o || (eqb y row && (between (64 * from) (64 * to) x && in_row mask x))) (before x y h)
-    ∙ (joined (in_rows first stride x y) (between top row y) (eqb y row) (between (64 * from) (64 * to) x && in_row mask x)
-    ∙ ap (λ r. in_rows first stride x y || (r && (between (64 * from) (64 * to) x && in_row mask x))) (more_rows top row y le)))
+pub rows_more : (first old new : List ℕ) (stride top row : ℕ) (black : ℕ → Bool) → top ≤ row
+    → ((x y : ℕ) → x < 64 * stride → in_rows old stride x y ≡ (in_rows first stride x y || (between top row y && black x)))
+    → ((x y : ℕ) → x < 64 * stride → in_rows new stride x y ≡ (in_rows old stride x y || (eqb y row && black x)))
+    → (x y : ℕ) → x < 64 * stride → in_rows new stride x y ≡ (in_rows first stride x y || (between top (row + 1) y && black x))
+rows_more first old new stride top row black le before step x y h =
+    step x y h
+    ∙ (ap (λ o. o || (eqb y row && black x)) (before x y h)
+    ∙ (joined (in_rows first stride x y) (between top row y) (eqb y row) (black x)
+    ∙ ap (λ r. in_rows first stride x y || (r && black x)) (more_rows top row y le)))

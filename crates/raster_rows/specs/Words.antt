@@ -1,6 +1,6 @@
 -- Pixels as the bits of 64-bit words (own): 64 pixels a word, from the lowest bit on.
-use Rattle.std.specs.Prelude.{◌≡◌, ◌==◌, ◌≤◌, ◌<◌, ◌+◌, ◌*◌, ◌/◌, ◌%◌, ◌&&◌, ℕ, Bool, List, nat_le, nat_lt, slice_index, bit_or}
-use Rattle.std.specs.Int.{bit_at}
+use Rattle.std.specs.Prelude.{◌≡◌, ◌==◌, ◌≤◌, ◌<◌, ◌+◌, ◌*◌, ◌/◌, ◌%◌, ◌&&◌, ℕ, Bool, true, List, nat_le, nat_lt, slice_index, bit_or}
+use Rattle.std.specs.Int.{bit_at, div_ceil}
 
 -- Whether bit i of a word is 1 (own).
 abbrev pub is_set : ℕ → ℕ → Bool
@@ -23,3 +23,13 @@ pub record Ors (old new : List ℕ) (at : ℕ) (mask : List ℕ) (from to : ℕ)
   pub inside : (k : ℕ) → from ≤ k → k < to → slice_index new (at + k) ≡ bit_or (slice_index old (at + k)) (slice_index mask k)
   pub before : (j : ℕ) → j < at + from → slice_index new j ≡ slice_index old j
   pub after : (j : ℕ) → at + to ≤ j → slice_index new j ≡ slice_index old j
+
+-- A mask has the pixels from the first to before the last in each word that they touch, and the other list, of three words, has the numbers of the
+-- words that they fill (own).
+pub record IsRun (mask inner : List ℕ) (first last : ℕ) : Type 0 where
+  pub touched : (x : ℕ) → 64 * (first / 64) ≤ x → x < 64 * div_ceil last 64 → in_row mask x ≡ between first last x
+  pub filled : (k : ℕ) → k < 192 → in_row inner k ≡ between (div_ceil first 64) (last / 64) k
+
+-- Bits for the words of rows, 192 a row: where one is 1, all pixels of the word are black (own).
+abbrev pub AreFull : (full words : List ℕ) → (stride : ℕ) → Type 0
+AreFull full words stride = (x y : ℕ) → x < 64 * stride → in_rows full 3 (x / 64) y ≡ true → in_rows words stride x y ≡ true

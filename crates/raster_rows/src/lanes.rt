@@ -1,6 +1,6 @@
 //! A mask put into a row, eight words at a time.
 
-ghost use Rattle.std.specs.Prelude.{◌+◌, ◌≤◌, length};
+ghost use Rattle.std.specs.Prelude.{◌≡◌, ◌+◌, ◌<◌, ◌≤◌, ℕ, true, length, bit_or, slice_index};
 ghost use Rattle.raster_rows.specs.Words.{Ors};
 
 use std::simd::prelude::*;
@@ -30,4 +30,19 @@ pub fn or_row(words: &mut [u64], at: usize, mask: &[u64], from: usize, to: usize
     'rest: for k in from + 8 * blocks..to {
         words[at + k] |= mask[k];
     }
+}
+
+/// Whether words have each bit of the words of a mask from `from` to before `to`, the first word of the mask falling on the word `at`.
+pub fn has_row(words: &[u64], at: usize, mask: &[u64], from: usize, to: usize) -> bool
+    requires words { at + to ≤ length words.now }
+    requires mask { to ≤ length mask.now }
+    ensures { result ≡ true → (k : ℕ) → from ≤ k → k < to
+        → bit_or (slice_index words.now (at + k)) (slice_index mask.now k) ≡ slice_index words.now (at + k) }
+{
+    for k in from..to {
+        if words[at + k] | mask[k] != words[at + k] {
+            return false;
+        }
+    }
+    true
 }

@@ -1,45 +1,103 @@
 //! Pixels of many rows.
 
-ghost use Rattle.std.specs.Prelude.{◌≡◌, ◌+◌, ◌*◌, ◌/◌, ◌^◌, ◌<◌, ◌≤◌, ◌&&◌, ◌||◌, ℕ, length};
-ghost use Rattle.raster_rows.specs.Words.{between, in_row, in_rows};
+ghost use Rattle.std.specs.Prelude.{◌≡◌, ◌==◌, ◌+◌, ◌*◌, ◌/◌, ◌<◌, ◌≤◌, ◌&&◌, ◌||◌, ℕ, length};
+ghost use Rattle.raster_rows.specs.Words.{AreFull, IsRun, between, in_rows};
 
-use crate::lanes::or_row;
+use crate::lanes::{has_row, or_row};
 use crate::masks::fill;
 use std::ops::Range;
 
-/// Puts the words of a mask from `from` to before `to` by "or" into the rows from `top` to before `bottom`; a row has as many words as the mask.
-fn or_rows(words: &mut [u64], mask: &[u64], from: usize, to: usize, top: usize, bottom: usize)
-    requires columns { from ≤ to }
-    requires mask { to ≤ length mask.now }
-    requires rows { top ≤ bottom }
-    requires room { bottom * length mask.now ≤ length words.old }
-    ensures { let stride = length mask.now in
-        (x y : ℕ) → x < 64 * stride → in_rows words.new stride x y
-        ≡ (in_rows words.old stride x y || (between top bottom y && (between (64 * from) (64 * to) x && in_row mask.now x))) }
+/// Makes the pixels from `first` to before `last` of a row black. `mask` has them, and `inner` the words that they fill. Where these are known to be
+/// black, only the first and the last word of the pixels are touched.
+fn blacken_row(
+    words: &mut [u64],
+    mask: &[u64],
+    full: &mut [u64],
+    inner: &[u64],
+    first: usize,
+    last: usize,
+    row: usize,
+)
+    requires some { first < last }
+    requires columns { last ≤ 64 * length mask.now }
+    requires few { length mask.now ≤ 192 }
+    requires room { row * length mask.now + length mask.now ≤ length words.old }
+    requires full_room { row * 3 + 3 ≤ length full.old }
+    requires inner { length inner.now ≡ 3 }
+    requires run { IsRun mask.now inner.now first last }
+    requires full { AreFull full.old words.old (length mask.now) }
+    ensures full { AreFull full.new words.new (length mask.now) }
+    ensures pixels { let stride = length mask.now in
+        (x y : ℕ) → x < 64 * stride → in_rows words.new stride x y ≡ (in_rows words.old stride x y || ((y == row) && between first last x)) }
 {
-    let stride = mask.len();
-    for row in top..bottom {
-        or_row(words, row * stride, mask, from, to);
+    let at = row * mask.len();
+    let from = first / 64;
+    let to = last.div_ceil(64);
+    if has_row(full, row * 3, inner, 0, 3) {
+        or_row(words, at, mask, from, from + 1);
+        or_row(words, at, mask, to - 1, to);
+    } else {
+        or_row(words, at, mask, from, to);
+        or_row(full, row * 3, inner, 0, 3);
     }
 }
 
-/// Makes the pixels of these columns black in each of these rows, in the time of the words that they touch. A row has as many words as the
-/// mask, which serves for this alone.
-pub fn blacken(words: &mut [u64], mask: &mut [u64], columns: Range<usize>, rows: Range<usize>)
+/// Makes the pixels of these columns black in the rows from `top` to before `bottom`.
+fn blacken_rows(
+    words: &mut [u64],
+    mask: &[u64],
+    full: &mut [u64],
+    inner: &[u64],
+    columns: Range<usize>,
+    top: usize,
+    bottom: usize,
+)
+    requires some { columns.start < columns.end }
+    requires columns { columns.end ≤ 64 * length mask.now }
+    requires few { length mask.now ≤ 192 }
+    requires rows { top ≤ bottom }
+    requires room { bottom * length mask.now ≤ length words.old }
+    requires full_room { bottom * 3 ≤ length full.old }
+    requires inner { length inner.now ≡ 3 }
+    requires run { IsRun mask.now inner.now columns.start columns.end }
+    requires full { AreFull full.old words.old (length mask.now) }
+    ensures full { AreFull full.new words.new (length mask.now) }
+    ensures pixels { let stride = length mask.now in
+        (x y : ℕ) → x < 64 * stride → in_rows words.new stride x y
+        ≡ (in_rows words.old stride x y || (between top bottom y && between columns.start columns.end x)) }
+{
+    for row in top..bottom {
+        blacken_row(words, mask, full, inner, columns.start, columns.end, row);
+    }
+}
+
+/// Makes the pixels of these columns black in each of these rows. A row has as many words as the mask, which serves for this alone, and three words
+/// of `full`, in which a bit that is 1 says that a word of the row is black. The time is that of the rows, and of words that become black.
+pub fn blacken(
+    words: &mut [u64],
+    mask: &mut [u64],
+    full: &mut [u64],
+    columns: Range<usize>,
+    rows: Range<usize>,
+)
     requires columns { columns.end ≤ 64 * length mask.old }
+    requires few { length mask.old ≤ 192 }
     requires rows { rows.end * length mask.old ≤ length words.old }
-    requires short { 64 * length mask.old < 2 ^ 64 }
-    ensures { let stride = length mask.old in
+    requires full_rows { rows.end * 3 ≤ length full.old }
+    requires full { AreFull full.old words.old (length mask.old) }
+    ensures full { AreFull full.new words.new (length mask.old) }
+    ensures pixels { let stride = length mask.old in
         (x y : ℕ) → x < 64 * stride → in_rows words.new stride x y
         ≡ (in_rows words.old stride x y || (between columns.start columns.end x && between rows.start rows.end y)) }
 {
     if columns.start >= columns.end || rows.start >= rows.end {
         return;
     }
-    let from = columns.start / 64;
-    let to = columns.end.div_ceil(64);
-    fill(mask, from, to, columns.start, columns.end);
-    or_rows(words, mask, from, to, rows.start, rows.end);
+    let (first, last) = (columns.start, columns.end);
+    fill(mask, first / 64, last.div_ceil(64), first, last);
+    let mut inner = [0; 3];
+    fill(&mut inner, 0, 3, first.div_ceil(64), last / 64);
+    blacken_rows(words, mask, full, &inner, columns, rows.start, rows.end);
 }
 
 /// Whether the pixel of column `x` and row `y` is black, where a row has `stride` words.

@@ -11,11 +11,11 @@ use Rattle.raster_core.proofs.painting.Bitmap.paint.Goals as goal
 pub returns : goal.returns
 returns c =
     let b = c.self.inside in
-    let words = with_items_is b.words c.paint_marks.new.words (c.paint_marks.auto.words ∙ c.deref_mut.ensures.len) in
-    let mask = with_items_is b.mask c.paint_marks.new.mask (c.paint_marks.auto.mask ∙ c.deref_mut-2.ensures.len) in
-    repainted b.width b.height b.words.items b.mask.items c.deref_mut.result.now c.deref_mut-2.result.now c.paint_marks.new.words c.paint_marks.new.mask
-    (with_items b.words c.paint_marks.new.words).items
-    (with_items b.mask c.paint_marks.new.mask).items
+    let words = with_items_is b.words.items c.paint_marks.new.words (c.paint_marks.auto.words ∙ c.deref_mut.ensures.len) in
+    let mask = with_items_is b.mask.items c.paint_marks.new.mask (c.paint_marks.auto.mask ∙ c.deref_mut-2.ensures.len) in
+    repainted b.width b.height b.words.items.items b.mask.items.items c.deref_mut.result.now c.deref_mut-2.result.now c.paint_marks.new.words c.paint_marks.new.mask
+    (with_items b.words.items c.paint_marks.new.words).items
+    (with_items b.mask.items c.paint_marks.new.mask).items
     c.new-scale.result
     (scale_of (units_of c.args.units) c.args.dpi)
     c.args.page.now.marks.items
