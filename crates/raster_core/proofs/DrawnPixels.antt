@@ -74,8 +74,8 @@ pub none_full : (n stride : ℕ) (full words : List ℕ) → full ≡ zeros n �
 unfolding in_rows
 none_full n stride full words cleared x y h is =
     let white : is_set (get_or full (y * 3 + x / 64 / 64) 0) (x / 64 % 64) ≡ false =
-        ap (λ l. is_set (get_or l (y * 3 + x / 64 / 64) 0) (x / 64 % 64)) cleared
-        ∙ (ap (λ k. is_set k (x / 64 % 64)) (no_word n (y * 3 + x / 64 / 64)) ∙ ap (λ bit. bit == 1) (bit_at-zero (x / 64 % 64))) in
+    ap (λ l. is_set (get_or l (y * 3 + x / 64 / 64) 0) (x / 64 % 64)) cleared
+    ∙ (ap (λ k. is_set k (x / 64 % 64)) (no_word n (y * 3 + x / 64 / 64)) ∙ ap (λ bit. bit == 1) (bit_at-zero (x / 64 % 64))) in
     let both : true ≡ false = sym is ∙ white in absurd cc
 
 -- words that are 0 show a white picture

@@ -14,10 +14,10 @@ pub loop-mark-preserved : goal.loop-mark-preserved
 loop-mark-preserved c = record {
   full = subst (λ n. AreFull c.paint_mark.new.full c.paint_mark.new.words n) c.loop-mark.auto.mask c.paint_mark.ensures.full;
   pixels =
-    λ x y h k.
-    painted_more c.args.scale c.args.marks.now c.loop-mark.mark-index x y _ (length c.loop-mark.mask) (length c.args.mask.now) c.args.words.now c.loop-mark.words c.paint_mark.new.words
-    c.loop-mark-test.true
-    c.loop-mark.auto.mask
-    (c.paint_mark.ensures.pixels x y h k)
-    (c.loop-mark.invariant.pixels x y h k);
+      λ x y h k.
+      painted_more c.args.scale c.args.marks.now c.loop-mark.mark-index x y _ (length c.loop-mark.mask) (length c.args.mask.now) c.args.words.now c.loop-mark.words c.paint_mark.new.words
+      c.loop-mark-test.true
+      c.loop-mark.auto.mask
+      (c.paint_mark.ensures.pixels x y h k)
+      (c.loop-mark.invariant.pixels x y h k);
 }

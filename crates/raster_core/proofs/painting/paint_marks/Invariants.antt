@@ -8,6 +8,6 @@ abbrev pub invariant-loop-mark : goal.invariant-loop-mark
 invariant-loop-mark l = record {
   full : AreFull l.full l.words (length l.fn.mask);
   pixels : (x y : ℕ) → x < l.width → y < l.height
-    → in_rows l.words (length l.fn.mask) x y
-    ≡ (in_rows l.fn.words (length l.fn.mask) x y || is_covered l.scale (take l.mark-index (map mark_of l.marks)) x y);
+      → in_rows l.words (length l.fn.mask) x y
+      ≡ (in_rows l.fn.words (length l.fn.mask) x y || is_covered l.scale (take l.mark-index (map mark_of l.marks)) x y);
 }

@@ -1,5 +1,4 @@
 use Rattle.std.proofs.Common.{length}
-use Rattle.raster_rows.specs.Words.{between}
 use Rattle.raster_rows.proofs.FullRows.{as_full, ends_of_run, fuller, whole_run}
 use Rattle.raster_rows.proofs.rows.blacken_row.Goals as goal
 

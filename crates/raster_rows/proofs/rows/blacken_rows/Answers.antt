@@ -7,8 +7,8 @@ pub loop-row-preserved : goal.loop-row-preserved
 loop-row-preserved c = record {
   full = c.blacken_row.ensures.full;
   pixels =
-    rows_more c.args.words.now c.loop-row.words c.blacken_row.new.words (length c.args.mask.now) c.args.top c.loop-row.row (between c.args.columns.start c.args.columns.end)
-    (omega arith)
-    c.loop-row.invariant.pixels
-    c.blacken_row.ensures.pixels;
+      rows_more c.args.words.now c.loop-row.words c.blacken_row.new.words (length c.args.mask.now) c.args.top c.loop-row.row (between c.args.columns.start c.args.columns.end)
+      (omega arith)
+      c.loop-row.invariant.pixels
+      c.blacken_row.ensures.pixels;
 }
