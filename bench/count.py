@@ -64,9 +64,11 @@ def count(program, words, stdin, out, folder):
     if out and os.path.exists(os.path.join(folder, out)):
         os.remove(os.path.join(folder, out))
     counts = os.path.join(folder, "callgrind.out")
+    if os.path.exists(counts):
+        os.remove(counts)
     with open(stdin, "rb") as file:
         done = subprocess.run(["valgrind", "--tool=callgrind", "--callgrind-out-file=" + counts, program, *words], cwd=folder, stdin=file, stdout=subprocess.PIPE, stderr=subprocess.PIPE)
-    found = re.search(r"^(?:summary|totals): (\d+)", open(counts).read(), re.M)
+    found = os.path.exists(counts) and re.search(r"^(?:summary|totals): (\d+)", open(counts).read(), re.M)
     if not found:
         sys.exit(done.stderr.decode(errors="replace")[-1000:])
     sum_of = hashlib.sha256(b"%d\n" % done.returncode + done.stdout)
