@@ -1,6 +1,6 @@
 //! The examples of docs/LIBRARY.md: the program runs each and prints what it gives.
 //!
-//! The text of an example is that of docs/LIBRARY.md, word for word, in a file of its own; `tests/run library_examples` compares them.
+//! The text of an example is that of docs/LIBRARY.md, word for word, in a file of its own; `tests/run library` compares them.
 #![tactic(auto)]
 
 mod command_lines;
