@@ -17,8 +17,8 @@ mod writing;
 
 use anyhow::Result;
 use printing::{
-    print_answered, print_completed, print_counted, print_pages, print_run, print_shown,
-    print_two_pages,
+    print_answered, print_completed, print_counted, print_pages, print_run, print_same_pages,
+    print_shown,
 };
 
 /// Runs the examples in the order of the document.
@@ -29,7 +29,7 @@ fn main(rt: HostRuntime) -> Result<()> {
     print_run(alloc, &mut output)?;
     print_pages(alloc, &mut output)?;
     print_completed(alloc, &mut output)?;
-    print_two_pages(alloc, &mut output)?;
+    print_same_pages(alloc, &mut output)?;
     print_shown(alloc, &mut output)?;
     print_counted(alloc, &mut output)
 }

@@ -9,7 +9,7 @@ use crate::scripts::answered;
 use crate::texts::text_page;
 use crate::tiny::TINY;
 use crate::values::{ONE_GLYPH, ONE_RULE, box_of_a_rule, narrow, one_rule, tiny_name, two_rules};
-use crate::writing::two_pages;
+use crate::writing::same_pages;
 use anyhow::{Context, Result};
 use dvi_write::Fonts;
 use job_core::FontFile;
@@ -66,11 +66,12 @@ pub fn print_completed<W: Write>(alloc: Global, output: &mut W) -> Result<()> {
 }
 
 /// The length of the file of two pages with one rule.
-pub fn print_two_pages<W: Write>(alloc: Global, output: &mut W) -> Result<()> {
+pub fn print_same_pages<W: Write>(alloc: Global, output: &mut W) -> Result<()> {
     let shown = box_of_a_rule(alloc)?;
     let fonts = Fonts::new(alloc)?;
-    let memory = two_pages(alloc, &shown, &fonts)?;
-    writeln!(output, "== two_pages")?;
+    let counts = [[0; 10], [7; 10]];
+    let memory = same_pages(alloc, &shown, &counts, &fonts)?;
+    writeln!(output, "== same_pages")?;
     writeln!(output, "{} bytes", memory.bytes().len())?;
     Ok(())
 }

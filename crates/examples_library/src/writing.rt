@@ -7,8 +7,13 @@ use node_core::BoxNode;
 use scaled_core::Dimen;
 use std::alloc::Global;
 
-/// The DVI file of two pages that show one box. The box is at most 200 deep, and each of its glyphs has the width that its font in `fonts` gives.
-pub fn two_pages(alloc: Global, shown: &BoxNode, fonts: &Fonts) -> Result<Memory, WriteFault>
+/// The DVI file of pages that show one box, one for each of these counts. The box is at most 200 deep, and each of its glyphs has the width that its font in `fonts` gives.
+pub fn same_pages(
+    alloc: Global,
+    shown: &BoxNode,
+    all_counts: &[[i32; 10]],
+    fonts: &Fonts,
+) -> Result<Memory, WriteFault>
     requires { IsShippable fonts.now shown.now }
 {
     let mut writer = DviWriter::new(Memory::new(alloc));
@@ -16,8 +21,9 @@ pub fn two_pages(alloc: Global, shown: &BoxNode, fonts: &Fonts) -> Result<Memory
         h: Dimen::ZERO,
         v: Dimen::ZERO,
     };
-    writer.page(alloc, shown, at, &[1, 0, 0, 0, 0, 0, 0, 0, 0, 0], fonts)?; // sent
-    writer.page(alloc, shown, at, &[2, 0, 0, 0, 0, 0, 0, 0, 0, 0], fonts)?;
+    for counts in all_counts {
+        writer.page(alloc, shown, at, counts, fonts)?; // sent
+    }
     writer.finish(alloc, fonts)?; // WrittenFile { pages, bytes }
     Ok(writer.into_device())
 }
