@@ -13,7 +13,7 @@ ghost use Rattle.line_meter.specs.Small.{ArePrefixes, IsSmallSums};
 
 use crate::fault::BreakFault;
 use crate::list::{
-    all_next_kept, any_shrinks_forever, count_places, legal_places, no_trials, penalty_at,
+    all_next_kept, any_shrinks_infinitely, count_places, legal_places, no_trials, penalty_at,
 };
 use crate::meter::{Meter, Place};
 use crate::sums::{Sums, minus, prefix_sums};
@@ -68,7 +68,7 @@ impl<'a> ListMeter<'a> {
         ensures fits { OnOk result (refusal nodes.now ≡ None) }
         ensures fault { IfErr result (λ fault. fault ≡ unwrap_or (refusal nodes.now) BreakFault.OutOfMemory) }
     {
-        if any_shrinks_forever(nodes) {
+        if any_shrinks_infinitely(nodes) {
             return Err(BreakFault::InfiniteShrink);
         }
         if count_places(nodes) > 8192 {
