@@ -43,7 +43,8 @@ fn nearest_small(n: u64, d: u64) -> u64
     ensures value { result ≡ nearest n d }
     ensures small { result ≤ n }
 {
-    (2 * n + d) / (2 * d)
+    let twice = 2 * n + d;
+    twice / (2 * d)
 }
 
 /// The whole number nearest to `x / d`, halves away from zero, in 64 bits.
@@ -57,8 +58,5 @@ pub fn rounded_small(x: i64, d: u64) -> i64
     ensures small { Within (2 ^ 62) result }
 {
     let size = nearest_small(x.unsigned_abs(), d) as i64;
-    if x < 0 {
-        return -size;
-    }
-    size
+    if x < 0 { -size } else { size }
 }

@@ -43,7 +43,7 @@ pub enum Step {
 
 /// What a font says of a character, looked up once.
 #[derive(Clone, Copy, Debug)]
-pub struct FontRow {
+struct FontRow {
     /// Its sizes, if it is there.
     glyph: Option<GlyphSize>,
     /// The step from which its program is taken, if it has one.

@@ -63,17 +63,17 @@ fn add_follower(followers: &mut CharacterSet, step: LigKernStep)
     }
 }
 
-/// The following characters for which there is a step, of those that are taken from step k on.
-pub fn followers_from(steps: &[LigKernStep], mut k: usize) -> CharacterSet
-    ensures { (f : ℕ) → f < 256 → is_in result f ≡ is_some (first_for steps.now f (taken_steps steps.now k)) }
+/// The following characters for which there is a step, of those that are taken from step `at` on.
+pub fn followers_from(steps: &[LigKernStep], mut at: usize) -> CharacterSet
+    ensures { (f : ℕ) → f < 256 → is_in result f ≡ is_some (first_for steps.now f (taken_steps steps.now at)) }
 {
     let mut followers = CharacterSet::new();
-    while let Some(step) = step_at(steps, k) {
+    while let Some(step) = step_at(steps, at) {
         add_follower(&mut followers, step);
         if STOP_FLAG <= step.skip {
             return followers;
         }
-        k += usize::from(step.skip) + 1;
+        at += usize::from(step.skip) + 1;
     }
     followers
 }

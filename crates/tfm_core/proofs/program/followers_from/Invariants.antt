@@ -7,7 +7,7 @@ use Rattle.tfm_core.proofs.program.followers_from.Given as goal
 -- The characters that are in the set, and those for which there is a step from here on, are all that are wanted.
 abbrev pub invariant-loop-step : goal.invariant-loop-step
 invariant-loop-step l =
-    (f : ℕ) → f < 256 → (is_in l.followers f || is_some (first_for l.steps f (taken_steps l.steps l.k))) ≡ is_some (first_for l.fn.steps f (taken_steps l.fn.steps l.fn.k))
+    (f : ℕ) → f < 256 → (is_in l.followers f || is_some (first_for l.steps f (taken_steps l.steps l.at))) ≡ is_some (first_for l.fn.steps f (taken_steps l.fn.steps l.fn.at))
 
 abbrev pub decreases-loop-step : goal.decreases-loop-step
-decreases-loop-step l = length l.steps - l.k
+decreases-loop-step l = length l.steps - l.at
