@@ -1,12 +1,15 @@
 //! Exact fractions, by which glue is set.
 
-ghost use Rattle.std.specs.Prelude.{◌≡◌, ◌*ℤ◌, ◌<ℤ◌, ◌≤◌, ◌^◌, pos, unsigned_abs};
+ghost use Rattle.std.specs.Prelude.{◌≡◌, ◌*ℤ◌, ◌<ℤ◌, ◌≤◌, ◌^◌, pos, unsigned_abs, IfSome};
 ghost use Rattle.scaled_core.specs.Dimensions.{Within};
 ghost use Rattle.scaled_core.specs.Rounding.{IsRounded};
 ghost use Rattle.scaled_core.specs.Fractions.{round_times};
 
-use crate::rounding::rounded;
+use crate::rounding::{rounded, rounded_small};
 use std::marker::Model;
+
+/// A product of two numbers of at most this size is doubled in 64 bits, and has room for a denominator beside it.
+const SMALL: u64 = 1 << 31;
 
 /// The exact fraction `num / den`, with `den` above 0, which need not be in lowest terms (own: TeX keeps glue ratios in floating
 /// point). `==` compares the two parts, so 1/2 and 2/4 differ.
@@ -48,8 +51,23 @@ impl Ratio {
         ensures value { result ≡ round_times self.now amount }
         ensures small { Within (2 ^ 126) result }
     {
-        rounded(product(self.num, amount), self.den as u64)
+        let den = self.den as u64;
+        match small_product(self.num, amount) {
+            Some(product) => i128::from(rounded_small(product, den)),
+            None => rounded(product(self.num, amount), den),
+        }
     }
+}
+
+/// The product of two numbers in 64 bits, where neither is above 2^31 in size: nearly all numerators and amounts of pages are not.
+fn small_product(a: i64, b: i64) -> Option<i64>
+    ensures value { IfSome result (λ product. product ≡ a *ℤ b) }
+    ensures small { IfSome result (λ product. unsigned_abs product ≤ 2 ^ 62) }
+{
+    if a.unsigned_abs() <= SMALL && b.unsigned_abs() <= SMALL {
+        return Some(a * b);
+    }
+    None
 }
 
 /// The product of two numbers.

@@ -8,7 +8,6 @@ use Rattle.tfm_core.specs.declared.record.CharInfo.{CharInfo}
 use Rattle.tfm_core.specs.declared.record.LigKernStep.{LigKernStep}
 use Rattle.tfm_core.specs.Fonts.{HasAction, IsInTables, IsWhole, SizedFont, action_of, has_action, is_in_tables, matching_step}
 use Rattle.tfm_core.specs.Program.{first_for, info_program, is_for, is_step_for}
-use Rattle.tfm_core.proofs.ProgramLemmas.{first_for-none}
 use Rattle.tfm_core.specs.declared.font.Step.TheVariants.{Kern, Ligature}
 use Rattle.tfm_core.specs.Rules.{character_at, names_absent_kern_or_character, with_width}
 
@@ -107,5 +106,3 @@ HasAction-from_matching font code following (Some s) w e =
     HasAction-from_parts font following s (list_all-at (has_action font) font.steps p.0 s w.steps p.1) p.2
 
 pub ruleset glyphs = (IsInTables-from_character)
-
-pub ruleset steps = (first_for-none)

@@ -1,7 +1,9 @@
 pub mod LawLemmas
 pub mod ByteLemmas
 pub mod FontLemmas
+pub mod CharacterSets
 pub mod ProgramLemmas
+pub mod RowLemmas
 pub mod ReadingLemmas
 pub mod RuleLemmas
 pub mod ScalingLemmas

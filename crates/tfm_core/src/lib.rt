@@ -1,6 +1,7 @@
 //! Font metric files, and fonts at a size (TFtoPL; TeX: The Program, part 30).
 #![tactic(auto)]
 
+mod character_set;
 mod entries;
 pub mod fault;
 pub mod font;
@@ -11,6 +12,7 @@ mod program;
 pub mod record;
 mod rules;
 pub mod scaling;
+mod sized_file;
 pub mod tfm;
 
 pub use fault::{FontFault, TfmCause, TfmFault};

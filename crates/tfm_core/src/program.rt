@@ -1,8 +1,10 @@
 //! The ligature/kern program of a character (TFtoPL, 13; TeX: The Program, part 30, §545).
 
-ghost use Rattle.std.specs.Prelude.{◌≡◌, slice_get};
-ghost use Rattle.tfm_core.specs.Program.{first_for, first_step, is_for, tag_program, taken_steps};
+ghost use Rattle.std.specs.Prelude.{◌≡◌, ◌<◌, ◌||◌, ℕ, is_some, slice_get};
+ghost use Rattle.tfm_core.specs.FontView.{is_in, tag_start};
+ghost use Rattle.tfm_core.specs.Program.{first_for, first_step, is_for, taken_steps};
 
+use crate::character_set::CharacterSet;
 use crate::record::{KERN_FLAG, LigKernStep, STOP_FLAG, Tag};
 
 /// The step of that number.
@@ -14,16 +16,16 @@ fn step_at(steps: &[LigKernStep], k: usize) -> Option<LigKernStep>
 
 /// The step from which the program is taken that begins at step k.
 #[tactic(auto, unfolding(crate::specs::Program::first_step))]
-fn first_step(steps: &[LigKernStep], k: usize) -> usize
+fn first_step(steps: &[LigKernStep], k: u8) -> u16
     ensures { result ≡ first_step steps.now k }
 {
-    let Some(step) = step_at(steps, k) else {
-        return k;
+    let Some(step) = step_at(steps, usize::from(k)) else {
+        return u16::from(k);
     };
     if STOP_FLAG < step.skip {
-        return 256 * usize::from(step.op) + usize::from(step.remainder);
+        return 256 * u16::from(step.op) + u16::from(step.remainder);
     }
-    k
+    u16::from(k)
 }
 
 /// Whether a step is for that following character.
@@ -36,7 +38,7 @@ fn is_for(following: u8, step: LigKernStep) -> bool
 
 /// The first step for the following character, of those that are taken from step k on.
 #[tactic(auto, using(crate::proofs::ProgramLemmas::programs))]
-fn first_from(steps: &[LigKernStep], mut k: usize, following: u8) -> Option<LigKernStep>
+pub fn first_from(steps: &[LigKernStep], mut k: usize, following: u8) -> Option<LigKernStep>
     ensures { result ≡ first_for steps.now following (taken_steps steps.now k) }
 {
     while let Some(step) = step_at(steps, k) {
@@ -51,15 +53,37 @@ fn first_from(steps: &[LigKernStep], mut k: usize, following: u8) -> Option<LigK
     None
 }
 
-/// The first step of a tag's program for the following character.
-#[tactic(auto, using(crate::proofs::ProgramLemmas::programs))]
-pub fn first_for(steps: &[LigKernStep], tag: Tag, following: u8) -> Option<LigKernStep>
-    ensures { result ≡ first_for steps.now following (tag_program steps.now tag) }
+/// Adds the following character that a step is for, if it is for one.
+#[tactic(auto, unfolding(crate::specs::Program::is_for))]
+fn add_follower(followers: &mut CharacterSet, step: LigKernStep)
+    ensures { (f : ℕ) → f < 256 → is_in followers.new f ≡ (is_for f step || is_in followers.old f) }
+{
+    if is_for(step.next, step) {
+        followers.insert(step.next);
+    }
+}
+
+/// The following characters for which there is a step, of those that are taken from step `at` on.
+pub fn followers_from(steps: &[LigKernStep], mut at: usize) -> CharacterSet
+    ensures { (f : ℕ) → f < 256 → is_in result f ≡ is_some (first_for steps.now f (taken_steps steps.now at)) }
+{
+    let mut followers = CharacterSet::new();
+    while let Some(step) = step_at(steps, at) {
+        add_follower(&mut followers, step);
+        if STOP_FLAG <= step.skip {
+            return followers;
+        }
+        at += usize::from(step.skip) + 1;
+    }
+    followers
+}
+
+/// The step from which a tag's program is taken, if it has one.
+pub fn start(steps: &[LigKernStep], tag: Tag) -> Option<u16>
+    ensures { result ≡ tag_start steps.now tag }
 {
     match tag {
-        Tag::Program(k) => first_from(steps, first_step(steps, usize::from(k)), following),
-        Tag::Plain => None,
-        Tag::Larger(_) => None,
-        Tag::Recipe(_) => None,
+        Tag::Program(k) => Some(first_step(steps, k)),
+        Tag::Plain | Tag::Larger(_) | Tag::Recipe(_) => None,
     }
 }

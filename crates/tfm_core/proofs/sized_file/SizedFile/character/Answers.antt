@@ -1,7 +1,7 @@
 use Rattle.std.proofs.Common.{ap, ◌∙◌}
 use Rattle.tfm_core.specs.Rules.{character_at}
 use Rattle.tfm_core.proofs.FontLemmas.{IsInTables-from_character}
-use Rattle.tfm_core.proofs.font.Font.character.Goals as goal
+use Rattle.tfm_core.proofs.sized_file.SizedFile.character.Goals as goal
 
 pub returns-clause-sizes : goal.returns-clause-sizes
 returns-clause-sizes c =

@@ -2,7 +2,7 @@
 use Rattle.std.specs.Int.{w32}
 use Rattle.std.proofs.lemmas.Int.{to_z-of_z}
 use Rattle.tfm_core.proofs.SizeLemmas.{Fits-in_64, Fits-from_test}
-use Rattle.tfm_core.proofs.font.dimension.Goals as goal
+use Rattle.tfm_core.proofs.sized_file.dimension.Goals as goal
 
 pub new-requires : goal.new-requires
 new-requires c =

@@ -4,7 +4,7 @@ use Rattle.std.proofs.lemmas.Int.{to_z-of_z}
 use Rattle.std.proofs.lemmas.List.{map_more}
 use Rattle.tfm_core.specs.Scaling.{scaled}
 use Rattle.tfm_core.proofs.SizeLemmas.{dimen-at}
-use Rattle.tfm_core.proofs.font.dimensions.Goals as goal
+use Rattle.tfm_core.proofs.sized_file.dimensions.Goals as goal
 
 -- src/font.rt:145:9
 pub dimension-requires : goal.dimension-requires

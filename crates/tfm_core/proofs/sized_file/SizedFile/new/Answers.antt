@@ -2,7 +2,7 @@ use Rattle.std.proofs.Common.{ap, rules, ◌∙◌}
 use Rattle.tfm_core.specs.Fonts.{are_dimens_at, font_at, is_space_at}
 use Rattle.tfm_core.specs.MetricFile.{MetricFile}
 use Rattle.tfm_core.proofs.WholeLemmas.{IsWhole-from_equal, widths_fit, heights_fit, depths_fit, kerns_fit, space_fits}
-use Rattle.tfm_core.proofs.font.font_at.Goals as goal
+use Rattle.tfm_core.proofs.sized_file.SizedFile.new.Goals as goal
 
 pub dimensions-requires : goal.dimensions-requires
 dimensions-requires c =
