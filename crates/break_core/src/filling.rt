@@ -46,7 +46,13 @@ struct Offers {
 }
 
 /// Offers the entries of a group for a place, by a line that was tried from there.
-fn offer_group(row: &mut Vec<Option<Best>>, table: &[Best], group: Group, rules: &Rules, tried: &Tried)
+fn offer_group(
+    row: &mut Vec<Option<Best>>,
+    table: &[Best],
+    group: Group,
+    rules: &Rules,
+    tried: &Tried,
+)
     requires wide { length row.old.items ≡ slots rules.now.params.now.first_lines }
     requires rises { group.start ≤ group.end }
     requires within { group.end ≤ length table.now }

@@ -113,11 +113,7 @@ fn decide<M: Meter>(
 }
 
 /// The ends of lines, by where they stand in the list.
-fn line_ends<M: Meter>(
-    alloc: Global,
-    meter: &M,
-    ends: &[State],
-) -> Result<Vec<LineEnd>, AllocError>
+fn line_ends<M: Meter>(alloc: Global, meter: &M, ends: &[State]) -> Result<Vec<LineEnd>, AllocError>
     requires within { AreWithin (M.facts meter.now) ends.now }
     ensures { IfOk result (λ lines. lines.items ≡ map (line_end (M.facts meter.now)) ends.now) }
 {
