@@ -2,7 +2,7 @@
 //!
 //! The legal places of a finished list, the penalty of a break at each, what the line from one place to another keeps and the sums over that. A meter tells
 //! them line by line and counts the trials; `ListMeter` measures a list once, by one walk, and refuses one that cannot be broken. The crate knows no
-//! passes and chooses no breaks: `break_core` and `active_breaks` stand above it, which break what any meter measures.
+//! passes and chooses no breaks: `break_core`, which breaks what any meter measures, is above it.
 #![tactic(auto)]
 
 mod fault;
