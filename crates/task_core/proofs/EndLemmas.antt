@@ -1,10 +1,11 @@
 -- Texts that go out one behind another, and what is said behind a task.
-use Rattle.std.proofs.Common.{◌≡◌, ◌⊎◌, ap, false, true, ◌++◌, ◌+◌, ℕ, zero, suc, Bool, List, length, take, Option, Some, None, Result, Ok, Err, OnOk, OnErr, inl, inr, refl, sym, ◌∙◌, subst, arith}
+use Rattle.std.proofs.Common.{◌≡◌, ◌⊎◌, ap, false, true, ◌++◌, ◌+◌, ℕ, Bool, List, length, take, Option, Some, None, Result, Ok, Err, OnOk, OnErr, inl, inr, refl, sym, ◌∙◌, subst, arith}
 use Rattle.std.proofs.Math.Seq.{take-append-add}
 use Rattle.std.proofs.lemmas.List.{take-append-le, length-append}
 use Rattle.std.specs.Borrow.{Bor}
 use Rattle.std.specs.Io.KnownBytes.{Appends, Keeps}
 use Rattle.std.specs.Prelude.{◌==◌, not, [], IfSome, IsSome}
+use Rattle.std.proofs.lemmas.Bool.{eq-eqb, eqb-true}
 use Rattle.device_core.specs.Beginnings.{Beginning, begun_after}
 use Rattle.host_core.specs.Hosts.{AreFilesOf, has_failed, told_by}
 use Rattle.tfm_core.specs.NamedBytes.{NamedBytes}
@@ -155,15 +156,22 @@ typeset_ended told input fonts out written has_failed Same created done text fil
       status_is = is;
     }
 
+-- truth values that follow from each other are equal
+same_truth : (a b : Bool) → (a ≡ true → b ≡ true) → (b ≡ true → a ≡ true) → a ≡ b
+same_truth true true f g = refl
+same_truth true false f g = sym (f refl)
+same_truth false true f g = g refl
+same_truth false false f g = refl
+
 -- a host has failed since exactly where its count has grown
 grown_count : (start k : ℕ) → (start + k == start) ≡ (k == 0)
-grown_count zero k = refl
-grown_count (suc start) k = grown_count start k
+grown_count start k =
+    same_truth (start + k == start) (k == 0) (λ is. eq-eqb k 0 (omega (arith, eqb-true (start + k) start is)))
+    (λ is. eq-eqb (start + k) start (omega (arith, eqb-true k 0 is)))
 
 -- a host that is as it was has not failed since
 pub unfailed : (count : ℕ) → has_failed count count ≡ false
-unfailed zero = refl
-unfailed (suc count) = unfailed count
+unfailed count = ap not (eq-eqb count count refl)
 
 -- a file did not take all where its host has failed since its device was made
 pub failed_since : (before now start k : ℕ) (done : Bool) (began : Beginning) → begun_after start ≡ began → began ≡ begun_after before → now ≡ start + k → done ≡ (k == 0)
