@@ -6,14 +6,14 @@ use std::alloc::Global;
 use std::fs::File;
 use std::io::{Error, ErrorKind, Input, Read};
 use std::rt::Files;
-use task_core::{Host, HostFault, read_all, write_some};
+use task_core::{FailureCount, Host, HostFault, read_all, write_some};
 
-/// The host of a real program. It tells nothing of what its files hold, but whether a creation or a write has failed.
+/// The host of a real program. It tells nothing of what its files hold, but how many creations and writes have failed.
 #[derive(Drop)]
 pub struct SystemHost<'a> {
     rt: &'a HostRuntime,
     file: Option<File>,
-    has_failed: bool,
+    failures: FailureCount,
 }
 
 impl<'a> SystemHost<'a> {
@@ -22,7 +22,7 @@ impl<'a> SystemHost<'a> {
         SystemHost {
             rt,
             file: None,
-            has_failed: false,
+            failures: FailureCount::zero(),
         }
     }
 }
@@ -45,7 +45,7 @@ impl Host for SystemHost<'_> {
 
     ghost written = { λ host. None };
 
-    ghost has_failed = { λ host. host.has_failed };
+    ghost failures = { λ host. host.failures.count };
 
     fn read_file(&self, alloc: Global, path: &str) -> Result<Vec<u8>, HostFault> {
         match File::open(self.rt, path) {
@@ -65,7 +65,7 @@ impl Host for SystemHost<'_> {
                 Ok(())
             }
             Err(fault) => {
-                self.has_failed = true;
+                self.failures.raise();
                 Err(fault_of(&fault))
             }
         }
@@ -77,7 +77,7 @@ impl Host for SystemHost<'_> {
             None => Err(HostFault::Failed),
         };
         if written.is_err() {
-            self.has_failed = true;
+            self.failures.raise();
         }
         written
     }

@@ -22,9 +22,9 @@ told_since front None now = None
 abbrev pub told_by : {D : Type 0} → (D → Option (List ℕ)) → Resumed D → Option (List ℕ)
 told_by told r = told_since (take r.met r.sent) (told r.start) (told r.device)
 
--- What was sent before, and what the inner device told then.
-abbrev pub began_by : {D : Type 0} → (D → Option (List ℕ)) → Resumed D → Beginning
-began_by told r = record { sent = r.sent; told = told r.start }
+-- What was sent before, and what the inner device told then, and how often it had failed.
+abbrev pub began_by : {D : Type 0} → (D → Option (List ℕ)) → (D → ℕ) → Resumed D → Beginning
+began_by told failed r = record { sent = r.sent; told = told r.start; failed = failed r.start }
 
 -- The inner device has got bytes since the beginning, and none before all that was sent had been met.
 pub record IsResumed (before now : Option (List ℕ)) (sent : List ℕ) (met : ℕ) : Type 0 where

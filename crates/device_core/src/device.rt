@@ -24,7 +24,7 @@ pub trait Device {
     /// How many writes have failed.
     ghost failed: { Self → ℕ };
 
-    /// What was sent before it was made, and what the device that took it told then. Each write keeps it.
+    /// What was sent before it was made, and what took it told then and how often that had failed. Each write keeps it.
     ghost began: { Self → Beginning };
 
     /// Takes the piece or a beginning of it, and answers how many bytes it took, at least one.

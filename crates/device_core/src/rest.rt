@@ -91,7 +91,7 @@ impl<D: Device> Device for Rest<D> {
 
     ghost failed = { λ r. D.failed r.device + r.failures };
 
-    ghost began = { began_by D.told };
+    ghost began = { began_by D.told D.failed };
 
     fn write(&mut self, piece: &[u8]) -> Result<usize, DeviceFault>
         requires some { 0 < length piece.now }
@@ -104,7 +104,7 @@ impl<D: Device> Device for Rest<D> {
 
         // Until all of what was sent is met, the inner device stays as it is, and only a byte that differs is a failure; after that, only its failures are.
         ensures sent { (self.new.sent ≡ self.old.sent) × (self.new.start ≡ self.old.start) }
-        ensures began { began_by D.told self.new ≡ began_by D.told self.old }
+        ensures began { began_by D.told D.failed self.new ≡ began_by D.told D.failed self.old }
         ensures apart { self.old.met < length self.old.sent → self.new.device ≡ self.old.device }
         ensures own { self.old.met ≡ length self.old.sent → self.new.failures ≡ self.old.failures }
         ensures differs { self.old.met < length self.old.sent → slice_index self.old.sent self.old.met ≡ slice_index piece.now 0 → IsOk result }

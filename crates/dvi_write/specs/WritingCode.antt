@@ -13,11 +13,11 @@ coded_so_far =
     (λ s. (((s.last, s.size), s.defined), (((s.tall, s.wide), s.deep), (s.pages, s.nodes))))
     (λ p. record { last = p.0.0.0; size = p.0.0.1; defined = p.0.1; tall = p.1.0.0.0; wide = p.1.0.0.1; deep = p.1.0.1; pages = p.1.1.0; nodes = p.1.1.1 }) (λ _. refl)
 
--- How what was sent before is stored: the bytes, and what the device that took them told.
+-- How what was sent before is stored: the bytes, what the device that took them told, and how often it had failed.
 abbrev pub coded_beginning : Coded Beginning
 coded_beginning =
-    code_by (List ℕ × Option (List ℕ)) (coded× (coded_list coded_ℕ) (coded_option (coded_list coded_ℕ))) (λ b. (b.sent, b.told)) (λ p. record { sent = p.0; told = p.1 })
-    (λ _. refl)
+    code_by ((List ℕ × Option (List ℕ)) × ℕ) (coded× (coded× (coded_list coded_ℕ) (coded_option (coded_list coded_ℕ))) coded_ℕ)
+    (λ b. ((b.sent, b.told), b.failed)) (λ p. record { sent = p.0.0; told = p.0.1; failed = p.1 }) (λ _. refl)
 
 -- How what a writer is seen as is stored: what it keeps, and what its device tells; how often that failed, and what was sent before; and whether it is over.
 abbrev pub coded_writing : Coded Writing

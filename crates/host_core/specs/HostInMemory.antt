@@ -7,14 +7,14 @@ pub record HeldBytes : Type 0 where
   pub path : List ℕ
   pub bytes : List ℕ
 
--- the files that can be read, standard input, whether a file was created, its path, what it took, and whether a creation or a write has failed
+-- the files that can be read, standard input, whether a file was created, its path, what it took, and how many creations and writes have failed
 pub record InMemory : Type 0 where
   pub files : List HeldBytes
   pub input : List ℕ
   pub is_created : Bool
   pub created : List ℕ
   pub written : List ℕ
-  pub has_failed : Bool
+  pub failures : ℕ
 
 -- the bytes of the first file at a path
 abbrev pub held_at : List HeldBytes → List ℕ → Option (List ℕ)

@@ -1,5 +1,5 @@
 -- What a host tells, and the font files of a command line (own).
-use Rattle.std.specs.Prelude.{◌≡◌, ◌++◌, ⊤, ℕ, List, [], ◌∷◌, Option, Some, None, if◌then◌else◌, Bool}
+use Rattle.std.specs.Prelude.{◌≡◌, ◌==◌, ◌++◌, ⊤, ℕ, not, List, [], ◌∷◌, Option, Some, None, if◌then◌else◌, Bool}
 use Rattle.tfm_core.specs.NamedBytes.{NamedBytes}
 use Rattle.word_core.specs.declared.fonts.NamedPath.{NamedPath}
 use Rattle.host_core.specs.Readings.{IsFileReading, IsUnreadableFile}
@@ -14,6 +14,10 @@ begun (Some bytes) = Some []
 -- what a file device tells: what the created file took; before that, nothing was taken
 abbrev pub told_by : Bool → Option (List ℕ) → Option (List ℕ)
 told_by is_open written = if is_open then written else begun written
+
+-- whether a host that had failed so often before has failed since, where it now has failed so often
+abbrev pub has_failed : (before now : ℕ) → Bool
+has_failed before now = not (now == before)
 
 -- the file of a font: it has its name, and the bytes at its path
 pub record IsFileOf (told : List ℕ → Option (Option (List ℕ))) (font : NamedPath) (file : NamedBytes) : Type 0 where

@@ -1,33 +1,37 @@
 //! The device that writes a DVI file at a path.
 
-ghost use Rattle.std.specs.Prelude.{◌≡◌, ◌≢◌, ◌≤◌, ◌<◌, [], false, true, length, take, IfOk, OnOk, OnErr};
+ghost use Rattle.std.specs.Prelude.{◌≡◌, ◌≢◌, ◌≤◌, ◌<◌, ◌+◌, [], false, true, length, take, IfOk, OnOk, OnErr};
 ghost use Rattle.std.specs.Option.{ForSome};
 ghost use Rattle.device_core.specs.Told.{grown};
 ghost use Rattle.host_core.specs.Hosts.{told_by};
 
 use crate::host::Host;
-use device_core::{Device, DeviceFault};
+use device_core::{Device, DeviceFault, Snapshot};
 
 /// A device that writes a file at a path of its host: it creates the file at its first write. A file that cannot be created or written is its failure. So a
-/// file that was created has taken a byte, where its host tells what it took, or a write has failed. It fails only where its host has failed.
-#[derive(Debug, Drop)]
+/// file that was created has taken a byte, where its host tells what it took, or a write has failed. It fails exactly where its host does: that
+/// has failed as often as the device since this was made.
+#[derive(Drop)]
 pub struct FileDevice<'a, H: Host> {
     host: H,
+    start: Snapshot<H>,
     path: &'a str,
     is_open: bool,
     failures: u64,
     ghost used: { is_open ≡ true → failures ≡ 0 → ForSome (H.written host) (λ bytes. bytes ≢ []) },
-    ghost blamed: { failures ≢ 0 → H.has_failed host ≡ true },
+    ghost counted: { H.failures host ≡ H.failures start.seen + failures },
 }
 
 impl<'a, H: Host> FileDevice<'a, H> {
     /// A device that has not created its file. It has told no byte, where its host tells any, and has not failed.
     pub fn new(host: H, path: &'a str) -> FileDevice<'a, H>
         ensures host { result.host ≡ host }
+        ensures start { result.start.seen ≡ host }
         ensures closed { result.is_open ≡ false }
         ensures fine { result.failures ≡ 0 }
     {
         FileDevice {
+            start: Snapshot::of(&host),
             host,
             path,
             is_open: false,
@@ -42,11 +46,11 @@ impl<'a, H: Host> FileDevice<'a, H> {
         self.is_open
     }
 
-    /// Its host. Where its file was created and no write failed, the file has taken a byte. Where one failed, the host has failed.
+    /// Its host, which has failed as often as the device since this was made. Where its file was created and no write failed, the file has taken a byte.
     pub fn into_host(self) -> H
         ensures host { result ≡ self.entry.host }
         ensures used { self.entry.is_open ≡ true → self.entry.failures ≡ 0 → ForSome (H.written result) (λ bytes. bytes ≢ []) }
-        ensures blamed { self.entry.failures ≢ 0 → H.has_failed result ≡ true }
+        ensures counted { H.failures result ≡ H.failures self.entry.start.seen + self.entry.failures }
     {
         self.host
     }
@@ -57,8 +61,8 @@ fn open<H: Host>(host: &mut H, path: &str, is_open: &mut bool) -> Result<(), Dev
     ensures told { told_by is_open.new (H.written host.new) ≡ told_by is_open.old (H.written host.old) }
     ensures open { OnOk result (is_open.new ≡ true) }
     ensures closed { is_open.new ≡ false → H.written host.new ≡ H.written host.old }
-    ensures stands { OnOk result (H.has_failed host.new ≡ H.has_failed host.old) }
-    ensures fails { OnErr result (H.has_failed host.new ≡ true) }
+    ensures stands { OnOk result (H.failures host.new ≡ H.failures host.old) }
+    ensures counted { OnErr result (H.failures host.new ≡ H.failures host.old + 1) }
 {
     if *is_open {
         return Ok(());
@@ -85,8 +89,8 @@ fn put<H: Host>(
     ensures none_taken { OnErr result (told_by is_open.new (H.written host.new) ≡ told_by is_open.old (H.written host.old)) }
     ensures used { OnOk result (ForSome (H.written host.new) (λ bytes. bytes ≢ [])) }
     ensures closed { is_open.new ≡ false → H.written host.new ≡ H.written host.old }
-    ensures stands { OnOk result (H.has_failed host.new ≡ H.has_failed host.old) }
-    ensures fails { OnErr result (H.has_failed host.new ≡ true) }
+    ensures stands { OnOk result (H.failures host.new ≡ H.failures host.old) }
+    ensures counted { OnErr result (H.failures host.new ≡ H.failures host.old + 1) }
 {
     open(host, path, is_open)?;
     match host.write(piece) {
@@ -97,15 +101,16 @@ fn put<H: Host>(
 
 impl<H: Host> Device for FileDevice<'_, H> {
     ghost use Rattle.std.specs.Prelude.{◌≡◌, ◌≤◌, ◌<◌, ◌+◌, ◌^◌, true, length, take, IfOk, OnOk, OnErr};
-    ghost use Rattle.device_core.specs.Beginnings.{no_beginning};
+    ghost use Rattle.device_core.specs.Beginnings.{begun_after};
 
     ghost told = { λ device. told_by device.is_open (H.written device.host) };
 
     ghost failed = { λ device. device.failures };
 
-    ghost began = { λ device. no_beginning };
+    ghost began = { λ device. begun_after (H.failures device.start.seen) };
 
-    /// It fails only where its host did: at the creation of its file, or at the write. Until the file is created, its host tells of it what it told before.
+    /// It fails exactly where its host does in this call: at the creation of its file, or at the write. Until the file is created, its host tells of it what
+    /// it told before.
     fn write(&mut self, piece: &[u8]) -> Result<usize, DeviceFault>
         requires some { 0 < length piece.now }
         requires countable { self.old.failures + 1 < 2 ^ 64 }
@@ -114,8 +119,9 @@ impl<H: Host> Device for FileDevice<'_, H> {
         ensures stands { OnOk result (self.new.failures ≡ self.old.failures) }
         ensures none_taken { OnErr result (told_by self.new.is_open (H.written self.new.host) ≡ told_by self.old.is_open (H.written self.old.host)) }
         ensures counted { OnErr result (self.new.failures ≡ self.old.failures + 1) }
-        ensures fine { OnOk result (H.has_failed self.new.host ≡ H.has_failed self.old.host) }
-        ensures blamed { OnErr result (H.has_failed self.new.host ≡ true) }
+        ensures fine { OnOk result (H.failures self.new.host ≡ H.failures self.old.host) }
+        ensures blamed { OnErr result (H.failures self.new.host ≡ H.failures self.old.host + 1) }
+        ensures start { self.new.start ≡ self.old.start }
         ensures closed { self.new.is_open ≡ false → H.written self.new.host ≡ H.written self.old.host }
     {
         match put(&mut self.host, self.path, &mut self.is_open, piece) {

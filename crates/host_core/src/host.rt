@@ -27,7 +27,7 @@ pub enum HostFault {
 /// A host has files by their paths, standard input, and one file that it creates and writes. It may tell what they hold; the host of a real program
 /// tells nothing. A reading is whole, and ends at `READ_LIMIT` bytes.
 pub trait Host {
-    ghost use Rattle.std.specs.Prelude.{◌≡◌, ◌≤◌, ◌<◌, ℕ, Bool, true, List, Option, Err, length, take, IfOk, IfSome, OnOk, OnErr};
+    ghost use Rattle.std.specs.Prelude.{◌≡◌, ◌≤◌, ◌<◌, ◌+◌, ℕ, List, Option, Err, length, take, IfOk, IfSome, OnOk, OnErr};
     ghost use Rattle.device_core.specs.Told.{grown};
     ghost use Rattle.host_core.specs.Readings.{IsFileReading, IsReadable, IsReadableFile, IsReading, IsUnreadable, IsUnreadableFile};
     ghost use Rattle.host_core.specs.Hosts.{begun};
@@ -41,8 +41,8 @@ pub trait Host {
     /// The bytes that the created file took, where they are told.
     ghost written: { Self → Option (List ℕ) };
 
-    /// Whether a creation or a write has failed.
-    ghost has_failed: { Self → Bool };
+    /// How many creations and writes have failed.
+    ghost failures: { Self → ℕ };
 
     /// All bytes of the file at a path. Memory is wanted only for a file that can be read.
     fn read_file(&self, alloc: Global, path: &str) -> Result<Vec<u8>, HostFault>
@@ -60,8 +60,8 @@ pub trait Host {
     fn create(&mut self, path: &str) -> Result<(), HostFault>
         ensures empty { OnOk result (written self.new ≡ begun (written self.old)) }
         ensures none { OnErr result (written self.new ≡ written self.old) }
-        ensures stands { OnOk result (has_failed self.new ≡ has_failed self.old) }
-        ensures fails { OnErr result (has_failed self.new ≡ true) };
+        ensures stands { OnOk result (failures self.new ≡ failures self.old) }
+        ensures counted { OnErr result (failures self.new ≡ failures self.old + 1) };
 
     /// Writes a piece or a beginning of it behind what the created file took, and answers how many bytes it took, at least one. An Err took nothing.
     fn write(&mut self, piece: &[u8]) -> Result<usize, HostFault>
@@ -69,6 +69,6 @@ pub trait Host {
         ensures within { IfOk result (λ n. (1 ≤ n) × (n ≤ length piece.now)) }
         ensures taken { IfOk result (λ n. written self.new ≡ grown (written self.old) (take n piece.now)) }
         ensures none_taken { OnErr result (written self.new ≡ written self.old) }
-        ensures stands { OnOk result (has_failed self.new ≡ has_failed self.old) }
-        ensures fails { OnErr result (has_failed self.new ≡ true) };
+        ensures stands { OnOk result (failures self.new ≡ failures self.old) }
+        ensures counted { OnErr result (failures self.new ≡ failures self.old + 1) };
 }

@@ -3,6 +3,7 @@
 //! stands above, with the real host.
 #![tactic(auto)]
 
+mod failure_count;
 mod file_device;
 mod font_files;
 mod host;
@@ -10,6 +11,7 @@ mod memory_host;
 mod reading;
 mod writing;
 
+pub use failure_count::FailureCount;
 pub use file_device::FileDevice;
 pub use font_files::{Unread, read_fonts};
 pub use host::{Host, HostFault, READ_LIMIT, limit_of_a_reading};

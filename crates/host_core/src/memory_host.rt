@@ -1,10 +1,11 @@
 //! A host in memory.
 
-ghost use Rattle.std.specs.Prelude.{◌≡◌, ◌≤◌, ◌<◌, ◌++◌, [], false, true, length, option_map, Err, IfErr, IfOk, OnOk, OnErr};
+ghost use Rattle.std.specs.Prelude.{◌≡◌, ◌≤◌, ◌<◌, ◌+◌, ◌++◌, [], false, true, length, option_map, Err, IfErr, IfOk, OnOk, OnErr};
 ghost use Rattle.std.specs.Str.{bytes_eq};
 ghost use Rattle.host_core.specs.HostInMemory.{held_at};
 ghost use Rattle.host_core.specs.declared.host.TheConstants.{READ_LIMIT};
 
+use crate::failure_count::FailureCount;
 use crate::host::{Host, HostFault, READ_LIMIT};
 use std::alloc::Global;
 use std::marker::Model;
@@ -56,7 +57,7 @@ pub struct MemoryHost {
     is_created: bool,
     created: Vec<u8>,
     written: Vec<u8>,
-    has_failed: bool,
+    failures: FailureCount,
 }
 
 impl Model for MemoryHost {
@@ -64,13 +65,13 @@ impl Model for MemoryHost {
 
     ghost Value = { InMemory };
 
-    ghost view = { λ host. record { files = host.files.items; input = host.input.items; is_created = host.is_created; created = host.created.items; written = host.written.items; has_failed = host.has_failed } };
+    ghost view = { λ host. record { files = host.files.items; input = host.input.items; is_created = host.is_created; created = host.created.items; written = host.written.items; failures = host.failures.count } };
 }
 
 impl MemoryHost {
     /// A host with these files and this standard input, where no file was created yet. It takes no memory.
     pub fn new(alloc: Global, files: Vec<HeldFile>, input: Vec<u8>) -> MemoryHost
-        ensures { result ≡ record { files = files.items; input = input.items; is_created = false; created = []; written = []; has_failed = false } }
+        ensures { result ≡ record { files = files.items; input = input.items; is_created = false; created = []; written = []; failures = 0 } }
     {
         MemoryHost {
             alloc,
@@ -79,7 +80,7 @@ impl MemoryHost {
             is_created: false,
             created: Vec::new(alloc),
             written: Vec::new(alloc),
-            has_failed: false,
+            failures: FailureCount::zero(),
         }
     }
 
@@ -104,21 +105,14 @@ impl MemoryHost {
         &self.written
     }
 
-    /// Whether a creation or a write has failed.
-    pub fn has_failed(&self) -> bool
-        ensures { result ≡ self.now.has_failed }
-    {
-        self.has_failed
-    }
-
-    /// Keeps the path of a file that is created, or leaves all as it was and says that it failed.
+    /// Keeps the path of a file that is created, or leaves all as it was and counts a failure.
     fn keep_path(&mut self, path: &[u8]) -> Result<(), HostFault>
         ensures ok { OnOk result (self.new ≡ record self.old { is_created = true; created = path.now }) }
-        ensures err { OnErr result (self.new ≡ record self.old { has_failed = true }) }
+        ensures err { OnErr result (self.new ≡ record self.old { failures = self.old.failures + 1 }) }
         ensures memory { IfErr result (λ fault. fault ≡ HostFault.OutOfMemory) }
     {
         let Ok(created) = Vec::from_slice(self.alloc, path) else {
-            self.has_failed = true;
+            self.failures.raise();
             return Err(HostFault::OutOfMemory);
         };
         self.is_created = true;
@@ -159,7 +153,7 @@ impl Host for MemoryHost {
 
     ghost written = { λ host. Some host.written };
 
-    ghost has_failed = { λ host. host.has_failed };
+    ghost failures = { λ host. host.failures };
 
     fn read_file(&self, alloc: Global, path: &str) -> Result<Vec<u8>, HostFault> {
         match held_at(&self.files, path.as_bytes()) {
@@ -174,7 +168,7 @@ impl Host for MemoryHost {
 
     fn create(&mut self, path: &str) -> Result<(), HostFault>
         ensures made { OnOk result (self.new ≡ record self.old { is_created = true; created = path.now; written = [] }) }
-        ensures unchanged { OnErr result (self.new ≡ record self.old { has_failed = true }) }
+        ensures unchanged { OnErr result (self.new ≡ record self.old { failures = self.old.failures + 1 }) }
         ensures memory { IfErr result (λ fault. fault ≡ HostFault.OutOfMemory) }
     {
         self.keep_path(path.as_bytes())?;
@@ -186,13 +180,13 @@ impl Host for MemoryHost {
         requires some { 0 < length piece.now }
         ensures all { IfOk result (λ n. n ≡ length piece.now) }
         ensures kept { OnOk result (self.new ≡ record self.old { written = self.old.written ++ piece.now }) }
-        ensures unchanged { OnErr result (self.new ≡ record self.old { has_failed = true }) }
+        ensures unchanged { OnErr result (self.new ≡ record self.old { failures = self.old.failures + 1 }) }
         ensures memory { IfErr result (λ fault. fault ≡ HostFault.OutOfMemory) }
     {
         match self.written.extend_from_slice(piece) {
             Ok(()) => Ok(piece.len()),
             Err(_) => {
-                self.has_failed = true;
+                self.failures.raise();
                 Err(HostFault::OutOfMemory)
             }
         }

@@ -132,11 +132,11 @@ lacking_in_memory text files start memory answer fine old fresh answered =
     keeps_same (Some bytes) = refl
 
 -- A script that was run over the rest of a file completes it.
-pub script_completes : (text : List ℕ) (files : List NamedBytes) (n k : ℕ) (sent before : List ℕ) (start told inner : Option (List ℕ)) (answer : List ℕ) (fine : Bool) (began : Beginning)
-    → RanScript text files n k told answer fine → beginning sent start ≡ began → began ≡ beginning before (Some before)
+pub script_completes : (text : List ℕ) (files : List NamedBytes) (n k start_failed at_first : ℕ) (sent before : List ℕ) (start told inner : Option (List ℕ)) (answer : List ℕ) (fine : Bool) (began : Beginning)
+    → RanScript text files n k told answer fine → beginning sent start start_failed ≡ began → began ≡ beginning before (Some before) at_first
     → ((whole : List ℕ) → IfSome told (λ bytes. bytes ≡ whole) → IsFrontOf sent whole → start ≡ Some sent → inner ≡ Some whole)
     → CompletesFile text files before inner answer fine
-script_completes text files n k sent before start told inner answer fine began ran is had got =
+script_completes text files n k start_failed at_first sent before start told inner answer fine began ran is had got =
     let m = ran.run.middle in
     let all = whole m.state.fonts m.pages in
     let sent_is : began.sent ≡ before = ap (λ (b : Beginning). b.sent) had in
@@ -155,19 +155,23 @@ script_completes text files n k sent before start told inner answer fine began r
       finished = ran.run.finished;
       answer_is = ran.answer_is;
       fine_is = ran.fine_is;
-      file = λ front. completed ran.end told told start inner sent all began ran.run.file refl is told_is (subst (λ (s : List ℕ). IsFrontOf s all) (sym sent_is) front) (got all);
+      file = λ front. completed ran.end told told start inner sent all start_failed began ran.run.file refl is told_is (subst (λ (s : List ℕ). IsFrontOf s all) (sym sent_is) front) (got all);
     }
 
 -- A script that was run over a new device for the rest of a file is answered so.
 pub resumed : {D : Type 0} (told : D → Option (List ℕ)) (failed : D → ℕ) (text : List ℕ) (files : List NamedBytes) (device : D) (sent : List ℕ) (start rest : Resumed D) (inner : D)
     (answer : List ℕ) (fine : Bool) → start ≡ record { device = device; start = device; sent = sent; met = 0; failures = 0 }
-    → IsAnswered (told_by told) (λ r. failed r.device + r.failures) text files start rest answer fine → began_by told rest ≡ began_by told start → told device ≡ Some sent
+    → IsAnswered (told_by told) (λ r. failed r.device + r.failures) text files start rest answer fine → began_by told failed rest ≡ began_by told failed start → told device ≡ Some sent
     → inner ≡ rest.device
     → ((whole : List ℕ) → IfSome (told_by told rest) (λ bytes. bytes ≡ whole) → IsFrontOf rest.sent whole → told rest.start ≡ Some rest.sent → told inner ≡ Some whole)
     → IsResumed text files sent (told inner) answer fine
 resumed told failed text files device sent start rest inner answer fine new (inl ran) began had same got =
-    let began_so : began_by told start ≡ beginning sent (Some sent) = ap (began_by told) new ∙ ap (beginning sent) had in
-    inl (script_completes text files _ _ rest.sent sent (told rest.start) (told_by told rest) (told inner) answer fine (began_by told start) ran began began_so got)
+    let began_so : began_by told failed start ≡ beginning sent (Some sent) (failed device) =
+    ap (began_by told failed) new ∙ ap (λ (t : Option (List ℕ)). beginning sent t (failed device)) had in
+    inl (
+      script_completes text files _ _ (failed rest.start) (failed device) rest.sent sent (told rest.start) (told_by told rest) (told inner) answer fine (began_by told failed start) ran
+          began began_so got,
+    )
 resumed {D = D} told failed text files device sent start rest inner answer fine new (inr (bad, back)) began had same got =
     inr (bad, ap told (same ∙ ap (λ (r : Resumed D). r.device) (back ∙ new)) ∙ had)
 

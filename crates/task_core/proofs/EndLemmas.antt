@@ -4,19 +4,21 @@ use Rattle.std.proofs.Math.Seq.{take-append-add}
 use Rattle.std.proofs.lemmas.List.{take-append-le, length-append}
 use Rattle.std.specs.Borrow.{Bor}
 use Rattle.std.specs.Io.KnownBytes.{Appends, Keeps}
-use Rattle.std.specs.Prelude.{◌==◌, [], IfSome, IsSome}
-use Rattle.host_core.specs.Hosts.{AreFilesOf, told_by}
+use Rattle.std.specs.Prelude.{◌==◌, not, [], IfSome, IsSome}
+use Rattle.std.proofs.lemmas.Bool.{eq-eqb, eqb-true}
+use Rattle.device_core.specs.Beginnings.{Beginning, begun_after}
+use Rattle.host_core.specs.Hosts.{AreFilesOf, has_failed, told_by}
 use Rattle.tfm_core.specs.NamedBytes.{NamedBytes}
 use Rattle.host_core.specs.declared.font_files.Unread.{Unread}
 use Rattle.host_core.specs.declared.font_files.Unread.TheVariants.{OutOfMemory as WantsMemory, File}
 use Rattle.word_core.specs.declared.fonts.NamedPath.{NamedPath}
 use Rattle.task_core.specs.Inputs.{IsUnreadScript}
-use Rattle.task_core.specs.Programs.{end_of}
+use Rattle.task_core.specs.Parts.{TellsOutput, end_of}
 use Rattle.host_core.specs.Readings.{IsReading}
 use Rattle.task_core.specs.Typesets.{HasTypeset, IsLeftAlone, IsLeftToFile, IsToFile, IsTypeset, IsUsed, TellsUnwritten}
 use Rattle.program_core.specs.Runs.{IsUntouched, RanScript, RefusedScript, WasRunWhole, WritesFront, memory_line}
 use Rattle.program_core.proofs.WritingLemmas.{appends_both, appends_keeps, keeps_appends, keeps_front}
-use Rattle.task_core.specs.Ends.{EndsOutput, EndsTask, HasEnded, Takes, TellsErrors, TellsOutput, status_of}
+use Rattle.task_core.specs.Ends.{EndsOutput, EndsTask, HasEnded, Takes, TellsErrors, status_of}
 use Rattle.task_core.specs.declared.task_end.TaskEnd.{TaskEnd}
 use Rattle.task_core.specs.declared.task_end.TaskEnd.TheVariants.{Printed, Unwritten, OutOfMemory, Unreadable, NoSuchPage}
 
@@ -134,7 +136,7 @@ keeps_same (Some bytes) = refl
 pub typeset_ended : (told : List ℕ → Option (Option (List ℕ))) (input : Option (List ℕ)) (fonts : List NamedPath) (out : List ℕ) (written : Option (List ℕ)) (has_failed : Bool) (Same : Type 0) (created done : Bool)
     (text : List ℕ) (files : List NamedBytes) (end : TaskEnd) (old mid new errors between errors' : Option (List ℕ)) (status : ℕ)
     → IsReading input text → AreFilesOf told fonts files → EndsTask (IsToFile text files written Same created done) (λ path. ⊥) ⊥ end old mid
-    → (end ≡ OutOfMemory → IsLeftToFile text files written created done) → TellsUnwritten done out errors between → (done ≡ false → has_failed ≡ true) → TellsOutput end mid new → TellsErrors end between errors' → status ≡ status_of end
+    → (end ≡ OutOfMemory → IsLeftToFile text files written created done) → TellsUnwritten done out errors between → has_failed ≡ not done → TellsOutput end mid new → TellsErrors end between errors' → status ≡ status_of end
     → HasTypeset told input fonts out written has_failed Same old new errors errors' status
 typeset_ended told input fonts out written has_failed Same created done text files end old mid new errors between errors' status read filed ended left unwritten blamed said told_end is =
     let A : List ℕ → Bool → Type 0 = IsTypeset told input fonts written Same created done in
@@ -154,15 +156,36 @@ typeset_ended told input fonts out written has_failed Same created done text fil
       status_is = is;
     }
 
-true_false : true ≡ false → ⊥
-true_false is = cc
+-- truth values that follow from each other are equal
+same_truth : (a b : Bool) → (a ≡ true → b ≡ true) → (b ≡ true → a ≡ true) → a ≡ b
+same_truth true true f g = refl
+same_truth true false f g = sym (f refl)
+same_truth false true f g = g refl
+same_truth false false f g = refl
+
+-- a host has failed since exactly where its count has grown
+grown_count : (start k : ℕ) → (start + k == start) ≡ (k == 0)
+grown_count start k =
+    same_truth (start + k == start) (k == 0) (λ is. eq-eqb k 0 (omega (arith, eqb-true (start + k) start is)))
+    (λ is. eq-eqb (start + k) start (omega (arith, eqb-true k 0 is)))
+
+-- a host that is as it was has not failed since
+pub unfailed : (count : ℕ) → has_failed count count ≡ false
+unfailed count = ap not (eq-eqb count count refl)
+
+-- a file did not take all where its host has failed since its device was made
+pub failed_since : (before now start k : ℕ) (done : Bool) (began : Beginning) → begun_after start ≡ began → began ≡ begun_after before → now ≡ start + k → done ≡ (k == 0)
+    → has_failed before now ≡ not done
+failed_since before now start k done began one other counted is =
+    let same : start ≡ before = ap (λ (b : Beginning). b.failed) (one ∙ other) in
+    ap (λ (n : ℕ). not (n == before)) (counted ∙ ap (λ (n : ℕ). n + k) same) ∙ (ap not (grown_count before k) ∙ ap not (sym is))
 
 -- what is to be typeset was not read, and that was told
 pub not_typeset : (told : List ℕ → Option (Option (List ℕ))) (input : Option (List ℕ)) (fonts : List NamedPath) (out : List ℕ) (written : Option (List ℕ)) (has_failed : Bool) (Same : Type 0)
     (fault : Unread) (old new errors errors' : Option (List ℕ)) (status : ℕ)
-    → Same → IsUnreadScript told input fonts fault → TellsOutput (end_of fault) old new → TellsErrors (end_of fault) errors errors' → status ≡ status_of (end_of fault)
+    → Same → has_failed ≡ false → IsUnreadScript told input fonts fault → TellsOutput (end_of fault) old new → TellsErrors (end_of fault) errors errors' → status ≡ status_of (end_of fault)
     → HasTypeset told input fonts out written has_failed Same old new errors errors' status
-not_typeset told input fonts out written has_failed Same fault old new errors errors' status same unread said told_end is =
+not_typeset told input fonts out written has_failed Same fault old new errors errors' status same blamed unread said told_end is =
     let alone : IsLeftAlone Same false true = record { same = same; closed = refl; silent = refl } in
     record {
       end = end_of fault;
@@ -172,7 +195,7 @@ not_typeset told input fonts out written has_failed Same fault old new errors er
       wanting = λ _. inl alone;
       middle = errors;
       unwritten = keeps_same errors;
-      blamed = λ is. absurd (true_false is);
+      blamed = blamed;
       told_is = told_end;
       status_is = is;
     }

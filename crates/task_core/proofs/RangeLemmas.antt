@@ -6,7 +6,7 @@ use Rattle.word_core.specs.Tasks.{Asks, IsRequest, IsTask, IsTaskOf, Request, no
 use Rattle.word_core.specs.declared.task.Sheet.{Sheet}
 use Rattle.word_core.specs.declared.task.Task.{Task}
 use Rattle.word_core.specs.declared.task.Task.TheVariants.{Memory, Typeset, Listing, Painting}
-use Rattle.task_core.specs.Programs.{HasRanges, IsRanged}
+use Rattle.task_core.specs.Parts.{HasRanges, IsRanged}
 
 asked_ranges : (met : Option (Text × List Row)) (sheet : Sheet) (dvi : Text) (fonts : List Text) → Asks met (paints sheet dvi fonts) → IsRanged sheet
 asked_ranges None sheet dvi fonts asked = absurd asked

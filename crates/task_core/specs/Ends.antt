@@ -23,11 +23,6 @@ status_of OutOfMemory = 1
 status_of (Unreadable path) = 1
 status_of NoSuchPage = 2
 
--- what is said of an end on the output: that memory was refused
-abbrev pub TellsOutput : TaskEnd → (old new : Option (List ℕ)) → Type 0
-TellsOutput OutOfMemory old new = Takes old new memory_line
-TellsOutput _ old new = Keeps old new
-
 -- what is said of an end on the errors: a file that could not be read, a page that is not there
 abbrev pub TellsErrors : TaskEnd → (old new : Option (List ℕ)) → Type 0
 TellsErrors (Unreadable path) old new = Takes old new (line_of (codes "boxglue: cannot read ") path.now)

@@ -3,3 +3,4 @@ pub mod Inputs
 pub mod Printed
 pub mod Typesets
 pub mod Programs
+pub mod Parts

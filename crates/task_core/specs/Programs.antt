@@ -1,40 +1,19 @@
 -- The whole program: what its words ask for, what it prints and says, and its status (own).
-use Rattle.std.specs.Prelude.{◌≡◌, ◌≤◌, ◌⊎◌, ⊤, ℕ, Bool, List, [], Option, codes, string_bytes}
+use Rattle.std.specs.Prelude.{◌≡◌, ◌⊎◌, ℕ, Bool, List, [], Option, codes, string_bytes}
 use Rattle.std.specs.Borrow.{Bor}
 use Rattle.std.specs.Io.KnownBytes.{Keeps}
 use Rattle.host_core.specs.Readings.{IsReading, IsUnreadable}
-use Rattle.host_core.specs.declared.font_files.Unread.{Unread}
-use Rattle.host_core.specs.declared.font_files.Unread.TheVariants.{OutOfMemory as WantsMemory, File}
+use Rattle.host_core.specs.declared.font_files.Unread.TheVariants.{File}
 use Rattle.program_core.specs.Runs.{IsAnswerInMemory, memory_line}
 use Rattle.word_core.specs.Tasks.{IsRefused, IsTask}
 use Rattle.word_core.specs.declared.fonts.WordFault.{WordFault}
 use Rattle.word_core.specs.declared.fonts.WordFault.TheVariants as faults
-use Rattle.word_core.specs.declared.task.Sheet.{Sheet}
 use Rattle.word_core.specs.declared.task.Task.{Task}
 use Rattle.word_core.specs.declared.task.Task.TheVariants as tasks
 use Rattle.task_core.specs.Ends.{HasEnded, Takes, line_of}
 use Rattle.task_core.specs.Inputs.{IsUnreadDvi}
 use Rattle.task_core.specs.Printed.{HasNoPage, IsListing, IsPainting}
 use Rattle.task_core.specs.Typesets.{HasTypeset}
-use Rattle.task_core.specs.declared.task_end.TaskEnd.{TaskEnd}
-use Rattle.task_core.specs.declared.task_end.TaskEnd.TheVariants.{OutOfMemory, Unreadable}
-
--- how a task ends whose files were not read
-abbrev pub end_of : Unread → TaskEnd
-end_of WantsMemory = OutOfMemory
-end_of (File path) = Unreadable path
-
--- the numbers of a sheet are in the ranges that painting wants
-abbrev pub IsRanged : Sheet → Type 0
-IsRanged sheet =
-    (1 ≤ sheet.page) × (sheet.dpi ≤ 10000) × ((1 ≤ sheet.width) × (sheet.width ≤ 10000)) × ((1 ≤ sheet.height) × (sheet.height ≤ 10000))
-
--- the numbers of a task are in range
-abbrev pub HasRanges : Task → Type 0
-HasRanges tasks.Memory = ⊤
-HasRanges (tasks.Typeset out fonts) = ⊤
-HasRanges (tasks.Listing dvi fonts) = ⊤
-HasRanges (tasks.Painting sheet dvi fonts) = IsRanged sheet
 
 -- standard input was read, and run without fonts on a device in memory: this text has the answers and the bytes of the device
 abbrev pub IsAnsweredInput : (input : Option (List ℕ)) → (answer : List ℕ) → (fine : Bool) → Type 0
@@ -53,8 +32,8 @@ RefusesWords (faults.NotPair word) output output' errors errors' status =
 RefusesWords (faults.NameTwice name) output output' errors errors' status =
     Keeps output output' × Takes errors errors' (line_of (codes "boxglue: name given twice: ") name.now) × (status ≡ 2)
 
--- a task was done with the files and the standard input of a host, whose created file then has taken these bytes, and which then says whether it has
--- failed; but for `typeset` the host came back as it was
+-- a task was done with the files and the standard input of a host, whose created file then has taken these bytes, and which has
+-- failed meanwhile or not; but for `typeset` the host came back as it was
 abbrev pub HasDone : (told : List ℕ → Option (Option (List ℕ))) → (input written : Option (List ℕ)) → (has_failed : Bool) → (Same : Type 0) → Task → (output output' errors errors' : Option (List ℕ)) → (status : ℕ) → Type 0
 HasDone told input written has_failed Same tasks.Memory output output' errors errors' status =
     Same × HasEnded (IsAnsweredInput input) (IsUnreadInput input) ⊥ output output' errors errors' status

@@ -1,5 +1,5 @@
 -- Scripts that are typeset to a file (own).
-use Rattle.std.specs.Prelude.{◌≡◌, ◌≢◌, ◌==◌, ◌⊎◌, [], ℕ, Bool, true, false, List, Option, codes}
+use Rattle.std.specs.Prelude.{◌≡◌, ◌≢◌, ◌==◌, ◌⊎◌, [], ℕ, Bool, true, false, not, List, Option, codes}
 use Rattle.std.specs.Option.{ForSome}
 use Rattle.std.specs.Io.KnownBytes.{Keeps}
 use Rattle.host_core.specs.Hosts.{AreFilesOf, told_by}
@@ -52,8 +52,8 @@ abbrev pub TellsUnwritten : (done : Bool) → (out : List ℕ) → (old new : Op
 TellsUnwritten true out old new = Keeps old new
 TellsUnwritten false out old new = Takes old new (line_of (codes "boxglue: cannot write ") out)
 
--- `typeset` has ended: whether its file was created and took all, what the output took, what was said on the errors, and the status. Where the file did
--- not take all, the host has failed
+-- `typeset` has ended: whether its file was created and took all, what the output took, what was said on the errors, and the status. The file did not take
+-- all exactly where the host has failed meanwhile
 pub record HasTypeset (told : List ℕ → Option (Option (List ℕ))) (input : Option (List ℕ)) (fonts : List NamedPath) (out : List ℕ) (written : Option (List ℕ)) (has_failed : Bool) (Same : Type 0) (output output' errors errors' : Option (List ℕ)) (status : ℕ) : Type 0 where
   pub end : TaskEnd
   pub created : Bool
@@ -62,6 +62,6 @@ pub record HasTypeset (told : List ℕ → Option (Option (List ℕ))) (input : 
   pub wanting : end ≡ OutOfMemory → WantsMemory told input fonts written Same created done
   pub middle : Option (List ℕ)
   pub unwritten : TellsUnwritten done out errors middle
-  pub blamed : done ≡ false → has_failed ≡ true
+  pub blamed : has_failed ≡ not done
   pub told_is : TellsErrors end middle errors'
   pub status_is : status ≡ status_of end

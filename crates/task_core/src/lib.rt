@@ -13,7 +13,7 @@ mod telling;
 mod typesetting;
 
 pub use host_core::{
-    FileDevice, HeldFile, Host, HostFault, MemoryHost, READ_LIMIT, Unread, read_all, read_fonts,
+    FailureCount, FileDevice, HeldFile, Host, HostFault, MemoryHost, READ_LIMIT, Unread, read_all, read_fonts,
     write_some,
 };
 pub use inputs::{Inputs, read_dvi_inputs, read_script_inputs};

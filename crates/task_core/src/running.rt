@@ -1,7 +1,9 @@
 //! The program: its words are read, and what they ask for is done.
 
 ghost use Rattle.std.specs.Prelude.{◌≡◌, map, string_bytes};
-ghost use Rattle.task_core.specs.Programs.{HasDone, HasRanges, HasRun, RefusesWords};
+ghost use Rattle.host_core.specs.Hosts.{has_failed};
+ghost use Rattle.task_core.specs.Parts.{HasRanges};
+ghost use Rattle.task_core.specs.Programs.{HasDone, HasRun, RefusesWords};
 
 use crate::tasks::{list, paint, run_input, typeset};
 use crate::telling::{finish, say, tell};
@@ -35,7 +37,7 @@ fn do_task<H: Host, W: Write, E: Write>(
     errors: &mut E,
 ) -> (u8, H)
     requires { HasRanges task }
-    ensures { HasDone (H.file host) (H.input host) (H.written result.1) (H.has_failed result.1) (result.1 ≡ host) task.entry (W.contents output.old) (W.contents output.new)
+    ensures { HasDone (H.file host) (H.input host) (H.written result.1) (has_failed (H.failures host) (H.failures result.1)) (result.1 ≡ host) task.entry (W.contents output.old) (W.contents output.new)
         (E.contents errors.old) (E.contents errors.new) result.0 }
 {
     match task {
@@ -66,7 +68,7 @@ pub fn program<H: Host, W: Write, E: Write>(
     output: &mut W,
     errors: &mut E,
 ) -> (u8, H)
-    ensures { HasRun (map string_bytes words.now) (H.file host) (H.input host) (H.written result.1) (H.has_failed result.1) (result.1 ≡ host) (W.contents output.old)
+    ensures { HasRun (map string_bytes words.now) (H.file host) (H.input host) (H.written result.1) (has_failed (H.failures host) (H.failures result.1)) (result.1 ≡ host) (W.contents output.old)
         (W.contents output.new) (E.contents errors.old) (E.contents errors.new) result.0 }
 {
     match read_words(alloc, words) {

@@ -1,11 +1,13 @@
 //! The four tasks, with the files of a host.
 
 ghost use Rattle.std.specs.Prelude.{◌≡◌, ◌≤◌};
+ghost use Rattle.host_core.specs.Hosts.{has_failed};
 ghost use Rattle.host_core.specs.declared.font_files.Unread.TheVariants.{File};
 ghost use Rattle.task_core.specs.Ends.{EndsTask};
 ghost use Rattle.task_core.specs.Inputs.{IsUnreadDvi};
+ghost use Rattle.task_core.specs.Parts.{end_of};
 ghost use Rattle.task_core.specs.Printed.{HasNoPage, IsListing, IsPainting};
-ghost use Rattle.task_core.specs.Programs.{IsAnsweredInput, IsUnreadInput, end_of};
+ghost use Rattle.task_core.specs.Programs.{IsAnsweredInput, IsUnreadInput};
 ghost use Rattle.task_core.specs.Typesets.{HasTypeset, TellsUnwritten};
 
 use crate::inputs::{read_dvi_inputs, read_script_inputs};
@@ -114,7 +116,7 @@ pub fn typeset<H: Host, W: Write, E: Write>(
     output: &mut W,
     errors: &mut E,
 ) -> (u8, H)
-    ensures { HasTypeset (H.file host) (H.input host) fonts.now out.now (H.written result.1) (H.has_failed result.1) (result.1 ≡ host) (W.contents output.old)
+    ensures { HasTypeset (H.file host) (H.input host) fonts.now out.now (H.written result.1) (has_failed (H.failures host) (H.failures result.1)) (result.1 ≡ host) (W.contents output.old)
         (W.contents output.new) (E.contents errors.old) (E.contents errors.new) result.0 }
 {
     let inputs = match read_script_inputs(alloc, &host, fonts) {

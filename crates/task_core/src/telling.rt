@@ -3,7 +3,8 @@
 ghost use Rattle.std.specs.Prelude.{◌≡◌, ◌++◌, codes, OnOk, OnErr};
 ghost use Rattle.std.specs.Io.KnownBytes.{Appends};
 ghost use Rattle.program_core.specs.Runs.{WritesFront};
-ghost use Rattle.task_core.specs.Ends.{Takes, TellsErrors, TellsOutput, status_of};
+ghost use Rattle.task_core.specs.Ends.{Takes, TellsErrors, status_of};
+ghost use Rattle.task_core.specs.Parts.{TellsOutput};
 
 use crate::task_end::TaskEnd;
 use program_core::{Unwritten, write_text};

@@ -1,6 +1,7 @@
 //! `typeset`: a script is run, and its pages go to a file.
 
-ghost use Rattle.std.specs.Prelude.{◌≡◌, ◌==◌, false, true};
+ghost use Rattle.std.specs.Prelude.{◌≡◌, ◌+◌, ◌==◌, not};
+ghost use Rattle.host_core.specs.Hosts.{has_failed};
 ghost use Rattle.task_core.specs.Ends.{EndsTask};
 ghost use Rattle.task_core.specs.Typesets.{IsLeftToFile, IsToFile, IsUsed};
 
@@ -22,7 +23,7 @@ pub struct TypesetEnd<'a, H> {
 }
 
 /// Runs a script with these font files on a device that writes the file `out`, which is created at its first write, and then writes the texts of the
-/// answers; of a bad script its one line. Where the file did not take all that was handed to it, the host has failed.
+/// answers; of a bad script its one line. The file did not take all that was handed to it exactly where the host failed in this call.
 pub fn typeset_file<'a, H: Host, W: Write>(
     alloc: Global,
     host: H,
@@ -34,7 +35,7 @@ pub fn typeset_file<'a, H: Host, W: Write>(
         (λ path. ⊥) ⊥ result.end (W.contents writer.old) (W.contents writer.new) }
     ensures left { result.end ≡ TaskEnd.OutOfMemory
         → IsLeftToFile inputs.now.bytes.items inputs.now.files.items (H.written result.host) result.created result.written }
-    ensures blamed { result.written ≡ false → H.has_failed result.host ≡ true }
+    ensures blamed { has_failed (H.failures host) (H.failures result.host) ≡ not result.written }
 {
     let device = FileDevice::new(host, out);
     match run_script(alloc, &inputs.bytes, &inputs.files, device, writer) {
@@ -51,7 +52,7 @@ fn end_with<'a, H: Host>(end: TaskEnd<'a>, device: FileDevice<'_, H>) -> Typeset
     ensures written { result.written ≡ (device.entry.failures == 0) }
     ensures host { result.host ≡ device.entry.host }
     ensures used { IsUsed result.created result.written (H.written result.host) }
-    ensures blamed { result.written ≡ false → H.has_failed result.host ≡ true }
+    ensures counted { H.failures result.host ≡ H.failures device.entry.start.seen + device.entry.failures }
 {
     let created = device.is_open();
     let written = device.failures() == 0;

@@ -3,7 +3,7 @@
 use std::alloc::Global;
 use std::io;
 use std::io::Write;
-use task_core::{HeldFile, Host, HostFault, MemoryHost, program, write_some};
+use task_core::{FailureCount, HeldFile, Host, HostFault, MemoryHost, program, write_some};
 
 /// What went wrong in a test: memory was refused, or a text is not what it should be.
 pub type Fail = std::alloc::AllocError;
@@ -91,7 +91,7 @@ impl Write for Closed {
 pub struct Unwritable {
     pub inner: MemoryHost,
     pub creates: bool,
-    pub has_failed: bool,
+    pub failures: FailureCount,
 }
 
 impl Host for Unwritable {
@@ -103,7 +103,7 @@ impl Host for Unwritable {
 
     ghost written = { λ host. None };
 
-    ghost has_failed = { λ host. host.has_failed };
+    ghost failures = { λ host. host.failures.count };
 
     fn read_file(&self, alloc: Global, path: &str) -> Result<Vec<u8>, HostFault> {
         self.inner.read_file(alloc, path)
@@ -117,7 +117,7 @@ impl Host for Unwritable {
         if self.creates {
             Ok(())
         } else {
-            self.has_failed = true;
+            self.failures.raise();
             Err(HostFault::Failed)
         }
     }
@@ -125,7 +125,7 @@ impl Host for Unwritable {
     fn write(&mut self, piece: &[u8]) -> Result<usize, HostFault> {
         let written = write_some(&mut Closed, piece);
         if written.is_err() {
-            self.has_failed = true;
+            self.failures.raise();
         }
         written
     }

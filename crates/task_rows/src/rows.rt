@@ -98,7 +98,7 @@ fn a_file_that_is_not_written(rt: HostRuntime) {
         let host = Unwritable {
             inner,
             creates,
-            has_failed: false,
+            failures: FailureCount::zero(),
         };
         let ran = run(alloc, &["typeset", "away/out.dvi"], host).expect(&rt, "memory");
         assert_eq!(rt;

@@ -9,7 +9,8 @@ use Rattle.clap.specs.Walk.{Text}
 use Rattle.word_core.specs.declared.fonts.NamedPath.{NamedPath}
 use Rattle.word_core.specs.declared.fonts.WordFault.{WordFault}
 use Rattle.word_core.specs.declared.fonts.WordFault.TheVariants.{Line, Memory, NotPair, NameTwice}
-use Rattle.word_core.specs.Pairs.{ArePairs, AreFonts, IsFaultBehind, IsFaulty, IsPair, is_equals, name_of, path_of}
+use Rattle.word_core.specs.Steps.{IsFaultAfter}
+use Rattle.word_core.specs.Pairs.{ArePairs, AreFonts, IsFaulty, IsPair, is_equals, name_of, path_of}
 
 -- where no byte of a word is `=`, none passes the test
 pub lacks_equals : (word : Text) → position_or_len is_equals word ≡ length word → list_any is_equals word ≡ false
@@ -81,7 +82,7 @@ map_split f (x ∷ xs) (suc i) d lt = ap (λ l. f x ∷ l) (map_split f xs i d (
 
 -- the fault of a word behind pairs is the first
 pub first_fault : (words before : List Text) (word : Text) (after : List Text) (fault : WordFault) → words ≡ before ++ (word ∷ after)
-    → ArePairs before → IsFaultBehind before word fault → IsFaulty words fault
+    → ArePairs before → IsFaultAfter before word fault → IsFaulty words fault
 first_fault words before word after Memory split pairs faulty = tt
 first_fault words before word after (Line text) split pairs faulty = absurd faulty
 first_fault words before word after (NotPair named) split pairs faulty =

@@ -24,7 +24,8 @@ use Rattle.word_core.specs.CommandLine.{boxglue}
 use Rattle.word_core.specs.Pairs.{IsFaulty}
 use Rattle.word_core.specs.declared.task.Sheet.{Sheet}
 use Rattle.word_core.specs.declared.task.Task.{Task}
-use Rattle.word_core.specs.Tasks.{Asks, AsksBy, IsLine, IsNumber, IsRefused, IsRefusedBy, IsRequest, IsSheet, IsTask, IsTaskOf, Request, fonts_of, font_words, lists, nothing, paints, typesets}
+use Rattle.word_core.specs.Steps.{IsLine}
+use Rattle.word_core.specs.Tasks.{Asks, AsksBy, IsNumber, IsRefused, IsRefusedBy, IsRequest, IsSheet, IsTask, IsTaskOf, Request, fonts_of, font_words, lists, nothing, paints, typesets}
 
 -- a faulty word NAME=TFM of what is asked for
 pub refused_fonts : (asked : Request → Type 0) (request : Request) (fault : WordFault) → asked request

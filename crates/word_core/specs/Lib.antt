@@ -1,3 +1,4 @@
 pub mod CommandLine
 pub mod Pairs
 pub mod Tasks
+pub mod Steps

@@ -43,11 +43,6 @@ IsFaultOf before word (NameTwice name) =
     IsPair word × (name.now ≡ name_of word) × (list_any (λ other. bytes_eq (name_of other) (name_of word)) before ≡ true)
 IsFaultOf before word _ = ⊥
 
--- the same, or want of memory
-abbrev pub IsFaultBehind : List Text → Text → WordFault → Type 0
-IsFaultBehind before word WantsMemory = ⊤
-IsFaultBehind before word fault = IsFaultOf before word fault
-
 -- the first faulty word from the left: those before it are pairs of names that differ
 pub record IsFirstFault (words : List Text) (fault : WordFault) : Type 0 where
   pub before : List Text

@@ -71,10 +71,6 @@ IsTaskOf (lists path words) (Listing dvi fonts) = (dvi.now ≡ path) × AreFonts
 IsTaskOf (paints numbers path words) (Painting sheet dvi fonts) = (sheet ≡ numbers) × (dvi.now ≡ path) × AreFonts words fonts.items
 IsTaskOf _ _ = ⊥
 
--- the subcommand of this name, with these rows, asks for the task
-abbrev pub IsTaskBy : Text → List Row → Task → Type 0
-IsTaskBy name rows task = (request : Request) × AsksBy name rows request × IsTaskOf request task
-
 -- the words are a command line, and this is its task
 abbrev pub IsTask : List Text → Task → Type 0
 IsTask words task = (request : Request) × IsRequest words request × IsTaskOf request task
@@ -84,12 +80,6 @@ abbrev pub IsRefusedBy : (Request → Type 0) → WordFault → Type 0
 IsRefusedBy asked WantsMemory = ⊤
 IsRefusedBy asked (Line text) = (request : Request) → asked request → ⊥
 IsRefusedBy asked fault = (request : Request) × asked request × IsFirstFault (fonts_of request) fault
-
--- the line is refused, or memory is wanted
-abbrev pub IsLine : WordFault → Type 0
-IsLine (Line text) = ⊤
-IsLine WantsMemory = ⊤
-IsLine _ = ⊥
 
 -- why words are refused: they are no command line; or the words NAME=TFM are refused, for the first faulty one; or memory is wanted
 abbrev pub IsRefused : List Text → WordFault → Type 0

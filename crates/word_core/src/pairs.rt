@@ -4,7 +4,8 @@ ghost use Rattle.std.specs.Prelude.{◌≡◌, ◌++◌, [], ◌∷◌, List, ma
 ghost use Rattle.std.specs.List.{list_any};
 ghost use Rattle.std.specs.Str.{bytes_eq};
 ghost use Rattle.clap.specs.Words.{Text};
-ghost use Rattle.word_core.specs.Pairs.{AreFonts, IsFaultBehind, IsFaulty, IsPair, name_of, path_of};
+ghost use Rattle.word_core.specs.Pairs.{AreFonts, IsFaulty, IsPair, name_of, path_of};
+ghost use Rattle.word_core.specs.Steps.{IsFaultAfter};
 
 use crate::fonts::{NamedPath, WordFault};
 use std::alloc::Global;
@@ -20,7 +21,7 @@ struct Parts<'a> {
 /// A word's name and path; NotPair exactly where it is no pair.
 fn cut_word<'a>(alloc: Global, word: &'a str) -> Result<Parts<'a>, WordFault<'a>>
     ensures ok { IfOk result (λ parts. IsPair word.entry.now × (parts.name.now ≡ name_of word.entry.now) × (parts.font.name ≡ name_of word.entry.now) × (parts.font.path.now ≡ path_of word.entry.now)) }
-    ensures err { IfErr result (IsFaultBehind [] word.entry.now) }
+    ensures err { IfErr result (IsFaultAfter [] word.entry.now) }
 {
     let Some((name, path)) = word.split_once('=') else {
         return Err(WordFault::NotPair(word));
@@ -53,7 +54,7 @@ fn push_pair<'a>(
     fonts: &mut Vec<NamedPath<'a>>,
 ) -> Result<(), WordFault<'a>>
     ensures ok { (before : List Text) → AreFonts before fonts.old.items → OnOk result (AreFonts (before ++ word.entry.now ∷ []) fonts.new.items) }
-    ensures err { (before : List Text) → AreFonts before fonts.old.items → IfErr result (IsFaultBehind before word.entry.now) }
+    ensures err { (before : List Text) → AreFonts before fonts.old.items → IfErr result (IsFaultAfter before word.entry.now) }
 {
     let parts = cut_word(alloc, word)?;
     if is_named(fonts, parts.name) {

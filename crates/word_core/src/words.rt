@@ -4,7 +4,8 @@ ghost use Rattle.std.specs.Prelude.{◌≡◌, ℕ, None, IfOk, IfErr, IfSome, c
 ghost use Rattle.clap.specs.Words.{found_of, kind_of, rows_of, subcommand_rows_of};
 ghost use Rattle.clap.specs.declared.error.kind.ErrorKind.TheVariants.{OutOfMemory};
 ghost use Rattle.word_core.specs.Pairs.{AreFonts, IsFaulty};
-ghost use Rattle.word_core.specs.Tasks.{Asks, AsksBy, IsNumber, IsLine, IsRefused, IsRefusedBy, IsSheet, IsTask, IsTaskBy, IsTaskOf, Request, font_words};
+ghost use Rattle.word_core.specs.Steps.{IsLine, IsTaskBy};
+ghost use Rattle.word_core.specs.Tasks.{Asks, AsksBy, IsNumber, IsRefused, IsRefusedBy, IsSheet, IsTask, IsTaskOf, Request, font_words};
 
 use crate::command::command_line;
 use crate::fonts::{NamedPath, WordFault};

@@ -10,6 +10,6 @@ returns g c =
     let rest = c.into_device-rest.result in
     record {
       whole = λ m holds had front. completed c.finish-end.result c.finish-end.new.self.told (told_by told rest) (told rest.start) (told c.into_device.result) rest.sent
-          (whole m.state.fonts m.pages) c.args.job.began (c.finish-end.ensures.file m holds) c.into_device-rest.ensures.told
+          (whole m.state.fonts m.pages) (g.D.Device.failed rest.start) c.args.job.began (c.finish-end.ensures.file m holds) c.into_device-rest.ensures.told
           (c.into_device-rest.ensures.began ∙ c.finish-end.ensures.began) had front (c.into_device.ensures.whole (whole m.state.fonts m.pages));
     }

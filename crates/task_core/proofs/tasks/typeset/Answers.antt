@@ -1,6 +1,6 @@
 -- The script was typeset, and its end was told.
 use Rattle.std.proofs.Common.{refl}
-use Rattle.task_core.proofs.EndLemmas.{not_typeset, typeset_ended}
+use Rattle.task_core.proofs.EndLemmas.{not_typeset, typeset_ended, unfailed}
 use Rattle.task_core.proofs.tasks.typeset.Goals as goal
 
 pub returns : goal.returns
@@ -15,5 +15,5 @@ returns-in-Err g c =
     let output = rw c.end_of.ensures at c.finish.ensures.output in
     let errors = rw c.end_of.ensures at c.finish.ensures.errors in
     let status = rw c.end_of.ensures at c.finish.ensures.status in
-    not_typeset (g.H.Host.file c.args.host) (g.H.Host.input c.args.host) c.args.fonts.now c.args.out.now _ _ _ c.in-Err.fault _ _ _ _ _ refl c.in-Err.ensures.err
+    not_typeset (g.H.Host.file c.args.host) (g.H.Host.input c.args.host) c.args.fonts.now c.args.out.now _ _ _ c.in-Err.fault _ _ _ _ _ refl (unfailed (g.H.Host.failures c.args.host)) c.in-Err.ensures.err
     output errors status

@@ -1,6 +1,7 @@
 -- What the device tells that came back.
-use Rattle.std.proofs.Common.{◌≡◌}
-use Rattle.task_core.proofs.EndLemmas.{answered_to_file, left_to_file}
+use Rattle.std.proofs.Common.{◌≡◌, ap}
+use Rattle.device_core.specs.Beginnings.{begun_after}
+use Rattle.task_core.proofs.EndLemmas.{answered_to_file, failed_since, left_to_file}
 use Rattle.task_core.proofs.typesetting.typeset_file.Goals as goal
 
 pub returns-in-Ok-clause-ends : goal.returns-in-Ok-clause-ends
@@ -36,3 +37,20 @@ returns-in-Err-Memory-clause-left g c =
     c.in-Err-Memory.device.failures (g.H.Host.written c.in-Err-Memory.device.host) c.end_with-in-Err-Memory.result.created
     c.end_with-in-Err-Memory.result.written (g.H.Host.written c.end_with-in-Err-Memory.result.host) c.new-device.ensures.fine
     c.end_with-in-Err-Memory.ensures.created c.end_with-in-Err-Memory.ensures.written (cc) c.end_with-in-Err-Memory.ensures.used lacks.device
+
+pub returns-in-Ok-clause-blamed : goal.returns-in-Ok-clause-blamed
+returns-in-Ok-clause-blamed g c =
+    failed_since (g.H.Host.failures c.args.host) (g.H.Host.failures c.end_with.result.host) (g.H.Host.failures c.in-Ok.device.start.seen) c.in-Ok.device.failures
+    c.end_with.result.written _ c.in-Ok.ensures.began (ap (λ (host : _). begun_after (g.H.Host.failures host)) c.new-device.ensures.start) c.end_with.ensures.counted c.end_with.ensures.written
+
+pub returns-in-Err-Answers-clause-blamed : goal.returns-in-Err-Answers-clause-blamed
+returns-in-Err-Answers-clause-blamed g c =
+    let kept = rw c.in-Err-Answers.field-0-is at c.in-Err-Answers.ensures.kept in
+    failed_since (g.H.Host.failures c.args.host) (g.H.Host.failures c.end_with-in-Err-Answers.result.host) (g.H.Host.failures c.in-Err-Answers.device.start.seen) c.in-Err-Answers.device.failures
+    c.end_with-in-Err-Answers.result.written _ kept (ap (λ (host : _). begun_after (g.H.Host.failures host)) c.new-device.ensures.start) c.end_with-in-Err-Answers.ensures.counted c.end_with-in-Err-Answers.ensures.written
+
+pub returns-in-Err-Memory-clause-blamed : goal.returns-in-Err-Memory-clause-blamed
+returns-in-Err-Memory-clause-blamed g c =
+    let kept = rw c.in-Err-Memory.field-0-is at c.in-Err-Memory.ensures.kept in
+    failed_since (g.H.Host.failures c.args.host) (g.H.Host.failures c.end_with-in-Err-Memory.result.host) (g.H.Host.failures c.in-Err-Memory.device.start.seen) c.in-Err-Memory.device.failures
+    c.end_with-in-Err-Memory.result.written _ kept (ap (λ (host : _). begun_after (g.H.Host.failures host)) c.new-device.ensures.start) c.end_with-in-Err-Memory.ensures.counted c.end_with-in-Err-Memory.ensures.written
