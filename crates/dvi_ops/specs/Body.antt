@@ -1,5 +1,5 @@
 -- What an instruction in the body of a page does: which marks it makes, and how it changes the place and the font (DVItype, 14 and 15).
-use Rattle.std.specs.Prelude.{◌+ℤ◌, ◌^◌, ◌&&◌, if◌then◌else◌, [], ◌∷◌, List, ℤ, pos, negsuc, Bool, nat_lt, int_lt, Option, Some, None}
+use Rattle.std.specs.Prelude.{◌+ℤ◌, ◌^◌, ◌&&◌, if◌then◌else◌, [], ◌∷◌, List, ℕ, ℤ, pos, negsuc, Bool, nat_lt, int_lt, Option, Some, None}
 use Rattle.dvi_ops.specs.Instruction.{Axis, Across, Downward, Register, First, Second, Step, By, Set, Again, Leaf, SetChar, PutChar, SetRule, PutRule, Nop, Move, FontNum, FontDef, Xxx}
 
 -- What the two registers of a direction hold: w and x, or y and z (DVItype, 14).
@@ -23,10 +23,12 @@ pub record State : Type 0 where
   pub place : Place
   pub font : Option ℤ
 
--- What is seen on a page: a glyph at (h, v), or a rule with its bottom left corner at (h, v) (DVItype, 15).
+-- What is seen on a page: a glyph at (h, v), a rule with its bottom left corner at (h, v), or a special, which is a text at (h, v) (DVItype, 15 and 16;
+-- what a special's text means is left out).
 pub data Mark : Type 0 where
   Glyph : (font code h v : ℤ) → Mark
   Rule : (h v height width : ℤ) → Mark
+  Special : (h v : ℤ) (text : List ℕ) → Mark
 
 -- The width of a character of a font, where that font is known and has that character: its arguments are the font's number and the code.
 abbrev pub Widths : Type 0
@@ -114,7 +116,7 @@ set_glyph None s = None
 set_glyph (Some (mark, width)) s = Some (mark ∷ [], right s width)
 
 -- What an instruction does, with these widths (DVItype, 15). set_rule adds its width to h in any case.
--- A special has no mark here, and a font definition only makes a font known.
+-- A special is a mark at its place, whatever its text; a font definition only makes a font known.
 abbrev pub acts : Widths → Acts
 acts widths (SetChar c) s = set_glyph (glyph widths c s.place s.font) s
 acts widths (PutChar c) s = put_glyph (glyph widths c s.place s.font) s
@@ -124,7 +126,7 @@ acts widths Nop s = only s
 acts widths (Move axis step) s = only (record s { place = place_after axis step s.place })
 acts widths (FontNum f) s = only (record s { font = Some f })
 acts widths (FontDef d) s = only s
-acts widths (Xxx text) s = only s
+acts widths (Xxx text) s = Some (Special s.place.h s.place.v text ∷ [], s)
 
 -- Whether a number fits into 32 bits with a sign (own).
 abbrev pub in_range : ℤ → Bool

@@ -1,7 +1,7 @@
 -- Pages and files whose meaning is known, to hold the definitions against (own).
 use Rattle.std.specs.Prelude.{◌≡◌, [], ◌∷◌, ◌++◌, List, take, drop, replicate, codes, ℕ, ℤ, pos, Option, Some}
-use Rattle.dvi_ops.specs.Instruction.{Across, Downward, First, By, Set, Again, SetRule, PutRule, Move}
-use Rattle.dvi_ops.specs.Body.{Mark, Glyph, Rule}
+use Rattle.dvi_ops.specs.Instruction.{Across, Downward, First, By, Set, Again, SetRule, PutRule, Move, Xxx}
+use Rattle.dvi_ops.specs.Body.{Mark, Glyph, Rule, Special}
 use Rattle.dvi_ops.specs.Forest.{Forest, Empty, Then, Group}
 use Rattle.dvi_ops.specs.Fonts.{Metrics}
 use Rattle.dvi_ops.specs.File.{MarkedPage}
@@ -32,6 +32,15 @@ empty_rule_body = Then (SetRule (pos 0) (pos 5)) (Then (PutRule (pos 1) (pos 1))
 -- The one mark of that body: the second rule, at 5.
 abbrev pub empty_rule_marks : List Mark
 empty_rule_marks = Rule (pos 5) (pos 0) (pos 1) (pos 1) ∷ []
+
+-- The body right by 7, push, down by 3, a special, pop, a special without text.
+abbrev pub special_body : Forest
+special_body =
+    Then (Move Across (By (pos 7))) (Group (Then (Move Downward (By (pos 3))) (Then (Xxx (0x61 ∷ 0x5c ∷ 0x00 ∷ [])) Empty)) (Then (Xxx []) Empty))
+
+-- The marks of that body: each text stands where its instruction stands, and moves nothing.
+abbrev pub special_marks : List Mark
+special_marks = Special (pos 7) (pos 3) (0x61 ∷ 0x5c ∷ 0x00 ∷ []) ∷ Special (pos 7) (pos 0) [] ∷ []
 
 -- The body right by 2^31 - 1, right by 1: h leaves signed 32 bits.
 abbrev pub too_far_body : Forest

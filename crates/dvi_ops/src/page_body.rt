@@ -6,7 +6,7 @@ ghost use Rattle.std.specs.Prelude.{◌≡◌, ◌++◌, max, [], List};
 ghost use Rattle.std.specs.List.{AllByRecursion};
 ghost use Rattle.dvi_ops.specs.Instruction.{Instruction};
 ghost use Rattle.dvi_ops.specs.Body.{Acts, Mark, State, Widths, acts, kept, start};
-ghost use Rattle.dvi_ops.specs.Examples.{one_rule_body, one_rule_marks, saved_register_body, saved_register_marks, empty_rule_body, empty_rule_marks, too_far_body};
+ghost use Rattle.dvi_ops.specs.Examples.{one_rule_body, one_rule_marks, saved_register_body, saved_register_marks, empty_rule_body, empty_rule_marks, special_body, special_marks, too_far_body};
 ghost use Rattle.dvi_ops.specs.Forest.{Forest, IsPoint, and_then, beside, flat, marks_of, meaning, nests, points};
 ghost use Rattle.dvi_ops.specs.Walk.{walk};
 
@@ -49,6 +49,7 @@ pub fn known_bodies()
     ensures one_rule { (widths : Widths) → marks_of (meaning (kept (acts widths)) one_rule_body start) ≡ Some one_rule_marks }
     ensures saved_register { (widths : Widths) → marks_of (meaning (kept (acts widths)) saved_register_body start) ≡ Some saved_register_marks }
     ensures empty_rule { (widths : Widths) → marks_of (meaning (kept (acts widths)) empty_rule_body start) ≡ Some empty_rule_marks }
+    ensures special { (widths : Widths) → marks_of (meaning (kept (acts widths)) special_body start) ≡ Some special_marks }
     ensures too_far { (widths : Widths) → marks_of (meaning (kept (acts widths)) too_far_body start) ≡ None }
     ensures unbounded { (widths : Widths) → marks_of (meaning (acts widths) too_far_body start) ≡ Some [] }
 {}
