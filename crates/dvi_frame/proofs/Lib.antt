@@ -1,3 +1,4 @@
+pub mod ErrLemmas
 pub mod PlaceLemmas
 pub mod OpLemmas
 pub mod ChainLemmas

@@ -4,7 +4,9 @@ use Rattle.dvi_ops.specs.Instruction.{Postamble, Instruction, Post}
 use Rattle.dvi_ops.specs.Table.{Spells, signed}
 use Rattle.dvi_frame.specs.declared.fault.BadDvi.{BadDvi}
 use Rattle.dvi_frame.specs.declared.fault.DviCause.{DviCause}
-use Rattle.dvi_frame.specs.declared.fault.DviCause.TheVariants.{Trailer, Version, Opcode, Pointer}
+use Rattle.dvi_frame.specs.declared.fault.DviCause.TheVariants.{Trailer, Version, Opcode, Pointer, Truncated}
+use Rattle.dvi_ops.specs.declared.fault.OpFault.{OpFault}
+use Rattle.dvi_ops.specs.declared.fault.OpFault.TheVariants as faults
 
 -- An instruction is spelled from a place on, and ends at or before another.
 abbrev pub StandsAt : List ℕ → (place bound : ℕ) → Instruction → Type 0
@@ -41,3 +43,8 @@ BreaksEnd bytes place cause = ⊥
 -- The same of a fault.
 abbrev pub IsEndFault : List ℕ → BadDvi → Type 0
 IsEndFault bytes fault = BreaksEnd bytes fault.place fault.cause
+
+-- The rule that is broken where no instruction stands for this reason (own).
+abbrev pub cause_of : OpFault → DviCause
+cause_of faults.Opcode = Opcode
+cause_of faults.Truncated = Truncated

@@ -10,6 +10,12 @@ use crate::at_place::read_at;
 use crate::fault::{BadDvi, DviCause};
 use byteorder::{BigEndian, ByteOrder};
 use dvi_ops::Op;
+use dvi_ops::opcodes::{FORMAT, PADDING, POST_POST};
+
+/// How many bytes 223 there are at least at the end of a file.
+const LEAST_PADDING: usize = 4;
+/// How many bytes post_post has: its code, a place and the version.
+const POST_POST_SIZE: usize = 6;
 
 /// Where the parts of a file stand that it names at its end.
 #[derive(Clone, Copy, Debug, PartialEq)]
@@ -31,7 +37,7 @@ fn untrailed(bytes: &[u8]) -> usize
     ensures last { 0 < result → slice_index bytes.now (result - 1) ≢ 223 }
 {
     let mut end = bytes.len();
-    while 0 < end && bytes[end - 1] == 223 {
+    while 0 < end && bytes[end - 1] == PADDING {
         end -= 1;
     }
     end
@@ -43,7 +49,7 @@ fn trailed(bytes: &[u8]) -> Option<usize>
     ensures none { result ≡ None → (e : ℕ) → IsTrailed bytes.now e → ⊥ }
 {
     let end = untrailed(bytes);
-    if end < 6 || bytes.len() - end < 4 {
+    if end < POST_POST_SIZE || bytes.len() - end < LEAST_PADDING {
         return None;
     }
     Some(end - 1)
@@ -124,13 +130,13 @@ pub fn ends(bytes: &[u8]) -> Result<Ending, BadDvi>
             cause: DviCause::Trailer,
         });
     };
-    if bytes[last] != 2 {
+    if bytes[last] != FORMAT {
         return Err(BadDvi {
             place: last,
             cause: DviCause::Version,
         });
     }
-    if bytes[last - 5] != 249 {
+    if bytes[last - 5] != POST_POST {
         return Err(BadDvi {
             place: last - 5,
             cause: DviCause::Opcode,

@@ -1,5 +1,11 @@
 //! Why bytes are no DVI file: which rule they break, and where.
 
+ghost use Rattle.std.specs.Prelude.{◌≡◌};
+ghost use Rattle.dvi_frame.specs.Ends.{cause_of};
+ghost use Rattle.dvi_frame.specs.declared.fault.FrameFault.TheVariants.{OutOfMemory, Bad};
+
+use dvi_ops::OpFault;
+use std::alloc::{AllocError, AllocFailed};
 use thiserror::Error;
 
 /// A rule of a DVI file.
@@ -57,4 +63,39 @@ pub enum FrameFault {
     /// The bytes break that rule.
     #[error("{0}")]
     Bad(BadDvi),
+}
+
+impl From<OpFault> for DviCause {
+    ghost from_gives = { λ fault cause. cause ≡ cause_of fault };
+
+    fn from(fault: OpFault) -> DviCause {
+        match fault {
+            OpFault::Opcode => DviCause::Opcode,
+            OpFault::Truncated => DviCause::Truncated,
+        }
+    }
+}
+
+impl From<BadDvi> for FrameFault {
+    ghost from_gives = { λ bad fault. fault ≡ Bad bad };
+
+    fn from(bad: BadDvi) -> FrameFault {
+        FrameFault::Bad(bad)
+    }
+}
+
+impl From<AllocError> for FrameFault {
+    ghost from_gives = { λ _ fault. fault ≡ OutOfMemory };
+
+    fn from(_error: AllocError) -> FrameFault {
+        FrameFault::OutOfMemory
+    }
+}
+
+impl<T: Drop> From<AllocFailed<T>> for FrameFault {
+    ghost from_gives = { λ _ fault. fault ≡ OutOfMemory };
+
+    fn from(_error: AllocFailed<T>) -> FrameFault {
+        FrameFault::OutOfMemory
+    }
 }

@@ -9,6 +9,7 @@ ghost use Rattle.dvi_frame.specs.Preamble.{HasPreamble, IsPreambleFault};
 use crate::at_place::read_at;
 use crate::ending::Ending;
 use crate::fault::{BadDvi, DviCause};
+use dvi_ops::opcodes::FORMAT;
 use dvi_ops::{Op, Units};
 
 /// Whether num, den and mag are the same.
@@ -44,7 +45,7 @@ pub fn preamble(bytes: &[u8], ending: &Ending) -> Result<usize, BadDvi>
     let Op::Pre { id, units, .. } = op else {
         return Err(fault);
     };
-    if id != 2 {
+    if id != FORMAT {
         return Err(fault);
     }
     if !are_same(&units, &ending.stop.units) {

@@ -14,6 +14,13 @@ use byteorder::{BigEndian, ByteOrder};
 use dvi_ops::Op;
 use std::alloc::Global;
 
+/// How far after the place of a bop its pointer is: after its code and its ten counts.
+const BOP_POINTER: usize = 41;
+/// How far after post's place the pointer to the last bop is.
+const POST_POINTER: usize = 1;
+/// Post gives the number of pages modulo this.
+const PAGES_MODULUS: usize = 65_536;
+
 /// What a pointer names: nothing before the first page, a bop, or neither, with the pointer's own place.
 #[derive(Clone, Copy, Debug, PartialEq)]
 enum Named {
@@ -78,10 +85,8 @@ fn walk(alloc: Global, bytes: &[u8], at: usize, bound: usize) -> Result<Vec<usiz
     let mut places = Vec::new(alloc);
     let mut named = what_it_names(bytes, at, bound);
     while let Named::Page(place) = named {
-        if places.push(place).is_err() {
-            return Err(FrameFault::OutOfMemory);
-        }
-        named = what_it_names(bytes, place + 41, place);
+        places.push(place)?;
+        named = what_it_names(bytes, place + BOP_POINTER, place);
     }
     match named {
         Named::Nothing(place) => Err(FrameFault::Bad(BadDvi {
@@ -104,11 +109,8 @@ pub fn chain(alloc: Global, bytes: &[u8], ending: &Ending) -> Result<Vec<usize>,
     // The rule that a fault names is broken at its place, and those before it hold; memory is wanting only where post names a page.
     ensures bad { IfErr result (IsChainRefusal bytes.now ending.now.post (postamble ending.now.stop)) }
 {
-    let places = match walk(alloc, bytes, ending.post + 1, ending.post) {
-        Ok(places) => places,
-        Err(fault) => return Err(fault),
-    };
-    if places.len() % 65536 != usize::from(ending.stop.pages) {
+    let places = walk(alloc, bytes, ending.post + POST_POINTER, ending.post)?;
+    if places.len() % PAGES_MODULUS != usize::from(ending.stop.pages) {
         return Err(FrameFault::Bad(BadDvi {
             place: ending.post,
             cause: DviCause::Count,

@@ -1,6 +1,6 @@
 -- What the values of the code stand for (own).
 use Rattle.std.specs.Prelude.{[], ◌∷◌, List, map, Option, Some, None}
-use Rattle.dvi_ops.specs.Body.{Mark, Glyph, Rule, Place, State}
+use Rattle.dvi_ops.specs.Body.{Mark, Glyph, Rule, Special, Place, State}
 use Rattle.dvi_ops.specs.File.{MarkedPage}
 use Rattle.dvi_pass.specs.declared.page.Mark.{Mark as Seen}
 use Rattle.dvi_pass.specs.declared.page.Mark.TheVariants as marks
@@ -12,6 +12,7 @@ use Rattle.dvi_pass.specs.declared.page.State.{State as Standing}
 abbrev pub mark_of : Seen → Mark
 mark_of (marks.Glyph font code h v) = Glyph font code h v
 mark_of (marks.Rule h v height width) = Rule h v height width
+mark_of (marks.Special h v text) = Special h v text.now
 
 -- The page.
 abbrev pub page_of : Page → MarkedPage

@@ -3,7 +3,7 @@
 ghost use Rattle.std.specs.Prelude.{◌≡◌, [], List, Some, option_map};
 ghost use Rattle.dvi_ops.specs.Body.{Place as Spot, Widths, acts, glyph as seen_glyph, kept_in, only, place_after, rule_at};
 ghost use Rattle.dvi_ops.specs.File.{MarkedPage};
-ghost use Rattle.dvi_ops.specs.Instruction.{Across, Downward, By, PutChar, PutRule, SetChar, SetRule};
+ghost use Rattle.dvi_ops.specs.Instruction.{Across, Downward, By, PutChar, PutRule, SetChar, SetRule, Xxx};
 ghost use Rattle.dvi_pass.specs.Drawing.{Draws, leads, always, reached};
 ghost use Rattle.dvi_pass.specs.View.{mark_of, marks_in, placed, stated};
 
@@ -43,7 +43,7 @@ impl Place {
     }
 
     /// A rule at the place, if it is a mark.
-    fn rule(self, size: Size) -> Option<Mark>
+    fn rule<'a>(self, size: Size) -> Option<Mark<'a>>
         ensures { marks_in result ≡ rule_at size.height size.width (placed self) }
     {
         if size.height <= 0 || size.width <= 0 {
@@ -70,16 +70,19 @@ impl State {
     }
 }
 
-impl OpenPage {
+impl<'a> OpenPage<'a> {
     /// Makes a mark, if there is one, and goes on from a place that was reached, if it was.
-    fn mark_and_go(&mut self, mark: Option<Mark>, place: Option<Place>) -> Result<(), PassFault>
-        ensures { (pages : List MarkedPage) (to : Spot) → option_map placed place ≡ reached to → Draws (leads (marks_in mark) to self.old) pages self.old self.new result }
+    fn mark_and_go(&mut self, mark: Option<Mark<'a>>, place: Option<Place>) -> Result<(), PassFault>
+        ensures { (pages : List MarkedPage) (to : Spot) → option_map placed place ≡ reached to → Draws (leads (marks_in mark.entry) to self.old) pages self.old self.new result }
     {
         let place = place.ok_or(DviCause::Range)?;
         if let Some(mark) = mark {
             self.marks.push(mark)?;
         }
-        self.state.place = place;
+        self.state = State {
+            place,
+            ..self.state
+        };
         Ok(())
     }
 
@@ -91,7 +94,7 @@ impl OpenPage {
     }
 
     /// A glyph of the current font at the place, and how far it moves.
-    fn glyph(&self, code: i32, width: Option<i32>) -> Option<(Mark, i32)>
+    fn glyph(&self, code: i32, width: Option<i32>) -> Option<(Mark<'a>, i32)>
         ensures { option_map (λ found. (mark_of found.0, found.1)) result ≡ seen_glyph (always width) code (placed self.now.state.place) self.now.state.font }
     {
         let mark = Mark::Glyph {
@@ -108,7 +111,8 @@ impl OpenPage {
         ensures { (pages : List MarkedPage) → Draws (acts (always width) (SetChar code) (stated self.old.state)) pages self.old self.new result }
     {
         let (mark, width) = self.glyph(code, width).ok_or(DviCause::Glyph)?;
-        self.mark_and_go(Some(mark), self.state.place.right(width))
+        let place = self.state.place;
+        self.mark_and_go(Some(mark), place.right(width))
     }
 
     /// Puts a character.
@@ -134,5 +138,18 @@ impl OpenPage {
     {
         let place = self.state.place;
         self.mark_and_go(place.rule(size), place.here())
+    }
+
+    /// Puts a special: a text at the place, which moves nothing.
+    pub(crate) fn put_special(&mut self, text: &'a [u8]) -> Result<(), PassFault>
+        ensures { (widths : Widths) (pages : List MarkedPage) → Draws (acts widths (Xxx text.now) (stated self.old.state)) pages self.old self.new result }
+    {
+        let place = self.state.place;
+        let mark = Mark::Special {
+            h: place.h,
+            v: place.v,
+            text,
+        };
+        self.mark_and_go(Some(mark), place.here())
     }
 }

@@ -6,7 +6,7 @@ use std::default::MadeWith;
 
 /// What is seen on a page, in DVI units (DVItype, 15).
 #[derive(Clone, Copy, Debug, PartialEq)]
-pub enum Mark {
+pub enum Mark<'a> {
     /// A character of a font, with its reference point at (h, v).
     Glyph {
         font: i32,
@@ -21,13 +21,15 @@ pub enum Mark {
         height: i32,
         width: i32,
     },
+    /// A special: a text at (h, v), which is a slice of the file.
+    Special { h: i32, v: i32, text: &'a [u8] },
 }
 
 /// A page: its ten counts, and its marks in order.
 #[derive(Debug, Drop)]
-pub struct Page {
+pub struct Page<'a> {
     pub counts: [i32; 10],
-    pub marks: Vec<Mark>,
+    pub marks: Vec<Mark<'a>>,
 }
 
 /// h, v, w, x, y and z: what push saves and pop brings back (DVItype, 14).

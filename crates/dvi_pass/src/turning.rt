@@ -22,18 +22,18 @@ use thiserror::Error;
 
 /// A page whose eop is still to come: what is on it so far, the saved places, the last one at the end, and the state.
 #[derive(Drop)]
-pub struct OpenPage {
+pub struct OpenPage<'a> {
     pub counts: [i32; 10],
-    pub marks: Vec<Mark>,
+    pub marks: Vec<Mark<'a>>,
     pub stack: SmallVec<Place, 2>,
     pub state: State,
 }
 
 /// Where the pass stands.
 #[derive(Drop)]
-pub enum Stand {
+pub enum Stand<'a> {
     Between,
-    Inside(OpenPage),
+    Inside(OpenPage<'a>),
 }
 
 /// Why an instruction is not taken.
@@ -71,7 +71,7 @@ impl From<DviCause> for PassFault {
     }
 }
 
-impl OpenPage {
+impl<'a> OpenPage<'a> {
     /// Saves the place, if fewer than so many pushes are open.
     fn push(&mut self, most: usize) -> Result<(), PassFault>
         ensures { (does : Acts) (pages : List MarkedPage) → TurnsPage does most Push pages self.old self.new result }
@@ -89,12 +89,15 @@ impl OpenPage {
         ensures { (does : Acts) (most : ℕ) (pages : List MarkedPage) → TurnsPage does most Pop pages self.old self.new result }
     {
         let place = self.stack.pop().ok_or(DviCause::Stack)?;
-        self.state.place = place;
+        self.state = State {
+            place,
+            ..self.state
+        };
         Ok(())
     }
 
     /// Takes an instruction that does not end the page.
-    fn take(&mut self, most: usize, op: &Op<'_>, width: Option<i32>) -> Result<(), PassFault>
+    fn take(&mut self, most: usize, op: &Op<'a>, width: Option<i32>) -> Result<(), PassFault>
         requires { view op.now ≢ Eop }
         ensures { (pages : List MarkedPage) → TurnsPage (acts (always width)) most (view op.now) pages self.old self.new result }
     {
@@ -120,7 +123,8 @@ impl OpenPage {
                 self.state = self.state.with_font(font);
                 Ok(())
             }
-            Op::Nop | Op::FontDef(_) | Op::Xxx(_) => self.go(place.here()),
+            Op::Nop | Op::FontDef(_) => self.go(place.here()),
+            Op::Xxx(text) => self.put_special(text),
             Op::Bop { .. } | Op::Eop | Op::Pre { .. } | Op::Post(_) | Op::PostPost { .. } => {
                 Err(PassFault::Broken(DviCause::Opcode))
             }
@@ -128,7 +132,7 @@ impl OpenPage {
     }
 
     /// Ends the page, which goes to the others.
-    fn end(&mut self, alloc: Global, done: &mut Vec<Page>) -> Result<(), PassFault>
+    fn end(&mut self, alloc: Global, done: &mut Vec<Page<'a>>) -> Result<(), PassFault>
         ensures turns { (does : Acts) (most : ℕ) → Turns does most Eop (inside_of (map page_of done.old.items) self.old) (Between (map page_of done.new.items)) result }
         ensures err { OnErr result ((self.new ≡ self.old) × (done.new.items ≡ done.old.items)) }
     {
@@ -146,7 +150,7 @@ impl OpenPage {
 }
 
 /// Takes an instruction between two pages.
-fn begin(alloc: Global, stand: &mut Stand, op: &Op<'_>) -> Result<(), PassFault>
+fn begin<'a>(alloc: Global, stand: &mut Stand<'a>, op: &Op<'a>) -> Result<(), PassFault>
     requires { stand.old ≡ Stand.Between }
     ensures turns { (does : Acts) (most : ℕ) (pages : List MarkedPage) → Turns does most (view op.now) (Between pages) (pass_at pages stand.new) result }
     ensures err { OnErr result (stand.new ≡ stand.old) }
@@ -171,12 +175,12 @@ fn begin(alloc: Global, stand: &mut Stand, op: &Op<'_>) -> Result<(), PassFault>
 
 /// Takes an instruction where the pass stands, at most so many pushes being open, and adds a page that ends to the others (DVItype, 15). `width` is the width of the
 /// character that the instruction sets or puts, in the current font; None where it is not there. It takes memory for marks, pages and saved places.
-pub fn turn(
+pub fn turn<'a>(
     alloc: Global,
-    stand: &mut Stand,
-    done: &mut Vec<Page>,
+    stand: &mut Stand<'a>,
+    done: &mut Vec<Page<'a>>,
     most: usize,
-    op: &Op<'_>,
+    op: &Op<'a>,
     width: Option<i32>,
 ) -> Result<(), PassFault>
     // The pass goes on as it is defined; or the rule that a fault names is broken.

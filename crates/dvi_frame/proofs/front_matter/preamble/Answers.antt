@@ -31,8 +31,8 @@ pre_spelled bytes behind op id u v comment is version same spelled =
     let none : behind - 0 ≡ behind = omega arith in
     subst₂ (λ (i : Instruction) (n : ℕ). Spells i (take n bytes)) whole none spelled
 
-pub returns-then-id-ne2-clause-bad : goal.returns-then-id-ne2-clause-bad
-returns-then-id-ne2-clause-bad c =
+pub returns-then-id-ne-FORMAT-clause-bad : goal.returns-then-id-ne-FORMAT-clause-bad
+returns-then-id-ne-FORMAT-clause-bad c =
     record {
       place = refl;
       cause = refl;
@@ -41,7 +41,7 @@ returns-then-id-ne2-clause-bad c =
           let e = one_spelled c.args.bytes.now 0 c.args.ending.now.post (view c.in-Ok.op) (Pre 2 wanted comment) (c.in-Ok.behind - 0) c.in-Ok.ensures.found stands in
           let same = same_pre c.in-Ok.op c.in-Pre.id 2 c.in-Pre.units wanted c.in-Pre.comment comment c.in-Pre.is e in
           let two : c.in-Pre.id ≡ 2 = same.0 in
-          c.if-id-ne2.true two);
+          c.if-id-ne-FORMAT.true two);
     }
 
 pub returns-then-not-are_same-clause-bad : goal.returns-then-not-are_same-clause-bad
@@ -59,7 +59,7 @@ returns-then-not-are_same-clause-bad c =
 
 pub returns-clause-ok : goal.returns-clause-ok
 returns-clause-ok c =
-    let version : c.in-Pre.id ≡ 2 = c.if-id-ne2.false in
+    let version : c.in-Pre.id ≡ 2 = c.if-id-ne-FORMAT.false in
     let yes : c.are_same.result ≡ true = search rules in
     let positive : c.are_positive.result ≡ true = search rules in
     record {

@@ -9,6 +9,7 @@ use Rattle.dvi_frame.specs.declared.fault.FrameFault.TheVariants.{OutOfMemory, B
 use Rattle.dvi_frame.specs.declared.fault.DviCause.{DviCause}
 use Rattle.dvi_frame.specs.Chain.{BreaksChain}
 use Rattle.dvi_frame.proofs.ChainLemmas.{post_pointer}
+use Rattle.dvi_frame.proofs.ErrLemmas.{handed_on}
 use Rattle.dvi_frame.proofs.page_chain.chain.Goals as goal
 
 -- the pointer of post
@@ -22,27 +23,29 @@ refusal bytes post stop OutOfMemory b = b
 refusal bytes post stop (Bad fault) b =
     subst (λ (cause : DviCause). BreaksChain bytes post stop fault.place cause) (sym b.0) b.1
 
-pub returns-in-Err-clause-bad : goal.returns-in-Err-clause-bad
-returns-in-Err-clause-bad c =
+pub returns-in_err-places-clause-bad : goal.returns-in_err-places-clause-bad
+returns-in_err-places-clause-bad c =
     let bytes = c.args.bytes.now in
     let stop = postamble c.args.ending.now.stop in
     let post = c.args.ending.now.post in
+    let fault = c.in_err-places.field-0.0 in
     let e = first_pointer bytes post c.args.ending.now.last stop c.requires in
-    refusal bytes post stop c.in-Err.fault (subst (λ (z : ℤ). IsBrokenFrom bytes (post + 1) post z c.in-Err.fault) e c.in-Err.ensures.bad)
+    handed_on (IsChainRefusal bytes post stop) c.from_residual.result fault c.from_residual.ensures.1
+    (refusal bytes post stop fault (subst (λ (z : ℤ). IsBrokenFrom bytes (post + 1) post z fault) e c.in_err-places.ensures.bad))
 
 pub returns-clause-found : goal.returns-clause-found
 returns-clause-found c =
     let bytes = c.args.bytes.now in
     let stop = postamble c.args.ending.now.stop in
     let post = c.args.ending.now.post in
-    subst (λ (z : ℤ). Links bytes post z c.in-Ok.places.items) (first_pointer bytes post c.args.ending.now.last stop c.requires) c.in-Ok.ensures.found
+    subst (λ (z : ℤ). Links bytes post z c.in_ok-places.places.items) (first_pointer bytes post c.args.ending.now.last stop c.requires) c.in_ok-places.ensures.found
 
 pub returns-then-len-from-clause-bad : goal.returns-then-len-from-clause-bad
 returns-then-len-from-clause-bad c =
     let bytes = c.args.bytes.now in
     let stop = postamble c.args.ending.now.stop in
     let post = c.args.ending.now.post in
-    let links = subst (λ (z : ℤ). Links bytes post z c.in-Ok.places.items) (first_pointer bytes post c.args.ending.now.last stop c.requires) c.in-Ok.ensures.found in
-    let len : c.len.result ≡ length c.in-Ok.places.items = search rules in
+    let links = subst (λ (z : ℤ). Links bytes post z c.in_ok-places.places.items) (first_pointer bytes post c.args.ending.now.last stop c.requires) c.in_ok-places.ensures.found in
+    let len : c.len.result ≡ length c.in_ok-places.places.items = search rules in
     let differs = c.if-len-from.true in
-    (refl, c.in-Ok.places.items, links, λ same. differs (ap (λ n. n % 65536) len ∙ (sym same ∙ sym c.from.ensures)))
+    (refl, c.in_ok-places.places.items, links, λ same. differs (ap (λ n. n % 65536) len ∙ (sym same ∙ sym c.from.ensures)))

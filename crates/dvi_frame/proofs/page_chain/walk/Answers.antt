@@ -2,6 +2,9 @@ use Rattle.std.proofs.Common.{rules, ◌≡◌, ◌++◌, [], ◌∷◌, List, �
 use Rattle.dvi_ops.specs.Table.{signed}
 use Rattle.dvi_frame.specs.declared.page_chain.Named.{Named}
 use Rattle.dvi_frame.proofs.ChainLemmas.{Goes, goes_first, goes_more, goes_page, goes_end, goes_lost, page_room, start_left}
+use Rattle.dvi_frame.proofs.ErrLemmas.{handed_on}
+use Rattle.dvi_frame.specs.Chain.{IsBrokenFrom}
+use Rattle.dvi_frame.specs.declared.fault.FrameFault.TheVariants.{OutOfMemory}
 use Rattle.dvi_frame.proofs.page_chain.walk.Goals as goal
 
 pub loop-named-init : goal.loop-named-init
@@ -27,12 +30,13 @@ loop-named-preserved c =
     subst (λ (found : List ℕ). Goes bytes c.args.at c.args.bound pointer found c.what_it_names-named-in-Page.result) (sym items)
     (goes_more bytes c.args.at c.args.bound pointer c.loop-named.places.items c.in-Page.place c.what_it_names-named-in-Page.result g c.what_it_names-named-in-Page.ensures)
 
-pub returns-then-is_err-clause-bad : goal.returns-then-is_err-clause-bad
-returns-then-is_err-clause-bad c =
+pub returns-in_err-push-clause-bad : goal.returns-in_err-push-clause-bad
+returns-in_err-push-clause-bad c =
     let bytes = c.args.bytes.now in
     let pointer = signed 4 (drop c.args.at bytes) in
     let g = subst (λ (n : Named). Goes bytes c.args.at c.args.bound pointer c.loop-named.places.items n) c.in-Page.is c.loop-named.invariant in
-    goes_page bytes c.args.at c.args.bound pointer c.loop-named.places.items c.in-Page.place g
+    handed_on (IsBrokenFrom bytes c.args.at c.args.bound pointer) c.from_residual.result OutOfMemory c.from_residual.ensures.1
+    (goes_page bytes c.args.at c.args.bound pointer c.loop-named.places.items c.in-Page.place g)
 
 pub returns-in-Nothing : goal.returns-in-Nothing
 returns-in-Nothing c =
