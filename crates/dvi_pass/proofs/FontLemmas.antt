@@ -4,7 +4,7 @@ use Rattle.std.specs.Prelude.{◌⊎◌, IsSome}
 use Rattle.std.specs.List.{AllByRecursion}
 use Rattle.std.specs.Ordering.{int_eq}
 use Rattle.std.proofs.lemmas.Bool.Decides.{Decides-int_eq}
-use Rattle.dvi_ops.specs.Body.{Mark, Place, State, Meaning, Widths, acts, glyph, glyph_of, kept, kept_in, place_after, put_glyph, right, rule_at, set_glyph, start}
+use Rattle.dvi_ops.specs.Body.{Mark, Special, Place, State, Meaning, Widths, acts, glyph, glyph_of, kept, kept_in, place_after, put_glyph, right, rule_at, set_glyph, start}
 use Rattle.dvi_ops.specs.File.{MarkedPage}
 use Rattle.dvi_ops.specs.Fonts.{Metrics, AgreesWith, FontsAreRight, IsRightAfter, defined, definition_of, definitions, font_in, known_after, selection_of, selections, width_in, widths_of}
 use Rattle.dvi_ops.specs.Instruction.{Definition, Leaf, SetChar, PutChar, SetRule, PutRule, Nop, Move, FontNum, FontDef, Xxx, Instruction, Do, Push, Pop, Bop, Eop, Pre, Post, PostPost}
@@ -49,7 +49,7 @@ act_font widths Nop s t marks e = inl (same_font _ [] marks s s t refl e)
 act_font widths (Move axis step) s t marks e = inl (same_font _ [] marks s (record s { place = place_after axis step s.place }) t refl e)
 act_font widths (FontNum f) s t marks e = inr (f, refl, ap (λ (s : State). s.font) (sym (by_range _ [] marks (record s { font = Some f }) t e)))
 act_font widths (FontDef d) s t marks e = inl (same_font _ [] marks s s t refl e)
-act_font widths (Xxx text) s t marks e = inl (same_font _ [] marks s s t refl e)
+act_font widths (Xxx text) s t marks e = inl (same_font _ (Special s.place.h s.place.v text ∷ []) marks s s t refl e)
 
 drawn_font : (widths : Widths) (leaf : Leaf) (pages : List MarkedPage) (counts : List ℤ) (marks : List Mark) (stack : List Place) (s : State) (m : Meaning) (q : Pass) (f : ℤ) → kept_in (acts widths leaf s) ≡ m
     → drawn pages counts marks stack m ≡ Some q → current_of q ≡ Some f → (s.font ≡ Some f) ⊎ (Do leaf ≡ Do (FontNum f))

@@ -3,7 +3,7 @@ use Rattle.std.proofs.Common.{◌≡◌, ◌≢◌, ◌≤◌, ◌<◌, ◌++◌
 use Rattle.std.specs.Option.{option_map}
 use Rattle.std.proofs.lemmas.Bool.{lt-ltb, le-ltb}
 use Rattle.std.proofs.lemmas.List.{map-append, reverse-append, length-reverse, length-map}
-use Rattle.dvi_ops.specs.Instruction.{Leaf, Nop, FontDef, Xxx, Instruction, Do, Push, Pop, Bop, Eop}
+use Rattle.dvi_ops.specs.Instruction.{Leaf, Nop, FontDef, Instruction, Do, Push, Pop, Bop, Eop}
 use Rattle.dvi_ops.specs.Body.{Mark, Place, State, Meaning, Acts, acts, in_range, kept, kept_in, only}
 use Rattle.dvi_ops.specs.File.{MarkedPage}
 use Rattle.dvi_ops.specs.View.{definition, view}
@@ -73,13 +73,12 @@ leaf_turns width most op known leaf pages old new r is does d = subst (λ (i : I
     turns (Err (Broken Range)) d = d
     turns (Err (Broken cause)) d = absurd (d.0)
 
--- A nop, a font definition and a special change nothing.
+-- A nop and a font definition change nothing.
 pub idle_turns : (width : Option ℤ) (most : ℕ) (op : Op) (pages : List MarkedPage) (old new : OpenPage) (r : Result Unit PassFault)
-    → (op ≡ ops.Nop) ⊎ (((d : _) × (op ≡ ops.FontDef d)) ⊎ ((text : _) × (op ≡ ops.Xxx text)))
+    → (op ≡ ops.Nop) ⊎ ((d : _) × (op ≡ ops.FontDef d))
     → Draws (only (stated old.state)) pages old new r → TurnsPage (acts (always width)) most (view op) pages old new r
 idle_turns width most op pages old new r (inl is) d = leaf_turns width most op ops.Nop Nop pages old new r is refl d
-idle_turns width most op pages old new r (inr (inl (font, is))) d = leaf_turns width most op (ops.FontDef font) (FontDef (definition font)) pages old new r is refl d
-idle_turns width most op pages old new r (inr (inr (text, is))) d = leaf_turns width most op (ops.Xxx text) (Xxx text.now) pages old new r is refl d
+idle_turns width most op pages old new r (inr (font, is)) d = leaf_turns width most op (ops.FontDef font) (FontDef (definition font)) pages old new r is refl d
 
 -- A fault is found whatever place the pass is left at.
 pub refused_turn : (does : Acts) (most : ℕ) (i : Instruction) (old new other : Pass) (r : Result Unit PassFault) (fault : PassFault) → r ≡ Err fault

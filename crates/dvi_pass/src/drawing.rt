@@ -1,7 +1,7 @@
 //! What an instruction of a body does in an open page: to the place and the font, and which mark it makes (DVItype, 14 and 15).
 
 ghost use Rattle.std.specs.Prelude.{◌≡◌, [], List, Some, option_map};
-ghost use Rattle.dvi_ops.specs.Body.{Place as Spot, Widths, acts, glyph as seen_glyph, kept_in, only, place_after, rule_at};
+ghost use Rattle.dvi_ops.specs.Body.{Place as Spot, Special, Widths, acts, glyph as seen_glyph, kept_in, only, place_after, rule_at};
 ghost use Rattle.dvi_ops.specs.File.{MarkedPage};
 ghost use Rattle.dvi_ops.specs.Instruction.{Across, Downward, By, PutChar, PutRule, SetChar, SetRule, Xxx};
 ghost use Rattle.dvi_pass.specs.Drawing.{Draws, leads, always, reached};
@@ -55,6 +55,17 @@ impl Place {
             height: size.height,
             width: size.width,
         })
+    }
+
+    /// A special at the place.
+    fn special<'a>(self, text: &'a [u8]) -> Mark<'a>
+        ensures { mark_of result ≡ Special self.h self.v text.now }
+    {
+        Mark::Special {
+            h: self.h,
+            v: self.v,
+            text,
+        }
     }
 }
 
@@ -145,11 +156,6 @@ impl<'a> OpenPage<'a> {
         ensures { (widths : Widths) (pages : List MarkedPage) → Draws (acts widths (Xxx text.now) (stated self.old.state)) pages self.old self.new result }
     {
         let place = self.state.place;
-        let mark = Mark::Special {
-            h: place.h,
-            v: place.v,
-            text,
-        };
-        self.mark_and_go(Some(mark), place.here())
+        self.mark_and_go(Some(place.special(text)), place.here())
     }
 }

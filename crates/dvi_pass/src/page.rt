@@ -22,7 +22,11 @@ pub enum Mark<'a> {
         width: i32,
     },
     /// A special: a text at (h, v), which is a slice of the file.
-    Special { h: i32, v: i32, text: &'a [u8] },
+    Special {
+        h: i32,
+        v: i32,
+        text: &'a [u8],
+    },
 }
 
 /// A page: its ten counts, and its marks in order.

@@ -2,7 +2,7 @@ use Rattle.std.proofs.Common.{rules, ◌≡◌, List, ℤ, Ok, Some, map, revers
 use Rattle.std.proofs.lemmas.Int.{ints}
 use Rattle.std.specs.Option.{option_map}
 use Rattle.dvi_ops.specs.Body.{Mark, acts, kept_in, only, place_after}
-use Rattle.dvi_ops.specs.Instruction.{Instruction, SetChar, PutChar, SetRule, PutRule, FontNum, Move, Across, Downward, By, Set, Again, First, Second}
+use Rattle.dvi_ops.specs.Instruction.{Instruction, SetChar, PutChar, SetRule, PutRule, FontNum, Move, Across, Downward, By, Set, Again, First, Second, Xxx}
 use Rattle.dvi_ops.specs.View.{view}
 use Rattle.dvi_ops.specs.declared.op.Op.TheVariants as ops
 use Rattle.dvi_pass.specs.Drawing.{Draws, always, reached}
@@ -127,3 +127,9 @@ pub returns-in-Nop : goal.returns-in-Nop
 returns-in-Nop c = λ pages.
     let page = c.args.self.now in
     idle_turns c.args.width c.args.most c.args.op.now pages page c.go-in-Nop.new.self c.go-in-Nop.result c.in-Nop.is (c.go-in-Nop.ensures pages (placed page.state.place) c.here.ensures)
+
+pub returns-in-Xxx : goal.returns-in-Xxx
+returns-in-Xxx c = λ pages.
+    let page = c.args.self.now in
+    leaf_turns c.args.width c.args.most c.args.op.now (ops.Xxx c.in-Xxx.text) (Xxx c.in-Xxx.text.now) pages page c.put_special.new.self c.put_special.result c.in-Xxx.is refl
+    (c.put_special.ensures (always c.args.width) pages)
