@@ -57,7 +57,7 @@ fn put_shown(byte: u8, part: &mut Part)
 
 /// Makes an empty part the next byte of the text of a special, or the line feed after it. Reports what is still to come.
 #[tactic(auto, unfolding(crate::specs::Listing::text_line))]
-pub(crate) fn put_text<'a>(text: &'a [u8], part: &mut Part) -> Option<&'a [u8]>
+pub(crate) fn put_text<'f>(text: &'f [u8], part: &mut Part) -> Option<&'f [u8]>
     requires { part.old ≡ [] }
     ensures all { text_line text.now ≡ part.new ++ text_ahead result }
     ensures filled { 0 < length part.new }
@@ -72,7 +72,7 @@ pub(crate) fn put_text<'a>(text: &'a [u8], part: &mut Part) -> Option<&'a [u8]>
 
 /// Makes an empty part the line of a mark. Reports what is still to come of it: the text of a special.
 #[tactic(auto, unfolding(crate::specs::Listing::line, crate::specs::Listing::special_line))]
-pub(crate) fn put_mark<'a>(mark: &Mark<'a>, part: &mut Part) -> Option<&'a [u8]>
+pub(crate) fn put_mark<'f>(mark: &Mark<'f>, part: &mut Part) -> Option<&'f [u8]>
     requires { part.old ≡ [] }
     ensures all { mark_line (mark_of mark.now) ≡ part.new ++ text_ahead result }
     ensures filled { 0 < length part.new }

@@ -11,9 +11,9 @@ use crate::part::{PART, Part};
 use dvi_pass::Page;
 use std::alloc::AllocError;
 
-impl<'a> Lines<'a> {
+impl<'a, 'f> Lines<'a, 'f> {
     /// All lines of the listing of these pages.
-    pub fn new(pages: &'a [Page<'a>]) -> Lines<'a>
+    pub fn new(pages: &'a [Page<'f>]) -> Lines<'a, 'f>
         ensures { lines_ahead result ≡ listing (map page_of pages.now) }
     {
         Lines {
@@ -28,6 +28,7 @@ impl<'a> Lines<'a> {
     fn next(&mut self, part: &mut Part) -> bool
         ensures some { IsTrue result → lines_ahead self.old ≡ part.new ++ lines_ahead self.new }
         ensures none { result ≡ false → lines_ahead self.old ≡ [] }
+        ensures still { result ≡ false → self.new ≡ self.old }
         ensures filled { IsTrue result → 0 < length part.new }
     {
         part.clear();
