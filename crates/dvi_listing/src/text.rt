@@ -1,6 +1,6 @@
 //! The text of a listing.
 
-ghost use Rattle.std.specs.Prelude.{◌≡◌, ◌≢◌, ◌++◌, ◌+◌, ◌<◌, ◌≤◌, [], false, length, map, take, vec_capacity, vec_len, IsTrue, OnErr, OnOk};
+ghost use Rattle.std.specs.Prelude.{◌≡◌, ◌++◌, ◌+◌, ◌<◌, ◌≤◌, [], false, length, map, take, vec_capacity, vec_len, IsTrue, OnErr, OnOk};
 ghost use Rattle.dvi_pass.specs.View.{page_of};
 ghost use Rattle.dvi_listing.specs.Listing.{lines_ahead, listing};
 ghost use Rattle.dvi_listing.specs.declared.part.TheConstants.{PART};
@@ -51,11 +51,10 @@ impl<'a, 'f> Lines<'a, 'f> {
         true
     }
 
-    /// Appends what comes next, as far as `text` has room for it, and takes no memory. Where there is room for PART bytes, a byte is appended at least,
-    /// but where all has come.
-    pub fn fill(&mut self, text: &mut Vec<u8>)
+    /// Appends what comes next, as far as `text` has room for it, and takes no memory.
+    fn fill(&mut self, text: &mut Vec<u8>)
         ensures all { text.new.items ++ lines_ahead self.new ≡ text.old.items ++ lines_ahead self.old }
-        ensures filled { vec_len text.old + PART ≤ vec_capacity text.old → lines_ahead self.old ≢ [] → vec_len text.old < vec_len text.new }
+        ensures filled { vec_len text.old + PART ≤ vec_capacity text.old → 0 < length (lines_ahead self.old) → vec_len text.old < vec_len text.new }
         ensures capacity { vec_capacity text.old ≤ vec_capacity text.new }
     {
         let mut part = Part::new();
@@ -64,6 +63,19 @@ impl<'a, 'f> Lines<'a, 'f> {
                 unreachable!()
             };
         }
+    }
+
+    /// Makes `piece`, which has room for PART bytes at least, what comes next of the listing. Reports whether there was something. It takes no memory.
+    pub fn next_piece(&mut self, piece: &mut Vec<u8>) -> bool
+        requires { PART ≤ vec_capacity piece.old }
+        ensures all { lines_ahead self.old ≡ piece.new.items ++ lines_ahead self.new }
+        ensures none { result ≡ false → lines_ahead self.old ≡ [] }
+        ensures some { IsTrue result → 0 < length piece.new.items }
+        ensures capacity { vec_capacity piece.old ≤ vec_capacity piece.new }
+    {
+        piece.clear();
+        self.fill(piece);
+        !piece.is_empty()
     }
 }
 
