@@ -1,7 +1,7 @@
 //! A DVI file that was checked as a whole (DVItype, 13 to 20).
 
 ghost use Rattle.std.specs.Prelude.{◌≡◌, ◌≢◌, ◌++◌, ◌<◌, length, map, slice_get, IfErr, IfOk, OnErr, OnOk, Some};
-ghost use Rattle.dvi_listing.specs.Listing.{listing as listing_of};
+ghost use Rattle.dvi_listing.specs.Listing.{lines_ahead, listing as listing_of};
 ghost use Rattle.dvi_ops.specs.File.{AreUnits, IsFile};
 ghost use Rattle.dvi_ops.specs.View.{definition, units as view_units};
 ghost use Rattle.dvi_pass.specs.View.{page_of};
@@ -12,7 +12,7 @@ ghost use Rattle.tfm_core.specs.FileWidths.{file_widths};
 
 use crate::before_pages::{Front, find_front};
 use crate::reading::{finish, read_pages};
-use dvi_listing::listing;
+use dvi_listing::{Lines, listing};
 use dvi_ops::{FontDefinition, Units};
 use dvi_pass::Page;
 use dvi_walk::{DviFault, Walk};
@@ -118,6 +118,13 @@ impl<'a> Dvi<'a> {
         ensures { map definition result.now ≡ self.now.fonts }
     {
         &self.fonts
+    }
+
+    /// The lines of the listing of all pages.
+    pub fn lines(&self) -> Lines<'_, 'a>
+        ensures { lines_ahead result ≡ listing_of self.now.pages }
+    {
+        Lines::new(&self.pages)
     }
 
     /// Appends the listing of all pages. Where memory is refused, `text` is as it was.
