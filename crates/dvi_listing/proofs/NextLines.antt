@@ -1,13 +1,13 @@
 -- The lines of a listing that are still to come.
-use Rattle.std.proofs.Common.{◌≡◌, ℕ, ℤ, ◌+◌, ◌++◌, ◌<◌, ◌-◌, take, List, [], ◌∷◌, length, drop, map, get_or, codes, decimal, ap, sym, refl, ◌∙◌, append_assoc, arith, length-append}
+use Rattle.std.proofs.Common.{◌≡◌, ℕ, ℤ, ◌+◌, ◌/◌, ◌%◌, Bool, true, false, if◌then◌else◌, Option, None, Some, ◌++◌, ◌<◌, ◌-◌, take, List, [], ◌∷◌, length, drop, map, get_or, codes, decimal, ap, sym, refl, ◌∙◌, append_assoc, arith, length-append}
 use Rattle.std.proofs.lemmas.List.{take_all}
+use Rattle.std.specs.Borrow.{Bor}
 use Rattle.std.specs.Fmt.{signed_decimal}
 use Rattle.std.specs.List.{flat_map}
-use Rattle.dvi_ops.specs.Body.{Mark, Glyph, Rule}
 use Rattle.dvi_pass.specs.declared.page.Mark.{Mark as Seen}
 use Rattle.dvi_pass.specs.declared.page.Page.{Page}
 use Rattle.dvi_pass.specs.View.{mark_of, page_of}
-use Rattle.dvi_listing.specs.Listing.{line, mark_line, page_lines, pages_lines}
+use Rattle.dvi_listing.specs.Listing.{hexadecimal_digit, is_shown_plainly, line, mark_line, page_lines, pages_lines, shown_byte, text_ahead}
 
 -- A line has its line feed.
 pub line_there : (words : List ℕ) (numbers : List ℤ) → 0 < length (line words numbers)
@@ -16,9 +16,19 @@ line_there words numbers =
     let texts = flat_map (λ number. codes " " ++ signed_decimal number) numbers in
     omega (arith, length-append words (texts ++ (10 ∷ [])), length-append texts (10 ∷ []))
 
-pub mark_there : (mark : Mark) → 0 < length (mark_line mark)
-mark_there (Glyph font code h v) = line_there _ _
-mark_there (Rule h v height width) = line_there _ _
+-- What a byte of a special is shown as has a byte.
+pub shown_there : (byte : ℕ) → 0 < length (shown_byte byte)
+unfolding shown_byte
+shown_there byte = by_test (is_shown_plainly byte)
+  where
+    by_test : (plain : Bool) → 0 < length (if plain then byte ∷ [] else 92 ∷ hexadecimal_digit (byte / 16) ∷ hexadecimal_digit (byte % 16) ∷ [])
+    by_test true = omega arith
+    by_test false = omega arith
+
+-- Where no line of a special was begun, nothing of one is still to come.
+pub no_text : (text : Option (Bor (List ℕ))) → ((bytes : Bor (List ℕ)) → text ≡ Some bytes → ⊥) → text_ahead text ≡ []
+no_text None not = refl
+no_text (Some text) not = absurd (not text refl)
 
 -- Without marks there are no lines of marks.
 pub no_marks : (marks : List Seen) → length marks < 1 → flat_map mark_line (map mark_of marks) ≡ []

@@ -1,8 +1,9 @@
--- The text of a listing (own; the pages and the marks are DVItype's, 15).
-use Rattle.std.specs.Prelude.{[], ◌∷◌, ◌++◌, List, ℕ, ℤ, ◌+◌, codes, decimal, map}
+-- The text of a listing (own; the pages and the marks are DVItype's, 15 and 16).
+use Rattle.std.specs.Prelude.{[], ◌∷◌, ◌++◌, ◌+◌, ◌/◌, ◌%◌, ◌==◌, ◌&&◌, not, nat_le, nat_lt, if◌then◌else◌, Bool, List, ℕ, ℤ, Option, Some, None, codes, decimal, map}
+use Rattle.std.specs.Borrow.{Bor}
 use Rattle.std.specs.Fmt.{signed_decimal}
 use Rattle.std.specs.List.{flat_map, enumerate_from}
-use Rattle.dvi_ops.specs.Body.{Mark, Glyph, Rule}
+use Rattle.dvi_ops.specs.Body.{Mark, Glyph, Rule, Special}
 use Rattle.dvi_ops.specs.File.{MarkedPage}
 use Rattle.dvi_pass.specs.View.{mark_of, page_of}
 use Rattle.dvi_listing.specs.declared.ahead.Lines.{Lines}
@@ -11,10 +12,31 @@ use Rattle.dvi_listing.specs.declared.ahead.Lines.{Lines}
 unfoldable pub line : List ℕ → List ℤ → List ℕ
 line words numbers = words ++ (flat_map (λ number. codes " " ++ signed_decimal number) numbers ++ (10 ∷ []))
 
--- the line of a mark: a glyph's font, character and place, or a rule's place, height and width
+-- a lower case hexadecimal digit
+abbrev pub hexadecimal_digit : ℕ → ℕ
+hexadecimal_digit n = if nat_lt n 10 then 48 + n else 87 + n
+
+-- whether a byte of a special is shown as it is: it is printable, and no backslash
+abbrev pub is_shown_plainly : ℕ → Bool
+is_shown_plainly byte = nat_le 32 byte && nat_le byte 126 && not (byte == 92)
+
+-- a byte of a special: as it is, or a backslash and two hexadecimal digits
+unfoldable pub shown_byte : ℕ → List ℕ
+shown_byte byte = if is_shown_plainly byte then byte ∷ [] else 92 ∷ hexadecimal_digit (byte / 16) ∷ hexadecimal_digit (byte % 16) ∷ []
+
+-- the end of the line of a special: its text, and a line feed
+unfoldable pub text_line : List ℕ → List ℕ
+text_line text = flat_map shown_byte text ++ (10 ∷ [])
+
+-- the line of a special: its place, then a space and its text
+unfoldable pub special_line : (h v : ℤ) → (text : List ℕ) → List ℕ
+special_line h v text = codes "special" ++ (flat_map (λ number. codes " " ++ signed_decimal number) (h ∷ v ∷ []) ++ (codes " " ++ text_line text))
+
+-- the line of a mark: a glyph's font, character and place; a rule's place, height and width; a special's place and text
 abbrev pub mark_line : Mark → List ℕ
 mark_line (Glyph font code h v) = line (codes "glyph") (font ∷ code ∷ h ∷ v ∷ [])
 mark_line (Rule h v height width) = line (codes "rule") (h ∷ v ∷ height ∷ width ∷ [])
+mark_line (Special h v text) = special_line h v text
 
 -- the lines of the page with this number: its counts, then its marks
 unfoldable pub page_lines : ℕ → MarkedPage → List ℕ
@@ -28,6 +50,11 @@ pages_lines number pages = flat_map (λ p. page_lines p.0 p.1) (enumerate_from n
 abbrev pub listing : List MarkedPage → List ℕ
 listing pages = pages_lines 1 pages
 
--- the lines that are still to come: those of the marks of a page, and those of the pages after it
+-- what is still to come of the line of a special, where one was begun
+abbrev pub text_ahead : Option (Bor (List ℕ)) → List ℕ
+text_ahead None = []
+text_ahead (Some text) = text_line text.now
+
+-- what is still to come of a listing: the rest of a line that was begun, the lines of the marks of a page, and those of the pages after it
 abbrev pub lines_ahead : Lines → List ℕ
-lines_ahead l = flat_map mark_line (map mark_of l.marks.now) ++ pages_lines (l.before + 1) (map page_of l.pages.now)
+lines_ahead l = text_ahead l.text ++ (flat_map mark_line (map mark_of l.marks.now) ++ pages_lines (l.before + 1) (map page_of l.pages.now))

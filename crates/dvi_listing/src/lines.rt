@@ -1,55 +1,88 @@
-//! A line of a listing.
+//! The lines of a listing, each put into a part.
 
 ghost use Rattle.std.specs.Prelude.{◌≡◌, ◌++◌, ◌+◌, ◌*◌, ◌<◌, ◌≤◌, [], ◌∷◌, codes, decimal, length};
 ghost use Rattle.std.specs.Fmt.{signed_decimal};
 ghost use Rattle.std.specs.List.{flat_map};
-ghost use Rattle.arrayvec.specs.ArrayString.{array_string_len};
-ghost use Rattle.dvi_listing.specs.Listing.{line, mark_line};
-ghost use Rattle.dvi_listing.specs.declared.lines.TheConstants.{LINE};
+ghost use Rattle.dvi_listing.specs.Listing.{hexadecimal_digit, is_shown_plainly, line, mark_line, shown_byte, text_ahead, text_line};
+ghost use Rattle.dvi_listing.specs.declared.part.TheConstants.{PART};
 ghost use Rattle.dvi_pass.specs.View.{mark_of};
 
-use arrayvec::ArrayString;
+use crate::part::Part;
 use dvi_pass::Mark;
-use itoa::Buffer;
 
-/// The most bytes of a line. The line of a page takes most: its number of up to 20 digits, and ten counts of up to 11 characters with a space before each.
-pub const LINE: usize = 153;
-
-/// A line, with its line feed.
-pub type Line = ArrayString<LINE>;
-
-/// Appends a number in decimal, with a space before it.
-fn push_number(number: i32, line: &mut Line)
-    requires { array_string_len line.old + 12 ≤ LINE }
-    ensures bytes { line.new.bytes ≡ line.old.bytes ++ (codes " " ++ signed_decimal number) }
-    ensures len { array_string_len line.new ≤ array_string_len line.old + 12 }
+/// Puts numbers in decimal in front of what is there, with a space before each.
+fn put_numbers(numbers: &[i32], part: &mut Part)
+    requires { length part.old + 22 * length numbers.now ≤ PART }
+    ensures text { part.new ≡ flat_map (λ number. codes " " ++ signed_decimal number) numbers.now ++ part.old }
+    ensures len { length part.new ≤ length part.old + 22 * length numbers.now }
 {
-    let mut buffer = Buffer::new();
-    line.push_str(" ");
-    line.push_str(buffer.format(number));
-}
-
-/// Ends a line by numbers in decimal, with a space before each.
-fn push_numbers(numbers: &[i32], line: &mut Line)
-    requires { array_string_len line.old + 12 * length numbers.now < LINE }
-    ensures { line.new.bytes ≡ line.old.bytes ++ (flat_map (λ number. codes " " ++ signed_decimal number) numbers.now ++ (10 ∷ [])) }
-{
-    for number in numbers {
-        push_number(*number, line);
+    for place in (0..numbers.len()).rev() {
+        part.put_number(numbers[place]);
     }
-    line.push_str("\n");
 }
 
-/// The line of a mark.
-#[tactic(auto, unfolding(crate::specs::Listing::line))]
-pub(crate) fn mark_line(mark: &Mark) -> Line
-    ensures { result.bytes ≡ mark_line (mark_of mark.now) }
+/// The digit of a number below 16.
+fn hexadecimal_digit(number: u8) -> u8
+    requires { number < 16 }
+    ensures { result ≡ hexadecimal_digit number }
 {
-    let mut line = Line::new();
+    if number < 10 {
+        b'0' + number
+    } else {
+        b'a' + (number - 10)
+    }
+}
+
+/// Whether a byte of a special is shown as it is: it is printable, and no backslash.
+fn is_shown_plainly(byte: u8) -> bool
+    ensures { result ≡ is_shown_plainly byte }
+{
+    32 <= byte && byte <= 126 && byte != b'\\'
+}
+
+/// Makes an empty part a byte of a special.
+#[tactic(auto, unfolding(crate::specs::Listing::shown_byte))]
+fn put_shown(byte: u8, part: &mut Part)
+    requires { part.old ≡ [] }
+    ensures { part.new ≡ shown_byte byte }
+{
+    if is_shown_plainly(byte) {
+        part.put_byte(byte);
+        return;
+    }
+    part.put_byte(hexadecimal_digit(byte % 16));
+    part.put_byte(hexadecimal_digit(byte / 16));
+    part.put_byte(b'\\');
+}
+
+/// Makes an empty part the next byte of the text of a special, or the line feed after it. Reports what is still to come.
+#[tactic(auto, unfolding(crate::specs::Listing::text_line))]
+pub(crate) fn put_text<'f>(text: &'f [u8], part: &mut Part) -> Option<&'f [u8]>
+    requires { part.old ≡ [] }
+    ensures all { text_line text.now ≡ part.new ++ text_ahead result }
+    ensures filled { 0 < length part.new }
+{
+    let [byte, rest @ ..] = text else {
+        part.put_byte(b'\n');
+        return None;
+    };
+    put_shown(*byte, part);
+    Some(rest)
+}
+
+/// Makes an empty part the line of a mark. Reports what is still to come of it: the text of a special.
+#[tactic(auto, unfolding(crate::specs::Listing::line, crate::specs::Listing::special_line))]
+pub(crate) fn put_mark<'f>(mark: &Mark<'f>, part: &mut Part) -> Option<&'f [u8]>
+    requires { part.old ≡ [] }
+    ensures all { mark_line (mark_of mark.now) ≡ part.new ++ text_ahead result }
+    ensures filled { 0 < length part.new }
+{
     match *mark {
         Mark::Glyph { font, code, h, v } => {
-            line.push_str("glyph");
-            push_numbers(&[font, code, h, v], &mut line);
+            part.put_byte(b'\n');
+            put_numbers(&[font, code, h, v], part);
+            part.put_word("glyph");
+            None
         }
         Mark::Rule {
             h,
@@ -57,23 +90,29 @@ pub(crate) fn mark_line(mark: &Mark) -> Line
             height,
             width,
         } => {
-            line.push_str("rule");
-            push_numbers(&[h, v, height, width], &mut line);
+            part.put_byte(b'\n');
+            put_numbers(&[h, v, height, width], part);
+            part.put_word("rule");
+            None
+        }
+        Mark::Special { h, v, text } => {
+            part.put_byte(b' ');
+            put_numbers(&[h, v], part);
+            part.put_word("special");
+            Some(text)
         }
     }
-    line
 }
 
-/// The line that begins a page: its number and its counts.
+/// Makes an empty part the line that begins a page: its number and its counts.
 #[tactic(auto, unfolding(crate::specs::Listing::line))]
-pub(crate) fn counts_line(page: usize, counts: &[i32; 10]) -> Line
-    ensures { result.bytes ≡ line (codes "page " ++ (decimal page ++ codes " counts")) counts.now }
+pub(crate) fn put_counts(page: usize, counts: &[i32; 10], part: &mut Part)
+    requires { part.old ≡ [] }
+    ensures { part.new ≡ line (codes "page " ++ (decimal page ++ codes " counts")) counts.now }
 {
-    let mut line = Line::new();
-    let mut buffer = Buffer::new();
-    line.push_str("page ");
-    line.push_str(buffer.format(page));
-    line.push_str(" counts");
-    push_numbers(counts, &mut line);
-    line
+    part.put_byte(b'\n');
+    put_numbers(counts, part);
+    part.put_word(" counts");
+    part.put_digits(page as u64);
+    part.put_word("page ");
 }

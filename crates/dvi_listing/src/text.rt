@@ -1,62 +1,101 @@
 //! The text of a listing.
 
-ghost use Rattle.std.specs.Prelude.{◌≡◌, ◌++◌, ◌<◌, [], length, map, take, IfNone, IfSome, OnErr, OnOk};
+ghost use Rattle.std.specs.Prelude.{◌≡◌, ◌++◌, ◌+◌, ◌<◌, ◌≤◌, [], false, length, map, take, vec_capacity, vec_len, IsTrue, OnErr, OnOk};
 ghost use Rattle.dvi_pass.specs.View.{page_of};
 ghost use Rattle.dvi_listing.specs.Listing.{lines_ahead, listing};
+ghost use Rattle.dvi_listing.specs.declared.part.TheConstants.{PART};
 
 use crate::ahead::Lines;
-use crate::lines::{Line, counts_line, mark_line};
+use crate::lines::{put_counts, put_mark, put_text};
+use crate::part::{PART, Part};
 use dvi_pass::Page;
 use std::alloc::AllocError;
 
-impl<'a> Lines<'a> {
+impl<'a, 'f> Lines<'a, 'f> {
     /// All lines of the listing of these pages.
-    pub fn new(pages: &'a [Page]) -> Lines<'a>
+    pub fn new(pages: &'a [Page<'f>]) -> Lines<'a, 'f>
         ensures { lines_ahead result ≡ listing (map page_of pages.now) }
     {
         Lines {
+            text: None,
             marks: &[],
             pages,
             before: 0,
         }
     }
 
-    /// The next line, if there is one. Each has a byte at least: its line feed.
-    pub fn next(&mut self) -> Option<Line>
-        ensures some { IfSome result (λ line. lines_ahead self.old ≡ line.bytes ++ lines_ahead self.new) }
-        ensures none { IfNone result (lines_ahead self.old ≡ []) }
-        ensures filled { IfSome result (λ line. 0 < length line.bytes) }
+    /// Makes a part the next line, but of a special the beginning of its line, or the next byte. Reports whether there was one.
+    fn next(&mut self, part: &mut Part) -> bool
+        ensures some { IsTrue result → lines_ahead self.old ≡ part.new ++ lines_ahead self.new }
+        ensures none { result ≡ false → lines_ahead self.old ≡ [] }
+        ensures still { result ≡ false → self.new ≡ self.old }
+        ensures filled { IsTrue result → 0 < length part.new }
     {
+        part.clear();
+        if let Some(text) = self.text {
+            self.text = put_text(text, part);
+            return true;
+        }
         if let [mark, rest @ ..] = self.marks {
             self.marks = rest;
-            return Some(mark_line(mark));
+            self.text = put_mark(mark, part);
+            return true;
         }
         let [page, rest @ ..] = self.pages else {
-            return None;
+            return false;
         };
         self.marks = &page.marks;
         self.pages = rest;
         self.before += 1;
-        Some(counts_line(self.before, &page.counts))
+        put_counts(self.before, &page.counts, part);
+        true
+    }
+
+    /// Appends what comes next, as far as `text` has room for it, and takes no memory.
+    fn fill(&mut self, text: &mut Vec<u8>)
+        ensures all { text.new.items ++ lines_ahead self.new ≡ text.old.items ++ lines_ahead self.old }
+        ensures filled { vec_len text.old + PART ≤ vec_capacity text.old → 0 < length (lines_ahead self.old) → vec_len text.old < vec_len text.new }
+        ensures capacity { vec_capacity text.old ≤ vec_capacity text.new }
+    {
+        let mut part = Part::new();
+        while text.capacity() - text.len() >= PART && self.next(&mut part) {
+            let Ok(()) = text.extend_from_slice(part.as_bytes()) else {
+                unreachable!()
+            };
+        }
+    }
+
+    /// Makes `piece`, which has room for PART bytes at least, what comes next of the listing. Reports whether there was something. It takes no memory.
+    pub fn next_piece(&mut self, piece: &mut Vec<u8>) -> bool
+        requires { PART ≤ vec_capacity piece.old }
+        ensures all { lines_ahead self.old ≡ piece.new.items ++ lines_ahead self.new }
+        ensures none { result ≡ false → lines_ahead self.old ≡ [] }
+        ensures some { IsTrue result → 0 < length piece.new.items }
+        ensures capacity { vec_capacity piece.old ≤ vec_capacity piece.new }
+    {
+        piece.clear();
+        self.fill(piece);
+        !piece.is_empty()
     }
 }
 
 /// Appends all lines, or a front of them.
-fn push_lines(pages: &[Page], text: &mut Vec<u8>) -> Result<(), AllocError>
+fn push_lines(pages: &[Page<'_>], text: &mut Vec<u8>) -> Result<(), AllocError>
     ensures ok { OnOk result (text.new.items ≡ text.old.items ++ listing (map page_of pages.now)) }
     ensures front { take (length text.old.items) text.new.items ≡ text.old.items }
 {
     let mut lines = Lines::new(pages);
-    while let Some(line) = lines.next() {
-        text.extend_from_slice(line.as_str().as_bytes())?;
+    let mut part = Part::new();
+    while lines.next(&mut part) {
+        text.extend_from_slice(part.as_bytes())?;
     }
     Ok(())
 }
 
 /// Appends the listing of pages, which are numbered from 1: a line `page I counts c0 .. c9` for each, and then a line for each of its marks,
-/// `glyph FONT CODE H V` or `rule H V HEIGHT WIDTH`, in DVI units and decimal numbers (the marks are DVItype's, 15; the text is own).
+/// `glyph FONT CODE H V`, `rule H V HEIGHT WIDTH` or `special H V TEXT`, in DVI units and decimal numbers (the marks are DVItype's, 15 and 16; the text is own).
 /// Where memory is refused, `text` is as it was.
-pub fn listing(pages: &[Page], text: &mut Vec<u8>) -> Result<(), AllocError>
+pub fn listing(pages: &[Page<'_>], text: &mut Vec<u8>) -> Result<(), AllocError>
     ensures ok { OnOk result (text.new.items ≡ text.old.items ++ listing (map page_of pages.now)) }
     ensures err { OnErr result (text.new.items ≡ text.old.items) }
 {

@@ -5,6 +5,7 @@
 mod faults;
 mod output;
 
+pub use dvi_listing::{Lines, PART};
 pub use dvi_read::{Dvi, DviFault};
-pub use output::{Output, PaintFault, list_text, paint_text};
+pub use output::{Output, PaintFault, list_text, paint_text, refusal};
 pub use tfm_core::FontFile;

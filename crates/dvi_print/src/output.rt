@@ -59,7 +59,7 @@ fn wants_memory(fault: DviFault) -> bool
 }
 
 /// What is printed of a file that is refused. An Err says that a growth was refused, here or before.
-fn refusal(alloc: Global, fault: DviFault) -> Result<Output, AllocError>
+pub fn refusal(alloc: Global, fault: DviFault) -> Result<Output, AllocError>
     ensures text { IfOk result (λ output. output.text.items ≡ fault_line fault) }
     ensures refused { IfOk result (λ output. output.accepted ≡ false) }
     ensures other { OnOk result (fault ≢ DviFault.OutOfMemory) }
@@ -94,7 +94,7 @@ pub fn list_text(alloc: Global, dvi: &[u8], files: &[FontFile]) -> Result<Output
 /// The bitmap of a page, in plain PBM.
 fn page_text(
     alloc: Global,
-    page: &Page,
+    page: &Page<'_>,
     units: Units,
     dpi: u32,
     width: u32,

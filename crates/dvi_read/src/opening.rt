@@ -1,7 +1,7 @@
 //! A DVI file that was checked as a whole (DVItype, 13 to 20).
 
 ghost use Rattle.std.specs.Prelude.{◌≡◌, ◌≢◌, ◌++◌, ◌<◌, length, map, slice_get, IfErr, IfOk, OnErr, OnOk, Some};
-ghost use Rattle.dvi_listing.specs.Listing.{listing as listing_of};
+ghost use Rattle.dvi_listing.specs.Listing.{lines_ahead, listing as listing_of};
 ghost use Rattle.dvi_ops.specs.File.{AreUnits, IsFile};
 ghost use Rattle.dvi_ops.specs.View.{definition, units as view_units};
 ghost use Rattle.dvi_pass.specs.View.{page_of};
@@ -12,7 +12,7 @@ ghost use Rattle.tfm_core.specs.FileWidths.{file_widths};
 
 use crate::before_pages::{Front, find_front};
 use crate::reading::{finish, read_pages};
-use dvi_listing::listing;
+use dvi_listing::{Lines, listing};
 use dvi_ops::{FontDefinition, Units};
 use dvi_pass::Page;
 use dvi_walk::{DviFault, Walk};
@@ -24,7 +24,7 @@ use tfm_core::FontFile;
 #[derive(Drop)]
 pub struct Dvi<'a> {
     units: Units,
-    pages: Vec<Page>,
+    pages: Vec<Page<'a>>,
     fonts: Vec<FontDefinition<'a>>,
 }
 
@@ -60,23 +60,14 @@ fn read_file<'a>(alloc: Global, bytes: &'a [u8], files: &[FontFile]) -> Result<D
     ensures ok { IfOk result (IsReadFrom files.now bytes.now) }
     ensures bad { IfErr result (IsDviFault files.now bytes.now) }
 {
-    let front = match find_front(alloc, bytes) {
-        Ok(front) => front,
-        Err(fault) => return Err(fault),
-    };
     let Front {
         ending,
         chain,
         from,
-    } = front;
-    let mut walk = match read_pages(alloc, bytes, files, &ending, from, chain) {
-        Ok(walk) => walk,
-        Err(fault) => return Err(fault),
-    };
-    match finish(bytes, &ending, &mut walk) {
-        Ok(()) => Ok(kept(ending.stop.units, walk)),
-        Err(fault) => Err(fault),
-    }
+    } = find_front(alloc, bytes)?;
+    let mut walk = read_pages(alloc, bytes, files, &ending, from, chain)?;
+    finish(bytes, &ending, &mut walk)?;
+    Ok(kept(ending.stop.units, walk))
 }
 
 impl<'a> Dvi<'a> {
@@ -107,7 +98,7 @@ impl<'a> Dvi<'a> {
     }
 
     /// A page, with its number counted from 0.
-    pub fn page(&self, index: usize) -> &Page
+    pub fn page(&self, index: usize) -> &Page<'a>
         requires { index < length self.now.pages }
         ensures { slice_get self.now.pages index ≡ Some (page_of result.now) }
     {
@@ -127,6 +118,13 @@ impl<'a> Dvi<'a> {
         ensures { map definition result.now ≡ self.now.fonts }
     {
         &self.fonts
+    }
+
+    /// The lines of the listing of all pages.
+    pub fn lines(&self) -> Lines<'_, 'a>
+        ensures { lines_ahead result ≡ listing_of self.now.pages }
+    {
+        Lines::new(&self.pages)
     }
 
     /// Appends the listing of all pages. Where memory is refused, `text` is as it was.

@@ -4,7 +4,7 @@ use Rattle.std.specs.Int.{div_ceil}
 use Rattle.std.specs.List.{list_any}
 use Rattle.scaled_core.specs.Rounding.{rounded}
 use Rattle.dvi_ops.specs.Instruction.{Units}
-use Rattle.dvi_ops.specs.Body.{Mark, Glyph, Rule}
+use Rattle.dvi_ops.specs.Body.{Mark, Glyph, Rule, Special}
 
 -- How many pixels a DVI unit has, as a fraction: a unit is num / den times 10^-7 metres, enlarged by mag / 1000, and an inch, which is
 -- 254000 times 10^-7 metres, has dpi pixels (DVItype, 17, and its conversion).
@@ -39,10 +39,11 @@ in_columns s h width x = spans (place s h) (place s h +ℤ pos (pixels s width) 
 unfoldable pub in_rows : Scale → (v height : ℤ) → (y : ℕ) → Bool
 in_rows s v height y = spans (place s v -ℤ pos (pixels s height) +ℤ pos 1) (place s v) y
 
--- Whether a mark covers the pixel of column x and row y: a rule does in its columns and rows, and a glyph is not painted (own).
+-- Whether a mark covers the pixel of column x and row y: a rule does in its columns and rows, and neither a glyph nor a special is painted (own).
 abbrev pub covers : Scale → Mark → (x y : ℕ) → Bool
 covers s (Glyph font code h v) x y = false
 covers s (Rule h v height width) x y = in_columns s h width x && in_rows s v height y
+covers s (Special h v text) x y = false
 
 -- Whether one of the marks covers the pixel (own).
 abbrev pub is_covered : Scale → List Mark → (x y : ℕ) → Bool

@@ -61,9 +61,9 @@ impl Bitmap {
 
     /// Makes black what the rules of a page cover, with positive units and at most 10,000 pixels to an inch. The pixel of column 0 and row 0 is that
     /// of the page's origin, columns go to the right and rows downward; what lies outside is cut. A rule's bottom left corner falls on the nearest
-    /// pixel, halves away from zero, its sizes are rounded up (DVItype, pixel_round and rule_pixels), and no glyph is painted. It takes no memory,
+    /// pixel, halves away from zero, its sizes are rounded up (DVItype, pixel_round and rule_pixels), and neither glyphs nor specials are painted. It takes no memory,
     /// and its time is that of the rows that the rules touch, and of the words that they make black.
-    pub fn paint(&mut self, page: &Page, units: Units, dpi: u32)
+    pub fn paint(&mut self, page: &Page<'_>, units: Units, dpi: u32)
         requires units { AreUnits (units_of units) }
         requires dpi { dpi ≤ 10000 }
         ensures { self.new ≡ painted (is_covered (scale_of (units_of units) dpi) (page_of page.now).marks) self.old }
@@ -122,7 +122,7 @@ fn paint_mark(
     width: usize,
     height: usize,
     scale: Scale,
-    mark: Mark,
+    mark: Mark<'_>,
 )
     requires columns { width ≤ 64 * length mask.old }
     requires rows { height * length mask.old ≤ length words.old }
@@ -131,7 +131,7 @@ fn paint_mark(
     requires full { AreFull full.old words.old (length mask.old) }
     ensures full { AreFull full.new words.new (length mask.old) }
     ensures pixels { (x y : ℕ) → x < width → y < height
-        → in_rows words.new (length mask.old) x y ≡ (in_rows words.old (length mask.old) x y || covers scale (mark_of mark) x y) }
+        → in_rows words.new (length mask.old) x y ≡ (in_rows words.old (length mask.old) x y || covers scale (mark_of mark.entry) x y) }
 {
     if let Mark::Rule {
         h,
@@ -154,7 +154,7 @@ fn paint_marks(
     width: usize,
     height: usize,
     scale: Scale,
-    marks: &[Mark],
+    marks: &[Mark<'_>],
 )
     requires columns { width ≤ 64 * length mask.old }
     requires rows { height * length mask.old ≤ length words.old }

@@ -12,7 +12,7 @@ use Rattle.node_core.specs.Nodes.{nodes_of}
 use Rattle.node_core.specs.declared.tree.Kind.{Kind}
 use Rattle.dvi_ops.specs.Body as body
 use Rattle.dvi_ops.specs.Forest.{Forest, Then, flat}
-use Rattle.ship_core.specs.Drawing.{Picture, stroke, group, grouped, moved_by, selected, ruled, behind_rule, font_behind, drawn}
+use Rattle.ship_core.specs.Drawing.{Picture, stroke, group, grouped, moved_by, selected, ruled, after_rule, font_after, drawn}
 use Rattle.ship_core.specs.declared.placing.Ink.{Ink}
 use Rattle.ship_core.specs.declared.placing.Ink.TheVariants as ink
 use Rattle.ship_core.specs.declared.drawing.Drawing.{Drawing}
@@ -36,7 +36,7 @@ pub flat-drawn_rule :
     (kind : Kind) (h v : ℤ) (current : Option ℤ) (x y height width by : ℤ) (rest : Picture)
     → flat (drawn kind h v current (stroke (body.Rule x y height width) by rest))
     ≡ movement Across (x -ℤ h)
-    ++ (movement Downward (y -ℤ v) ++ (Do (ruled kind height width) ∷ flat (drawn kind (behind_rule kind x width) y current rest)))
+    ++ (movement Downward (y -ℤ v) ++ (Do (ruled kind height width) ∷ flat (drawn kind (after_rule kind x width) y current rest)))
 flat-drawn_rule kind h v current x y height width by rest =
     flat-moved_by Across (x -ℤ h) _ ∙ ap (λ is. movement Across (x -ℤ h) ++ is) (flat-moved_by Downward (y -ℤ v) _)
 
@@ -85,7 +85,7 @@ drawn_mark kind before after h v current left x y width end down i rest is edge 
 -- And it leaves the same font behind them.
 pub left_font :
     (current left : Option ℤ) (x y width : ℤ) (i : Ink) (rest : Picture) → left ≡ left_by current i
-    → font_behind current (stroke (mark_with x y width i) width rest) ≡ font_behind left rest
+    → font_after current (stroke (mark_with x y width i) width rest) ≡ font_after left rest
 left_font current left x y width (ink.Rule height) rest font = rw font refl
 left_font current left x y width (ink.Glyph slot code) rest font = rw font refl
 
@@ -142,8 +142,8 @@ pub drawn_group :
     → after.h ≡ before.h → after.v ≡ before.v → after.font ≡ inside.font
     → Draws kind before (group own inner rest) after rest
 drawn_group kind own before opened inside after inner rest push h v font drawn left pop right down same =
-    let current : leaves opened inner ≡ leaves before inner = ap (λ (f : Option ℕ). font_behind (option_map pos f) inner) font in
+    let current : leaves opened inner ≡ leaves before inner = ap (λ (f : Option ℕ). font_after (option_map pos f) inner) font in
     let behind : option_map pos after.font ≡ leaves before inner = ap (option_map pos) same ∙ (left ∙ current) in (
       rw (behind, right, down, pop, drawn, h, v, font, push) (simp append_assoc),
-      ap (λ (f : Option ℤ). font_behind f rest) (sym behind),
+      ap (λ (f : Option ℤ). font_after f rest) (sym behind),
     )

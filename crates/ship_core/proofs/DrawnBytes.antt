@@ -1,5 +1,5 @@
 -- How many bytes the body of a page takes at most.
-use Rattle.std.proofs.Common.{◌≡◌, ℕ, zero, suc, ◌+◌, ◌*◌, ◌<◌, ◌≤◌, [], ◌∷◌, ◌++◌, length, refl, arith, length-append}
+use Rattle.std.proofs.Common.{◌≡◌, ℕ, zero, suc, ◌+◌, ◌*◌, ◌<◌, ◌≤◌, List, [], ◌∷◌, ◌++◌, length, refl, arith, length-append}
 use Rattle.std.specs.Prelude.{ℤ, pos, negsuc, ◌+ℤ◌, ◌-ℤ◌, Bool, true, false, nat_lt, if◌then◌else◌, Option, Some, None}
 use Rattle.std.specs.List.{AllByRecursion}
 use Rattle.std.specs.Ordering.{int_eq}
@@ -8,7 +8,7 @@ use Rattle.node_core.specs.declared.tree.Kind.{Kind}
 use Rattle.node_core.specs.declared.tree.Kind.TheVariants.{Horizontal, Vertical}
 use Rattle.node_core.specs.declared.tree.BoxNode.{BoxNode}
 use Rattle.node_core.specs.Items.{Leaf, glyph, font_kern, kern, glue, penalty, rule, EachLeaf, items_count}
-use Rattle.dvi_ops.specs.Instruction.{Axis, Across, Downward, By, Move, SetChar, SetRule, PutRule, FontNum, Do, Push, Pop}
+use Rattle.dvi_ops.specs.Instruction.{Axis, Across, Downward, By, Move, SetChar, SetRule, PutRule, FontNum, Xxx, Do, Push, Pop}
 use Rattle.dvi_ops.specs.Body as body
 use Rattle.dvi_ops.specs.Body.{Mark, Widths}
 use Rattle.dvi_ops.specs.Forest.{Forest, Then, flat}
@@ -16,12 +16,12 @@ use Rattle.dvi_ops.specs.Spelling.{operand, code_size, char_spelling, font_spell
 use Rattle.dvi_ops.specs.Layout.{bytes_of}
 use Rattle.dvi_ops.proofs.Layouts.{length-bytes_of-append}
 use Rattle.dvi_ops.proofs.Spelled.{operand_length}
-use Rattle.dvi_ops.proofs.Shortest.{brief_length, movement_length, one_byte}
+use Rattle.dvi_ops.proofs.Shortest.{brief_length, special_length, movement_length, one_byte}
 use Rattle.ship_core.specs.Marks.{Page, rule_below, rule_tall, rule_wide, mark_of, page_v}
-use Rattle.ship_core.specs.Drawing.{Picture, blank, stroke, group, width_in, moved_by, selected, ruled, behind_rule, font_behind, drawn, picture_of_page, body_of}
+use Rattle.ship_core.specs.Drawing.{Picture, blank, stroke, group, width_in, moved_by, selected, ruled, after_rule, font_after, drawn, picture_of_page, body_of}
 use Rattle.ship_core.specs.Shown.{HasWidth}
 use Rattle.ship_core.proofs.DrawnMarks.{EachStroke, IsByte}
-use Rattle.ship_core.proofs.Pictures.{parts, each_rule, each_glyph, each_behind, few_parts}
+use Rattle.ship_core.proofs.Pictures.{parts, texts, each_rule, each_glyph, each_behind, few_parts, no_texts}
 
 moved_bytes : (axis : Axis) (z : ℤ) (rest : Forest) → length (bytes_of (flat (moved_by axis z rest))) ≤ 5 + length (bytes_of (flat rest))
 moved_bytes axis (pos zero) rest = omega arith
@@ -70,13 +70,14 @@ selected_bytes (Some current) font rest small = by_test (int_eq font current)
 abbrev pub IsOfBytes : Kind → Mark → (by : ℤ) → Type 0
 IsOfBytes kind (body.Rule x y height width) by = Unit {0}
 IsOfBytes kind (body.Glyph font code x y) by = IsByte font × IsByte code
+IsOfBytes kind (body.Special x y text) by = Unit {0}
 
--- A stroke takes at most 19 bytes, and a group 2 more than what stands in it.
+-- A stroke takes at most 19 bytes beside the text of a special, and a group 2 more than what stands in it.
 pub drawing_bytes :
-    (kind : Kind) (h v : ℤ) (current : Option ℤ) (p : Picture) → EachStroke IsOfBytes kind p → length (bytes_of (flat (drawn kind h v current p))) ≤ 19 * parts p
+    (kind : Kind) (h v : ℤ) (current : Option ℤ) (p : Picture) → EachStroke IsOfBytes kind p → length (bytes_of (flat (drawn kind h v current p))) ≤ 19 * parts p + texts p
 drawing_bytes kind h v current blank all = omega arith
 drawing_bytes kind h v current (stroke (body.Rule x y height width) by rest) (here, all) =
-    let others = drawn kind (behind_rule kind x width) y current rest in
+    let others = drawn kind (after_rule kind x width) y current rest in
     let ink = Then (ruled kind height width) others in
     omega (
       arith,
@@ -84,7 +85,7 @@ drawing_bytes kind h v current (stroke (body.Rule x y height width) by rest) (he
       moved_bytes Downward (y -ℤ v) ink,
       length-append (spelling (Do (ruled kind height width))) (bytes_of (flat others)),
       length-rule kind height width,
-      drawing_bytes kind (behind_rule kind x width) y current rest all,
+      drawing_bytes kind (after_rule kind x width) y current rest all,
     )
 drawing_bytes kind h v current (stroke (body.Glyph font code x y) by rest) (here, all) =
     let others = drawn kind (x +ℤ by) y (Some font) rest in
@@ -98,9 +99,20 @@ drawing_bytes kind h v current (stroke (body.Glyph font code x y) by rest) (here
       length-char code here.1,
       drawing_bytes kind (x +ℤ by) y (Some font) rest all,
     )
+drawing_bytes kind h v current (stroke (body.Special x y text) by rest) (here, all) =
+    let others = drawn kind x y current rest in
+    let ink = Then (Xxx text) others in
+    omega (
+      arith,
+      moved_bytes Across (x -ℤ h) (moved_by Downward (y -ℤ v) ink),
+      moved_bytes Downward (y -ℤ v) ink,
+      length-append (spelling (Do (Xxx text))) (bytes_of (flat others)),
+      special_length text,
+      drawing_bytes kind x y current rest all,
+    )
 drawing_bytes kind h v current (group own inner rest) (within, all) =
     let first = flat (drawn own h v current inner) in
-    let others = flat (drawn kind h v (font_behind current inner) rest) in
+    let others = flat (drawn kind h v (font_after current inner) rest) in
     omega (
       arith,
       length-append (spelling Push) (bytes_of (first ++ Pop ∷ others)),
@@ -109,7 +121,7 @@ drawing_bytes kind h v current (group own inner rest) (within, all) =
       one_byte.1,
       one_byte.2,
       drawing_bytes own h v current inner within,
-      drawing_bytes kind h v (font_behind current inner) rest all,
+      drawing_bytes kind h v (font_after current inner) rest all,
     )
 
 -- The strokes of a leaf whose font and character are bytes.
@@ -134,4 +146,5 @@ body_bytes widths page all =
       arith,
       drawing_bytes b.kind (pos 0) (pos 0) None (picture_of_page page) (each_behind IsOfBytes (HasWidth widths) (leaf_bytes widths) b page.h (page_v page) [] b.list all),
       few_parts b page.h (page_v page) [] b.list,
+      no_texts b page.h (page_v page) [] b.list,
     )

@@ -1,5 +1,5 @@
 -- What is drawn for a picture has its marks, by the meaning of instructions, and can be spelled.
-use Rattle.std.proofs.Common.{◌≡◌, ℕ, zero, suc, ◌+◌, ◌<◌, max, ◌^◌, List, [], ◌∷◌, ◌++◌, refl, ap, sym, ◌∙◌, arith}
+use Rattle.std.proofs.Common.{◌≡◌, ℕ, zero, suc, ◌+◌, ◌<◌, max, ◌^◌, List, [], ◌∷◌, ◌++◌, length, refl, ap, sym, ◌∙◌, arith}
 use Rattle.std.specs.Prelude.{ℤ, pos, negsuc, ◌+ℤ◌, ◌-ℤ◌, ◌≤ℤ◌, neg_ℤ, Bool, true, false, ◌&&◌, if◌then◌else◌, int_lt, Option, Some, None}
 use Rattle.std.specs.List.{list_all, AllByRecursion}
 use Rattle.std.specs.Ordering.{int_eq}
@@ -9,14 +9,14 @@ use Rattle.std.proofs.lemmas.Bool.Decides.{Decides-int_eq}
 use Rattle.scaled_core.specs.Dimensions.{Within, fits}
 use Rattle.node_core.specs.declared.tree.Kind.{Kind}
 use Rattle.node_core.specs.declared.tree.Kind.TheVariants.{Horizontal, Vertical}
-use Rattle.dvi_ops.specs.Instruction.{Axis, Across, Downward, By, Move, SetChar, SetRule, PutRule, FontNum, Instruction, Do, Push, Pop}
+use Rattle.dvi_ops.specs.Instruction.{Axis, Across, Downward, By, Move, SetChar, SetRule, PutRule, FontNum, Xxx, Instruction, Do, Push, Pop}
 use Rattle.dvi_ops.specs.Body as body
 use Rattle.dvi_ops.specs.Body.{Mark, Place, State, Registers, Meaning, Widths, acts, kept, in_range}
 use Rattle.dvi_ops.specs.Forest.{Forest, Then, flat, meaning, nests, ahead, and_then, restored}
 use Rattle.dvi_ops.specs.Spelling.{NumberFits}
 use Rattle.dvi_ops.specs.Layout.{IsWritable}
 use Rattle.dvi_ops.proofs.Appends.{all_append}
-use Rattle.ship_core.specs.Drawing.{Picture, blank, stroke, group, moved_by, selected, ruled, behind_rule, font_behind, drawn}
+use Rattle.ship_core.specs.Drawing.{Picture, blank, stroke, group, moved_by, selected, ruled, after_rule, font_after, drawn}
 use Rattle.ship_core.specs.Shown.{at}
 use Rattle.scaled_core.proofs.Fitting.{fits_within}
 
@@ -32,10 +32,18 @@ EachStroke P kind blank = Unit {0}
 EachStroke P kind (stroke mark by rest) = P kind mark by × EachStroke P kind rest
 EachStroke P kind (group own inner rest) = EachStroke P own inner × EachStroke P kind rest
 
-pub every_stroke : (P : Kind → Mark → (by : ℤ) → Type 0) → ((kind : Kind) (mark : Mark) (by : ℤ) → P kind mark by) → (kind : Kind) (p : Picture) → EachStroke P kind p
-every_stroke P holds kind blank = tt
-every_stroke P holds kind (stroke mark by rest) = (holds kind mark by, every_stroke P holds kind rest)
-every_stroke P holds kind (group own inner rest) = (every_stroke P holds own inner, every_stroke P holds kind rest)
+pub stroke_map :
+    (P Q : Kind → Mark → (by : ℤ) → Type 0) → ((kind : Kind) (mark : Mark) (by : ℤ) → P kind mark by → Q kind mark by) → (kind : Kind) (p : Picture)
+    → EachStroke P kind p → EachStroke Q kind p
+stroke_map P Q goes kind blank all = tt
+stroke_map P Q goes kind (stroke mark by rest) (here, all) = (goes kind mark by here, stroke_map P Q goes kind rest all)
+stroke_map P Q goes kind (group own inner rest) (within, all) = (stroke_map P Q goes own inner within, stroke_map P Q goes kind rest all)
+
+-- The text of a special can be spelled.
+abbrev pub IsShort : Kind → Mark → (by : ℤ) → Type 0
+IsShort kind (body.Rule x y height width) by = Unit {0}
+IsShort kind (body.Glyph font code x y) by = Unit {0}
+IsShort kind (body.Special x y text) by = length text < 2 ^ 32
 
 -- A meaning has these marks, and leaves that font.
 pub record Shows (m : Meaning) (marks : List Mark) (font : Option ℤ) : Type 0 where
@@ -82,7 +90,7 @@ byte_fits (negsuc n) small = absurd small
 pub record IsSeen (kind : Kind) (x y height width : ℤ) : Type 0 where
   pub h : Within 1073741823 x
   pub v : Within 1073741823 y
-  pub end : Within 1073741823 (behind_rule kind x width)
+  pub end : Within 1073741823 (after_rule kind x width)
   pub tall : Within 1073741823 height
   pub wide : Within 1073741823 width
   pub positive : (int_lt (pos 0) height && int_lt (pos 0) width) ≡ true
@@ -96,9 +104,16 @@ pub record IsLettered (widths : Widths) (font code x y by : ℤ) : Type 0 where
   pub font_byte : IsByte font
   pub code_byte : IsByte code
 
+-- A special that can be drawn: its place fits, and its text can be spelled.
+pub record IsNoted (x y : ℤ) (text : List ℕ) : Type 0 where
+  pub h : Within 1073741823 x
+  pub v : Within 1073741823 y
+  pub short : length text < 2 ^ 32
+
 abbrev pub IsDrawn : Widths → Kind → Mark → (by : ℤ) → Type 0
 IsDrawn widths kind (body.Rule x y height width) by = IsSeen kind x y height width
 IsDrawn widths kind (body.Glyph font code x y) by = IsLettered widths font code x y by
+IsDrawn widths kind (body.Special x y text) by = IsNoted x y text
 
 ahead_none : (m : Meaning) → ahead [] m ≡ m
 ahead_none None = refl
@@ -149,7 +164,7 @@ module _ (widths : Widths) (held : Registers) where
 
   inked_rule :
       (kind : Kind) (h v height width : ℤ) (font : Option ℤ) (rest : Forest) → IsSeen kind h v height width
-      → shown (Then (ruled kind height width) rest) h v font ≡ ahead (body.Rule h v height width ∷ []) (shown rest (behind_rule kind h width) v font)
+      → shown (Then (ruled kind height width) rest) h v font ≡ ahead (body.Rule h v height width ∷ []) (shown rest (after_rule kind h width) v font)
   unfolding shown
   inked_rule Horizontal h v height width font rest seen = rw (point_within (h +ℤ width) seen.end, point_within v seen.v, seen.positive) refl
   inked_rule Vertical h v height width font rest seen = rw (point_within h seen.h, point_within v seen.v, seen.positive) refl
@@ -160,6 +175,12 @@ module _ (widths : Widths) (held : Registers) where
   unfolding shown
   lettered font code h v by rest can = rw (can.wide, point_within (h +ℤ by) can.end, point_within v can.v) refl
 
+  noted :
+      (h v : ℤ) (text : List ℕ) (font : Option ℤ) (rest : Forest) → IsNoted h v text
+      → shown (Then (Xxx text) rest) h v font ≡ ahead (body.Special h v text ∷ []) (shown rest h v font)
+  unfolding shown
+  noted h v text font rest can = rw (point_within h can.h, point_within v can.v) refl
+
   -- After a group, what follows begins at the place before it, with the font of its end.
   behind_group :
       (m : Meaning) (p : Place) (marks : List Mark) (last : State) (font : Option ℤ) (next : State → Meaning) → m ≡ Some (marks, last) → last.font ≡ font
@@ -169,12 +190,12 @@ module _ (widths : Widths) (held : Registers) where
   -- What is drawn for a picture has its marks, and leaves its font.
   pub drawn_marks :
       (kind : Kind) (h v : ℤ) (current : Option ℤ) (p : Picture) → in_range v ≡ true → EachStroke (IsDrawn widths) kind p
-      → Shows (meaning (kept (acts widths)) (drawn kind h v current p) (at h v held current)) (marks_in p) (font_behind current p)
+      → Shows (meaning (kept (acts widths)) (drawn kind h v current p) (at h v held current)) (marks_in p) (font_after current p)
   unfolding shown
   drawn_marks kind h v current blank below all = record { last = at h v held current; left = refl; shows = refl }
   drawn_marks kind h v current (stroke (body.Rule x y height width) by rest) below (seen, all) =
-      let later = drawn_marks kind (behind_rule kind x width) y current rest (point_within y seen.v) all in
-      let others = drawn kind (behind_rule kind x width) y current rest in
+      let later = drawn_marks kind (after_rule kind x width) y current rest (point_within y seen.v) all in
+      let others = drawn kind (after_rule kind x width) y current rest in
       record {
         last = later.last;
         left = later.left;
@@ -191,14 +212,23 @@ module _ (widths : Widths) (held : Registers) where
             ∙ (selected_font x y current font (Then (SetChar code) others) (point_within x can.h) (point_within y can.v)
             ∙ (lettered font code x y by others can ∙ ap (ahead (body.Glyph font code x y ∷ [])) later.shows));
       }
-  drawn_marks kind h v current (group own inner rest) below (within, all) =
-      let first = drawn_marks own h v current inner below within in
-      let later = drawn_marks kind h v (font_behind current inner) rest below all in
+  drawn_marks kind h v current (stroke (body.Special x y text) by rest) below (can, all) =
+      let later = drawn_marks kind x y current rest (point_within y can.v) all in
+      let others = drawn kind x y current rest in
       record {
         last = later.last;
         left = later.left;
-        shows = behind_group (shown (drawn own h v current inner) h v current) (at h v held current).place (marks_in inner) first.last (font_behind current inner)
-            (λ t. meaning (kept (acts widths)) (drawn kind h v (font_behind current inner) rest) t) first.shows first.left
+        shows = moved_to h v x y current (Then (Xxx text) others) below (point_within x can.h) (point_within y can.v)
+            ∙ (noted x y text current others can ∙ ap (ahead (body.Special x y text ∷ [])) later.shows);
+      }
+  drawn_marks kind h v current (group own inner rest) below (within, all) =
+      let first = drawn_marks own h v current inner below within in
+      let later = drawn_marks kind h v (font_after current inner) rest below all in
+      record {
+        last = later.last;
+        left = later.left;
+        shows = behind_group (shown (drawn own h v current inner) h v current) (at h v held current).place (marks_in inner) first.last (font_after current inner)
+            (λ t. meaning (kept (acts widths)) (drawn kind h v (font_after current inner) rest) t) first.shows first.left
             ∙ ap (ahead (marks_in inner)) later.shows;
       }
 
@@ -230,18 +260,21 @@ drawn_writable widths kind h v current (stroke (body.Rule x y height width) by r
     writable_movement Across (x -ℤ h) _ (difference_fits x h seen.h right)
     (writable_movement Downward (y -ℤ v) _ (difference_fits y v seen.v low) (
       writable_rule kind height width (number_within height seen.tall) (number_within width seen.wide),
-      drawn_writable widths kind (behind_rule kind x width) y current rest seen.end seen.v all,
+      drawn_writable widths kind (after_rule kind x width) y current rest seen.end seen.v all,
     ))
 drawn_writable widths kind h v current (stroke (body.Glyph font code x y) by rest) right low (can, all) =
     writable_movement Across (x -ℤ h) _ (difference_fits x h can.h right)
     (writable_movement Downward (y -ℤ v) _ (difference_fits y v can.v low)
     (writable_selection current font _ (byte_fits font can.font_byte)
     ((tt, byte_fits code can.code_byte), drawn_writable widths kind (x +ℤ by) y (Some font) rest can.end can.v all)))
+drawn_writable widths kind h v current (stroke (body.Special x y text) by rest) right low (can, all) =
+    writable_movement Across (x -ℤ h) _ (difference_fits x h can.h right)
+    (writable_movement Downward (y -ℤ v) _ (difference_fits y v can.v low) ((can.short, tt), drawn_writable widths kind x y current rest can.h can.v all))
 drawn_writable widths kind h v current (group own inner rest) right low (within, all) = (
   (tt, tt),
-  all_append IsWritable (flat (drawn own h v current inner)) (Pop ∷ flat (drawn kind h v (font_behind current inner) rest))
+  all_append IsWritable (flat (drawn own h v current inner)) (Pop ∷ flat (drawn kind h v (font_after current inner) rest))
       (drawn_writable widths own h v current inner right low within)
-      ((tt, tt), drawn_writable widths kind h v (font_behind current inner) rest right low all),
+      ((tt, tt), drawn_writable widths kind h v (font_after current inner) rest right low all),
 )
 
 -- What holds of movements, pushes and pops, and of what is made for each stroke, holds of each instruction that draws a picture.
@@ -250,6 +283,7 @@ module _ (P : Instruction → Type 0) where
   abbrev pub IsInked : Kind → Mark → (by : ℤ) → Type 0
   IsInked kind (body.Rule x y height width) by = P (Do (ruled kind height width))
   IsInked kind (body.Glyph font code x y) by = P (Do (FontNum font)) × P (Do (SetChar code))
+  IsInked kind (body.Special x y text) by = P (Do (Xxx text))
 
   pub record HoldsBetween : Type 0 where
     pub moves : (axis : Axis) (z : ℤ) → P (Do (Move axis (By z)))
@@ -276,16 +310,19 @@ module _ (P : Instruction → Type 0) where
   each_drawn holds kind h v current blank all = tt
   each_drawn holds kind h v current (stroke (body.Rule x y height width) by rest) (here, all) =
       each_movement Across (x -ℤ h) _ (holds.moves Across (x -ℤ h))
-      (each_movement Downward (y -ℤ v) _ (holds.moves Downward (y -ℤ v)) (here, each_drawn holds kind (behind_rule kind x width) y current rest all))
+      (each_movement Downward (y -ℤ v) _ (holds.moves Downward (y -ℤ v)) (here, each_drawn holds kind (after_rule kind x width) y current rest all))
   each_drawn holds kind h v current (stroke (body.Glyph font code x y) by rest) (here, all) =
       each_movement Across (x -ℤ h) _ (holds.moves Across (x -ℤ h))
       (each_movement Downward (y -ℤ v) _ (holds.moves Downward (y -ℤ v))
       (each_selection current font _ here.0 (here.1, each_drawn holds kind (x +ℤ by) y (Some font) rest all)))
+  each_drawn holds kind h v current (stroke (body.Special x y text) by rest) (here, all) =
+      each_movement Across (x -ℤ h) _ (holds.moves Across (x -ℤ h))
+      (each_movement Downward (y -ℤ v) _ (holds.moves Downward (y -ℤ v)) (here, each_drawn holds kind x y current rest all))
   each_drawn holds kind h v current (group own inner rest) (within, all) = (
     holds.push,
-    all_append P (flat (drawn own h v current inner)) (Pop ∷ flat (drawn kind h v (font_behind current inner) rest))
+    all_append P (flat (drawn own h v current inner)) (Pop ∷ flat (drawn kind h v (font_after current inner) rest))
         (each_drawn holds own h v current inner within)
-        (holds.pop, each_drawn holds kind h v (font_behind current inner) rest all),
+        (holds.pop, each_drawn holds kind h v (font_after current inner) rest all),
   )
 
   -- What holds of all that is made holds of each instruction.
@@ -295,14 +332,17 @@ module _ (P : Instruction → Type 0) where
     pub chars : (code : ℤ) → P (Do (SetChar code))
     pub set_rules : (height width : ℤ) → P (Do (SetRule height width))
     pub put_rules : (height width : ℤ) → P (Do (PutRule height width))
+    pub specials : (text : List ℕ) → length text < 2 ^ 32 → P (Do (Xxx text))
 
-  all_inked : HoldsOfAll → (kind : Kind) (mark : Mark) (by : ℤ) → IsInked kind mark by
-  all_inked holds Horizontal (body.Rule x y height width) by = holds.set_rules height width
-  all_inked holds Vertical (body.Rule x y height width) by = holds.put_rules height width
-  all_inked holds kind (body.Glyph font code x y) by = (holds.fonts font, holds.chars code)
+  all_inked : HoldsOfAll → (kind : Kind) (mark : Mark) (by : ℤ) → IsShort kind mark by → IsInked kind mark by
+  all_inked holds Horizontal (body.Rule x y height width) by short = holds.set_rules height width
+  all_inked holds Vertical (body.Rule x y height width) by short = holds.put_rules height width
+  all_inked holds kind (body.Glyph font code x y) by short = (holds.fonts font, holds.chars code)
+  all_inked holds kind (body.Special x y text) by short = holds.specials text short
 
-  pub all_drawn : HoldsOfAll → (kind : Kind) (h v : ℤ) (current : Option ℤ) (p : Picture) → AllByRecursion P (flat (drawn kind h v current p))
-  all_drawn holds kind h v current p = each_drawn holds.between kind h v current p (every_stroke IsInked (all_inked holds) kind p)
+  pub all_drawn :
+      HoldsOfAll → (kind : Kind) (h v : ℤ) (current : Option ℤ) (p : Picture) → EachStroke IsShort kind p → AllByRecursion P (flat (drawn kind h v current p))
+  all_drawn holds kind h v current p short = each_drawn holds.between kind h v current p (stroke_map IsShort IsInked (all_inked holds) kind p short)
 
 -- How deep the groups of a picture nest; and what is drawn for it opens as many.
 abbrev pub groups : Picture → ℕ
@@ -326,9 +366,11 @@ nests_selected (Some current) font rest = by_test (int_eq font current)
 pub nests-drawn : (kind : Kind) (h v : ℤ) (current : Option ℤ) (p : Picture) → nests (drawn kind h v current p) ≡ groups p
 nests-drawn kind h v current blank = refl
 nests-drawn kind h v current (stroke (body.Rule x y height width) by rest) =
-    nests_moved Across (x -ℤ h) _ ∙ (nests_moved Downward (y -ℤ v) _ ∙ nests-drawn kind (behind_rule kind x width) y current rest)
+    nests_moved Across (x -ℤ h) _ ∙ (nests_moved Downward (y -ℤ v) _ ∙ nests-drawn kind (after_rule kind x width) y current rest)
 nests-drawn kind h v current (stroke (body.Glyph font code x y) by rest) =
     nests_moved Across (x -ℤ h) _
     ∙ (nests_moved Downward (y -ℤ v) _ ∙ (nests_selected current font _ ∙ nests-drawn kind (x +ℤ by) y (Some font) rest))
+nests-drawn kind h v current (stroke (body.Special x y text) by rest) =
+    nests_moved Across (x -ℤ h) _ ∙ (nests_moved Downward (y -ℤ v) _ ∙ nests-drawn kind x y current rest)
 nests-drawn kind h v current (group own inner rest) =
-    omega (arith, nests-drawn own h v current inner, nests-drawn kind h v (font_behind current inner) rest)
+    omega (arith, nests-drawn own h v current inner, nests-drawn kind h v (font_after current inner) rest)

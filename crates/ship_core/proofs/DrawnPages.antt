@@ -7,7 +7,7 @@ use Rattle.scaled_core.specs.Dimensions.{Within, fits}
 use Rattle.node_core.specs.declared.tree.Kind.{Kind}
 use Rattle.node_core.specs.declared.tree.Kind.TheVariants.{Horizontal, Vertical}
 use Rattle.node_core.specs.declared.tree.BoxNode.{BoxNode}
-use Rattle.node_core.specs.Items.{Leaf, glyph, font_kern, kern, glue, penalty, rule, EachLeaf, items_depth}
+use Rattle.node_core.specs.Items.{Leaf, glyph, font_kern, kern, glue, penalty, rule, Items, none, leaf, box, EachLeaf, items_depth}
 use Rattle.dvi_ops.specs.Instruction.{Instruction}
 use Rattle.dvi_ops.specs.Body as body
 use Rattle.dvi_ops.specs.Body.{State, Registers, Widths, acts, kept}
@@ -21,7 +21,7 @@ use Rattle.ship_core.specs.Drawing.{width_in, picture_of_page, body_of}
 use Rattle.dvi_ops.specs.Plain.{NamesNoRegister}
 use Rattle.ship_core.specs.Shown.{HasWidth, at}
 use Rattle.ship_core.proofs.Places.{first_of_three, second_of_three, items_fit}
-use Rattle.ship_core.proofs.DrawnMarks.{EachStroke, IsDrawn, IsInked, HoldsOfAll, all_within, drawn_marks, drawn_writable, each_drawn, all_drawn, nests-drawn}
+use Rattle.ship_core.proofs.DrawnMarks.{EachStroke, IsDrawn, IsInked, IsShort, HoldsOfAll, all_within, drawn_marks, drawn_writable, each_drawn, all_drawn, nests-drawn}
 use Rattle.ship_core.proofs.Pictures.{marks-picture, each_rule, each_glyph, each_behind, strokes_drawn, few_groups}
 
 -- How far a page that is not huge reaches down and to the right fits.
@@ -66,10 +66,28 @@ unfolding body_of
 writable_page widths page small wide =
     drawn_writable widths page.box_node.kind (pos 0) (pos 0) None (picture_of_page page) zero_within zero_within (page_drawn widths page small wide)
 
+-- No item of a list is a special.
+every_leaf : (items : Items) → EachLeaf (λ x. Unit {0}) items
+every_leaf none = tt
+every_leaf (leaf x rest) = (tt, every_leaf rest)
+every_leaf (box shift frame inner rest) = (every_leaf inner, every_leaf rest)
+
+leaf_short : (b : BoxNode) (h v : ℤ) (x : Leaf) → Unit {0} → AllByRecursion (λ mark. IsShort b.kind mark (width_in b x)) (mark_of b h v x)
+leaf_short b h v (glyph g) u = each_glyph (λ mark. IsShort b.kind mark g.width) b.kind h v g tt
+leaf_short b h v (font_kern width) u = tt
+leaf_short b h v (kern width) u = tt
+leaf_short b h v (glue g) u = tt
+leaf_short b h v (penalty p) u = tt
+leaf_short b h v (rule r) u =
+    each_rule (λ mark. IsShort b.kind mark (rule_wide b.kind b r)) h (v +ℤ rule_below b.kind b r) (rule_tall b.kind b r) (rule_wide b.kind b r) tt
+
+short_page : (page : Page) → EachStroke IsShort page.box_node.kind (picture_of_page page)
+short_page page = each_behind IsShort (λ x. Unit {0}) leaf_short page.box_node page.h (page_v page) [] page.box_node.list (every_leaf page.box_node.list)
+
 -- What holds of all that is made for pages holds of each instruction of a body.
 pub each_page : (P : Instruction → Type 0) → HoldsOfAll P → (page : Page) → AllByRecursion P (flat (body_of page))
 unfolding body_of
-each_page P holds page = all_drawn P holds page.box_node.kind (pos 0) (pos 0) None (picture_of_page page)
+each_page P holds page = all_drawn P holds page.box_node.kind (pos 0) (pos 0) None (picture_of_page page) (short_page page)
 
 -- None names w, x, y or z.
 pub no_register_page : (page : Page) → AllByRecursion NamesNoRegister (flat (body_of page))
@@ -81,6 +99,7 @@ no_register_page page =
       chars = λ code. tt;
       set_rules = λ height width. tt;
       put_rules = λ height width. tt;
+      specials = λ text short. tt;
     }
     ) page
 
@@ -94,6 +113,7 @@ spelled_page page =
       chars = λ code. tt;
       set_rules = λ height width. tt;
       put_rules = λ height width. tt;
+      specials = λ text short. short;
     }
     ) page
 
@@ -112,6 +132,7 @@ definitions-page page =
       chars = λ code. refl;
       set_rules = λ height width. refl;
       put_rules = λ height width. refl;
+      specials = λ text short. refl;
     }
     ) page
     )

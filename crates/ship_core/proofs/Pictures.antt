@@ -18,7 +18,7 @@ use Rattle.dvi_ops.specs.Body.{Mark, Widths}
 use Rattle.dvi_ops.proofs.Appends.{all_front, all_back}
 use Rattle.pack_core.specs.Items.{own_size}
 use Rattle.ship_core.specs.Marks.{right_at, rule_below, rule_tall, rule_wide, rule_mark, glyph_mark, mark_of, list_v, item_h, item_v, box_h, box_v, marks_behind, numbers_at, numbers_behind}
-use Rattle.ship_core.specs.Drawing.{Picture, blank, stroke, group, width_in, in_front, grouped, picture_behind, behind_rule}
+use Rattle.ship_core.specs.Drawing.{Picture, blank, stroke, group, width_in, in_front, grouped, picture_after, after_rule}
 use Rattle.ship_core.specs.Shown.{HasWidth}
 use Rattle.ship_core.proofs.Places.{reach}
 use Rattle.ship_core.proofs.DrawnMarks.{marks_in, groups, EachStroke, IsDrawn}
@@ -30,21 +30,21 @@ marks-in_front (mark ∷ marks) by rest = ap (λ more. mark ∷ more) (marks-in_
 
 marks-grouped :
     (c : BoxNode) (h v : ℤ) (own : Kind) (items : Items) (rest : Picture)
-    → marks_in (grouped items own (picture_behind c h v [] items) rest) ≡ marks_in (picture_behind c h v [] items) ++ marks_in rest
+    → marks_in (grouped items own (picture_after c h v [] items) rest) ≡ marks_in (picture_after c h v [] items) ++ marks_in rest
 marks-grouped c h v own none rest = refl
 marks-grouped c h v own (leaf x items) rest = refl
 marks-grouped c h v own (box shift frame inner items) rest = refl
 
-pub marks-picture : (b : BoxNode) (h v : ℤ) (before : List Node) (after : Items) → marks_in (picture_behind b h v before after) ≡ marks_behind b h v before after
+pub marks-picture : (b : BoxNode) (h v : ℤ) (before : List Node) (after : Items) → marks_in (picture_after b h v before after) ≡ marks_behind b h v before after
 marks-picture b h v before none = refl
 marks-picture b h v before (leaf x after) =
     let here = mark_of b (item_h b h before) (item_v b v before) x in
-    marks-in_front here (width_in b x) (picture_behind b h v (before ++ node_of x ∷ []) after)
+    marks-in_front here (width_in b x) (picture_after b h v (before ++ node_of x ∷ []) after)
     ∙ ap (λ marks. here ++ marks) (marks-picture b h v (before ++ node_of x ∷ []) after)
 marks-picture b h v before (box shift frame inner after) =
     let x = box_h b.kind (item_h b h before) shift in
     let y = list_v frame.kind frame.height (box_v b.kind (item_v b v before) shift frame.height) in
-    let later = picture_behind b h v (before ++ Box shift (box_of frame inner) ∷ []) after in
+    let later = picture_after b h v (before ++ Box shift (box_of frame inner) ∷ []) after in
     marks-grouped (box_of frame inner) x y frame.kind inner later
     ∙ (ap (λ marks. marks ++ marks_in later) (marks-picture (box_of frame inner) x y [] inner)
     ∙ ap (λ marks. marks_behind (box_of frame inner) x y [] inner ++ marks) (marks-picture b h v (before ++ Box shift (box_of frame inner) ∷ []) after))
@@ -79,10 +79,10 @@ module _ (P : Kind → Mark → (by : ℤ) → Type 0) where
   -- What holds of the strokes of each leaf of a list holds of all.
   pub each_behind :
       (Q : Leaf → Type 0) → ((b : BoxNode) (h v : ℤ) (x : Leaf) → Q x → AllByRecursion (λ mark. P b.kind mark (width_in b x)) (mark_of b h v x))
-      → (b : BoxNode) (h v : ℤ) (before : List Node) (after : Items) → EachLeaf Q after → EachStroke P b.kind (picture_behind b h v before after)
+      → (b : BoxNode) (h v : ℤ) (before : List Node) (after : Items) → EachLeaf Q after → EachStroke P b.kind (picture_after b h v before after)
   each_behind Q each b h v before none all = tt
   each_behind Q each b h v before (leaf x after) (here, all) =
-      each_in_front b.kind (mark_of b (item_h b h before) (item_v b v before) x) (width_in b x) (picture_behind b h v (before ++ node_of x ∷ []) after)
+      each_in_front b.kind (mark_of b (item_h b h before) (item_v b v before) x) (width_in b x) (picture_after b h v (before ++ node_of x ∷ []) after)
       (each b (item_h b h before) (item_v b v before) x here)
       (each_behind Q each b h v (before ++ node_of x ∷ []) after all)
   each_behind Q each b h v before (box shift frame inner after) (within, all) =
@@ -92,13 +92,13 @@ module _ (P : Kind → Mark → (by : ℤ) → Type 0) where
       (each_behind Q each b h v (before ++ Box shift (box_of frame inner) ∷ []) after all)
 
 -- Where h is behind a rule.
-rule_end : (kind : Kind) (b : BoxNode) (h next_h : ℤ) (r : Rule) → next_h ≡ right_at kind h (own_size r.width) → next_h ≡ behind_rule kind h (rule_wide kind b r)
+rule_end : (kind : Kind) (b : BoxNode) (h next_h : ℤ) (r : Rule) → next_h ≡ right_at kind h (own_size r.width) → next_h ≡ after_rule kind h (rule_wide kind b r)
 rule_end Horizontal b h next_h r is = is
 rule_end Vertical b h next_h r is = is
 
 -- A rule's stroke can be drawn where its numbers fit.
 rule_drawn :
-    (widths : Widths) (kind : Kind) (h v next_h height width : ℤ) → next_h ≡ behind_rule kind h width → Within 1073741823 h → Within 1073741823 next_h
+    (widths : Widths) (kind : Kind) (h v next_h height width : ℤ) → next_h ≡ after_rule kind h width → Within 1073741823 h → Within 1073741823 next_h
     → AllByRecursion (Within 1073741823) (v ∷ height ∷ width ∷ []) → AllByRecursion (λ mark. IsDrawn widths kind mark width) (rule_mark h v height width)
 rule_drawn widths kind h v next_h height width edge left right (corner, (tall, (wide, all))) = by_test (int_lt (pos 0) height && int_lt (pos 0) width) refl
   where
@@ -133,12 +133,12 @@ leaf_drawn widths b h v before (rule r) wide (left, (low, (right, (next, fit))))
 -- All strokes of a list can be drawn where all its numbers fit.
 pub strokes_drawn :
     (widths : Widths) (b : BoxNode) (h v : ℤ) (before : List Node) (after : Items) → EachLeaf (HasWidth widths) after
-    → AllByRecursion (Within 1073741823) (numbers_behind b h v before after) → EachStroke (IsDrawn widths) b.kind (picture_behind b h v before after)
+    → AllByRecursion (Within 1073741823) (numbers_behind b h v before after) → EachStroke (IsDrawn widths) b.kind (picture_after b h v before after)
 strokes_drawn widths b h v before none wide fit = tt
 strokes_drawn widths b h v before (leaf x after) (here, wide) fit =
     let own = numbers_at b h v before (node_of x) in
     let rest = numbers_behind b h v (before ++ node_of x ∷ []) after in
-    each_in_front (IsDrawn widths) b.kind (mark_of b (item_h b h before) (item_v b v before) x) (width_in b x) (picture_behind b h v (before ++ node_of x ∷ []) after)
+    each_in_front (IsDrawn widths) b.kind (mark_of b (item_h b h before) (item_v b v before) x) (width_in b x) (picture_after b h v (before ++ node_of x ∷ []) after)
     (leaf_drawn widths b h v before x here (all_front (Within 1073741823) own rest fit))
     (strokes_drawn widths b h v (before ++ node_of x ∷ []) after wide (all_back (Within 1073741823) own rest fit))
 strokes_drawn widths b h v before (box shift frame inner after) (within, wide) (left, (low, (right, (next, (across, (down, fit)))))) =
@@ -155,6 +155,53 @@ abbrev pub parts : Picture → ℕ
 parts blank = 0
 parts (stroke mark by rest) = parts rest + 1
 parts (group kind inner rest) = parts inner + 1 + parts rest
+
+-- How many bytes the texts of the specials in a picture have.
+abbrev pub texts : Picture → ℕ
+texts blank = 0
+texts (stroke (body.Rule x y height width) by rest) = texts rest
+texts (stroke (body.Glyph font code x y) by rest) = texts rest
+texts (stroke (body.Special x y text) by rest) = length text + texts rest
+texts (group kind inner rest) = texts inner + texts rest
+
+texts-in_rule : (h v height width by : ℤ) (rest : Picture) → texts (in_front (rule_mark h v height width) by rest) ≡ texts rest
+texts-in_rule h v height width by rest = cases (int_lt (pos 0) height && int_lt (pos 0) width)
+  where
+    cases : (b : Bool) → texts (in_front (if b then body.Rule h v height width ∷ [] else []) by rest) ≡ texts rest
+    cases true = refl
+    cases false = refl
+
+texts-in_glyph : (kind : Kind) (h v : ℤ) (g : Glyph) (by : ℤ) (rest : Picture) → texts (in_front (glyph_mark kind h v g) by rest) ≡ texts rest
+texts-in_glyph Horizontal h v g by rest = refl
+texts-in_glyph Vertical h v g by rest = refl
+
+texts-in_leaf : (b : BoxNode) (h v : ℤ) (x : Leaf) (rest : Picture) → texts (in_front (mark_of b h v x) (width_in b x) rest) ≡ texts rest
+texts-in_leaf b h v (glyph g) rest = texts-in_glyph b.kind h v g g.width rest
+texts-in_leaf b h v (font_kern width) rest = refl
+texts-in_leaf b h v (kern width) rest = refl
+texts-in_leaf b h v (glue g) rest = refl
+texts-in_leaf b h v (penalty p) rest = refl
+texts-in_leaf b h v (rule r) rest = texts-in_rule h (v +ℤ rule_below b.kind b r) (rule_tall b.kind b r) (rule_wide b.kind b r) (rule_wide b.kind b r) rest
+
+texts-grouped : (items : Items) (own : Kind) (inner rest : Picture) → texts (grouped items own inner rest) ≤ texts inner + texts rest
+texts-grouped none own inner rest = omega arith
+texts-grouped (leaf x items) own inner rest = omega arith
+texts-grouped (box shift frame more items) own inner rest = omega arith
+
+-- No item of a list is a special.
+pub no_texts : (b : BoxNode) (h v : ℤ) (before : List Node) (after : Items) → texts (picture_after b h v before after) ≡ 0
+no_texts b h v before none = refl
+no_texts b h v before (leaf x after) =
+    texts-in_leaf b (item_h b h before) (item_v b v before) x (picture_after b h v (before ++ node_of x ∷ []) after) ∙ no_texts b h v (before ++ node_of x ∷ []) after
+no_texts b h v before (box shift frame inner after) =
+    let x = box_h b.kind (item_h b h before) shift in
+    let y = list_v frame.kind frame.height (box_v b.kind (item_v b v before) shift frame.height) in
+    omega (
+      arith,
+      texts-grouped inner frame.kind (picture_after (box_of frame inner) x y [] inner) (picture_after b h v (before ++ Box shift (box_of frame inner) ∷ []) after),
+      no_texts (box_of frame inner) x y [] inner,
+      no_texts b h v (before ++ Box shift (box_of frame inner) ∷ []) after,
+    )
 
 -- An item has at most one mark.
 one_rule : (h v height width : ℤ) → length (rule_mark h v height width) ≤ 1
@@ -194,21 +241,21 @@ grouped_depth none own inner rest = omega arith
 grouped_depth (leaf x items) own inner rest = omega arith
 grouped_depth (box shift frame more items) own inner rest = omega arith
 
-pub few_parts : (b : BoxNode) (h v : ℤ) (before : List Node) (after : Items) → parts (picture_behind b h v before after) ≤ items_count after
+pub few_parts : (b : BoxNode) (h v : ℤ) (before : List Node) (after : Items) → parts (picture_after b h v before after) ≤ items_count after
 few_parts b h v before none = omega arith
 few_parts b h v before (leaf x after) =
     let here = mark_of b (item_h b h before) (item_v b v before) x in
     omega (
       arith,
-      parts-in_front here (width_in b x) (picture_behind b h v (before ++ node_of x ∷ []) after),
+      parts-in_front here (width_in b x) (picture_after b h v (before ++ node_of x ∷ []) after),
       one_mark b (item_h b h before) (item_v b v before) x,
       few_parts b h v (before ++ node_of x ∷ []) after,
     )
 few_parts b h v before (box shift frame inner after) =
     let x = box_h b.kind (item_h b h before) shift in
     let y = list_v frame.kind frame.height (box_v b.kind (item_v b v before) shift frame.height) in
-    let own = picture_behind (box_of frame inner) x y [] inner in
-    let later = picture_behind b h v (before ++ Box shift (box_of frame inner) ∷ []) after in
+    let own = picture_after (box_of frame inner) x y [] inner in
+    let later = picture_after b h v (before ++ Box shift (box_of frame inner) ∷ []) after in
     omega (
       arith,
       few_grouped inner frame.kind own later,
@@ -216,20 +263,20 @@ few_parts b h v before (box shift frame inner after) =
       few_parts b h v (before ++ Box shift (box_of frame inner) ∷ []) after,
     )
 
-pub few_groups : (b : BoxNode) (h v : ℤ) (before : List Node) (after : Items) → groups (picture_behind b h v before after) ≤ items_depth after
+pub few_groups : (b : BoxNode) (h v : ℤ) (before : List Node) (after : Items) → groups (picture_after b h v before after) ≤ items_depth after
 few_groups b h v before none = omega arith
 few_groups b h v before (leaf x after) =
     let here = mark_of b (item_h b h before) (item_v b v before) x in
     omega (
       arith,
-      groups-in_front here (width_in b x) (picture_behind b h v (before ++ node_of x ∷ []) after),
+      groups-in_front here (width_in b x) (picture_after b h v (before ++ node_of x ∷ []) after),
       few_groups b h v (before ++ node_of x ∷ []) after,
     )
 few_groups b h v before (box shift frame inner after) =
     let x = box_h b.kind (item_h b h before) shift in
     let y = list_v frame.kind frame.height (box_v b.kind (item_v b v before) shift frame.height) in
-    let own = picture_behind (box_of frame inner) x y [] inner in
-    let later = picture_behind b h v (before ++ Box shift (box_of frame inner) ∷ []) after in
+    let own = picture_after (box_of frame inner) x y [] inner in
+    let later = picture_after b h v (before ++ Box shift (box_of frame inner) ∷ []) after in
     omega (
       arith,
       grouped_depth inner frame.kind own later,

@@ -17,7 +17,7 @@ use Rattle.pack_core.specs.Places.{place}
 use Rattle.pack_core.specs.Cursors.{Reached, reached, one_more, place_at}
 use Rattle.pack_core.proofs.Walks.{one_more-reached, place-reached, reached-passed}
 use Rattle.ship_core.specs.Marks.{Page, page_v, is_huge, right_at, down_at, list_v, item_h, item_v, box_h, box_v, numbers_at, numbers_behind}
-use Rattle.ship_core.specs.Drawing.{Picture, grouped, picture_behind}
+use Rattle.ship_core.specs.Drawing.{Picture, grouped, picture_after}
 use Rattle.ship_core.specs.Placing.{Reaches, numbers_between, strokes_of, strokes_at, reference_h, reference_v}
 use Rattle.ship_core.proofs.Walked.{reach_by}
 
@@ -33,7 +33,7 @@ taken_at xs i x within is = sym (take_more xs i x within ∙ ap (λ y. take i xs
 abbrev pub inside : BoxNode → (h v : ℤ) → Node → Picture → Picture
 inside b h v (nodes.Box shift inner) rest =
     grouped inner.list inner.kind
-    (picture_behind inner (box_h b.kind h shift) (list_v inner.kind inner.height (box_v b.kind v shift inner.height)) [] inner.list) rest
+    (picture_after inner (box_h b.kind h shift) (list_v inner.kind inner.height (box_v b.kind v shift inner.height)) [] inner.list) rest
 inside b h v other rest = rest
 
 abbrev pub numbers_inside : BoxNode → (h v : ℤ) → Node → List ℤ
@@ -44,9 +44,9 @@ numbers_inside b h v other = []
 -- What is seen of an item and of the items behind it, and their numbers, by cases on the item.
 pub picture-one :
     (b : BoxNode) (h v : ℤ) (before rest : List Node) (x : Node)
-    → picture_behind b h v before (items_of (x ∷ rest))
+    → picture_after b h v before (items_of (x ∷ rest))
     ≡ strokes_of b (item_h b h before) (item_v b v before) x
-    (inside b (item_h b h before) (item_v b v before) x (picture_behind b h v (before ++ x ∷ []) (items_of rest)))
+    (inside b (item_h b h before) (item_v b v before) x (picture_after b h v (before ++ x ∷ []) (items_of rest)))
 picture-one b h v before rest (nodes.Glyph g) = refl
 picture-one b h v before rest (nodes.FontKern width) = refl
 picture-one b h v before rest (nodes.Kern width) = refl
@@ -70,7 +70,7 @@ numbers-one b h v before rest (nodes.Box shift inner) = refl
 
 -- The picture of what is left, and its numbers.
 abbrev pub picture_left : BoxNode → (h v : ℤ) → List Node → ℕ → Picture
-picture_left b h v xs i = picture_behind b h v (take i xs) (items_of (drop i xs))
+picture_left b h v xs i = picture_after b h v (take i xs) (items_of (drop i xs))
 
 abbrev pub numbers_left : BoxNode → (h v : ℤ) → List Node → ℕ → List ℤ
 numbers_left b h v xs i = numbers_behind b h v (take i xs) (items_of (drop i xs))
@@ -81,10 +81,10 @@ pub picture_more :
     ≡ strokes_of b (item_h b h (take i xs)) (item_v b v (take i xs)) x
     (inside b (item_h b h (take i xs)) (item_v b v (take i xs)) x (picture_left b h v xs (i + 1)))
 picture_more b h v xs i x within is =
-    ap (λ after. picture_behind b h v (take i xs) (items_of after)) (left_at xs i x within is)
+    ap (λ after. picture_after b h v (take i xs) (items_of after)) (left_at xs i x within is)
     ∙ (picture-one b h v (take i xs) (drop (i + 1) xs) x
     ∙ ap (λ before. strokes_of b (item_h b h (take i xs)) (item_v b v (take i xs)) x
-    (inside b (item_h b h (take i xs)) (item_v b v (take i xs)) x (picture_behind b h v before (items_of (drop (i + 1) xs))))) (taken_at xs i x within is))
+    (inside b (item_h b h (take i xs)) (item_v b v (take i xs)) x (picture_after b h v before (items_of (drop (i + 1) xs))))) (taken_at xs i x within is))
 
 pub numbers_more :
     (b : BoxNode) (h v : ℤ) (xs : List Node) (i : ℕ) (x : Node) → i < length xs → x ≡ get_or xs i x
@@ -228,7 +228,7 @@ inner_numbers b inner h v shift begin_h begin_v x is (right, down) = rw (is, rig
 pub inner_picture :
     (b inner : BoxNode) (h v shift begin_h begin_v : ℤ) (x : Node) (rest : Picture) → x ≡ nodes.Box shift inner
     → (begin_h ≡ box_h b.kind h shift) × (begin_v ≡ list_v inner.kind inner.height (box_v b.kind v shift inner.height))
-    → inside b h v x rest ≡ grouped inner.list inner.kind (picture_behind inner begin_h begin_v [] inner.list) rest
+    → inside b h v x rest ≡ grouped inner.list inner.kind (picture_after inner begin_h begin_v [] inner.list) rest
 inner_picture b inner h v shift begin_h begin_v x rest is (right, down) = rw (is, right, down) refl
 
 -- An item that is no box has no items.

@@ -9,8 +9,8 @@ use Rattle.node_core.specs.declared.tree.BoxNode.{BoxNode}
 use Rattle.node_core.specs.Items.{Leaf, glyph, font_kern, kern, glue, penalty, rule, Items, none, leaf, box}
 use Rattle.node_core.specs.Nodes.{node_of, box_of}
 use Rattle.dvi_ops.specs.Instruction as instructions
-use Rattle.dvi_ops.specs.Instruction.{Axis, Across, Downward, By, Move, SetChar, SetRule, PutRule, FontNum}
-use Rattle.dvi_ops.specs.Body.{Mark, Glyph, Rule}
+use Rattle.dvi_ops.specs.Instruction.{Axis, Across, Downward, By, Move, SetChar, SetRule, PutRule, FontNum, Xxx}
+use Rattle.dvi_ops.specs.Body.{Mark, Glyph, Rule, Special}
 use Rattle.dvi_ops.specs.Forest.{Forest, Empty, Then, Group}
 use Rattle.ship_core.specs.Marks.{Page, rule_wide, mark_of, item_h, item_v, box_h, box_v, list_v, page_v}
 
@@ -41,15 +41,15 @@ grouped (leaf x items) kind inner rest = group kind inner rest
 grouped (box shift frame more items) kind inner rest = group kind inner rest
 
 -- The picture of the items `after`, which stand in the list of the box behind the items `before`; the list begins at (h, v).
-abbrev pub picture_behind : BoxNode → (h v : ℤ) → (before : List Node) → (after : Items) → Picture
-picture_behind b h v before none = blank
-picture_behind b h v before (leaf x after) =
-    in_front (mark_of b (item_h b h before) (item_v b v before) x) (width_in b x) (picture_behind b h v (before ++ node_of x ∷ []) after)
-picture_behind b h v before (box shift frame inner after) =
+abbrev pub picture_after : BoxNode → (h v : ℤ) → (before : List Node) → (after : Items) → Picture
+picture_after b h v before none = blank
+picture_after b h v before (leaf x after) =
+    in_front (mark_of b (item_h b h before) (item_v b v before) x) (width_in b x) (picture_after b h v (before ++ node_of x ∷ []) after)
+picture_after b h v before (box shift frame inner after) =
     grouped inner frame.kind
-    (picture_behind (box_of frame inner) (box_h b.kind (item_h b h before) shift)
+    (picture_after (box_of frame inner) (box_h b.kind (item_h b h before) shift)
     (list_v frame.kind frame.height (box_v b.kind (item_v b v before) shift frame.height)) [] inner)
-    (picture_behind b h v (before ++ Box shift (box_of frame inner) ∷ []) after)
+    (picture_after b h v (before ++ Box shift (box_of frame inner) ∷ []) after)
 
 -- A movement by an amount, where it is not 0.
 abbrev pub moved_by : Axis → ℤ → Forest → Forest
@@ -68,16 +68,17 @@ ruled Horizontal height width = SetRule height width
 ruled Vertical height width = PutRule height width
 
 -- Where h is behind a rule of that width: further by the width in a horizontal list, and where it was in a vertical one.
-abbrev pub behind_rule : Kind → (h width : ℤ) → ℤ
-behind_rule Horizontal h width = h +ℤ width
-behind_rule Vertical h width = h
+abbrev pub after_rule : Kind → (h width : ℤ) → ℤ
+after_rule Horizontal h width = h +ℤ width
+after_rule Vertical h width = h
 
 -- The font behind a picture, where `current` is that in front of it.
-abbrev pub font_behind : (current : Option ℤ) → Picture → Option ℤ
-font_behind current blank = current
-font_behind current (stroke (Rule x y height width) by rest) = font_behind current rest
-font_behind current (stroke (Glyph font code x y) by rest) = font_behind (Some font) rest
-font_behind current (group kind inner rest) = font_behind (font_behind current inner) rest
+abbrev pub font_after : (current : Option ℤ) → Picture → Option ℤ
+font_after current blank = current
+font_after current (stroke (Rule x y height width) by rest) = font_after current rest
+font_after current (stroke (Glyph font code x y) by rest) = font_after (Some font) rest
+font_after current (stroke (Special x y text) by rest) = font_after current rest
+font_after current (group kind inner rest) = font_after (font_after current inner) rest
 
 -- What draws a picture of a list of that kind where (h, v) is the place and `current` the font: before each mark, right and down by what is
 -- missing, and before a glyph its font, if that is another one. A box is drawn between push and pop, from where the place is; behind it the
@@ -86,16 +87,18 @@ abbrev pub drawn : Kind → (h v : ℤ) → (current : Option ℤ) → Picture �
 drawn kind h v current blank = Empty
 drawn kind h v current (stroke (Rule x y height width) by rest) =
     moved_by Across (x -ℤ h)
-    (moved_by Downward (y -ℤ v) (Then (ruled kind height width) (drawn kind (behind_rule kind x width) y current rest)))
+    (moved_by Downward (y -ℤ v) (Then (ruled kind height width) (drawn kind (after_rule kind x width) y current rest)))
 drawn kind h v current (stroke (Glyph font code x y) by rest) =
     moved_by Across (x -ℤ h)
     (moved_by Downward (y -ℤ v) (selected current font (Then (SetChar code) (drawn kind (x +ℤ by) y (Some font) rest))))
+drawn kind h v current (stroke (Special x y text) by rest) =
+    moved_by Across (x -ℤ h) (moved_by Downward (y -ℤ v) (Then (Xxx text) (drawn kind x y current rest)))
 drawn kind h v current (group own inner rest) =
-    Group (drawn own h v current inner) (drawn kind h v (font_behind current inner) rest)
+    Group (drawn own h v current inner) (drawn kind h v (font_after current inner) rest)
 
 -- The picture of a page.
 abbrev pub picture_of_page : Page → Picture
-picture_of_page page = picture_behind page.box_node page.h (page_v page) [] page.box_node.list
+picture_of_page page = picture_after page.box_node page.h (page_v page) [] page.box_node.list
 
 -- The body of a page, from its origin and without a font.
 unfoldable pub body_of : Page → Forest

@@ -20,7 +20,7 @@ use Rattle.ship_core.specs.declared.placing.Ink.{Ink}
 use Rattle.ship_core.specs.declared.placing.Ink.TheVariants as ink
 use Rattle.ship_core.specs.declared.placing.MarkAt.{MarkAt}
 use Rattle.ship_core.specs.declared.drawing.Drawing.{Drawing}
-use Rattle.ship_core.specs.Drawing.{Picture, stroke, width_in, in_front, ruled, behind_rule, font_behind, drawn}
+use Rattle.ship_core.specs.Drawing.{Picture, stroke, width_in, in_front, ruled, after_rule, font_after, drawn}
 
 -- A point of a page, where both numbers fit.
 abbrev pub point : (h v : ℤ) → Option Position
@@ -38,7 +38,7 @@ strokes_in (Some m) rest = stroke (mark_with m.h m.v m.width m.ink) m.width rest
 
 -- Where h is behind ink of that width.
 abbrev pub behind : Kind → (h width : ℤ) → Ink → ℤ
-behind kind h width (ink.Rule height) = behind_rule kind h width
+behind kind h width (ink.Rule height) = after_rule kind h width
 behind kind h width (ink.Glyph slot code) = h +ℤ width
 
 -- The end of a mark is where h is behind its ink.
@@ -91,7 +91,7 @@ makes kind d rest = map view d.ops.items ++ flat (drawn kind d.h d.v (option_map
 
 -- The font behind the picture that follows.
 abbrev pub leaves : Drawing → Picture → Option ℤ
-leaves d rest = font_behind (option_map pos d.font) rest
+leaves d rest = font_after (option_map pos d.font) rest
 
 -- The marks of an item that stands at (h, v), in front of a picture; those of its own items do not count.
 abbrev pub strokes_of : BoxNode → (h v : ℤ) → Node → Picture → Picture

@@ -10,7 +10,7 @@ ghost use Rattle.scaled_core.specs.Dimensions.{fits};
 ghost use Rattle.pack_core.specs.Cursors.{one_more, place_at};
 ghost use Rattle.ship_core.specs.Marks.{right_at, down_at, list_v, numbers_behind, is_huge};
 ghost use Rattle.ship_core.specs.Pages.{page_at};
-ghost use Rattle.ship_core.specs.Drawing.{Picture, picture_behind, body_of};
+ghost use Rattle.ship_core.specs.Drawing.{Picture, picture_after, body_of};
 ghost use Rattle.ship_core.specs.Placing.{Ends, point_in, numbers_between, strokes_at, strokes_in, reference_h, reference_v, is_rigid, makes, leaves};
 
 use crate::drawing::Drawing;
@@ -176,8 +176,8 @@ pub fn is_huge(box_node: &BoxNode, at: PagePoint) -> bool
 fn draw_list(drawing: &mut Drawing, box_node: &BoxNode, begin: &Begin) -> Result<(), AllocError>
     requires { list_all fits (numbers_behind box_node.now begin.now.h begin.now.v [] box_node.now.list) ≡ true }
     ensures ops { OnOk result (map view drawing.new.ops.items
-        ≡ makes box_node.now.kind drawing.old (picture_behind box_node.now begin.now.h begin.now.v [] box_node.now.list)) }
-    ensures font { OnOk result (option_map pos drawing.new.font ≡ leaves drawing.old (picture_behind box_node.now begin.now.h begin.now.v [] box_node.now.list)) }
+        ≡ makes box_node.now.kind drawing.old (picture_after box_node.now begin.now.h begin.now.v [] box_node.now.list)) }
+    ensures font { OnOk result (option_map pos drawing.new.font ≡ leaves drawing.old (picture_after box_node.now begin.now.h begin.now.v [] box_node.now.list)) }
 {
     let mut walk = Walk::new(box_node, begin);
     for node in box_node.list.as_slice() {

@@ -1,13 +1,16 @@
 //! What `list` and `paint` print of a DVI file.
 
-ghost use Rattle.std.specs.Prelude.{◌≡◌, ◌≢◌, ◌≤◌, ℕ, Bool, List, Err, IfOk};
+ghost use Rattle.std.specs.Prelude.{◌≡◌, ◌≢◌, ◌≤◌, ℕ, Bool, List, vec_capacity, Err, IfOk, OnErr, OnOk};
 ghost use Rattle.std.specs.Io.KnownBytes.{Appends, Keeps};
+ghost use Rattle.dvi_listing.specs.Listing.{listing};
+ghost use Rattle.dvi_listing.specs.declared.part.TheConstants.{PART};
 ghost use Rattle.dvi_print.specs.Outputs.{IsListed, IsPainted, LacksPage};
 ghost use Rattle.program_core.specs.Runs.{WritesFront};
+ghost use Rattle.task_core.specs.declared.printing.PrintFault.TheVariants.{OutOfMemory, Unwritten};
 
-use dvi_print::{Output, PaintFault, list_text, paint_text};
+use dvi_print::{Dvi, Output, PaintFault, paint_text, refusal};
 use program_core::{FontFile, Unwritten, write_text};
-use std::alloc::Global;
+use std::alloc::{AllocError, Global};
 use std::io::Write;
 use thiserror::Error;
 use word_core::Sheet;
@@ -26,6 +29,38 @@ pub enum PrintFault {
     NoSuchPage,
 }
 
+impl From<AllocError> for PrintFault {
+    ghost from_gives = { λ _ fault. fault ≡ OutOfMemory };
+
+    fn from(_error: AllocError) -> PrintFault {
+        PrintFault::OutOfMemory
+    }
+}
+
+impl From<Unwritten> for PrintFault {
+    ghost from_gives = { λ _ fault. fault ≡ Unwritten };
+
+    fn from(_error: Unwritten) -> PrintFault {
+        PrintFault::Unwritten
+    }
+}
+
+/// The most bytes of a listing that are handed to a writer at once.
+const PIECE: usize = 65_536;
+
+/// Writes the listing of a file, piece after piece. All memory was taken before: a piece has room for PART bytes.
+fn write_listing<W: Write>(dvi: &Dvi<'_>, piece: &mut Vec<u8>, writer: &mut W) -> Result<(), Unwritten>
+    requires { PART ≤ vec_capacity piece.old }
+    ensures all { OnOk result (Appends (W.contents writer.old) (W.contents writer.new) (listing dvi.now.pages)) }
+    ensures front { OnErr result (WritesFront (W.contents writer.old) (W.contents writer.new) (listing dvi.now.pages)) }
+{
+    let mut lines = dvi.lines();
+    while lines.next_piece(piece) {
+        write_text(writer, piece)?;
+    }
+    Ok(())
+}
+
 /// Writes the listing of a DVI file with these metric files, or the one line of its refusal, and nothing else. Answers whether the file is accepted.
 pub fn list_file<W: Write>(
     alloc: Global,
@@ -39,13 +74,17 @@ pub fn list_file<W: Write>(
     ensures silent { result ≡ Err PrintFault.OutOfMemory → Keeps (W.contents writer.old) (W.contents writer.new) }
     ensures always { result ≢ Err PrintFault.NoSuchPage }
 {
-    let Ok(Output { text, accepted }) = list_text(alloc, dvi, files) else {
-        return Err(PrintFault::OutOfMemory);
+    let opened = match Dvi::open(alloc, dvi, files) {
+        Ok(opened) => opened,
+        Err(fault) => {
+            let Output { text, accepted } = refusal(alloc, fault)?;
+            write_text(writer, &text)?;
+            return Ok(accepted);
+        }
     };
-    match write_text(writer, &text) {
-        Ok(()) => Ok(accepted),
-        Err(Unwritten) => Err(PrintFault::Unwritten),
-    }
+    let mut piece = Vec::with_capacity(alloc, PIECE)?;
+    write_listing(&opened, &mut piece, writer)?;
+    Ok(true)
 }
 
 /// Writes a page of a DVI file with these metric files as a bitmap in plain PBM, or the one line of the file's refusal, and nothing else. Answers whether

@@ -27,7 +27,7 @@ fn rule(h: i32, v: i32, height: i32, width: i32) -> Mark {
 }
 
 /// A page of these marks.
-fn page(alloc: Global, marks: &[Mark]) -> Result<Page, AllocError> {
+fn page<'a>(alloc: Global, marks: &[Mark<'a>]) -> Result<Page<'a>, AllocError> {
     Ok(Page {
         counts: [0; 10],
         marks: Vec::from_slice(alloc, marks)?,

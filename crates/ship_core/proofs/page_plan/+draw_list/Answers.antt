@@ -8,7 +8,7 @@ use Rattle.scaled_core.specs.Dimensions.{fits}
 use Rattle.pack_core.specs.Cursors.{one_more}
 use Rattle.pack_core.proofs.Walks.{reached-more}
 use Rattle.ship_core.specs.Marks.{item_h, item_v, box_h, box_v, list_v, numbers_behind}
-use Rattle.ship_core.specs.Drawing.{group, picture_behind}
+use Rattle.ship_core.specs.Drawing.{group, picture_after}
 use Rattle.ship_core.specs.Placing.{strokes_in, makes, leaves}
 use Rattle.ship_core.specs.declared.placing.Position.{Position}
 use Rattle.ship_core.proofs.Drawings.{Draws, then_draws, same_picture, same_drawing, grouped-none, grouped-some, drawn_group}
@@ -27,8 +27,8 @@ loop-node-init t c =
       cursor = c.new-walk.ensures.cursor ∙ reached-none b.kind b.setting;
       here = c.new-walk.ensures.here;
       left = ap (λ items. list_all fits (numbers_behind b h v [] items)) whole ∙ c.requires;
-      makes = refl {a = makes b.kind c.args.drawing.now (picture_behind b h v [] items)};
-      leaves = refl {a = leaves c.args.drawing.now (picture_behind b h v [] items)};
+      makes = refl {a = makes b.kind c.args.drawing.now (picture_after b h v [] items)};
+      leaves = refl {a = leaves c.args.drawing.now (picture_after b h v [] items)};
     }
 
 pub step-requires-clause-few : goal.step-requires-clause-few
@@ -90,7 +90,7 @@ loop-node-preserved t c =
           let start = w.begin_of.result in
           let begin = inner_begin b box h v (take i xs) x w.in-Box.field-0 c.loop-node.walk.cursor c.in-Some.seen.at.h c.in-Some.seen.at.v start.h start.v
           c.loop-node.invariant.cursor w.in-Box.is c.in-Some.ensures.h c.in-Some.ensures.v (w.begin_of.ensures.h ∙ w.point.ensures.h) (w.begin_of.ensures.v ∙ ap (list_v w.in-Box.inner.kind w.in-Box.inner.height) w.point.ensures.v) in
-          let picture = picture_behind box start.h start.v [] box.list in
+          let picture = picture_after box start.h start.v [] box.list in
           let grouped = inner_picture b box x_h x_v w.in-Box.field-0 start.h start.v x later w.in-Box.is begin
           ∙ grouped-some box.list box.kind picture later (sym w.is_empty.ensures ∙ w.if-not-is_empty.true) in
           let before = w.in_ok-before.ensures.place in
@@ -107,7 +107,7 @@ loop-node-preserved t c =
           let at_h = box_h b.kind x_h w.in-Box.field-0 in
           let at_v = list_v box.kind box.height (box_v b.kind x_v w.in-Box.field-0 box.height) in
           let none = inner_picture b box x_h x_v w.in-Box.field-0 at_h at_v x later w.in-Box.is (refl, refl)
-          ∙ grouped-none box.list box.kind (picture_behind box at_h at_v [] box.list) later (sym w.is_empty.ensures ∙ w.if-not-is_empty.false) in
+          ∙ grouped-none box.list box.kind (picture_after box at_h at_v [] box.list) later (sym w.is_empty.ensures ∙ w.if-not-is_empty.false) in
           then_draws b.kind marked marked c.match-node.drawing own later later (same_picture b.kind marked own later none)
           (same_drawing b.kind marked c.match-node.drawing later w.drawing-is)
       | in_default-node w ↦
@@ -134,9 +134,9 @@ returns-clause-ops t c =
     let xs = c.as_slice-node-items.result.now in
     let i = c.loop-node.node-index in
     let whole : items_of xs ≡ b.list = ap items_of c.as_slice-node-items.ensures.nodes ∙ items_of-nodes_of b.list in
-    let done = ap (λ after. makes b.kind c.loop-node.drawing (picture_behind b h v (take i xs) (items_of after))) (drop_all i xs c.loop-node-test.false) in
+    let done = ap (λ after. makes b.kind c.loop-node.drawing (picture_after b h v (take i xs) (items_of after))) (drop_all i xs c.loop-node-test.false) in
     sym (append-nil (map view c.loop-node.drawing.ops.items))
-    ∙ (sym done ∙ (c.loop-node.invariant.makes ∙ ap (λ items. makes b.kind c.args.drawing.now (picture_behind b h v [] items)) whole))
+    ∙ (sym done ∙ (c.loop-node.invariant.makes ∙ ap (λ items. makes b.kind c.args.drawing.now (picture_after b h v [] items)) whole))
 
 pub returns-clause-font : goal.returns-clause-font
 returns-clause-font t c =
@@ -146,5 +146,5 @@ returns-clause-font t c =
     let xs = c.as_slice-node-items.result.now in
     let i = c.loop-node.node-index in
     let whole : items_of xs ≡ b.list = ap items_of c.as_slice-node-items.ensures.nodes ∙ items_of-nodes_of b.list in
-    let done = ap (λ after. leaves c.loop-node.drawing (picture_behind b h v (take i xs) (items_of after))) (drop_all i xs c.loop-node-test.false) in
-    sym done ∙ (c.loop-node.invariant.leaves ∙ ap (λ items. leaves c.args.drawing.now (picture_behind b h v [] items)) whole)
+    let done = ap (λ after. leaves c.loop-node.drawing (picture_after b h v (take i xs) (items_of after))) (drop_all i xs c.loop-node-test.false) in
+    sym done ∙ (c.loop-node.invariant.leaves ∙ ap (λ items. leaves c.args.drawing.now (picture_after b h v [] items)) whole)
