@@ -1,5 +1,5 @@
 use Rattle.std.proofs.Common.{◌≡◌, ◌∙◌, ◌+◌, Some, None, length, refl, ap, sym, subst, arith}
-use Rattle.std.specs.Prelude.{slice_get, slice_set, set}
+use Rattle.std.specs.Prelude.{slice_get, set}
 use Rattle.std.proofs.lemmas.Option.{slice_get_read}
 use Rattle.break_table.specs.Tables.{slot, extended, offer, IsRow}
 use Rattle.break_table.proofs.Reached.{offer_is}
