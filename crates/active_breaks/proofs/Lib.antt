@@ -4,3 +4,5 @@ pub mod Active
 pub mod Counts
 pub mod Added
 pub mod Joined
+pub mod Detours
+pub mod Long

@@ -85,11 +85,11 @@ greatest_none params none =
     (ap (λ t. t && int_lt params.hsize params.first_size) no)
 
 -- Where some lines are first ones, the first one is as wide as firstsize.
-size_some : (params : Params) (lines : ℕ) → nat_lt lines params.first_lines ≡ true → line_size params lines ≡ params.first_size
+pub size_some : (params : Params) (lines : ℕ) → nat_lt lines params.first_lines ≡ true → line_size params lines ≡ params.first_size
 unfolding line_size
 size_some params lines is = cond-true (nat_lt lines params.first_lines) params.first_size params.hsize is
 
-size_rest : (params : Params) (lines : ℕ) → nat_lt lines params.first_lines ≡ false → line_size params lines ≡ params.hsize
+pub size_rest : (params : Params) (lines : ℕ) → nat_lt lines params.first_lines ≡ false → line_size params lines ≡ params.hsize
 unfolding line_size
 size_rest params lines is = cond-false (nat_lt lines params.first_lines) params.first_size params.hsize is
 

@@ -1,5 +1,5 @@
 -- How wide lines are: the first lines of a paragraph have a width of their own (own; TeX: The Program, part 38, §847 to §850, has more kinds of widths).
-use Rattle.std.specs.Prelude.{ℕ, ℤ, ◌&&◌, nat_lt, int_lt, if◌then◌else◌}
+use Rattle.std.specs.Prelude.{◌-ℤ◌, ℕ, ℤ, ◌&&◌, nat_lt, int_lt, if◌then◌else◌}
 use Rattle.node_core.specs.declared.params.Params.{Params}
 use Rattle.break_cost.specs.declared.sums.Sums.{Sums}
 use Rattle.break_cost.specs.declared.cost.Judged.{Judged}
@@ -14,6 +14,10 @@ line_size params lines = if nat_lt lines params.first_lines then params.first_si
 -- The greatest width of a line: firstsize counts where there are first lines.
 unfoldable pub greatest_size : Params → ℤ
 greatest_size params = if nat_lt 0 params.first_lines && int_lt params.hsize params.first_size then params.first_size else params.hsize
+
+-- How wide a line is that is shrunk as far as it goes, by the sums over its items.
+abbrev pub least_width : Sums → ℤ
+least_width sums = sums.width -ℤ sums.shrink
 
 -- How a line is set whose items have these sums, as the first line of a paragraph and as a line of width hsize.
 unfoldable pub judgement : Params → Sums → Judgement

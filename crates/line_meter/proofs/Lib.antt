@@ -3,4 +3,5 @@ pub mod Places
 pub mod KeptSums
 pub mod Prefixes
 pub mod Steady
+pub mod Divided
 pub mod Firsts

@@ -1,10 +1,11 @@
 //! The meter of a list of nodes.
 
-ghost use Rattle.std.specs.Prelude.{◌≡◌, ◌+◌, ◌<◌, ◌≤◌, true, ℕ, None, get_or, length, replicate, IfOk, IfErr, OnOk};
+ghost use Rattle.std.specs.Prelude.{◌≡◌, ◌+◌, ◌<◌, ◌≤◌, ◌<ℤ◌, pos, true, ℕ, None, get_or, length, replicate, IfOk, IfErr, OnOk};
 ghost use Rattle.std.specs.Option.{unwrap_or};
 ghost use Rattle.std.specs.Int.{sum_through};
 ghost use Rattle.line_meter.specs.Facts.{position_of, begins_at, facts_of, refusal};
 ghost use Rattle.line_meter.specs.Steady.{IsNoNarrower, IsRising, IsSteady};
+ghost use Rattle.line_meter.specs.Divided.{AddsLess, IsDivided};
 ghost use Rattle.node_core.specs.Nodes.{most_nodes};
 ghost use Rattle.break_table.specs.Tables.{most_places};
 ghost use Rattle.line_meter.specs.Legal.{legal_places};
@@ -18,6 +19,7 @@ use crate::list::{
 use crate::meter::{Meter, Place};
 use crate::sums::{Sums, minus, prefix_sums};
 use node_core::Node;
+use scaled_core::Dimen;
 use std::alloc::{AllocError, Global};
 
 /// A list of at most 131,072 nodes with at most 8,192 legal places, measured: where its places are, the sums over the items in front of each item, where
@@ -164,6 +166,37 @@ impl<'a> ListMeter<'a> {
 }
 
 impl<'a> ListMeter<'a> {
+    /// Whether the line from the start to the end, divided at a place, gets wider by less than an amount, shrunk as far as it goes.
+    fn adds_less(&self, amount: Dimen, place: usize) -> bool
+        requires first { 0 < place }
+        requires last { place < length (legal_places self.now.nodes.now) }
+        ensures yes { result ≡ true → AddsLess (facts_of self.now.nodes.now) amount 0 place (length (legal_places self.now.nodes.now)) }
+        ensures no { AddsLess (facts_of self.now.nodes.now) amount 0 place (length (legal_places self.now.nodes.now)) → result ≡ true }
+    {
+        let end = self.places.len();
+        let front = self.line(0, place).least_width();
+        let back = self.line(place, end).least_width();
+        front + back < self.line(0, end).least_width() + i64::from(amount.get())
+    }
+
+    /// Whether each line, divided at a place that it passes over, gets wider by less than an amount, shrunk as far as it goes. The line from the start to
+    /// the end decides for all.
+    fn is_divided(&self, amount: Dimen) -> bool
+        requires steady { IsSteady (facts_of self.now.nodes.now) }
+        requires some { pos 0 <ℤ amount }
+        ensures yes { result ≡ true → IsDivided (facts_of self.now.nodes.now) amount }
+        ensures no { IsDivided (facts_of self.now.nodes.now) amount → result ≡ true }
+    {
+        for place in 1..self.places.len() {
+            if !self.adds_less(amount, place) {
+                return false;
+            }
+        }
+        true
+    }
+}
+
+impl<'a> ListMeter<'a> {
     /// How many lines from a place, or from 0, the start, were tried.
     pub fn trials(&self, place: usize) -> u64
         ensures { result ≡ ⟦<ListMeter<'a> as Meter>⟧.trials self.now place }
@@ -207,6 +240,10 @@ impl<'a> Meter for ListMeter<'a> {
 
     fn steady(&self) -> bool {
         self.is_steady()
+    }
+
+    fn divided(&self, amount: Dimen) -> bool {
+        self.is_divided(amount)
     }
 
     fn try_line(&mut self, from: usize, to: usize) -> Sums {
