@@ -37,7 +37,7 @@ least_rises facts a b l steady earlier later within =
     subst (λ k. least_width (facts.sums a b) ≤ℤ least_width (facts.sums a k)) same (rises_by facts a b (l - b) steady earlier (omega arith))
 
 -- How wide the first items of a list are, shrunk as far as they go.
-front_width : List Node → ℕ → ℤ
+abbrev front_width : List Node → ℕ → ℤ
 front_width list k = least_width (sums_of (take k list))
 
 least_minus : (s t : Sums) → least_width (minus s t) ≡ least_width s -ℤ least_width t

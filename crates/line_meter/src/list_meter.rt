@@ -1,11 +1,12 @@
 //! The meter of a list of nodes.
 
-ghost use Rattle.std.specs.Prelude.{◌≡◌, ◌+◌, ◌<◌, ◌≤◌, ◌<ℤ◌, pos, true, ℕ, None, get_or, length, replicate, IfOk, IfErr, OnOk};
+ghost use Rattle.std.specs.Prelude.{◌≡◌, ◌+◌, ◌<◌, ◌≤◌, ◌+ℤ◌, ◌<ℤ◌, pos, true, ℕ, None, get_or, length, replicate, IfOk, IfErr, OnOk};
 ghost use Rattle.std.specs.Option.{unwrap_or};
 ghost use Rattle.std.specs.Int.{sum_through};
 ghost use Rattle.line_meter.specs.Facts.{position_of, begins_at, facts_of, refusal};
 ghost use Rattle.line_meter.specs.Steady.{IsNoNarrower, IsRising, IsSteady};
 ghost use Rattle.line_meter.specs.Divided.{AddsLess, IsDivided};
+ghost use Rattle.break_cost.specs.Sizes.{least_width};
 ghost use Rattle.node_core.specs.Nodes.{most_nodes};
 ghost use Rattle.break_table.specs.Tables.{most_places};
 ghost use Rattle.line_meter.specs.Legal.{legal_places};
@@ -165,6 +166,21 @@ impl<'a> ListMeter<'a> {
     }
 }
 
+/// Whether two lines together are wider than one by less than an amount, all of them shrunk as far as they go.
+fn is_less(front: &Sums, back: &Sums, whole: &Sums, amount: Dimen) -> bool
+    requires front { IsSmallSums front.now }
+    requires back { IsSmallSums back.now }
+    requires whole { IsSmallSums whole.now }
+    ensures yes { result ≡ true → (least_width front.now +ℤ least_width back.now) <ℤ (least_width whole.now +ℤ amount) }
+    ensures no { (least_width front.now +ℤ least_width back.now) <ℤ (least_width whole.now +ℤ amount) → result ≡ true }
+{
+    let parts = front.least_width() + back.least_width();
+    if parts < whole.least_width() + i64::from(amount.get()) {
+        return true;
+    }
+    false
+}
+
 impl<'a> ListMeter<'a> {
     /// Whether the line from the start to the end, divided at a place, gets wider by less than an amount, shrunk as far as it goes.
     fn adds_less(&self, amount: Dimen, place: usize) -> bool
@@ -174,9 +190,12 @@ impl<'a> ListMeter<'a> {
         ensures no { AddsLess (facts_of self.now.nodes.now) amount 0 place (length (legal_places self.now.nodes.now)) → result ≡ true }
     {
         let end = self.places.len();
-        let front = self.line(0, place).least_width();
-        let back = self.line(place, end).least_width();
-        front + back < self.line(0, end).least_width() + i64::from(amount.get())
+        is_less(
+            &self.line(0, place),
+            &self.line(place, end),
+            &self.line(0, end),
+            amount,
+        )
     }
 
     /// Whether each line, divided at a place that it passes over, gets wider by less than an amount, shrunk as far as it goes. The line from the start to
