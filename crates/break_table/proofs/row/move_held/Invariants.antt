@@ -1,0 +1,9 @@
+use Rattle.std.proofs.Common.{◌≡◌, ◌++◌, take, drop, replicate, None}
+use Rattle.break_table.specs.Tables.{held_in}
+use Rattle.break_table.proofs.row.move_held.Given as goal
+
+abbrev pub invariant-loop-index : goal.invariant-loop-index
+invariant-loop-index l = record {
+  table : l.table.items ≡ l.initial.table.items ++ held_in (take l.index l.initial.row);
+  row : l.row ≡ replicate l.index None ++ drop l.index l.initial.row;
+}
