@@ -21,7 +21,7 @@ pub fn empty_row(alloc: Global, cut: usize) -> Result<Vec<Option<Best>>, AllocEr
 
 /// Offers an entry, number `index` of its table, for a place, by its line to there, if there is one.
 pub fn improve(
-    row: &mut [Option<Best>],
+    row: &mut Vec<Option<Best>>,
     entry: Best,
     index: usize,
     place: usize,
@@ -29,12 +29,13 @@ pub fn improve(
     cut: usize,
 )
     requires few { cut < 1000 }
-    requires wide { length row.old ≡ slots cut }
+    requires wide { length row.old.items ≡ slots cut }
     requires counted { entry.end.lines ≤ cut }
     requires later { entry.end.place < place }
     requires places { place ≤ most_places }
     requires small { IfSome line IsSmallLine }
-    ensures { IsImproved cut entry index place line row.old row.new }
+    ensures row { IsImproved cut entry index place line row.old.items row.new.items }
+    ensures wide { length row.new.items ≡ slots cut }
 {
     let Some(line) = line else {
         return;
@@ -47,10 +48,10 @@ pub fn improve(
 }
 
 /// Appends what a row holds to a table, and takes it out of the row.
-fn move_held(table: &mut Vec<Best>, row: &mut [Option<Best>]) -> Result<(), AllocError>
+fn move_held(table: &mut Vec<Best>, row: &mut Vec<Option<Best>>) -> Result<(), AllocError>
     ensures front { take (length table.old.items) table.new.items ≡ table.old.items }
-    ensures table { OnOk result (table.new.items ≡ table.old.items ++ held_in row.old) }
-    ensures row { OnOk result (row.new ≡ replicate (length row.old) None) }
+    ensures table { OnOk result (table.new.items ≡ table.old.items ++ held_in row.old.items) }
+    ensures row { OnOk result (row.new.items ≡ replicate (length row.old.items) None) }
 {
     for index in 0..row.len() {
         if let Some(entry) = row[index] {
@@ -62,9 +63,9 @@ fn move_held(table: &mut Vec<Best>, row: &mut [Option<Best>]) -> Result<(), Allo
 }
 
 /// Appends what a row holds to a table, and leaves the row without an offer. Where a growth is refused, the table is as it was.
-pub fn keep(table: &mut Vec<Best>, row: &mut [Option<Best>]) -> Result<(), AllocError>
-    ensures table { OnOk result (table.new.items ≡ table.old.items ++ held_in row.old) }
-    ensures row { OnOk result (row.new ≡ replicate (length row.old) None) }
+pub fn keep(table: &mut Vec<Best>, row: &mut Vec<Option<Best>>) -> Result<(), AllocError>
+    ensures table { OnOk result (table.new.items ≡ table.old.items ++ held_in row.old.items) }
+    ensures row { OnOk result (row.new.items ≡ replicate (length row.old.items) None) }
     ensures err { OnErr result (table.new.items ≡ table.old.items) }
 {
     let count = table.len();

@@ -11,8 +11,7 @@ ghost use Rattle.paragraph_core.specs.Paragraphs.{IsSet, IsSetParagraph, IsUnset
 use crate::finishing::{finish_paragraph, unfinish_paragraph};
 use crate::line_boxes::LinesFault;
 use crate::stacking::lines;
-use active_breaks::active_breaks;
-use break_core::{BreakFault, Breaks, ListMeter, Pass};
+use break_core::{BreakFault, Breaks, ListMeter, Pass, active_breaks};
 use node_core::{Node, NodeList, Params};
 use scaled_core::Dimen;
 use std::alloc::{AllocError, Global};
