@@ -8,3 +8,5 @@ pub mod Added
 pub mod Joined
 pub mod Detours
 pub mod Long
+pub mod Endings
+pub mod Lives

@@ -86,7 +86,7 @@ with_group groups g = if g.start == g.end then groups else groups ++ g ∷ []
 
 -- The groups alone.
 abbrev pub groups_of : List Live → List Group
-groups_of lives = map (λ live. live.group) lives
+groups_of lives = map (λ (live : Live). live.group) lives
 
 -- Beside each group stands what is kept of the lines from its place to those before place b.
 abbrev pub AreOver : Facts → Params → (b : ℕ) → List Live → Type 0

@@ -3,7 +3,6 @@ use Rattle.std.specs.Prelude.{◌≡◌, ◌<◌, ◌≤◌, ◌+◌, ◌^◌, �
 use Rattle.node_core.specs.declared.params.Params.{Params}
 use Rattle.break_table.specs.declared.group.Group.{Group}
 use Rattle.break_table.specs.declared.state.State.{State}
-use Rattle.break_table.specs.declared.state.Line.{Line}
 use Rattle.break_table.specs.Problems.{Problem}
 use Rattle.break_table.specs.Ways.{since}
 use Rattle.break_table.specs.Tables.{Entry, IsRow}
@@ -22,23 +21,27 @@ abbrev pub IsOf : (cut : ℕ) (table : List Entry) → Group → Type 0
 IsOf cut table group =
     (k : ℕ) (e : Entry) → group.start ≤ k → k < group.end → slice_get table k ≡ Some e → (e.end.place ≡ group.place) × (e.end.lines ≤ cut)
 
--- The line from the end of another one that is judged so, or none where it is left out.
-abbrev pub tried_line : Params → Bound → (penalty : ℤ) → Judgement → (left : Bool) → State → Option Line
-tried_line params bound penalty line left end =
-    if left then None else line_of params bound penalty end.class (judged_after params.first_lines end.lines line)
-
 -- The lines of a problem from the place of a group to another place are those that are judged so.
-abbrev pub IsJudged : Problem → Params → Bound → Group → (place : ℕ) → (penalty : ℤ) → Judgement → (left : Bool) → Type 0
-IsJudged p params bound group place penalty line left =
-    (s : State) → s.place ≡ group.place → p.line s place ≡ tried_line params bound penalty line left s
+abbrev pub IsJudged : Problem → Params → Bound → Group → (place : ℕ) → (penalty : ℤ) → Judgement → Type 0
+IsJudged p params bound group place penalty line =
+    (s : State) → s.place ≡ group.place
+    → p.line s place ≡ line_of params bound penalty s.class (judged_after params.first_lines s.lines line)
 
 -- Between two rows the entries from one number up to another were offered, by lines that are judged so.
 abbrev pub IsOffering :
-    (table : List Entry) → Params → Bound → Group → (place : ℕ) → (penalty : ℤ) → Judgement → (left : Bool)
-    → (from to : ℕ) → (old new : List (Option Entry)) → Type 0
-IsOffering table params bound group place penalty line left from to old new =
-    (p : Problem) → p.cut ≡ params.first_lines → since p place ≤ group.place → IsJudged p params bound group place penalty line left
+    (table : List Entry) → Params → Bound → Group → (place : ℕ) → (penalty : ℤ) → Judgement → (from to : ℕ) → (old new : List (Option Entry)) → Type 0
+IsOffering table params bound group place penalty line from to old new =
+    (p : Problem) → p.cut ≡ params.first_lines → since p place ≤ group.place → IsJudged p params bound group place penalty line
     → IsRow p table place from old → IsRow p table place to new
+
+-- The same where the line is left out, or is not.
+abbrev pub IsOfferingUnless :
+    (left : Bool) (table : List Entry) → Params → Bound → Group → (place : ℕ) → (penalty : ℤ) → Judgement → (old new : List (Option Entry)) → Type 0
+IsOfferingUnless left table params bound group place penalty line old new =
+    (p : Problem) → p.cut ≡ params.first_lines → since p place ≤ group.place
+    → ((s : State) → s.place ≡ group.place
+    → p.line s place ≡ (if left then None else line_of params bound penalty s.class (judged_after params.first_lines s.lines line)))
+    → IsRow p table place group.start old → IsRow p table place group.end new
 
 -- Each count has grown by at most n.
 abbrev pub IsGrown : (n : ℕ) → (before now : ℕ → ℕ) → Type 0

@@ -1,15 +1,15 @@
 //! The table of a paragraph in a pass, filled place by place.
 
-ghost use Rattle.std.specs.Prelude.{◌≡◌, ◌+◌, ◌<◌, ◌≤◌, ◌++◌, ◌<ℤ◌, ℕ, pos, true, false, ◌&&◌, [], ◌∷◌, length, replicate, None, if◌then◌else◌, OnOk, IfOk, IfSome};
-ghost use Rattle.break_table.specs.Tables.{most_places, slots, IsTable, IsRow, IsSmallLine};
+ghost use Rattle.std.specs.Prelude.{◌≡◌, ◌+◌, ◌<◌, ◌≤◌, ◌++◌, ◌<ℤ◌, ℕ, pos, true, false, ◌&&◌, [], ◌∷◌, length, replicate, None, if◌then◌else◌, OnOk, IfOk};
+ghost use Rattle.break_table.specs.Tables.{most_places, slots, IsTable, IsRow};
 ghost use Rattle.break_cost.specs.Sizes.{IsSmallJudgement};
 ghost use Rattle.line_meter.specs.Legal.{is_forced};
-ghost use Rattle.break_core.specs.Filling.{IsOf, tried_line, IsOffering, AreFew};
+ghost use Rattle.break_core.specs.Filling.{IsOf, IsOffering, IsOfferingUnless, AreFew};
 ghost use Rattle.break_core.specs.Leaving.{is_more, kept_over};
 ghost use Rattle.break_core.specs.Active.{ends, stops, leaves, pruned, groups_of, with_live, MayEnd, AreOver, IsActive, IsFilled, IsSwept, IsCounted};
 
 use break_cost::{Bound, Judgement, judge_both, line_from};
-use break_table::{Best, Group, Line, State, empty_row, improve, keep};
+use break_table::{Best, Group, empty_row, improve, keep};
 use line_meter::Meter;
 use node_core::Params;
 use std::alloc::{AllocError, Global};
@@ -32,21 +32,19 @@ pub(crate) struct Rules<'a> {
     pub(crate) ending: Ending,
 }
 
-/// A line that was tried: the place to which it goes, the penalty of a break there, how it is set, and whether it hangs over more than one to an earlier
-/// place to which it was overfull.
+/// A line that was tried: the place to which it goes, the penalty of a break there, and how it is set.
 #[derive(Drop)]
 struct Tried {
     place: usize,
     penalty: i32,
     line: Judgement,
-    long: bool,
 }
 
 /// A group of entries from which lines are tried, and how wide the line from there is to the first place to which it was overfull, shrunk as far as it goes.
 #[derive(Clone, Copy, Debug, PartialEq, Eq)]
 pub(crate) struct Live {
-    group: Group,
-    over: Option<i64>,
+    pub(crate) group: Group,
+    pub(crate) over: Option<i64>,
 }
 
 /// The table up to a place, and the groups of its entries from which lines to later places are tried.
@@ -101,25 +99,6 @@ fn kept_over(over: Option<i64>, overfull: bool, width: i64) -> Option<i64>
     }
 }
 
-/// The line from an end to a place, by a line that was tried, if the bound admits it and it is not left out.
-fn offered_line(rules: &Rules, tried: &Tried, end: State) -> Option<Line>
-    requires penalty { tried.now.penalty <ℤ pos 10000 }
-    requires small { IsSmallJudgement tried.now.line }
-    ensures value { result ≡ tried_line rules.now.params.now rules.now.bound tried.now.penalty tried.now.line (leaves rules.now.ending tried.now.long) end }
-    ensures small { IfSome result IsSmallLine }
-{
-    if rules.ending.ends(false, tried.long) {
-        return None;
-    }
-    line_from(
-        rules.params,
-        &rules.bound,
-        tried.penalty,
-        end.class,
-        tried.line.after(rules.params.first_lines.get(), end.lines as usize),
-    )
-}
-
 /// Offers the entries of a group for a place, by a line that was tried from there.
 fn offer_group(
     row: &mut Vec<Option<Best>>,
@@ -136,16 +115,48 @@ fn offer_group(
     requires entries { IsOf rules.now.params.now.first_lines table.now group }
     requires penalty { tried.now.penalty <ℤ pos 10000 }
     requires small { IsSmallJudgement tried.now.line }
-    ensures row { IsOffering table.now rules.now.params.now rules.now.bound group tried.now.place tried.now.penalty tried.now.line
-        (leaves rules.now.ending tried.now.long) group.start group.end row.old.items row.new.items }
+    ensures row { IsOffering table.now rules.now.params.now rules.now.bound group tried.now.place tried.now.penalty tried.now.line group.start group.end row.old.items row.new.items }
     ensures wide { length row.new.items ≡ slots rules.now.params.now.first_lines }
 {
     let cut = rules.params.first_lines.get();
     for index in group.start..group.end {
         let entry = table[index];
-        let offered = offered_line(rules, tried, entry.end());
+        let end = entry.end();
+        let offered = line_from(
+            rules.params,
+            &rules.bound,
+            tried.penalty,
+            end.class,
+            tried.line.after(cut, end.lines as usize),
+        );
         improve(row, entry, index, tried.place, offered, cut);
     }
+}
+
+/// The same, where the line is not left out.
+fn offer_unless(
+    left: bool,
+    row: &mut Vec<Option<Best>>,
+    table: &[Best],
+    group: Group,
+    rules: &Rules,
+    tried: &Tried,
+)
+    requires wide { length row.old.items ≡ slots rules.now.params.now.first_lines }
+    requires rises { group.start ≤ group.end }
+    requires within { group.end ≤ length table.now }
+    requires earlier { group.place < tried.now.place }
+    requires places { tried.now.place ≤ most_places }
+    requires entries { IsOf rules.now.params.now.first_lines table.now group }
+    requires penalty { tried.now.penalty <ℤ pos 10000 }
+    requires small { IsSmallJudgement tried.now.line }
+    ensures row { IsOfferingUnless left table.now rules.now.params.now rules.now.bound group tried.now.place tried.now.penalty tried.now.line row.old.items row.new.items }
+    ensures wide { length row.new.items ≡ slots rules.now.params.now.first_lines }
+{
+    if left {
+        return;
+    }
+    offer_group(row, table, group, rules, tried);
 }
 
 /// Puts a group behind others, unless trying lines from it has ended.
@@ -173,15 +184,15 @@ fn try_lines<M: Meter>(
     meter: &mut M,
     rules: &Rules,
     table: &[Best],
-    live: &[Live],
+    lives: &[Live],
     offers: &mut Offers,
     place: usize,
 ) -> Result<(), AllocError>
     requires first { 0 < place }
     requires last { place ≤ (M.facts meter.old).places }
     requires places { place ≤ most_places }
-    requires filled { IsFilled (pruned (M.facts meter.old) rules.now.params.now rules.now.bound rules.now.ending) (stops (M.facts meter.old) rules.now.params.now rules.now.ending) place table.now (groups_of live.now) }
-    requires over { AreOver (M.facts meter.old) rules.now.params.now place live.now }
+    requires filled { IsFilled (pruned (M.facts meter.old) rules.now.params.now rules.now.bound rules.now.ending) (stops (M.facts meter.old) rules.now.params.now rules.now.ending) place table.now (groups_of lives.now) }
+    requires over { AreOver (M.facts meter.old) rules.now.params.now place lives.now }
     requires empty { offers.old.row.items ≡ replicate (slots rules.now.params.now.first_lines) None }
     requires may { MayEnd rules.now.ending (M.facts meter.old) rules.now.params.now rules.now.bound }
     requires few { AreFew 1 (M.trials meter.old) }
@@ -194,23 +205,26 @@ fn try_lines<M: Meter>(
 {
     let at = meter.place(place);
     offers.next.clear();
-    for from in live {
-        let sums = meter.try_line(from.group.place, place);
+    for live in lives {
+        let sums = meter.try_line(live.group.place, place);
         let line = judge_both(&sums, rules.params);
         let width = sums.least_width();
         let overfull = line.is_overfull();
+        let long = is_more(live.over, width);
         let tried = Tried {
             place,
             penalty: at.penalty,
             line,
-            long: is_more(from.over, width),
         };
-        offer_group(&mut offers.row, table, from.group, rules, &tried);
+        let left = rules.ending.ends(false, long);
+        offer_unless(left, &mut offers.row, table, live.group, rules, &tried);
+        let over = kept_over(live.over, overfull, width);
+        let ended = rules.ending.ends(overfull, long);
         let kept = Live {
-            group: from.group,
-            over: kept_over(from.over, overfull, width),
+            group: live.group,
+            over,
         };
-        keep_group(&mut offers.next, rules.ending.ends(overfull, tried.long), kept)?;
+        keep_group(&mut offers.next, ended, kept)?;
     }
     Ok(())
 }
