@@ -7,11 +7,14 @@ use Rattle.std.proofs.lemmas.List.{map-append}
 use Rattle.std.proofs.lemmas.Option.{same_Some, slice_get-map}
 use Rattle.node_core.specs.declared.params.Params.{Params}
 use Rattle.break_table.specs.declared.group.Group.{Group}
+use Rattle.break_table.specs.Problems.{Problem}
+use Rattle.break_table.specs.Tables.{Entry, first_entry}
 use Rattle.break_table.proofs.Entries.{get_cases}
 use Rattle.line_meter.specs.Facts.{Facts}
 use Rattle.break_core.specs.declared.filling.Live.{Live}
 use Rattle.break_core.specs.Leaving.{over_before}
-use Rattle.break_core.specs.Active.{groups_of, with_group, with_live, AreOver}
+use Rattle.break_core.specs.Active.{groups_of, with_group, with_live, AreOver, IsFilled}
+use Rattle.break_core.proofs.Active.{filled_first}
 use Rattle.break_core.proofs.Long.{over_start}
 
 -- The group of an element.
@@ -29,7 +32,7 @@ pub over_kept :
     (facts : Facts) (params : Params) (b : ℕ) (ended : Bool) (lives new : List Live) (live : Live)
     → AreOver facts params b lives → live.over ≡ over_before facts params live.group.place b → new ≡ cond ended lives (lives ++ live ∷ [])
     → AreOver facts params b new
-over_kept facts params b true lives new live are is made = subst (AreOver facts params b) (sym made) are
+over_kept facts params b true lives new live are is made k x at = are k x (ap (λ xs. slice_get xs k) (sym made) ∙ at)
 over_kept facts params b false lives new live are is made k x at = cases (get_cases lives (live ∷ []) k x (ap (λ xs. slice_get xs k) (sym made) ∙ at))
   where
     last : (j : ℕ) → slice_get (live ∷ []) j ≡ Some x → live ≡ x
@@ -67,3 +70,11 @@ over_first facts params live at none zero x here =
     subst (λ y. y.over ≡ over_before facts params y.group.place 1) same
     (none ∙ sym (ap (λ a. over_before facts params a 1) at ∙ over_start facts params 0))
 over_first facts params live at none (suc k) x here = absurd (cc)
+
+pub filled_start :
+    (p : Problem) (stop : ℕ → ℕ → Bool) (table : List Entry) (lives : List Live) (live : Live)
+    → table ≡ first_entry ∷ [] → lives ≡ live ∷ [] → live.group.place ≡ 0 → live.group.start ≡ 0 → live.group.end ≡ 1
+    → IsFilled p stop 1 table (groups_of lives)
+filled_start p stop table lives live is_table is_lives place start end =
+    subst (λ t. IsFilled p stop 1 t (groups_of lives)) (sym is_table)
+    (subst (λ xs. IsFilled p stop 1 (first_entry ∷ []) (groups_of xs)) (sym is_lives) (filled_first p stop live.group place start end))

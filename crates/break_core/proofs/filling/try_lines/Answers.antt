@@ -16,6 +16,101 @@ use Rattle.break_core.proofs.Active.{next_active, row_quiet, row_end, front_more
 use Rattle.break_core.proofs.Counts.{swept_more, fresh_more}
 use Rattle.break_core.proofs.filling.try_lines.Goals as goal
 
+pub try_line-sums-requires-clause-later : goal.try_line-sums-requires-clause-later
+try_line-sums-requires-clause-later g c =
+    let f = g.M.Meter.facts c.args.meter.now in
+    let params = c.args.rules.now.params.now in
+    let ending = c.args.rules.now.ending in
+    let table = c.args.table.now in
+    let p = pruned f params c.args.rules.now.bound ending in
+    let stop = stops f params ending in
+    let groups = groups_of c.args.lives.now in
+    let none : Live = record { group = record { place = 0; start = 0; end = 0 }; over = None } in
+    let live = slice_index_or c.args.lives.now c.loop-live.live-index none in
+    let here = slice_get-get_or c.args.lives.now c.loop-live.live-index none c.loop-live-test.true in
+    let group = live.group in
+    let inv = c.loop-live.invariant in
+    let both = next_active p stop table c.args.place c.args.place inv.at inv.low c.loop-live.live-index groups group
+    (group_at c.args.lives.now c.loop-live.live-index live here) inv.live in
+    let next = both.0 in
+    next.group.earlier
+
+pub try_line-sums-requires-clause-few : goal.try_line-sums-requires-clause-few
+try_line-sums-requires-clause-few g c =
+    let f = g.M.Meter.facts c.args.meter.now in
+    let params = c.args.rules.now.params.now in
+    let ending = c.args.rules.now.ending in
+    let table = c.args.table.now in
+    let p = pruned f params c.args.rules.now.bound ending in
+    let stop = stops f params ending in
+    let groups = groups_of c.args.lives.now in
+    let none : Live = record { group = record { place = 0; start = 0; end = 0 }; over = None } in
+    let live = slice_index_or c.args.lives.now c.loop-live.live-index none in
+    let here = slice_get-get_or c.args.lives.now c.loop-live.live-index none c.loop-live-test.true in
+    let group = live.group in
+    let inv = c.loop-live.invariant in
+    let both = next_active p stop table c.args.place c.args.place inv.at inv.low c.loop-live.live-index groups group
+    (group_at c.args.lives.now c.loop-live.live-index live here) inv.live in
+    let next = both.0 in
+    omega (arith, c.requires.few group.place, inv.fresh group.place next.later)
+
+pub offer_unless-requires-clause-rises : goal.offer_unless-requires-clause-rises
+offer_unless-requires-clause-rises g c =
+    let f = g.M.Meter.facts c.args.meter.now in
+    let params = c.args.rules.now.params.now in
+    let ending = c.args.rules.now.ending in
+    let table = c.args.table.now in
+    let p = pruned f params c.args.rules.now.bound ending in
+    let stop = stops f params ending in
+    let groups = groups_of c.args.lives.now in
+    let none : Live = record { group = record { place = 0; start = 0; end = 0 }; over = None } in
+    let live = slice_index_or c.args.lives.now c.loop-live.live-index none in
+    let here = slice_get-get_or c.args.lives.now c.loop-live.live-index none c.loop-live-test.true in
+    let group = live.group in
+    let inv = c.loop-live.invariant in
+    let both = next_active p stop table c.args.place c.args.place inv.at inv.low c.loop-live.live-index groups group
+    (group_at c.args.lives.now c.loop-live.live-index live here) inv.live in
+    let next = both.0 in
+    next.group.rises
+
+pub offer_unless-requires-clause-within : goal.offer_unless-requires-clause-within
+offer_unless-requires-clause-within g c =
+    let f = g.M.Meter.facts c.args.meter.now in
+    let params = c.args.rules.now.params.now in
+    let ending = c.args.rules.now.ending in
+    let table = c.args.table.now in
+    let p = pruned f params c.args.rules.now.bound ending in
+    let stop = stops f params ending in
+    let groups = groups_of c.args.lives.now in
+    let none : Live = record { group = record { place = 0; start = 0; end = 0 }; over = None } in
+    let live = slice_index_or c.args.lives.now c.loop-live.live-index none in
+    let here = slice_get-get_or c.args.lives.now c.loop-live.live-index none c.loop-live-test.true in
+    let group = live.group in
+    let inv = c.loop-live.invariant in
+    let both = next_active p stop table c.args.place c.args.place inv.at inv.low c.loop-live.live-index groups group
+    (group_at c.args.lives.now c.loop-live.live-index live here) inv.live in
+    let next = both.0 in
+    next.group.within
+
+pub offer_unless-requires-clause-earlier : goal.offer_unless-requires-clause-earlier
+offer_unless-requires-clause-earlier g c =
+    let f = g.M.Meter.facts c.args.meter.now in
+    let params = c.args.rules.now.params.now in
+    let ending = c.args.rules.now.ending in
+    let table = c.args.table.now in
+    let p = pruned f params c.args.rules.now.bound ending in
+    let stop = stops f params ending in
+    let groups = groups_of c.args.lives.now in
+    let none : Live = record { group = record { place = 0; start = 0; end = 0 }; over = None } in
+    let live = slice_index_or c.args.lives.now c.loop-live.live-index none in
+    let here = slice_get-get_or c.args.lives.now c.loop-live.live-index none c.loop-live-test.true in
+    let group = live.group in
+    let inv = c.loop-live.invariant in
+    let both = next_active p stop table c.args.place c.args.place inv.at inv.low c.loop-live.live-index groups group
+    (group_at c.args.lives.now c.loop-live.live-index live here) inv.live in
+    let next = both.0 in
+    next.group.earlier
+
 pub offer_unless-requires-clause-entries : goal.offer_unless-requires-clause-entries
 offer_unless-requires-clause-entries g c =
     let f = g.M.Meter.facts c.args.meter.now in
@@ -77,6 +172,9 @@ loop-live-preserved g c =
     let bound = c.args.rules.now.bound in
     let sums = c.try_line-sums.result in
     let line = c.judge_both-line.result in
+    let width = to_z w64 (of_z w64 c.least_width-width.result) in
+    let exact : to_z w64 (of_z w64 c.least_width-width.result) ≡ c.least_width-width.result = omega (arith, ints) in
+    let is_width : to_z w64 (of_z w64 c.least_width-width.result) ≡ least_width c.try_line-sums.result = exact ∙ c.least_width-width.ensures in
     let overfull = c.is_overfull-overfull.result in
     let long = c.is_more-long.result in
     let over = c.requires.over c.loop-live.live-index live here in
@@ -84,7 +182,7 @@ loop-live-preserved g c =
     let is_over : overfull ≡ is_overfull f params group.place c.args.place =
     c.is_overfull-overfull.ensures ∙ overfull_of f h params group.place c.args.place sums line c.judge_both-line.ensures.value c.try_line-sums.ensures.sums inv.facts in
     let is_long_line : long ≡ is_long f params group.place c.args.place =
-    long_found f h params group.place c.args.place sums live.over c.least_width-width.result long c.is_more-long.ensures over c.least_width-width.ensures
+    long_found f h params group.place c.args.place sums live.over width long c.is_more-long.ensures over is_width
     c.try_line-sums.ensures.sums inv.facts in
     let tried = pruned_is f h params bound ending group c.args.place (to_z w32 (of_z w32 c.place-at.result.penalty)) sums line c.ends-left.result long
     (penalty ∙ c.place-at.ensures.penalty) c.judge_both-line.ensures.value c.try_line-sums.ensures.sums inv.facts c.ends-left.ensures is_long_line in
@@ -108,8 +206,8 @@ loop-live-preserved g c =
           (ended_quiet f params bound table c.args.place group ending overfull long c.ends-ended.result c.ends-ended.ensures is_over is_long_line c.requires.may next.group)
           (groups_kept c.ends-ended.result c.loop-live.offers.next.items c.keep_group.new.lives.items kept c.in_ok-keep_group.ensures);
       over = over_kept f params (c.args.place + 1) c.ends-ended.result c.loop-live.offers.next.items c.keep_group.new.lives.items kept inv.over
-          (over_found f h params group.place c.args.place sums live.over c.kept_over-over.result c.least_width-width.result overfull next.group.earlier
-          c.kept_over-over.ensures over is_over c.least_width-width.ensures c.try_line-sums.ensures.sums inv.facts)
+          (over_found f h params group.place c.args.place sums live.over c.kept_over-over.result width overfull next.group.earlier
+          c.kept_over-over.ensures over is_over is_width c.try_line-sums.ensures.sums inv.facts)
           c.in_ok-keep_group.ensures;
     }
 
