@@ -1,6 +1,6 @@
 -- Divided lists: the line from the start to the end, divided at each place, decides for all lines.
 use Rattle.std.proofs.Common.{◌≡◌, ◌∙◌, ℕ, zero, suc, ◌+◌, ◌-◌, ◌<◌, ◌≤◌, min, List, length, take, ap, sym, subst, arith, Some}
-use Rattle.std.specs.Prelude.{ℤ, pos, ◌+ℤ◌, ◌-ℤ◌, ◌<ℤ◌, ◌≤ℤ◌}
+use Rattle.std.specs.Prelude.{ℤ, pos, ◌+ℤ◌, ◌-ℤ◌, ◌<ℤ◌, ◌≤ℤ◌, slice_get}
 use Rattle.std.proofs.Math.Logic.{◌⊎◌, inl, inr}
 use Rattle.std.proofs.lemmas.Int.{ints}
 use Rattle.std.proofs.lemmas.Bool.{cases_lt}
@@ -11,10 +11,13 @@ use Rattle.line_meter.specs.Legal.{legal_places}
 use Rattle.line_meter.specs.Kept.{sums_of, first_kept, minus}
 use Rattle.line_meter.specs.Facts.{Facts, facts_of, position_of, begins_at}
 use Rattle.line_meter.specs.Steady.{IsSteady}
-use Rattle.line_meter.specs.Divided.{AddsLess, IsDivided}
+use Rattle.line_meter.specs.Divided.{IsLess, AddsLess, IsDivided}
+use Rattle.line_meter.specs.declared.mark.Mark.{Mark}
+use Rattle.line_meter.specs.Marks.{marks_of, line_between}
 use Rattle.line_meter.proofs.KeptSums.{kept_sums}
 use Rattle.line_meter.proofs.Places.{rising_places, begins_some, begins_before}
-use Rattle.line_meter.proofs.Steady.{first_same}
+use Rattle.line_meter.proofs.Marked.{line_at}
+use Rattle.line_meter.proofs.Rising.{first_same}
 
 -- In a steady paragraph a line gets no narrower by going on, shrunk as far as it goes.
 rises_by :
@@ -138,3 +141,28 @@ divided_by list amount steady some is a m b later before within = cases (cases_l
         → AddsLess (facts_of list) amount a m b
     cases (inl early) = not_begun list amount a m b some later before within early
     cases (inr low) = begun list amount a m b steady some later before within low (is m (omega arith) (omega arith))
+
+-- As the marks tell it.
+pub less_of :
+    (list : List Node) (marks : List Mark) (amount : ℤ) (a m b : ℕ) (x y z : Mark) → marks ≡ marks_of list → a < m → m < b → b < length marks
+    → slice_get marks a ≡ Some x → slice_get marks m ≡ Some y → slice_get marks b ≡ Some z
+    → IsLess (line_between x y) (line_between y z) (line_between x z) amount → AddsLess (facts_of list) amount a m b
+less_of list marks amount a m b x y z is later before within here there end less =
+    let front = line_at list marks a m x y is later (omega arith) here there in
+    let back = line_at list marks m b y z is before within there end in
+    let whole = line_at list marks a b x z is (omega arith) within here end in
+    subst (λ s. IsLess ((facts_of list).sums a m) ((facts_of list).sums m b) s amount) whole
+    (subst (λ s. IsLess ((facts_of list).sums a m) s (line_between x z) amount) back
+    (subst (λ s. IsLess s (line_between y z) (line_between x z) amount) front less))
+
+pub is_less_of :
+    (list : List Node) (marks : List Mark) (amount : ℤ) (a m b : ℕ) (x y z : Mark) → marks ≡ marks_of list → a < m → m < b → b < length marks
+    → slice_get marks a ≡ Some x → slice_get marks m ≡ Some y → slice_get marks b ≡ Some z
+    → AddsLess (facts_of list) amount a m b → IsLess (line_between x y) (line_between y z) (line_between x z) amount
+is_less_of list marks amount a m b x y z is later before within here there end less =
+    let front = line_at list marks a m x y is later (omega arith) here there in
+    let back = line_at list marks m b y z is before within there end in
+    let whole = line_at list marks a b x z is (omega arith) within here end in
+    subst (λ s. IsLess (line_between x y) (line_between y z) s amount) (sym whole)
+    (subst (λ s. IsLess (line_between x y) s ((facts_of list).sums a b) amount) (sym back)
+    (subst (λ s. IsLess s ((facts_of list).sums m b) ((facts_of list).sums a b) amount) (sym front) less))

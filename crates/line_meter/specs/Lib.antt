@@ -5,4 +5,4 @@ pub mod Facts
 pub mod Small
 pub mod Steady
 pub mod Divided
-pub mod Ends
+pub mod Marks

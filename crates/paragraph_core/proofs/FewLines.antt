@@ -10,13 +10,14 @@ use Rattle.node_core.specs.declared.tree.BoxNode.{BoxNode}
 use Rattle.node_core.specs.declared.tree.Glue.{Glue}
 use Rattle.node_core.specs.declared.tree.Node.{Node}
 use Rattle.node_core.specs.declared.tree.Node.TheVariants as nodes
+use Rattle.node_core.specs.Classes.{shrinks_infinitely}
 use Rattle.pack_core.specs.Glue.{is_zero}
 use Rattle.break_table.specs.declared.state.State.{State}
 use Rattle.break_table.specs.Problems.{ends_of, places_of}
 use Rattle.break_table.specs.Chosen.{top, IsFalling}
 use Rattle.break_table.specs.Tables.{most_places}
 use Rattle.break_core.specs.declared.broken.Breaks.{Breaks}
-use Rattle.line_meter.specs.Legal.{up_to, legal_places, shrinks_forever}
+use Rattle.line_meter.specs.Legal.{up_to, legal_places}
 use Rattle.line_meter.specs.Facts.{facts_of, refusal}
 use Rattle.break_core.specs.Passes.{line_end, IsBroken}
 use Rattle.vert_core.specs.Interline.{interline, glue_of, appended}
@@ -40,7 +41,7 @@ second_fails false false x y is = refl
 pub few_places : (list : List Node) → refusal list ≡ None → length (legal_places list) ≤ most_places
 few_places list is =
     let test : nat_lt most_places (length (legal_places list)) ≡ false =
-    second_fails (list_any shrinks_forever list) (nat_lt most_places (length (legal_places list))) _ _ is in
+    second_fails (list_any shrinks_infinitely list) (nat_lt most_places (length (legal_places list))) _ _ is in
     grind (arith, nat_tests)
 
 -- And so it has few lines.
