@@ -52,12 +52,7 @@ pub fn is_divided(marks: &[Mark], amount: Dimen) -> bool
     ensures no { (list : List Node) → marks.now ≡ marks_of list → IsDivided (facts_of list) amount → result ≡ true }
 {
     for next in 2..marks.len() {
-        if !adds_less(
-            &marks[0],
-            &marks[next - 1],
-            &marks[marks.len() - 1],
-            amount,
-        ) {
+        if !adds_less(&marks[0], &marks[next - 1], &marks[marks.len() - 1], amount) {
             return false;
         }
     }
