@@ -63,7 +63,7 @@ overfull_none params (AtMost most) penalty before line limit is = refused line.o
     refused true b x h = refl
     refused false b x h = absurd (cc)
 
-no_offer : (p : Problem) (e : Entry) (k l : ℕ) → p.line e.end l ≡ None → offer p e k l ≡ None
+pub no_offer : (p : Problem) (e : Entry) (k l : ℕ) → p.line e.end l ≡ None → offer p e k l ≡ None
 no_offer p e k l none = cases (nat_le (since p l) e.end.place) _ (ap (offer_of p.cut e k l) none)
   where
     cases : (t : Bool) (x : Option Entry) → x ≡ None → cond t x None ≡ None
