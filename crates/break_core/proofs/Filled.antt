@@ -1,6 +1,6 @@
 -- The entries and the lines of a group.
-use Rattle.std.proofs.Common.{◌≡◌, ◌∙◌, ℕ, ◌≤◌, ◌<◌, cond, List, Option, Some, None, ap, sym}
-use Rattle.std.specs.Prelude.{ℤ, nat_lt, slice_get, if◌then◌else◌}
+use Rattle.std.proofs.Common.{◌≡◌, ◌∙◌, ℕ, ◌≤◌, cond, List, Option, None, ap, sym}
+use Rattle.std.specs.Prelude.{ℤ, nat_lt, if◌then◌else◌}
 use Rattle.break_table.specs.declared.group.Group.{Group}
 use Rattle.break_table.specs.Problems.{Problem}
 use Rattle.break_table.specs.Tables.{Entry, IsTable}

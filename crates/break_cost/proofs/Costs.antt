@@ -1,12 +1,10 @@
 -- What a line costs.
 use Rattle.std.proofs.Common.{◌≡◌, ◌∙◌, zero, suc, ◌*◌, ◌≤◌, refl, ap, sym, arith}
-use Rattle.std.specs.Prelude.{ℤ, pos, negsuc, neg_ℤ, ◌+ℤ◌, ◌-ℤ◌, ◌*ℤ◌, ◌<ℤ◌, ◌≤ℤ◌}
+use Rattle.std.specs.Prelude.{ℤ, pos, negsuc, neg_ℤ, ◌-ℤ◌, ◌*ℤ◌, ◌<ℤ◌, ◌≤ℤ◌}
 use Rattle.std.proofs.lemmas.Int.{ints}
 use Rattle.std.proofs.Math.Nat.{mul-le-mul}
 use Rattle.std.proofs.Math.IntN.{pos-*ℤ-pos, negsuc-*ℤ-negsuc}
 use Rattle.scaled_core.specs.Dimensions.{Within}
-use Rattle.node_core.specs.declared.params.Params.{Params}
-use Rattle.break_table.specs.declared.state.Class.{Class}
 use Rattle.break_cost.specs.declared.sums.Sums.{Sums}
 use Rattle.break_cost.specs.declared.cost.Judged.{Judged}
 use Rattle.break_cost.specs.Costs.{judged_short, judged_long, judged_by, judged}
