@@ -8,7 +8,7 @@ ghost use Rattle.break_core.specs.Filling.{IsOf, IsOffering, IsOfferingUnless, A
 ghost use Rattle.break_core.specs.Leaving.{is_more, kept_over};
 ghost use Rattle.break_core.specs.Active.{ends, stops, leaves, pruned, groups_of, with_live, MayEnd, AreOver, IsActive, IsFilled, IsSwept, IsCounted};
 
-use break_cost::{Bound, Judgement, judge_both, line_from};
+use break_cost::{Bound, Judgement, judge_both};
 use break_table::{Best, Group, empty_row, improve, keep};
 use line_meter::Meter;
 use node_core::Params;
@@ -99,7 +99,7 @@ fn kept_over(over: Option<i64>, overfull: bool, width: i64) -> Option<i64>
     }
 }
 
-/// Offers the entries of a group for a place, by a line that was tried from there.
+/// Offers the entries of a group for a place, by a line that was tried from there. What is the same for all of them is found once.
 fn offer_group(
     row: &mut Vec<Option<Best>>,
     table: &[Best],
@@ -118,17 +118,15 @@ fn offer_group(
     ensures row { IsOffering table.now rules.now.params.now rules.now.bound group tried.now.place tried.now.penalty tried.now.line group.start group.end row.old.items row.new.items }
     ensures wide { length row.new.items ≡ slots rules.now.params.now.first_lines }
 {
+    let costs = tried.line.alone(rules.params, &rules.bound, tried.penalty);
+    if costs.is_none() {
+        return;
+    }
     let cut = rules.params.first_lines.get();
     for index in group.start..group.end {
         let entry = table[index];
         let end = entry.end();
-        let offered = line_from(
-            rules.params,
-            &rules.bound,
-            tried.penalty,
-            end.class,
-            tried.line.after(cut, end.lines as usize),
-        );
+        let offered = costs.after(rules.params, end);
         improve(row, entry, index, tried.place, offered, cut);
     }
 }
