@@ -26,11 +26,11 @@ next_active p stop table b high at low i live g is here =
     rest ∙ ap (λ x. x ∷ drop (suc i) live) (get_or_from_slice_get live i g g is) ∙ ap (λ n. g ∷ drop n live) (sym one) in
     subst (λ groups. IsActive p stop table b high at low groups) same here
 
--- Quiet entries leave a row as it is.
-pub row_quiet :
+-- Entries that offer nothing leave a row as it is.
+pub row_passed :
     (p : Problem) (table : List Entry) (b n m : ℕ) (row : List (Option Entry))
-    → n ≤ m → b ≤ p.places → IsQuiet p table b n m → IsRow p table b n row → IsRow p table b m row
-row_quiet p table b n m row more within quiet is =
+    → n ≤ m → ((k : ℕ) (e : Entry) → n ≤ k → k < m → slice_get table k ≡ Some e → offer p e k b ≡ None) → IsRow p table b n row → IsRow p table b m row
+row_passed p table b n m row more passed is =
     record {
       wide = is.wide;
       held = λ s o at.
@@ -42,9 +42,16 @@ row_quiet p table b n m row more within quiet is =
     met : (k : ℕ) (o : Entry) → k < m → IsOffered p table b k o → (k < n) ⊎ (n ≤ k) → IsMet row o
     met k o below offered (inl before) = is.met k o before offered
     met k o below offered (inr behind) =
-        let none = quiet k offered.by behind below offered.stands b (omega arith) within in
+        let none = passed k offered.by behind below offered.stands in
         let some = offered.offers in
         absurd (cc)
+
+-- So do quiet entries.
+pub row_quiet :
+    (p : Problem) (table : List Entry) (b n m : ℕ) (row : List (Option Entry))
+    → n ≤ m → b ≤ p.places → IsQuiet p table b n m → IsRow p table b n row → IsRow p table b m row
+row_quiet p table b n m row more within quiet is =
+    row_passed p table b n m row more (λ k e low high at. quiet k e low high at b (omega arith) within) is
 
 -- Behind all groups nothing is offered any more.
 pub row_end :

@@ -1,5 +1,5 @@
 -- The trials of passes, together.
-use Rattle.std.proofs.Common.{◌≡◌, ◌∙◌, ℕ, ◌+◌, ◌≤◌, Bool, true, ◌&&◌, ◌||◌, List, [], ◌∷◌, ◌++◌, refl, ap, sym, subst, arith}
+use Rattle.std.proofs.Common.{◌≡◌, ◌∙◌, ℕ, ◌+◌, ◌≤◌, Bool, true, false, ◌||◌, List, [], ◌∷◌, ◌++◌, refl, ap, sym, subst, arith}
 use Rattle.std.proofs.Math.Logic.{inl, inr}
 use Rattle.std.proofs.Math.Bool.{or-true}
 use Rattle.node_core.specs.declared.params.Params.{Params}
@@ -8,39 +8,31 @@ use Rattle.break_core.specs.declared.broken.Pass.{Pass}
 use Rattle.break_core.specs.declared.broken.Pass.TheVariants.{First, Second, Third}
 use Rattle.line_meter.specs.Legal.{is_forced}
 use Rattle.line_meter.specs.Facts.{Facts}
-use Rattle.break_core.specs.Passes.{bound_of}
 use Rattle.line_meter.specs.Steady.{IsSteady}
 use Rattle.break_core.specs.Filling.{IsGrown}
-use Rattle.break_core.specs.Trials.{is_overfull, is_bounded, passes_run, places_up_to, AreBounded, HasNoTrials}
-use Rattle.break_core.specs.Active.{stops, is_limit, MayDrop, IsCounted, IsWithin, AreAdded}
-use Rattle.break_core.proofs.Overfull.{both_true}
-
-limited : (params : Params) (pass : Pass) → is_bounded pass ≡ true → is_limit (bound_of params pass) ≡ true
-limited params First is = refl
-limited params Second is = refl
-limited params Third is = absurd (cc)
-
--- Overfull lines may end trying in a pass with a bound over a steady paragraph.
-pub may_drop :
-    (facts : Facts) (params : Params) (pass : Pass) (on steady drops : Bool)
-    → drops ≡ (on && (steady && is_bounded pass)) → (steady ≡ true → IsSteady facts) → drops ≡ true → MayDrop facts (bound_of params pass)
-may_drop facts params pass on steady drops is means yes_drops =
-    let first = both_true on (steady && is_bounded pass) (sym is ∙ yes_drops) in
-    let both = both_true steady (is_bounded pass) first.1 in
-    (means both.0, limited params pass both.1)
+use Rattle.break_core.specs.declared.filling.Ending.{Ending}
+use Rattle.break_core.specs.declared.filling.Ending.TheVariants.{Overfull, Long}
+use Rattle.break_core.specs.Leaving.{is_long}
+use Rattle.break_core.specs.Trials.{is_overfull, is_bounded, MayLeave, passes_run, places_up_to, AreBounded, HasNoTrials}
+use Rattle.break_core.specs.Active.{ends, stops, IsCounted, IsWithin, AreAdded}
+use Rattle.break_core.proofs.Long.{long_of}
 
 -- What was counted is within what the definition of stops allows.
 pub within_pass :
-    (facts : Facts) (params : Params) (pass : Pass) (on steady drops : Bool) (before now : ℕ → ℕ)
-    → drops ≡ (on && (steady && is_bounded pass)) → (IsSteady facts → steady ≡ true)
-    → IsCounted (stops facts params drops) facts.places before now → on ≡ true → IsWithin facts params pass before now
-within_pass facts params pass on steady drops before now is means counted yes_on a l (inl last) = omega (arith, counted.grown a, last)
-within_pass facts params pass on steady drops before now is means counted yes_on a l (inr (earlier, within, inl forced)) =
-    counted.stopped a l earlier within (ap (λ t. t || (drops && is_overfull facts params a l)) forced)
-within_pass facts params pass on steady drops before now is means counted yes_on a l (inr (earlier, within, inr over)) =
-    let yes_drops : drops ≡ true =
-    is ∙ ap (λ t. t && (steady && is_bounded pass)) yes_on ∙ ap (λ t. t && is_bounded pass) (means over.0) ∙ over.1 in
-    let test : (drops && is_overfull facts params a l) ≡ true = ap (λ t. t && is_overfull facts params a l) yes_drops ∙ over.2 in
+    (facts : Facts) (params : Params) (pass : Pass) (ending : Ending) (before now : ℕ → ℕ)
+    → (IsSteady facts → is_bounded pass ≡ true → ending ≡ Overfull) → (MayLeave facts params → is_bounded pass ≡ false → ending ≡ Long)
+    → IsCounted (stops facts params ending) facts.places before now → IsWithin facts params pass before now
+within_pass facts params pass ending before now short long counted a l (inl last) = omega (arith, counted.grown a, last)
+within_pass facts params pass ending before now short long counted a l (inr (earlier, within, inl forced)) =
+    counted.stopped a l earlier within (ap (λ t. t || ends ending (is_overfull facts params a l) (is_long facts params a l)) forced)
+within_pass facts params pass ending before now short long counted a l (inr (earlier, within, inr (inl over))) =
+    let test : ends ending (is_overfull facts params a l) (is_long facts params a l) ≡ true =
+    ap (λ e. ends e (is_overfull facts params a l) (is_long facts params a l)) (short over.0 over.1) ∙ over.2 in
+    counted.stopped a l earlier within (ap (λ t. is_forced (facts.penalty l) || t) test ∙ or-true (is_forced (facts.penalty l)))
+within_pass facts params pass ending before now short long counted a l (inr (earlier, within, inr (inr left))) =
+    let test : ends ending (is_overfull facts params a l) (is_long facts params a l) ≡ true =
+    ap (λ e. ends e (is_overfull facts params a l) (is_long facts params a l)) (long left.0 left.1)
+    ∙ long_of facts params a l left.0.steady within left.2 in
     counted.stopped a l earlier within (ap (λ t. is_forced (facts.penalty l) || t) test ∙ or-true (is_forced (facts.penalty l)))
 
 pub grown_pass :

@@ -1,6 +1,6 @@
 -- Which passes admit lists of breaks.
-use Rattle.std.proofs.Common.{◌≡◌, ◌∙◌, ℕ, zero, suc, ◌<◌, ◌≤◌, Bool, true, false, not, cond, ◌&&◌, List, [], ◌∷◌, ◌-◌, length, get_or, reverse, refl, ap, sym, subst, arith, MatchOption, Option, Some, None}
-use Rattle.std.specs.Prelude.{ℤ, pos, negsuc, ◌<ℤ◌, slice_get}
+use Rattle.std.proofs.Common.{◌≡◌, ◌∙◌, ℕ, zero, suc, ◌<◌, ◌≤◌, Bool, true, false, not, cond, ◌&&◌, List, [], ◌∷◌, ◌-◌, length, get_or, reverse, refl, ap, sym, subst, arith, MatchOption, Option, Some, None, Result, Ok, Err}
+use Rattle.std.specs.Prelude.{ℤ, pos, negsuc, ◌<ℤ◌, slice_get, IfOk}
 use Rattle.std.proofs.lemmas.Int.{ints}
 use Rattle.std.proofs.lemmas.Option.{same_Some, slice_get_within, slice_get-get_or, get_or_from_slice_get, MatchOption-at_none, MatchOption-at_some}
 use Rattle.std.proofs.lemmas.List.{get_or-reverse, length-reverse}
@@ -24,6 +24,10 @@ use Rattle.break_core.specs.declared.broken.Pass.TheVariants.{First, Second, Thi
 use Rattle.line_meter.specs.Facts.{Facts}
 use Rattle.break_core.specs.Passes.{problem_of, bound_of, IsBefore}
 use Rattle.break_core.specs.Filling.{AreWithin, IsDecided}
+use Rattle.break_core.specs.declared.filling.Ending.{Ending}
+use Rattle.break_core.specs.declared.filling.Ending.TheVariants.{Never, Overfull, Long}
+use Rattle.break_core.specs.Active.{pruned, MayEnd}
+use Rattle.break_core.proofs.Detours.{answer_without, none_without}
 
 -- A bound below 0 admits no line.
 none_below : (params : Params) (most penalty : ℤ) (before : Class) (line : Judged) → most <ℤ pos 0 → line_of params (AtMost most) penalty before line ≡ None
@@ -133,3 +137,25 @@ pub found_some :
 found_some facts other params bound found least same some is =
     MatchOption-at_some (AdmitsNone (problem_of facts params bound)) (IsAnswer (problem_of facts params bound)) least some
     (subst (λ f. Found f params bound found) same is)
+
+-- What is found in a pass without the lines that are left out is found in the pass.
+pub found_whole :
+    (facts : Facts) (params : Params) (bound : Bound) (ending : Ending) (found : Option Least)
+    → MayEnd ending facts params bound
+    → MatchOption found (AdmitsNone (pruned facts params bound ending)) (IsAnswer (pruned facts params bound ending)) → Found facts params bound found
+found_whole facts params bound Never found may is = is
+found_whole facts params bound Overfull found may is = is
+found_whole facts params bound Long None may is =
+    subst (λ b. AdmitsNone (problem_of facts params b)) (sym may.1)
+    (none_without facts params may.0 (subst (λ b. AdmitsNone (pruned facts params b Long)) may.1 is))
+found_whole facts params bound Long (Some least) may is =
+    subst (λ b. IsAnswer (problem_of facts params b) least) (sym may.1)
+    (answer_without facts params least may.0 (subst (λ b. IsAnswer (pruned facts params b Long) least) may.1 is))
+
+pub all_found :
+    {E : Type 0} (facts : Facts) (params : Params) (bound : Bound) (ending : Ending) (result : Result (Option Least) E)
+    → MayEnd ending facts params bound
+    → IfOk result (λ found. MatchOption found (AdmitsNone (pruned facts params bound ending)) (IsAnswer (pruned facts params bound ending)))
+    → IfOk result (Found facts params bound)
+all_found facts params bound ending (Ok found) may is = found_whole facts params bound ending found may is
+all_found facts params bound ending (Err fault) may is = tt

@@ -1,6 +1,6 @@
 -- The entries and the lines of a group.
-use Rattle.std.proofs.Common.{◌≡◌, ◌∙◌, ℕ, ◌≤◌, ◌<◌, List, Some, ap, sym}
-use Rattle.std.specs.Prelude.{ℤ, slice_get}
+use Rattle.std.proofs.Common.{◌≡◌, ◌∙◌, ℕ, ◌≤◌, cond, List, Option, None, ap, sym}
+use Rattle.std.specs.Prelude.{ℤ, nat_lt, if◌then◌else◌}
 use Rattle.break_table.specs.declared.group.Group.{Group}
 use Rattle.break_table.specs.Problems.{Problem}
 use Rattle.break_table.specs.Tables.{Entry, IsTable}
@@ -9,12 +9,16 @@ use Rattle.node_core.specs.declared.params.Params.{Params}
 use Rattle.break_cost.specs.declared.sums.Sums.{Sums}
 use Rattle.break_cost.specs.declared.sizes.Judgement.{Judgement}
 use Rattle.break_cost.specs.declared.cost.Bound.{Bound}
-use Rattle.break_cost.specs.Costs.{judged, line_of}
+use Rattle.break_table.specs.declared.state.Line.{Line}
+use Rattle.break_cost.specs.Costs.{judged, line_of, line_alone, after_class}
+use Rattle.break_cost.proofs.Parts.{after_none, alone_is}
 use Rattle.break_cost.specs.Sizes.{line_size, judgement, judged_after}
 use Rattle.break_cost.proofs.Widths.{after_is}
 use Rattle.line_meter.specs.Facts.{Facts}
 use Rattle.break_core.specs.Passes.{problem_of}
-use Rattle.break_core.specs.Filling.{IsOf, IsJudged}
+use Rattle.break_core.specs.Filling.{IsOf, IsJudged, IsOffering}
+use Rattle.break_core.proofs.Overfull.{no_offer}
+use Rattle.break_core.proofs.Active.{row_passed}
 
 -- The entries of a live group are of its place.
 pub group_of : (p : Problem) (table : List Entry) (b : ℕ) (g : Group) → IsTable p b table → IsGroup p table b g → IsOf p.cut table g
@@ -31,3 +35,23 @@ judged_is f h params bound g place penalty sums line is_penalty is_line is_sums 
     ap (judged_after params.first_lines s.lines) is_line ∙ after_is params sums s.lines ∙ ap (λ x. judged x (line_size params s.lines)) all in
     ap (λ x. line_of params bound x s.class (judged (f.sums s.place place) (line_size params s.lines))) (sym is_penalty)
     ∙ ap (λ x. line_of params bound penalty s.class x) (sym line_is)
+
+-- Where a line is admitted after no number of lines, the entries of its group offer nothing.
+pub none_offered :
+    (table : List Entry) (params : Params) (bound : Bound) (group : Group) (place : ℕ) (penalty : ℤ) (line : Judgement) (first rest : Option Line)
+    (row : List (Option Entry))
+    → group.start ≤ group.end → IsOf params.first_lines table group
+    → first ≡ line_alone params bound penalty (if nat_lt 0 params.first_lines then line.first else line.rest)
+    → rest ≡ line_alone params bound penalty line.rest → first ≡ None → rest ≡ None
+    → IsOffering table params bound group place penalty line group.start group.end row row
+none_offered table params bound group place penalty line first rest row rises of is_first is_rest no_first no_rest p cut late judged before =
+    row_passed p table place group.start group.end row rises (λ k e low high at. no_offer p e k place (no_line e (of k e low high at).0)) before
+  where
+    no_line : (e : Entry) → e.end.place ≡ group.place → p.line e.end place ≡ None
+    no_line e at =
+        let t = nat_lt e.end.lines params.first_lines in
+        judged e.end at
+        ∙ sym (alone_is params bound penalty line first rest e.end.lines e.end.class is_first is_rest)
+        ∙ ap (λ x. after_class params e.end.class (cond t x rest)) no_first
+        ∙ ap (λ x. after_class params e.end.class (cond t None x)) no_rest
+        ∙ after_none params e.end.class t

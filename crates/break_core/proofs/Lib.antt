@@ -6,3 +6,7 @@ pub mod Active
 pub mod Counts
 pub mod Added
 pub mod Joined
+pub mod Detours
+pub mod Long
+pub mod Endings
+pub mod Lives

@@ -23,7 +23,7 @@ use Rattle.line_meter.specs.Facts.{Facts}
 use Rattle.break_core.specs.Passes.{problem_of}
 use Rattle.line_meter.specs.Steady.{IsNoNarrower, IsSteady}
 use Rattle.break_core.specs.Trials.{is_overfull}
-use Rattle.break_core.specs.Active.{stops, is_limit, MayDrop, IsQuiet}
+use Rattle.break_core.specs.Active.{is_limit, MayDrop, IsQuiet}
 
 -- A line that is no narrower than an overfull one is overfull.
 overfull_more : (s t : Sums) (size : ℤ) → IsNoNarrower t s → (judged s size).overfull ≡ true → (judged t size).overfull ≡ true
@@ -63,7 +63,7 @@ overfull_none params (AtMost most) penalty before line limit is = refused line.o
     refused true b x h = refl
     refused false b x h = absurd (cc)
 
-no_offer : (p : Problem) (e : Entry) (k l : ℕ) → p.line e.end l ≡ None → offer p e k l ≡ None
+pub no_offer : (p : Problem) (e : Entry) (k l : ℕ) → p.line e.end l ≡ None → offer p e k l ≡ None
 no_offer p e k l none = cases (nat_le (since p l) e.end.place) _ (ap (offer_of p.cut e k l) none)
   where
     cases : (t : Bool) (x : Option Entry) → x ≡ None → cond t x None ≡ None
@@ -91,22 +91,6 @@ overfull_of f h params a b sums line is_line is_sums same =
     ap (λ j. j.first.overfull && j.rest.overfull) is_line ∙ both_overfull params sums
     ∙ ap (λ s. (judged s (greatest_size params)).overfull) (is_sums ∙ ap (λ x. x.sums a b) same)
 
--- Trying goes on where the place is not forced and it has not ended.
-pub goes_on :
-    (f : Facts) (params : Params) (drops : Bool) (a b : ℕ) (o ended : Bool)
-    → ended ≡ (drops && o) → o ≡ is_overfull f params a b → is_forced (f.penalty b) ≡ false → ended ≡ false → stops f params drops a b ≡ false
-goes_on f params drops a b o ended is same free not_ended =
-    ap (λ t. t || (drops && is_overfull f params a b)) free ∙ ap (λ t. drops && t) (sym same) ∙ sym is ∙ not_ended
-
 pub both_true : (x y : Bool) → (x && y) ≡ true → (x ≡ true) × (y ≡ true)
 both_true true y is = (refl, is)
 both_true false y is = absurd (cc)
-
--- Where it has ended, the entries of the group are quiet.
-pub ended_quiet :
-    (f : Facts) (params : Params) (bound : Bound) (table : List Entry) (b : ℕ) (g : Group) (drops o ended : Bool)
-    → ended ≡ (drops && o) → o ≡ is_overfull f params g.place b → (drops ≡ true → MayDrop f bound)
-    → IsGroup (problem_of f params bound) table b g → ended ≡ true → IsQuiet (problem_of f params bound) table (b + 1) g.start g.end
-ended_quiet f params bound table b g drops o ended is same may group yes_ended =
-    let both = both_true drops o (sym is ∙ yes_ended) in
-    overfull_quiet f params bound table b g (may both.0) group (sym same ∙ both.1)

@@ -1,21 +1,41 @@
 -- The groups of entries from which lines are still tried, and how often they were (own; no public clause speaks of it).
-use Rattle.std.specs.Prelude.{◌≡◌, ◌<◌, ◌≤◌, ◌+◌, ◌-◌, ◌⊎◌, ℕ, Bool, true, false, ◌&&◌, ◌||◌, List, [], ◌∷◌, ◌++◌, ◌==◌, if◌then◌else◌, length, slice_get, Some, None}
+use Rattle.std.specs.Prelude.{◌≡◌, ◌<◌, ◌≤◌, ◌+◌, ◌-◌, ◌⊎◌, ℕ, Bool, true, false, ◌&&◌, ◌||◌, List, [], ◌∷◌, ◌++◌, ◌==◌, if◌then◌else◌, length, map, slice_get, Some, None}
 use Rattle.node_core.specs.declared.params.Params.{Params}
 use Rattle.break_table.specs.declared.group.Group.{Group}
 use Rattle.break_table.specs.Problems.{Problem}
 use Rattle.break_table.specs.Tables.{Entry, IsTable, offer}
 use Rattle.break_table.specs.Live.{IsGroup}
+use Rattle.break_table.specs.Parts.{part}
 use Rattle.break_cost.specs.declared.cost.Bound.{Bound}
 use Rattle.break_cost.specs.declared.cost.Bound.TheVariants.{Any, AtMost}
 use Rattle.break_core.specs.declared.broken.Pass.{Pass}
 use Rattle.line_meter.specs.Legal.{is_forced}
 use Rattle.line_meter.specs.Facts.{Facts}
 use Rattle.line_meter.specs.Steady.{IsSteady}
-use Rattle.break_core.specs.Trials.{is_overfull, IsStop, places_up_to}
+use Rattle.break_core.specs.declared.filling.Ending.{Ending}
+use Rattle.break_core.specs.declared.filling.Ending.TheVariants.{Never, Overfull, Long}
+use Rattle.break_core.specs.declared.filling.Live.{Live}
+use Rattle.break_core.specs.Passes.{problem_of}
+use Rattle.break_core.specs.Trials.{is_overfull, MayLeave, IsStop, places_up_to}
+use Rattle.break_core.specs.Leaving.{is_long, over_before}
 
--- Whether lines from place a are tried no further than to place l, where overfull lines end trying or do not.
-abbrev pub stops : Facts → Params → (drops : Bool) → (a l : ℕ) → Bool
-stops facts params drops a l = is_forced (facts.penalty l) || (drops && is_overfull facts params a l)
+-- Whether trying ends at a line that is overfull or not, and long or not.
+abbrev pub ends : Ending → (overfull long : Bool) → Bool
+ends Never overfull long = false
+ends Overfull overfull long = overfull
+ends Long overfull long = long
+
+-- Whether lines from place a are tried no further than to place l.
+abbrev pub stops : Facts → Params → Ending → (a l : ℕ) → Bool
+stops facts params ending a l = is_forced (facts.penalty l) || ends ending (is_overfull facts params a l) (is_long facts params a l)
+
+-- Whether a line that is long or not is left out.
+abbrev pub leaves : Ending → (long : Bool) → Bool
+leaves ending long = ends ending false long
+
+-- A pass without the lines that are left out.
+abbrev pub pruned : Facts → Params → Bound → Ending → Problem
+pruned facts params bound ending = part (problem_of facts params bound) (λ s b. leaves ending (is_long facts params s.place b))
 
 -- Whether a bound refuses overfull lines.
 abbrev pub is_limit : Bound → Bool
@@ -25,6 +45,12 @@ is_limit (AtMost most) = true
 -- Overfull lines may end trying.
 abbrev pub MayDrop : Facts → Bound → Type 0
 MayDrop facts bound = IsSteady facts × (is_limit bound ≡ true)
+
+-- Trying may end so.
+abbrev pub MayEnd : Ending → Facts → Params → Bound → Type 0
+MayEnd Never facts params bound = Unit {0}
+MayEnd Overfull facts params bound = MayDrop facts bound
+MayEnd Long facts params bound = MayLeave facts params × (bound ≡ Any)
 
 -- The entries from one number to another offer nothing to any place from b on.
 abbrev pub IsQuiet : (p : Problem) (table : List Entry) (b from to : ℕ) → Type 0
@@ -57,6 +83,18 @@ IsActive p stop table b high at low (g ∷ groups) = IsNext p stop table b at lo
 -- A group behind others, unless it has no entries.
 abbrev pub with_group : List Group → Group → List Group
 with_group groups g = if g.start == g.end then groups else groups ++ g ∷ []
+
+-- The groups alone.
+abbrev pub groups_of : List Live → List Group
+groups_of lives = map (λ (live : Live). live.group) lives
+
+-- Beside each group stands what is kept of the lines from its place to those before place b.
+abbrev pub AreOver : Facts → Params → (b : ℕ) → List Live → Type 0
+AreOver facts params b lives = (k : ℕ) (live : Live) → slice_get lives k ≡ Some live → live.over ≡ over_before facts params live.group.place b
+
+-- The same of groups behind others, unless one has no entries.
+abbrev pub with_live : List Live → Live → List Live
+with_live lives live = if live.group.start == live.group.end then lives else lives ++ live ∷ []
 
 -- The table is filled up to a place.
 pub record IsFilled (p : Problem) (stop : ℕ → ℕ → Bool) (b : ℕ) (table : List Entry) (live : List Group) : Type 0 where

@@ -1,5 +1,5 @@
 -- The table of a paragraph as it is filled, place by place (own; no public clause speaks of it).
-use Rattle.std.specs.Prelude.{◌≡◌, ◌<◌, ◌≤◌, ◌+◌, ◌^◌, ℕ, ℤ, List, slice_get, Option, Some}
+use Rattle.std.specs.Prelude.{◌≡◌, ◌<◌, ◌≤◌, ◌+◌, ◌^◌, ℕ, ℤ, Bool, List, slice_get, Option, Some, None, if◌then◌else◌}
 use Rattle.node_core.specs.declared.params.Params.{Params}
 use Rattle.break_table.specs.declared.group.Group.{Group}
 use Rattle.break_table.specs.declared.state.State.{State}
@@ -33,6 +33,15 @@ abbrev pub IsOffering :
 IsOffering table params bound group place penalty line from to old new =
     (p : Problem) → p.cut ≡ params.first_lines → since p place ≤ group.place → IsJudged p params bound group place penalty line
     → IsRow p table place from old → IsRow p table place to new
+
+-- The same where the line is left out, or is not.
+abbrev pub IsOfferingUnless :
+    (left : Bool) (table : List Entry) → Params → Bound → Group → (place : ℕ) → (penalty : ℤ) → Judgement → (old new : List (Option Entry)) → Type 0
+IsOfferingUnless left table params bound group place penalty line old new =
+    (p : Problem) → p.cut ≡ params.first_lines → since p place ≤ group.place
+    → ((s : State) → s.place ≡ group.place
+    → p.line s place ≡ (if left then None else line_of params bound penalty s.class (judged_after params.first_lines s.lines line)))
+    → IsRow p table place group.start old → IsRow p table place group.end new
 
 -- Each count has grown by at most n.
 abbrev pub IsGrown : (n : ℕ) → (before now : ℕ → ℕ) → Type 0

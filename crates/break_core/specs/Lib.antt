@@ -3,4 +3,5 @@ pub mod Passes
 pub mod Trials
 pub mod Examples
 pub mod Filling
+pub mod Leaving
 pub mod Active

@@ -1,14 +1,15 @@
 -- How many lines are tried at most (own; the active list is after TeX: The Program, part 38, §819 and §860).
-use Rattle.std.specs.Prelude.{◌≡◌, ◌<◌, ◌≤◌, ◌+◌, ◌-◌, ◌⊎◌, ◌++◌, ℕ, pos, int_lt, Bool, true, false, List, [], ◌∷◌, if◌then◌else◌}
+use Rattle.std.specs.Prelude.{◌≡◌, ◌<◌, ◌≤◌, ◌+◌, ◌-◌, ◌<ℤ◌, ◌≤ℤ◌, ◌⊎◌, ◌++◌, ℕ, pos, int_lt, Bool, true, false, List, [], ◌∷◌, if◌then◌else◌}
 use Rattle.node_core.specs.declared.params.Params.{Params}
 use Rattle.break_cost.specs.Costs.{judged}
-use Rattle.break_cost.specs.Sizes.{greatest_size}
+use Rattle.break_cost.specs.Sizes.{line_size, greatest_size, least_width}
 use Rattle.break_core.specs.declared.broken.Pass.{Pass}
 use Rattle.break_core.specs.declared.broken.Pass.TheVariants.{First, Second, Third}
 use Rattle.break_core.specs.declared.broken.Breaks.{Breaks}
 use Rattle.line_meter.specs.Legal.{is_forced}
 use Rattle.line_meter.specs.Facts.{Facts}
 use Rattle.line_meter.specs.Steady.{IsSteady}
+use Rattle.line_meter.specs.Divided.{IsDivided}
 
 -- Whether the line from a place to another one is overfull at the greatest width of a line, and so after any number of lines.
 abbrev pub is_overfull : Facts → Params → (a l : ℕ) → Bool
@@ -20,13 +21,40 @@ is_bounded First = true
 is_bounded Second = true
 is_bounded Third = false
 
--- In a pass, lines from place a are tried no further than to place l: a line must end there, or, where the paragraph is steady and the pass has a bound,
--- the line to it is overfull; in any case they are tried no further than to the last place.
+-- The line from place a to place l passes over a place to which it is overfull, and hangs over more than there.
+pub record IsLong (facts : Facts) (params : Params) (a l : ℕ) : Type 0 where
+  pub by : ℕ
+  pub later : a < by
+  pub before : by < l
+  pub over : is_overfull facts params a by ≡ true
+  pub more : least_width (facts.sums a by) <ℤ least_width (facts.sums a l)
+
+-- From the second line on no line is wider than the next one.
+abbrev pub IsWidening : Params → Type 0
+IsWidening params = 1 < params.first_lines → params.first_size ≤ℤ params.hsize
+
+-- Such lines may be left out: the paragraph is steady, and a line that is divided gets wider by less than each line from the second one on is wide.
+pub record MayLeave (facts : Facts) (params : Params) : Type 0 where
+  pub steady : IsSteady facts
+  pub widening : IsWidening params
+  pub some : pos 0 <ℤ line_size params 1
+  pub divided : IsDivided facts (line_size params 1)
+
+-- Trying lines from place a ends at place l in a pass with a bound: the paragraph is steady, and the line to it is overfull.
+abbrev pub EndsOverfull : Facts → Params → Pass → (a l : ℕ) → Type 0
+EndsOverfull facts params pass a l = IsSteady facts × (is_bounded pass ≡ true) × (is_overfull facts params a l ≡ true)
+
+-- It ends there in a pass without a bound: the line to it is long, and such lines may be left out.
+abbrev pub EndsLong : Facts → Params → Pass → (a l : ℕ) → Type 0
+EndsLong facts params pass a l = MayLeave facts params × (is_bounded pass ≡ false) × IsLong facts params a l
+
+-- In a pass, lines from place a are tried no further than to place l: a line must end there, or the line to it is overfull or long in a pass where trying
+-- ends at such lines; in any case they are tried no further than to the last place.
 abbrev pub IsStop : Facts → Params → Pass → (a l : ℕ) → Type 0
 IsStop facts params pass a l =
     (l ≡ facts.places)
     ⊎ ((a < l) × (l ≤ facts.places)
-    × ((is_forced (facts.penalty l) ≡ true) ⊎ (IsSteady facts × (is_bounded pass ≡ true) × (is_overfull facts params a l ≡ true))))
+    × ((is_forced (facts.penalty l) ≡ true) ⊎ (EndsOverfull facts params pass a l ⊎ EndsLong facts params pass a l)))
 
 -- With a pretolerance below 0 the first pass is not run.
 abbrev pub first_run : Params → List Pass

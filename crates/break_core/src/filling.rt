@@ -4,23 +4,32 @@ ghost use Rattle.std.specs.Prelude.{◌≡◌, ◌+◌, ◌<◌, ◌≤◌, ◌+
 ghost use Rattle.break_table.specs.Tables.{most_places, slots, IsTable, IsRow};
 ghost use Rattle.break_cost.specs.Sizes.{IsSmallJudgement};
 ghost use Rattle.line_meter.specs.Legal.{is_forced};
-ghost use Rattle.break_core.specs.Passes.{problem_of};
-ghost use Rattle.break_core.specs.Filling.{IsOf, IsOffering, AreFew};
-ghost use Rattle.break_core.specs.Active.{stops, with_group, MayDrop, IsActive, IsFilled, IsSwept, IsCounted};
+ghost use Rattle.break_core.specs.Filling.{IsOf, IsOffering, IsOfferingUnless, AreFew};
+ghost use Rattle.break_core.specs.Leaving.{is_more, kept_over};
+ghost use Rattle.break_core.specs.Active.{ends, stops, leaves, pruned, groups_of, with_live, MayEnd, AreOver, IsActive, IsFilled, IsSwept, IsCounted};
 
-use break_cost::{Bound, Judgement, judge_both, line_from};
+use break_cost::{Bound, Judgement, judge_both};
 use break_table::{Best, Group, empty_row, improve, keep};
 use line_meter::Meter;
 use node_core::Params;
 use std::alloc::{AllocError, Global};
 use std::mem::swap;
 
-/// What a pass goes by: the parameters, which lines it admits, and whether trying lines from a place ends where the line is overfull.
+/// Where trying lines from a place ends, if not where a line must end: nowhere, at an overfull line, or at a line that hangs over more than one to an
+/// earlier place to which it was overfull. Such a line is in no list that is chosen, and left out.
+#[derive(Clone, Copy, Debug, PartialEq, Eq)]
+pub(crate) enum Ending {
+    Never,
+    Overfull,
+    Long,
+}
+
+/// What a pass goes by: the parameters, which lines it admits, and where trying lines from a place ends.
 #[derive(Drop)]
 pub(crate) struct Rules<'a> {
     pub(crate) params: &'a Params,
     pub(crate) bound: Bound,
-    pub(crate) drops: bool,
+    pub(crate) ending: Ending,
 }
 
 /// A line that was tried: the place to which it goes, the penalty of a break there, and how it is set.
@@ -31,21 +40,66 @@ struct Tried {
     line: Judgement,
 }
 
+/// A group of entries from which lines are tried, and how wide the line from there is to the first place to which it was overfull, shrunk as far as it goes.
+#[derive(Clone, Copy, Debug, PartialEq, Eq)]
+pub(crate) struct Live {
+    pub(crate) group: Group,
+    pub(crate) over: Option<i64>,
+}
+
 /// The table up to a place, and the groups of its entries from which lines to later places are tried.
 #[derive(Drop)]
 struct Reached {
     table: Vec<Best>,
-    live: Vec<Group>,
+    live: Vec<Live>,
 }
 
 /// What the lines to one place offer: its row, and the groups from which lines to later places are tried. It serves all places of a pass in turn.
 #[derive(Drop)]
 struct Offers {
     row: Vec<Option<Best>>,
-    next: Vec<Group>,
+    next: Vec<Live>,
 }
 
-/// Offers the entries of a group for a place, by a line that was tried from there.
+impl Ending {
+    /// Whether trying ends at a line that is overfull or not, and long or not.
+    fn ends(self, overfull: bool, long: bool) -> bool
+        ensures { result ≡ ends self overfull long }
+    {
+        match self {
+            Ending::Never => false,
+            Ending::Overfull => overfull,
+            Ending::Long => long,
+        }
+    }
+}
+
+/// Whether a line of that least width hangs over more than the first one that was overfull.
+fn is_more(over: Option<i64>, width: i64) -> bool
+    ensures { result ≡ is_more over width }
+{
+    match over {
+        Some(over) => over < width,
+        None => false,
+    }
+}
+
+/// What is kept after a line of that least width, which is overfull or not.
+fn kept_over(over: Option<i64>, overfull: bool, width: i64) -> Option<i64>
+    ensures { result ≡ kept_over over overfull width }
+{
+    match over {
+        Some(over) => Some(over),
+        None => {
+            if overfull {
+                return Some(width);
+            }
+            None
+        }
+    }
+}
+
+/// Offers the entries of a group for a place, by a line that was tried from there. What is the same for all of them is found once.
 fn offer_group(
     row: &mut Vec<Option<Best>>,
     table: &[Best],
@@ -64,46 +118,63 @@ fn offer_group(
     ensures row { IsOffering table.now rules.now.params.now rules.now.bound group tried.now.place tried.now.penalty tried.now.line group.start group.end row.old.items row.new.items }
     ensures wide { length row.new.items ≡ slots rules.now.params.now.first_lines }
 {
+    let costs = tried.line.alone(rules.params, &rules.bound, tried.penalty);
+    if costs.is_none() {
+        return;
+    }
     let cut = rules.params.first_lines.get();
     for index in group.start..group.end {
         let entry = table[index];
         let end = entry.end();
-        let offered = line_from(
-            rules.params,
-            &rules.bound,
-            tried.penalty,
-            end.class,
-            tried.line.after(cut, end.lines as usize),
-        );
+        let offered = costs.after(rules.params, end);
         improve(row, entry, index, tried.place, offered, cut);
     }
 }
 
+/// The same, where the line is not left out.
+fn offer_unless(
+    left: bool,
+    row: &mut Vec<Option<Best>>,
+    table: &[Best],
+    group: Group,
+    rules: &Rules,
+    tried: &Tried,
+)
+    requires wide { length row.old.items ≡ slots rules.now.params.now.first_lines }
+    requires rises { group.start ≤ group.end }
+    requires within { group.end ≤ length table.now }
+    requires earlier { group.place < tried.now.place }
+    requires places { tried.now.place ≤ most_places }
+    requires entries { IsOf rules.now.params.now.first_lines table.now group }
+    requires penalty { tried.now.penalty <ℤ pos 10000 }
+    requires small { IsSmallJudgement tried.now.line }
+    ensures row { IsOfferingUnless left table.now rules.now.params.now rules.now.bound group tried.now.place tried.now.penalty tried.now.line row.old.items row.new.items }
+    ensures wide { length row.new.items ≡ slots rules.now.params.now.first_lines }
+{
+    if left {
+        return;
+    }
+    offer_group(row, table, group, rules, tried);
+}
+
 /// Puts a group behind others, unless trying lines from it has ended.
-fn keep_group(live: &mut Vec<Group>, ended: bool, group: Group) -> Result<(), AllocError>
-    ensures { OnOk result (live.new.items ≡ (if ended then live.old.items else (live.old.items ++ group ∷ []))) }
+fn keep_group(lives: &mut Vec<Live>, ended: bool, live: Live) -> Result<(), AllocError>
+    ensures { OnOk result (lives.new.items ≡ (if ended then lives.old.items else (lives.old.items ++ live ∷ []))) }
 {
     if !ended {
-        live.push(group)?;
+        lives.push(live)?;
     }
     Ok(())
 }
 
 /// Puts the group of a place behind those of earlier places, unless it has no entries; those of earlier places stay, unless a line must end here.
-fn add_group(live: &mut Vec<Group>, forced: bool, group: Group) -> Result<(), AllocError>
-    ensures { OnOk result (live.new.items ≡ with_group (if forced then [] else live.old.items) group) }
+fn add_group(lives: &mut Vec<Live>, forced: bool, group: Group) -> Result<(), AllocError>
+    ensures { OnOk result (lives.new.items ≡ with_live (if forced then [] else lives.old.items) (record { group = group; over = None })) }
 {
     if forced {
-        live.clear();
+        lives.clear();
     }
-    keep_group(live, group.start == group.end, group)
-}
-
-/// Whether trying lines from a place has ended behind one that is set so.
-fn has_ended(rules: &Rules, line: &Judgement) -> bool
-    ensures { result ≡ (rules.now.drops && (line.now.first.overfull && line.now.rest.overfull)) }
-{
-    rules.drops && line.is_overfull()
+    keep_group(lives, group.start == group.end, Live { group, over: None })
 }
 
 /// Tries the line to a place from each live group once.
@@ -111,35 +182,47 @@ fn try_lines<M: Meter>(
     meter: &mut M,
     rules: &Rules,
     table: &[Best],
-    live: &[Group],
+    lives: &[Live],
     offers: &mut Offers,
     place: usize,
 ) -> Result<(), AllocError>
     requires first { 0 < place }
     requires last { place ≤ (M.facts meter.old).places }
     requires places { place ≤ most_places }
-    requires filled { IsFilled (problem_of (M.facts meter.old) rules.now.params.now rules.now.bound) (stops (M.facts meter.old) rules.now.params.now rules.now.drops) place table.now live.now }
+    requires filled { IsFilled (pruned (M.facts meter.old) rules.now.params.now rules.now.bound rules.now.ending) (stops (M.facts meter.old) rules.now.params.now rules.now.ending) place table.now (groups_of lives.now) }
+    requires over { AreOver (M.facts meter.old) rules.now.params.now place lives.now }
     requires empty { offers.old.row.items ≡ replicate (slots rules.now.params.now.first_lines) None }
-    requires drops { rules.now.drops ≡ true → MayDrop (M.facts meter.old) rules.now.bound }
+    requires may { MayEnd rules.now.ending (M.facts meter.old) rules.now.params.now rules.now.bound }
     requires few { AreFew 1 (M.trials meter.old) }
-    ensures row { OnOk result (IsRow (problem_of (M.facts meter.old) rules.now.params.now rules.now.bound) table.now place (length table.now) offers.new.row.items) }
+    ensures row { OnOk result (IsRow (pruned (M.facts meter.old) rules.now.params.now rules.now.bound rules.now.ending) table.now place (length table.now) offers.new.row.items) }
     ensures live { OnOk result (is_forced ((M.facts meter.old).penalty place) ≡ false →
-        IsActive (problem_of (M.facts meter.old) rules.now.params.now rules.now.bound) (stops (M.facts meter.old) rules.now.params.now rules.now.drops) table.now (place + 1) place 0 0 offers.new.next.items) }
+        IsActive (pruned (M.facts meter.old) rules.now.params.now rules.now.bound rules.now.ending) (stops (M.facts meter.old) rules.now.params.now rules.now.ending) table.now (place + 1) place 0 0 (groups_of offers.new.next.items)) }
+    ensures over { OnOk result (AreOver (M.facts meter.old) rules.now.params.now (place + 1) offers.new.next.items) }
     ensures facts { M.facts meter.new ≡ M.facts meter.old }
-    ensures trials { IsSwept (stops (M.facts meter.old) rules.now.params.now rules.now.drops) place (M.trials meter.old) (M.trials meter.new) }
+    ensures trials { IsSwept (stops (M.facts meter.old) rules.now.params.now rules.now.ending) place (M.trials meter.old) (M.trials meter.new) }
 {
     let at = meter.place(place);
     offers.next.clear();
-    for group in live {
-        let sums = meter.try_line(group.place, place);
+    for live in lives {
+        let sums = meter.try_line(live.group.place, place);
         let line = judge_both(&sums, rules.params);
+        let width = sums.least_width();
+        let overfull = line.is_overfull();
+        let long = is_more(live.over, width);
         let tried = Tried {
             place,
             penalty: at.penalty,
             line,
         };
-        offer_group(&mut offers.row, table, *group, rules, &tried);
-        keep_group(&mut offers.next, has_ended(rules, &tried.line), *group)?;
+        let left = rules.ending.ends(false, long);
+        offer_unless(left, &mut offers.row, table, live.group, rules, &tried);
+        let over = kept_over(live.over, overfull, width);
+        let ended = rules.ending.ends(overfull, long);
+        let kept = Live {
+            group: live.group,
+            over,
+        };
+        keep_group(&mut offers.next, ended, kept)?;
     }
     Ok(())
 }
@@ -155,15 +238,17 @@ fn add_place<M: Meter>(
     requires first { 0 < place }
     requires last { place ≤ (M.facts meter.old).places }
     requires places { place ≤ most_places }
-    requires filled { IsFilled (problem_of (M.facts meter.old) rules.now.params.now rules.now.bound) (stops (M.facts meter.old) rules.now.params.now rules.now.drops) place reached.old.table.items reached.old.live.items }
+    requires filled { IsFilled (pruned (M.facts meter.old) rules.now.params.now rules.now.bound rules.now.ending) (stops (M.facts meter.old) rules.now.params.now rules.now.ending) place reached.old.table.items (groups_of reached.old.live.items) }
+    requires over { AreOver (M.facts meter.old) rules.now.params.now place reached.old.live.items }
     requires empty { offers.old.row.items ≡ replicate (slots rules.now.params.now.first_lines) None }
-    requires drops { rules.now.drops ≡ true → MayDrop (M.facts meter.old) rules.now.bound }
+    requires may { MayEnd rules.now.ending (M.facts meter.old) rules.now.params.now rules.now.bound }
     requires few { AreFew 1 (M.trials meter.old) }
     ensures filled { OnOk result (
-        IsFilled (problem_of (M.facts meter.old) rules.now.params.now rules.now.bound) (stops (M.facts meter.old) rules.now.params.now rules.now.drops) (place + 1) reached.new.table.items reached.new.live.items) }
+        IsFilled (pruned (M.facts meter.old) rules.now.params.now rules.now.bound rules.now.ending) (stops (M.facts meter.old) rules.now.params.now rules.now.ending) (place + 1) reached.new.table.items (groups_of reached.new.live.items)) }
+    ensures over { OnOk result (AreOver (M.facts meter.old) rules.now.params.now (place + 1) reached.new.live.items) }
     ensures empty { OnOk result (offers.new.row.items ≡ replicate (slots rules.now.params.now.first_lines) None) }
     ensures facts { M.facts meter.new ≡ M.facts meter.old }
-    ensures trials { IsSwept (stops (M.facts meter.old) rules.now.params.now rules.now.drops) place (M.trials meter.old) (M.trials meter.new) }
+    ensures trials { IsSwept (stops (M.facts meter.old) rules.now.params.now rules.now.ending) place (M.trials meter.old) (M.trials meter.new) }
 {
     try_lines(meter, rules, &reached.table, &reached.live, offers, place)?;
     let start = reached.table.len();
@@ -184,23 +269,24 @@ pub(crate) fn fill<M: Meter>(
     meter: &mut M,
     rules: &Rules,
 ) -> Result<Vec<Best>, AllocError>
-    requires drops { rules.now.drops ≡ true → MayDrop (M.facts meter.old) rules.now.bound }
+    requires may { MayEnd rules.now.ending (M.facts meter.old) rules.now.params.now rules.now.bound }
     requires few { AreFew 8192 (M.trials meter.old) }
     ensures table { IfOk result (λ table.
-        IsTable (problem_of (M.facts meter.old) rules.now.params.now rules.now.bound) ((M.facts meter.old).places + 1) table.items) }
+        IsTable (pruned (M.facts meter.old) rules.now.params.now rules.now.bound rules.now.ending) ((M.facts meter.old).places + 1) table.items) }
     ensures facts { M.facts meter.new ≡ M.facts meter.old }
-    ensures trials { IsCounted (stops (M.facts meter.old) rules.now.params.now rules.now.drops) (M.facts meter.old).places (M.trials meter.old) (M.trials meter.new) }
+    ensures trials { IsCounted (stops (M.facts meter.old) rules.now.params.now rules.now.ending) (M.facts meter.old).places (M.trials meter.old) (M.trials meter.new) }
 {
     let mut reached = Reached {
         table: Vec::new(alloc),
         live: Vec::new(alloc),
     };
     reached.table.push(Best::first())?;
-    reached.live.push(Group {
+    let group = Group {
         place: 0,
         start: 0,
         end: 1,
-    })?;
+    };
+    reached.live.push(Live { group, over: None })?;
     let row = empty_row(alloc, rules.params.first_lines.get())?;
     let mut offers = Offers {
         row,

@@ -18,7 +18,7 @@ ghost use Rattle.line_meter.specs.Kept.{BeginsBefore, kept, first_kept, sums_of,
 ghost use Rattle.break_core.specs.declared.broken.Pass.{Pass};
 ghost use Rattle.break_core.specs.declared.broken.Breaks.{Breaks};
 ghost use Rattle.break_core.specs.Passes.{problem_of, bound_of, IsBroken};
-ghost use Rattle.break_core.specs.Trials.{is_overfull, is_bounded, places_up_to, AreBounded, AreSame};
+ghost use Rattle.break_core.specs.Trials.{is_overfull, is_bounded, places_up_to, AreBounded, AreSame, IsLong, MayLeave};
 ghost use Rattle.break_core.specs.Examples.{rule, space, five_rules, kern_and_glue, glue_among_penalties};
 
 /// The sums over what a line keeps are a difference of sums over the first items of the list: those in front of its end, less those in front of its first
@@ -89,4 +89,11 @@ pub fn trials_up_to_an_overfull_line()
     ensures { (facts : Facts) → (params : Params) → (passes : List Pass) → (trials : ℕ → ℕ) → AreBounded facts params passes trials → IsSteady facts →
         (a : ℕ) → (b : ℕ) → (l : ℕ) → a < b → b ≤ facts.places → is_overfull facts params a b ≡ true →
         a < l → l ≤ facts.places → is_forced (facts.penalty l) ≡ true → trials a ≤ places_up_to a (λ pass. if is_bounded pass then b else l) passes }
+{}
+
+/// Where long lines may be left out, no line passes over a place to which the line is long in the last pass, nor over one to which it is overfull in the others.
+pub fn trials_up_to_a_long_line()
+    ensures { (facts : Facts) → (params : Params) → (passes : List Pass) → (trials : ℕ → ℕ) → AreBounded facts params passes trials → MayLeave facts params →
+        (a : ℕ) → (b : ℕ) → (l : ℕ) → a < b → b ≤ facts.places → is_overfull facts params a b ≡ true →
+        a < l → l ≤ facts.places → IsLong facts params a l → trials a ≤ places_up_to a (λ pass. if is_bounded pass then b else l) passes }
 {}

@@ -2,9 +2,10 @@
 //!
 //! The three passes over a paragraph that a meter measures, and the table of the best lists of breaks, filled place by place. The list of breaks that is
 //! chosen is the least of all that the first pass admits which admits any. Lines are tried from the places of an active list. For `breaks` a place leaves
-//! it where a line must end, so that all pairs of places are tried between such places. For `active_breaks` a place leaves it also behind an overfull
-//! line, where the paragraph is steady and the pass admits no overfull line: so the trials of lines are bounded for each place. What a list tells a meter
-//! is in `line_meter` below; `paragraph_core` stands above it, with the boxes of the lines.
+//! it where a line must end, so that all pairs of places are tried between such places. For `active_breaks` a place leaves it also after an overfull
+//! line, where the paragraph is steady and the pass admits no overfull line, and in the last pass after a long one, which is in no list that is chosen: it
+//! passes over a place to which it is overfull, and hangs over more than there. So the trials of lines are bounded for each place. What a list tells a
+//! meter is in `line_meter` below; `paragraph_core` stands above it, with the boxes of the lines.
 #![tactic(auto)]
 
 mod breaking;

@@ -1,17 +1,18 @@
 //! The passes over a paragraph.
 
-ghost use Rattle.std.specs.Prelude.{◌≡◌, ◌+◌, ◌≤◌, ◌&&◌, ℕ, true, false, map, List, IfOk, OnOk, MatchOption};
+ghost use Rattle.std.specs.Prelude.{◌≡◌, ◌+◌, ◌≤◌, ℕ, true, false, map, List, IfOk, OnOk, MatchOption};
 ghost use Rattle.break_table.specs.declared.state.State.{State};
 ghost use Rattle.break_table.specs.Chosen.{AdmitsNone, IsAnswer};
 ghost use Rattle.line_meter.specs.Facts.{Facts};
 ghost use Rattle.break_core.specs.Passes.{problem_of, bound_of, line_end, IsBroken};
-ghost use Rattle.break_core.specs.Trials.{is_bounded, first_run, passes_run, AreBounded, HasNoTrials};
+ghost use Rattle.line_meter.specs.Steady.{IsSteady};
+ghost use Rattle.break_core.specs.Trials.{is_bounded, IsWidening, MayLeave, first_run, passes_run, AreBounded, HasNoTrials};
 ghost use Rattle.break_core.specs.Filling.{IsGrown, AreFew, AreWithin, IsDecided};
-ghost use Rattle.break_core.specs.Active.{IsWithin, AreAdded};
+ghost use Rattle.break_core.specs.Active.{MayEnd, IsWithin, AreAdded};
 
 use crate::broken::{Breaks, LineEnd, Pass};
-use crate::filling::{Rules, fill};
-use break_cost::Bound;
+use crate::filling::{Ending, Rules, fill};
+use break_cost::{Bound, line_size};
 use break_table::{Least, State, chosen_list};
 use line_meter::Meter;
 use node_core::Params;
@@ -28,17 +29,57 @@ fn bound_of(params: &Params, pass: Pass) -> Bound
     }
 }
 
-/// Whether overfull lines end trying in a pass over a paragraph that is steady or not, if they may at all.
-fn ends_trying(drops: bool, steady: bool, pass: Pass) -> bool
-    ensures { result ≡ (drops && (steady && is_bounded pass)) }
+/// Whether no line from the second one on is wider than the next one.
+fn is_widening(params: &Params) -> bool
+    ensures yes { result ≡ true → IsWidening params.now }
+    ensures no { IsWidening params.now → result ≡ true }
 {
+    if params.first_lines.get() < 2 {
+        return true;
+    }
+    params.first_size.get() <= params.hsize.get()
+}
+
+/// Whether long lines may be left out of the last pass over a steady paragraph.
+fn may_leave<M: Meter>(meter: &M, params: &Params) -> bool
+    requires steady { IsSteady (M.facts meter.now) }
+    ensures yes { result ≡ true → MayLeave (M.facts meter.now) params.now }
+    ensures no { MayLeave (M.facts meter.now) params.now → result ≡ true }
+{
+    if !is_widening(params) {
+        return false;
+    }
+    let least = line_size(params, 1);
+    if least.get() <= 0 {
+        return false;
+    }
+    meter.divided(least)
+}
+
+/// Where trying lines ends in a pass over a paragraph: nowhere, if `drops` is false.
+fn ending_in<M: Meter>(meter: &M, params: &Params, drops: bool, pass: Pass) -> Ending
+    ensures may { MayEnd result (M.facts meter.now) params.now (bound_of params.now pass) }
+    ensures overfull { drops ≡ true → IsSteady (M.facts meter.now) → is_bounded pass ≡ true → result ≡ Ending.Overfull }
+    ensures long { drops ≡ true → MayLeave (M.facts meter.now) params.now → is_bounded pass ≡ false → result ≡ Ending.Long }
+{
+    if !drops {
+        return Ending::Never;
+    }
+    if !meter.steady() {
+        return Ending::Never;
+    }
     match pass {
-        Pass::First | Pass::Second => drops && steady,
-        Pass::Third => false,
+        Pass::First | Pass::Second => Ending::Overfull,
+        Pass::Third => {
+            if may_leave(meter, params) {
+                return Ending::Long;
+            }
+            Ending::Never
+        }
     }
 }
 
-/// The list that is chosen in a pass, or None where it admits none. If `drops`, overfull lines end trying where they may.
+/// The list that is chosen in a pass, or None where it admits none. If `drops`, trying lines ends where it may.
 fn chosen_in<M: Meter>(
     alloc: Global,
     meter: &mut M,
@@ -58,7 +99,7 @@ fn chosen_in<M: Meter>(
     let rules = Rules {
         params,
         bound: bound_of(params, pass),
-        drops: ends_trying(drops, meter.steady(), pass),
+        ending: ending_in(meter, params, drops, pass),
     };
     let table = fill(alloc, meter, &rules)?;
     chosen_list(alloc, &table, places)
@@ -127,7 +168,7 @@ fn line_ends<M: Meter>(alloc: Global, meter: &M, ends: &[State]) -> Result<Vec<L
     Ok(lines)
 }
 
-/// The breaks of a paragraph, which a meter measures that has tried no line. If `drops`, overfull lines end trying where they may; the breaks are the same.
+/// The breaks of a paragraph, which a meter measures that has tried no line. If `drops`, trying lines ends where it may; the breaks are the same.
 pub(crate) fn breaks_of<M: Meter>(
     alloc: Global,
     meter: &mut M,

@@ -1,15 +1,13 @@
 -- What a line costs.
 use Rattle.std.proofs.Common.{◌≡◌, ◌∙◌, zero, suc, ◌*◌, ◌≤◌, refl, ap, sym, arith}
-use Rattle.std.specs.Prelude.{ℤ, pos, negsuc, neg_ℤ, ◌+ℤ◌, ◌-ℤ◌, ◌*ℤ◌, ◌<ℤ◌, ◌≤ℤ◌}
+use Rattle.std.specs.Prelude.{ℤ, pos, negsuc, neg_ℤ, ◌-ℤ◌, ◌*ℤ◌, ◌<ℤ◌, ◌≤ℤ◌}
 use Rattle.std.proofs.lemmas.Int.{ints}
 use Rattle.std.proofs.Math.Nat.{mul-le-mul}
 use Rattle.std.proofs.Math.IntN.{pos-*ℤ-pos, negsuc-*ℤ-negsuc}
 use Rattle.scaled_core.specs.Dimensions.{Within}
-use Rattle.node_core.specs.declared.params.Params.{Params}
-use Rattle.break_table.specs.declared.state.Class.{Class}
 use Rattle.break_cost.specs.declared.sums.Sums.{Sums}
 use Rattle.break_cost.specs.declared.cost.Judged.{Judged}
-use Rattle.break_cost.specs.Costs.{judged_short, judged_long, judged_by, judged, base_demerits, penalty_demerits, adjacent_demerits, demerits_of}
+use Rattle.break_cost.specs.Costs.{judged_short, judged_long, judged_by, judged}
 
 pub by_short : (sums : Sums) (s : ℤ) → pos 0 <ℤ s → judged_by sums s ≡ judged_short sums s
 unfolding judged_by
@@ -34,15 +32,6 @@ square_small (negsuc n) h =
     let most : suc n * suc n ≤ 10000 * 10000 = mul-le-mul low low in
     let same = negsuc-*ℤ-negsuc n n in
     record { low = omega (arith, ints, same, most); high = omega (arith, ints, same, most) }
-
-pub sum_is :
-    (params : Params) (penalty p : ℤ) (before : Class) (line : Judged) (b x a : ℤ)
-    → b ≡ base_demerits params line.badness → x ≡ penalty_demerits p → p ≡ penalty → a ≡ adjacent_demerits params before line.class
-    → (b +ℤ x) +ℤ a ≡ demerits_of params penalty before line
-unfolding demerits_of
-sum_is params penalty p before line b x a is_b is_x is_p is_a =
-    ap (λ y. (y +ℤ x) +ℤ a) is_b ∙ ap (λ y. (base_demerits params line.badness +ℤ y) +ℤ a) (is_x ∙ ap penalty_demerits is_p)
-    ∙ ap (λ y. (base_demerits params line.badness +ℤ penalty_demerits penalty) +ℤ y) is_a
 
 pub short_is :
     (sums : Sums) (size x : ℤ) (r : Judged) → r ≡ judged_short sums x → x ≡ (size -ℤ sums.width) → pos 0 <ℤ x → r ≡ judged sums size

@@ -2,3 +2,4 @@
 pub mod Costs
 pub mod Bounds
 pub mod Widths
+pub mod Parts

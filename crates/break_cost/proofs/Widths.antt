@@ -1,14 +1,15 @@
 -- Lines of two widths.
-use Rattle.std.proofs.Common.{◌≡◌, ◌∙◌, ℕ, ◌<◌, ◌≤◌, Bool, true, false, cond, ◌&&◌, refl, ap, sym, subst, arith}
+use Rattle.std.proofs.Common.{◌≡◌, ◌∙◌, ℕ, ◌+◌, ◌<◌, ◌≤◌, min, Bool, true, false, cond, ◌&&◌, refl, ap, sym, subst, arith}
 use Rattle.std.specs.Prelude.{ℤ, pos, neg_ℤ, int_lt, nat_lt, ◌<ℤ◌, ◌≤ℤ◌, ◌-ℤ◌}
 use Rattle.std.proofs.Math.Logic.{◌⊎◌, inl, inr}
 use Rattle.std.proofs.lemmas.Int.{ints, by_lt_z}
-use Rattle.std.proofs.lemmas.Bool.{cases_Bool, cond-true, cond-false}
+use Rattle.std.proofs.lemmas.Bool.{cases_Bool, cases_lt, cond-true, cond-false}
 use Rattle.node_core.specs.declared.params.Params.{Params}
 use Rattle.break_cost.specs.declared.sums.Sums.{Sums}
 use Rattle.break_cost.specs.declared.cost.Judged.{Judged}
 use Rattle.break_cost.specs.Costs.{stretches_forever, judged_short, judged_long, judged}
 use Rattle.break_cost.specs.Sizes.{line_size, greatest_size, judgement, judged_after}
+use Rattle.break_cost.proofs.Bounds.{hangs_over, hangs_not}
 use Rattle.break_cost.proofs.Costs.{by_short, by_long}
 
 -- Which of two settings is taken says whether the line is overfull.
@@ -84,11 +85,11 @@ greatest_none params none =
     (ap (λ t. t && int_lt params.hsize params.first_size) no)
 
 -- Where some lines are first ones, the first one is as wide as firstsize.
-size_some : (params : Params) (lines : ℕ) → nat_lt lines params.first_lines ≡ true → line_size params lines ≡ params.first_size
+pub size_some : (params : Params) (lines : ℕ) → nat_lt lines params.first_lines ≡ true → line_size params lines ≡ params.first_size
 unfolding line_size
 size_some params lines is = cond-true (nat_lt lines params.first_lines) params.first_size params.hsize is
 
-size_rest : (params : Params) (lines : ℕ) → nat_lt lines params.first_lines ≡ false → line_size params lines ≡ params.hsize
+pub size_rest : (params : Params) (lines : ℕ) → nat_lt lines params.first_lines ≡ false → line_size params lines ≡ params.hsize
 unfolding line_size
 size_rest params lines is = cond-false (nat_lt lines params.first_lines) params.first_size params.hsize is
 
@@ -205,3 +206,59 @@ both_overfull params sums =
 
     from : (judged sums (greatest_size params)).overfull ≡ true → ((judged sums (line_size params 0)).overfull ≡ true) × ((judged sums params.hsize).overfull ≡ true)
     from is = (overfull_each params sums 0 is, overfull_narrower sums (greatest_size params) params.hsize hsize_most is)
+
+-- How far a line hangs over.
+first_overhang : (b : Bool) (x y : Judged) → b ≡ true → (cond b x y).overhang ≡ x.overhang
+first_overhang true x y h = refl
+first_overhang false x y h = absurd (cc)
+
+long_overhang : (s : Sums) (x : ℤ) → int_lt s.shrink x ≡ true → (judged_long s x).overhang ≡ x -ℤ s.shrink
+unfolding judged_long
+long_overhang s x h = first_overhang (int_lt s.shrink x) _ _ h
+
+-- How far an overfull line hangs over.
+pub overhang_is : (s : Sums) (size : ℤ) → (judged s size).overfull ≡ true → (judged s size).overhang ≡ (s.width -ℤ size) -ℤ s.shrink
+unfolding judged
+overhang_is s size is =
+    let m = overfull_means s size is in
+    let t = s.width -ℤ size in
+    let same : t ≡ neg_ℤ (size -ℤ s.width) = omega (arith, ints) in
+    let low : (size -ℤ s.width) ≤ℤ pos 0 = omega (arith, ints, m.0) in
+    ap (λ j. j.overhang) (by_long s (size -ℤ s.width) t low same) ∙ long_overhang s t (is_lt s.shrink t m.1)
+
+-- A line hangs over no more at a greater width.
+pub overhang_less : (s : Sums) (size less : ℤ) → less ≤ℤ size → (judged s size).overhang ≤ℤ (judged s less).overhang
+overhang_less s size less is_less = cases (cases_Bool (judged s size).overfull) (cases_Bool (judged s less).overfull)
+  where
+    cases :
+        ((judged s size).overfull ≡ true) ⊎ ((judged s size).overfull ≡ false) → ((judged s less).overfull ≡ true) ⊎ ((judged s less).overfull ≡ false)
+        → (judged s size).overhang ≤ℤ (judged s less).overhang
+    cases (inl over) other =
+        let a = overhang_is s size over in
+        let b = overhang_is s less (overfull_narrower s size less is_less over) in
+        omega (arith, ints, a, b, is_less)
+    cases (inr fits) (inl over) =
+        let a = hangs_not s size fits in
+        let b = hangs_over s less over in
+        omega (arith, ints, a, b)
+    cases (inr fits) (inr fits_too) =
+        let a = hangs_not s size fits in
+        let b = hangs_not s less fits_too in
+        omega (arith, ints, a, b)
+
+-- The line a number of lines after those that are counted is as wide as the one that number after all of them.
+pub size_counted : (params : Params) (lines more : ℕ) → line_size params (min (lines + 1) params.first_lines + more) ≡ line_size params ((lines + 1) + more)
+size_counted params lines more = cases (cases_lt (lines + 1) params.first_lines)
+  where
+    cases :
+        (lines + 1 < params.first_lines) ⊎ (params.first_lines ≤ lines + 1)
+        → line_size params (min (lines + 1) params.first_lines + more) ≡ line_size params ((lines + 1) + more)
+    cases (inl less) =
+        let n : min (lines + 1) params.first_lines ≡ lines + 1 = omega arith in
+        ap (λ k. line_size params (k + more)) n
+    cases (inr most) =
+        let n : min (lines + 1) params.first_lines ≡ params.first_lines = omega arith in
+        let no_first : nat_lt (params.first_lines + more) params.first_lines ≡ false = grind (arith) in
+        let not_first : nat_lt ((lines + 1) + more) params.first_lines ≡ false = grind (arith) in
+        ap (λ k. line_size params (k + more)) n ∙ size_rest params (params.first_lines + more) no_first
+        ∙ sym (size_rest params ((lines + 1) + more) not_first)

@@ -93,3 +93,16 @@ line_of params bound penalty before line =
     if admits bound line
     then Some (record { class = line.class; overhang = line.overhang; demerits = demerits_of params penalty before line })
     else None
+
+-- The line without what the class of the line before it adds, if the bound admits it.
+unfoldable pub line_alone : Params → Bound → (penalty : ℤ) → Judged → Option Line
+line_alone params bound penalty line =
+    if admits bound line
+    then Some (record { class = line.class; overhang = line.overhang; demerits = base_demerits params line.badness +ℤ penalty_demerits penalty })
+    else None
+
+-- A line behind one of a class, by the line without what that class adds.
+unfoldable pub after_class : Params → (before : Class) → Option Line → Option Line
+after_class params before None = None
+after_class params before (Some line) =
+    Some (record { class = line.class; overhang = line.overhang; demerits = line.demerits +ℤ adjacent_demerits params before line.class })

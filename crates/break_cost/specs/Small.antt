@@ -2,6 +2,7 @@
 use Rattle.std.specs.Prelude.{◌≤◌, ◌^◌}
 use Rattle.scaled_core.specs.Dimensions.{Within}
 use Rattle.break_table.specs.Tables.{most_overhang}
+use Rattle.break_table.specs.declared.state.Line.{Line}
 use Rattle.break_cost.specs.declared.sums.Sums.{Sums}
 use Rattle.break_cost.specs.declared.cost.Judged.{Judged}
 
@@ -15,3 +16,8 @@ pub record IsSmallSums (sums : Sums) : Type 0 where
 pub record IsSmallJudged (line : Judged) : Type 0 where
   pub badness : line.badness ≤ 10000
   pub overhang : Within most_overhang line.overhang
+
+-- A line without what the class of the line before it adds is so small that the line is.
+pub record IsSmallAlone (line : Line) : Type 0 where
+  pub overhang : Within most_overhang line.overhang
+  pub demerits : Within 200000000 line.demerits

@@ -1,10 +1,10 @@
 //! What a line costs.
 
-ghost use Rattle.std.specs.Prelude.{◌≡◌, ◌≤◌, ◌<ℤ◌, ◌≤ℤ◌, ◌*ℤ◌, ◌+◌, ◌^◌, pos, IfSome};
+ghost use Rattle.std.specs.Prelude.{◌≡◌, ◌≤◌, ◌<ℤ◌, ◌≤ℤ◌, ◌*ℤ◌, ◌+ℤ◌, ◌+◌, ◌^◌, pos, IfSome};
 ghost use Rattle.scaled_core.specs.Dimensions.{Within};
 ghost use Rattle.break_table.specs.Tables.{IsSmallLine};
-ghost use Rattle.break_cost.specs.Costs.{stretched_class, shrunk_class, stretches_forever, judged_short, judged_long, judged, base_demerits, penalty_demerits, is_apart, adjacent_demerits, demerits_of, admits, line_of};
-ghost use Rattle.break_cost.specs.Small.{IsSmallSums, IsSmallJudged};
+ghost use Rattle.break_cost.specs.Costs.{stretched_class, shrunk_class, stretches_forever, judged_short, judged_long, judged, base_demerits, penalty_demerits, is_apart, adjacent_demerits, admits, line_alone, after_class};
+ghost use Rattle.break_cost.specs.Small.{IsSmallSums, IsSmallJudged, IsSmallAlone};
 
 use crate::sums::Sums;
 use break_table::{Class, Line};
@@ -191,18 +191,6 @@ fn adjacent_demerits(params: &Params, before: Class, class: Class) -> i64
     0
 }
 
-/// The demerits of a line behind one of a class, to a break of a penalty.
-#[tactic(auto, unfolding(crate::specs::Costs::demerits_of))]
-fn demerits_of(params: &Params, penalty: i32, before: Class, line: &Judged) -> i64
-    requires penalty { penalty <ℤ pos 10000 }
-    requires small { IsSmallJudged line.now }
-    ensures value { result ≡ demerits_of params.now penalty before line.now }
-    ensures small { Within (2 ^ 30) result }
-{
-    let base = base_demerits(params, line.badness);
-    base + penalty_demerits(penalty) + adjacent_demerits(params, before, line.class)
-}
-
 /// Whether a bound admits a line.
 #[tactic(auto, unfolding(crate::specs::Costs::admits))]
 fn admits(bound: &Bound, line: &Judged) -> bool
@@ -220,19 +208,29 @@ fn admits(bound: &Bound, line: &Judged) -> bool
     }
 }
 
-/// The line behind one of a class, to a break of a penalty, if the bound admits it.
-#[tactic(auto, unfolding(crate::specs::Costs::line_of))]
-pub fn line_from(
+/// The demerits of a line to a break of a penalty, without what the class of the line before it adds.
+fn alone_demerits(params: &Params, penalty: i32, badness: u32) -> i64
+    requires badness { badness ≤ 10000 }
+    requires penalty { penalty <ℤ pos 10000 }
+    ensures value { result ≡ base_demerits params.now badness +ℤ penalty_demerits penalty }
+    ensures small { Within 200000000 result }
+{
+    let base = base_demerits(params, badness);
+    base + penalty_demerits(penalty)
+}
+
+/// The line to a break of a penalty, if the bound admits it, without what the class of the line before it adds.
+#[tactic(auto, unfolding(crate::specs::Costs::line_alone))]
+pub(crate) fn line_alone(
     params: &Params,
     bound: &Bound,
     penalty: i32,
-    before: Class,
     line: &Judged,
 ) -> Option<Line>
     requires penalty { penalty <ℤ pos 10000 }
     requires small { IsSmallJudged line.now }
-    ensures value { result ≡ line_of params.now bound.now penalty before line.now }
-    ensures small { IfSome result IsSmallLine }
+    ensures value { result ≡ line_alone params.now bound.now penalty line.now }
+    ensures small { IfSome result IsSmallAlone }
 {
     if !admits(bound, line) {
         return None;
@@ -240,6 +238,23 @@ pub fn line_from(
     Some(Line {
         class: line.class,
         overhang: line.overhang,
-        demerits: demerits_of(params, penalty, before, line),
+        demerits: alone_demerits(params, penalty, line.badness),
+    })
+}
+
+/// The line behind one of a class.
+#[tactic(auto, unfolding(crate::specs::Costs::after_class))]
+pub(crate) fn after_class(params: &Params, before: Class, line: Option<Line>) -> Option<Line>
+    requires small { IfSome line IsSmallAlone }
+    ensures value { result ≡ after_class params.now before line }
+    ensures small { IfSome result IsSmallLine }
+{
+    let Some(alone) = line else {
+        return None;
+    };
+    Some(Line {
+        class: alone.class,
+        overhang: alone.overhang,
+        demerits: alone.demerits + adjacent_demerits(params, before, alone.class),
     })
 }

@@ -5,7 +5,10 @@ ghost use Rattle.node_core.specs.declared.params.Params.{Params};
 ghost use Rattle.node_core.specs.Parameters.{first_params};
 ghost use Rattle.break_table.specs.declared.state.Class.TheVariants.{VeryLoose, Decent, Tight};
 ghost use Rattle.break_cost.specs.declared.sums.Sums.{Sums};
-ghost use Rattle.break_cost.specs.Costs.{judged, demerits_of};
+ghost use Rattle.break_table.specs.declared.state.Class.{Class};
+ghost use Rattle.break_cost.specs.declared.cost.Judged.{Judged};
+ghost use Rattle.break_cost.specs.declared.cost.Bound.{Bound};
+ghost use Rattle.break_cost.specs.Costs.{judged, demerits_of, line_of, line_alone, after_class};
 ghost use Rattle.break_cost.specs.Sizes.{line_size, greatest_size, judgement, judged_after};
 ghost use Rattle.break_cost.specs.Examples.{line_of_points};
 
@@ -64,4 +67,10 @@ pub fn one_judgement_serves_all()
     ensures each { (params : Params) → (sums : Sums) → (lines : ℕ) →
         (judged sums (greatest_size params)).overfull ≡ true → (judged sums (line_size params lines)).overfull ≡ true }
     ensures most { (params : Params) → (lines : ℕ) → line_size params lines ≤ℤ greatest_size params }
+{}
+
+/// A line behind one of a class is the line without what that class adds, and what it adds.
+pub fn parts_of_a_line()
+    ensures { (params : Params) → (bound : Bound) → (penalty : ℤ) → (before : Class) → (line : Judged) →
+        after_class params before (line_alone params bound penalty line) ≡ line_of params bound penalty before line }
 {}

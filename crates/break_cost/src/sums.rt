@@ -1,5 +1,9 @@
 //! Sums over the items of a line.
 
+ghost use Rattle.std.specs.Prelude.{◌≡◌};
+ghost use Rattle.break_cost.specs.Sizes.{least_width};
+ghost use Rattle.break_cost.specs.Small.{IsSmallSums};
+
 /// The sums over the items of a line, in scaled points: their widths, how much they stretch in each order, and how much they shrink in order normal.
 #[derive(Clone, Copy, Debug, PartialEq, Eq)]
 pub struct Sums {
@@ -21,4 +25,12 @@ impl Sums {
         filll: 0,
         shrink: 0,
     };
+
+    /// How wide the line is that is shrunk as far as it goes.
+    pub fn least_width(&self) -> i64
+        requires small { IsSmallSums self.now }
+        ensures { result ≡ least_width self.now }
+    {
+        self.width - self.shrink
+    }
 }

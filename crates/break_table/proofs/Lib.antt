@@ -9,3 +9,4 @@ pub mod Bellman
 pub mod Comparing
 pub mod BestEnds
 pub mod Live
+pub mod Parts

@@ -5,3 +5,4 @@ pub mod Chosen
 pub mod Ways
 pub mod Tables
 pub mod Live
+pub mod Parts

@@ -5,4 +5,5 @@ pub mod Smalls
 pub mod Walks
 pub mod Marked
 pub mod Rising
+pub mod Divided
 pub mod Ends

@@ -33,7 +33,7 @@ drop_more [] (suc i) j = drop-nil j ∙ sym (drop-nil (suc i + j))
 drop_more (x ∷ list) (suc i) j = let n : suc (i + j) ≡ suc i + j = omega arith in drop_more list i j ∙ ap (λ k. drop k (x ∷ list)) n
 
 -- Lines from two places with nothing but dropped items between them begin at the same item.
-first_same : (list : List Node) (a x : ℕ) → a ≤ x → x < first_kept list (Some a) → first_kept list (Some x) ≡ first_kept list (Some a)
+pub first_same : (list : List Node) (a x : ℕ) → a ≤ x → x < first_kept list (Some a) → first_kept list (Some x) ≡ first_kept list (Some a)
 first_same list a x later before =
     let j = x - a in
     let n : (a + 1) + j ≡ x + 1 = omega arith in

@@ -4,4 +4,5 @@ pub mod Kept
 pub mod Facts
 pub mod Small
 pub mod Steady
+pub mod Divided
 pub mod Marks

@@ -5,6 +5,7 @@
 //! passes and chooses no breaks: `break_core`, which breaks what any meter measures, is above it.
 #![tactic(auto)]
 
+mod dividing;
 mod fault;
 mod list;
 mod list_meter;

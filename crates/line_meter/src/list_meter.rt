@@ -11,6 +11,7 @@ ghost use Rattle.line_meter.specs.Legal.{legal_places};
 ghost use Rattle.line_meter.specs.Marks.{marks_of};
 ghost use Rattle.line_meter.specs.Small.{AreSmallMarks};
 
+use crate::dividing::is_divided;
 use crate::fault::BreakFault;
 use crate::list::{no_trials, refusal};
 use crate::mark::Mark;
@@ -19,6 +20,7 @@ use crate::steady::is_steady;
 use crate::sums::Sums;
 use crate::walk::marks_of;
 use node_core::Node;
+use scaled_core::Dimen;
 use std::alloc::{AllocError, Global};
 
 /// A list of at most 131,072 nodes with at most 8,192 legal places, measured: a mark of its start and of each place, whether no line gets narrower by going
@@ -116,6 +118,10 @@ impl<'a> Meter for ListMeter<'a> {
 
     fn steady(&self) -> bool {
         self.steady
+    }
+
+    fn divided(&self, amount: Dimen) -> bool {
+        is_divided(&self.marks, amount)
     }
 
     fn try_line(&mut self, from: usize, to: usize) -> Sums {

@@ -6,8 +6,10 @@ ghost use Rattle.line_meter.specs.Legal.{is_forced};
 ghost use Rattle.line_meter.specs.Facts.{Facts};
 ghost use Rattle.line_meter.specs.Small.{IsSmallSums};
 ghost use Rattle.line_meter.specs.Steady.{IsSteady};
+ghost use Rattle.line_meter.specs.Divided.{IsDivided};
 
 use crate::sums::Sums;
+use scaled_core::Dimen;
 
 /// A legal place: where it stands in the list, and the penalty of a break there.
 #[derive(Clone, Copy, Debug, PartialEq, Eq)]
@@ -51,6 +53,13 @@ pub trait Meter {
     fn steady(&self) -> bool
         ensures steady { result ≡ true → IsSteady (facts self.now) }
         ensures unsteady { IsSteady (facts self.now) → result ≡ true };
+
+    /// Whether each line, divided at a place that it passes over, gets wider by less than an amount, shrunk as far as it goes.
+    fn divided(&self, amount: Dimen) -> bool
+        requires steady { IsSteady (facts self.now) }
+        requires some { pos 0 <ℤ amount }
+        ensures divided { result ≡ true → IsDivided (facts self.now) amount }
+        ensures undivided { IsDivided (facts self.now) amount → result ≡ true };
 
     /// The sums over the items of a line.
     fn try_line(&mut self, from: usize, to: usize) -> Sums

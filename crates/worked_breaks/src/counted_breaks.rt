@@ -85,7 +85,7 @@ fn expect_trials(rt: &impl Abort, alloc: Global, items: Vec<Node>, steady: bool,
 #[test]
 fn trials_of_each_place(rt: HostRuntime) {
     let alloc = rt.alloc();
-    // an overfull word: lines end trying behind it in two passes, and not in the third; in those two no list ends at the places behind the start
+    // an overfull word: trying lines ends after it in two passes, and in the third at the end; in those two no list ends at the places after the start
     let items = [
         rule(&rt, 10),
         glue(&rt, 5, 15),
@@ -95,6 +95,18 @@ fn trials_of_each_place(rt: HostRuntime) {
     ];
     let items = Vec::from_array(alloc, items).expect(&rt, "there is memory");
     expect_trials(&rt, alloc, items, true, &[7, 2, 1, 0, 0]);
+    // words after an overfull one: in the third pass trying lines from the start ends at the second place, of 5, since that line hangs over more than the
+    // first one
+    let mut items = Vec::new(alloc);
+    let wide = items.push(rule(&rt, 50));
+    wide.ok().expect(&rt, "there is memory");
+    for _ in 0..4 {
+        let between = items.push(glue(&rt, 5, 15));
+        between.ok().expect(&rt, "there is memory");
+        let word = items.push(rule(&rt, 10));
+        word.ok().expect(&rt, "there is memory");
+    }
+    expect_trials(&rt, alloc, items, true, &[4, 4, 3, 2, 1, 0]);
     // a kern that goes back behind an overfull line: one pass, and lines to all later places, but none from the end of the overfull line
     let items = [
         rule(&rt, 50),

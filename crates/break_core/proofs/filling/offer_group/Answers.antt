@@ -1,11 +1,14 @@
 use Rattle.std.proofs.Common.{◌≡◌, ◌∙◌, ◌≤◌, to_z, of_z, w32, length, refl, ap, sym, subst, arith}
+use Rattle.std.specs.Prelude.{nat_lt, if◌then◌else◌}
 use Rattle.std.proofs.lemmas.Int.{ints}
 use Rattle.std.proofs.lemmas.Option.{slice_get_read}
 use Rattle.break_table.specs.Ways.{since}
 use Rattle.break_table.specs.Tables.{slots}
-use Rattle.break_cost.specs.Costs.{line_of}
+use Rattle.break_cost.specs.Costs.{line_of, after_class}
+use Rattle.break_cost.proofs.Parts.{alone_is}
 use Rattle.break_cost.specs.Sizes.{judged_after}
 use Rattle.break_core.specs.Filling.{IsOffering}
+use Rattle.break_core.proofs.Filled.{none_offered}
 use Rattle.break_core.proofs.filling.offer_group.Goals as goal
 
 pub loop-index-init : goal.loop-index-init
@@ -37,11 +40,12 @@ loop-index-preserved c =
     let place = (c.requires.entries c.loop-index.index e c.loop-index.invariant.low c.loop-index-test.true stands).0 in
     let penalty : to_z w32 (of_z w32 c.args.tried.now.penalty) ≡ c.args.tried.now.penalty = omega (arith, ints) in
     let p = to_z w32 (of_z w32 c.args.tried.now.penalty) in
-    let line = c.line_from-offered.ensures.value
-    ∙ ap (λ j. line_of c.args.rules.now.params.now c.args.rules.now.bound p c.end-end.result.class j) c.after.ensures
-    ∙ ap (λ s. line_of c.args.rules.now.params.now c.args.rules.now.bound p s.class (judged_after c.get-cut.result s.lines c.args.tried.now.line)) c.end-end.ensures.end
-    ∙ ap (λ n. line_of c.args.rules.now.params.now c.args.rules.now.bound p e.end.class (judged_after n e.end.lines c.args.tried.now.line)) c.get-cut.ensures.value
-    ∙ ap (λ x. line_of c.args.rules.now.params.now c.args.rules.now.bound x e.end.class (judged_after c.args.rules.now.params.now.first_lines e.end.lines c.args.tried.now.line)) penalty in
+    let rules = c.args.rules.now in
+    let costs = c.alone-costs.result in
+    let line = c.after-offered.ensures.value
+    ∙ ap (λ s. after_class rules.params.now s.class (if nat_lt s.lines rules.params.now.first_lines then costs.first else costs.rest)) c.end-end.ensures.end
+    ∙ alone_is rules.params.now rules.bound p c.args.tried.now.line costs.first costs.rest e.end.lines e.end.class c.alone-costs.ensures.first c.alone-costs.ensures.rest
+    ∙ ap (λ x. line_of rules.params.now rules.bound x e.end.class (judged_after rules.params.now.first_lines e.end.lines c.args.tried.now.line)) penalty in
     record {
       low = omega (arith, c.loop-index.invariant.low);
       wide = c.improve.ensures.wide ∙ ap slots c.get-cut.ensures.value;
@@ -58,3 +62,14 @@ returns-clause-row c =
 
 pub returns-clause-wide : goal.returns-clause-wide
 returns-clause-wide c = c.loop-index.invariant.wide
+
+pub returns-then-is_none-clause-row : goal.returns-then-is_none-clause-row
+returns-then-is_none-clause-row c =
+    let rules = c.args.rules.now in
+    let penalty : to_z w32 (of_z w32 c.args.tried.now.penalty) ≡ c.args.tried.now.penalty = omega (arith, ints) in
+    let none = c.is_none.ensures c.if-is_none.true in
+    subst (λ x. IsOffering c.args.table.now rules.params.now rules.bound c.args.group c.args.tried.now.place x c.args.tried.now.line c.args.group.start c.args.group.end c.args.row.now.items c.args.row.now.items)
+    penalty
+    (none_offered c.args.table.now rules.params.now rules.bound c.args.group c.args.tried.now.place (to_z w32 (of_z w32 c.args.tried.now.penalty))
+    c.args.tried.now.line c.alone-costs.result.first c.alone-costs.result.rest c.args.row.now.items c.requires.rises c.requires.entries
+    c.alone-costs.ensures.first c.alone-costs.ensures.rest none.0 none.1)

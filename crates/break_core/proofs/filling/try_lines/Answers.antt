@@ -1,90 +1,238 @@
-use Rattle.std.proofs.Common.{◌≡◌, ◌∙◌, ◌+◌, ◌&&◌, to_z, of_z, w32, refl, arith}
+use Rattle.std.proofs.Common.{◌≡◌, ◌∙◌, ◌+◌, ◌≤◌, ◌&&◌, Bool, None, length, to_z, of_z, w32, w64, refl, arith}
 use Rattle.std.proofs.lemmas.Int.{ints}
 use Rattle.std.specs.Prelude.{slice_index_or}
+use Rattle.std.proofs.lemmas.List.{length-map}
 use Rattle.std.proofs.lemmas.Option.{slice_get-get_or}
-use Rattle.break_core.specs.Passes.{problem_of}
-use Rattle.break_core.proofs.Filled.{group_of, judged_is}
-use Rattle.break_core.specs.Active.{stops}
-use Rattle.break_core.proofs.Overfull.{overfull_of, goes_on, ended_quiet}
+use Rattle.break_cost.specs.Sizes.{least_width}
+use Rattle.break_core.specs.declared.filling.Live.{Live}
+use Rattle.break_core.specs.Trials.{is_overfull}
+use Rattle.break_core.specs.Leaving.{is_long}
+use Rattle.break_core.specs.Active.{stops, pruned, groups_of}
+use Rattle.break_core.proofs.Filled.{group_of}
+use Rattle.break_core.proofs.Overfull.{overfull_of}
+use Rattle.break_core.proofs.Endings.{long_found, over_found, pruned_is, goes_on, ended_quiet}
+use Rattle.break_core.proofs.Lives.{group_at, groups_kept, over_kept}
 use Rattle.break_core.proofs.Active.{next_active, row_quiet, row_end, front_more, front_end}
 use Rattle.break_core.proofs.Counts.{swept_more, fresh_more}
 use Rattle.break_core.proofs.filling.try_lines.Goals as goal
 
-pub offer_group-requires-clause-entries : goal.offer_group-requires-clause-entries
-offer_group-requires-clause-entries g c =
+pub try_line-sums-requires-clause-later : goal.try_line-sums-requires-clause-later
+try_line-sums-requires-clause-later g c =
     let f = g.M.Meter.facts c.args.meter.now in
-    let p = problem_of f c.args.rules.now.params.now c.args.rules.now.bound in
-    let group = slice_index_or c.args.live.now c.loop-group.group-index (record { place = 0; start = 0; end = 0 }) in
-    let at = slice_get-get_or c.args.live.now c.loop-group.group-index (record { place = 0; start = 0; end = 0 }) c.loop-group-test.true in
-    let inv = c.loop-group.invariant in
-    let next = next_active p (stops f c.args.rules.now.params.now c.args.rules.now.drops) c.args.table.now c.args.place c.args.place inv.at inv.low c.loop-group.group-index c.args.live.now
-    group at inv.live in
-    group_of p c.args.table.now c.args.place group c.requires.filled.is_table next.0.group
+    let params = c.args.rules.now.params.now in
+    let ending = c.args.rules.now.ending in
+    let table = c.args.table.now in
+    let p = pruned f params c.args.rules.now.bound ending in
+    let stop = stops f params ending in
+    let groups = groups_of c.args.lives.now in
+    let none : Live = record { group = record { place = 0; start = 0; end = 0 }; over = None } in
+    let live = slice_index_or c.args.lives.now c.loop-live.live-index none in
+    let here = slice_get-get_or c.args.lives.now c.loop-live.live-index none c.loop-live-test.true in
+    let group = live.group in
+    let inv = c.loop-live.invariant in
+    let both = next_active p stop table c.args.place c.args.place inv.at inv.low c.loop-live.live-index groups group
+    (group_at c.args.lives.now c.loop-live.live-index live here) inv.live in
+    let next = both.0 in
+    next.group.earlier
+
+pub try_line-sums-requires-clause-few : goal.try_line-sums-requires-clause-few
+try_line-sums-requires-clause-few g c =
+    let f = g.M.Meter.facts c.args.meter.now in
+    let params = c.args.rules.now.params.now in
+    let ending = c.args.rules.now.ending in
+    let table = c.args.table.now in
+    let p = pruned f params c.args.rules.now.bound ending in
+    let stop = stops f params ending in
+    let groups = groups_of c.args.lives.now in
+    let none : Live = record { group = record { place = 0; start = 0; end = 0 }; over = None } in
+    let live = slice_index_or c.args.lives.now c.loop-live.live-index none in
+    let here = slice_get-get_or c.args.lives.now c.loop-live.live-index none c.loop-live-test.true in
+    let group = live.group in
+    let inv = c.loop-live.invariant in
+    let both = next_active p stop table c.args.place c.args.place inv.at inv.low c.loop-live.live-index groups group
+    (group_at c.args.lives.now c.loop-live.live-index live here) inv.live in
+    let next = both.0 in
+    omega (arith, c.requires.few group.place, inv.fresh group.place next.later)
+
+pub offer_unless-requires-clause-rises : goal.offer_unless-requires-clause-rises
+offer_unless-requires-clause-rises g c =
+    let f = g.M.Meter.facts c.args.meter.now in
+    let params = c.args.rules.now.params.now in
+    let ending = c.args.rules.now.ending in
+    let table = c.args.table.now in
+    let p = pruned f params c.args.rules.now.bound ending in
+    let stop = stops f params ending in
+    let groups = groups_of c.args.lives.now in
+    let none : Live = record { group = record { place = 0; start = 0; end = 0 }; over = None } in
+    let live = slice_index_or c.args.lives.now c.loop-live.live-index none in
+    let here = slice_get-get_or c.args.lives.now c.loop-live.live-index none c.loop-live-test.true in
+    let group = live.group in
+    let inv = c.loop-live.invariant in
+    let both = next_active p stop table c.args.place c.args.place inv.at inv.low c.loop-live.live-index groups group
+    (group_at c.args.lives.now c.loop-live.live-index live here) inv.live in
+    let next = both.0 in
+    next.group.rises
+
+pub offer_unless-requires-clause-within : goal.offer_unless-requires-clause-within
+offer_unless-requires-clause-within g c =
+    let f = g.M.Meter.facts c.args.meter.now in
+    let params = c.args.rules.now.params.now in
+    let ending = c.args.rules.now.ending in
+    let table = c.args.table.now in
+    let p = pruned f params c.args.rules.now.bound ending in
+    let stop = stops f params ending in
+    let groups = groups_of c.args.lives.now in
+    let none : Live = record { group = record { place = 0; start = 0; end = 0 }; over = None } in
+    let live = slice_index_or c.args.lives.now c.loop-live.live-index none in
+    let here = slice_get-get_or c.args.lives.now c.loop-live.live-index none c.loop-live-test.true in
+    let group = live.group in
+    let inv = c.loop-live.invariant in
+    let both = next_active p stop table c.args.place c.args.place inv.at inv.low c.loop-live.live-index groups group
+    (group_at c.args.lives.now c.loop-live.live-index live here) inv.live in
+    let next = both.0 in
+    next.group.within
+
+pub offer_unless-requires-clause-earlier : goal.offer_unless-requires-clause-earlier
+offer_unless-requires-clause-earlier g c =
+    let f = g.M.Meter.facts c.args.meter.now in
+    let params = c.args.rules.now.params.now in
+    let ending = c.args.rules.now.ending in
+    let table = c.args.table.now in
+    let p = pruned f params c.args.rules.now.bound ending in
+    let stop = stops f params ending in
+    let groups = groups_of c.args.lives.now in
+    let none : Live = record { group = record { place = 0; start = 0; end = 0 }; over = None } in
+    let live = slice_index_or c.args.lives.now c.loop-live.live-index none in
+    let here = slice_get-get_or c.args.lives.now c.loop-live.live-index none c.loop-live-test.true in
+    let group = live.group in
+    let inv = c.loop-live.invariant in
+    let both = next_active p stop table c.args.place c.args.place inv.at inv.low c.loop-live.live-index groups group
+    (group_at c.args.lives.now c.loop-live.live-index live here) inv.live in
+    let next = both.0 in
+    next.group.earlier
+
+pub offer_unless-requires-clause-entries : goal.offer_unless-requires-clause-entries
+offer_unless-requires-clause-entries g c =
+    let f = g.M.Meter.facts c.args.meter.now in
+    let params = c.args.rules.now.params.now in
+    let ending = c.args.rules.now.ending in
+    let table = c.args.table.now in
+    let p = pruned f params c.args.rules.now.bound ending in
+    let stop = stops f params ending in
+    let groups = groups_of c.args.lives.now in
+    let none : Live = record { group = record { place = 0; start = 0; end = 0 }; over = None } in
+    let live = slice_index_or c.args.lives.now c.loop-live.live-index none in
+    let here = slice_get-get_or c.args.lives.now c.loop-live.live-index none c.loop-live-test.true in
+    let group = live.group in
+    let inv = c.loop-live.invariant in
+    let both = next_active p stop table c.args.place c.args.place inv.at inv.low c.loop-live.live-index groups group
+    (group_at c.args.lives.now c.loop-live.live-index live here) inv.live in
+    let next = both.0 in
+    group_of p table c.args.place group c.requires.filled.is_table next.group
 
 pub returns-in_err-keep_group-clause-trials : goal.returns-in_err-keep_group-clause-trials
 returns-in_err-keep_group-clause-trials g c =
     let f = g.M.Meter.facts c.args.meter.now in
-    let p = problem_of f c.args.rules.now.params.now c.args.rules.now.bound in
-    let stop = stops f c.args.rules.now.params.now c.args.rules.now.drops in
-    let group = slice_index_or c.args.live.now c.loop-group.group-index (record { place = 0; start = 0; end = 0 }) in
-    let at = slice_get-get_or c.args.live.now c.loop-group.group-index (record { place = 0; start = 0; end = 0 }) c.loop-group-test.true in
-    let inv = c.loop-group.invariant in
-    let next = (next_active p stop c.args.table.now c.args.place c.args.place inv.at inv.low c.loop-group.group-index c.args.live.now group at inv.live).0 in
-    swept_more stop c.args.place inv.low group.place (g.M.Meter.trials c.args.meter.now) (g.M.Meter.trials c.loop-group.meter)
+    let params = c.args.rules.now.params.now in
+    let ending = c.args.rules.now.ending in
+    let table = c.args.table.now in
+    let p = pruned f params c.args.rules.now.bound ending in
+    let stop = stops f params ending in
+    let groups = groups_of c.args.lives.now in
+    let none : Live = record { group = record { place = 0; start = 0; end = 0 }; over = None } in
+    let live = slice_index_or c.args.lives.now c.loop-live.live-index none in
+    let here = slice_get-get_or c.args.lives.now c.loop-live.live-index none c.loop-live-test.true in
+    let group = live.group in
+    let inv = c.loop-live.invariant in
+    let both = next_active p stop table c.args.place c.args.place inv.at inv.low c.loop-live.live-index groups group
+    (group_at c.args.lives.now c.loop-live.live-index live here) inv.live in
+    let next = both.0 in
+    swept_more stop c.args.place inv.low group.place (g.M.Meter.trials c.args.meter.now) (g.M.Meter.trials c.loop-live.meter)
     (g.M.Meter.trials c.try_line-sums.new.self) inv.swept inv.fresh next.later next.group.earlier next.trying c.try_line-sums.ensures.counted
     c.try_line-sums.ensures.others
 
-pub loop-group-preserved : goal.loop-group-preserved
-loop-group-preserved g c =
+pub loop-live-preserved : goal.loop-live-preserved
+loop-live-preserved g c =
     let f = g.M.Meter.facts c.args.meter.now in
-    let h = g.M.Meter.facts c.loop-group.meter in
     let params = c.args.rules.now.params.now in
+    let ending = c.args.rules.now.ending in
     let table = c.args.table.now in
-    let p = problem_of f params c.args.rules.now.bound in
-    let stop = stops f params c.args.rules.now.drops in
-    let group = slice_index_or c.args.live.now c.loop-group.group-index (record { place = 0; start = 0; end = 0 }) in
-    let at = slice_get-get_or c.args.live.now c.loop-group.group-index (record { place = 0; start = 0; end = 0 }) c.loop-group-test.true in
-    let inv = c.loop-group.invariant in
-    let both = next_active p stop table c.args.place c.args.place inv.at inv.low c.loop-group.group-index c.args.live.now group at inv.live in
+    let p = pruned f params c.args.rules.now.bound ending in
+    let stop = stops f params ending in
+    let groups = groups_of c.args.lives.now in
+    let none : Live = record { group = record { place = 0; start = 0; end = 0 }; over = None } in
+    let live = slice_index_or c.args.lives.now c.loop-live.live-index none in
+    let here = slice_get-get_or c.args.lives.now c.loop-live.live-index none c.loop-live-test.true in
+    let group = live.group in
+    let inv = c.loop-live.invariant in
+    let both = next_active p stop table c.args.place c.args.place inv.at inv.low c.loop-live.live-index groups group
+    (group_at c.args.lives.now c.loop-live.live-index live here) inv.live in
     let next = both.0 in
+    let h = g.M.Meter.facts c.loop-live.meter in
+    let bound = c.args.rules.now.bound in
+    let sums = c.try_line-sums.result in
+    let line = c.judge_both-line.result in
+    let width = to_z w64 (of_z w64 c.least_width-width.result) in
+    let exact : to_z w64 (of_z w64 c.least_width-width.result) ≡ c.least_width-width.result = omega (arith, ints) in
+    let is_width : to_z w64 (of_z w64 c.least_width-width.result) ≡ least_width c.try_line-sums.result = exact ∙ c.least_width-width.ensures in
+    let overfull = c.is_overfull-overfull.result in
+    let long = c.is_more-long.result in
+    let over = c.requires.over c.loop-live.live-index live here in
     let penalty : to_z w32 (of_z w32 c.place-at.result.penalty) ≡ c.place-at.result.penalty = omega (arith, ints) in
-    let judged = judged_is f h params c.args.rules.now.bound group c.args.place (to_z w32 (of_z w32 c.place-at.result.penalty)) c.try_line-sums.result
-    c.judge_both-line.result (penalty ∙ c.place-at.ensures.penalty) c.judge_both-line.ensures.value c.try_line-sums.ensures.sums inv.facts in
-    let over = overfull_of f h params group.place c.args.place c.try_line-sums.result c.judge_both-line.result c.judge_both-line.ensures.value
+    let is_over : overfull ≡ is_overfull f params group.place c.args.place =
+    c.is_overfull-overfull.ensures ∙ overfull_of f h params group.place c.args.place sums line c.judge_both-line.ensures.value c.try_line-sums.ensures.sums inv.facts in
+    let is_long_line : long ≡ is_long f params group.place c.args.place =
+    long_found f h params group.place c.args.place sums live.over width long c.is_more-long.ensures over is_width
     c.try_line-sums.ensures.sums inv.facts in
+    let tried = pruned_is f h params bound ending group c.args.place (to_z w32 (of_z w32 c.place-at.result.penalty)) sums line c.ends-left.result long
+    (penalty ∙ c.place-at.ensures.penalty) c.judge_both-line.ensures.value c.try_line-sums.ensures.sums inv.facts c.ends-left.ensures is_long_line in
+    let kept : Live = record { group = group; over = c.kept_over-over.result } in
     record {
-      wide = c.offer_group.ensures.wide;
+      wide = c.offer_unless.ensures.wide;
       facts = c.try_line-sums.ensures.facts ∙ inv.facts;
-      swept = swept_more stop c.args.place inv.low group.place (g.M.Meter.trials c.args.meter.now) (g.M.Meter.trials c.loop-group.meter)
+      swept = swept_more stop c.args.place inv.low group.place (g.M.Meter.trials c.args.meter.now) (g.M.Meter.trials c.loop-live.meter)
           (g.M.Meter.trials c.try_line-sums.new.self) inv.swept inv.fresh next.later next.group.earlier next.trying c.try_line-sums.ensures.counted
           c.try_line-sums.ensures.others;
       at = group.end;
       low = group.place + 1;
-      fresh = fresh_more inv.low group.place (g.M.Meter.trials c.args.meter.now) (g.M.Meter.trials c.loop-group.meter)
+      fresh = fresh_more inv.low group.place (g.M.Meter.trials c.args.meter.now) (g.M.Meter.trials c.loop-live.meter)
           (g.M.Meter.trials c.try_line-sums.new.self) inv.fresh next.later c.try_line-sums.ensures.others;
       live = both.1;
-      row = c.offer_group.ensures.row p refl next.group.since judged
-          (row_quiet p table c.args.place inv.at group.start c.loop-group.offers.row.items next.gap c.requires.last next.quiet inv.row);
-      front = front_more p stop table c.args.place c.args.place inv.at inv.low c.loop-group.offers.next.items c.keep_group.new.live.items group c.has_ended.result
-          inv.front next
-          (goes_on f params c.args.rules.now.drops group.place c.args.place (c.judge_both-line.result.first.overfull && c.judge_both-line.result.rest.overfull) c.has_ended.result c.has_ended.ensures over)
-          (ended_quiet f params c.args.rules.now.bound table c.args.place group c.args.rules.now.drops (c.judge_both-line.result.first.overfull && c.judge_both-line.result.rest.overfull) c.has_ended.result c.has_ended.ensures
-          over c.requires.drops next.group)
+      row = c.offer_unless.ensures.row p refl next.group.since tried
+          (row_quiet p table c.args.place inv.at group.start c.loop-live.offers.row.items next.gap c.requires.last next.quiet inv.row);
+      front = front_more p stop table c.args.place c.args.place inv.at inv.low (groups_of c.loop-live.offers.next.items)
+          (groups_of c.keep_group.new.lives.items) group c.ends-ended.result inv.front next
+          (goes_on f params ending group.place c.args.place overfull long c.ends-ended.result c.ends-ended.ensures is_over is_long_line)
+          (ended_quiet f params bound table c.args.place group ending overfull long c.ends-ended.result c.ends-ended.ensures is_over is_long_line c.requires.may next.group)
+          (groups_kept c.ends-ended.result c.loop-live.offers.next.items c.keep_group.new.lives.items kept c.in_ok-keep_group.ensures);
+      over = over_kept f params (c.args.place + 1) c.ends-ended.result c.loop-live.offers.next.items c.keep_group.new.lives.items kept inv.over
+          (over_found f h params group.place c.args.place sums live.over c.kept_over-over.result width overfull next.group.earlier
+          c.kept_over-over.ensures over is_over is_width c.try_line-sums.ensures.sums inv.facts)
           c.in_ok-keep_group.ensures;
     }
 
 pub returns-clause-row : goal.returns-clause-row
 returns-clause-row g c =
     let f = g.M.Meter.facts c.args.meter.now in
-    let p = problem_of f c.args.rules.now.params.now c.args.rules.now.bound in
-    let inv = c.loop-group.invariant in
-    row_end p (stops f c.args.rules.now.params.now c.args.rules.now.drops) c.args.table.now c.args.place c.args.place inv.at inv.low c.loop-group.group-index c.args.live.now
-    c.loop-group.offers.row.items c.loop-group-test.false c.requires.last inv.live inv.row
+    let params = c.args.rules.now.params.now in
+    let ending = c.args.rules.now.ending in
+    let table = c.args.table.now in
+    let p = pruned f params c.args.rules.now.bound ending in
+    let stop = stops f params ending in
+    let groups = groups_of c.args.lives.now in
+    let inv = c.loop-live.invariant in
+    let past : length groups ≤ c.loop-live.live-index = omega (arith, c.loop-live-test.false, length-map c.args.lives.now (λ (x : Live). x.group)) in
+    row_end p stop table c.args.place c.args.place inv.at inv.low c.loop-live.live-index groups c.loop-live.offers.row.items past c.requires.last inv.live inv.row
 
 pub returns-clause-live : goal.returns-clause-live
 returns-clause-live g c =
     let f = g.M.Meter.facts c.args.meter.now in
-    let p = problem_of f c.args.rules.now.params.now c.args.rules.now.bound in
-    let inv = c.loop-group.invariant in
-    front_end p (stops f c.args.rules.now.params.now c.args.rules.now.drops) c.args.table.now c.args.place inv.at inv.low c.loop-group.group-index c.args.live.now
-    c.loop-group.offers.next.items c.loop-group-test.false inv.live inv.front
+    let params = c.args.rules.now.params.now in
+    let ending = c.args.rules.now.ending in
+    let table = c.args.table.now in
+    let p = pruned f params c.args.rules.now.bound ending in
+    let stop = stops f params ending in
+    let groups = groups_of c.args.lives.now in
+    let inv = c.loop-live.invariant in
+    let past : length groups ≤ c.loop-live.live-index = omega (arith, c.loop-live-test.false, length-map c.args.lives.now (λ (x : Live). x.group)) in
+    front_end p stop table c.args.place inv.at inv.low c.loop-live.live-index groups (groups_of c.loop-live.offers.next.items) past inv.live inv.front

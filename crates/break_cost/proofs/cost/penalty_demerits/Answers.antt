@@ -1,4 +1,4 @@
-use Rattle.std.proofs.Common.{◌*ℤ◌, to_z, of_z, w64, arith}
+use Rattle.std.proofs.Common.{to_z, of_z, w64, arith}
 use Rattle.std.proofs.lemmas.Int.{ints}
 use Rattle.break_cost.proofs.Costs.{square_small}
 use Rattle.break_cost.proofs.cost.penalty_demerits.Goals as goal

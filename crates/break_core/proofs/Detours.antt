@@ -1,0 +1,282 @@
+-- In the last pass over a steady paragraph each line that passes over a place to which it is overfull, and hangs over more than there, has a detour.
+use Rattle.std.proofs.Common.{◌≡◌, ◌∙◌, ℕ, zero, suc, ◌+◌, ◌<◌, ◌≤◌, min, true, false, cond, ◌&&◌, refl, ap, sym, subst, arith, Some}
+use Rattle.std.specs.Prelude.{ℤ, nat_lt, int_lt, ◌+ℤ◌, ◌-ℤ◌, ◌<ℤ◌, ◌≤ℤ◌}
+use Rattle.std.proofs.Math.Logic.{◌⊎◌, inl, inr}
+use Rattle.std.proofs.lemmas.Int.{ints}
+use Rattle.std.proofs.lemmas.Bool.{cases_Bool, cond-true, cond-false}
+use Rattle.std.proofs.lemmas.Option.{same_Some}
+use Rattle.node_core.specs.declared.params.Params.{Params}
+use Rattle.break_table.specs.declared.answer.Least.{Least}
+use Rattle.break_table.specs.declared.state.Class.{Class}
+use Rattle.break_table.specs.declared.state.State.{State}
+use Rattle.break_table.specs.declared.state.Line.{Line}
+use Rattle.break_table.specs.Problems.{state_after}
+use Rattle.break_table.specs.Chosen.{IsAnswer, AdmitsNone}
+use Rattle.break_table.specs.Parts.{IsNoWorse, IsOrder, HasDetours}
+use Rattle.break_table.proofs.Parts.{answer_of_part, none_of_part}
+use Rattle.break_cost.specs.declared.cost.Judged.{Judged}
+use Rattle.break_cost.specs.declared.cost.Bound.TheVariants.{Any}
+use Rattle.break_cost.specs.Costs.{judged, admits, line_of, demerits_of}
+use Rattle.break_cost.specs.Sizes.{line_size, least_width}
+use Rattle.break_cost.proofs.Bounds.{hangs_not}
+use Rattle.break_cost.proofs.Widths.{overhang_is, overhang_less, overfull_each, size_counted, size_some, size_rest}
+use Rattle.line_meter.specs.Facts.{Facts}
+use Rattle.line_meter.specs.Divided.{IsDivided}
+use Rattle.break_core.specs.Passes.{problem_of}
+use Rattle.break_core.specs.Trials.{is_overfull, IsWidening, MayLeave}
+use Rattle.break_core.specs.Leaving.{first_over, is_long, without_long}
+use Rattle.break_core.proofs.Overfull.{both_true, overfull_stays}
+
+-- The line where each line is admitted.
+abbrev any_line : Params → (penalty : ℤ) → Class → Judged → Line
+any_line params penalty before line = record { class = line.class; overhang = line.overhang; demerits = demerits_of params penalty before line }
+
+any_is : (params : Params) (penalty : ℤ) (before : Class) (line : Judged) → line_of params Any penalty before line ≡ Some (any_line params penalty before line)
+unfolding line_of admits
+any_is params penalty before line = refl
+
+-- A state is ahead of another one of its place where the lines that follow it are no narrower.
+abbrev IsAhead : Params → State → State → Type 0
+IsAhead params s t = (s.place ≡ t.place) × ((more : ℕ) → line_size params (t.lines + more) ≤ℤ line_size params (s.lines + more))
+
+-- What the first place is to which a line is overfull.
+pub record IsFirstOver (facts : Facts) (params : Params) (a m b : ℕ) : Type 0 where
+  pub later : a < m
+  pub before : m < b
+  pub over : is_overfull facts params a m ≡ true
+  pub none : first_over facts params a m ≡ 0
+
+pub first_is : (facts : Facts) (params : Params) (a b : ℕ) → 0 < first_over facts params a b → IsFirstOver facts params a (first_over facts params a b) b
+unfolding first_over
+first_is facts params a zero some = absurd (omega arith)
+first_is facts params a (suc b) some =
+    cases (λ before. first_is facts params a b before) (cases_Bool (nat_lt 0 (first_over facts params a b))) (cases_Bool (nat_lt a b && is_overfull facts params a b))
+  where
+    f : ℕ
+    f = first_over facts params a b
+
+    inner : ℕ
+    inner = cond (nat_lt a b && is_overfull facts params a b) b 0
+
+    cases :
+        (0 < first_over facts params a b → IsFirstOver facts params a (first_over facts params a b) b)
+        → (nat_lt 0 (first_over facts params a b) ≡ true) ⊎ (nat_lt 0 (first_over facts params a b) ≡ false)
+        → ((nat_lt a b && is_overfull facts params a b) ≡ true) ⊎ ((nat_lt a b && is_overfull facts params a b) ≡ false)
+        → IsFirstOver facts params a (first_over facts params a (suc b)) (suc b)
+    cases shorter (inl is) other =
+        let same : first_over facts params a (suc b) ≡ f = cond-true (nat_lt 0 f) f inner is in
+        let old = shorter (grind arith) in
+        subst (λ m. IsFirstOver facts params a m (suc b)) (sym same)
+        (record { later = old.later; before = omega (arith, old.before); over = old.over; none = old.none })
+    cases shorter (inr none_yet) (inl is) =
+        let same : first_over facts params a (suc b) ≡ b = cond-false (nat_lt 0 f) f inner none_yet ∙ cond-true (nat_lt a b && is_overfull facts params a b) b 0 is in
+        let both = both_true (nat_lt a b) (is_overfull facts params a b) is in
+        let none : f ≡ 0 = grind arith in
+        subst (λ m. IsFirstOver facts params a m (suc b)) (sym same)
+        (record { later = grind arith; before = omega arith; over = both.1; none = none })
+    cases shorter (inr none_yet) (inr is_not) =
+        let same : first_over facts params a (suc b) ≡ 0 =
+        cond-false (nat_lt 0 f) f inner none_yet ∙ cond-false (nat_lt a b && is_overfull facts params a b) b 0 is_not in
+        absurd (omega (arith, same, some))
+
+not_long : (facts : Facts) (params : Params) (a m : ℕ) → first_over facts params a m ≡ 0 → is_long facts params a m ≡ false
+unfolding is_long
+not_long facts params a m none =
+    ap (λ n. nat_lt 0 n && int_lt (least_width (facts.sums a n)) (least_width (facts.sums a m))) none
+
+pub long_means :
+    (facts : Facts) (params : Params) (a b : ℕ) → is_long facts params a b ≡ true
+    → (0 < first_over facts params a b) × (least_width (facts.sums a (first_over facts params a b)) <ℤ least_width (facts.sums a b))
+unfolding is_long
+long_means facts params a b is =
+    let f = first_over facts params a b in
+    let both = both_true (nat_lt 0 f) (int_lt (least_width (facts.sums a f)) (least_width (facts.sums a b))) is in
+    (above f both.0, lower (least_width (facts.sums a f)) (least_width (facts.sums a b)) both.1)
+  where
+    above : (n : ℕ) → nat_lt 0 n ≡ true → 0 < n
+    above n h = grind arith
+
+    lower : (x y : ℤ) → int_lt x y ≡ true → x <ℤ y
+    lower x y h = grind (arith, ints)
+
+-- From the second line on no line is wider than the next one, nor than any later one.
+next_wider : (params : Params) (lines : ℕ) → IsWidening params → line_size params (lines + 1) ≤ℤ line_size params (lines + 2)
+next_wider params lines widening = cases (cases_Bool (nat_lt (lines + 1) params.first_lines)) (cases_Bool (nat_lt (lines + 2) params.first_lines))
+  where
+    cases :
+        (nat_lt (lines + 1) params.first_lines ≡ true) ⊎ (nat_lt (lines + 1) params.first_lines ≡ false)
+        → (nat_lt (lines + 2) params.first_lines ≡ true) ⊎ (nat_lt (lines + 2) params.first_lines ≡ false)
+        → line_size params (lines + 1) ≤ℤ line_size params (lines + 2)
+    cases (inl one) (inl two) = omega (arith, ints, size_some params (lines + 1) one, size_some params (lines + 2) two)
+    cases (inl one) (inr two) =
+        let more = above (lines + 1) params.first_lines one in
+        let few = widening (omega (arith, more)) in
+        omega (arith, ints, size_some params (lines + 1) one, size_rest params (lines + 2) two, few)
+      where
+        above : (n k : ℕ) → nat_lt n k ≡ true → n < k
+        above n k h = grind arith
+    cases (inr one) (inl two) = absurd (grind arith)
+    cases (inr one) (inr two) = omega (arith, ints, size_rest params (lines + 1) one, size_rest params (lines + 2) two)
+
+second_least : (params : Params) (lines : ℕ) → IsWidening params → line_size params 1 ≤ℤ line_size params (lines + 1)
+second_least params zero widening = omega (arith, ints)
+second_least params (suc n) widening =
+    let before = second_least params n widening in
+    let next = next_wider params n widening in
+    let one : n + 2 ≡ suc n + 1 = omega arith in
+    omega (arith, ints, before, next, ap (line_size params) one)
+
+-- Lines of the last pass.
+line_is :
+    (facts : Facts) (params : Params) (s : State) (b : ℕ)
+    → (problem_of facts params Any).line s b ≡ Some (any_line params (facts.penalty b) s.class (judged (facts.sums s.place b) (line_size params s.lines)))
+line_is facts params s b = any_is params (facts.penalty b) s.class (judged (facts.sums s.place b) (line_size params s.lines))
+
+-- States that are ahead.
+ahead_order : (facts : Facts) (params : Params) → IsOrder (problem_of facts params Any) (IsAhead params)
+ahead_order facts params =
+    record {
+      same = λ s. (refl, λ more. omega (arith, ints));
+      joined = λ s t u left right. (left.0 ∙ right.0, λ more. let a = left.1 more in let b = right.1 more in omega (arith, ints, a, b));
+      place = λ s t ahead. ahead.0;
+      line = line;
+    }
+  where
+    counted :
+        (s t : State) → ((more : ℕ) → line_size params (t.lines + more) ≤ℤ line_size params (s.lines + more)) → (more : ℕ)
+        → line_size params (min (t.lines + 1) params.first_lines + more) ≤ℤ line_size params (min (s.lines + 1) params.first_lines + more)
+    counted s t wide more =
+        let a = size_counted params t.lines more in
+        let b = size_counted params s.lines more in
+        let n : t.lines + (1 + more) ≡ (t.lines + 1) + more = omega arith in
+        let m : s.lines + (1 + more) ≡ (s.lines + 1) + more = omega arith in
+        let w = wide (1 + more) in
+        omega (arith, ints, a, b, w, ap (line_size params) n, ap (line_size params) m)
+
+    line :
+        (s t : State) (b : ℕ) (l : Line) → IsAhead params s t → (problem_of facts params Any).line t b ≡ Some l
+        → IsNoWorse (problem_of facts params Any) (IsAhead params) s t b l
+    line s t b l ahead is =
+        let old : any_line params (facts.penalty b) t.class (judged (facts.sums t.place b) (line_size params t.lines)) ≡ l =
+        same_Some _ l (sym (line_is facts params t b) ∙ is) in
+        let hangs : l.overhang ≡ (judged (facts.sums t.place b) (line_size params t.lines)).overhang = ap (λ x. x.overhang) (sym old) in
+        let n : t.lines ≡ t.lines + 0 = omega arith in
+        let m : s.lines ≡ s.lines + 0 = omega arith in
+        let wide = ahead.1 0 in
+        let less = overhang_less (facts.sums t.place b) (line_size params s.lines) (line_size params t.lines)
+        (omega (arith, ints, wide, ap (line_size params) n, ap (line_size params) m)) in
+        let same : (judged (facts.sums s.place b) (line_size params s.lines)).overhang ≡ (judged (facts.sums t.place b) (line_size params s.lines)).overhang =
+        ap (λ a. (judged (facts.sums a b) (line_size params s.lines)).overhang) ahead.0 in
+        record {
+          line = any_line params (facts.penalty b) s.class (judged (facts.sums s.place b) (line_size params s.lines));
+          is = line_is facts params s b;
+          less = omega (arith, ints, hangs, less, same);
+          ahead = (refl, λ more. counted s t ahead.1 more);
+        }
+
+-- Two lines hang over less than a long one.
+two_less :
+    (facts : Facts) (params : Params) (a m b : ℕ) (size next o_l o_m : ℤ)
+    → IsDivided facts (line_size params 1) → a < m → m < b → b ≤ facts.places → line_size params 1 ≤ℤ next
+    → o_l ≡ ((facts.sums a b).width -ℤ size) -ℤ (facts.sums a b).shrink
+    → o_m ≡ ((facts.sums a m).width -ℤ size) -ℤ (facts.sums a m).shrink
+    → least_width (facts.sums a m) <ℤ least_width (facts.sums a b)
+    → (o_m +ℤ (judged (facts.sums m b) next).overhang) <ℤ o_l
+two_less facts params a m b size next o_l o_m divided later before within wide is_l is_m more =
+    cases (cases_Bool (judged (facts.sums m b) next).overfull)
+  where
+    cases :
+        ((judged (facts.sums m b) next).overfull ≡ true) ⊎ ((judged (facts.sums m b) next).overfull ≡ false)
+        → (o_m +ℤ (judged (facts.sums m b) next).overhang) <ℤ o_l
+    cases (inl is) =
+        let o = overhang_is (facts.sums m b) next is in
+        let d = divided a m b later before within in
+        omega (arith, ints, o, d, is_l, is_m, wide)
+    cases (inr fits) =
+        let o = hangs_not (facts.sums m b) next fits in
+        omega (arith, ints, o, is_l, is_m, more)
+
+-- The lines that are left out have detours.
+detours :
+    (facts : Facts) (params : Params) → MayLeave facts params
+    → HasDetours (problem_of facts params Any) (λ s b. is_long facts params s.place b) (IsAhead params)
+detours facts params may s b l later since_b within is long =
+    record {
+      by = m;
+      later = first.later;
+      before = first.before;
+      first = any_line params (facts.penalty m) s.class one;
+      first_is = line_is facts params s m;
+      kept = not_long facts params s.place m first.none;
+      second = any_line params (facts.penalty b) one.class (judged (facts.sums m b) next);
+      second_is = line_is facts params (state_after params.first_lines s m (any_line params (facts.penalty m) s.class one)) b;
+      less = two_less facts params s.place m b size next l.overhang one.overhang may.divided first.later first.before within wide hangs
+          (overhang_is (facts.sums s.place m) size over_m) (long_means facts params s.place b long).1;
+      ahead = (refl, ahead);
+    }
+  where
+    m : ℕ
+    m = first_over facts params s.place b
+
+    first : IsFirstOver facts params s.place (first_over facts params s.place b) b
+    first = first_is facts params s.place b (long_means facts params s.place b long).0
+
+    size : ℤ
+    size = line_size params s.lines
+
+    next : ℤ
+    next = line_size params (min (s.lines + 1) params.first_lines)
+
+    is_next : line_size params (min (s.lines + 1) params.first_lines) ≡ line_size params (s.lines + 1)
+    is_next =
+        let n : min (s.lines + 1) params.first_lines ≡ min (s.lines + 1) params.first_lines + 0 = omega arith in
+        let k : (s.lines + 1) + 0 ≡ s.lines + 1 = omega arith in
+        ap (line_size params) n ∙ size_counted params s.lines 0 ∙ ap (line_size params) k
+
+    wide : line_size params 1 ≤ℤ line_size params (min (s.lines + 1) params.first_lines)
+    wide = let least = second_least params s.lines may.widening in omega (arith, ints, least, is_next)
+
+    one : Judged
+    one = judged (facts.sums s.place m) size
+
+    over_m : (judged (facts.sums s.place m) size).overfull ≡ true
+    over_m = overfull_each params (facts.sums s.place m) s.lines (first_is facts params s.place b (long_means facts params s.place b long).0).over
+
+    over_b : (judged (facts.sums s.place b) size).overfull ≡ true
+    over_b =
+        let f = first_is facts params s.place b (long_means facts params s.place b long).0 in
+        overfull_each params (facts.sums s.place b) s.lines
+        (overfull_stays facts params s.place m b may.steady f.later (omega (arith, f.before)) within f.over)
+
+    hangs : l.overhang ≡ ((facts.sums s.place b).width -ℤ size) -ℤ (facts.sums s.place b).shrink
+    hangs =
+        let old : any_line params (facts.penalty b) s.class (judged (facts.sums s.place b) size) ≡ l = same_Some _ l (sym (line_is facts params s b) ∙ is) in
+        ap (λ x. x.overhang) (sym old) ∙ overhang_is (facts.sums s.place b) size over_b
+
+    ahead :
+        (more : ℕ)
+        → line_size params (min (s.lines + 1) params.first_lines + more)
+        ≤ℤ line_size params (min (min (s.lines + 1) params.first_lines + 1) params.first_lines + more)
+    ahead more =
+        let x = size_counted params (min (s.lines + 1) params.first_lines) more in
+        let n : (min (s.lines + 1) params.first_lines + 1) + more ≡ min (s.lines + 1) params.first_lines + (1 + more) = omega arith in
+        let y = size_counted params s.lines (1 + more) in
+        let k : (s.lines + 1) + (1 + more) ≡ (s.lines + more) + 2 = omega arith in
+        let z = size_counted params s.lines more in
+        let j : (s.lines + 1) + more ≡ (s.lines + more) + 1 = omega arith in
+        let w = next_wider params (s.lines + more) may.widening in
+        omega (arith, ints, x, ap (line_size params) n, y, ap (line_size params) k, z, ap (line_size params) j, w)
+
+-- In the last pass the answer of the problem without these lines is the answer, and where that has none there is none.
+pub answer_without :
+    (facts : Facts) (params : Params) (answer : Least) → MayLeave facts params
+    → IsAnswer (without_long facts params) answer → IsAnswer (problem_of facts params Any) answer
+answer_without facts params answer may is =
+    answer_of_part (problem_of facts params Any) (λ s b. is_long facts params s.place b) (IsAhead params) answer (ahead_order facts params)
+    (detours facts params may) is
+
+pub none_without :
+    (facts : Facts) (params : Params) → MayLeave facts params → AdmitsNone (without_long facts params) → AdmitsNone (problem_of facts params Any)
+none_without facts params may none =
+    none_of_part (problem_of facts params Any) (λ s b. is_long facts params s.place b) (IsAhead params) (ahead_order facts params)
+    (detours facts params may) none

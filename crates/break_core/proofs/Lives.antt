@@ -1,0 +1,80 @@
+-- Groups, and what is kept beside them.
+use Rattle.std.proofs.Common.{◌≡◌, ◌∙◌, ℕ, zero, suc, ◌+◌, Bool, true, false, cond, List, [], ◌∷◌, ◌++◌, length, refl, ap, sym, subst, Option, Some, None}
+use Rattle.std.specs.Prelude.{slice_get, if◌then◌else◌, ◌==◌}
+use Rattle.std.specs.Option.{option_map}
+use Rattle.std.proofs.Math.Logic.{◌⊎◌, inl, inr}
+use Rattle.std.proofs.lemmas.List.{map-append}
+use Rattle.std.proofs.lemmas.Option.{same_Some, slice_get-map}
+use Rattle.node_core.specs.declared.params.Params.{Params}
+use Rattle.break_table.specs.declared.group.Group.{Group}
+use Rattle.break_table.specs.Problems.{Problem}
+use Rattle.break_table.specs.Tables.{Entry, first_entry}
+use Rattle.break_table.proofs.Entries.{get_cases}
+use Rattle.line_meter.specs.Facts.{Facts}
+use Rattle.break_core.specs.declared.filling.Live.{Live}
+use Rattle.break_core.specs.Leaving.{over_before}
+use Rattle.break_core.specs.Active.{groups_of, with_group, with_live, AreOver, IsFilled}
+use Rattle.break_core.proofs.Active.{filled_first}
+use Rattle.break_core.proofs.Long.{over_start}
+
+-- The group of an element.
+pub group_at : (lives : List Live) (i : ℕ) (live : Live) → slice_get lives i ≡ Some live → slice_get (groups_of lives) i ≡ Some live.group
+group_at lives i live at = slice_get-map (λ (x : Live). x.group) lives i ∙ ap (option_map (λ (x : Live). x.group)) at
+
+-- One more group, or the same ones.
+pub groups_kept :
+    (ended : Bool) (lives new : List Live) (live : Live)
+    → new ≡ cond ended lives (lives ++ live ∷ []) → groups_of new ≡ cond ended (groups_of lives) (groups_of lives ++ live.group ∷ [])
+groups_kept true lives new live made = ap groups_of made
+groups_kept false lives new live made = ap groups_of made ∙ map-append (λ (x : Live). x.group) lives (live ∷ [])
+
+pub over_kept :
+    (facts : Facts) (params : Params) (b : ℕ) (ended : Bool) (lives new : List Live) (live : Live)
+    → AreOver facts params b lives → live.over ≡ over_before facts params live.group.place b → new ≡ cond ended lives (lives ++ live ∷ [])
+    → AreOver facts params b new
+over_kept facts params b true lives new live are is made k x at = are k x (ap (λ xs. slice_get xs k) (sym made) ∙ at)
+over_kept facts params b false lives new live are is made k x at = cases (get_cases lives (live ∷ []) k x (ap (λ xs. slice_get xs k) (sym made) ∙ at))
+  where
+    last : (j : ℕ) → slice_get (live ∷ []) j ≡ Some x → live ≡ x
+    last zero here = same_Some live x here
+    last (suc j) here = absurd (cc)
+
+    cases :
+        (slice_get lives k ≡ Some x) ⊎ ((j : ℕ) × (k ≡ length lives + j) × (slice_get (live ∷ []) j ≡ Some x))
+        → x.over ≡ over_before facts params x.group.place b
+    cases (inl front) = are k x front
+    cases (inr end) = subst (λ y. y.over ≡ over_before facts params y.group.place b) (last end.0 end.2) is
+
+-- The group of a place is put behind those of earlier places.
+pub groups_put :
+    (forced : Bool) (lives new : List Live) (live : Live)
+    → new ≡ with_live (cond forced [] lives) live → groups_of new ≡ with_group (cond forced [] (groups_of lives)) live.group
+groups_put true lives new live made = groups_kept (live.group.start == live.group.end) [] new live made
+groups_put false lives new live made = groups_kept (live.group.start == live.group.end) lives new live made
+
+pub over_put :
+    (facts : Facts) (params : Params) (place : ℕ) (forced : Bool) (lives new : List Live) (group : Group)
+    → AreOver facts params (place + 1) lives → group.place ≡ place → new ≡ with_live (cond forced [] lives) (record { group = group; over = None })
+    → AreOver facts params (place + 1) new
+over_put facts params place true lives new group are at made =
+    over_kept facts params (place + 1) (group.start == group.end) [] new (record { group = group; over = None }) (λ k x there. absurd (cc))
+    (sym (ap (λ a. over_before facts params a (place + 1)) at ∙ over_start facts params place)) made
+over_put facts params place false lives new group are at made =
+    over_kept facts params (place + 1) (group.start == group.end) lives new (record { group = group; over = None }) are
+    (sym (ap (λ a. over_before facts params a (place + 1)) at ∙ over_start facts params place)) made
+
+-- The start alone.
+pub over_first : (facts : Facts) (params : Params) (live : Live) → live.group.place ≡ 0 → live.over ≡ None → AreOver facts params 1 (live ∷ [])
+over_first facts params live at none zero x here =
+    let same : live ≡ x = same_Some live x here in
+    subst (λ y. y.over ≡ over_before facts params y.group.place 1) same
+    (none ∙ sym (ap (λ a. over_before facts params a 1) at ∙ over_start facts params 0))
+over_first facts params live at none (suc k) x here = absurd (cc)
+
+pub filled_start :
+    (p : Problem) (stop : ℕ → ℕ → Bool) (table : List Entry) (lives : List Live) (live : Live)
+    → table ≡ first_entry ∷ [] → lives ≡ live ∷ [] → live.group.place ≡ 0 → live.group.start ≡ 0 → live.group.end ≡ 1
+    → IsFilled p stop 1 table (groups_of lives)
+filled_start p stop table lives live is_table is_lives place start end =
+    subst (λ t. IsFilled p stop 1 t (groups_of lives)) (sym is_table)
+    (subst (λ xs. IsFilled p stop 1 (first_entry ∷ []) (groups_of xs)) (sym is_lives) (filled_first p stop live.group place start end))
