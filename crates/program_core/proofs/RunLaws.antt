@@ -168,10 +168,8 @@ pub resumed : {D : Type 0} (told : D → Option (List ℕ)) (failed : D → ℕ)
 resumed told failed text files device sent start rest inner answer fine new (inl ran) began had same got =
     let began_so : began_by told failed start ≡ beginning sent (Some sent) (failed device) =
     ap (began_by told failed) new ∙ ap (λ (t : Option (List ℕ)). beginning sent t (failed device)) had in
-    inl (
-      script_completes text files _ _ (failed rest.start) (failed device) rest.sent sent (told rest.start) (told_by told rest) (told inner) answer fine (began_by told failed start) ran
-          began began_so got,
-    )
+    inl (script_completes text files _ _ (failed rest.start) (failed device) rest.sent sent (told rest.start) (told_by told rest) (told inner) answer fine (began_by told failed start) ran
+    began began_so got)
 resumed {D = D} told failed text files device sent start rest inner answer fine new (inr (bad, back)) began had same got =
     inr (bad, ap told (same ∙ ap (λ (r : Resumed D). r.device) (back ∙ new)) ∙ had)
 

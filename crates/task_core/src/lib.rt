@@ -13,8 +13,8 @@ mod telling;
 mod typesetting;
 
 pub use host_core::{
-    FailureCount, FileDevice, HeldFile, Host, HostFault, MemoryHost, READ_LIMIT, Unread, read_all, read_fonts,
-    write_some,
+    FailureCount, FileDevice, HeldFile, Host, HostFault, MemoryHost, READ_LIMIT, Unread, read_all,
+    read_fonts, write_some,
 };
 pub use inputs::{Inputs, read_dvi_inputs, read_script_inputs};
 pub use printing::{PrintFault, list_file, paint_file};
