@@ -1,6 +1,7 @@
 -- What the passes over a list of instructions give (own; that they give what `reused` says is the clause `reused` of `reuse`).
-use Rattle.std.specs.Prelude.{◌≡◌, ◌++◌, [], ◌∷◌, List, map, reverse, ℕ, ℤ, zero, suc, Bool, true, false, Option, Some, None, ◌||◌}
-use Rattle.std.specs.Ordering.{int_cmp}
+use Rattle.std.specs.Prelude.{◌≡◌, ◌++◌, [], ◌∷◌, List, map, reverse, take, ℕ, ℤ, zero, suc, Bool, true, false, Option, Some, None, ◌||◌}
+use Rattle.std.specs.List.{list_any}
+use Rattle.std.specs.Ordering.{int_cmp, int_eq}
 use Rattle.std.specs.BTreeSet.{contains}
 use Rattle.dvi_ops.specs.Instruction.{Axis, Across, Downward, Step, By, Set, Again, Leaf, Move, Instruction, Do, Push, Pop}
 use Rattle.dvi_ops.specs.Instruction as instructions
@@ -11,6 +12,7 @@ use Rattle.move_core.specs.declared.registers.Step.{Step as WrittenStep}
 use Rattle.move_core.specs.declared.registers.Step.TheVariants as steps
 use Rattle.move_core.specs.declared.registers.Held.{Held as HeldNow}
 use Rattle.move_core.specs.declared.registers.Known.{Known as KnownNow}
+use Rattle.move_core.specs.declared.amount_set.AmountSet.{AmountSet}
 use Rattle.move_core.specs.declared.later.Amounts.{Amounts}
 use Rattle.move_core.specs.declared.later.Later.{Later}
 use Rattle.move_core.specs.declared.passes.Pass.{Pass}
@@ -113,10 +115,14 @@ rewritten (i ∷ rest) g =
     op_written (entered i g).known i (again_in i rest)
     ∷ rewritten rest (record { known = known_behind (entered i g).known i (again_in i rest); outer = (entered i g).outer })
 
+-- Whether a set of amounts has that one.
+unfoldable pub has_amount : AmountSet → ℤ → Bool
+has_amount s n = list_any (λ (m : ℤ). int_eq m n) (take s.count s.first) || contains int_cmp s.others n
+
 -- The set of amounts in a direction, and whether it has an amount.
 abbrev pub has : Amounts → Axis → ℤ → Bool
-has amounts Across n = contains int_cmp amounts.across n
-has amounts Downward n = contains int_cmp amounts.down n
+has amounts Across n = has_amount amounts.across n
+has amounts Downward n = has_amount amounts.down n
 
 -- Whether the amounts of the group that is open behind so many more pops have that one.
 abbrev pub held_at : List Amounts → (pops : ℕ) → Axis → ℤ → Bool

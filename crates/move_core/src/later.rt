@@ -5,16 +5,16 @@ ghost use Rattle.dvi_ops.specs.Instruction.{Axis, Instruction};
 ghost use Rattle.dvi_ops.specs.View.{view};
 ghost use Rattle.move_core.specs.Passes.{Knows, again_in, has};
 
+use crate::amount_set::AmountSet;
 use dvi_ops::Op;
 use std::alloc::{AllocError, Global};
-use std::collections::BTreeSet;
 use std::mem::replace;
 
 /// The amounts of movements, to the right and down.
 #[derive(Debug, Drop)]
 pub struct Amounts {
-    pub across: BTreeSet<i32>,
-    pub down: BTreeSet<i32>,
+    pub across: AmountSet,
+    pub down: AmountSet,
 }
 
 impl Amounts {
@@ -23,8 +23,8 @@ impl Amounts {
         ensures { (axis : Axis) (n : ℤ) → has result axis n ≡ false }
     {
         Amounts {
-            across: BTreeSet::new(alloc),
-            down: BTreeSet::new(alloc),
+            across: AmountSet::new(alloc),
+            down: AmountSet::new(alloc),
         }
     }
 }

@@ -3,6 +3,7 @@
 //! whether instructions are such a body.
 #![tactic(auto)]
 
+mod amount_set;
 mod later;
 pub mod laws;
 pub mod page;

@@ -1,0 +1,51 @@
+//! Sets of amounts: most groups of a page have few, so the first sixteen stand in an array.
+
+ghost use Rattle.std.specs.Prelude.{◌≡◌, ◌≤◌, ◌||◌, ℤ, false, not, IfOk, OnOk};
+
+use std::alloc::{AllocError, Global};
+use std::collections::BTreeSet;
+
+/// Amounts of movements: the first `count` of the array, and those of the set.
+#[derive(Debug, Drop)]
+pub struct AmountSet {
+    pub first: [i32; 16],
+    pub count: usize,
+    pub others: BTreeSet<i32>,
+    ghost few: { count ≤ 16 },
+}
+
+impl AmountSet {
+    ghost use Rattle.std.specs.Ordering.{int_eq};
+    ghost use Rattle.move_core.specs.Passes.{has_amount};
+
+    /// No amount.
+    #[tactic(auto, unfolding(crate::specs::Passes::has_amount))]
+    pub fn new(alloc: Global) -> AmountSet
+        ensures { (n : ℤ) → has_amount result n ≡ false }
+    {
+        AmountSet {
+            first: [0; 16],
+            count: 0,
+            others: BTreeSet::new(alloc),
+        }
+    }
+
+    /// Adds an amount, and tells whether it was not there.
+    #[tactic(auto, unfolding(crate::specs::Passes::has_amount))]
+    pub fn insert(&mut self, amount: i32) -> Result<bool, AllocError>
+        ensures added { IfOk result (λ added. added ≡ not (has_amount self.old amount)) }
+        ensures updates { OnOk result ((n : ℤ) → has_amount self.new n ≡ (int_eq amount n || has_amount self.old n)) }
+    {
+        if self.first[..self.count].contains(&amount) {
+            return Ok(false);
+        }
+        if self.count < 16 {
+            // (the set is empty as long as the array has room: to ask it is cheaper than to know it)
+            let is_new = !self.others.contains(&amount);
+            self.first[self.count] = amount;
+            self.count += 1;
+            return Ok(is_new);
+        }
+        Ok(self.others.insert(amount)?)
+    }
+}
