@@ -4,3 +4,4 @@ pub mod KeptSums
 pub mod Prefixes
 pub mod Steady
 pub mod Firsts
+pub mod Refusals

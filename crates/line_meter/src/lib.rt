@@ -12,6 +12,6 @@ mod meter;
 mod sums;
 
 pub use break_cost::Sums;
-pub use fault::BreakFault;
+pub use fault::{BreakFault, refusal_of};
 pub use list_meter::ListMeter;
 pub use meter::{Meter, Place};

@@ -11,10 +11,8 @@ ghost use Rattle.line_meter.specs.Legal.{legal_places};
 ghost use Rattle.line_meter.specs.Kept.{prefix_sums, all_next_kept, first_kept, kept, sums_of};
 ghost use Rattle.line_meter.specs.Small.{ArePrefixes, IsSmallSums};
 
-use crate::fault::BreakFault;
-use crate::list::{
-    all_next_kept, any_shrinks_forever, count_places, legal_places, no_trials, penalty_at,
-};
+use crate::fault::{BreakFault, refusal_of};
+use crate::list::{all_next_kept, legal_places, no_trials, penalty_at};
 use crate::meter::{Meter, Place};
 use crate::sums::{Sums, minus, prefix_sums};
 use node_core::Node;
@@ -39,12 +37,13 @@ pub struct ListMeter<'a> {
 }
 
 impl<'a> ListMeter<'a> {
-    /// The meter of a list of nodes that is not too long and has few legal places, without trials.
-    pub(crate) fn of(alloc: Global, nodes: &'a [Node]) -> Result<ListMeter<'a>, AllocError>
+    /// The meter of a finished list of at most 131,072 nodes that may be broken, without trials.
+    #[tactic(auto, using(crate::proofs::Refusals::few_places))]
+    pub fn of(alloc: Global, nodes: &'a [Node]) -> Result<ListMeter<'a>, AllocError>
         requires short { length nodes.now ≤ most_nodes }
-        requires few { length (legal_places nodes.now) ≤ most_places }
+        requires free { refusal nodes.now ≡ None }
         ensures nodes { IfOk result (λ meter. meter.nodes.now ≡ nodes.now) }
-        ensures trials { IfOk result (λ meter. meter.trials.items ≡ replicate (length (legal_places nodes.now) + 1) 0) }
+        ensures trials { IfOk result (λ meter. (place : ℕ) → get_or meter.trials.items place 0 ≡ 0) }
     {
         let places = legal_places(alloc, nodes)?;
         let sums = prefix_sums(alloc, nodes)?;
@@ -68,11 +67,8 @@ impl<'a> ListMeter<'a> {
         ensures fits { OnOk result (refusal nodes.now ≡ None) }
         ensures fault { IfErr result (λ fault. fault ≡ unwrap_or (refusal nodes.now) BreakFault.OutOfMemory) }
     {
-        if any_shrinks_forever(nodes) {
-            return Err(BreakFault::InfiniteShrink);
-        }
-        if count_places(nodes) > 8192 {
-            return Err(BreakFault::TooManyBreaks);
+        if let Some(fault) = refusal_of(nodes) {
+            return Err(fault);
         }
         match ListMeter::of(alloc, nodes) {
             Ok(meter) => Ok(meter),

@@ -1,14 +1,15 @@
 //! Paragraphs are set: finished, broken into lines, and put together as they stand in a vertical list.
 
-ghost use Rattle.std.specs.Prelude.{◌≡◌, ◌≤◌, ◌+◌, ◌<◌, length, None, IfOk, IfErr, OnOk, OnErr};
-ghost use Rattle.std.specs.Option.{unwrap_or};
+ghost use Rattle.std.specs.Prelude.{◌≡◌, ◌≤◌, ◌+◌, ◌<◌, ℤ, length, None, IfOk, IfErr, OnOk, OnErr};
 ghost use Rattle.node_core.specs.Nodes.{most_nodes, nodes_of};
 ghost use Rattle.line_meter.specs.Facts.{facts_of, refusal};
 ghost use Rattle.break_core.specs.Passes.{IsBroken};
+ghost use Rattle.active_breaks.specs.Trials.{passes_run};
 ghost use Rattle.paragraph_core.specs.Finished.{finished};
-ghost use Rattle.paragraph_core.specs.Paragraphs.{IsSet, IsSetParagraph, IsUnset};
+ghost use Rattle.paragraph_core.specs.Paragraphs.{set_empty, unbroken, HasLargeLine, IsSet, IsSetParagraph, IsUnset};
+ghost use Rattle.paragraph_core.specs.Tried.{AreFew, AreFewTrials};
 
-use crate::finishing::{finish_paragraph, unfinish_paragraph};
+use crate::finishing::{finish_paragraph, refusal_of_finished, unfinish_paragraph};
 use crate::line_boxes::LinesFault;
 use crate::stacking::lines;
 use active_breaks::active_breaks;
@@ -52,100 +53,137 @@ pub enum ParagraphFault {
     OutOfMemory,
 }
 
-/// The breaks of a finished list of at most 131,072 nodes, as `breaks` of break_core has them, with few trials of lines.
-fn counted_breaks(alloc: Global, nodes: &[Node], params: &Params) -> Result<Breaks, BreakFault>
-    requires short { length nodes.now ≤ most_nodes }
-    ensures broken { IfOk result (IsBroken (facts_of nodes.now) params.now) }
-    ensures fits { OnOk result (refusal nodes.now ≡ None) }
-    ensures fault { IfErr result (λ fault. fault ≡ unwrap_or (refusal nodes.now) BreakFault.OutOfMemory) }
+/// A paragraph that was set, and how many lines were tried for that.
+#[derive(Debug, Drop)]
+pub struct CountedParagraph {
+    pub set: SetParagraph,
+    pub trials: u128,
+}
+
+/// A paragraph without items has no lines.
+fn set_empty(alloc: Global, previous_depth: Dimen) -> CountedParagraph
+    ensures set { result.set ≡ set_empty previous_depth }
+    ensures trials { result.trials ≡ 0 }
 {
-    let mut meter = ListMeter::new(alloc, nodes)?;
-    match active_breaks(alloc, &mut meter, params) {
-        Ok(breaks) => Ok(breaks),
-        Err(AllocError) => Err(BreakFault::OutOfMemory),
+    let set = SetParagraph {
+        items: NodeList::new(alloc),
+        depth: previous_depth,
+        lines: 0,
+        pass: None,
+        overhang: 0,
+        demerits: 0,
+    };
+    CountedParagraph { set, trials: 0 }
+}
+
+/// Refuses a paragraph with items that may not be broken, before any growth.
+fn refuse_unbroken(nodes: &[Node], params: &Params) -> Result<(), ParagraphFault>
+    requires some { 0 < length nodes.now }
+    requires short { length nodes.now ≤ most_nodes }
+    ensures ok { OnOk result (refusal (finished nodes.now params.now.par_fill_skip) ≡ None) }
+    ensures refused { (previous : ℤ) → IfErr result (IsUnset nodes.now params.now previous) }
+{
+    match refusal_of_finished(nodes, params.par_fill_skip) {
+        None => Ok(()),
+        Some(BreakFault::InfiniteShrink) => Err(ParagraphFault::InfiniteShrink),
+        Some(BreakFault::TooManyBreaks) => Err(ParagraphFault::TooManyBreaks),
+        Some(BreakFault::OutOfMemory) => unreachable!(),
     }
 }
 
-/// Sets a finished list of at most 131,072 nodes.
+/// The breaks of a finished list of at most 131,072 nodes that may be broken, as `breaks` of break_core has them, and how many lines were tried: few.
+fn counted_breaks(
+    alloc: Global,
+    nodes: &[Node],
+    params: &Params,
+) -> Result<(Breaks, u128), AllocError>
+    requires short { length nodes.now ≤ most_nodes }
+    requires free { refusal nodes.now ≡ None }
+    ensures broken { IfOk result (λ counted. IsBroken (facts_of nodes.now) params.now counted.0) }
+    ensures trials { IfOk result (λ counted. AreFew (facts_of nodes.now) params.now (passes_run params.now counted.0.pass) counted.1) }
+{
+    let mut meter = ListMeter::of(alloc, nodes)?;
+    let breaks = active_breaks(alloc, &mut meter, params)?;
+    Ok((breaks, meter.all_trials()))
+}
+
+/// Sets a finished list of at most 131,072 nodes that may be broken.
 fn set_finished(
     alloc: Global,
     nodes: &[Node],
     params: &Params,
     previous_depth: Dimen,
-) -> Result<SetParagraph, ParagraphFault>
-    requires { length nodes.now ≤ most_nodes }
-    ensures ok { IfOk result (IsSet nodes.now params.now previous_depth) }
-    ensures fits { OnOk result (refusal nodes.now ≡ None) }
-    ensures refused { IfErr result (IsUnset nodes.now params.now previous_depth) }
+) -> Result<CountedParagraph, LinesFault>
+    requires short { length nodes.now ≤ most_nodes }
+    requires free { refusal nodes.now ≡ None }
+    ensures ok { IfOk result (λ counted. IsSet nodes.now params.now previous_depth counted.set) }
+    ensures trials { IfOk result (λ counted. AreFewTrials (facts_of nodes.now) params.now counted.set.pass counted.trials) }
+    ensures large { IfErr result (λ fault. fault ≡ LinesFault.DimensionTooLarge → HasLargeLine nodes.now params.now previous_depth) }
 {
-    let breaks = match counted_breaks(alloc, nodes, params) {
-        Ok(breaks) => breaks,
-        Err(BreakFault::InfiniteShrink) => return Err(ParagraphFault::InfiniteShrink),
-        Err(BreakFault::TooManyBreaks) => return Err(ParagraphFault::TooManyBreaks),
-        Err(BreakFault::OutOfMemory) => return Err(ParagraphFault::OutOfMemory),
+    let Ok((breaks, trials)) = counted_breaks(alloc, nodes, params) else {
+        return Err(LinesFault::OutOfMemory);
     };
-    match lines(alloc, nodes, &breaks, params, previous_depth) {
-        Ok(set) => Ok(SetParagraph {
-            items: NodeList::from_vec(set.nodes),
-            depth: set.depth,
-            lines: breaks.lines.len(),
-            pass: Some(breaks.pass),
-            overhang: breaks.overhang,
-            demerits: breaks.demerits,
-        }),
-        Err(LinesFault::DimensionTooLarge) => Err(ParagraphFault::DimensionTooLarge),
-        Err(LinesFault::OutOfMemory) => Err(ParagraphFault::OutOfMemory),
-    }
+    let items = lines(alloc, nodes, &breaks, params, previous_depth)?;
+    let set = SetParagraph {
+        items: NodeList::from_vec(items.nodes),
+        depth: items.depth,
+        lines: breaks.lines.len(),
+        pass: Some(breaks.pass),
+        overhang: breaks.overhang,
+        demerits: breaks.demerits,
+    };
+    Ok(CountedParagraph { set, trials })
 }
 
-/// Sets a list that is not empty and has at most 131,070 items. It is finished for that, and then made as it was.
+/// Sets a list of at most 131,070 items that may be broken. It is finished for that, and then made as it was.
 fn set_items(
     alloc: Global,
     nodes: &mut Vec<Node>,
     params: &Params,
     previous_depth: Dimen,
-) -> Result<SetParagraph, ParagraphFault>
+) -> Result<CountedParagraph, LinesFault>
     requires short { length nodes.old.items + 2 ≤ most_nodes }
-    ensures ok { IfOk result (IsSet (finished nodes.old.items params.now.par_fill_skip) params.now previous_depth) }
-    ensures fits { OnOk result (refusal (finished nodes.old.items params.now.par_fill_skip) ≡ None) }
-    ensures refused { IfErr result (IsUnset (finished nodes.old.items params.now.par_fill_skip) params.now previous_depth) }
+    requires free { refusal (finished nodes.old.items params.now.par_fill_skip) ≡ None }
+    ensures ok { IfOk result (λ counted. IsSet (finished nodes.old.items params.now.par_fill_skip) params.now previous_depth counted.set) }
+    ensures trials { IfOk result (λ counted. AreFewTrials (facts_of (finished nodes.old.items params.now.par_fill_skip)) params.now counted.set.pass counted.trials) }
+    ensures large { IfErr result (λ fault. fault ≡ LinesFault.DimensionTooLarge → HasLargeLine (finished nodes.old.items params.now.par_fill_skip) params.now previous_depth) }
     ensures same { nodes.new.items ≡ nodes.old.items }
 {
     let Ok(replaced) = finish_paragraph(nodes, params.par_fill_skip) else {
-        return Err(ParagraphFault::OutOfMemory);
+        return Err(LinesFault::OutOfMemory);
     };
     let set = set_finished(alloc, nodes, params, previous_depth);
     unfinish_paragraph(nodes, replaced);
     set
 }
 
-/// Sets a paragraph of at most 131,070 items behind a previous depth, and leaves its list as it is. It is refused where its glue shrinks without end, else
-/// where it has more than 8,192 legal places, else where a line does not fit, or where a growth is refused.
+/// Sets a paragraph of at most 131,070 items behind a previous depth, and leaves its list as it is. It is refused before any growth where its glue shrinks
+/// without end, else where it has more than 8,192 legal places; else where a line does not fit, or where a growth is refused before all lines are packed.
+/// At most so many lines are tried as there are places behind each place up to where trying stops.
 pub fn set_paragraph(
     alloc: Global,
     list: &mut NodeList,
     params: &Params,
     previous_depth: Dimen,
-) -> Result<SetParagraph, ParagraphFault>
+) -> Result<CountedParagraph, ParagraphFault>
     requires short { length (nodes_of list.old) + 2 ≤ most_nodes }
-    ensures ok { IfOk result (IsSetParagraph (nodes_of list.old) params.now previous_depth) }
-    ensures fits { OnOk result (0 < length (nodes_of list.old) → refusal (finished (nodes_of list.old) params.now.par_fill_skip) ≡ None) }
+    ensures ok { IfOk result (λ counted. IsSetParagraph (nodes_of list.old) params.now previous_depth counted.set) }
+    ensures fits { OnOk result (unbroken (nodes_of list.old) params.now.par_fill_skip ≡ None) }
+    ensures trials { IfOk result (λ counted. AreFewTrials (facts_of (finished (nodes_of list.old) params.now.par_fill_skip)) params.now counted.set.pass counted.trials) }
     ensures some { OnErr result (0 < length (nodes_of list.old)) }
-    ensures refused { IfErr result (IsUnset (finished (nodes_of list.old) params.now.par_fill_skip) params.now previous_depth) }
+    ensures refused { IfErr result (IsUnset (nodes_of list.old) params.now previous_depth) }
     ensures same { list.new ≡ list.old }
 {
     if list.is_empty() {
-        return Ok(SetParagraph {
-            items: NodeList::new(alloc),
-            depth: previous_depth,
-            lines: 0,
-            pass: None,
-            overhang: 0,
-            demerits: 0,
-        });
+        return Ok(set_empty(alloc, previous_depth));
     }
+    refuse_unbroken(list.as_slice(), params)?;
     let mut nodes = replace(list, NodeList::new(alloc)).into_vec();
     let set = set_items(alloc, &mut nodes, params, previous_depth);
     *list = NodeList::from_vec(nodes);
-    set
+    match set {
+        Ok(counted) => Ok(counted),
+        Err(LinesFault::DimensionTooLarge) => Err(ParagraphFault::DimensionTooLarge),
+        Err(LinesFault::OutOfMemory) => Err(ParagraphFault::OutOfMemory),
+    }
 }
