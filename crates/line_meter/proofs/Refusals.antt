@@ -5,7 +5,8 @@ use Rattle.std.specs.List.{list_any}
 use Rattle.std.proofs.lemmas.Bool.Decides.{nat_tests}
 use Rattle.node_core.specs.declared.tree.Node.{Node}
 use Rattle.break_table.specs.Tables.{most_places}
-use Rattle.line_meter.specs.Legal.{legal_places, shrinks_forever}
+use Rattle.node_core.specs.Classes.{shrinks_infinitely}
+use Rattle.line_meter.specs.Legal.{legal_places}
 use Rattle.line_meter.specs.Facts.{refusal}
 
 first_fails : {A : Type 0} (a b : Bool) (x y : A) → cond a (Some x) (cond b (Some y) None) ≡ None → a ≡ false
@@ -17,13 +18,13 @@ second_fails true b x y is = absurd (cc)
 second_fails false true x y is = absurd (cc)
 second_fails false false x y is = refl
 
--- A list that is not refused has no glue that shrinks without end.
-pub no_endless_shrink : (list : List Node) → refusal list ≡ None → list_any shrinks_forever list ≡ false
-no_endless_shrink list is = first_fails (list_any shrinks_forever list) (nat_lt most_places (length (legal_places list))) _ _ is
+-- A list that is not refused has no glue that shrinks in an infinite order.
+pub no_infinite_shrink : (list : List Node) → refusal list ≡ None → list_any shrinks_infinitely list ≡ false
+no_infinite_shrink list is = first_fails (list_any shrinks_infinitely list) (nat_lt most_places (length (legal_places list))) _ _ is
 
 -- And it has few legal places.
 pub few_places : (list : List Node) → refusal list ≡ None → length (legal_places list) ≤ most_places
 few_places list is =
     let test : nat_lt most_places (length (legal_places list)) ≡ false =
-    second_fails (list_any shrinks_forever list) (nat_lt most_places (length (legal_places list))) _ _ is in
+    second_fails (list_any shrinks_infinitely list) (nat_lt most_places (length (legal_places list))) _ _ is in
     grind (arith, nat_tests)

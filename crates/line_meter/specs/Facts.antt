@@ -2,11 +2,12 @@
 use Rattle.std.specs.Prelude.{◌-◌, ℕ, zero, suc, ℤ, List, length, get_or, slice_get, nat_lt, Option, Some, None, if◌then◌else◌}
 use Rattle.std.specs.List.{list_any}
 use Rattle.node_core.specs.declared.tree.Node.{Node}
+use Rattle.node_core.specs.Classes.{shrinks_infinitely}
 use Rattle.break_table.specs.Tables.{most_places}
 use Rattle.break_cost.specs.declared.sums.Sums.{Sums}
 use Rattle.line_meter.specs.declared.fault.BreakFault.{BreakFault}
 use Rattle.line_meter.specs.declared.fault.BreakFault.TheVariants as faults
-use Rattle.line_meter.specs.Legal.{legal_places, penalty_of, shrinks_forever}
+use Rattle.line_meter.specs.Legal.{legal_places, penalty_of}
 use Rattle.line_meter.specs.Kept.{kept, sums_of}
 
 -- What is known of a paragraph: its legal places are numbered from 1, and 0 is its start.
@@ -39,8 +40,8 @@ facts_of list =
       sums = λ from to. sums_of (kept list (begins_at list from) (position_of list to));
     }
 
--- Why a list has no breaks: it has glue that shrinks without end, or, if not, it has too many legal places.
+-- Why a list has no breaks: it has glue that shrinks in an infinite order, or, if not, it has too many legal places.
 abbrev pub refusal : List Node → Option BreakFault
 refusal list =
-    if list_any shrinks_forever list then Some faults.InfiniteShrink
+    if list_any shrinks_infinitely list then Some faults.InfiniteShrink
     else (if nat_lt most_places (length (legal_places list)) then Some faults.TooManyBreaks else None)

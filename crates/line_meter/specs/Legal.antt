@@ -1,12 +1,9 @@
 -- The legal places of a finished horizontal list (TeX: The Program, part 38, §816; part 39, §866 to §869).
-use Rattle.std.specs.Prelude.{◌+◌, ◌++◌, ℕ, zero, suc, ℤ, pos, negsuc, Bool, true, false, not, int_lt, int_le, List, [], ◌∷◌, length, slice_get, Option, Some, None, filter, if◌then◌else◌}
+use Rattle.std.specs.Prelude.{◌+◌, ◌++◌, ℕ, zero, suc, ℤ, pos, negsuc, Bool, true, false, int_lt, int_le, List, [], ◌∷◌, length, slice_get, Option, Some, None, filter}
 use Rattle.node_core.specs.declared.tree.Node.{Node}
 use Rattle.node_core.specs.declared.tree.Node.TheVariants as nodes
-use Rattle.node_core.specs.declared.tree.Order.TheVariants.{Normal}
 use Rattle.node_core.specs.declared.tree.Kind.TheVariants.{Horizontal}
 use Rattle.node_core.specs.Classes.{class_of, is_discardable, precedes_break}
-use Rattle.pack_core.specs.Items.{is_order}
-use Rattle.pack_core.specs.Glue.{is_zero}
 
 -- Glue, explicit kerns and penalties are dropped at the beginning of a line (TeX: The Program, part 10, §148).
 unfoldable pub is_dropped : Node → Bool
@@ -62,13 +59,3 @@ penalty_of (Some node) = pos 0
 -- A break is forced by a penalty of -10000 or less.
 abbrev pub is_forced : (penalty : ℤ) → Bool
 is_forced penalty = int_le penalty (negsuc 9999)
-
--- Glue that shrinks without end (TeX: The Program, part 38, §825: such glue is an error).
-abbrev pub shrinks_forever : Node → Bool
-shrinks_forever (nodes.Glue glue) = if is_order Normal glue.shrink_order then false else not (is_zero glue.shrink)
-shrinks_forever (nodes.Glyph glyph) = false
-shrinks_forever (nodes.FontKern width) = false
-shrinks_forever (nodes.Kern width) = false
-shrinks_forever (nodes.Penalty penalty) = false
-shrinks_forever (nodes.Rule rule) = false
-shrinks_forever (nodes.Box shift b) = false

@@ -4,9 +4,10 @@ ghost use Rattle.std.specs.Prelude.{◌≡◌, ◌+◌, ◌<◌, ◌≤◌, ◌^
 ghost use Rattle.line_meter.specs.Kept.{next_kept, all_next_kept};
 ghost use Rattle.std.specs.List.{list_any};
 ghost use Rattle.node_core.specs.Nodes.{most_nodes};
-ghost use Rattle.line_meter.specs.Legal.{is_dropped, is_kept, is_glue, is_break, node_before, is_legal, legal_places, penalty_of, shrinks_forever};
+ghost use Rattle.line_meter.specs.Legal.{is_dropped, is_kept, is_glue, is_break, node_before, is_legal, legal_places, penalty_of};
+ghost use Rattle.node_core.specs.Classes.{shrinks_infinitely};
 
-use node_core::{Kind, Node, Order};
+use node_core::{Kind, Node};
 use std::alloc::{AllocError, Global};
 
 /// Whether an item is dropped at the beginning of a line.
@@ -70,21 +71,11 @@ pub fn count_places(nodes: &[Node]) -> usize
     count
 }
 
-/// Whether an item is glue that shrinks without end.
-fn shrinks_forever(node: &Node) -> bool
-    ensures { result ≡ shrinks_forever node.now }
+/// Whether there is glue that shrinks in an infinite order.
+pub fn any_shrinks_infinitely(nodes: &[Node]) -> bool
+    ensures { result ≡ list_any shrinks_infinitely nodes.now }
 {
-    match node {
-        Node::Glue(glue) => glue.shrink_order != Order::Normal && glue.shrink.get() != 0,
-        _ => false,
-    }
-}
-
-/// Whether there is glue that shrinks without end.
-pub fn any_shrinks_forever(nodes: &[Node]) -> bool
-    ensures { result ≡ list_any shrinks_forever nodes.now }
-{
-    nodes.iter().any(|node| shrinks_forever(node))
+    nodes.iter().any(|node| node.shrinks_infinitely())
 }
 
 /// The penalty of a break at a place.

@@ -21,7 +21,8 @@ use Rattle.command_core.specs.declared.command.Refusal.TheVariants.{DimensionToo
 use Rattle.command_core.specs.declared.limits.TheConstants.{MOST_OPEN, MOST_ITEMS, MOST_DEEP, MOST_PAGES, MOST_SHIPPED}
 use Rattle.pack_core.specs.declared.pack.Packed as packs
 use Rattle.scaled_core.specs.Dimensions.{fits}
-use Rattle.split_core.specs.Split.{shrinks_infinitely, split_numbers}
+use Rattle.node_core.specs.Classes.{shrinks_infinitely}
+use Rattle.split_core.specs.Split.{split_numbers}
 use Rattle.tfm_core.specs.Fonts.{SizedFont}
 use Rattle.dvi_layout.specs.Fonts.{font_in}
 use Rattle.nest_core.specs.FontSlots.{current_font, CharacterItems, text_shaped, character_shaped}

@@ -69,7 +69,7 @@ abbrev pub paragraph_checks : Params → (around : List OpenList) → Items → 
 paragraph_checks params around items =
     (is_none (innermost around), NoOpenList) ∷ set_checks (length (nodes_of (items_in (innermost around)))) (set_behind params around items)
 
--- The refusals of a paragraph that may not be broken: for glue that shrinks without end, or else for too many legal places.
+-- The refusals of a paragraph that may not be broken: for glue that shrinks in an infinite order, or else for too many legal places.
 abbrev pub unbroken_checks : Option BreakFault → List (Bool × Refusal)
 unbroken_checks None = []
 unbroken_checks (Some breaking.InfiniteShrink) = (true, InfiniteShrink) ∷ []

@@ -1,10 +1,12 @@
 -- What an item is to the breaking and the packing of lists (TeX: The Program, part 10, §148: precedes_break and non_discardable; kerns of a
--- font: part 39, §866 and §879).
-use Rattle.std.specs.Prelude.{Bool, true, false}
+-- font: part 39, §866 and §879; glue that shrinks in an infinite order: part 38, §825, and part 44, §976).
+use Rattle.std.specs.Prelude.{ℤ, pos, negsuc, zero, suc, Bool, true, false, not, ◌&&◌}
 use Rattle.node_core.specs.declared.tree.Kind.{Kind}
 use Rattle.node_core.specs.declared.tree.Kind.TheVariants.{Horizontal, Vertical}
 use Rattle.node_core.specs.declared.tree.Node.{Node}
 use Rattle.node_core.specs.declared.tree.Node.TheVariants as nodes
+use Rattle.node_core.specs.declared.tree.Order.{Order}
+use Rattle.node_core.specs.declared.tree.Order.TheVariants.{Normal, Fil, Fill, Filll}
 use Rattle.node_core.specs.declared.class.ItemClass.{ItemClass}
 use Rattle.node_core.specs.declared.class.ItemClass.TheVariants.{BoxOrRule, GlyphOrFontKern, Glue, Kern, Penalty}
 
@@ -50,3 +52,26 @@ is_penalty GlyphOrFontKern = false
 is_penalty Glue = false
 is_penalty Kern = false
 is_penalty Penalty = true
+
+-- Whether a number is 0 (own).
+abbrev pub is_zero : ℤ → Bool
+is_zero (pos zero) = true
+is_zero (pos (suc n)) = false
+is_zero (negsuc n) = false
+
+-- Whether an order is infinite: each but the normal one.
+abbrev pub is_infinite : Order → Bool
+is_infinite Normal = false
+is_infinite Fil = true
+is_infinite Fill = true
+is_infinite Filll = true
+
+-- Whether an item is glue that shrinks in an infinite order. No list with such glue is broken into lines or split.
+abbrev pub shrinks_infinitely : Node → Bool
+shrinks_infinitely (nodes.Glue glue) = is_infinite glue.shrink_order && not (is_zero glue.shrink)
+shrinks_infinitely (nodes.Glyph glyph) = false
+shrinks_infinitely (nodes.FontKern width) = false
+shrinks_infinitely (nodes.Kern width) = false
+shrinks_infinitely (nodes.Penalty penalty) = false
+shrinks_infinitely (nodes.Rule rule) = false
+shrinks_infinitely (nodes.Box shift b) = false

@@ -1,9 +1,9 @@
 //! What an item is to the breaking and the packing of lists.
 
 ghost use Rattle.std.specs.Prelude.{◌≡◌};
-ghost use Rattle.node_core.specs.Classes.{class_of, is_discardable, precedes_break, is_box_or_rule, is_penalty};
+ghost use Rattle.node_core.specs.Classes.{class_of, is_discardable, precedes_break, is_box_or_rule, is_penalty, shrinks_infinitely};
 
-use crate::tree::{Kind, Node};
+use crate::tree::{Kind, Node, Order};
 
 /// What an item is to the breaking and the packing of lists (TeX: The Program, part 10).
 #[derive(Clone, Copy, Debug, PartialEq, Eq)]
@@ -74,6 +74,16 @@ impl Node {
             Node::Glue(_) => ItemClass::Glue,
             Node::Penalty(_) => ItemClass::Penalty,
             Node::Rule(_) | Node::Box(..) => ItemClass::BoxOrRule,
+        }
+    }
+
+    /// Whether an item is glue that shrinks in an infinite order.
+    pub fn shrinks_infinitely(&self) -> bool
+        ensures { result ≡ shrinks_infinitely self.now }
+    {
+        match self {
+            Node::Glue(glue) => glue.shrink_order != Order::Normal && glue.shrink.get() != 0,
+            _ => false,
         }
     }
 }

@@ -1,10 +1,12 @@
 -- The totals of a list, item by item.
-use Rattle.std.proofs.Common.{◌≡◌, ◌∙◌, ℕ, ◌+◌, ◌<◌, ◌≤◌, List, [], ◌∷◌, ◌++◌, length, take, get_or, length-append, refl, ap, arith, sym}
-use Rattle.std.specs.Prelude.{ℤ, ◌+ℤ◌}
+use Rattle.std.proofs.Common.{◌≡◌, ◌≢◌, ◌∙◌, ℕ, ◌+◌, ◌<◌, ◌≤◌, List, [], ◌∷◌, ◌++◌, length, take, get_or, length-append, refl, ap, arith, sym}
+use Rattle.std.specs.Prelude.{ℤ, pos, ◌+ℤ◌}
 use Rattle.std.proofs.lemmas.Int.{ints}
 use Rattle.std.proofs.lemmas.List.{take_more}
 use Rattle.node_core.specs.declared.tree.Kind.{Kind}
+use Rattle.node_core.specs.declared.tree.Glue.{Glue}
 use Rattle.node_core.specs.declared.tree.Node.{Node}
+use Rattle.node_core.specs.declared.tree.Node.TheVariants as nodes
 use Rattle.node_core.specs.declared.tree.Order.{Order}
 use Rattle.node_core.specs.declared.tree.Order.TheVariants.{Normal, Fil, Fill, Filll}
 use Rattle.pack_core.specs.Items.{advance, stretch_in, shrink_in}
@@ -56,6 +58,37 @@ within-more m n amounts less small = record {
   fill = record { low = omega (arith, ints, small.fill.low); high = omega (arith, ints, small.fill.high) };
   filll = record { low = omega (arith, ints, small.filll.low); high = omega (arith, ints, small.filll.high) };
 }
+
+-- What is no glue stretches and shrinks in no order.
+abbrev pub IsNoGlue : Node → Type 0
+IsNoGlue node = (glue : Glue) → node ≢ nodes.Glue glue
+
+pub no_stretch : (node : Node) → IsNoGlue node → (order : Order) → stretch_in order node ≡ pos 0
+no_stretch (nodes.Glue glue) other order = absurd (other glue refl)
+no_stretch (nodes.Glyph glyph) other order = refl
+no_stretch (nodes.FontKern width) other order = refl
+no_stretch (nodes.Kern width) other order = refl
+no_stretch (nodes.Penalty penalty) other order = refl
+no_stretch (nodes.Rule rule) other order = refl
+no_stretch (nodes.Box shift b) other order = refl
+
+pub no_shrink : (node : Node) → IsNoGlue node → (order : Order) → shrink_in order node ≡ pos 0
+no_shrink (nodes.Glue glue) other order = absurd (other glue refl)
+no_shrink (nodes.Glyph glyph) other order = refl
+no_shrink (nodes.FontKern width) other order = refl
+no_shrink (nodes.Kern width) other order = refl
+no_shrink (nodes.Penalty penalty) other order = refl
+no_shrink (nodes.Rule rule) other order = refl
+no_shrink (nodes.Box shift b) other order = refl
+
+-- Amounts to which nothing is added are the same.
+pub plus-nothing : (amounts : OrderAmounts) (more : Order → ℤ) → ((order : Order) → more order ≡ pos 0) → amounts ≡ plus amounts more
+plus-nothing amounts more none =
+    let normal : amounts.normal ≡ amounts.normal +ℤ more Normal = omega (arith, ints, none Normal) in
+    let fil : amounts.fil ≡ amounts.fil +ℤ more Fil = omega (arith, ints, none Fil) in
+    let fill : amounts.fill ≡ amounts.fill +ℤ more Fill = omega (arith, ints, none Fill) in
+    let filll : amounts.filll ≡ amounts.filll +ℤ more Filll = omega (arith, ints, none Filll) in
+    rw (← normal, ← fil, ← fill, ← filll) refl
 
 -- Each total of a list.
 pub totals-kind : (kind : Kind) (nodes : List Node) → (totals_of kind nodes).kind ≡ kind

@@ -5,16 +5,11 @@ use Rattle.node_core.specs.declared.tree.Order.{Order}
 use Rattle.node_core.specs.declared.tree.Order.TheVariants.{Normal, Fil, Fill, Filll}
 use Rattle.node_core.specs.declared.tree.Setting.{Setting}
 use Rattle.node_core.specs.declared.tree.Setting.TheVariants.{Natural, Stretch, Shrink}
+pub use Rattle.node_core.specs.Classes.{is_zero}
 use Rattle.scaled_core.specs.Fractions.{Fraction}
 use Rattle.scaled_core.specs.Badness.{badness_of}
 use Rattle.pack_core.specs.Items.{stretch_in, shrink_in}
 use Rattle.pack_core.specs.Totals.{total}
-
--- Whether a number is 0 (own).
-abbrev pub is_zero : ℤ → Bool
-is_zero (pos zero) = true
-is_zero (pos (suc n)) = false
-is_zero (negsuc n) = false
 
 -- How high an order is (TeX: The Program, part 10).
 abbrev pub rank : Order → ℕ

@@ -91,22 +91,26 @@ fn in_one_order(order: Order, amount: Dimen) -> OrderDimens
     }
 }
 
-/// How much an item can stretch, in each order.
-pub fn stretch_by_order(node: &Node) -> OrderDimens
-    ensures { result ≡ order_dimens (λ order. stretch_in order node.now) }
+/// Each amount, more by how much an item can stretch in its order. What is no glue leaves the amounts as they are.
+pub fn plus_stretch(amounts: &OrderAmounts, node: &Node) -> OrderAmounts
+    requires { AreWithin (2 ^ 100) amounts.now }
+    ensures value { result ≡ plus amounts.now (λ order. stretch_in order node.now) }
+    ensures bound { (n : ℕ) → AreWithin n amounts.now → AreWithin (n + 2 ^ 31) result }
 {
     match node {
-        Node::Glue(glue) => in_one_order(glue.stretch_order, glue.stretch),
-        _ => in_one_order(Order::Normal, Dimen::ZERO),
+        Node::Glue(glue) => plus(amounts, &in_one_order(glue.stretch_order, glue.stretch)),
+        _ => *amounts,
     }
 }
 
-/// How much an item can shrink, in each order.
-pub fn shrink_by_order(node: &Node) -> OrderDimens
-    ensures { result ≡ order_dimens (λ order. shrink_in order node.now) }
+/// Each amount, more by how much an item can shrink in its order. What is no glue leaves the amounts as they are.
+pub fn plus_shrink(amounts: &OrderAmounts, node: &Node) -> OrderAmounts
+    requires { AreWithin (2 ^ 100) amounts.now }
+    ensures value { result ≡ plus amounts.now (λ order. shrink_in order node.now) }
+    ensures bound { (n : ℕ) → AreWithin n amounts.now → AreWithin (n + 2 ^ 31) result }
 {
     match node {
-        Node::Glue(glue) => in_one_order(glue.shrink_order, glue.shrink),
-        _ => in_one_order(Order::Normal, Dimen::ZERO),
+        Node::Glue(glue) => plus(amounts, &in_one_order(glue.shrink_order, glue.shrink)),
+        _ => *amounts,
     }
 }

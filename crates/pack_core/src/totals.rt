@@ -9,7 +9,7 @@ ghost use Rattle.pack_core.specs.Glue.{stretch_totals, shrink_totals};
 ghost use Rattle.pack_core.specs.Orders.{order_amounts, AreWithin};
 ghost use Rattle.pack_core.specs.ListTotals.{totals_of, with_item, pending_behind};
 
-use crate::orders::{OrderAmounts, no_amounts, plus, shrink_by_order, stretch_by_order};
+use crate::orders::{OrderAmounts, no_amounts, plus_shrink, plus_stretch};
 use crate::sizes::{advance_of, depth_by_itself};
 use node_core::{ItemClass, Kind, Node};
 use scaled_core::Dimen;
@@ -62,8 +62,8 @@ impl Totals {
         ensures totals { (before : List Node) → self.old ≡ totals_of self.old.kind before → self.new ≡ totals_of self.old.kind (before ++ node.now ∷ []) }
     {
         self.advance += i128::from(advance_of(self.kind, node));
-        self.stretch = plus(&self.stretch, &stretch_by_order(node));
-        self.shrink = plus(&self.shrink, &shrink_by_order(node));
+        self.stretch = plus_stretch(&self.stretch, node);
+        self.shrink = plus_shrink(&self.shrink, node);
         self.pending_depth = pending_behind(self.pending_depth, node);
         self.passed += 1;
     }

@@ -27,10 +27,11 @@ use Rattle.break_cost.specs.declared.sums.Sums.{Sums}
 use Rattle.break_cost.specs.declared.cost.Judged.{Judged}
 use Rattle.break_cost.specs.Costs.{stretches_forever, judged_short, judged_long, judged_by, judged}
 use Rattle.break_cost.specs.Sizes.{line_size}
-use Rattle.line_meter.specs.Legal.{is_dropped, shrinks_forever}
+use Rattle.node_core.specs.Classes.{shrinks_infinitely}
+use Rattle.line_meter.specs.Legal.{is_dropped}
 use Rattle.line_meter.specs.Kept.{at_break, without_first, kept, sums_of}
 use Rattle.line_meter.specs.Facts.{position_of, begins_at, facts_of, refusal}
-use Rattle.line_meter.proofs.Refusals.{no_endless_shrink}
+use Rattle.line_meter.proofs.Refusals.{no_infinite_shrink}
 
 or_left : (a b : Bool) → (a || b) ≡ false → a ≡ false
 or_left true b is = is
@@ -40,31 +41,31 @@ or_right : (a b : Bool) → (a || b) ≡ false → b ≡ false
 or_right true b is = absurd (cc)
 or_right false b is = is
 
--- Without glue that shrinks without end in a list, there is none in a part of it.
-none_left : (xs ys : List Node) → list_any shrinks_forever (xs ++ ys) ≡ false → list_any shrinks_forever xs ≡ false
-none_left xs ys is = or_left (list_any shrinks_forever xs) (list_any shrinks_forever ys) (sym (list_any-append shrinks_forever xs ys) ∙ is)
+-- Without glue that shrinks in an infinite order in a list, there is none in a part of it.
+none_left : (xs ys : List Node) → list_any shrinks_infinitely (xs ++ ys) ≡ false → list_any shrinks_infinitely xs ≡ false
+none_left xs ys is = or_left (list_any shrinks_infinitely xs) (list_any shrinks_infinitely ys) (sym (list_any-append shrinks_infinitely xs ys) ∙ is)
 
-none_right : (xs ys : List Node) → list_any shrinks_forever (xs ++ ys) ≡ false → list_any shrinks_forever ys ≡ false
-none_right xs ys is = or_right (list_any shrinks_forever xs) (list_any shrinks_forever ys) (sym (list_any-append shrinks_forever xs ys) ∙ is)
+none_right : (xs ys : List Node) → list_any shrinks_infinitely (xs ++ ys) ≡ false → list_any shrinks_infinitely ys ≡ false
+none_right xs ys is = or_right (list_any shrinks_infinitely xs) (list_any shrinks_infinitely ys) (sym (list_any-append shrinks_infinitely xs ys) ∙ is)
 
-none_joined : (xs ys : List Node) → list_any shrinks_forever xs ≡ false → list_any shrinks_forever ys ≡ false → list_any shrinks_forever (xs ++ ys) ≡ false
-none_joined xs ys left right = list_any-append shrinks_forever xs ys ∙ ap (λ b. b || list_any shrinks_forever ys) left ∙ right
+none_joined : (xs ys : List Node) → list_any shrinks_infinitely xs ≡ false → list_any shrinks_infinitely ys ≡ false → list_any shrinks_infinitely (xs ++ ys) ≡ false
+none_joined xs ys left right = list_any-append shrinks_infinitely xs ys ∙ ap (λ b. b || list_any shrinks_infinitely ys) left ∙ right
 
-none_taken : (list : List Node) (n : ℕ) → list_any shrinks_forever list ≡ false → list_any shrinks_forever (take n list) ≡ false
-none_taken list n is = none_left (take n list) (drop n list) (ap (list_any shrinks_forever) (take-append-drop n list) ∙ is)
+none_taken : (list : List Node) (n : ℕ) → list_any shrinks_infinitely list ≡ false → list_any shrinks_infinitely (take n list) ≡ false
+none_taken list n is = none_left (take n list) (drop n list) (ap (list_any shrinks_infinitely) (take-append-drop n list) ∙ is)
 
-none_behind : (list : List Node) (n : ℕ) → list_any shrinks_forever list ≡ false → list_any shrinks_forever (drop n list) ≡ false
-none_behind list n is = none_right (take n list) (drop n list) (ap (list_any shrinks_forever) (take-append-drop n list) ∙ is)
+none_behind : (list : List Node) (n : ℕ) → list_any shrinks_infinitely list ≡ false → list_any shrinks_infinitely (drop n list) ≡ false
+none_behind list n is = none_right (take n list) (drop n list) (ap (list_any shrinks_infinitely) (take-append-drop n list) ∙ is)
 
-none_after_first : (list : List Node) → list_any shrinks_forever list ≡ false → list_any shrinks_forever (without_first list) ≡ false
+none_after_first : (list : List Node) → list_any shrinks_infinitely list ≡ false → list_any shrinks_infinitely (without_first list) ≡ false
 none_after_first [] is = is
-none_after_first (x ∷ rest) is = cases (cases_Bool (is_dropped x)) (none_after_first rest (or_right (shrinks_forever x) (list_any shrinks_forever rest) is))
+none_after_first (x ∷ rest) is = cases (cases_Bool (is_dropped x)) (none_after_first rest (or_right (shrinks_infinitely x) (list_any shrinks_infinitely rest) is))
   where
-    cases : (is_dropped x ≡ true) ⊎ (is_dropped x ≡ false) → list_any shrinks_forever (without_first rest) ≡ false → list_any shrinks_forever (without_first (x ∷ rest)) ≡ false
-    cases (inl dropped) later = ap (list_any shrinks_forever) (cond-true (is_dropped x) (without_first rest) (x ∷ rest) dropped) ∙ later
-    cases (inr stays) later = ap (list_any shrinks_forever) (cond-false (is_dropped x) (without_first rest) (x ∷ rest) stays) ∙ is
+    cases : (is_dropped x ≡ true) ⊎ (is_dropped x ≡ false) → list_any shrinks_infinitely (without_first rest) ≡ false → list_any shrinks_infinitely (without_first (x ∷ rest)) ≡ false
+    cases (inl dropped) later = ap (list_any shrinks_infinitely) (cond-true (is_dropped x) (without_first rest) (x ∷ rest) dropped) ∙ later
+    cases (inr stays) later = ap (list_any shrinks_infinitely) (cond-false (is_dropped x) (without_first rest) (x ∷ rest) stays) ∙ is
 
-none_at_break : (at : Option Node) → list_any shrinks_forever (at_break at) ≡ false
+none_at_break : (at : Option Node) → list_any shrinks_infinitely (at_break at) ≡ false
 none_at_break None = refl
 none_at_break (Some (nodes.Glyph g)) = refl
 none_at_break (Some (nodes.FontKern width)) = refl
@@ -74,7 +75,7 @@ none_at_break (Some (nodes.Penalty p)) = refl
 none_at_break (Some (nodes.Rule sizes)) = refl
 none_at_break (Some (nodes.Box shift b)) = refl
 
-none_kept : (list : List Node) (begin : Option ℕ) (end : ℕ) → list_any shrinks_forever list ≡ false → list_any shrinks_forever (kept list begin end) ≡ false
+none_kept : (list : List Node) (begin : Option ℕ) (end : ℕ) → list_any shrinks_infinitely list ≡ false → list_any shrinks_infinitely (kept list begin end) ≡ false
 none_kept list None end is = none_joined (take end list) (at_break (slice_get list end)) (none_taken list end is) (none_at_break (slice_get list end))
 none_kept list (Some a) end is =
     none_joined (without_first (drop (a + 1) (take end list))) (at_break (slice_get list end))
@@ -100,7 +101,7 @@ a_glue width stretch stretch_order shrink shrink_order =
 
 no_shrink :
     (order : Order) (width stretch : ℤ) (stretch_order : Order) (shrink : ℤ) (own : Order) → IsInfinite order
-    → shrinks_forever (nodes.Glue (a_glue width stretch stretch_order shrink own)) ≡ false
+    → shrinks_infinitely (nodes.Glue (a_glue width stretch stretch_order shrink own)) ≡ false
     → shrink_in order (nodes.Glue (a_glue width stretch stretch_order shrink own)) ≡ pos 0
 no_shrink Normal width stretch o shrink own far is = absurd far
 no_shrink Fil width stretch o shrink Normal far is = refl
@@ -116,7 +117,7 @@ no_shrink Filll width stretch o shrink Fil far is = refl
 no_shrink Filll width stretch o shrink Fill far is = refl
 no_shrink Filll width stretch o shrink Filll far is = zero_is shrink is
 
-item_shrinks_not : (order : Order) (x : Node) → IsInfinite order → shrinks_forever x ≡ false → shrink_in order x ≡ pos 0
+item_shrinks_not : (order : Order) (x : Node) → IsInfinite order → shrinks_infinitely x ≡ false → shrink_in order x ≡ pos 0
 item_shrinks_not order (nodes.Glyph g) far is = refl
 item_shrinks_not order (nodes.FontKern width) far is = refl
 item_shrinks_not order (nodes.Kern width) far is = refl
@@ -125,11 +126,11 @@ item_shrinks_not order (nodes.Penalty p) far is = refl
 item_shrinks_not order (nodes.Rule sizes) far is = refl
 item_shrinks_not order (nodes.Box shift b) far is = refl
 
-shrinks_not : (order : Order) (items : List Node) → IsInfinite order → list_any shrinks_forever items ≡ false → total (shrink_in order) items ≡ pos 0
+shrinks_not : (order : Order) (items : List Node) → IsInfinite order → list_any shrinks_infinitely items ≡ false → total (shrink_in order) items ≡ pos 0
 shrinks_not order [] far is = refl
 shrinks_not order (x ∷ items) far is =
-    ap (λ s. s +ℤ total (shrink_in order) items) (item_shrinks_not order x far (or_left (shrinks_forever x) (list_any shrinks_forever items) is))
-    ∙ ap (λ s. pos 0 +ℤ s) (shrinks_not order items far (or_right (shrinks_forever x) (list_any shrinks_forever items) is))
+    ap (λ s. s +ℤ total (shrink_in order) items) (item_shrinks_not order x far (or_left (shrinks_infinitely x) (list_any shrinks_infinitely items) is))
+    ∙ ap (λ s. pos 0 +ℤ s) (shrinks_not order items far (or_right (shrinks_infinitely x) (list_any shrinks_infinitely items) is))
 
 -- Which order is set, by which totals are 0.
 abbrev highest_by : (normal fil fill filll : Bool) → Option Order
@@ -151,7 +152,7 @@ unfolding highest stretches_forever sums_of
 stretch_finite items =
     finite_by (is_zero (stretch_totals items Normal)) (is_zero (stretch_totals items Fil)) (is_zero (stretch_totals items Fill)) (is_zero (stretch_totals items Filll))
 
-shrink_finite : (items : List Node) → list_any shrinks_forever items ≡ false → is_finite (highest (shrink_totals items)) ≡ true
+shrink_finite : (items : List Node) → list_any shrinks_infinitely items ≡ false → is_finite (highest (shrink_totals items)) ≡ true
 unfolding highest
 shrink_finite items is =
     finite_by (is_zero (shrink_totals items Normal)) (is_zero (shrink_totals items Fil)) (is_zero (shrink_totals items Fill)) (is_zero (shrink_totals items Filll))
@@ -176,7 +177,7 @@ stretched_bad items n =
     ∙ short_by (stretches_forever (sums_of items)) _ _ (badness_of (pos (suc n)) (stretch_totals items Normal)) 0 refl refl
 
 shrunk_bad :
-    (items : List Node) (n : ℕ) → list_any shrinks_forever items ≡ false → (judged_long (sums_of items) (pos (suc n))).overfull ≡ false
+    (items : List Node) (n : ℕ) → list_any shrinks_infinitely items ≡ false → (judged_long (sums_of items) (pos (suc n))).overfull ≡ false
     → shrink_badness (pos (suc n)) (shrink_totals items) ≡ (judged_long (sums_of items) (pos (suc n))).badness
 unfolding judged_long sums_of
 shrunk_bad items n free fits =
@@ -192,7 +193,7 @@ exact_bad items fits =
     rw over refl
 
 as_bad :
-    (items : List Node) (excess : ℤ) → items ≢ [] → list_any shrinks_forever items ≡ false → (judged_by (sums_of items) excess).overfull ≡ false
+    (items : List Node) (excess : ℤ) → items ≢ [] → list_any shrinks_infinitely items ≡ false → (judged_by (sums_of items) excess).overfull ≡ false
     → setting_badness excess items ≡ (judged_by (sums_of items) excess).badness
 unfolding judged_by setting_badness
 as_bad [] excess some free fits = absurd (some refl)
@@ -201,7 +202,7 @@ as_bad (x ∷ xs) (pos (suc n)) some free fits = stretched_bad (x ∷ xs) n
 as_bad (x ∷ xs) (negsuc n) some free fits = shrunk_bad (x ∷ xs) n free fits
 
 line_as_bad :
-    (items : List Node) (size : ℤ) → items ≢ [] → list_any shrinks_forever items ≡ false → (judged (sums_of items) size).overfull ≡ false
+    (items : List Node) (size : ℤ) → items ≢ [] → list_any shrinks_infinitely items ≡ false → (judged (sums_of items) size).overfull ≡ false
     → hbox_badness (To size) items ≡ (judged (sums_of items) size).badness
 unfolding judged sums_of
 line_as_bad items size some free fits = as_bad items (size -ℤ total across items) some free fits
@@ -225,4 +226,4 @@ pub boxed_as_bad :
 boxed_as_bad list params a b lines packed free some fits is =
     box_bad (line_size params lines) (kept list (begins_at list a) (position_of list b)) packed is
     ∙ line_as_bad (kept list (begins_at list a) (position_of list b)) (line_size params lines) some
-    (none_kept list (begins_at list a) (position_of list b) (no_endless_shrink list free)) fits
+    (none_kept list (begins_at list a) (position_of list b) (no_infinite_shrink list free)) fits

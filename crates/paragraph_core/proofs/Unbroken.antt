@@ -10,7 +10,8 @@ use Rattle.node_core.specs.declared.tree.Node.TheVariants as nodes
 use Rattle.break_table.specs.Tables.{most_places}
 use Rattle.line_meter.specs.declared.fault.BreakFault.{BreakFault}
 use Rattle.line_meter.specs.declared.fault.BreakFault.TheVariants.{InfiniteShrink, TooManyBreaks, OutOfMemory}
-use Rattle.line_meter.specs.Legal.{is_glue, is_break, node_before, is_legal, up_to, legal_places, shrinks_forever}
+use Rattle.node_core.specs.Classes.{shrinks_infinitely}
+use Rattle.line_meter.specs.Legal.{is_glue, is_break, node_before, is_legal, up_to, legal_places}
 use Rattle.line_meter.specs.Facts.{refusal}
 use Rattle.line_meter.proofs.Places.{filter_up, count_passed, count_refused}
 use Rattle.paragraph_core.specs.Finished.{final_glue, without_glue, finished}
@@ -109,8 +110,8 @@ as_many_places front skip =
 abbrev refused_for : (endless : Bool) (places : ℕ) → Option BreakFault
 refused_for endless places = cond endless (Some InfiniteShrink) (cond (nat_lt most_places places) (Some TooManyBreaks) None)
 
-glue_at_end : (front : List Node) (skip : Glue) (b : Bool) → shrinks_forever (nodes.Glue skip) ≡ b → list_any shrinks_forever (front ++ ending skip) ≡ (list_any shrinks_forever front || (b || false))
-glue_at_end front skip b is = list_any-append shrinks_forever front (ending skip) ∙ ap (λ t. list_any shrinks_forever front || (t || false)) is
+glue_at_end : (front : List Node) (skip : Glue) (b : Bool) → shrinks_infinitely (nodes.Glue skip) ≡ b → list_any shrinks_infinitely (front ++ ending skip) ≡ (list_any shrinks_infinitely front || (b || false))
+glue_at_end front skip b is = list_any-append shrinks_infinitely front (ending skip) ∙ ap (λ t. list_any shrinks_infinitely front || (t || false)) is
 
 or_true : (a : Bool) → (a || (true || false)) ≡ true
 or_true true = refl
@@ -120,18 +121,18 @@ or_false : (a : Bool) → (a || (false || false)) ≡ a
 or_false true = refl
 or_false false = refl
 
--- Where parfillskip shrinks without end, the list is refused for that.
-pub refused_by_glue : (list : List Node) (skip : Glue) → shrinks_forever (nodes.Glue skip) ≡ true → refusal (finished list skip) ≡ Some InfiniteShrink
+-- Where parfillskip shrinks in an infinite order, the list is refused for that.
+pub refused_by_glue : (list : List Node) (skip : Glue) → shrinks_infinitely (nodes.Glue skip) ≡ true → refusal (finished list skip) ≡ Some InfiniteShrink
 refused_by_glue list skip is =
     let front : List Node = without_glue (final_glue list) list in
-    ap (λ b. refused_for b (length (legal_places (front ++ ending skip)))) (glue_at_end front skip true is ∙ or_true (list_any shrinks_forever front))
+    ap (λ b. refused_for b (length (legal_places (front ++ ending skip)))) (glue_at_end front skip true is ∙ or_true (list_any shrinks_infinitely front))
 
 -- Else it is refused as the list without its final glue is.
-pub refused_by_text : (list : List Node) (skip : Glue) → shrinks_forever (nodes.Glue skip) ≡ false → refusal (finished list skip) ≡ refusal (without_glue (final_glue list) list)
+pub refused_by_text : (list : List Node) (skip : Glue) → shrinks_infinitely (nodes.Glue skip) ≡ false → refusal (finished list skip) ≡ refusal (without_glue (final_glue list) list)
 refused_by_text list skip is =
     let front : List Node = without_glue (final_glue list) list in
-    ap (λ b. refused_for b (length (legal_places (front ++ ending skip)))) (glue_at_end front skip false is ∙ or_false (list_any shrinks_forever front))
-    ∙ ap (refused_for (list_any shrinks_forever front)) (as_many_places front skip)
+    ap (λ b. refused_for b (length (legal_places (front ++ ending skip)))) (glue_at_end front skip false is ∙ or_false (list_any shrinks_infinitely front))
+    ∙ ap (refused_for (list_any shrinks_infinitely front)) (as_many_places front skip)
 
 -- Memory is no cause why a list may not be broken.
 never_memory : (endless many : Bool) → cond endless (Some InfiniteShrink) (cond many (Some TooManyBreaks) None) ≡ Some OutOfMemory → ⊥
@@ -140,7 +141,7 @@ never_memory false true is = cc
 never_memory false false is = cc
 
 pub not_for_memory : (list : List Node) → refusal list ≡ Some OutOfMemory → ⊥
-not_for_memory list is = never_memory (list_any shrinks_forever list) (nat_lt most_places (length (legal_places list))) is
+not_for_memory list is = never_memory (list_any shrinks_infinitely list) (nat_lt most_places (length (legal_places list))) is
 
 -- A paragraph with items may not be broken exactly where its finished list may not.
 pub some_unbroken : (list : List Node) (skip : Glue) → 0 < length list → unbroken list skip ≡ refusal (finished list skip)

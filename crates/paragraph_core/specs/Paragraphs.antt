@@ -41,7 +41,7 @@ abbrev pub IsSetParagraph : List Node → Params → (previous_depth : ℤ) → 
 IsSetParagraph [] params previous_depth set = set ≡ set_empty previous_depth
 IsSetParagraph (x ∷ rest) params previous_depth set = IsSet (finished (x ∷ rest) params.par_fill_skip) params previous_depth set
 
--- Why a paragraph may not be broken into lines, which its list and parfillskip decide: its finished list has glue that shrinks without end, or else too many
+-- Why a paragraph may not be broken into lines, which its list and parfillskip decide: its finished list has glue that shrinks in an infinite order, or else too many
 -- legal places. An empty one always may.
 abbrev pub unbroken : List Node → (par_fill_skip : Glue) → Option BreakFault
 unbroken [] par_fill_skip = None
@@ -52,7 +52,7 @@ abbrev pub HasLargeLine : List Node → Params → (previous_depth : ℤ) → Ty
 HasLargeLine list params previous_depth =
     (breaks : Breaks) × IsBroken (facts_of list) params breaks × (lines_fit (with_breaks list params previous_depth breaks) ≡ false)
 
--- Why a paragraph is not set: glue that shrinks without end, else too many legal places, both exactly; else a line that does not fit. A growth may be
+-- Why a paragraph is not set: glue that shrinks in an infinite order, else too many legal places, both exactly; else a line that does not fit. A growth may be
 -- refused where it may be broken, and so before all lines were put together.
 abbrev pub IsUnset : List Node → Params → (previous_depth : ℤ) → ParagraphFault → Type 0
 IsUnset list params previous_depth InfiniteShrink = unbroken list params.par_fill_skip ≡ Some breaking.InfiniteShrink

@@ -4,12 +4,11 @@ ghost use Rattle.std.specs.Prelude.{◌≡◌, ◌<◌, ◌≤◌, ◌++◌, ◌
 ghost use Rattle.node_core.specs.declared.tree.Glue.{Glue};
 ghost use Rattle.node_core.specs.declared.tree.Node.{Node};
 ghost use Rattle.node_core.specs.Nodes.{most_nodes};
-ghost use Rattle.line_meter.specs.Legal.{shrinks_forever};
 ghost use Rattle.line_meter.specs.Facts.{refusal};
 ghost use Rattle.paragraph_core.specs.Finished.{final_glue, without_glue, finished};
 
 use line_meter::{BreakFault, refusal_of};
-use node_core::{Glue, Node, Order};
+use node_core::{Glue, Node};
 use std::alloc::AllocError;
 
 /// The penalty at the end of a paragraph: no line ends there.
@@ -35,21 +34,14 @@ fn without_final_glue(nodes: &[Node]) -> &[Node]
     }
 }
 
-/// Whether glue shrinks without end.
-fn shrinks_forever(glue: &Glue) -> bool
-    ensures { result ≡ shrinks_forever (Node.Glue glue.now) }
-{
-    glue.shrink_order != Order::Normal && glue.shrink.get() != 0
-}
-
 /// Why the finished list of a paragraph may not be broken, by the list before it is finished: what is put at its end adds no legal place, and parfillskip may
-/// shrink without end. It takes no memory.
+/// shrink in an infinite order. It takes no memory.
 #[tactic(auto, using(crate::proofs::Unbroken::refused_by_glue, crate::proofs::Unbroken::refused_by_text))]
 pub fn refusal_of_finished(nodes: &[Node], par_fill_skip: Glue) -> Option<BreakFault>
     requires { length nodes.now ≤ most_nodes }
     ensures { result ≡ refusal (finished nodes.now par_fill_skip) }
 {
-    if shrinks_forever(&par_fill_skip) {
+    if Node::Glue(par_fill_skip).shrinks_infinitely() {
         return Some(BreakFault::InfiniteShrink);
     }
     refusal_of(without_final_glue(nodes))

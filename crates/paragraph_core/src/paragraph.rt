@@ -39,7 +39,7 @@ pub struct SetParagraph {
 /// Why a paragraph was not set.
 #[derive(Clone, Copy, Debug, PartialEq, Eq, Error)]
 pub enum ParagraphFault {
-    /// There is glue that shrinks without end.
+    /// There is glue that shrinks in an infinite order.
     #[error("glue of a paragraph shrinks without end")]
     InfiniteShrink,
     /// There are more than 8,192 legal places.
@@ -123,16 +123,20 @@ fn set_finished(
     let Ok((breaks, trials)) = counted_breaks(alloc, nodes, params) else {
         return Err(LinesFault::OutOfMemory);
     };
-    let items = lines(alloc, nodes, &breaks, params, previous_depth)?;
-    let set = SetParagraph {
-        items: NodeList::from_vec(items.nodes),
-        depth: items.depth,
-        lines: breaks.lines.len(),
-        pass: Some(breaks.pass),
-        overhang: breaks.overhang,
-        demerits: breaks.demerits,
-    };
-    Ok(CountedParagraph { set, trials })
+    match lines(alloc, nodes, &breaks, params, previous_depth) {
+        Ok(items) => {
+            let set = SetParagraph {
+                items: NodeList::from_vec(items.nodes),
+                depth: items.depth,
+                lines: breaks.lines.len(),
+                pass: Some(breaks.pass),
+                overhang: breaks.overhang,
+                demerits: breaks.demerits,
+            };
+            Ok(CountedParagraph { set, trials })
+        }
+        Err(fault) => Err(fault),
+    }
 }
 
 /// Sets a list of at most 131,070 items that may be broken. It is finished for that, and then made as it was.
@@ -158,7 +162,7 @@ fn set_items(
 }
 
 /// Sets a paragraph of at most 131,070 items behind a previous depth, and leaves its list as it is. It is refused before any growth where its glue shrinks
-/// without end, else where it has more than 8,192 legal places; else where a line does not fit, or where a growth is refused before all lines are packed.
+/// in an infinite order, else where it has more than 8,192 legal places; else where a line does not fit, or where a growth is refused before all lines are packed.
 /// At most so many lines are tried as there are places behind each place up to where trying stops.
 pub fn set_paragraph(
     alloc: Global,
@@ -177,7 +181,9 @@ pub fn set_paragraph(
     if list.is_empty() {
         return Ok(set_empty(alloc, previous_depth));
     }
-    refuse_unbroken(list.as_slice(), params)?;
+    if let Err(fault) = refuse_unbroken(list.as_slice(), params) {
+        return Err(fault);
+    }
     let mut nodes = replace(list, NodeList::new(alloc)).into_vec();
     let set = set_items(alloc, &mut nodes, params, previous_depth);
     *list = NodeList::from_vec(nodes);

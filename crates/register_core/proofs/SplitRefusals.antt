@@ -12,7 +12,8 @@ use Rattle.node_core.specs.Nodes.{nodes_of}
 use Rattle.pack_core.specs.declared.pack.Packed as packs
 use Rattle.split_core.specs.declared.parts.SplitFault.{SplitFault}
 use Rattle.split_core.specs.declared.parts.SplitFault.TheVariants as faults
-use Rattle.split_core.specs.Split.{shrinks_infinitely, split_numbers, refusal, fault_of, front_of, rest_of}
+use Rattle.node_core.specs.Classes.{shrinks_infinitely}
+use Rattle.split_core.specs.Split.{split_numbers, refusal, fault_of, front_of, rest_of}
 use Rattle.command_core.specs.declared.command.Refusal.{Refusal}
 use Rattle.command_core.specs.declared.command.Refusal.TheVariants.{InfiniteShrink, DimensionTooLarge}
 use Rattle.command_core.specs.declared.command.Splitting.{Splitting}

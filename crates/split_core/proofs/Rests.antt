@@ -9,13 +9,14 @@ use Rattle.std.proofs.lemmas.List.Folds.{list_all-append}
 use Rattle.node_core.specs.declared.params.SplitParams.{SplitParams}
 use Rattle.node_core.specs.declared.tree.Node.{Node}
 use Rattle.node_core.specs.declared.tree.Node.TheVariants as nodes
+use Rattle.node_core.specs.Classes.{shrinks_infinitely}
 use Rattle.scaled_core.specs.Dimensions.{fits}
 use Rattle.pack_core.specs.declared.pack.Target.TheVariants.{Natural, To}
 use Rattle.pack_core.specs.Boxes.{vbox_numbers}
 use Rattle.split_core.specs.declared.plan.Top.{Top}
 use Rattle.split_core.specs.declared.parts.SplitFault.TheVariants.{InfiniteShrink, DimensionTooLarge}
 use Rattle.split_core.specs.Places.{is_box_or_rule, is_some_box_or_rule}
-use Rattle.split_core.specs.Split.{from_box_or_rule, split_place, front_items, rest_items, topped, rest_numbers, split_numbers, shrinks_infinitely, refusal, no_limit, packed_as, packed_rest, front_of, rest_of}
+use Rattle.split_core.specs.Split.{from_box_or_rule, split_place, front_items, rest_items, topped, rest_numbers, split_numbers, refusal, no_limit, packed_as, packed_rest, front_of, rest_of}
 use Rattle.split_core.specs.Steps.{top_items}
 use Rattle.split_core.proofs.Search.{both-true}
 

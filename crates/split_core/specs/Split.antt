@@ -1,5 +1,5 @@
 -- A vertical list is split: its front fills a height, and its rest is left (TeX: The Program, part 44, §968 and §970 to §979, vert_break and vsplit).
-use Rattle.std.specs.Prelude.{◌-ℤ◌, ◌+◌, ◌++◌, ℕ, ℤ, pos, Bool, false, int_lt, not, ◌&&◌, if◌then◌else◌}
+use Rattle.std.specs.Prelude.{◌-ℤ◌, ◌+◌, ◌++◌, ℕ, ℤ, pos, Bool, int_lt, if◌then◌else◌}
 use Rattle.std.specs.Prelude.{List, [], ◌∷◌, length, take, drop, Option, Some, None}
 use Rattle.std.specs.Int.{int_max}
 use Rattle.std.specs.List.{list_all, list_any, filter_map, range_with_len}
@@ -8,15 +8,14 @@ use Rattle.node_core.specs.declared.params.SplitParams.{SplitParams}
 use Rattle.node_core.specs.declared.tree.Glue.{Glue}
 use Rattle.node_core.specs.declared.tree.Node.{Node}
 use Rattle.node_core.specs.declared.tree.Node.TheVariants as nodes
-use Rattle.node_core.specs.declared.tree.Order.TheVariants.{Normal}
 use Rattle.node_core.specs.Nodes.{items_of}
+use Rattle.node_core.specs.Classes.{shrinks_infinitely}
 use Rattle.scaled_core.specs.Dimensions.{fits}
 use Rattle.pack_core.specs.declared.pack.Target.{Target}
 use Rattle.pack_core.specs.declared.pack.Target.TheVariants.{Natural, To}
 use Rattle.pack_core.specs.declared.pack.Packed.{Packed}
 use Rattle.pack_core.specs.Boxes.{vbox, vbox_badness, vbox_numbers}
-use Rattle.pack_core.specs.Glue.{is_zero}
-use Rattle.pack_core.specs.Items.{first_above, is_order}
+use Rattle.pack_core.specs.Items.{first_above}
 use Rattle.split_core.specs.declared.trials.Trial.{Trial}
 use Rattle.split_core.specs.declared.parts.SplitFault.{SplitFault}
 use Rattle.split_core.specs.declared.parts.SplitFault.TheVariants.{InfiniteShrink, DimensionTooLarge, OutOfMemory}
@@ -103,16 +102,6 @@ packed_rest (x ∷ xs) = Some (packed_as Natural no_limit (x ∷ xs))
 -- The rest of a split (TeX: The Program, part 44, §977, vsplit).
 unfoldable pub rest_of : SplitParams → (goal : ℤ) → List Node → Option Packed
 rest_of params goal items = packed_rest (topped params (rest_items params goal items))
-
--- Whether an item is glue that shrinks in an infinite order.
-abbrev pub shrinks_infinitely : Node → Bool
-shrinks_infinitely (nodes.Glue glue) = not (is_zero glue.shrink) && not (is_order Normal glue.shrink_order)
-shrinks_infinitely (nodes.Glyph glyph) = false
-shrinks_infinitely (nodes.FontKern width) = false
-shrinks_infinitely (nodes.Kern width) = false
-shrinks_infinitely (nodes.Penalty penalty) = false
-shrinks_infinitely (nodes.Rule rule) = false
-shrinks_infinitely (nodes.Box shift b) = false
 
 -- The numbers of what is left that have to fit: the width of the glue above it, and those of its vbox (own: TeX looks at none).
 abbrev pub rest_numbers : SplitParams → List Node → List ℤ

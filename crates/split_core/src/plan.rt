@@ -6,12 +6,13 @@ ghost use Rattle.std.specs.Int.{int_max};
 ghost use Rattle.std.specs.Option.{IfSome};
 ghost use Rattle.scaled_core.specs.Dimensions.{fits};
 ghost use Rattle.node_core.specs.Nodes.{most_nodes};
-ghost use Rattle.split_core.specs.Split.{shrinks_infinitely, from_box_or_rule, topped, rest_numbers, rest_items, split_place, refusal, top_width, top_glue};
+ghost use Rattle.node_core.specs.Classes.{shrinks_infinitely};
+ghost use Rattle.split_core.specs.Split.{from_box_or_rule, topped, rest_numbers, rest_items, split_place, refusal, top_width, top_glue};
 ghost use Rattle.split_core.specs.Steps.{top_items, IsSound};
 
 use crate::parts::SplitFault;
 use crate::trials::{is_box_or_rule, split_place};
-use node_core::{Glue, Node, Order, SplitParams};
+use node_core::{Glue, Node, SplitParams};
 use pack_core::{Target, first_height_of, vbox_fits, vbox_fits_below};
 use scaled_core::Dimen;
 
@@ -31,26 +32,11 @@ pub struct Top {
     pub glue: Glue,
 }
 
-/// Whether an item is glue that shrinks in an infinite order.
-fn shrinks_infinitely(node: &Node) -> bool
-    ensures { result ≡ shrinks_infinitely node.now }
-{
-    match node {
-        Node::Glue(glue) if glue.shrink.get() != 0 => !matches!(glue.shrink_order, Order::Normal),
-        _ => false,
-    }
-}
-
 /// Whether some glue of a list shrinks in an infinite order.
 fn has_infinite_shrink(nodes: &[Node]) -> bool
     ensures { result ≡ list_any shrinks_infinitely nodes.now }
 {
-    for node in nodes {
-        if shrinks_infinitely(node) {
-            return true;
-        }
-    }
-    false
+    nodes.iter().any(|node| node.shrinks_infinitely())
 }
 
 /// Where the first box or rule stands from a place on; the number of items where none does.

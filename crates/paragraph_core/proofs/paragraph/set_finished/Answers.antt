@@ -9,7 +9,7 @@ pub from_vec-requires : goal.from_vec-requires
 from_vec-requires c =
     let breaks = c.in-Ok.breaks in
     let p = with_breaks c.args.nodes.now c.args.params.now c.args.previous_depth breaks in
-    let few = few_lines c.args.nodes.now c.args.params.now breaks c.in-Ok.ensures.fits c.in-Ok.ensures.broken in
+    let few = few_lines c.args.nodes.now c.args.params.now breaks c.requires.free c.in-Ok.ensures.broken in
     record { short = omega (arith, few, few_items p, count_places breaks.lines.items, ap length c.in-Ok-lines.ensures.ok) }
 
 pub returns-in-Ok-lines-clause-ok : goal.returns-in-Ok-lines-clause-ok
@@ -25,7 +25,8 @@ returns-in-Ok-lines-clause-ok c = record {
   demerits = search rules;
 }
 
-pub returns-in-Err-DimensionTooLarge-clause-refused :
-    goal.returns-in-Err-DimensionTooLarge-clause-refused
-returns-in-Err-DimensionTooLarge-clause-refused c =
-    (c.in-Ok.ensures.fits, (c.in-Ok.breaks, c.in-Ok.ensures.broken, c.in-Err-DimensionTooLarge.ensures.refused c.in-Err-DimensionTooLarge.field-0-is))
+pub returns-in-Ok-lines-clause-trials : goal.returns-in-Ok-lines-clause-trials
+returns-in-Ok-lines-clause-trials c = c.in-Ok.ensures.trials
+
+pub returns-clause-large : goal.returns-clause-large
+returns-clause-large c = λ is. (c.in-Ok.breaks, c.in-Ok.ensures.broken, c.in-Err.ensures.refused is)

@@ -1,0 +1,10 @@
+use Rattle.std.proofs.Common.{◌+◌, ◌^◌, arith}
+use Rattle.pack_core.specs.Items.{stretch_in}
+use Rattle.pack_core.proofs.Passing.{no_stretch, plus-nothing, within-more}
+use Rattle.pack_core.proofs.orders.plus_stretch.Goals as goal
+
+pub returns-in_default : goal.returns-in_default
+returns-in_default c = record {
+  value = plus-nothing c.args.amounts.now (λ order. stretch_in order c.args.node.now) (no_stretch c.args.node.now c.in_default.not-Glue);
+  bound = λ n small. within-more n (n + 2 ^ 31) c.args.amounts.now (omega arith) small;
+}
