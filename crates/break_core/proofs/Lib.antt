@@ -1,3 +1,8 @@
--- Lemmas on tables of paragraphs and on passes.
+-- Lemmas on tables of paragraphs, on passes, and on the active list.
 pub mod Filled
 pub mod Admitting
+pub mod Overfull
+pub mod Active
+pub mod Counts
+pub mod Added
+pub mod Joined

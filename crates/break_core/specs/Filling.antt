@@ -5,8 +5,7 @@ use Rattle.break_table.specs.declared.group.Group.{Group}
 use Rattle.break_table.specs.declared.state.State.{State}
 use Rattle.break_table.specs.Problems.{Problem}
 use Rattle.break_table.specs.Ways.{since}
-use Rattle.break_table.specs.Tables.{Entry, IsTable, IsRow}
-use Rattle.break_table.specs.Live.{IsLive}
+use Rattle.break_table.specs.Tables.{Entry, IsRow}
 use Rattle.break_table.specs.declared.answer.Least.{Least}
 use Rattle.break_table.specs.Chosen.{AdmitsNone, IsAnswer}
 use Rattle.break_core.specs.declared.broken.Pass.{Pass}
@@ -35,18 +34,6 @@ IsOffering table params bound group place penalty line from to old new =
     (p : Problem) → p.cut ≡ params.first_lines → since p place ≤ group.place → IsJudged p params bound group place penalty line
     → IsRow p table place from old → IsRow p table place to new
 
--- Each group is of an earlier place than those behind it.
-abbrev pub AreRising : List Group → Type 0
-AreRising groups =
-    (i k : ℕ) (g h : Group) → i < k → slice_get groups i ≡ Some g → slice_get groups k ≡ Some h → g.place < h.place
-
--- The table is filled up to a place.
-pub record IsFilled (p : Problem) (b : ℕ) (table : List Entry) (live : List Group) : Type 0 where
-  pub is_table : IsTable p b table
-  pub is_live : IsLive p table b 0 live
-  pub rising : AreRising live
-  pub below : (k : ℕ) (g : Group) → slice_get live k ≡ Some g → g.place < b
-
 -- Each count has grown by at most n.
 abbrev pub IsGrown : (n : ℕ) → (before now : ℕ → ℕ) → Type 0
 IsGrown n before now = (place : ℕ) → now place ≤ before place + n
@@ -54,11 +41,6 @@ IsGrown n before now = (place : ℕ) → now place ≤ before place + n
 -- Each count may grow by n.
 abbrev pub AreFew : (n : ℕ) → (counts : ℕ → ℕ) → Type 0
 AreFew n counts = (place : ℕ) → counts place + n ≤ 2 ^ 40
-
--- Lines from the first groups were tried once each, and from the others not yet.
-pub record AreTried (live : List Group) (index : ℕ) (before now : ℕ → ℕ) : Type 0 where
-  pub grown : IsGrown 1 before now
-  pub fresh : (k : ℕ) (g : Group) → index ≤ k → slice_get live k ≡ Some g → now g.place ≤ before g.place
 
 -- These are ends at places of the paragraph.
 abbrev pub AreWithin : Facts → List State → Type 0

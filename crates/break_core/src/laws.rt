@@ -1,19 +1,24 @@
 //! Laws of the definitions, each on a function that does nothing.
 
-ghost use Rattle.std.specs.Prelude.{◌≡◌, ◌∷◌, ℕ, pos, negsuc, min, List, [], take, Option, None, Some};
+ghost use Rattle.std.specs.Prelude.{◌≡◌, ◌<◌, ◌≤◌, ◌∷◌, ℕ, pos, negsuc, min, true, List, [], take, Option, None, Some, if◌then◌else◌};
 ghost use Rattle.node_core.specs.declared.params.Params.{Params};
 ghost use Rattle.node_core.specs.declared.tree.Node.{Node};
 ghost use Rattle.node_core.specs.declared.tree.Node.TheVariants.{Kern, Penalty};
 ghost use Rattle.node_core.specs.declared.tree.Kind.TheVariants.{Horizontal};
 ghost use Rattle.pack_core.specs.ListTotals.{totals_of};
 ghost use Rattle.break_table.specs.declared.state.State.{State};
+ghost use Rattle.break_table.specs.Chosen.{AdmitsNone};
 ghost use Rattle.break_cost.specs.declared.cost.Bound.{Bound};
 ghost use Rattle.break_cost.specs.Costs.{judged, line_of};
 ghost use Rattle.break_cost.specs.Examples.{sums_of_points};
 ghost use Rattle.line_meter.specs.Facts.{Facts};
-ghost use Rattle.line_meter.specs.Legal.{legal_places};
+ghost use Rattle.line_meter.specs.Legal.{is_forced, legal_places};
+ghost use Rattle.line_meter.specs.Steady.{IsSteady};
 ghost use Rattle.line_meter.specs.Kept.{BeginsBefore, kept, first_kept, sums_of, minus};
-ghost use Rattle.break_core.specs.Passes.{problem_of};
+ghost use Rattle.break_core.specs.declared.broken.Pass.{Pass};
+ghost use Rattle.break_core.specs.declared.broken.Breaks.{Breaks};
+ghost use Rattle.break_core.specs.Passes.{problem_of, bound_of, IsBroken};
+ghost use Rattle.break_core.specs.Trials.{is_overfull, is_bounded, places_up_to, AreBounded, AreSame};
 ghost use Rattle.break_core.specs.Examples.{rule, space, five_rules, kern_and_glue, glue_among_penalties};
 
 /// The sums over what a line keeps are a difference of sums over the first items of the list: those in front of its end, less those in front of its first
@@ -61,4 +66,27 @@ pub fn no_line_is_counted()
     ensures line { (facts : Facts) → (params : Params) → (bound : Bound) → (before : State) → (place : ℕ) → params.first_lines ≡ 0 →
         (problem_of facts params bound).line before place ≡
         line_of params bound (facts.penalty place) before.class (judged (facts.sums before.place place) params.hsize) }
+{}
+
+/// The last pass admits a list of breaks, whatever the paragraph is. So one of the three passes chooses a list.
+pub fn the_last_pass_admits_a_list()
+    ensures { (facts : Facts) → (params : Params) → AdmitsNone (problem_of facts params (bound_of params Pass.Third)) → ⊥ }
+{}
+
+/// A paragraph has one list of breaks: what `breaks` answers for a list, `active_breaks` answers for its meter.
+pub fn one_list_is_broken()
+    ensures { (facts : Facts) → (params : Params) → (a : Breaks) → (b : Breaks) → IsBroken facts params a → IsBroken facts params b → AreSame a b }
+{}
+
+/// Trials that are bounded are few: in each pass that was run no line passes over a place where one must end.
+pub fn trials_up_to_a_forced_place()
+    ensures { (facts : Facts) → (params : Params) → (passes : List Pass) → (trials : ℕ → ℕ) → AreBounded facts params passes trials →
+        (a : ℕ) → (l : ℕ) → a < l → l ≤ facts.places → is_forced (facts.penalty l) ≡ true → trials a ≤ places_up_to a (λ pass. l) passes }
+{}
+
+/// Over a steady paragraph no line passes over a place to which the line is overfull, in passes with a bound.
+pub fn trials_up_to_an_overfull_line()
+    ensures { (facts : Facts) → (params : Params) → (passes : List Pass) → (trials : ℕ → ℕ) → AreBounded facts params passes trials → IsSteady facts →
+        (a : ℕ) → (b : ℕ) → (l : ℕ) → a < b → b ≤ facts.places → is_overfull facts params a b ≡ true →
+        a < l → l ≤ facts.places → is_forced (facts.penalty l) ≡ true → trials a ≤ places_up_to a (λ pass. if is_bounded pass then b else l) passes }
 {}

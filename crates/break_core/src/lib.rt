@@ -1,8 +1,10 @@
 //! Breaking paragraphs into lines: the list of breaks that costs least.
 //!
 //! The three passes over a paragraph that a meter measures, and the table of the best lists of breaks, filled place by place. The list of breaks that is
-//! chosen is the least of all that the first pass admits which admits any. What a list tells a meter is in `line_meter` below; `active_breaks` stands
-//! above it, which tries fewer lines, and `paragraph_core`, with the boxes of the lines.
+//! chosen is the least of all that the first pass admits which admits any. Lines are tried from the places of an active list. For `breaks` a place leaves
+//! it where a line must end, so that all pairs of places are tried between such places. For `active_breaks` a place leaves it also behind an overfull
+//! line, where the paragraph is steady and the pass admits no overfull line: so the trials of lines are bounded for each place. What a list tells a meter
+//! is in `line_meter` below; `paragraph_core` stands above it, with the boxes of the lines.
 #![tactic(auto)]
 
 mod breaking;
@@ -11,10 +13,8 @@ mod filling;
 pub mod laws;
 mod passes;
 
-pub use break_cost::{Bound, Judgement, judge_both, line_from};
+pub use break_cost::Bound;
 pub use break_table::Class;
-pub use breaking::breaks;
+pub use breaking::{active_breaks, breaks};
 pub use broken::{Breaks, LineEnd, Pass};
-pub use filling::{begin_group, offer_group};
 pub use line_meter::{BreakFault, ListMeter, Meter, Place, Sums};
-pub use passes::{bound_of, breaks_of, line_ends};

@@ -1,14 +1,16 @@
 //! The passes over a paragraph.
 
-ghost use Rattle.std.specs.Prelude.{◌≡◌, ◌+◌, ◌<◌, ◌≤◌, ℕ, map, List, IfOk, OnOk, MatchOption};
+ghost use Rattle.std.specs.Prelude.{◌≡◌, ◌+◌, ◌≤◌, ◌&&◌, ℕ, true, false, map, List, IfOk, OnOk, MatchOption};
 ghost use Rattle.break_table.specs.declared.state.State.{State};
 ghost use Rattle.break_table.specs.Chosen.{AdmitsNone, IsAnswer};
 ghost use Rattle.line_meter.specs.Facts.{Facts};
 ghost use Rattle.break_core.specs.Passes.{problem_of, bound_of, line_end, IsBroken};
+ghost use Rattle.break_core.specs.Trials.{is_bounded, first_run, passes_run, AreBounded, HasNoTrials};
 ghost use Rattle.break_core.specs.Filling.{IsGrown, AreFew, AreWithin, IsDecided};
+ghost use Rattle.break_core.specs.Active.{IsWithin, AreAdded};
 
 use crate::broken::{Breaks, LineEnd, Pass};
-use crate::filling::fill;
+use crate::filling::{Rules, fill};
 use break_cost::Bound;
 use break_table::{Least, State, chosen_list};
 use line_meter::Meter;
@@ -16,7 +18,7 @@ use node_core::Params;
 use std::alloc::{AllocError, Global};
 
 /// What a pass admits.
-pub fn bound_of(params: &Params, pass: Pass) -> Bound
+fn bound_of(params: &Params, pass: Pass) -> Bound
     ensures { result ≡ bound_of params.now pass }
 {
     match pass {
@@ -26,11 +28,22 @@ pub fn bound_of(params: &Params, pass: Pass) -> Bound
     }
 }
 
-/// The list that is chosen in a pass, or None where it admits none.
+/// Whether overfull lines end trying in a pass over a paragraph that is steady or not, if they may at all.
+fn ends_trying(drops: bool, steady: bool, pass: Pass) -> bool
+    ensures { result ≡ (drops && (steady && is_bounded pass)) }
+{
+    match pass {
+        Pass::First | Pass::Second => drops && steady,
+        Pass::Third => false,
+    }
+}
+
+/// The list that is chosen in a pass, or None where it admits none. If `drops`, overfull lines end trying where they may.
 fn chosen_in<M: Meter>(
     alloc: Global,
     meter: &mut M,
     params: &Params,
+    drops: bool,
     pass: Pass,
 ) -> Result<Option<Least>, AllocError>
     requires few { AreFew 8192 (M.trials meter.old) }
@@ -38,10 +51,17 @@ fn chosen_in<M: Meter>(
         (AdmitsNone (problem_of (M.facts meter.old) params.now (bound_of params.now pass)))
         (IsAnswer (problem_of (M.facts meter.old) params.now (bound_of params.now pass)))) }
     ensures facts { M.facts meter.new ≡ M.facts meter.old }
-    ensures trials { IsGrown 8192 (M.trials meter.old) (M.trials meter.new) }
+    ensures trials { drops ≡ true → IsWithin (M.facts meter.old) params.now pass (M.trials meter.old) (M.trials meter.new) }
+    ensures grown { IsGrown 8192 (M.trials meter.old) (M.trials meter.new) }
 {
-    let table = fill(alloc, meter, params, &bound_of(params, pass))?;
-    chosen_list(alloc, &table, meter.places())
+    let places = meter.places();
+    let rules = Rules {
+        params,
+        bound: bound_of(params, pass),
+        drops: ends_trying(drops, meter.steady(), pass),
+    };
+    let table = fill(alloc, meter, &rules)?;
+    chosen_list(alloc, &table, places)
 }
 
 /// The list that is chosen in the first pass, or None where it admits none; with a bound below 0 it admits none, and is not run.
@@ -49,18 +69,20 @@ fn chosen_first<M: Meter>(
     alloc: Global,
     meter: &mut M,
     params: &Params,
+    drops: bool,
 ) -> Result<Option<Least>, AllocError>
     requires few { AreFew 8192 (M.trials meter.old) }
     ensures found { IfOk result (λ found. MatchOption found
         (AdmitsNone (problem_of (M.facts meter.old) params.now (bound_of params.now Pass.First)))
         (IsAnswer (problem_of (M.facts meter.old) params.now (bound_of params.now Pass.First)))) }
     ensures facts { M.facts meter.new ≡ M.facts meter.old }
-    ensures trials { IsGrown 8192 (M.trials meter.old) (M.trials meter.new) }
+    ensures trials { drops ≡ true → AreAdded (M.facts meter.old) params.now (first_run params.now) (M.trials meter.old) (M.trials meter.new) }
+    ensures grown { IsGrown 8192 (M.trials meter.old) (M.trials meter.new) }
 {
     if params.pretolerance.get() < 0 {
         return Ok(None);
     }
-    chosen_in(alloc, meter, params, Pass::First)
+    chosen_in(alloc, meter, params, drops, Pass::First)
 }
 
 /// The list that is chosen in the first pass that admits any.
@@ -68,55 +90,57 @@ fn decide<M: Meter>(
     alloc: Global,
     meter: &mut M,
     params: &Params,
+    drops: bool,
 ) -> Result<(Pass, Least), AllocError>
     requires few { AreFew 24576 (M.trials meter.old) }
     ensures decided { IfOk result (λ decided. IsDecided (M.facts meter.old) params.now decided.0 decided.1) }
     ensures facts { M.facts meter.new ≡ M.facts meter.old }
-    ensures trials { IsGrown 24576 (M.trials meter.old) (M.trials meter.new) }
+    ensures run { drops ≡ true → IfOk result (λ decided.
+        AreAdded (M.facts meter.old) params.now (passes_run params.now decided.0) (M.trials meter.old) (M.trials meter.new)) }
+    ensures trials { drops ≡ true → AreAdded (M.facts meter.old) params.now (passes_run params.now Pass.Third) (M.trials meter.old) (M.trials meter.new) }
 {
-    if let Some(least) = chosen_first(alloc, meter, params)? {
+    if let Some(least) = chosen_first(alloc, meter, params, drops)? {
         return Ok((Pass::First, least));
     }
-    if let Some(least) = chosen_in(alloc, meter, params, Pass::Second)? {
+    if let Some(least) = chosen_in(alloc, meter, params, drops, Pass::Second)? {
         return Ok((Pass::Second, least));
     }
-    match chosen_in(alloc, meter, params, Pass::Third)? {
+    match chosen_in(alloc, meter, params, drops, Pass::Third)? {
         Some(least) => Ok((Pass::Third, least)),
+        // The last pass admits each line, and so each place from the one before it (`the_last_pass_admits_a_list`).
         None => unreachable!(),
     }
 }
 
 /// The ends of lines, by where they stand in the list.
-pub fn line_ends<M: Meter>(
-    alloc: Global,
-    meter: &M,
-    ends: &[State],
-) -> Result<Vec<LineEnd>, AllocError>
+fn line_ends<M: Meter>(alloc: Global, meter: &M, ends: &[State]) -> Result<Vec<LineEnd>, AllocError>
     requires within { AreWithin (M.facts meter.now) ends.now }
     ensures { IfOk result (λ lines. lines.items ≡ map (line_end (M.facts meter.now)) ends.now) }
 {
     let mut lines = Vec::new(alloc);
     for end in ends {
         lines.push(LineEnd {
-            place: meter.place(end.place).position,
+            place: meter.place(end.place as usize).position,
             class: end.class,
         })?;
     }
     Ok(lines)
 }
 
-/// The breaks of a paragraph, which a meter measures that counted few trials so far.
-pub fn breaks_of<M: Meter>(
+/// The breaks of a paragraph, which a meter measures that has tried no line. If `drops`, overfull lines end trying where they may; the breaks are the same.
+pub(crate) fn breaks_of<M: Meter>(
     alloc: Global,
     meter: &mut M,
     params: &Params,
+    drops: bool,
 ) -> Result<Breaks, AllocError>
-    requires few { AreFew 24576 (M.trials meter.old) }
+    requires fresh { HasNoTrials (M.trials meter.old) }
     ensures broken { IfOk result (IsBroken (M.facts meter.old) params.now) }
     ensures facts { M.facts meter.new ≡ M.facts meter.old }
-    ensures trials { IsGrown 24576 (M.trials meter.old) (M.trials meter.new) }
+    ensures run { drops ≡ true → IfOk result (λ breaks. AreBounded (M.facts meter.old) params.now (passes_run params.now breaks.pass) (M.trials meter.new)) }
+    ensures trials { drops ≡ true → AreBounded (M.facts meter.old) params.now (passes_run params.now Pass.Third) (M.trials meter.new) }
 {
-    let (pass, least) = decide(alloc, meter, params)?;
+    let (pass, least) = decide(alloc, meter, params, drops)?;
     let lines = line_ends(alloc, meter, &least.ends)?;
     Ok(Breaks {
         lines,

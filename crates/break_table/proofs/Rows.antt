@@ -1,10 +1,10 @@
 -- Rows: the offers for a place, one after another.
-use Rattle.std.proofs.Common.{◌≡◌, ◌∙◌, ℕ, zero, suc, ◌+◌, ◌<◌, ◌≤◌, min, List, [], ◌∷◌, ◌++◌, length, take, get_or, set, replicate, refl, ap, sym, subst, arith, length-set, Option, Some, None}
+use Rattle.std.proofs.Common.{◌≡◌, ◌∙◌, ℕ, zero, suc, ◌+◌, ◌<◌, ◌≤◌, min, List, [], ◌∷◌, ◌++◌, length, take, drop, get_or, set, replicate, refl, ap, sym, subst, arith, length-set, Option, Some, None}
 use Rattle.std.specs.Prelude.{slice_get}
 use Rattle.std.proofs.Math.Logic.{◌⊎◌, inl, inr}
 use Rattle.std.proofs.lemmas.Bool.{cases_eq, cases_lt}
-use Rattle.std.proofs.lemmas.List.{length-replicate, take_more}
-use Rattle.std.proofs.lemmas.Option.{same_Some}
+use Rattle.std.proofs.lemmas.List.{length-replicate, take_more, append_assoc, append-nil}
+use Rattle.std.proofs.lemmas.Option.{same_Some, slice_get-get_or}
 use Rattle.break_table.specs.declared.state.State.{State}
 use Rattle.break_table.specs.Problems.{Problem}
 use Rattle.break_table.specs.Tables.{Entry, short, slot, slots, offer, IsOffered, IsHeld, IsMet, IsRow, IsKept, held_in}
@@ -167,18 +167,10 @@ held_from (None ∷ row) j e is = let rest = held_from row j e is in (suc rest.0
 held_from (Some x ∷ row) zero e is = (0, ap Some is)
 held_from (Some x ∷ row) (suc j) e is = let rest = held_from row j e is in (suc rest.0, rest.1)
 
--- What a row holds up to one more slot.
 held-append : (front row : List (Option Entry)) → held_in (front ++ row) ≡ held_in front ++ held_in row
 held-append [] row = refl
 held-append (None ∷ front) row = held-append front row
 held-append (Some e ∷ front) row = ap (λ xs. e ∷ xs) (held-append front row)
-
-pub held_in_more :
-    (row : List (Option Entry)) (i : ℕ) (x : Option Entry) → i < length row → x ≡ get_or row i x
-    → held_in (take (i + 1) row) ≡ held_in (take i row) ++ held_in (x ∷ [])
-held_in_more row i x within is =
-    ap held_in (take_more row i x within) ∙ held-append (take i row) (get_or row i x ∷ [])
-    ∙ ap (λ y. held_in (take i row) ++ held_in (y ∷ [])) (sym is)
 
 -- An offer that is not before what its slot held: the row stays.
 pub row_kept :
@@ -188,3 +180,43 @@ pub row_kept :
 row_kept p table b n e o r old row stands offers was there kept is =
     subst (λ l. IsRow p table b (n + 1) l) (set-get_same row (slot o.end) (Some r) (was ∙ ap Some there))
     (row_step p table b n e o r old row stands offers was kept is)
+
+-- A row whose first slots were emptied has, in the next one, what it had there.
+emptied_next :
+    (n : ℕ) (row : List (Option Entry)) (d : Option Entry)
+    → n < length row → get_or (replicate n None ++ drop n row) n d ≡ get_or row n d
+emptied_next zero row d within = refl
+emptied_next (suc n) [] d within = absurd (omega (arith, within))
+emptied_next (suc n) (x ∷ row) d within = emptied_next n row d (omega (arith, within))
+
+emptied_set :
+    (n : ℕ) (row : List (Option Entry)) → n < length row → set (replicate n None ++ drop n row) n None ≡ replicate (suc n) None ++ drop (suc n) row
+emptied_set zero [] within = absurd (omega (arith, within))
+emptied_set zero (x ∷ row) within = refl
+emptied_set (suc n) [] within = absurd (omega (arith, within))
+emptied_set (suc n) (x ∷ row) within = ap (λ l. None ∷ l) (emptied_set n row (omega (arith, within)))
+
+-- One more slot was emptied, and what it held was appended.
+pub emptied_more :
+    (table first new : List Entry) (row cur : List (Option Entry)) (n : ℕ) (x d : Option Entry)
+    → n < length row → table ≡ first ++ held_in (take n row) → cur ≡ replicate n None ++ drop n row → get_or cur n d ≡ x
+    → new ≡ table ++ held_in (x ∷ [])
+    → (new ≡ first ++ held_in (take (n + 1) row)) × (set cur n None ≡ replicate (n + 1) None ++ drop (n + 1) row)
+emptied_more table first new row cur n x d within before is here made =
+    let one : suc n ≡ n + 1 = omega arith in
+    let value : x ≡ get_or row n d = sym here ∙ ap (λ l. get_or l n d) is ∙ emptied_next n row d within in
+    let more : held_in (take (n + 1) row) ≡ held_in (take n row) ++ held_in (x ∷ []) =
+    ap held_in (take_more row n d within) ∙ held-append (take n row) (get_or row n d ∷ []) ∙ ap (λ y. held_in (take n row) ++ held_in (y ∷ [])) (sym value) in (
+      made ∙ ap (λ xs. xs ++ held_in (x ∷ [])) before ∙ append_assoc first (held_in (take n row)) (held_in (x ∷ [])) ∙ ap (λ xs. first ++ xs) (sym more),
+      ap (λ l. set l n None) is ∙ emptied_set n row within ∙ ap (λ k. replicate k None ++ drop k row) one,
+    )
+
+-- One more slot was empty.
+pub emptied_none :
+    (table first : List Entry) (row cur : List (Option Entry)) (n : ℕ) (d : Option Entry)
+    → n < length row → n < length cur → table ≡ first ++ held_in (take n row) → cur ≡ replicate n None ++ drop n row → get_or cur n d ≡ None
+    → (table ≡ first ++ held_in (take (n + 1) row)) × (cur ≡ replicate (n + 1) None ++ drop (n + 1) row)
+emptied_none table first row cur n d within here before is none =
+    let more = emptied_more table first table row cur n None d within before is none (sym (append-nil table)) in
+    let stands : slice_get cur n ≡ Some None = slice_get-get_or cur n d here ∙ ap Some none in
+    (more.0, sym (set-get_same cur n None stands) ∙ more.1)

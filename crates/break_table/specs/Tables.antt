@@ -1,5 +1,5 @@
 -- The table of the best ways so far, one to each state that can be reached (own; no public clause of the crates above speaks of it).
-use Rattle.std.specs.Prelude.{◌≡◌, ◌<◌, ◌≤◌, ◌⊎◌, ◌+◌, ◌*◌, ◌^◌, ◌+ℤ◌, ◌++◌, ℕ, ℤ, pos, nat_le, if◌then◌else◌, List, [], ◌∷◌, length, take, slice_get, Option, Some, None}
+use Rattle.std.specs.Prelude.{◌≡◌, ◌<◌, ◌≤◌, ◌⊎◌, ◌+◌, ◌*◌, ◌^◌, ◌+ℤ◌, ◌++◌, ℕ, ℤ, pos, nat_le, if◌then◌else◌, List, [], ◌∷◌, length, slice_get, Option, Some, None}
 use Rattle.scaled_core.specs.Dimensions.{Within}
 use Rattle.break_table.specs.declared.state.State.{State}
 use Rattle.break_table.specs.declared.state.Line.{Line}
@@ -145,10 +145,6 @@ abbrev pub held_in : List (Option Entry) → List Entry
 held_in [] = []
 held_in (None ∷ row) = held_in row
 held_in (Some e ∷ row) = e ∷ held_in row
-
--- A beginning of what a row holds stands behind a table (own).
-abbrev pub KeepsFront : List Entry → List (Option Entry) → List Entry → Type 0
-KeepsFront old row new = (n : ℕ) × (new ≡ old ++ held_in (take n row))
 
 -- Entry number k is the best one of its place so far: of the first n entries.
 pub record IsBestEnd (table : List Entry) (place n k : ℕ) : Type 0 where

@@ -24,7 +24,7 @@ fn better_end(table: &[Best], best: Option<usize>, index: usize, place: usize) -
     ensures { MatchOption result (HasNoEnd table.now place (index + 1)) (IsBestEnd table.now place (index + 1)) }
 {
     let entry = table[index];
-    if entry.end().place != place {
+    if entry.end().place as usize != place {
         return best;
     }
     let Some(old) = best else {

@@ -83,7 +83,7 @@ impl Best {
         ensures { result ≡ extended cut self index place line }
     {
         Best {
-            end: self.end.after(place, line, cut),
+            end: self.end.after(place as u32, line, cut),
             overhang: self.overhang + line.overhang,
             demerits: self.demerits + line.demerits,
             from: self.end,

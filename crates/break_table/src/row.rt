@@ -1,31 +1,21 @@
 //! The row of a place: to each state the best offer so far.
 
-ghost use Rattle.std.specs.Prelude.{◌≡◌, ◌<◌, ◌≤◌, ◌++◌, length, replicate, None, IfSome, IfOk, OnOk, OnErr};
-ghost use Rattle.break_table.specs.Tables.{most_places, slots, held_in, KeepsFront, IsSmallLine, IsImproved};
+ghost use Rattle.std.specs.Prelude.{◌≡◌, ◌<◌, ◌≤◌, ◌++◌, length, take, replicate, None, IfSome, IfOk, OnOk, OnErr};
+ghost use Rattle.break_table.specs.Tables.{most_places, slots, held_in, IsSmallLine, IsImproved};
 
 use crate::entry::{Best, replaces};
 use crate::state::Line;
 use std::alloc::{AllocError, Global};
 
-/// Takes all offers out of a row, which gets the size that the states of a place need. It takes no memory where the row had that size before.
-pub fn reset_row(row: &mut Vec<Option<Best>>, cut: usize) -> Result<(), AllocError>
-    requires few { cut < 1000 }
-    ensures { OnOk result (row.new.items ≡ replicate (slots cut) None) }
-{
-    row.clear();
-    for _ in 0..4 * (cut + 1) {
-        row.push(None)?;
-    }
-    Ok(())
-}
-
-/// A row without an offer.
+/// A row without an offer, of the size that the states of a place need.
 pub fn empty_row(alloc: Global, cut: usize) -> Result<Vec<Option<Best>>, AllocError>
     requires few { cut < 1000 }
     ensures { IfOk result (λ row. row.items ≡ replicate (slots cut) None) }
 {
     let mut row = Vec::with_capacity(alloc, 4 * (cut + 1))?;
-    reset_row(&mut row, cut)?;
+    for _ in 0..4 * (cut + 1) {
+        row.push(None)?;
+    }
     Ok(row)
 }
 
@@ -57,15 +47,31 @@ pub fn improve(
     }
 }
 
-/// Puts what a row holds behind a table. Where a growth is refused, a beginning of it stands there.
-pub fn keep(table: &mut Vec<Best>, row: &[Option<Best>]) -> Result<(), AllocError>
-    ensures ok { OnOk result (table.new.items ≡ table.old.items ++ held_in row.now) }
-    ensures err { OnErr result (KeepsFront table.old.items row.now table.new.items) }
+/// Appends what a row holds to a table, and takes it out of the row.
+fn move_held(table: &mut Vec<Best>, row: &mut Vec<Option<Best>>) -> Result<(), AllocError>
+    ensures front { take (length table.old.items) table.new.items ≡ table.old.items }
+    ensures table { OnOk result (table.new.items ≡ table.old.items ++ held_in row.old.items) }
+    ensures row { OnOk result (row.new.items ≡ replicate (length row.old.items) None) }
 {
-    for slot in row {
-        if let Some(entry) = slot {
-            table.push(*entry)?;
+    for index in 0..row.len() {
+        if let Some(entry) = row[index] {
+            table.push(entry)?;
+            row[index] = None;
         }
+    }
+    Ok(())
+}
+
+/// Appends what a row holds to a table, and leaves the row without an offer. Where a growth is refused, the table is as it was.
+pub fn keep(table: &mut Vec<Best>, row: &mut Vec<Option<Best>>) -> Result<(), AllocError>
+    ensures table { OnOk result (table.new.items ≡ table.old.items ++ held_in row.old.items) }
+    ensures row { OnOk result (row.new.items ≡ replicate (length row.old.items) None) }
+    ensures err { OnErr result (table.new.items ≡ table.old.items) }
+{
+    let count = table.len();
+    if let Err(refused) = move_held(table, row) {
+        table.truncate(count);
+        return Err(refused);
     }
     Ok(())
 }

@@ -33,8 +33,8 @@ impl Class {
 /// The end of a line: a legal place, how many lines there are up to it, cut at a number, and the class of the line.
 #[derive(Clone, Copy, Debug, PartialEq, Eq)]
 pub struct State {
-    pub place: usize,
-    pub lines: usize,
+    pub place: u32,
+    pub lines: u16,
     pub class: Class,
 }
 
@@ -59,15 +59,15 @@ impl State {
     }
 
     /// The end of a line that goes on from here to a place.
-    pub fn after(self, place: usize, line: Line, cut: usize) -> State
+    pub fn after(self, place: u32, line: Line, cut: usize) -> State
         requires few { cut < 1000 }
         requires counted { self.lines ≤ cut }
         ensures { result ≡ state_after cut self place line }
     {
-        let lines = if self.lines < cut {
+        let lines = if usize::from(self.lines) < cut {
             self.lines + 1
         } else {
-            cut
+            self.lines
         };
         State {
             place,
@@ -83,7 +83,7 @@ impl State {
         ensures slot { result ≡ slot self }
         ensures within { result < slots cut }
     {
-        4 * self.lines + self.class.rank()
+        4 * usize::from(self.lines) + self.class.rank()
     }
 }
 

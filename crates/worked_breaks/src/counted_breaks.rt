@@ -1,8 +1,7 @@
 //! The counted breaker: how many lines it tries.
 
 use crate::paragraphs::{finished, glue, narrow, points, rule};
-use active_breaks::active_breaks;
-use break_core::{ListMeter, Meter, Pass};
+use break_core::{ListMeter, Meter, Pass, active_breaks};
 use node_core::{Node, Number, Params};
 use std::alloc::Global;
 use std::process::Abort;

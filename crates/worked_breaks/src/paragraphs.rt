@@ -1,8 +1,7 @@
 //! Breaks of paragraphs, by both breakers.
 
 use crate::all_breaks::{Amounts, Item, node};
-use active_breaks::active_breaks;
-use break_core::{BreakFault, Breaks, Class, LineEnd, ListMeter, Pass, breaks};
+use break_core::{BreakFault, Breaks, Class, LineEnd, ListMeter, Pass, active_breaks, breaks};
 use node_core::{Glue, Node, Number, Order, Params, Rule, RuleSize};
 use scaled_core::Dimen;
 use std::alloc::Global;

@@ -1,11 +1,13 @@
-use Rattle.std.proofs.Common.{◌≡◌, ◌+◌}
+use Rattle.std.proofs.Common.{◌≡◌, ◌+◌, replicate, None}
+use Rattle.break_table.specs.Tables.{slots}
 use Rattle.break_core.specs.Passes.{problem_of}
-use Rattle.break_core.specs.Filling.{IsFilled, IsGrown}
+use Rattle.break_core.specs.Active.{stops, IsFilled, IsCounted}
 use Rattle.break_core.proofs.filling.fill.Given as goal
 
 abbrev pub invariant-loop-before : goal.invariant-loop-before
 invariant-loop-before g l = record {
   facts : g.M.Meter.facts l.meter ≡ g.M.Meter.facts l.initial.meter;
-  trials : IsGrown l.before (g.M.Meter.trials l.initial.meter) (g.M.Meter.trials l.meter);
-  filled : IsFilled (problem_of (g.M.Meter.facts l.initial.meter) l.params l.bound) (l.before + 1) l.table.items l.live.items;
+  counted : IsCounted (stops (g.M.Meter.facts l.initial.meter) l.rules.params.now l.rules.drops) l.before (g.M.Meter.trials l.initial.meter) (g.M.Meter.trials l.meter);
+  filled : IsFilled (problem_of (g.M.Meter.facts l.initial.meter) l.rules.params.now l.rules.bound) (stops (g.M.Meter.facts l.initial.meter) l.rules.params.now l.rules.drops) (l.before + 1) l.reached.table.items l.reached.live.items;
+  empty : l.offers.row.items ≡ replicate (slots l.rules.params.now.first_lines) None;
 }

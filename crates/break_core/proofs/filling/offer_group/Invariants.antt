@@ -6,6 +6,6 @@ use Rattle.break_core.proofs.filling.offer_group.Given as goal
 abbrev pub invariant-loop-index : goal.invariant-loop-index
 invariant-loop-index l = record {
   low : l.fn.group.start ≤ l.index;
-  wide : length l.row.items ≡ slots l.params.first_lines;
-  row : IsOffering l.table l.params l.bound l.fn.group l.place l.at.penalty l.line l.fn.group.start l.index l.initial.row.items l.row.items;
+  wide : length l.row.items ≡ slots l.rules.params.now.first_lines;
+  row : IsOffering l.table l.rules.params.now l.rules.bound l.fn.group l.tried.place l.tried.penalty l.tried.line l.fn.group.start l.index l.initial.row.items l.row.items;
 }

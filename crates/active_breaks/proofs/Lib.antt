@@ -1,6 +1,0 @@
--- Lemmas on the active list.
-pub mod Overfull
-pub mod Active
-pub mod Counts
-pub mod Added
-pub mod Joined

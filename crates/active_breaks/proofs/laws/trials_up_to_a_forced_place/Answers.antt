@@ -1,5 +1,0 @@
-use Rattle.active_breaks.proofs.Joined.{up_to_forced}
-use Rattle.active_breaks.proofs.laws.trials_up_to_a_forced_place.Goals as goal
-
-pub returns : goal.returns
-returns c = up_to_forced

@@ -1,5 +1,0 @@
-use Rattle.active_breaks.proofs.Joined.{up_to_overfull}
-use Rattle.active_breaks.proofs.laws.trials_up_to_an_overfull_line.Goals as goal
-
-pub returns : goal.returns
-returns c = up_to_overfull

@@ -1,0 +1,307 @@
+-- The active list as the table grows.
+use Rattle.std.proofs.Common.{◌≡◌, ◌∙◌, ℕ, suc, ◌+◌, ◌<◌, ◌≤◌, Bool, true, false, cond, List, [], ◌∷◌, ◌++◌, length, length-append, drop, drop-cons, drop_of_length-le, get_or, refl, ap, sym, subst, arith, Option, Some, None}
+use Rattle.std.specs.Prelude.{slice_get, if◌then◌else◌, ◌==◌}
+use Rattle.std.proofs.Math.Logic.{◌⊎◌, inl, inr}
+use Rattle.std.proofs.lemmas.Bool.{cases_Bool, cases_lt}
+use Rattle.std.proofs.lemmas.Option.{slice_get_within, get_or_from_slice_get}
+use Rattle.break_table.specs.declared.group.Group.{Group}
+use Rattle.break_table.specs.Problems.{Problem}
+use Rattle.break_table.specs.Tables.{Entry, first_entry, offer, IsOffered, IsMet, IsRow, held_in}
+use Rattle.break_table.specs.Live.{IsGroup, IsLive}
+use Rattle.break_table.proofs.Entries.{get_cases}
+use Rattle.break_table.proofs.Since.{since_free}
+use Rattle.break_table.proofs.Bellman.{first_table, next_table}
+use Rattle.break_table.proofs.Live.{live_forced, new_group, first_live}
+use Rattle.break_core.specs.Active.{with_group, IsQuiet, IsNext, IsActive, IsFilled}
+
+-- The next group, and those behind it.
+pub next_active :
+    (p : Problem) (stop : ℕ → ℕ → Bool) (table : List Entry) (b high at low i : ℕ) (live : List Group) (g : Group)
+    → slice_get live i ≡ Some g → IsActive p stop table b high at low (drop i live)
+    → IsNext p stop table b at low g × IsActive p stop table b high g.end (g.place + 1) (drop (i + 1) live)
+next_active p stop table b high at low i live g is here =
+    let one : i + 1 ≡ suc i = omega arith in
+    let rest : drop i live ≡ get_or live i g ∷ drop (suc i) live = drop-cons live i g (slice_get_within live i g is) in
+    let same : drop i live ≡ g ∷ drop (i + 1) live =
+    rest ∙ ap (λ x. x ∷ drop (suc i) live) (get_or_from_slice_get live i g g is) ∙ ap (λ n. g ∷ drop n live) (sym one) in
+    subst (λ groups. IsActive p stop table b high at low groups) same here
+
+-- Quiet entries leave a row as it is.
+pub row_quiet :
+    (p : Problem) (table : List Entry) (b n m : ℕ) (row : List (Option Entry))
+    → n ≤ m → b ≤ p.places → IsQuiet p table b n m → IsRow p table b n row → IsRow p table b m row
+row_quiet p table b n m row more within quiet is =
+    record {
+      wide = is.wide;
+      held = λ s o at.
+          let h = is.held s o at in
+          record { k = h.k; below = omega (arith, h.below); offered = h.offered; here = h.here };
+      met = λ k o below offered. met k o below offered (cases_lt k n);
+    }
+  where
+    met : (k : ℕ) (o : Entry) → k < m → IsOffered p table b k o → (k < n) ⊎ (n ≤ k) → IsMet row o
+    met k o below offered (inl before) = is.met k o before offered
+    met k o below offered (inr behind) =
+        let none = quiet k offered.by behind below offered.stands b (omega arith) within in
+        let some = offered.offers in
+        absurd (cc)
+
+-- Behind all groups nothing is offered any more.
+pub row_end :
+    (p : Problem) (stop : ℕ → ℕ → Bool) (table : List Entry) (b high at low i : ℕ) (live : List Group) (row : List (Option Entry))
+    → length live ≤ i → b ≤ p.places → IsActive p stop table b high at low (drop i live) → IsRow p table b at row → IsRow p table b (length table) row
+row_end p stop table b high at low i live row past within here is =
+    let none : drop i live ≡ [] = drop_of_length-le live past in
+    let last = subst (λ groups. IsActive p stop table b high at low groups) none here in
+    row_quiet p table b at (length table) row last.gap within last.quiet is
+
+-- Quiet entries in front of the next group stay quiet for the next place, and so do those of a group that is left out.
+later_quiet : (p : Problem) (table : List Entry) (b c from to : ℕ) → b ≤ c → IsQuiet p table b from to → IsQuiet p table c from to
+later_quiet p table b c from to later quiet k e low high at l behind within = quiet k e low high at l (omega arith) within
+
+joined_quiet :
+    (p : Problem) (table : List Entry) (b from middle to : ℕ)
+    → IsQuiet p table b from middle → IsQuiet p table b middle to → IsQuiet p table b from to
+joined_quiet p table b from middle to front back k e low high at l behind within = cases (cases_lt k middle)
+  where
+    cases : (k < middle) ⊎ (middle ≤ k) → offer p e k l ≡ None
+    cases (inl before) = front k e low before at l behind within
+    cases (inr here) = back k e here high at l behind within
+
+earlier_active :
+    (p : Problem) (stop : ℕ → ℕ → Bool) (table : List Entry) (b high from at low more : ℕ) (groups : List Group)
+    → from ≤ at → low ≤ more → IsQuiet p table b from at → IsActive p stop table b high at more groups → IsActive p stop table b high from low groups
+earlier_active p stop table b high from at low more [] front less quiet is =
+    record { gap = omega (arith, is.gap); quiet = joined_quiet p table b from at (length table) quiet is.quiet; lower = omega (arith, is.lower) }
+earlier_active p stop table b high from at low more (g ∷ groups) front less quiet is =
+    let next = is.0 in (
+      record {
+        gap = omega (arith, next.gap);
+        quiet = joined_quiet p table b from at g.start quiet next.quiet;
+        group = next.group;
+        trying = next.trying;
+        later = omega (arith, next.later);
+      },
+      is.1,
+    )
+
+-- A group goes on to the next place where trying does not stop.
+kept_active :
+    (p : Problem) (stop : ℕ → ℕ → Bool) (table : List Entry) (b high at low : ℕ) (g : Group) (rest : List Group)
+    → p.forced b ≡ false → stop g.place b ≡ false → IsNext p stop table b at low g
+    → IsActive p stop table (b + 1) high g.end (g.place + 1) rest → IsActive p stop table (b + 1) high at low (g ∷ rest)
+kept_active p stop table b high at low g rest free goes next is = (
+  record {
+    gap = next.gap;
+    quiet = later_quiet p table b (b + 1) at g.start (omega arith) next.quiet;
+    group = record {
+      rises = next.group.rises;
+      within = next.group.within;
+      since = omega (arith, next.group.since, since_free p b free);
+      earlier = omega (arith, next.group.earlier);
+      entries = next.group.entries;
+    };
+    trying = λ l behind before. trying l behind (cases_lt l b) before;
+    later = next.later;
+  },
+  is,
+)
+  where
+    trying : (l : ℕ) → g.place < l → (l < b) ⊎ (b ≤ l) → l < b + 1 → stop g.place l ≡ false
+    trying l behind (inl before) within = next.trying l behind before
+    trying l behind (inr here) within =
+        let same : b ≡ l = omega arith in
+        subst (λ k. stop g.place k ≡ false) same goes
+
+-- What stands in front of groups from which lines to the next place may be tried.
+abbrev pub IsFront : (p : Problem) (stop : ℕ → ℕ → Bool) (table : List Entry) (b high at low : ℕ) → List Group → Type 0
+IsFront p stop table b high at low front =
+    (rest : List Group) → p.forced b ≡ false → IsActive p stop table (b + 1) high at low rest → IsActive p stop table (b + 1) high 0 0 (front ++ rest)
+
+-- One more group stays, or is left out.
+pub front_more :
+    (p : Problem) (stop : ℕ → ℕ → Bool) (table : List Entry) (b high at low : ℕ) (front new : List Group) (g : Group) (ended : Bool)
+    → IsFront p stop table b high at low front → IsNext p stop table b at low g
+    → (p.forced b ≡ false → ended ≡ false → stop g.place b ≡ false)
+    → (ended ≡ true → IsQuiet p table (b + 1) g.start g.end)
+    → new ≡ (if ended then front else (front ++ g ∷ []))
+    → IsFront p stop table b high g.end (g.place + 1) new
+front_more p stop table b high at low front new g ended is next goes quiet made rest free active = cases (cases_Bool ended)
+  where
+    joined : (xs : List Group) → (xs ++ g ∷ []) ++ rest ≡ xs ++ g ∷ rest
+    joined [] = refl
+    joined (x ∷ xs) = ap (λ ys. x ∷ ys) (joined xs)
+
+    cases : (ended ≡ true) ⊎ (ended ≡ false) → IsActive p stop table (b + 1) high 0 0 (new ++ rest)
+    cases (inl yes_ended) =
+        let same : new ≡ front = made ∙ ap (λ t. cond t front (front ++ g ∷ [])) yes_ended in
+        let gap : IsQuiet p table (b + 1) at g.end =
+        joined_quiet p table (b + 1) at g.start g.end (later_quiet p table b (b + 1) at g.start (omega arith) next.quiet) (quiet yes_ended) in
+        subst (λ xs. IsActive p stop table (b + 1) high 0 0 (xs ++ rest)) (sym same)
+        (is rest free
+        (earlier_active p stop table (b + 1) high at g.end low (g.place + 1) rest (omega (arith, next.gap, next.group.rises)) (omega (arith, next.later)) gap active))
+    cases (inr not_ended) =
+        let same : new ≡ front ++ g ∷ [] = made ∙ ap (λ t. cond t front (front ++ g ∷ [])) not_ended in
+        subst (λ xs. IsActive p stop table (b + 1) high 0 0 xs) (sym (ap (λ xs. xs ++ rest) same ∙ joined front))
+        (is (g ∷ rest) free (kept_active p stop table b high at low g rest free (goes free not_ended) next active))
+
+pub front_end :
+    (p : Problem) (stop : ℕ → ℕ → Bool) (table : List Entry) (b at low i : ℕ) (live front : List Group)
+    → length live ≤ i → IsActive p stop table b b at low (drop i live) → IsFront p stop table b b at low front
+    → p.forced b ≡ false → IsActive p stop table (b + 1) b 0 0 front
+front_end p stop table b at low i live front past here is free =
+    let none : drop i live ≡ [] = drop_of_length-le live past in
+    let last = subst (λ groups. IsActive p stop table b b at low groups) none here in
+    let all : front ++ [] ≡ front = same front in
+    subst (λ xs. IsActive p stop table (b + 1) b 0 0 xs) all
+    (is [] free (record { gap = last.gap; quiet = later_quiet p table b (b + 1) at (length table) (omega arith) last.quiet; lower = last.lower }))
+  where
+    same : (xs : List Group) → xs ++ [] ≡ xs
+    same [] = refl
+    same (x ∷ xs) = ap (λ ys. x ∷ ys) (same xs)
+
+-- An entry of a longer table that stands before the end of the shorter one stands there too.
+shorter : (table more : List Entry) (k : ℕ) (e : Entry) → k < length table → slice_get (table ++ more) k ≡ Some e → slice_get table k ≡ Some e
+shorter table more k e within at = cases (get_cases table more k e at)
+  where
+    cases : (slice_get table k ≡ Some e) ⊎ ((j : ℕ) × (k ≡ length table + j) × (slice_get more j ≡ Some e)) → slice_get table k ≡ Some e
+    cases (inl here) = here
+    cases (inr there) = absurd (omega (arith, there.1))
+
+quiet_longer : (p : Problem) (table more : List Entry) (b from to : ℕ) → to ≤ length table → IsQuiet p table b from to → IsQuiet p (table ++ more) b from to
+quiet_longer p table more b from to within quiet k e low high at = quiet k e low high (shorter table more k e (omega arith) at)
+
+-- The group of the next place is put behind the others.
+active_more :
+    (p : Problem) (stop : ℕ → ℕ → Bool) (table more : List Entry) (b at low : ℕ) (groups : List Group) (g : Group)
+    → IsActive p stop table (b + 1) b at low groups
+    → g.place ≡ b → g.start ≡ length table → IsGroup p (table ++ more) (b + 1) g → g.end ≡ length (table ++ more)
+    → IsActive p stop (table ++ more) (b + 1) (b + 1) at low (groups ++ g ∷ [])
+active_more p stop table more b at low [] g is place start group end = (
+  record {
+    gap = omega (arith, is.gap, start);
+    quiet = subst (λ n. IsQuiet p (table ++ more) (b + 1) at n) (sym start) (quiet_longer p table more (b + 1) at (length table) (omega arith) is.quiet);
+    group = group;
+    trying = λ l behind before. absurd (omega (arith, place));
+    later = omega (arith, is.lower, place);
+  },
+  record { gap = omega (arith, end); quiet = λ k e low high there l behind within. absurd (omega (arith, end)); lower = omega (arith, place) },
+)
+active_more p stop table more b at low (h ∷ groups) g is place start group end =
+    let old = is.0 in (
+      record {
+        gap = old.gap;
+        quiet = quiet_longer p table more (b + 1) at h.start (omega (arith, old.group.rises, old.group.within)) old.quiet;
+        group = record {
+          rises = old.group.rises;
+          within = omega (arith, old.group.within, length-append table more);
+          since = old.group.since;
+          earlier = old.group.earlier;
+          entries = λ k e low high there. old.group.entries k e low high (shorter table more k e (omega (arith, old.group.within)) there);
+        };
+        trying = old.trying;
+        later = old.later;
+      },
+      active_more p stop table more b h.end (h.place + 1) groups g is.1 place start group end,
+    )
+
+-- A group that stands alone.
+active_one :
+    (p : Problem) (stop : ℕ → ℕ → Bool) (table : List Entry) (b : ℕ) (g : Group)
+    → IsLive p table (b + 1) 0 (g ∷ []) → g.place ≡ b → IsActive p stop table (b + 1) (b + 1) 0 0 (g ∷ [])
+active_one p stop table b g live place =
+    let last = live.3 in (
+      record {
+        gap = live.0;
+        quiet = λ k e low high at l behind within. live.1 k e low high at l behind;
+        group = live.2;
+        trying = λ l behind before. absurd (omega (arith, place));
+        later = omega arith;
+      },
+      record { gap = last.0; quiet = λ k e low high at l behind within. last.1 k e low high at l behind; lower = omega (arith, place) },
+    )
+
+-- The groups stay where the next place has no entries.
+active_higher :
+    (p : Problem) (stop : ℕ → ℕ → Bool) (table : List Entry) (b high at low : ℕ) (groups : List Group)
+    → IsActive p stop table b high at low groups → IsActive p stop table b (high + 1) at low groups
+active_higher p stop table b high at low [] is = record { gap = is.gap; quiet = is.quiet; lower = omega (arith, is.lower) }
+active_higher p stop table b high at low (g ∷ groups) is = (is.0, active_higher p stop table b high g.end (g.place + 1) groups is.1)
+
+-- Where the next place has no entries and a line must end there, all entries are quiet.
+active_none :
+    (p : Problem) (stop : ℕ → ℕ → Bool) (table : List Entry) (b : ℕ) (g : Group)
+    → IsLive p table (b + 1) 0 (g ∷ []) → g.start ≡ length table → IsActive p stop table (b + 1) (b + 1) 0 0 []
+active_none p stop table b g live start =
+    record {
+      gap = omega arith;
+      quiet = λ k e low high at l behind within. live.1 k e low (omega (arith, high, start)) at l behind;
+      lower = omega arith;
+    }
+
+-- A list of no length is empty.
+no_more : (table more : List Entry) → length (table ++ more) ≡ length table → table ++ more ≡ table
+no_more table more same = cases more (omega (arith, same, length-append table more))
+  where
+    all : (xs : List Entry) → xs ++ [] ≡ xs
+    all [] = refl
+    all (x ∷ xs) = ap (λ ys. x ∷ ys) (all xs)
+
+    cases : (more : List Entry) → length more ≡ 0 → table ++ more ≡ table
+    cases [] none = all table
+    cases (x ∷ xs) none = absurd (omega (arith, none))
+
+-- The table, the row of the next place and the groups are filled up to behind that place.
+pub filled_more :
+    (p : Problem) (stop : ℕ → ℕ → Bool) (b : ℕ) (table : List Entry) (row : List (Option Entry)) (live next new : List Group) (g : Group)
+    → 0 < b → IsFilled p stop b table live → IsRow p table b (length table) row
+    → (p.forced b ≡ false → IsActive p stop table (b + 1) b 0 0 next)
+    → g.place ≡ b → g.start ≡ length table → g.end ≡ length (table ++ held_in row)
+    → new ≡ with_group (if p.forced b then [] else next) g
+    → IsFilled p stop (b + 1) (table ++ held_in row) new
+filled_more p stop b table row live next new g some is full active place start end made =
+    record { is_table = next_table p b table row some is.is_table full; is_active = cases (cases_Bool (p.forced b)) (cases_Bool (g.start == g.end)) }
+  where
+    more : List Entry
+    more = held_in row
+
+    group : IsGroup p (table ++ more) (b + 1) g
+    group = new_group p table row b g full some place start end
+
+    alone : p.forced b ≡ true → IsLive p (table ++ more) (b + 1) 0 (g ∷ [])
+    alone forced = live_forced p table more b g forced is.is_table start group end
+
+    front : (t : Bool) → p.forced b ≡ t → (if p.forced b then [] else next) ≡ cond t [] next
+    front t same = ap (λ x. cond x [] next) same
+
+    put : (t u : Bool) → p.forced b ≡ t → (g.start == g.end) ≡ u → new ≡ cond u (cond t [] next) (cond t [] next ++ g ∷ [])
+    put t u forced empty =
+        made ∙ ap (λ x. cond x (if p.forced b then [] else next) ((if p.forced b then [] else next) ++ g ∷ [])) empty
+        ∙ ap (λ xs. cond u xs (xs ++ g ∷ [])) (front t forced)
+
+    same_table : (g.start == g.end) ≡ true → table ++ more ≡ table
+    same_table empty = no_more table more (sym end ∙ sym (by_eq empty) ∙ start)
+      where
+        by_eq : (g.start == g.end) ≡ true → g.start ≡ g.end
+        by_eq is_same = grind arith
+
+    cases : (p.forced b ≡ true) ⊎ (p.forced b ≡ false) → ((g.start == g.end) ≡ true) ⊎ ((g.start == g.end) ≡ false)
+        → IsActive p stop (table ++ more) (b + 1) (b + 1) 0 0 new
+    cases (inl forced) (inl empty) =
+        subst (λ groups. IsActive p stop (table ++ more) (b + 1) (b + 1) 0 0 groups) (sym (put true true forced empty))
+        (active_none p stop (table ++ more) b g (alone forced) (start ∙ ap length (sym (same_table empty))))
+    cases (inl forced) (inr some_entries) =
+        subst (λ groups. IsActive p stop (table ++ more) (b + 1) (b + 1) 0 0 groups) (sym (put true false forced some_entries))
+        (active_one p stop (table ++ more) b g (alone forced) place)
+    cases (inr free) (inl empty) =
+        subst (λ groups. IsActive p stop (table ++ more) (b + 1) (b + 1) 0 0 groups) (sym (put false true free empty))
+        (subst (λ t. IsActive p stop t (b + 1) (b + 1) 0 0 next) (sym (same_table empty)) (active_higher p stop table (b + 1) b 0 0 next (active free)))
+    cases (inr free) (inr some_entries) =
+        subst (λ groups. IsActive p stop (table ++ more) (b + 1) (b + 1) 0 0 groups) (sym (put false false free some_entries))
+        (active_more p stop table more b 0 0 next g (active free) place start group end)
+
+-- The start alone.
+pub filled_first :
+    (p : Problem) (stop : ℕ → ℕ → Bool) (g : Group) → g.place ≡ 0 → g.start ≡ 0 → g.end ≡ 1 → IsFilled p stop 1 (first_entry ∷ []) (g ∷ [])
+filled_first p stop g place start end =
+    record { is_table = first_table p; is_active = active_one p stop (first_entry ∷ []) 0 g (first_live p g place start end) place }

@@ -1,0 +1,102 @@
+-- The trials of passes, together.
+use Rattle.std.proofs.Common.{◌≡◌, ◌∙◌, ℕ, ◌+◌, ◌≤◌, Bool, true, ◌&&◌, ◌||◌, List, [], ◌∷◌, ◌++◌, refl, ap, sym, subst, arith}
+use Rattle.std.proofs.Math.Logic.{inl, inr}
+use Rattle.std.proofs.Math.Bool.{or-true}
+use Rattle.node_core.specs.declared.params.Params.{Params}
+use Rattle.break_table.specs.Tables.{most_places}
+use Rattle.break_core.specs.declared.broken.Pass.{Pass}
+use Rattle.break_core.specs.declared.broken.Pass.TheVariants.{First, Second, Third}
+use Rattle.line_meter.specs.Legal.{is_forced}
+use Rattle.line_meter.specs.Facts.{Facts}
+use Rattle.break_core.specs.Passes.{bound_of}
+use Rattle.line_meter.specs.Steady.{IsSteady}
+use Rattle.break_core.specs.Filling.{IsGrown}
+use Rattle.break_core.specs.Trials.{is_overfull, is_bounded, passes_run, places_up_to, AreBounded, HasNoTrials}
+use Rattle.break_core.specs.Active.{stops, is_limit, MayDrop, IsCounted, IsWithin, AreAdded}
+use Rattle.break_core.proofs.Overfull.{both_true}
+
+limited : (params : Params) (pass : Pass) → is_bounded pass ≡ true → is_limit (bound_of params pass) ≡ true
+limited params First is = refl
+limited params Second is = refl
+limited params Third is = absurd (cc)
+
+-- Overfull lines may end trying in a pass with a bound over a steady paragraph.
+pub may_drop :
+    (facts : Facts) (params : Params) (pass : Pass) (on steady drops : Bool)
+    → drops ≡ (on && (steady && is_bounded pass)) → (steady ≡ true → IsSteady facts) → drops ≡ true → MayDrop facts (bound_of params pass)
+may_drop facts params pass on steady drops is means yes_drops =
+    let first = both_true on (steady && is_bounded pass) (sym is ∙ yes_drops) in
+    let both = both_true steady (is_bounded pass) first.1 in
+    (means both.0, limited params pass both.1)
+
+-- What was counted is within what the definition of stops allows.
+pub within_pass :
+    (facts : Facts) (params : Params) (pass : Pass) (on steady drops : Bool) (before now : ℕ → ℕ)
+    → drops ≡ (on && (steady && is_bounded pass)) → (IsSteady facts → steady ≡ true)
+    → IsCounted (stops facts params drops) facts.places before now → on ≡ true → IsWithin facts params pass before now
+within_pass facts params pass on steady drops before now is means counted yes_on a l (inl last) = omega (arith, counted.grown a, last)
+within_pass facts params pass on steady drops before now is means counted yes_on a l (inr (earlier, within, inl forced)) =
+    counted.stopped a l earlier within (ap (λ t. t || (drops && is_overfull facts params a l)) forced)
+within_pass facts params pass on steady drops before now is means counted yes_on a l (inr (earlier, within, inr over)) =
+    let yes_drops : drops ≡ true =
+    is ∙ ap (λ t. t && (steady && is_bounded pass)) yes_on ∙ ap (λ t. t && is_bounded pass) (means over.0) ∙ over.1 in
+    let test : (drops && is_overfull facts params a l) ≡ true = ap (λ t. t && is_overfull facts params a l) yes_drops ∙ over.2 in
+    counted.stopped a l earlier within (ap (λ t. is_forced (facts.penalty l) || t) test ∙ or-true (is_forced (facts.penalty l)))
+
+pub grown_pass :
+    (stop : ℕ → ℕ → Bool) (places : ℕ) (before now : ℕ → ℕ) → places ≤ most_places → IsCounted stop places before now → IsGrown 8192 before now
+grown_pass stop places before now few counted a = omega (arith, counted.grown a, few)
+
+-- No pass was run.
+pub added_none : (facts : Facts) (params : Params) (before : ℕ → ℕ) → AreAdded facts params [] before before
+added_none facts params before a stop stops = omega arith
+
+joined : (a : ℕ) (stop : Pass → ℕ) (ps qs : List Pass) → places_up_to a stop (ps ++ qs) ≡ places_up_to a stop ps + places_up_to a stop qs
+joined a stop [] qs = omega arith
+joined a stop (pass ∷ ps) qs = omega (arith, joined a stop ps qs)
+
+-- One more pass was run.
+pub added_more :
+    (facts : Facts) (params : Params) (passes : List Pass) (pass : Pass) (before middle now : ℕ → ℕ)
+    → AreAdded facts params passes before middle → IsWithin facts params pass middle now → AreAdded facts params (passes ++ pass ∷ []) before now
+added_more facts params passes pass before middle now is within a stop stops =
+    omega (arith, is a stop stops, within a (stop pass) (stops pass), joined a stop passes (pass ∷ []))
+
+-- What holds of passes holds of more.
+pub added_longer :
+    (facts : Facts) (params : Params) (passes more : List Pass) (before now : ℕ → ℕ)
+    → AreAdded facts params passes before now → AreAdded facts params (passes ++ more) before now
+added_longer facts params passes more before now is a stop stops = omega (arith, is a stop stops, joined a stop passes more)
+
+-- From no trials on, those that were added are all.
+pub all_added :
+    (facts : Facts) (params : Params) (passes : List Pass) (before now : ℕ → ℕ)
+    → HasNoTrials before → AreAdded facts params passes before now → AreBounded facts params passes now
+all_added facts params passes before now none is a stop stops = omega (arith, none a, is a stop stops)
+
+-- The second pass was run behind the first one, and the last one behind it.
+pub second_added :
+    (f h : Facts) (params : Params) (before middle now : ℕ → ℕ)
+    → h ≡ f → AreAdded f params (passes_run params First) before middle → IsWithin h params Second middle now
+    → AreAdded f params (passes_run params Second) before now
+second_added f h params before middle now same is within =
+    added_more f params (passes_run params First) Second before middle now is (subst (λ x. IsWithin x params Second middle now) same within)
+
+pub third_added :
+    (f h : Facts) (params : Params) (before middle now : ℕ → ℕ)
+    → h ≡ f → AreAdded f params (passes_run params Second) before middle → IsWithin h params Third middle now
+    → AreAdded f params (passes_run params Third) before now
+third_added f h params before middle now same is within =
+    added_more f params (passes_run params Second) Third before middle now is (subst (λ x. IsWithin x params Third middle now) same within)
+
+-- No more passes than all are run.
+pub all_from_first :
+    (f : Facts) (params : Params) (before now : ℕ → ℕ)
+    → AreAdded f params (passes_run params First) before now → AreAdded f params (passes_run params Third) before now
+all_from_first f params before now is =
+    added_longer f params (passes_run params Second) (Third ∷ []) before now (added_longer f params (passes_run params First) (Second ∷ []) before now is)
+
+pub all_from_second :
+    (f : Facts) (params : Params) (before now : ℕ → ℕ)
+    → AreAdded f params (passes_run params Second) before now → AreAdded f params (passes_run params Third) before now
+all_from_second f params before now is = added_longer f params (passes_run params Second) (Third ∷ []) before now is

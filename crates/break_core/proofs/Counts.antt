@@ -1,0 +1,62 @@
+-- How many lines are tried.
+use Rattle.std.proofs.Common.{◌≡◌, ◌≢◌, ℕ, ◌+◌, ◌-◌, ◌<◌, ◌≤◌, Bool, true, sym, subst, arith}
+use Rattle.std.proofs.Math.Logic.{◌⊎◌, inl, inr}
+use Rattle.std.proofs.lemmas.Bool.{cases_lt, cases_eq}
+use Rattle.break_core.specs.Active.{IsTrying, IsSwept, IsCounted}
+
+-- Lines from one more place were tried, which is behind those that were.
+pub swept_more :
+    (stop : ℕ → ℕ → Bool) (b low place : ℕ) (before now new : ℕ → ℕ)
+    → IsSwept stop b before now → ((a : ℕ) → low ≤ a → now a ≤ before a)
+    → low ≤ place → place < b → IsTrying stop place b
+    → new place ≡ now place + 1 → ((other : ℕ) → other ≢ place → new other ≡ now other) → IsSwept stop b before new
+swept_more stop b low place before now new swept fresh later earlier trying counted others a = cases (cases_eq a place)
+  where
+    cases : (a ≡ place) ⊎ (a ≡ place → ⊥) → (new a ≤ before a) ⊎ ((new a ≤ before a + 1) × (a < b) × IsTrying stop a b)
+    cases (inl same) =
+        let old = fresh place later in
+        subst (λ x. (new x ≤ before x) ⊎ ((new x ≤ before x + 1) × (x < b) × IsTrying stop x b)) (sym same)
+        (inr (omega (arith, counted, old), earlier, trying))
+    cases (inr other) =
+        subst (λ n. (n ≤ before a) ⊎ ((n ≤ before a + 1) × (a < b) × IsTrying stop a b)) (sym (others a other)) (swept a)
+
+pub fresh_more :
+    (low place : ℕ) (before now new : ℕ → ℕ)
+    → ((a : ℕ) → low ≤ a → now a ≤ before a) → low ≤ place → ((other : ℕ) → other ≢ place → new other ≡ now other)
+    → (a : ℕ) → place + 1 ≤ a → new a ≤ before a
+fresh_more low place before now new fresh later others a behind = omega (arith, others a (λ same. omega (arith, same)), fresh a (omega arith))
+
+-- Lines to one more place were tried.
+pub counted_more :
+    (stop : ℕ → ℕ → Bool) (b : ℕ) (before middle now : ℕ → ℕ)
+    → IsCounted stop b before middle → IsSwept stop (b + 1) middle now → IsCounted stop (b + 1) before now
+counted_more stop b before middle now is swept =
+    record { grown = λ a. grown a (swept a); stopped = λ a l earlier within stops. stopped a l earlier within stops (swept a) (cases_lt l (b + 1)) }
+  where
+    grown : (a : ℕ) → (now a ≤ middle a) ⊎ ((now a ≤ middle a + 1) × (a < b + 1) × IsTrying stop a (b + 1)) → now a ≤ before a + (b + 1 - a)
+    grown a (inl none) = omega (arith, is.grown a)
+    grown a (inr one) = omega (arith, is.grown a, one.0, one.1)
+
+    stopped :
+        (a l : ℕ) → a < l → l ≤ b + 1 → stop a l ≡ true
+        → (now a ≤ middle a) ⊎ ((now a ≤ middle a + 1) × (a < b + 1) × IsTrying stop a (b + 1)) → (l < b + 1) ⊎ (b + 1 ≤ l) → now a ≤ before a + (l - a)
+    stopped a l earlier within stops (inl none) (inl low) = omega (arith, is.stopped a l earlier (omega arith) stops)
+    stopped a l earlier within stops (inr one) (inl low) =
+        let goes = one.2 l earlier low in
+        absurd (cc)
+    stopped a l earlier within stops tried (inr last) =
+        let all = grown a tried in
+        omega (arith, all)
+
+-- No line was tried yet.
+pub counted_none : (stop : ℕ → ℕ → Bool) (before : ℕ → ℕ) → IsCounted stop 0 before before
+counted_none stop before = record { grown = λ a. omega arith; stopped = λ a l earlier within stops. absurd (omega arith) }
+
+-- What holds up to a place holds up to a later one.
+pub counted_longer : (stop : ℕ → ℕ → Bool) (b c : ℕ) (before now : ℕ → ℕ) → b ≤ c → IsCounted stop b before now → IsCounted stop c before now
+counted_longer stop b c before now later is =
+    record { grown = λ a. omega (arith, is.grown a); stopped = λ a l earlier within stops. stopped a l earlier stops (cases_lt b l) }
+  where
+    stopped : (a l : ℕ) → a < l → stop a l ≡ true → (b < l) ⊎ (l ≤ b) → now a ≤ before a + (l - a)
+    stopped a l earlier stops (inl above) = omega (arith, is.grown a)
+    stopped a l earlier stops (inr low) = is.stopped a l earlier low stops
