@@ -4,7 +4,7 @@ use Rattle.std.specs.Int.{sum_through}
 use Rattle.node_core.specs.declared.params.Params.{Params}
 use Rattle.break_core.specs.declared.broken.Pass.{Pass}
 use Rattle.line_meter.specs.Facts.{Facts}
-use Rattle.active_breaks.specs.Trials.{places_up_to, AreBounded}
+use Rattle.break_core.specs.Trials.{places_up_to, AreBounded}
 use Rattle.paragraph_core.specs.Tried.{AreFew}
 
 no_more : (f g : ℕ → ℕ) → ((a : ℕ) → f a ≤ g a) → (n : ℕ) → sum_through f n ≤ sum_through g n

@@ -4,7 +4,7 @@ use Rattle.std.specs.Int.{sum_through}
 use Rattle.node_core.specs.declared.params.Params.{Params}
 use Rattle.break_core.specs.declared.broken.Pass.{Pass}
 use Rattle.line_meter.specs.Facts.{Facts}
-use Rattle.active_breaks.specs.Trials.{IsStop, passes_run, places_up_to}
+use Rattle.break_core.specs.Trials.{IsStop, passes_run, places_up_to}
 
 -- From the start and from all places together at most as many lines were tried in these passes as there are places behind each up to where trying stops.
 abbrev pub AreFew : Facts → Params → List Pass → (trials : ℕ) → Type 0

@@ -4,7 +4,7 @@ ghost use Rattle.std.specs.Prelude.{◌≡◌, ◌≤◌, ◌+◌, ◌<◌, ℤ,
 ghost use Rattle.node_core.specs.Nodes.{most_nodes, nodes_of};
 ghost use Rattle.line_meter.specs.Facts.{facts_of, refusal};
 ghost use Rattle.break_core.specs.Passes.{IsBroken};
-ghost use Rattle.active_breaks.specs.Trials.{passes_run};
+ghost use Rattle.break_core.specs.Trials.{passes_run};
 ghost use Rattle.paragraph_core.specs.Finished.{finished};
 ghost use Rattle.paragraph_core.specs.Paragraphs.{set_empty, unbroken, HasLargeLine, IsSet, IsSetParagraph, IsUnset};
 ghost use Rattle.paragraph_core.specs.Tried.{AreFew, AreFewTrials};

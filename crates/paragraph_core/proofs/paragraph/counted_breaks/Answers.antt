@@ -2,7 +2,7 @@ use Rattle.std.proofs.Common.{◌≡◌, ◌∙◌, ℕ, length, get_or, ap, sub
 use Rattle.std.specs.Int.{sum_through}
 use Rattle.line_meter.specs.Facts.{Facts, facts_of}
 use Rattle.line_meter.specs.Legal.{legal_places}
-use Rattle.active_breaks.specs.Trials.{passes_run, AreBounded}
+use Rattle.break_core.specs.Trials.{passes_run, AreBounded}
 use Rattle.paragraph_core.specs.Tried.{AreFew}
 use Rattle.paragraph_core.proofs.Tried.{few_together}
 use Rattle.paragraph_core.proofs.paragraph.counted_breaks.Goals as goal
