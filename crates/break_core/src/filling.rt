@@ -6,7 +6,7 @@ ghost use Rattle.break_cost.specs.Sizes.{IsSmallJudgement};
 ghost use Rattle.line_meter.specs.Legal.{is_forced};
 ghost use Rattle.break_core.specs.Passes.{problem_of};
 ghost use Rattle.break_core.specs.Filling.{IsOf, IsOffering, AreFew};
-ghost use Rattle.break_core.specs.Active.{stops, with_group, MayDrop, IsActive, IsFilled, IsSwept, IsCounted};
+ghost use Rattle.break_core.specs.Active.{stops, with_group, MayDrop, IsActive, IsFilled, IsSwept, IsCounted, AreKept, WereTried};
 
 use break_cost::{Bound, Judgement, judge_both, line_from};
 use break_table::{Best, Group, empty_row, improve, keep};
@@ -127,6 +127,8 @@ fn try_lines<M: Meter>(
         IsActive (problem_of (M.facts meter.old) rules.now.params.now rules.now.bound) (stops (M.facts meter.old) rules.now.params.now rules.now.drops) table.now (place + 1) place 0 0 offers.new.next.items) }
     ensures facts { M.facts meter.new ≡ M.facts meter.old }
     ensures trials { IsSwept (stops (M.facts meter.old) rules.now.params.now rules.now.drops) place (M.trials meter.old) (M.trials meter.new) }
+    ensures kept { AreKept (M.trials meter.old) (M.trials meter.new) }
+    ensures tried { OnOk result (WereTried live.now (M.trials meter.old) (M.trials meter.new)) }
 {
     let at = meter.place(place);
     offers.next.clear();
@@ -164,6 +166,8 @@ fn add_place<M: Meter>(
     ensures empty { OnOk result (offers.new.row.items ≡ replicate (slots rules.now.params.now.first_lines) None) }
     ensures facts { M.facts meter.new ≡ M.facts meter.old }
     ensures trials { IsSwept (stops (M.facts meter.old) rules.now.params.now rules.now.drops) place (M.trials meter.old) (M.trials meter.new) }
+    ensures kept { AreKept (M.trials meter.old) (M.trials meter.new) }
+    ensures tried { OnOk result (WereTried reached.old.live.items (M.trials meter.old) (M.trials meter.new)) }
 {
     try_lines(meter, rules, &reached.table, &reached.live, offers, place)?;
     let start = reached.table.len();
@@ -190,6 +194,8 @@ pub(crate) fn fill<M: Meter>(
         IsTable (problem_of (M.facts meter.old) rules.now.params.now rules.now.bound) ((M.facts meter.old).places + 1) table.items) }
     ensures facts { M.facts meter.new ≡ M.facts meter.old }
     ensures trials { IsCounted (stops (M.facts meter.old) rules.now.params.now rules.now.drops) (M.facts meter.old).places (M.trials meter.old) (M.trials meter.new) }
+    ensures kept { AreKept (M.trials meter.old) (M.trials meter.new) }
+    ensures tried { OnOk result (M.trials meter.old 0 < M.trials meter.new 0) }
 {
     let mut reached = Reached {
         table: Vec::new(alloc),

@@ -1,5 +1,5 @@
 -- How a paragraph is set, as the machine has it.
-use Rattle.std.proofs.Common.{◌≡◌, ◌≢◌, ℤ, ◌<◌, false, List, length, Option, Some, None, Result, Ok, Err, IfOk, IfErr, OnOk, OnErr}
+use Rattle.std.proofs.Common.{◌≡◌, ◌≢◌, ℤ, ◌<◌, false, List, length, None, Result, Ok, Err, IfOk, IfErr, OnOk, OnErr}
 use Rattle.std.specs.Prelude.{is_none}
 use Rattle.node_core.specs.declared.params.Params.{Params}
 use Rattle.node_core.specs.declared.tree.Node.{Node}
@@ -46,6 +46,6 @@ only_memory faults.DimensionTooLarge is = cc
 only_memory faults.OutOfMemory is = cc
 
 -- Where a list is around a paragraph that may be broken, no early check refuses its end.
-pub early_free : (params : Params) (around : List OpenList) (items : Items) (l : Option OpenList) → innermost around ≡ l → is_none l ≡ false
+pub early_free : (params : Params) (around : List OpenList) (items : Items) → is_none (innermost around) ≡ false
     → unbroken (nodes_of items) params.par_fill_skip ≡ None → first_of (early_paragraph_checks params around items) ≡ None
-early_free params around items l is some free = rw (is, some, free) refl
+early_free params around items some free = rw (some, free) refl

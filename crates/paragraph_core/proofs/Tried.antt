@@ -11,6 +11,11 @@ no_more : (f g : ℕ → ℕ) → ((a : ℕ) → f a ≤ g a) → (n : ℕ) → 
 no_more f g below zero = below 0
 no_more f g below (suc n) = omega (arith, no_more f g below n, below (suc n))
 
+-- Those from the start are some of all.
+pub first_of_all : (f : ℕ → ℕ) (n : ℕ) → f 0 ≤ sum_through f n
+first_of_all f zero = omega arith
+first_of_all f (suc n) = omega (arith, first_of_all f n)
+
 -- Few trials from each place are few trials together.
 pub few_together :
     (facts : Facts) (params : Params) (passes : List Pass) (trials : ℕ → ℕ) → AreBounded facts params passes trials → AreFew facts params passes (sum_through trials facts.places)

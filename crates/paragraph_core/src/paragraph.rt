@@ -99,6 +99,7 @@ fn counted_breaks(
     requires short { length nodes.now ≤ most_nodes }
     requires free { refusal nodes.now ≡ None }
     ensures broken { IfOk result (λ counted. IsBroken (facts_of nodes.now) params.now counted.0) }
+    ensures tried { IfOk result (λ counted. 0 < counted.1) }
     ensures trials { IfOk result (λ counted. AreFew (facts_of nodes.now) params.now (passes_run params.now counted.0.pass) counted.1) }
 {
     let mut meter = ListMeter::of(alloc, nodes)?;
@@ -162,7 +163,7 @@ fn set_items(
 
 /// Sets a paragraph of at most 131,070 items behind a previous depth, and leaves its list as it is. It is refused before any growth where its glue shrinks
 /// in an infinite order, else where it has more than 8,192 legal places; else where a line does not fit, or where a growth is refused before all lines are packed.
-/// At most so many lines are tried as there are places behind each place up to where trying stops.
+/// Of a paragraph with items some lines are tried, and at most as many as there are places behind each place up to where trying stops.
 pub fn set_paragraph(
     alloc: Global,
     list: &mut NodeList,

@@ -1,13 +1,13 @@
 use Rattle.std.proofs.Common.{◌≡◌, ◌∙◌, ◌+◌, ◌&&◌, to_z, of_z, w32, refl, arith}
 use Rattle.std.proofs.lemmas.Int.{ints}
 use Rattle.std.specs.Prelude.{slice_index_or}
-use Rattle.std.proofs.lemmas.Option.{slice_get-get_or}
+use Rattle.std.proofs.lemmas.Option.{slice_get-get_or, slice_get_within}
 use Rattle.break_core.specs.Passes.{problem_of}
 use Rattle.break_core.proofs.Filled.{group_of, judged_is}
 use Rattle.break_core.specs.Active.{stops}
 use Rattle.break_core.proofs.Overfull.{overfull_of, goes_on, ended_quiet}
 use Rattle.break_core.proofs.Active.{next_active, row_quiet, row_end, front_more, front_end}
-use Rattle.break_core.proofs.Counts.{swept_more, fresh_more}
+use Rattle.break_core.proofs.Counts.{swept_more, fresh_more, kept_more, tried_more}
 use Rattle.break_core.proofs.filling.try_lines.Goals as goal
 
 pub offer_group-requires-clause-entries : goal.offer_group-requires-clause-entries
@@ -34,6 +34,12 @@ returns-in_err-keep_group-clause-trials g c =
     (g.M.Meter.trials c.try_line-sums.new.self) inv.swept inv.fresh next.later next.group.earlier next.trying c.try_line-sums.ensures.counted
     c.try_line-sums.ensures.others
 
+pub returns-in_err-keep_group-clause-kept : goal.returns-in_err-keep_group-clause-kept
+returns-in_err-keep_group-clause-kept g c =
+    let group = slice_index_or c.args.live.now c.loop-group.group-index (record { place = 0; start = 0; end = 0 }) in
+    kept_more group.place (g.M.Meter.trials c.args.meter.now) (g.M.Meter.trials c.loop-group.meter) (g.M.Meter.trials c.try_line-sums.new.self)
+    c.loop-group.invariant.kept c.try_line-sums.ensures.counted c.try_line-sums.ensures.others
+
 pub loop-group-preserved : goal.loop-group-preserved
 loop-group-preserved g c =
     let f = g.M.Meter.facts c.args.meter.now in
@@ -58,6 +64,10 @@ loop-group-preserved g c =
       swept = swept_more stop c.args.place inv.low group.place (g.M.Meter.trials c.args.meter.now) (g.M.Meter.trials c.loop-group.meter)
           (g.M.Meter.trials c.try_line-sums.new.self) inv.swept inv.fresh next.later next.group.earlier next.trying c.try_line-sums.ensures.counted
           c.try_line-sums.ensures.others;
+      kept = kept_more group.place (g.M.Meter.trials c.args.meter.now) (g.M.Meter.trials c.loop-group.meter) (g.M.Meter.trials c.try_line-sums.new.self) inv.kept
+          c.try_line-sums.ensures.counted c.try_line-sums.ensures.others;
+      tried = tried_more c.args.live.now c.loop-group.group-index group (g.M.Meter.trials c.args.meter.now) (g.M.Meter.trials c.loop-group.meter)
+          (g.M.Meter.trials c.try_line-sums.new.self) inv.tried inv.kept at c.try_line-sums.ensures.counted c.try_line-sums.ensures.others;
       at = group.end;
       low = group.place + 1;
       fresh = fresh_more inv.low group.place (g.M.Meter.trials c.args.meter.now) (g.M.Meter.trials c.loop-group.meter)
@@ -88,3 +98,6 @@ returns-clause-live g c =
     let inv = c.loop-group.invariant in
     front_end p (stops f c.args.rules.now.params.now c.args.rules.now.drops) c.args.table.now c.args.place inv.at inv.low c.loop-group.group-index c.args.live.now
     c.loop-group.offers.next.items c.loop-group-test.false inv.live inv.front
+
+pub returns-clause-tried : goal.returns-clause-tried
+returns-clause-tried g c = λ k h is. c.loop-group.invariant.tried k h (omega (arith, c.loop-group-test.false, slice_get_within c.args.live.now k h is)) is

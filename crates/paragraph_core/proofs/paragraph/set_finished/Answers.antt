@@ -26,7 +26,7 @@ returns-in-Ok-lines-clause-ok c = record {
 }
 
 pub returns-in-Ok-lines-clause-trials : goal.returns-in-Ok-lines-clause-trials
-returns-in-Ok-lines-clause-trials c = c.in-Ok.ensures.trials
+returns-in-Ok-lines-clause-trials c = (c.in-Ok.ensures.tried, c.in-Ok.ensures.trials)
 
 pub returns-clause-large : goal.returns-clause-large
 returns-clause-large c = λ is. (c.in-Ok.breaks, c.in-Ok.ensures.broken, c.in-Err.ensures.refused is)
