@@ -1,7 +1,9 @@
 -- Lemmas on places and lines of nodes.
 pub mod Places
 pub mod KeptSums
-pub mod Prefixes
-pub mod Steady
-pub mod Firsts
+pub mod Smalls
+pub mod Walks
+pub mod Marked
+pub mod Rising
+pub mod Ends
 pub mod Refusals

@@ -1,12 +1,12 @@
 -- What a line keeps of a list, and the sums over it (TeX: The Program, part 38, §822 and §837; part 39, §879 to §882).
-use Rattle.std.specs.Prelude.{◌<◌, ◌+◌, ◌-◌, ◌+ℤ◌, ◌-ℤ◌, ◌++◌, map, length, ℕ, pos, List, [], ◌∷◌, take, drop, slice_get, Option, Some, None, if◌then◌else◌}
+use Rattle.std.specs.Prelude.{◌<◌, ◌+◌, ◌-ℤ◌, ◌++◌, ℕ, pos, List, [], ◌∷◌, take, drop, slice_get, Option, Some, None, if◌then◌else◌}
 use Rattle.node_core.specs.declared.tree.Node.{Node}
 use Rattle.node_core.specs.declared.tree.Node.TheVariants as nodes
 use Rattle.node_core.specs.declared.tree.Order.TheVariants.{Normal, Fil, Fill, Filll}
 use Rattle.pack_core.specs.Items.{across, stretch_in, shrink_in}
 use Rattle.pack_core.specs.Totals.{total}
 use Rattle.break_cost.specs.declared.sums.Sums.{Sums}
-use Rattle.line_meter.specs.Legal.{is_dropped, up_to}
+use Rattle.line_meter.specs.Legal.{is_dropped}
 
 -- What a line keeps of the item that it ends at: glue vanishes, a kern has no width any more, and a penalty stays.
 abbrev pub at_break : Option Node → List Node
@@ -47,30 +47,6 @@ abbrev pub lead : List Node → ℕ
 lead [] = 0
 lead (node ∷ rest) = if is_dropped node then lead rest + 1 else 0
 
--- What an item adds to the sums.
-abbrev pub amounts_of : Node → Sums
-amounts_of node =
-    record {
-      width = across node;
-      stretch = stretch_in Normal node;
-      fil = stretch_in Fil node;
-      fill = stretch_in Fill node;
-      filll = stretch_in Filll node;
-      shrink = shrink_in Normal node;
-    }
-
--- Two sums together (own).
-abbrev pub plus : Sums → Sums → Sums
-plus a b =
-    record {
-      width = a.width +ℤ b.width;
-      stretch = a.stretch +ℤ b.stretch;
-      fil = a.fil +ℤ b.fil;
-      fill = a.fill +ℤ b.fill;
-      filll = a.filll +ℤ b.filll;
-      shrink = a.shrink +ℤ b.shrink;
-    }
-
 -- How much more one sum is than another (own).
 abbrev pub minus : Sums → Sums → Sums
 minus a b =
@@ -83,17 +59,9 @@ minus a b =
       shrink = a.shrink -ℤ b.shrink;
     }
 
--- The sums over the items in front of each place, the end too.
-abbrev pub prefix_sums : List Node → List Sums
-prefix_sums list = map (λ n. sums_of (take n list)) (up_to (length list + 1))
-
 -- Where the first item stands, from item k on, that is not dropped; the end, where there is none.
 abbrev pub next_kept : List Node → (k : ℕ) → ℕ
 next_kept list k = k + lead (drop k list)
-
--- The same for the end, for the last item, and so on back to the first.
-abbrev pub all_next_kept : List Node → List ℕ
-all_next_kept list = map (λ n. next_kept list (length list - n)) (up_to (length list + 1))
 
 -- Where the items of a line begin that are not dropped first.
 abbrev pub first_kept : List Node → Option ℕ → ℕ

@@ -4,4 +4,4 @@ pub mod Kept
 pub mod Facts
 pub mod Small
 pub mod Steady
-pub mod Ends
+pub mod Marks

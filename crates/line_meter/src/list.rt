@@ -1,18 +1,19 @@
-//! The meter of a list of nodes.
+//! The legal places of a list of nodes, and why it is refused.
 
-ghost use Rattle.std.specs.Prelude.{◌≡◌, ◌+◌, ◌<◌, ◌≤◌, ◌^◌, ◌++◌, [], ◌∷◌, ℕ, length, take, drop, replicate, slice_get, get_or, if◌then◌else◌, IfOk, OnOk};
-ghost use Rattle.line_meter.specs.Kept.{next_kept, all_next_kept};
+ghost use Rattle.std.specs.Prelude.{◌≡◌, ◌≤◌, length, replicate, slice_get, IfOk};
 ghost use Rattle.std.specs.List.{list_any};
 ghost use Rattle.node_core.specs.Nodes.{most_nodes};
 ghost use Rattle.line_meter.specs.Legal.{is_dropped, is_kept, is_glue, is_break, node_before, is_legal, legal_places, penalty_of};
+ghost use Rattle.line_meter.specs.Facts.{refusal};
 ghost use Rattle.node_core.specs.Classes.{shrinks_infinitely};
 
+use crate::fault::BreakFault;
 use node_core::{Kind, Node};
 use std::alloc::{AllocError, Global};
 
 /// Whether an item is dropped at the beginning of a line.
 #[tactic(auto, unfolding(crate::specs::Legal::is_dropped))]
-fn is_dropped(node: &Node) -> bool
+pub fn is_dropped(node: &Node) -> bool
     ensures { result ≡ is_dropped node.now }
 {
     node.class().is_discardable()
@@ -44,7 +45,7 @@ fn is_kept_before(nodes: &[Node], index: usize) -> bool
 
 /// Whether a place of a list of nodes is legal.
 #[tactic(auto, unfolding(crate::specs::Legal::is_legal, crate::specs::Legal::is_break))]
-fn is_legal(nodes: &[Node], index: usize) -> bool
+pub fn is_legal(nodes: &[Node], index: usize) -> bool
     requires { length nodes.now ≤ most_nodes }
     ensures { result ≡ is_legal nodes.now index }
 {
@@ -58,7 +59,7 @@ fn is_legal(nodes: &[Node], index: usize) -> bool
 }
 
 /// How many legal places a list of nodes has.
-pub fn count_places(nodes: &[Node]) -> usize
+fn count_places(nodes: &[Node]) -> usize
     requires { length nodes.now ≤ most_nodes }
     ensures { result ≡ length (legal_places nodes.now) }
 {
@@ -72,10 +73,24 @@ pub fn count_places(nodes: &[Node]) -> usize
 }
 
 /// Whether there is glue that shrinks in an infinite order.
-pub fn any_shrinks_infinitely(nodes: &[Node]) -> bool
+fn any_shrinks_infinitely(nodes: &[Node]) -> bool
     ensures { result ≡ list_any shrinks_infinitely nodes.now }
 {
     nodes.iter().any(|node| node.shrinks_infinitely())
+}
+
+/// Why a list of nodes is refused, if it is: for its glue, or else for its many places.
+pub fn refusal(nodes: &[Node]) -> Option<BreakFault>
+    requires { length nodes.now ≤ most_nodes }
+    ensures { result ≡ refusal nodes.now }
+{
+    if any_shrinks_infinitely(nodes) {
+        return Some(BreakFault::InfiniteShrink);
+    }
+    if count_places(nodes) > 8192 {
+        return Some(BreakFault::TooManyBreaks);
+    }
+    None
 }
 
 /// The penalty of a break at a place.
@@ -88,54 +103,6 @@ pub fn penalty_at(nodes: &[Node], index: usize) -> i32
         Some(Node::Penalty(penalty)) => *penalty,
         Some(_) => 0,
     }
-}
-
-/// Where the first item stands, from an item on, that is not dropped at the beginning of a line; that from the next item on is known.
-fn next_kept(nodes: &[Node], index: usize, behind: usize) -> usize
-    requires within { index < length nodes.now }
-    requires behind { behind ≡ next_kept nodes.now (index + 1) }
-    ensures { result ≡ next_kept nodes.now index }
-{
-    if is_dropped(&nodes[index]) {
-        return behind;
-    }
-    index
-}
-
-/// Where the first item stands that is not dropped at the beginning of a line, from the end on, from the last item on, and so on back to the first.
-pub fn all_next_kept(alloc: Global, nodes: &[Node]) -> Result<Vec<usize>, AllocError>
-    ensures { IfOk result (λ firsts. firsts.items ≡ all_next_kept nodes.now) }
-{
-    let mut firsts = Vec::with_capacity(alloc, nodes.len().saturating_add(1))?;
-    let mut first = nodes.len();
-    firsts.push(first)?;
-    for count in 0..nodes.len() {
-        first = next_kept(nodes, nodes.len() - count - 1, first);
-        firsts.push(first)?;
-    }
-    Ok(firsts)
-}
-
-/// Puts a number behind others, if it is wanted.
-fn push_if(numbers: &mut Vec<usize>, wanted: bool, number: usize) -> Result<(), AllocError>
-    ensures { OnOk result (numbers.new.items ≡ numbers.old.items ++ (if wanted then number ∷ [] else [])) }
-{
-    if wanted {
-        numbers.push(number)?;
-    }
-    Ok(())
-}
-
-/// The legal places of a list of nodes.
-pub fn legal_places(alloc: Global, nodes: &[Node]) -> Result<Vec<usize>, AllocError>
-    requires { length nodes.now ≤ most_nodes }
-    ensures { IfOk result (λ places. places.items ≡ legal_places nodes.now) }
-{
-    let mut places = Vec::new(alloc);
-    for index in 0..nodes.len() + 1 {
-        push_if(&mut places, is_legal(nodes, index), index)?;
-    }
-    Ok(places)
 }
 
 /// Counters at 0.

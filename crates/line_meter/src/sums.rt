@@ -1,15 +1,14 @@
 //! Sums over the items of a line.
 
-ghost use Rattle.std.specs.Prelude.{◌≡◌, ◌+◌, ◌≤◌, ◌*◌, ◌^◌, ℕ, length, take, drop, map, slice_get, Some, IfOk};
+ghost use Rattle.std.specs.Prelude.{◌≡◌, ◌+◌, ℕ};
 ghost use Rattle.node_core.specs.Nodes.{most_nodes};
-ghost use Rattle.line_meter.specs.Legal.{up_to};
-ghost use Rattle.line_meter.specs.Kept.{sums_of, amounts_of, plus, minus, prefix_sums};
-ghost use Rattle.line_meter.specs.Small.{IsPrefix, IsSmallSums, ArePrefixes};
+ghost use Rattle.line_meter.specs.Kept.{minus};
+ghost use Rattle.line_meter.specs.Marks.{amounts_of, plus};
+ghost use Rattle.line_meter.specs.Small.{IsPrefix, IsSmallSums};
 
 pub use break_cost::Sums;
 use node_core::{Kind, Node, Order};
 use pack_core::{advance_of, shrink_of, stretch_of};
-use std::alloc::{AllocError, Global};
 
 /// What an item adds to the sums.
 fn amounts_of(node: &Node) -> Sums
@@ -26,13 +25,12 @@ fn amounts_of(node: &Node) -> Sums
     }
 }
 
-/// The sums over the first items and one more.
-fn plus(before: &Sums, more: &Sums, count: usize) -> Sums
-    requires few { count ≤ most_nodes }
-    requires before { IsPrefix count before.now }
+/// Two sums together, the second one over one item.
+fn plus(before: &Sums, more: &Sums) -> Sums
+    requires before { IsPrefix most_nodes before.now }
     requires more { IsPrefix 1 more.now }
     ensures value { result ≡ plus before.now more.now }
-    ensures small { IsPrefix (count + 1) result }
+    ensures small { (n : ℕ) → IsPrefix n before.now → IsPrefix (n + 1) result }
 {
     Sums {
         width: before.width + more.width,
@@ -44,37 +42,34 @@ fn plus(before: &Sums, more: &Sums, count: usize) -> Sums
     }
 }
 
-/// The sums over the items behind the first ones of a list.
-pub fn minus(all: &Sums, first: &Sums) -> Sums
-    requires all { IsPrefix most_nodes all.now }
-    requires first { IsPrefix most_nodes first.now }
-    ensures value { result ≡ minus all.now first.now }
-    ensures small { IsSmallSums result }
+/// The sums over one item more. What is no glue changes the width alone.
+pub fn with_item(before: &Sums, node: &Node) -> Sums
+    requires { IsPrefix most_nodes before.now }
+    ensures value { result ≡ plus before.now (amounts_of node.now) }
+    ensures small { (n : ℕ) → IsPrefix n before.now → IsPrefix (n + 1) result }
 {
-    Sums {
-        width: all.width - first.width,
-        stretch: all.stretch - first.stretch,
-        fil: all.fil - first.fil,
-        fill: all.fill - first.fill,
-        filll: all.filll - first.filll,
-        shrink: all.shrink - first.shrink,
+    match node {
+        Node::Glue(_) => plus(before, &amounts_of(node)),
+        _ => Sums {
+            width: before.width + advance_of(Kind::Horizontal, node),
+            ..*before
+        },
     }
 }
 
-/// The sums over the items in front of each place, the end too.
-pub fn prefix_sums(alloc: Global, nodes: &[Node]) -> Result<Vec<Sums>, AllocError>
-    requires short { length nodes.now ≤ most_nodes }
-    ensures value { IfOk result (λ sums. sums.items ≡ prefix_sums nodes.now) }
-    ensures small { IfOk result (λ sums. ArePrefixes sums.items) }
+/// How much more one sum is than another.
+pub fn minus(all: &Sums, rest: &Sums) -> Sums
+    requires all { IsPrefix most_nodes all.now }
+    requires rest { IsPrefix most_nodes rest.now }
+    ensures value { result ≡ minus all.now rest.now }
+    ensures small { IsSmallSums result }
 {
-    let mut sums = Vec::with_capacity(alloc, nodes.len() + 1)?;
-    let mut running = Sums::ZERO;
-    sums.push(running)?;
-    let mut count = 0;
-    for node in nodes {
-        running = plus(&running, &amounts_of(node), count);
-        sums.push(running)?;
-        count += 1;
+    Sums {
+        width: all.width - rest.width,
+        stretch: all.stretch - rest.stretch,
+        fil: all.fil - rest.fil,
+        fill: all.fill - rest.fill,
+        filll: all.filll - rest.filll,
+        shrink: all.shrink - rest.shrink,
     }
-    Ok(sums)
 }

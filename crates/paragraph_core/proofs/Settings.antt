@@ -19,7 +19,7 @@ use Rattle.paragraph_core.specs.declared.paragraph.ParagraphFault.{ParagraphFaul
 use Rattle.paragraph_core.specs.declared.paragraph.ParagraphFault.TheVariants.{InfiniteShrink, TooManyBreaks, DimensionTooLarge, OutOfMemory}
 use Rattle.paragraph_core.specs.Lines.{BrokenParagraph, broken_list, vertical_items, last_depth, lines_fit}
 use Rattle.paragraph_core.specs.Finished.{finished}
-use Rattle.paragraph_core.specs.Paragraphs.{with_breaks, unbroken, HasLargeLine, IsSet, IsSetParagraph, IsUnset}
+use Rattle.paragraph_core.specs.Paragraphs.{with_breaks, unbroken, HasLargeLine, IsSet, IsSetParagraph, IsUnsetList, IsUnset}
 use Rattle.paragraph_core.specs.Setting.{chosen_lines, lined, set_by, list_setting, setting}
 use Rattle.paragraph_core.proofs.LeastLists.{no_least, chosen_least}
 
@@ -117,15 +117,27 @@ paragraph_set (x ∷ rest) params previous set free is = list_set (finished (x �
 
 -- One that was not set has that fault.
 pub paragraph_unset :
-    (list : List Node) (params : Params) (previous : ℤ) (fault : ParagraphFault) → 0 < length list → fault ≢ OutOfMemory
+    (list : List Node) (params : Params) (previous : ℤ) (fault : ParagraphFault) → fault ≢ OutOfMemory
     → IsUnset list params previous fault → setting list params previous ≡ Err fault
 unfolding setting
-paragraph_unset [] params previous fault some told is = absurd (omega arith)
-paragraph_unset (x ∷ rest) params previous InfiniteShrink some told is = list_shrinks (finished (x ∷ rest) params.par_fill_skip) params previous is
-paragraph_unset (x ∷ rest) params previous TooManyBreaks some told is = list_crowded (finished (x ∷ rest) params.par_fill_skip) params previous is
-paragraph_unset (x ∷ rest) params previous DimensionTooLarge some told (free, large) =
+paragraph_unset [] params previous fault told is = absurd is
+paragraph_unset (x ∷ rest) params previous InfiniteShrink told is = list_shrinks (finished (x ∷ rest) params.par_fill_skip) params previous is
+paragraph_unset (x ∷ rest) params previous TooManyBreaks told is = list_crowded (finished (x ∷ rest) params.par_fill_skip) params previous is
+paragraph_unset (x ∷ rest) params previous DimensionTooLarge told (free, large) =
     list_large (finished (x ∷ rest) params.par_fill_skip) params previous free large
-paragraph_unset (x ∷ rest) params previous OutOfMemory some told is = absurd (told refl)
+paragraph_unset (x ∷ rest) params previous OutOfMemory told is = absurd (told refl)
+
+-- One that is not set has items.
+pub unset_some :
+    (list : List Node) (params : Params) (previous : ℤ) (fault : ParagraphFault) → 0 < length list
+    → IsUnsetList (finished list params.par_fill_skip) params previous fault → IsUnset list params previous fault
+unset_some [] params previous fault some is = absurd (omega arith)
+unset_some (x ∷ rest) params previous fault some is = is
+
+-- Where memory is wanting, it may be broken.
+pub memory_free : (list : List Node) (params : Params) (previous : ℤ) → IsUnset list params previous OutOfMemory → unbroken list params.par_fill_skip ≡ None
+memory_free [] params previous is = refl
+memory_free (x ∷ rest) params previous is = is
 
 -- A list that is not empty is set as its finished list.
 pub some_set :

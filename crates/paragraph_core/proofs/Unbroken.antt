@@ -2,6 +2,7 @@
 use Rattle.std.proofs.Common.{◌≡◌, ◌∙◌, ◌⊎◌, inl, inr, ℕ, zero, suc, ◌+◌, ◌<◌, ◌≤◌, ◌||◌, Bool, true, false, cond, List, [], ◌∷◌, ◌++◌, length, length-append, refl, ap, sym, arith, Option, Some, None}
 use Rattle.std.specs.Prelude.{pos, slice_get, nat_lt}
 use Rattle.std.specs.List.{filter, list_any}
+use Rattle.std.specs.Option.{unwrap_or}
 use Rattle.std.proofs.lemmas.Option.{slice_get_past}
 use Rattle.std.proofs.lemmas.List.Folds.{list_any-append}
 use Rattle.node_core.specs.declared.tree.Glue.{Glue}
@@ -135,6 +136,9 @@ refused_by_text list skip is =
     ∙ ap (refused_for (list_any shrinks_infinitely front)) (as_many_places front skip)
 
 -- Memory is no cause why a list may not be broken.
+abbrev refused_by_tests : (endless many : Bool) → Option BreakFault
+refused_by_tests endless many = cond endless (Some InfiniteShrink) (cond many (Some TooManyBreaks) None)
+
 never_memory : (endless many : Bool) → cond endless (Some InfiniteShrink) (cond many (Some TooManyBreaks) None) ≡ Some OutOfMemory → ⊥
 never_memory true many is = cc
 never_memory false true is = cc
@@ -142,6 +146,15 @@ never_memory false false is = cc
 
 pub not_for_memory : (list : List Node) → refusal list ≡ Some OutOfMemory → ⊥
 not_for_memory list is = never_memory (list_any shrinks_infinitely list) (nat_lt most_places (length (legal_places list))) is
+
+-- Where memory is the fault of a list, it may be broken.
+by_refusal : (endless many : Bool) → OutOfMemory ≡ unwrap_or (refused_by_tests endless many) OutOfMemory → refused_by_tests endless many ≡ None
+by_refusal true many is = absurd (cc)
+by_refusal false true is = absurd (cc)
+by_refusal false false is = refl
+
+pub free_at_memory : (list : List Node) → OutOfMemory ≡ unwrap_or (refusal list) OutOfMemory → refusal list ≡ None
+free_at_memory list is = by_refusal (list_any shrinks_infinitely list) (nat_lt most_places (length (legal_places list))) is
 
 -- A paragraph with items may not be broken exactly where its finished list may not.
 pub some_unbroken : (list : List Node) (skip : Glue) → 0 < length list → unbroken list skip ≡ refusal (finished list skip)

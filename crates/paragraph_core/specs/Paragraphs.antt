@@ -52,11 +52,15 @@ abbrev pub HasLargeLine : List Node → Params → (previous_depth : ℤ) → Ty
 HasLargeLine list params previous_depth =
     (breaks : Breaks) × IsBroken (facts_of list) params breaks × (lines_fit (with_breaks list params previous_depth breaks) ≡ false)
 
--- Why a paragraph is not set: glue that shrinks in an infinite order, else too many legal places, both exactly; else a line that does not fit. A growth may be
--- refused where it may be broken, and so before all lines were put together.
+-- Why a finished list is not set: glue that shrinks in an infinite order, else too many legal places, both exactly; else a line that does not fit. A growth
+-- may be refused where it may be broken, and so before all lines were put together.
+abbrev pub IsUnsetList : List Node → Params → (previous_depth : ℤ) → ParagraphFault → Type 0
+IsUnsetList list params previous_depth InfiniteShrink = refusal list ≡ Some breaking.InfiniteShrink
+IsUnsetList list params previous_depth TooManyBreaks = refusal list ≡ Some breaking.TooManyBreaks
+IsUnsetList list params previous_depth DimensionTooLarge = (refusal list ≡ None) × HasLargeLine list params previous_depth
+IsUnsetList list params previous_depth OutOfMemory = refusal list ≡ None
+
+-- Why a paragraph is not set: it is not empty, and its finished list is not set.
 abbrev pub IsUnset : List Node → Params → (previous_depth : ℤ) → ParagraphFault → Type 0
-IsUnset list params previous_depth InfiniteShrink = unbroken list params.par_fill_skip ≡ Some breaking.InfiniteShrink
-IsUnset list params previous_depth TooManyBreaks = unbroken list params.par_fill_skip ≡ Some breaking.TooManyBreaks
-IsUnset list params previous_depth DimensionTooLarge =
-    (unbroken list params.par_fill_skip ≡ None) × HasLargeLine (finished list params.par_fill_skip) params previous_depth
-IsUnset list params previous_depth OutOfMemory = unbroken list params.par_fill_skip ≡ None
+IsUnset [] params previous_depth fault = ⊥
+IsUnset (x ∷ rest) params previous_depth fault = IsUnsetList (finished (x ∷ rest) params.par_fill_skip) params previous_depth fault

@@ -7,7 +7,7 @@ ghost use Rattle.node_core.specs.Nodes.{most_nodes};
 ghost use Rattle.line_meter.specs.Facts.{refusal};
 ghost use Rattle.paragraph_core.specs.Finished.{final_glue, without_glue, finished};
 
-use line_meter::{BreakFault, refusal_of};
+use line_meter::{BreakFault, refusal};
 use node_core::{Glue, Node};
 use std::alloc::AllocError;
 
@@ -44,7 +44,7 @@ pub fn refusal_of_finished(nodes: &[Node], par_fill_skip: Glue) -> Option<BreakF
     if Node::Glue(par_fill_skip).shrinks_infinitely() {
         return Some(BreakFault::InfiniteShrink);
     }
-    refusal_of(without_final_glue(nodes))
+    refusal(without_final_glue(nodes))
 }
 
 /// Puts a node behind others. A refused growth leaves them as they were.

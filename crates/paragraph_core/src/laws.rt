@@ -1,6 +1,6 @@
 //! Laws of the definitions, each on a function that does nothing.
 
-ghost use Rattle.std.specs.Prelude.{◌≡◌, ◌≢◌, ◌<◌, ◌+ℤ◌, ◌++◌, ℕ, ℤ, pos, false, List, [], ◌∷◌, flat_map, length, None, Ok, Err};
+ghost use Rattle.std.specs.Prelude.{◌≡◌, ◌≢◌, ◌+ℤ◌, ◌++◌, ℕ, ℤ, pos, false, List, [], ◌∷◌, flat_map, length, None, Ok, Err};
 ghost use Rattle.node_core.specs.declared.params.Params.{Params};
 ghost use Rattle.node_core.specs.declared.tree.Node.{Node};
 ghost use Rattle.node_core.specs.Parameters.{first_params};
@@ -60,7 +60,7 @@ pub fn two_lines_of_rules()
 pub fn one_setting()
     ensures set { (list : List Node) → (params : Params) → (previous : ℤ) → (set : SetParagraph) →
         unbroken list params.par_fill_skip ≡ None → IsSetParagraph list params previous set → setting list params previous ≡ Ok set }
-    ensures unset { (list : List Node) → (params : Params) → (previous : ℤ) → (fault : ParagraphFault) → 0 < length list → fault ≢ OutOfMemory →
+    ensures unset { (list : List Node) → (params : Params) → (previous : ℤ) → (fault : ParagraphFault) → fault ≢ OutOfMemory →
         IsUnset list params previous fault → setting list params previous ≡ Err fault }
 {}
 

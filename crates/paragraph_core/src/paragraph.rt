@@ -1,12 +1,13 @@
 //! Paragraphs are set: finished, broken into lines, and put together as they stand in a vertical list.
 
-ghost use Rattle.std.specs.Prelude.{◌≡◌, ◌≤◌, ◌+◌, ◌<◌, ℤ, length, None, IfOk, IfErr, OnOk, OnErr};
+ghost use Rattle.std.specs.Prelude.{◌≡◌, ◌≤◌, ◌+◌, ◌<◌, ℤ, length, None, IfOk, IfErr, OnOk};
+ghost use Rattle.std.specs.Option.{unwrap_or};
 ghost use Rattle.node_core.specs.Nodes.{most_nodes, nodes_of};
 ghost use Rattle.line_meter.specs.Facts.{facts_of, refusal};
 ghost use Rattle.break_core.specs.Passes.{IsBroken};
 ghost use Rattle.break_core.specs.Trials.{passes_run};
 ghost use Rattle.paragraph_core.specs.Finished.{finished};
-ghost use Rattle.paragraph_core.specs.Paragraphs.{set_empty, unbroken, HasLargeLine, IsSet, IsSetParagraph, IsUnset};
+ghost use Rattle.paragraph_core.specs.Paragraphs.{set_empty, unbroken, IsSet, IsSetParagraph, IsUnsetList, IsUnset};
 ghost use Rattle.paragraph_core.specs.Tried.{AreFew, AreFewTrials};
 
 use crate::finishing::{finish_paragraph, refusal_of_finished, unfinish_paragraph};
@@ -75,53 +76,57 @@ fn set_empty(alloc: Global, previous_depth: Dimen) -> CountedParagraph
     CountedParagraph { set, trials: 0 }
 }
 
-/// Refuses a paragraph with items that may not be broken, before any growth.
-fn refuse_unbroken(nodes: &[Node], params: &Params) -> Result<(), ParagraphFault>
-    requires some { 0 < length nodes.now }
-    requires short { length nodes.now ≤ most_nodes }
-    ensures ok { OnOk result (refusal (finished nodes.now params.now.par_fill_skip) ≡ None) }
-    ensures refused { (previous : ℤ) → IfErr result (IsUnset nodes.now params.now previous) }
+/// Why a paragraph was not set where its list could not be finished: it may not be broken, or else memory is wanting.
+fn unfinished_fault(nodes: &[Node], params: &Params) -> ParagraphFault
+    requires { length nodes.now ≤ most_nodes }
+    ensures { (previous : ℤ) → IsUnsetList (finished nodes.now params.now.par_fill_skip) params.now previous result }
 {
     match refusal_of_finished(nodes, params.par_fill_skip) {
-        None => Ok(()),
-        Some(BreakFault::InfiniteShrink) => Err(ParagraphFault::InfiniteShrink),
-        Some(BreakFault::TooManyBreaks) => Err(ParagraphFault::TooManyBreaks),
+        None => ParagraphFault::OutOfMemory,
+        Some(BreakFault::InfiniteShrink) => ParagraphFault::InfiniteShrink,
+        Some(BreakFault::TooManyBreaks) => ParagraphFault::TooManyBreaks,
         Some(BreakFault::OutOfMemory) => unreachable!(),
     }
 }
 
-/// The breaks of a finished list of at most 131,072 nodes that may be broken, as `breaks` of break_core has them, and how many lines were tried: few.
+/// The breaks of a finished list of at most 131,072 nodes, as `breaks` of break_core has them, and how many lines were tried: few.
 fn counted_breaks(
     alloc: Global,
     nodes: &[Node],
     params: &Params,
-) -> Result<(Breaks, u128), AllocError>
+) -> Result<(Breaks, u128), BreakFault>
     requires short { length nodes.now ≤ most_nodes }
-    requires free { refusal nodes.now ≡ None }
     ensures broken { IfOk result (λ counted. IsBroken (facts_of nodes.now) params.now counted.0) }
     ensures tried { IfOk result (λ counted. 0 < counted.1) }
     ensures trials { IfOk result (λ counted. AreFew (facts_of nodes.now) params.now (passes_run params.now counted.0.pass) counted.1) }
+    ensures fits { OnOk result (refusal nodes.now ≡ None) }
+    ensures fault { IfErr result (λ fault. fault ≡ unwrap_or (refusal nodes.now) BreakFault.OutOfMemory) }
 {
-    let mut meter = ListMeter::of(alloc, nodes)?;
-    let breaks = active_breaks(alloc, &mut meter, params)?;
-    Ok((breaks, meter.all_trials()))
+    let mut meter = ListMeter::new(alloc, nodes)?;
+    match active_breaks(alloc, &mut meter, params) {
+        Ok(breaks) => Ok((breaks, meter.all_trials())),
+        Err(AllocError) => Err(BreakFault::OutOfMemory),
+    }
 }
 
-/// Sets a finished list of at most 131,072 nodes that may be broken.
+/// Sets a finished list of at most 131,072 nodes.
 fn set_finished(
     alloc: Global,
     nodes: &[Node],
     params: &Params,
     previous_depth: Dimen,
-) -> Result<CountedParagraph, LinesFault>
-    requires short { length nodes.now ≤ most_nodes }
-    requires free { refusal nodes.now ≡ None }
+) -> Result<CountedParagraph, ParagraphFault>
+    requires { length nodes.now ≤ most_nodes }
     ensures ok { IfOk result (λ counted. IsSet nodes.now params.now previous_depth counted.set) }
+    ensures fits { OnOk result (refusal nodes.now ≡ None) }
     ensures trials { IfOk result (λ counted. AreFewTrials (facts_of nodes.now) params.now counted.set.pass counted.trials) }
-    ensures large { IfErr result (λ fault. fault ≡ LinesFault.DimensionTooLarge → HasLargeLine nodes.now params.now previous_depth) }
+    ensures refused { IfErr result (IsUnsetList nodes.now params.now previous_depth) }
 {
-    let Ok((breaks, trials)) = counted_breaks(alloc, nodes, params) else {
-        return Err(LinesFault::OutOfMemory);
+    let (breaks, trials) = match counted_breaks(alloc, nodes, params) {
+        Ok(counted) => counted,
+        Err(BreakFault::InfiniteShrink) => return Err(ParagraphFault::InfiniteShrink),
+        Err(BreakFault::TooManyBreaks) => return Err(ParagraphFault::TooManyBreaks),
+        Err(BreakFault::OutOfMemory) => return Err(ParagraphFault::OutOfMemory),
     };
     match lines(alloc, nodes, &breaks, params, previous_depth) {
         Ok(items) => {
@@ -135,35 +140,37 @@ fn set_finished(
             };
             Ok(CountedParagraph { set, trials })
         }
-        Err(fault) => Err(fault),
+        Err(LinesFault::DimensionTooLarge) => Err(ParagraphFault::DimensionTooLarge),
+        Err(LinesFault::OutOfMemory) => Err(ParagraphFault::OutOfMemory),
     }
 }
 
-/// Sets a list of at most 131,070 items that may be broken. It is finished for that, and then made as it was.
+/// Sets a list of at most 131,070 items. It is finished for that, and then made as it was.
 fn set_items(
     alloc: Global,
     nodes: &mut Vec<Node>,
     params: &Params,
     previous_depth: Dimen,
-) -> Result<CountedParagraph, LinesFault>
-    requires short { length nodes.old.items + 2 ≤ most_nodes }
-    requires free { refusal (finished nodes.old.items params.now.par_fill_skip) ≡ None }
+) -> Result<CountedParagraph, ParagraphFault>
+    requires { length nodes.old.items + 2 ≤ most_nodes }
     ensures ok { IfOk result (λ counted. IsSet (finished nodes.old.items params.now.par_fill_skip) params.now previous_depth counted.set) }
+    ensures fits { OnOk result (refusal (finished nodes.old.items params.now.par_fill_skip) ≡ None) }
     ensures trials { IfOk result (λ counted. AreFewTrials (facts_of (finished nodes.old.items params.now.par_fill_skip)) params.now counted.set.pass counted.trials) }
-    ensures large { IfErr result (λ fault. fault ≡ LinesFault.DimensionTooLarge → HasLargeLine (finished nodes.old.items params.now.par_fill_skip) params.now previous_depth) }
+    ensures refused { IfErr result (IsUnsetList (finished nodes.old.items params.now.par_fill_skip) params.now previous_depth) }
     ensures same { nodes.new.items ≡ nodes.old.items }
 {
     let Ok(replaced) = finish_paragraph(nodes, params.par_fill_skip) else {
-        return Err(LinesFault::OutOfMemory);
+        return Err(unfinished_fault(nodes, params));
     };
     let set = set_finished(alloc, nodes, params, previous_depth);
     unfinish_paragraph(nodes, replaced);
     set
 }
 
-/// Sets a paragraph of at most 131,070 items behind a previous depth, and leaves its list as it is. It is refused before any growth where its glue shrinks
-/// in an infinite order, else where it has more than 8,192 legal places; else where a line does not fit, or where a growth is refused before all lines are packed.
-/// Of a paragraph with items some lines are tried, and at most as many as there are places behind each place up to where trying stops.
+/// Sets a paragraph of at most 131,070 items behind a previous depth, and leaves its list as it is. It is refused where its glue shrinks in an infinite
+/// order, else where it has more than 8,192 legal places, and a refused growth hides neither; else where a line does not fit, or where a growth is refused
+/// before all lines are packed. Of a paragraph with items some lines are tried, and at most as many as there are places behind each place up to where
+/// trying stops.
 pub fn set_paragraph(
     alloc: Global,
     list: &mut NodeList,
@@ -174,22 +181,14 @@ pub fn set_paragraph(
     ensures ok { IfOk result (λ counted. IsSetParagraph (nodes_of list.old) params.now previous_depth counted.set) }
     ensures fits { OnOk result (unbroken (nodes_of list.old) params.now.par_fill_skip ≡ None) }
     ensures trials { IfOk result (λ counted. AreFewTrials (facts_of (finished (nodes_of list.old) params.now.par_fill_skip)) params.now counted.set.pass counted.trials) }
-    ensures some { OnErr result (0 < length (nodes_of list.old)) }
     ensures refused { IfErr result (IsUnset (nodes_of list.old) params.now previous_depth) }
     ensures same { list.new ≡ list.old }
 {
     if list.is_empty() {
         return Ok(set_empty(alloc, previous_depth));
     }
-    if let Err(fault) = refuse_unbroken(list.as_slice(), params) {
-        return Err(fault);
-    }
     let mut nodes = replace(list, NodeList::new(alloc)).into_vec();
     let set = set_items(alloc, &mut nodes, params, previous_depth);
     *list = NodeList::from_vec(nodes);
-    match set {
-        Ok(counted) => Ok(counted),
-        Err(LinesFault::DimensionTooLarge) => Err(ParagraphFault::DimensionTooLarge),
-        Err(LinesFault::OutOfMemory) => Err(ParagraphFault::OutOfMemory),
-    }
+    set
 }

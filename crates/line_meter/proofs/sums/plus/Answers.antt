@@ -13,12 +13,12 @@ returns-clause-value c =
     cc (width, stretch, fil, fill, filll, shrink)
 
 pub returns-clause-small : goal.returns-clause-small
-returns-clause-small c =
+returns-clause-small c n small =
     record {
-      width = record { low = omega (arith, ints, c.requires.before.width, c.requires.more.width); high = omega (arith, ints, c.requires.before.width, c.requires.more.width) };
-      stretch = record { low = omega (arith, ints, c.requires.before.stretch, c.requires.more.stretch); high = omega (arith, ints, c.requires.before.stretch, c.requires.more.stretch) };
-      fil = record { low = omega (arith, ints, c.requires.before.fil, c.requires.more.fil); high = omega (arith, ints, c.requires.before.fil, c.requires.more.fil) };
-      fill = record { low = omega (arith, ints, c.requires.before.fill, c.requires.more.fill); high = omega (arith, ints, c.requires.before.fill, c.requires.more.fill) };
-      filll = record { low = omega (arith, ints, c.requires.before.filll, c.requires.more.filll); high = omega (arith, ints, c.requires.before.filll, c.requires.more.filll) };
-      shrink = record { low = omega (arith, ints, c.requires.before.shrink, c.requires.more.shrink); high = omega (arith, ints, c.requires.before.shrink, c.requires.more.shrink) };
+      width = record { low = omega (arith, ints, small.width, c.requires.before.width, c.requires.more.width); high = omega (arith, ints, small.width, c.requires.before.width, c.requires.more.width) };
+      stretch = record { low = omega (arith, ints, small.stretch, c.requires.before.stretch, c.requires.more.stretch); high = omega (arith, ints, small.stretch, c.requires.before.stretch, c.requires.more.stretch) };
+      fil = record { low = omega (arith, ints, small.fil, c.requires.before.fil, c.requires.more.fil); high = omega (arith, ints, small.fil, c.requires.before.fil, c.requires.more.fil) };
+      fill = record { low = omega (arith, ints, small.fill, c.requires.before.fill, c.requires.more.fill); high = omega (arith, ints, small.fill, c.requires.before.fill, c.requires.more.fill) };
+      filll = record { low = omega (arith, ints, small.filll, c.requires.before.filll, c.requires.more.filll); high = omega (arith, ints, small.filll, c.requires.before.filll, c.requires.more.filll) };
+      shrink = record { low = omega (arith, ints, small.shrink, c.requires.before.shrink, c.requires.more.shrink); high = omega (arith, ints, small.shrink, c.requires.before.shrink, c.requires.more.shrink) };
     }

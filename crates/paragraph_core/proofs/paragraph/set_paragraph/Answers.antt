@@ -1,39 +1,31 @@
-use Rattle.std.proofs.Common.{◌≡◌, ◌∙◌, ◌<◌, length, None, ap, rules, subst, sym}
+use Rattle.std.proofs.Common.{◌≡◌, ◌∙◌, ◌<◌, length, IfErr, Result, Ok, Err, ap, rules, subst}
+use Rattle.std.specs.Prelude.{ℤ, List}
+use Rattle.node_core.specs.declared.params.Params.{Params}
+use Rattle.node_core.specs.declared.tree.Node.{Node}
 use Rattle.node_core.specs.Nodes.{items_of, nodes_of}
 use Rattle.node_core.proofs.NodeLemmas.{items_of-nodes_of}
-use Rattle.line_meter.specs.Facts.{refusal}
-use Rattle.paragraph_core.specs.declared.line_boxes.LinesFault.TheVariants.{DimensionTooLarge}
+use Rattle.paragraph_core.specs.declared.paragraph.CountedParagraph.{CountedParagraph}
+use Rattle.paragraph_core.specs.declared.paragraph.ParagraphFault.{ParagraphFault}
 use Rattle.paragraph_core.specs.Finished.{finished}
-use Rattle.paragraph_core.specs.Paragraphs.{unbroken, HasLargeLine, IsUnset}
-use Rattle.paragraph_core.proofs.Unbroken.{some_unbroken}
+use Rattle.paragraph_core.specs.Paragraphs.{IsUnsetList, IsUnset}
+use Rattle.paragraph_core.proofs.Settings.{unset_some}
 use Rattle.paragraph_core.proofs.paragraph.set_paragraph.Goals as goal
 
-pub returns-in-Err-clause-refused : goal.returns-in-Err-clause-refused
-returns-in-Err-clause-refused c =
-    subst (λ l. IsUnset l c.args.params.now c.args.previous_depth c.in-Err.fault) c.as_slice.ensures.nodes (c.in-Err.ensures.refused c.args.previous_depth)
+unset_so :
+    (list : List Node) (params : Params) (previous : ℤ) (result : Result CountedParagraph ParagraphFault) → 0 < length list
+    → IfErr result (IsUnsetList (finished list params.par_fill_skip) params previous) → IfErr result (IsUnset list params previous)
+unset_so list params previous (Ok counted) some is = is
+unset_so list params previous (Err fault) some is = unset_some list params previous fault some is
 
-pub returns-in-Ok-clause-same : goal.returns-in-Ok-clause-same
-returns-in-Ok-clause-same c =
+pub returns-clause-refused : goal.returns-clause-refused
+returns-clause-refused c =
+    let is : c.into_vec-nodes.result.items ≡ nodes_of c.args.list.now = c.into_vec-nodes.ensures ∙ ap nodes_of c.replace.ensures.value in
+    let some : 0 < length (nodes_of c.args.list.now) = search rules in
+    unset_so (nodes_of c.args.list.now) c.args.params.now c.args.previous_depth c.set_items-set.result some
+    (subst (λ l. IfErr c.set_items-set.result (IsUnsetList (finished l c.args.params.now.par_fill_skip) c.args.params.now c.args.previous_depth)) is
+    c.set_items-set.ensures.refused)
+
+pub returns-clause-same : goal.returns-clause-same
+returns-clause-same c =
     let is : c.into_vec-nodes.result.items ≡ nodes_of c.args.list.now = c.into_vec-nodes.ensures ∙ ap nodes_of c.replace.ensures.value in
     c.from_vec.ensures.items ∙ (ap items_of (c.set_items-set.ensures.same ∙ is) ∙ items_of-nodes_of c.args.list.now)
-
-pub returns-in-Err-DimensionTooLarge-clause-same : goal.returns-in-Err-DimensionTooLarge-clause-same
-returns-in-Err-DimensionTooLarge-clause-same c =
-    let is : c.into_vec-nodes.result.items ≡ nodes_of c.args.list.now = c.into_vec-nodes.ensures ∙ ap nodes_of c.replace.ensures.value in
-    c.from_vec.ensures.items ∙ (ap items_of (c.set_items-set.ensures.same ∙ is) ∙ items_of-nodes_of c.args.list.now)
-
-pub returns-in-Err-OutOfMemory-clause-same : goal.returns-in-Err-OutOfMemory-clause-same
-returns-in-Err-OutOfMemory-clause-same c =
-    let is : c.into_vec-nodes.result.items ≡ nodes_of c.args.list.now = c.into_vec-nodes.ensures ∙ ap nodes_of c.replace.ensures.value in
-    c.from_vec.ensures.items ∙ (ap items_of (c.set_items-set.ensures.same ∙ is) ∙ items_of-nodes_of c.args.list.now)
-
-pub returns-in-Err-DimensionTooLarge-clause-refused : goal.returns-in-Err-DimensionTooLarge-clause-refused
-returns-in-Err-DimensionTooLarge-clause-refused c =
-    let list = nodes_of c.args.list.now in
-    let skip = c.args.params.now.par_fill_skip in
-    let some : 0 < length list = search rules in
-    let free : unbroken list skip ≡ None = some_unbroken list skip some ∙ sym (ap (λ l. refusal (finished l skip)) c.as_slice.ensures.nodes) ∙ c.in_default.ensures.ok in
-    let is : c.into_vec-nodes.result.items ≡ list = c.into_vec-nodes.ensures ∙ ap nodes_of c.replace.ensures.value in
-    let same : c.in-Err-DimensionTooLarge.field-0 ≡ DimensionTooLarge = search rules in
-    let large = rw c.in-Err-DimensionTooLarge.is at c.set_items-set.ensures.large in
-    (free, subst (λ l. HasLargeLine (finished l skip) c.args.params.now c.args.previous_depth) is (large same))

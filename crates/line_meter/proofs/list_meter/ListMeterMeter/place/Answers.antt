@@ -1,13 +1,34 @@
-use Rattle.std.proofs.Common.{◌∙◌, ap, arith}
-use Rattle.std.specs.Prelude.{slice_get}
+use Rattle.std.proofs.Common.{◌∙◌, ◌<◌, length, w32, SFits, refl, ap, arith, rules}
+use Rattle.std.proofs.lemmas.Int.{to_z-of_z}
 use Rattle.std.proofs.lemmas.Int.{ints}
-use Rattle.line_meter.specs.Legal.{penalty_of}
+use Rattle.std.proofs.lemmas.Option.{slice_get_read}
+use Rattle.line_meter.proofs.Marked.{place_is, count_is}
 use Rattle.line_meter.proofs.Places.{place_penalty}
 use Rattle.line_meter.proofs.list_meter.ListMeterMeter.place.Goals as goal
 
+pub returns-clause-position : goal.returns-clause-position
+returns-clause-position c =
+    let m = c.args.self.now in
+    let n = c.args.number in
+    let within : n < length m.marks.items = omega (arith, count_is m.nodes.now m.marks.items m.marked, c.requires.last) in
+    let at = slice_get_read m.marks.items (length m.marks.items) n c.index-mark.result.now refl within c.index-mark.ensures in
+    ap (λ k. k.position) (place_is m.nodes.now m.marks.items n c.index-mark.result.now m.marked c.requires.first within at)
+
+pub returns-clause-penalty : goal.returns-clause-penalty
+returns-clause-penalty c =
+    let m = c.args.self.now in
+    let n = c.args.number in
+    let within : n < length m.marks.items = omega (arith, count_is m.nodes.now m.marks.items m.marked, c.requires.last) in
+    let at = slice_get_read m.marks.items (length m.marks.items) n c.index-mark.result.now refl within c.index-mark.ensures in
+    let fits : SFits w32 c.index-mark.result.now.penalty = search rules in
+    to_z-of_z w32 _ fits ∙ ap (λ k. k.penalty) (place_is m.nodes.now m.marks.items n c.index-mark.result.now m.marked c.requires.first within at)
+
 pub returns-clause-small : goal.returns-clause-small
 returns-clause-small c =
-    let nodes = c.args.self.now.nodes.now in
-    let small = place_penalty nodes c.args.number c.requires.first c.requires.last in
-    let same = c.penalty_at.ensures ∙ ap (λ k. penalty_of (slice_get nodes k)) c.position-position.ensures.position in
-    omega (arith, ints, same, small)
+    let m = c.args.self.now in
+    let n = c.args.number in
+    let within : n < length m.marks.items = omega (arith, count_is m.nodes.now m.marks.items m.marked, c.requires.last) in
+    let at = slice_get_read m.marks.items (length m.marks.items) n c.index-mark.result.now refl within c.index-mark.ensures in
+    let is = ap (λ k. k.penalty) (place_is m.nodes.now m.marks.items n c.index-mark.result.now m.marked c.requires.first within at) in
+    let fits : SFits w32 c.index-mark.result.now.penalty = search rules in
+    omega (arith, ints, is, to_z-of_z w32 _ fits, place_penalty m.nodes.now n c.requires.first c.requires.last)

@@ -1,4 +1,4 @@
--- The end of a list is a legal place (own; the law of `Meter` for `ListMeter` alone, no public clause speaks of it).
+-- The end of a list is a legal place.
 use Rattle.std.proofs.Common.{◌≡◌, ◌∙◌, suc, ◌+◌, ◌<◌, true, List, [], ◌∷◌, ◌++◌, length, length-append, ap, arith}
 use Rattle.std.specs.Prelude.{slice_get}
 use Rattle.std.specs.List.{filter}
