@@ -1,5 +1,5 @@
 -- How a paragraph is set, as the machine has it.
-use Rattle.std.proofs.Common.{◌≡◌, ◌≢◌, ℤ, ◌<◌, false, List, length, None, Result, Ok, Err, IfOk, IfErr, OnOk, OnErr}
+use Rattle.std.proofs.Common.{◌≡◌, ◌≢◌, ℤ, false, List, None, Result, Ok, Err, IfOk, IfErr, OnOk}
 use Rattle.std.specs.Prelude.{is_none}
 use Rattle.node_core.specs.declared.params.Params.{Params}
 use Rattle.node_core.specs.declared.tree.Node.{Node}
@@ -10,7 +10,7 @@ use Rattle.paragraph_core.specs.declared.paragraph.ParagraphFault.{ParagraphFaul
 use Rattle.paragraph_core.specs.declared.paragraph.ParagraphFault.TheVariants as faults
 use Rattle.paragraph_core.specs.Paragraphs.{unbroken, IsSetParagraph, IsUnset}
 use Rattle.paragraph_core.specs.Setting.{setting}
-use Rattle.paragraph_core.proofs.Settings.{paragraph_set, paragraph_unset}
+use Rattle.paragraph_core.proofs.Settings.{paragraph_set, paragraph_unset, memory_free}
 use Rattle.nest_core.specs.declared.nest.OpenList.{OpenList}
 use Rattle.nest_core.specs.State.{innermost}
 use Rattle.nest_core.specs.Checks.{first_of}
@@ -24,11 +24,10 @@ module _ (list : List Node) (params : Params) (previous : ℤ) where
   set_so (Ok counted) is free = paragraph_set list params previous counted.set free is
   set_so (Err fault) is free = is
 
-  pub unset_so : (result : Result CountedParagraph ParagraphFault) → OnErr result (0 < length list)
-      → IfErr result (IsUnset list params previous)
+  pub unset_so : (result : Result CountedParagraph ParagraphFault) → IfErr result (IsUnset list params previous)
       → IfErr result (λ fault. fault ≢ faults.OutOfMemory → setting list params previous ≡ Err fault)
-  unset_so (Ok counted) some is = is
-  unset_so (Err fault) some is = λ told. paragraph_unset list params previous fault some told is
+  unset_so (Ok counted) is = is
+  unset_so (Err fault) is = λ told. paragraph_unset list params previous fault told is
 
   pub memory_so : (result : Result CountedParagraph ParagraphFault) → IfErr result (IsUnset list params previous)
       → IfErr result (λ fault. fault ≡ faults.OutOfMemory → unbroken list params.par_fill_skip ≡ None)
@@ -36,7 +35,7 @@ module _ (list : List Node) (params : Params) (previous : ℤ) where
   memory_so (Err faults.InfiniteShrink) is = λ told. absurd (cc)
   memory_so (Err faults.TooManyBreaks) is = λ told. absurd (cc)
   memory_so (Err faults.DimensionTooLarge) is = λ told. absurd (cc)
-  memory_so (Err faults.OutOfMemory) is = λ told. is
+  memory_so (Err faults.OutOfMemory) is = λ told. memory_free list params previous is
 
 -- A fault that is no refusal is that of memory.
 pub only_memory : (fault : ParagraphFault) → refusal_for fault ≡ None → fault ≡ faults.OutOfMemory

@@ -76,7 +76,7 @@ unbroken_checks (Some breaking.InfiniteShrink) = (true, InfiniteShrink) ∷ []
 unbroken_checks (Some breaking.TooManyBreaks) = (true, TooManyBreaks) ∷ []
 unbroken_checks (Some breaking.OutOfMemory) = []
 
--- The refusals of the end of a paragraph that are found before any memory is taken: that no list is around it, and that it may not be broken.
+-- The refusals of the end of a paragraph that no refused growth hides: that no list is around it, and that it may not be broken.
 abbrev pub early_paragraph_checks : Params → (around : List OpenList) → Items → List (Bool × Refusal)
 early_paragraph_checks params around items =
     (is_none (innermost around), NoOpenList) ∷ unbroken_checks (unbroken (nodes_of items) params.par_fill_skip)

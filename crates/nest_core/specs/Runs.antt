@@ -51,7 +51,7 @@ TakesMemory m (Set parameter) = ⊥
 TakesMemory m (Count counting) = ⊥
 TakesMemory m (Ship r) = Unit {0}
 
--- The refusals of the end of a list that was opened for that and has these lists around, as far as they are found before any memory is taken.
+-- The refusals of the end of a list that was opened for that and has these lists around, as far as no refused growth hides them.
 abbrev pub early_purpose_checks : Params → (around : List OpenList) → OpenList → ListPurpose → List (Bool × Refusal)
 early_purpose_checks params around open_list (purposes.Box opening) = purpose_checks params around open_list (purposes.Box opening)
 early_purpose_checks params around open_list purposes.Paragraph = early_paragraph_checks params around open_list.list
@@ -61,7 +61,7 @@ abbrev pub early_end_checks : Params → (around : List OpenList) → Option Ope
 early_end_checks params around None = (true, NoOpenList) ∷ []
 early_end_checks params around (Some open_list) = early_purpose_checks params around open_list open_list.purpose
 
--- The refusals that are found before any memory is taken, in their order: all but those that a font file's bytes, its size or the number of
+-- The refusals that no refused growth hides, in their order: all but those that a font file's bytes, its size or the number of
 -- items of a text decide, or the lines of a paragraph.
 abbrev pub early_checks : State → Command → List (Bool × Refusal)
 early_checks m (LoadFont load) =

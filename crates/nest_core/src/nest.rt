@@ -501,7 +501,7 @@ impl Nest {
         Ok(())
     }
 
-    /// Sets the paragraph of the innermost list behind that previous depth. The lists stay as they are. Whether it may be broken is asked before any growth.
+    /// Sets the paragraph of the innermost list behind that previous depth. The lists stay as they are. A refused growth does not hide that it may not be broken.
     #[tactic(auto, using(crate::proofs::Nests::same_innermost, crate::proofs::ShortLists::innermost_short))]
     pub(crate) fn set_innermost(
         &mut self,

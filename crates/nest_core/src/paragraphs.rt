@@ -86,8 +86,8 @@ impl Nest {
         Ok(Ok(Answer::Done))
     }
 
-    /// Sets the paragraph of the innermost list, and puts its lines at the end of the list around it. That no list is around it, and that it may not be broken,
-    /// is found before any growth.
+    /// Sets the paragraph of the innermost list, and puts its lines at the end of the list around it. A refused growth hides neither that no list is around it
+    /// nor that it may not be broken.
     #[tactic(auto, using(crate::proofs::ParagraphEnds::only_memory, crate::proofs::ParagraphEnds::early_free))]
     pub fn end_paragraph(&mut self, params: &Params) -> Result<Reply, AllocError>
         ensures reply { IfOk result (λ reply. reply ≡ reply_by (first_of (paragraph_checks params.now (outer self.old) (items_in (innermost self.old)))) (paragraph_answer (set_behind params.now (outer self.old) (items_in (innermost self.old))))) }

@@ -16,7 +16,7 @@ use crate::stacking::lines;
 use break_core::{BreakFault, Breaks, ListMeter, Pass, active_breaks};
 use node_core::{Node, NodeList, Params};
 use scaled_core::Dimen;
-use std::alloc::{AllocError, Global};
+use std::alloc::Global;
 use std::mem::replace;
 use thiserror::Error;
 
@@ -105,7 +105,7 @@ fn counted_breaks(
     let mut meter = ListMeter::new(alloc, nodes)?;
     match active_breaks(alloc, &mut meter, params) {
         Ok(breaks) => Ok((breaks, meter.all_trials())),
-        Err(AllocError) => Err(BreakFault::OutOfMemory),
+        Err(_) => Err(BreakFault::OutOfMemory),
     }
 }
 

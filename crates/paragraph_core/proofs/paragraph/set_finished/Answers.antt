@@ -1,4 +1,4 @@
-use Rattle.std.proofs.Common.{◌∙◌, length, ap, rules, arith}
+use Rattle.std.proofs.Common.{◌∙◌, length, ap, sym, rules, arith}
 use Rattle.node_core.specs.Nodes.{items_of}
 use Rattle.paragraph_core.specs.Paragraphs.{with_breaks}
 use Rattle.paragraph_core.proofs.FewLines.{few_lines, few_items}
@@ -30,7 +30,8 @@ pub returns-in-Ok-lines-clause-trials : goal.returns-in-Ok-lines-clause-trials
 returns-in-Ok-lines-clause-trials c = (c.in-Ok.ensures.tried, c.in-Ok.ensures.trials)
 
 pub returns-in-Err-OutOfMemory-clause-refused : goal.returns-in-Err-OutOfMemory-clause-refused
-returns-in-Err-OutOfMemory-clause-refused c = ?
+returns-in-Err-OutOfMemory-clause-refused c = free_at_memory c.args.nodes.now (sym c.in-Err-OutOfMemory.field-0-is ∙ c.in-Err-OutOfMemory.ensures.fault)
 
 pub returns-in-Err-DimensionTooLarge-clause-refused : goal.returns-in-Err-DimensionTooLarge-clause-refused
-returns-in-Err-DimensionTooLarge-clause-refused c = ?
+returns-in-Err-DimensionTooLarge-clause-refused c =
+    (c.in-Ok.ensures.fits, (c.in-Ok.counted.0, c.in-Ok.ensures.broken, c.in-Err-DimensionTooLarge.ensures.refused c.in-Err-DimensionTooLarge.field-0-is))

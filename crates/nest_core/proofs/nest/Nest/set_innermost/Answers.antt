@@ -19,7 +19,7 @@ pub returns-clause-refused : goal.returns-clause-refused
 returns-clause-refused c =
     let found : innermost c.args.self.now ≡ Some c.in-Some.innermost.now = ap innermost (sym c.self.view_is) ∙ c.in-Some.ensures.some in
     subst (λ (l : Option OpenList). IfErr c.set_paragraph.result (λ fault. fault ≢ OutOfMemory → setting (nodes_of (items_in l)) c.args.params.now c.args.previous_depth ≡ Err fault)) (sym found)
-    (unset_so (nodes_of c.in-Some.innermost.now.list) c.args.params.now c.args.previous_depth c.set_paragraph.result c.set_paragraph.ensures.some c.set_paragraph.ensures.refused)
+    (unset_so (nodes_of c.in-Some.innermost.now.list) c.args.params.now c.args.previous_depth c.set_paragraph.result c.set_paragraph.ensures.refused)
 
 pub returns-clause-memory : goal.returns-clause-memory
 returns-clause-memory c =
