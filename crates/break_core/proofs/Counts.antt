@@ -1,8 +1,11 @@
 -- How many lines are tried.
-use Rattle.std.proofs.Common.{◌≡◌, ◌≢◌, ℕ, ◌+◌, ◌-◌, ◌<◌, ◌≤◌, Bool, true, sym, subst, arith}
+use Rattle.std.proofs.Common.{◌≡◌, ◌≢◌, ◌∙◌, ℕ, zero, suc, ◌+◌, ◌-◌, ◌<◌, ◌≤◌, Bool, true, List, [], ◌∷◌, Some, refl, ap, sym, subst, arith}
+use Rattle.std.specs.Prelude.{slice_get}
+use Rattle.std.proofs.lemmas.Option.{same_Some}
+use Rattle.break_table.specs.declared.group.Group.{Group}
 use Rattle.std.proofs.Math.Logic.{◌⊎◌, inl, inr}
 use Rattle.std.proofs.lemmas.Bool.{cases_lt, cases_eq}
-use Rattle.break_core.specs.Active.{IsTrying, IsSwept, IsCounted}
+use Rattle.break_core.specs.Active.{IsTrying, IsSwept, IsCounted, AreKept, WereTried}
 
 -- Lines from one more place were tried, which is behind those that were.
 pub swept_more :
@@ -60,3 +63,50 @@ counted_longer stop b c before now later is =
     stopped : (a l : ℕ) → a < l → stop a l ≡ true → (b < l) ⊎ (l ≤ b) → now a ≤ before a + (l - a)
     stopped a l earlier stops (inl above) = omega (arith, is.grown a)
     stopped a l earlier stops (inr low) = is.stopped a l earlier low stops
+
+-- No trial is forgotten by one more.
+pub kept_more :
+    (place : ℕ) (before now new : ℕ → ℕ) → AreKept before now
+    → new place ≡ now place + 1 → ((other : ℕ) → other ≢ place → new other ≡ now other) → AreKept before new
+kept_more place before now new kept counted others a = cases (cases_eq a place)
+  where
+    cases : (a ≡ place) ⊎ (a ≡ place → ⊥) → before a ≤ new a
+    cases (inl same) = subst (λ x. before x ≤ new x) (sym same) (omega (arith, counted, kept place))
+    cases (inr other) = omega (arith, others a other, kept a)
+
+pub kept_on : (before middle now : ℕ → ℕ) → AreKept before middle → AreKept middle now → AreKept before now
+kept_on before middle now first second a = omega (arith, first a, second a)
+
+pub kept_none : (before : ℕ → ℕ) → AreKept before before
+kept_none before a = omega arith
+
+-- A line was tried from one more group.
+pub tried_more :
+    (live : List Group) (i : ℕ) (group : Group) (before now new : ℕ → ℕ)
+    → ((k : ℕ) (g : Group) → k < i → slice_get live k ≡ Some g → before g.place < now g.place) → AreKept before now
+    → slice_get live i ≡ Some group → new group.place ≡ now group.place + 1 → ((other : ℕ) → other ≢ group.place → new other ≡ now other)
+    → (k : ℕ) (g : Group) → k < i + 1 → slice_get live k ≡ Some g → before g.place < new g.place
+tried_more live i group before now new tried kept at counted others k g within is = cases (cases_eq k i)
+  where
+    on : AreKept now new
+    on = kept_more group.place now now new (kept_none now) counted others
+
+    cases : (k ≡ i) ⊎ (k ≡ i → ⊥) → before g.place < new g.place
+    cases (inl same) =
+        let found : slice_get live i ≡ Some g = ap (slice_get live) (sym same) ∙ is in
+        let one : group ≡ g = same_Some group g (sym at ∙ found) in
+        subst (λ (x : Group). before x.place < new x.place) one (omega (arith, counted, kept group.place))
+    cases (inr other) = omega (arith, tried k g (omega arith) is, on g.place)
+
+-- The group of the start.
+abbrev pub start_group : Group
+start_group = record { place = 0; start = 0; end = 1 }
+
+-- A line from the start was tried to the first place.
+pub started_more :
+    (b : ℕ) (live : List Group) (before middle now : ℕ → ℕ)
+    → (b ≡ 0 → live ≡ start_group ∷ []) → (0 < b → before 0 < middle 0) → AreKept before middle → AreKept middle now → WereTried live middle now
+    → before 0 < now 0
+started_more zero live before middle now begins started first second tried =
+    omega (arith, first 0, tried 0 start_group (ap (λ groups. slice_get groups 0) (begins refl)))
+started_more (suc b) live before middle now begins started first second tried = omega (arith, started (omega arith), second 0)

@@ -105,6 +105,14 @@ pub record IsFilled (p : Problem) (stop : ℕ → ℕ → Bool) (b : ℕ) (table
 abbrev pub IsSwept : (stop : ℕ → ℕ → Bool) (b : ℕ) (before now : ℕ → ℕ) → Type 0
 IsSwept stop b before now = (a : ℕ) → (now a ≤ before a) ⊎ ((now a ≤ before a + 1) × (a < b) × IsTrying stop a b)
 
+-- No trial is forgotten.
+abbrev pub AreKept : (before now : ℕ → ℕ) → Type 0
+AreKept before now = (a : ℕ) → before a ≤ now a
+
+-- A line was tried from the place of each of these groups.
+abbrev pub WereTried : List Group → (before now : ℕ → ℕ) → Type 0
+WereTried live before now = (k : ℕ) (g : Group) → slice_get live k ≡ Some g → before g.place < now g.place
+
 -- From each place at most as many lines were tried as there are places behind it up to b, and up to each place below b where trying stops.
 pub record IsCounted (stop : ℕ → ℕ → Bool) (b : ℕ) (before now : ℕ → ℕ) : Type 0 where
   pub grown : (a : ℕ) → now a ≤ before a + (b - a)

@@ -1,6 +1,6 @@
 //! The breaks of a paragraph: the plain breaker, which tries all pairs of places, and the counted one, which tries few lines.
 
-ghost use Rattle.std.specs.Prelude.{◌≡◌, ◌≤◌, length, None, IfOk, IfErr, OnOk};
+ghost use Rattle.std.specs.Prelude.{◌≡◌, ◌<◌, ◌≤◌, length, None, IfOk, IfErr, OnOk};
 ghost use Rattle.std.specs.Option.{unwrap_or};
 ghost use Rattle.node_core.specs.Nodes.{most_nodes};
 ghost use Rattle.line_meter.specs.Facts.{facts_of, refusal};
@@ -41,6 +41,7 @@ pub fn active_breaks<M: Meter>(
     ensures facts { M.facts meter.new ≡ M.facts meter.old }
     ensures run { IfOk result (λ breaks. AreBounded (M.facts meter.old) params.now (passes_run params.now breaks.pass) (M.trials meter.new)) }
     ensures trials { AreBounded (M.facts meter.old) params.now (passes_run params.now Pass.Third) (M.trials meter.new) }
+    ensures tried { OnOk result (0 < M.trials meter.new 0) }
 {
     breaks_of(alloc, meter, params, true)
 }

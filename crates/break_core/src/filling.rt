@@ -6,7 +6,7 @@ ghost use Rattle.break_cost.specs.Sizes.{IsSmallJudgement};
 ghost use Rattle.line_meter.specs.Legal.{is_forced};
 ghost use Rattle.break_core.specs.Filling.{IsOf, IsOffering, IsOfferingUnless, AreFew};
 ghost use Rattle.break_core.specs.Leaving.{is_more, kept_over};
-ghost use Rattle.break_core.specs.Active.{ends, stops, leaves, pruned, groups_of, with_live, MayEnd, AreOver, IsActive, IsFilled, IsSwept, IsCounted};
+ghost use Rattle.break_core.specs.Active.{ends, stops, leaves, pruned, groups_of, with_live, MayEnd, AreOver, IsActive, IsFilled, IsSwept, IsCounted, AreKept, WereTried};
 
 use break_cost::{Bound, Judgement, judge_both};
 use break_table::{Best, Group, empty_row, improve, keep};
@@ -200,6 +200,8 @@ fn try_lines<M: Meter>(
     ensures over { OnOk result (AreOver (M.facts meter.old) rules.now.params.now (place + 1) offers.new.next.items) }
     ensures facts { M.facts meter.new ≡ M.facts meter.old }
     ensures trials { IsSwept (stops (M.facts meter.old) rules.now.params.now rules.now.ending) place (M.trials meter.old) (M.trials meter.new) }
+    ensures kept { AreKept (M.trials meter.old) (M.trials meter.new) }
+    ensures tried { OnOk result (WereTried (groups_of lives.now) (M.trials meter.old) (M.trials meter.new)) }
 {
     let at = meter.place(place);
     offers.next.clear();
@@ -249,6 +251,8 @@ fn add_place<M: Meter>(
     ensures empty { OnOk result (offers.new.row.items ≡ replicate (slots rules.now.params.now.first_lines) None) }
     ensures facts { M.facts meter.new ≡ M.facts meter.old }
     ensures trials { IsSwept (stops (M.facts meter.old) rules.now.params.now rules.now.ending) place (M.trials meter.old) (M.trials meter.new) }
+    ensures kept { AreKept (M.trials meter.old) (M.trials meter.new) }
+    ensures tried { OnOk result (WereTried (groups_of reached.old.live.items) (M.trials meter.old) (M.trials meter.new)) }
 {
     try_lines(meter, rules, &reached.table, &reached.live, offers, place)?;
     let start = reached.table.len();
@@ -275,6 +279,8 @@ pub(crate) fn fill<M: Meter>(
         IsTable (pruned (M.facts meter.old) rules.now.params.now rules.now.bound rules.now.ending) ((M.facts meter.old).places + 1) table.items) }
     ensures facts { M.facts meter.new ≡ M.facts meter.old }
     ensures trials { IsCounted (stops (M.facts meter.old) rules.now.params.now rules.now.ending) (M.facts meter.old).places (M.trials meter.old) (M.trials meter.new) }
+    ensures kept { AreKept (M.trials meter.old) (M.trials meter.new) }
+    ensures tried { OnOk result (M.trials meter.old 0 < M.trials meter.new 0) }
 {
     let mut reached = Reached {
         table: Vec::new(alloc),

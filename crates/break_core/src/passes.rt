@@ -1,6 +1,6 @@
 //! The passes over a paragraph.
 
-ghost use Rattle.std.specs.Prelude.{◌≡◌, ◌+◌, ◌≤◌, ℕ, true, false, map, List, IfOk, OnOk, MatchOption};
+ghost use Rattle.std.specs.Prelude.{◌≡◌, ◌+◌, ◌<◌, ◌≤◌, ℕ, true, false, map, List, IfOk, IfSome, OnOk, MatchOption};
 ghost use Rattle.break_table.specs.declared.state.State.{State};
 ghost use Rattle.break_table.specs.Chosen.{AdmitsNone, IsAnswer};
 ghost use Rattle.line_meter.specs.Facts.{Facts};
@@ -8,7 +8,7 @@ ghost use Rattle.break_core.specs.Passes.{problem_of, bound_of, line_end, IsBrok
 ghost use Rattle.line_meter.specs.Steady.{IsSteady};
 ghost use Rattle.break_core.specs.Trials.{is_bounded, IsWidening, MayLeave, first_run, passes_run, AreBounded, HasNoTrials};
 ghost use Rattle.break_core.specs.Filling.{IsGrown, AreFew, AreWithin, IsDecided};
-ghost use Rattle.break_core.specs.Active.{MayEnd, IsWithin, AreAdded};
+ghost use Rattle.break_core.specs.Active.{AreKept, MayEnd, IsWithin, AreAdded};
 
 use crate::broken::{Breaks, LineEnd, Pass};
 use crate::filling::{Ending, Rules, fill};
@@ -94,6 +94,8 @@ fn chosen_in<M: Meter>(
     ensures facts { M.facts meter.new ≡ M.facts meter.old }
     ensures trials { drops ≡ true → IsWithin (M.facts meter.old) params.now pass (M.trials meter.old) (M.trials meter.new) }
     ensures grown { IsGrown 8192 (M.trials meter.old) (M.trials meter.new) }
+    ensures kept { AreKept (M.trials meter.old) (M.trials meter.new) }
+    ensures tried { OnOk result (M.trials meter.old 0 < M.trials meter.new 0) }
 {
     let places = meter.places();
     let rules = Rules {
@@ -119,6 +121,8 @@ fn chosen_first<M: Meter>(
     ensures facts { M.facts meter.new ≡ M.facts meter.old }
     ensures trials { drops ≡ true → AreAdded (M.facts meter.old) params.now (first_run params.now) (M.trials meter.old) (M.trials meter.new) }
     ensures grown { IsGrown 8192 (M.trials meter.old) (M.trials meter.new) }
+    ensures kept { AreKept (M.trials meter.old) (M.trials meter.new) }
+    ensures tried { IfOk result (λ found. IfSome found (λ least. M.trials meter.old 0 < M.trials meter.new 0)) }
 {
     if params.pretolerance.get() < 0 {
         return Ok(None);
@@ -139,6 +143,7 @@ fn decide<M: Meter>(
     ensures run { drops ≡ true → IfOk result (λ decided.
         AreAdded (M.facts meter.old) params.now (passes_run params.now decided.0) (M.trials meter.old) (M.trials meter.new)) }
     ensures trials { drops ≡ true → AreAdded (M.facts meter.old) params.now (passes_run params.now Pass.Third) (M.trials meter.old) (M.trials meter.new) }
+    ensures tried { OnOk result (M.trials meter.old 0 < M.trials meter.new 0) }
 {
     if let Some(least) = chosen_first(alloc, meter, params, drops)? {
         return Ok((Pass::First, least));
@@ -180,6 +185,7 @@ pub(crate) fn breaks_of<M: Meter>(
     ensures facts { M.facts meter.new ≡ M.facts meter.old }
     ensures run { drops ≡ true → IfOk result (λ breaks. AreBounded (M.facts meter.old) params.now (passes_run params.now breaks.pass) (M.trials meter.new)) }
     ensures trials { drops ≡ true → AreBounded (M.facts meter.old) params.now (passes_run params.now Pass.Third) (M.trials meter.new) }
+    ensures tried { OnOk result (0 < M.trials meter.new 0) }
 {
     let (pass, least) = decide(alloc, meter, params, drops)?;
     let lines = line_ends(alloc, meter, &least.ends)?;

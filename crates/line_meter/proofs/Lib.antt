@@ -7,3 +7,4 @@ pub mod Marked
 pub mod Rising
 pub mod Divided
 pub mod Ends
+pub mod Refusals

@@ -17,5 +17,6 @@ mod walk;
 
 pub use break_cost::Sums;
 pub use fault::BreakFault;
+pub use list::refusal;
 pub use list_meter::ListMeter;
 pub use meter::{Meter, Place};

@@ -1,26 +1,50 @@
 -- How a paragraph is set, as the machine has it.
-use Rattle.std.proofs.Common.{◌≡◌, ◌≢◌, ℤ, ◌<◌, List, length, None, Result, Ok, Err, IfOk, IfErr, OnOk, OnErr}
+use Rattle.std.proofs.Common.{◌≡◌, ◌≢◌, ℤ, false, List, None, Result, Ok, Err, IfOk, IfErr, OnOk}
+use Rattle.std.specs.Prelude.{is_none}
 use Rattle.node_core.specs.declared.params.Params.{Params}
 use Rattle.node_core.specs.declared.tree.Node.{Node}
-use Rattle.line_meter.specs.Facts.{refusal}
-use Rattle.paragraph_core.specs.declared.paragraph.SetParagraph.{SetParagraph}
+use Rattle.node_core.specs.Items.{Items}
+use Rattle.node_core.specs.Nodes.{nodes_of}
+use Rattle.paragraph_core.specs.declared.paragraph.CountedParagraph.{CountedParagraph}
 use Rattle.paragraph_core.specs.declared.paragraph.ParagraphFault.{ParagraphFault}
 use Rattle.paragraph_core.specs.declared.paragraph.ParagraphFault.TheVariants as faults
-use Rattle.paragraph_core.specs.Finished.{finished}
-use Rattle.paragraph_core.specs.Paragraphs.{IsSetParagraph, IsUnset}
+use Rattle.paragraph_core.specs.Paragraphs.{unbroken, IsSetParagraph, IsUnset}
 use Rattle.paragraph_core.specs.Setting.{setting}
-use Rattle.paragraph_core.proofs.Settings.{paragraph_set, paragraph_unset}
+use Rattle.paragraph_core.proofs.Settings.{paragraph_set, paragraph_unset, memory_free}
+use Rattle.nest_core.specs.declared.nest.OpenList.{OpenList}
+use Rattle.nest_core.specs.State.{innermost}
+use Rattle.nest_core.specs.Checks.{first_of}
+use Rattle.nest_core.specs.Paragraphs.{refusal_for, early_paragraph_checks}
 
 -- What setting a paragraph tells of how it is set.
 module _ (list : List Node) (params : Params) (previous : ℤ) where
-  pub set_so : (result : Result SetParagraph ParagraphFault) → IfOk result (IsSetParagraph list params previous)
-      → OnOk result (0 < length list → refusal (finished list params.par_fill_skip) ≡ None)
-      → IfOk result (λ set. setting list params previous ≡ Ok set)
-  set_so (Ok set) is free = paragraph_set list params previous set free is
+  pub set_so : (result : Result CountedParagraph ParagraphFault) → IfOk result (λ counted. IsSetParagraph list params previous counted.set)
+      → OnOk result (unbroken list params.par_fill_skip ≡ None)
+      → IfOk result (λ counted. setting list params previous ≡ Ok counted.set)
+  set_so (Ok counted) is free = paragraph_set list params previous counted.set free is
   set_so (Err fault) is free = is
 
-  pub unset_so : (result : Result SetParagraph ParagraphFault) → OnErr result (0 < length list)
-      → IfErr result (IsUnset (finished list params.par_fill_skip) params previous)
+  pub unset_so : (result : Result CountedParagraph ParagraphFault) → IfErr result (IsUnset list params previous)
       → IfErr result (λ fault. fault ≢ faults.OutOfMemory → setting list params previous ≡ Err fault)
-  unset_so (Ok set) some is = is
-  unset_so (Err fault) some is = λ told. paragraph_unset list params previous fault some told is
+  unset_so (Ok counted) is = is
+  unset_so (Err fault) is = λ told. paragraph_unset list params previous fault told is
+
+  pub memory_so : (result : Result CountedParagraph ParagraphFault) → IfErr result (IsUnset list params previous)
+      → IfErr result (λ fault. fault ≡ faults.OutOfMemory → unbroken list params.par_fill_skip ≡ None)
+  memory_so (Ok counted) is = is
+  memory_so (Err faults.InfiniteShrink) is = λ told. absurd (cc)
+  memory_so (Err faults.TooManyBreaks) is = λ told. absurd (cc)
+  memory_so (Err faults.DimensionTooLarge) is = λ told. absurd (cc)
+  memory_so (Err faults.OutOfMemory) is = λ told. memory_free list params previous is
+
+-- A fault that is no refusal is that of memory.
+pub only_memory : (fault : ParagraphFault) → refusal_for fault ≡ None → fault ≡ faults.OutOfMemory
+only_memory faults.InfiniteShrink is = cc
+only_memory faults.TooManyBreaks is = cc
+only_memory faults.DimensionTooLarge is = cc
+only_memory faults.OutOfMemory is = cc
+
+-- Where a list is around a paragraph that may be broken, no early check refuses its end.
+pub early_free : (params : Params) (around : List OpenList) (items : Items) → is_none (innermost around) ≡ false
+    → unbroken (nodes_of items) params.par_fill_skip ≡ None → first_of (early_paragraph_checks params around items) ≡ None
+early_free params around items some free = rw (some, free) refl

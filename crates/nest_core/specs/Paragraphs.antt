@@ -6,10 +6,13 @@ use Rattle.node_core.specs.Items.{Items, items_depth}
 use Rattle.node_core.specs.Nodes.{items_of, nodes_of}
 use Rattle.break_core.specs.declared.broken.Pass.{Pass}
 use Rattle.break_core.specs.declared.broken.Pass.TheVariants.{First, Second, Third}
+use Rattle.line_meter.specs.declared.fault.BreakFault.{BreakFault}
+use Rattle.line_meter.specs.declared.fault.BreakFault.TheVariants as breaking
 use Rattle.vert_core.specs.Interline.{ignored_depth}
 use Rattle.paragraph_core.specs.declared.paragraph.SetParagraph.{SetParagraph}
 use Rattle.paragraph_core.specs.declared.paragraph.ParagraphFault.{ParagraphFault}
 use Rattle.paragraph_core.specs.declared.paragraph.ParagraphFault.TheVariants as faults
+use Rattle.paragraph_core.specs.Paragraphs.{unbroken}
 use Rattle.paragraph_core.specs.Setting.{setting}
 use Rattle.command_core.specs.declared.command.Answer.{Answer}
 use Rattle.command_core.specs.declared.command.Answer.TheVariants as answers
@@ -65,6 +68,18 @@ set_checks count (Err fault) = refused_by (refusal_for fault)
 abbrev pub paragraph_checks : Params → (around : List OpenList) → Items → List (Bool × Refusal)
 paragraph_checks params around items =
     (is_none (innermost around), NoOpenList) ∷ set_checks (length (nodes_of (items_in (innermost around)))) (set_behind params around items)
+
+-- The refusals of a paragraph that may not be broken: for glue that shrinks in an infinite order, or else for too many legal places.
+abbrev pub unbroken_checks : Option BreakFault → List (Bool × Refusal)
+unbroken_checks None = []
+unbroken_checks (Some breaking.InfiniteShrink) = (true, InfiniteShrink) ∷ []
+unbroken_checks (Some breaking.TooManyBreaks) = (true, TooManyBreaks) ∷ []
+unbroken_checks (Some breaking.OutOfMemory) = []
+
+-- The refusals of the end of a paragraph that no refused growth hides: that no list is around it, and that it may not be broken.
+abbrev pub early_paragraph_checks : Params → (around : List OpenList) → Items → List (Bool × Refusal)
+early_paragraph_checks params around items =
+    (is_none (innermost around), NoOpenList) ∷ unbroken_checks (unbroken (nodes_of items) params.par_fill_skip)
 
 -- The lists around a paragraph with what it brings at the end of the innermost one, whose previous depth is then that of the last line.
 abbrev pub with_lines : (around : List OpenList) → Option OpenList → Result SetParagraph ParagraphFault → List OpenList

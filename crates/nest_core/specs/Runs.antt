@@ -19,6 +19,7 @@ use Rattle.nest_core.specs.declared.nest.ListPurpose.TheVariants as purposes
 use Rattle.nest_core.specs.State.{State, innermost, outer, held_in, nodes_in}
 use Rattle.nest_core.specs.OpenLists.{GoesIntoList}
 use Rattle.nest_core.specs.Checks.{checks, character_checks, purpose_checks, first_of}
+use Rattle.nest_core.specs.Paragraphs.{early_paragraph_checks}
 use Rattle.nest_core.specs.Machine.{Machine, reply_to, step, stopped_machine, lost_machine}
 
 -- Whether a split of the box of a register leaves a rest.
@@ -50,19 +51,18 @@ TakesMemory m (Set parameter) = ⊥
 TakesMemory m (Count counting) = ⊥
 TakesMemory m (Ship r) = Unit {0}
 
--- The refusals of the end of a list that was opened for that and has these lists around, as far as they are found before any memory is taken: for a
--- paragraph, that no list is around it.
+-- The refusals of the end of a list that was opened for that and has these lists around, as far as no refused growth hides them.
 abbrev pub early_purpose_checks : Params → (around : List OpenList) → OpenList → ListPurpose → List (Bool × Refusal)
 early_purpose_checks params around open_list (purposes.Box opening) = purpose_checks params around open_list (purposes.Box opening)
-early_purpose_checks params around open_list purposes.Paragraph = (is_none (innermost around), NoOpenList) ∷ []
+early_purpose_checks params around open_list purposes.Paragraph = early_paragraph_checks params around open_list.list
 
 -- The same for an open list that has these lists around.
 abbrev pub early_end_checks : Params → (around : List OpenList) → Option OpenList → List (Bool × Refusal)
 early_end_checks params around None = (true, NoOpenList) ∷ []
 early_end_checks params around (Some open_list) = early_purpose_checks params around open_list open_list.purpose
 
--- The refusals that are found before any memory is taken, in their order: all but those that a font file's bytes, its size or the number of
--- items of a text decide, or how a paragraph is set.
+-- The refusals that no refused growth hides, in their order: all but those that a font file's bytes, its size or the number of
+-- items of a text decide, or the lines of a paragraph.
 abbrev pub early_checks : State → Command → List (Bool × Refusal)
 early_checks m (LoadFont load) =
     (m.over, JobOver) ∷ (is_some (font_in m.fonts load.slot), SlotTaken) ∷ (is_none (file_named load.name m.files), NoFont) ∷ []

@@ -11,6 +11,7 @@ ghost use Rattle.nest_core.specs.Effects.{with_nodes, with_rule, list_with_box, 
 ghost use Rattle.nest_core.specs.EmptiedNest.{emptied_nest, refilled_nest};
 ghost use Rattle.nest_core.specs.Lending.{LendsInnermost};
 ghost use Rattle.nest_core.specs.Paragraphs.{with_lines};
+ghost use Rattle.paragraph_core.specs.Paragraphs.{unbroken};
 ghost use Rattle.paragraph_core.specs.Setting.{setting};
 ghost use Rattle.std.specs.Borrow.{sem};
 
@@ -18,7 +19,7 @@ use command_core::limits::{MOST_ITEMS, MOST_OPEN};
 use command_core::{BoxForm, Opening, Refusal};
 use node_core::{BoxNode, Glue, Kind, Node, NodeList, Params, Rule};
 use pack_core::{Packed, Target, TooLarge, hpack, vpack, vtop};
-use paragraph_core::{ParagraphFault, SetParagraph, set_paragraph};
+use paragraph_core::{CountedParagraph, ParagraphFault, SetParagraph, set_paragraph};
 use scaled_core::Dimen;
 use smallvec::SmallVec;
 use std::alloc::{AllocError, Global};
@@ -500,15 +501,17 @@ impl Nest {
         Ok(())
     }
 
-    /// Sets the paragraph of the innermost list behind that previous depth. The lists stay as they are.
+    /// Sets the paragraph of the innermost list behind that previous depth. The lists stay as they are. A refused growth does not hide that it may not be broken.
     #[tactic(auto, using(crate::proofs::Nests::same_innermost, crate::proofs::ShortLists::innermost_short))]
     pub(crate) fn set_innermost(
         &mut self,
         previous_depth: Dimen,
         params: &Params,
-    ) -> Result<SetParagraph, ParagraphFault>
+    ) -> Result<CountedParagraph, ParagraphFault>
         requires { IsSome (innermost self.old) }
-        ensures ok { IfOk result (λ set. setting (nodes_of (items_in (innermost self.old))) params.now previous_depth ≡ Ok set) }
+        ensures ok { IfOk result (λ counted. setting (nodes_of (items_in (innermost self.old))) params.now previous_depth ≡ Ok counted.set) }
+        ensures fits { OnOk result (unbroken (nodes_of (items_in (innermost self.old))) params.now.par_fill_skip ≡ None) }
+        ensures memory { IfErr result (λ fault. fault ≡ ParagraphFault.OutOfMemory → unbroken (nodes_of (items_in (innermost self.old))) params.now.par_fill_skip ≡ None) }
         ensures refused { IfErr result (λ fault. fault ≢ ParagraphFault.OutOfMemory → setting (nodes_of (items_in (innermost self.old))) params.now previous_depth ≡ Err fault) }
         ensures same { self.new ≡ self.old }
     {

@@ -1,11 +1,11 @@
 //! Paragraphs are opened inside vertical lists, and end as lines in them.
 
-ghost use Rattle.std.specs.Prelude.{◌≡◌, ◌++◌, ◌∷◌, [], false, is_none, None, Ok, IfOk, OnOk, OnErr};
+ghost use Rattle.std.specs.Prelude.{◌≡◌, ◌++◌, ◌∷◌, [], None, Ok, IfOk, OnOk, OnErr};
 ghost use Rattle.nest_core.specs.State.{innermost, outer, items_in};
 ghost use Rattle.nest_core.specs.OpenLists.{opened_list};
 ghost use Rattle.nest_core.specs.Checks.{par_checks, first_of};
 ghost use Rattle.nest_core.specs.Machine.{reply_by, state_by};
-ghost use Rattle.nest_core.specs.Paragraphs.{pass_number, refusal_for, lines_checks, set_behind, paragraph_checks, paragraph_answer, with_paragraph};
+ghost use Rattle.nest_core.specs.Paragraphs.{pass_number, refusal_for, lines_checks, set_behind, paragraph_checks, early_paragraph_checks, paragraph_answer, with_paragraph};
 
 use crate::nest::{ListPurpose, Nest};
 use break_core::Pass;
@@ -86,12 +86,14 @@ impl Nest {
         Ok(Ok(Answer::Done))
     }
 
-    /// Sets the paragraph of the innermost list, and puts its lines at the end of the list around it.
+    /// Sets the paragraph of the innermost list, and puts its lines at the end of the list around it. A refused growth hides neither that no list is around it
+    /// nor that it may not be broken.
+    #[tactic(auto, using(crate::proofs::ParagraphEnds::only_memory, crate::proofs::ParagraphEnds::early_free))]
     pub fn end_paragraph(&mut self, params: &Params) -> Result<Reply, AllocError>
         ensures reply { IfOk result (λ reply. reply ≡ reply_by (first_of (paragraph_checks params.now (outer self.old) (items_in (innermost self.old)))) (paragraph_answer (set_behind params.now (outer self.old) (items_in (innermost self.old))))) }
         ensures state { OnOk result (self.new ≡ state_by (first_of (paragraph_checks params.now (outer self.old) (items_in (innermost self.old)))) self.old (with_paragraph params.now (outer self.old) (items_in (innermost self.old)))) }
         ensures err { OnErr result (self.new ≡ self.old) }
-        ensures early { OnErr result (is_none (innermost (outer self.old)) ≡ false) }
+        ensures early { OnErr result (first_of (early_paragraph_checks params.now (outer self.old) (items_in (innermost self.old))) ≡ None) }
     {
         let Some(around) = self.around() else {
             return Ok(Err(Refusal::NoOpenList));
@@ -99,7 +101,7 @@ impl Nest {
         let depth = around.previous_depth;
         let count = around.list.len();
         let set = match self.set_innermost(depth, params) {
-            Ok(set) => set,
+            Ok(counted) => counted.set,
             Err(fault) => {
                 return match refusal_for(fault) {
                     Some(refusal) => Ok(Err(refusal)),

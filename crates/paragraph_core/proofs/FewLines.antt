@@ -1,8 +1,6 @@
 -- A paragraph has few lines, and they bring few items.
 use Rattle.std.proofs.Common.{◌≡◌, ℕ, zero, suc, ◌+◌, ◌*◌, ◌≤◌, Bool, true, false, cond, List, [], ◌∷◌, ◌++◌, length, length-append, reverse, refl, ap, arith, Option, Some, None}
 use Rattle.std.specs.Prelude.{ℤ, pos, flat_map, nat_lt}
-use Rattle.std.specs.List.{list_any}
-use Rattle.std.proofs.lemmas.Bool.Decides.{nat_tests}
 use Rattle.std.proofs.lemmas.List.{length-map, length-reverse}
 use Rattle.std.proofs.lemmas.List.Concat.{flat_map-append}
 use Rattle.node_core.specs.declared.params.Params.{Params}
@@ -10,15 +8,15 @@ use Rattle.node_core.specs.declared.tree.BoxNode.{BoxNode}
 use Rattle.node_core.specs.declared.tree.Glue.{Glue}
 use Rattle.node_core.specs.declared.tree.Node.{Node}
 use Rattle.node_core.specs.declared.tree.Node.TheVariants as nodes
-use Rattle.node_core.specs.Classes.{shrinks_infinitely}
 use Rattle.pack_core.specs.Glue.{is_zero}
 use Rattle.break_table.specs.declared.state.State.{State}
 use Rattle.break_table.specs.Problems.{ends_of, places_of}
 use Rattle.break_table.specs.Chosen.{top, IsFalling}
 use Rattle.break_table.specs.Tables.{most_places}
 use Rattle.break_core.specs.declared.broken.Breaks.{Breaks}
-use Rattle.line_meter.specs.Legal.{up_to, legal_places}
+use Rattle.line_meter.specs.Legal.{up_to}
 use Rattle.line_meter.specs.Facts.{facts_of, refusal}
+use Rattle.line_meter.proofs.Refusals.{few_places}
 use Rattle.break_core.specs.Passes.{line_end, IsBroken}
 use Rattle.vert_core.specs.Interline.{interline, glue_of, appended}
 use Rattle.paragraph_core.specs.Lines.{BrokenParagraph, penalty_nodes, penalty_behind, behind_line, brought_by, depth_before, line_box, vertical_items}
@@ -32,19 +30,7 @@ as_many : (ends : List State) → length (places_of ends) ≡ length ends
 as_many [] = refl
 as_many (s ∷ ends) = ap suc (as_many ends)
 
-second_fails : {A : Type 0} (a b : Bool) (x y : A) → cond a (Some x) (cond b (Some y) None) ≡ None → b ≡ false
-second_fails true b x y is = absurd (cc)
-second_fails false true x y is = absurd (cc)
-second_fails false false x y is = refl
-
--- A list that is not refused has few legal places.
-pub few_places : (list : List Node) → refusal list ≡ None → length (legal_places list) ≤ most_places
-few_places list is =
-    let test : nat_lt most_places (length (legal_places list)) ≡ false =
-    second_fails (list_any shrinks_infinitely list) (nat_lt most_places (length (legal_places list))) _ _ is in
-    grind (arith, nat_tests)
-
--- And so it has few lines.
+-- A list that may be broken has few lines.
 pub few_lines : (list : List Node) (params : Params) (breaks : Breaks) → refusal list ≡ None → IsBroken (facts_of list) params breaks → length breaks.lines.items ≤ most_places
 few_lines list params breaks fits is =
     let ends = ends_of is.path in

@@ -6,3 +6,6 @@ pub mod FewLines
 pub mod SetLists
 pub mod LeastLists
 pub mod Settings
+pub mod Unbroken
+pub mod Tried
+pub mod BadLines

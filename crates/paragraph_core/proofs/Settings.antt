@@ -9,6 +9,7 @@ use Rattle.break_table.specs.Problems.{Path, ends_of, places_of}
 use Rattle.break_table.specs.Chosen.{IsChosen, AdmitsNone}
 use Rattle.break_core.specs.declared.broken.Breaks.{Breaks}
 use Rattle.break_core.specs.declared.broken.LineEnd.{LineEnd}
+use Rattle.line_meter.specs.declared.fault.BreakFault.TheVariants as breaking
 use Rattle.break_core.specs.declared.broken.Pass.{Pass}
 use Rattle.break_core.specs.declared.broken.Pass.TheVariants.{First, Second, Third}
 use Rattle.line_meter.specs.Facts.{Facts, facts_of, refusal}
@@ -18,7 +19,7 @@ use Rattle.paragraph_core.specs.declared.paragraph.ParagraphFault.{ParagraphFaul
 use Rattle.paragraph_core.specs.declared.paragraph.ParagraphFault.TheVariants.{InfiniteShrink, TooManyBreaks, DimensionTooLarge, OutOfMemory}
 use Rattle.paragraph_core.specs.Lines.{BrokenParagraph, broken_list, vertical_items, last_depth, lines_fit}
 use Rattle.paragraph_core.specs.Finished.{finished}
-use Rattle.paragraph_core.specs.Paragraphs.{with_breaks, IsSet, IsSetParagraph, IsUnset}
+use Rattle.paragraph_core.specs.Paragraphs.{with_breaks, unbroken, HasLargeLine, IsSet, IsSetParagraph, IsUnsetList, IsUnset}
 use Rattle.paragraph_core.specs.Setting.{chosen_lines, lined, set_by, list_setting, setting}
 use Rattle.paragraph_core.proofs.LeastLists.{no_least, chosen_least}
 
@@ -89,35 +90,54 @@ list_set list params previous set free is =
     sym (ap lines_fit (breaks_lined list params previous is.breaks is.broken)) ∙ is.fit in
     rw (free, broken_chosen (facts_of list) params is.breaks is.broken, fit) (ap Ok (sym (set_is list params previous set is)))
 
--- One that was not set.
-list_unset :
-    (list : List Node) (params : Params) (previous : ℤ) (fault : ParagraphFault) → fault ≢ OutOfMemory → IsUnset list params previous fault
-    → list_setting list params previous ≡ Err fault
+-- One that may not be broken, or in whose lines a number does not fit.
+list_shrinks : (list : List Node) (params : Params) (previous : ℤ) → refusal list ≡ Some breaking.InfiniteShrink → list_setting list params previous ≡ Err InfiniteShrink
 unfolding list_setting
-list_unset list params previous InfiniteShrink told is = rw is refl
-list_unset list params previous TooManyBreaks told is = rw is refl
-list_unset list params previous DimensionTooLarge told (free, (breaks, broken, large)) =
+list_shrinks list params previous is = rw is refl
+
+list_crowded : (list : List Node) (params : Params) (previous : ℤ) → refusal list ≡ Some breaking.TooManyBreaks → list_setting list params previous ≡ Err TooManyBreaks
+unfolding list_setting
+list_crowded list params previous is = rw is refl
+
+list_large :
+    (list : List Node) (params : Params) (previous : ℤ) → refusal list ≡ None → HasLargeLine list params previous → list_setting list params previous ≡ Err DimensionTooLarge
+unfolding list_setting
+list_large list params previous free (breaks, broken, large) =
     let fit : lines_fit (lined list params previous (record { pass = breaks.pass; path = broken.path })) ≡ false =
     sym (ap lines_fit (breaks_lined list params previous breaks broken)) ∙ large in
     rw (free, broken_chosen (facts_of list) params breaks broken, fit) refl
-list_unset list params previous OutOfMemory told is = absurd (told refl)
 
 -- A paragraph that was set is set so.
 pub paragraph_set :
-    (list : List Node) (params : Params) (previous : ℤ) (set : SetParagraph) → (0 < length list → refusal (finished list params.par_fill_skip) ≡ None)
+    (list : List Node) (params : Params) (previous : ℤ) (set : SetParagraph) → unbroken list params.par_fill_skip ≡ None
     → IsSetParagraph list params previous set → setting list params previous ≡ Ok set
 unfolding setting
 paragraph_set [] params previous set free is = ap Ok (sym is)
-paragraph_set (x ∷ rest) params previous set free is =
-    list_set (finished (x ∷ rest) params.par_fill_skip) params previous set (free (omega arith)) is
+paragraph_set (x ∷ rest) params previous set free is = list_set (finished (x ∷ rest) params.par_fill_skip) params previous set free is
 
 -- One that was not set has that fault.
 pub paragraph_unset :
-    (list : List Node) (params : Params) (previous : ℤ) (fault : ParagraphFault) → 0 < length list → fault ≢ OutOfMemory
-    → IsUnset (finished list params.par_fill_skip) params previous fault → setting list params previous ≡ Err fault
+    (list : List Node) (params : Params) (previous : ℤ) (fault : ParagraphFault) → fault ≢ OutOfMemory
+    → IsUnset list params previous fault → setting list params previous ≡ Err fault
 unfolding setting
-paragraph_unset [] params previous fault some told is = absurd (omega arith)
-paragraph_unset (x ∷ rest) params previous fault some told is = list_unset (finished (x ∷ rest) params.par_fill_skip) params previous fault told is
+paragraph_unset [] params previous fault told is = absurd is
+paragraph_unset (x ∷ rest) params previous InfiniteShrink told is = list_shrinks (finished (x ∷ rest) params.par_fill_skip) params previous is
+paragraph_unset (x ∷ rest) params previous TooManyBreaks told is = list_crowded (finished (x ∷ rest) params.par_fill_skip) params previous is
+paragraph_unset (x ∷ rest) params previous DimensionTooLarge told (free, large) =
+    list_large (finished (x ∷ rest) params.par_fill_skip) params previous free large
+paragraph_unset (x ∷ rest) params previous OutOfMemory told is = absurd (told refl)
+
+-- One that is not set has items.
+pub unset_some :
+    (list : List Node) (params : Params) (previous : ℤ) (fault : ParagraphFault) → 0 < length list
+    → IsUnsetList (finished list params.par_fill_skip) params previous fault → IsUnset list params previous fault
+unset_some [] params previous fault some is = absurd (omega arith)
+unset_some (x ∷ rest) params previous fault some is = is
+
+-- Where memory is wanting, it may be broken.
+pub memory_free : (list : List Node) (params : Params) (previous : ℤ) → IsUnset list params previous OutOfMemory → unbroken list params.par_fill_skip ≡ None
+memory_free [] params previous is = refl
+memory_free (x ∷ rest) params previous is = is
 
 -- A list that is not empty is set as its finished list.
 pub some_set :

@@ -5,3 +5,4 @@ pub mod Paragraphs
 pub mod Rows
 pub mod LeastLists
 pub mod Setting
+pub mod Tried

@@ -1,10 +1,12 @@
 -- A paragraph is set: it is finished, broken into lines, and these are put together (TeX: The Program, part 38, §815).
-use Rattle.std.specs.Prelude.{◌≡◌, ℤ, pos, true, false, List, [], ◌∷◌, length, Some, None}
+use Rattle.std.specs.Prelude.{◌≡◌, ℤ, pos, true, false, List, [], ◌∷◌, length, Option, Some, None}
 use Rattle.node_core.specs.declared.params.Params.{Params}
+use Rattle.node_core.specs.declared.tree.Glue.{Glue}
 use Rattle.node_core.specs.declared.tree.Node.{Node}
 use Rattle.node_core.specs.Items.{none}
 use Rattle.node_core.specs.Nodes.{items_of}
 use Rattle.break_core.specs.declared.broken.Breaks.{Breaks}
+use Rattle.line_meter.specs.declared.fault.BreakFault.{BreakFault}
 use Rattle.line_meter.specs.declared.fault.BreakFault.TheVariants as breaking
 use Rattle.line_meter.specs.Facts.{facts_of, refusal}
 use Rattle.break_core.specs.Passes.{IsBroken}
@@ -39,12 +41,26 @@ abbrev pub IsSetParagraph : List Node → Params → (previous_depth : ℤ) → 
 IsSetParagraph [] params previous_depth set = set ≡ set_empty previous_depth
 IsSetParagraph (x ∷ rest) params previous_depth set = IsSet (finished (x ∷ rest) params.par_fill_skip) params previous_depth set
 
--- Why a finished list is not set: glue that shrinks without end, else too many legal places, else a line that does not fit. Want of memory may come at any
--- time.
+-- Why a paragraph may not be broken into lines, which its list and parfillskip decide: its finished list has glue that shrinks in an infinite order, or else too many
+-- legal places. An empty one always may.
+abbrev pub unbroken : List Node → (par_fill_skip : Glue) → Option BreakFault
+unbroken [] par_fill_skip = None
+unbroken (x ∷ rest) par_fill_skip = refusal (finished (x ∷ rest) par_fill_skip)
+
+-- A finished list has breaks by which a line does not fit.
+abbrev pub HasLargeLine : List Node → Params → (previous_depth : ℤ) → Type 0
+HasLargeLine list params previous_depth =
+    (breaks : Breaks) × IsBroken (facts_of list) params breaks × (lines_fit (with_breaks list params previous_depth breaks) ≡ false)
+
+-- Why a finished list is not set: glue that shrinks in an infinite order, else too many legal places, both exactly; else a line that does not fit. A growth
+-- may be refused where it may be broken, and so before all lines were put together.
+abbrev pub IsUnsetList : List Node → Params → (previous_depth : ℤ) → ParagraphFault → Type 0
+IsUnsetList list params previous_depth InfiniteShrink = refusal list ≡ Some breaking.InfiniteShrink
+IsUnsetList list params previous_depth TooManyBreaks = refusal list ≡ Some breaking.TooManyBreaks
+IsUnsetList list params previous_depth DimensionTooLarge = (refusal list ≡ None) × HasLargeLine list params previous_depth
+IsUnsetList list params previous_depth OutOfMemory = refusal list ≡ None
+
+-- Why a paragraph is not set: it is not empty, and its finished list is not set.
 abbrev pub IsUnset : List Node → Params → (previous_depth : ℤ) → ParagraphFault → Type 0
-IsUnset list params previous_depth InfiniteShrink = refusal list ≡ Some breaking.InfiniteShrink
-IsUnset list params previous_depth TooManyBreaks = refusal list ≡ Some breaking.TooManyBreaks
-IsUnset list params previous_depth DimensionTooLarge =
-    (refusal list ≡ None) ×
-    ((breaks : Breaks) × IsBroken (facts_of list) params breaks × (lines_fit (with_breaks list params previous_depth breaks) ≡ false))
-IsUnset list params previous_depth OutOfMemory = Unit {0}
+IsUnset [] params previous_depth fault = ⊥
+IsUnset (x ∷ rest) params previous_depth fault = IsUnsetList (finished (x ∷ rest) params.par_fill_skip) params previous_depth fault

@@ -1,10 +1,13 @@
 //! The list of a paragraph is finished before it is broken into lines (TeX: The Program, part 38, §816).
 
-ghost use Rattle.std.specs.Prelude.{◌≡◌, ◌<◌, ◌++◌, ◌∷◌, [], List, length, slice_set, OnOk, OnErr, IfOk};
+ghost use Rattle.std.specs.Prelude.{◌≡◌, ◌<◌, ◌≤◌, ◌++◌, ◌∷◌, [], List, length, slice_set, OnOk, OnErr, IfOk};
 ghost use Rattle.node_core.specs.declared.tree.Glue.{Glue};
 ghost use Rattle.node_core.specs.declared.tree.Node.{Node};
-ghost use Rattle.paragraph_core.specs.Finished.{final_glue, finished};
+ghost use Rattle.node_core.specs.Nodes.{most_nodes};
+ghost use Rattle.line_meter.specs.Facts.{refusal};
+ghost use Rattle.paragraph_core.specs.Finished.{final_glue, without_glue, finished};
 
+use line_meter::{BreakFault, refusal};
 use node_core::{Glue, Node};
 use std::alloc::AllocError;
 
@@ -19,6 +22,29 @@ fn final_glue(nodes: &[Node]) -> Option<Glue>
         Some(Node::Glue(glue)) => Some(*glue),
         _ => None,
     }
+}
+
+/// The items of a list without glue at its end.
+fn without_final_glue(nodes: &[Node]) -> &[Node]
+    ensures { result.now ≡ without_glue (final_glue nodes.now) nodes.now }
+{
+    match final_glue(nodes) {
+        Some(_) => &nodes[..nodes.len() - 1],
+        None => nodes,
+    }
+}
+
+/// Why the finished list of a paragraph may not be broken, by the list before it is finished: what is put at its end adds no legal place, and parfillskip may
+/// shrink in an infinite order. It takes no memory.
+#[tactic(auto, using(crate::proofs::Unbroken::refused_by_glue, crate::proofs::Unbroken::refused_by_text))]
+pub fn refusal_of_finished(nodes: &[Node], par_fill_skip: Glue) -> Option<BreakFault>
+    requires { length nodes.now ≤ most_nodes }
+    ensures { result ≡ refusal (finished nodes.now par_fill_skip) }
+{
+    if Node::Glue(par_fill_skip).shrinks_infinitely() {
+        return Some(BreakFault::InfiniteShrink);
+    }
+    refusal(without_final_glue(nodes))
 }
 
 /// Puts a node behind others. A refused growth leaves them as they were.

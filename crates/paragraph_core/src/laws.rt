@@ -1,17 +1,24 @@
 //! Laws of the definitions, each on a function that does nothing.
 
-ghost use Rattle.std.specs.Prelude.{◌≡◌, ◌≢◌, ◌<◌, ◌+ℤ◌, ◌++◌, ℕ, ℤ, pos, List, [], ◌∷◌, flat_map, length, None, Ok, Err};
+ghost use Rattle.std.specs.Prelude.{◌≡◌, ◌≢◌, ◌+ℤ◌, ◌++◌, ℕ, ℤ, pos, false, List, [], ◌∷◌, flat_map, length, None, Ok, Err};
 ghost use Rattle.node_core.specs.declared.params.Params.{Params};
 ghost use Rattle.node_core.specs.declared.tree.Node.{Node};
 ghost use Rattle.node_core.specs.Parameters.{first_params};
 ghost use Rattle.vert_core.specs.Interline.{interline, glue_of, appended};
 ghost use Rattle.paragraph_core.specs.Lines.{line_box, penalty_nodes, vertical_items, last_depth};
-ghost use Rattle.line_meter.specs.Facts.{refusal};
+ghost use Rattle.line_meter.specs.Facts.{position_of, begins_at, facts_of, refusal};
+ghost use Rattle.line_meter.specs.Kept.{kept};
+ghost use Rattle.break_cost.specs.Costs.{judged};
+ghost use Rattle.break_cost.specs.Sizes.{line_size};
+ghost use Rattle.pack_core.specs.declared.pack.Packed.{Packed};
+ghost use Rattle.pack_core.specs.declared.pack.Target.TheVariants.{To};
+ghost use Rattle.pack_core.specs.Boxes.{hpacked};
+ghost use Rattle.node_core.specs.Nodes.{items_of};
 ghost use Rattle.paragraph_core.specs.declared.paragraph.SetParagraph.{SetParagraph};
 ghost use Rattle.paragraph_core.specs.declared.paragraph.ParagraphFault.{ParagraphFault};
 ghost use Rattle.paragraph_core.specs.declared.paragraph.ParagraphFault.TheVariants.{OutOfMemory};
 ghost use Rattle.paragraph_core.specs.Finished.{finished};
-ghost use Rattle.paragraph_core.specs.Paragraphs.{IsSetParagraph, IsUnset};
+ghost use Rattle.paragraph_core.specs.Paragraphs.{unbroken, IsSetParagraph, IsUnset};
 ghost use Rattle.paragraph_core.specs.Setting.{setting};
 ghost use Rattle.paragraph_core.specs.Rows.{penalties_of, with_penalties, greatest_penalties, in_two, two_short_lines, numbers_in};
 
@@ -49,10 +56,19 @@ pub fn two_lines_of_rules()
     ensures finished { length two_short_lines.nodes ≡ 8 }
 {}
 
-/// A paragraph is set in one way, if it is set, or there is one cause why it is not; but memory may be wanted at any time.
+/// A paragraph is set in one way, if it is set, or there is one cause why it is not; but a growth may be refused where it may be broken.
 pub fn one_setting()
     ensures set { (list : List Node) → (params : Params) → (previous : ℤ) → (set : SetParagraph) →
-        (0 < length list → refusal (finished list params.par_fill_skip) ≡ None) → IsSetParagraph list params previous set → setting list params previous ≡ Ok set }
-    ensures unset { (list : List Node) → (params : Params) → (previous : ℤ) → (fault : ParagraphFault) → 0 < length list → fault ≢ OutOfMemory →
-        IsUnset (finished list params.par_fill_skip) params previous fault → setting list params previous ≡ Err fault }
+        unbroken list params.par_fill_skip ≡ None → IsSetParagraph list params previous set → setting list params previous ≡ Ok set }
+    ensures unset { (list : List Node) → (params : Params) → (previous : ℤ) → (fault : ParagraphFault) → fault ≢ OutOfMemory →
+        IsUnset list params previous fault → setting list params previous ≡ Err fault }
+{}
+
+/// Where a line that keeps items is packed to its width and is not overfull, its box is as bad as the line is, by which its demerits are reckoned.
+pub fn boxes_are_as_bad_as_lines()
+    ensures { (list : List Node) → (params : Params) → (a : ℕ) → (b : ℕ) → (lines : ℕ) → (packed : Packed) → refusal list ≡ None →
+        kept list (begins_at list a) (position_of list b) ≢ [] →
+        (judged ((facts_of list).sums a b) (line_size params lines)).overfull ≡ false →
+        hpacked (To (line_size params lines)) (items_of (kept list (begins_at list a) (position_of list b))) ≡ Ok packed →
+        packed.badness ≡ (judged ((facts_of list).sums a b) (line_size params lines)).badness }
 {}

@@ -1,6 +1,6 @@
 //! The lines of a paragraph are put together, as they stand in a vertical list (TeX: The Program, part 39, §877 to §890).
 
-ghost use Rattle.std.specs.Prelude.{◌≡◌, ◌≤◌, ◌<◌, ◌++◌, pos, true, false, length, get_or, OnOk, IfOk, IfErr};
+ghost use Rattle.std.specs.Prelude.{◌≡◌, ◌≤◌, ◌<◌, ◌++◌, pos, true, false, length, get_or, OnOk, OnErr, IfOk, IfErr};
 ghost use Rattle.std.specs.Result.{is_ok};
 ghost use Rattle.node_core.specs.Nodes.{most_nodes};
 ghost use Rattle.vert_core.specs.Interline.{interline};
@@ -110,6 +110,7 @@ fn stack_lines(
     requires { length nodes.now ≤ most_nodes }
     ensures ok { IfOk result (λ items. items.nodes.items ≡ vertical_items (broken_list nodes.now ends.now params.now previous_depth)) }
     ensures depth { IfOk result (λ items. items.depth ≡ last_depth (broken_list nodes.now ends.now params.now previous_depth)) }
+    ensures some { OnErr result (0 < length ends.now) }
     ensures fits { OnOk result (lines_fit (broken_list nodes.now ends.now params.now previous_depth) ≡ true) }
     ensures refused { IfErr result (λ fault. fault ≡ LinesFault.DimensionTooLarge →
         lines_fit (broken_list nodes.now ends.now params.now previous_depth) ≡ false) }
@@ -126,7 +127,8 @@ fn stack_lines(
 }
 
 /// What the lines of a paragraph bring to a vertical list whose last depth is given: the finished list of at most 131,072 nodes, and its breaks, or other
-/// places, in order. It is refused where a number of the box of a line or the glue in front of it does not fit, or where a growth is refused.
+/// places, in order. Line by line, it is refused where a growth for the items of the line is refused, else where a number of its box does not fit, else
+/// where the glue in front of it does not fit, else where a growth for what it brings is refused. Without lines it takes no memory.
 pub fn lines(
     alloc: Global,
     nodes: &[Node],
@@ -137,6 +139,7 @@ pub fn lines(
     requires short { length nodes.now ≤ most_nodes }
     ensures ok { IfOk result (λ items. items.nodes.items ≡ vertical_items (broken_list nodes.now breaks.now.lines.items params.now previous_depth)) }
     ensures depth { IfOk result (λ items. items.depth ≡ last_depth (broken_list nodes.now breaks.now.lines.items params.now previous_depth)) }
+    ensures some { OnErr result (0 < length breaks.now.lines.items) }
     ensures fits { OnOk result (lines_fit (broken_list nodes.now breaks.now.lines.items params.now previous_depth) ≡ true) }
     ensures refused { IfErr result (λ fault. fault ≡ LinesFault.DimensionTooLarge →
         lines_fit (broken_list nodes.now breaks.now.lines.items params.now previous_depth) ≡ false) }

@@ -1,6 +1,6 @@
 -- The end of a paragraph changes the open lists, and all else stays.
 use Rattle.std.proofs.Common.{◌≡◌, ◌∙◌, false, List, Option, Some, None, Result, Ok, Err, refl, ap, sym}
-use Rattle.std.specs.Prelude.{◌++◌, ◌∷◌, [], IfOk, OnOk, OnErr, is_none}
+use Rattle.std.specs.Prelude.{◌++◌, ◌∷◌, [], IfOk, OnOk, OnErr}
 use Rattle.command_core.specs.declared.command.Answer.{Answer}
 use Rattle.command_core.specs.declared.command.Command.TheVariants as commands
 use Rattle.command_core.specs.declared.command.Command.TheVariants.{End}
@@ -14,7 +14,7 @@ use Rattle.nest_core.specs.Checks.{par_checks, checks, first_of}
 use Rattle.nest_core.specs.Answers.{answer_of}
 use Rattle.nest_core.specs.Effects.{after}
 use Rattle.nest_core.specs.Machine.{reply_by, reply_to, state_by, state_after}
-use Rattle.nest_core.specs.Paragraphs.{set_behind, paragraph_checks, paragraph_answer, with_paragraph}
+use Rattle.nest_core.specs.Paragraphs.{set_behind, paragraph_checks, early_paragraph_checks, paragraph_answer, with_paragraph}
 use Rattle.nest_core.specs.Runs.{early_checks}
 
 -- Why a paragraph does not end, what is answered, and what is left.
@@ -49,8 +49,8 @@ module _ (s : State) (l : OpenList) (running : s.over ≡ false) (is : innermost
       by_refusal s (refused s) (lists_left s) ∙ ap (λ o. state_by o s (record s { nest = lists_left s })) refused_so
       ∙ ap (state_by (first_of (checks s End)) s) left_so
 
-  early_so : is_none (innermost (outer s.nest)) ≡ false → first_of (early_checks s End) ≡ None
-  early_so around = rw (running, is, opened, around) refl
+  early_so : first_of (early_paragraph_checks s.params (outer s.nest) (items_in (innermost s.nest))) ≡ first_of (early_checks s End)
+  early_so = rw (running, is, opened) refl
 
 -- What the nest answers and leaves is what the command does.
 module _ (t s : State) (l : OpenList) (same : t ≡ s) (running : s.over ≡ false) (is : innermost t.nest ≡ Some l) (opened : l.purpose ≡ Paragraph) where
@@ -67,9 +67,10 @@ module _ (t s : State) (l : OpenList) (same : t ≡ s) (running : s.over ≡ fal
       ap (λ (lists : List OpenList). record t { nest = lists }) told ∙ state_so t l runs is opened ∙ ap (λ (x : State). state_after x End) same
   end_state (Err e) now told = told
 
-  pub end_early : {E : Type 0} (result : Result Reply E) → OnErr result (is_none (innermost (outer t.nest)) ≡ false) → OnErr result (first_of (early_checks s End) ≡ None)
+  pub end_early : {E : Type 0} (result : Result Reply E) → OnErr result (first_of (early_paragraph_checks t.params (outer t.nest) (items_in (innermost t.nest))) ≡ None)
+      → OnErr result (first_of (early_checks s End) ≡ None)
   end_early (Ok reply) told = told
-  end_early (Err e) told = ap (λ (x : State). first_of (early_checks x End)) (sym same) ∙ early_so t l runs is opened told
+  end_early (Err e) told = ap (λ (x : State). first_of (early_checks x End)) (sym same) ∙ sym (early_so t l runs is opened) ∙ told
 
 -- A paragraph that is opened.
 par_so : (s : State) → s.over ≡ false → first_of (par_checks s.nest) ≡ first_of (checks s commands.Paragraph)

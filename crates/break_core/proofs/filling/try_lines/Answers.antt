@@ -2,7 +2,7 @@ use Rattle.std.proofs.Common.{◌≡◌, ◌∙◌, ◌+◌, ◌≤◌, ◌&&◌
 use Rattle.std.proofs.lemmas.Int.{ints}
 use Rattle.std.specs.Prelude.{slice_index_or}
 use Rattle.std.proofs.lemmas.List.{length-map}
-use Rattle.std.proofs.lemmas.Option.{slice_get-get_or}
+use Rattle.std.proofs.lemmas.Option.{slice_get-get_or, slice_get_within}
 use Rattle.break_cost.specs.Sizes.{least_width}
 use Rattle.break_core.specs.declared.filling.Live.{Live}
 use Rattle.break_core.specs.Trials.{is_overfull}
@@ -13,7 +13,7 @@ use Rattle.break_core.proofs.Overfull.{overfull_of}
 use Rattle.break_core.proofs.Endings.{long_found, over_found, pruned_is, goes_on, ended_quiet}
 use Rattle.break_core.proofs.Lives.{group_at, groups_kept, over_kept}
 use Rattle.break_core.proofs.Active.{next_active, row_quiet, row_end, front_more, front_end}
-use Rattle.break_core.proofs.Counts.{swept_more, fresh_more}
+use Rattle.break_core.proofs.Counts.{swept_more, fresh_more, kept_more, tried_more}
 use Rattle.break_core.proofs.filling.try_lines.Goals as goal
 
 pub try_line-sums-requires-clause-later : goal.try_line-sums-requires-clause-later
@@ -151,6 +151,13 @@ returns-in_err-keep_group-clause-trials g c =
     (g.M.Meter.trials c.try_line-sums.new.self) inv.swept inv.fresh next.later next.group.earlier next.trying c.try_line-sums.ensures.counted
     c.try_line-sums.ensures.others
 
+pub returns-in_err-keep_group-clause-kept : goal.returns-in_err-keep_group-clause-kept
+returns-in_err-keep_group-clause-kept g c =
+    let none : Live = record { group = record { place = 0; start = 0; end = 0 }; over = None } in
+    let live = slice_index_or c.args.lives.now c.loop-live.live-index none in
+    kept_more live.group.place (g.M.Meter.trials c.args.meter.now) (g.M.Meter.trials c.loop-live.meter) (g.M.Meter.trials c.try_line-sums.new.self)
+    c.loop-live.invariant.kept c.try_line-sums.ensures.counted c.try_line-sums.ensures.others
+
 pub loop-live-preserved : goal.loop-live-preserved
 loop-live-preserved g c =
     let f = g.M.Meter.facts c.args.meter.now in
@@ -193,6 +200,11 @@ loop-live-preserved g c =
       swept = swept_more stop c.args.place inv.low group.place (g.M.Meter.trials c.args.meter.now) (g.M.Meter.trials c.loop-live.meter)
           (g.M.Meter.trials c.try_line-sums.new.self) inv.swept inv.fresh next.later next.group.earlier next.trying c.try_line-sums.ensures.counted
           c.try_line-sums.ensures.others;
+      kept = kept_more group.place (g.M.Meter.trials c.args.meter.now) (g.M.Meter.trials c.loop-live.meter) (g.M.Meter.trials c.try_line-sums.new.self) inv.kept
+          c.try_line-sums.ensures.counted c.try_line-sums.ensures.others;
+      tried = tried_more groups c.loop-live.live-index group (g.M.Meter.trials c.args.meter.now) (g.M.Meter.trials c.loop-live.meter)
+          (g.M.Meter.trials c.try_line-sums.new.self) inv.tried inv.kept (group_at c.args.lives.now c.loop-live.live-index live here)
+          c.try_line-sums.ensures.counted c.try_line-sums.ensures.others;
       at = group.end;
       low = group.place + 1;
       fresh = fresh_more inv.low group.place (g.M.Meter.trials c.args.meter.now) (g.M.Meter.trials c.loop-live.meter)
@@ -236,3 +248,9 @@ returns-clause-live g c =
     let inv = c.loop-live.invariant in
     let past : length groups ≤ c.loop-live.live-index = omega (arith, c.loop-live-test.false, length-map c.args.lives.now (λ (x : Live). x.group)) in
     front_end p stop table c.args.place inv.at inv.low c.loop-live.live-index groups (groups_of c.loop-live.offers.next.items) past inv.live inv.front
+
+pub returns-clause-tried : goal.returns-clause-tried
+returns-clause-tried g c =
+    let groups = groups_of c.args.lives.now in
+    λ k h is. c.loop-live.invariant.tried k h
+    (omega (arith, c.loop-live-test.false, length-map c.args.lives.now (λ (x : Live). x.group), slice_get_within groups k h is)) is
