@@ -1,1 +1,2 @@
 mod NextLines
+mod PartLemmas
