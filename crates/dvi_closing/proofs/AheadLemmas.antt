@@ -1,5 +1,5 @@
 -- What is looked ahead, one instruction after the other.
-use Rattle.std.proofs.Common.{◌≡◌, ◌≤◌, ◌<◌, ◌+◌, ◌-◌, ◌++◌, ◌||◌, [], ◌∷◌, List, length, take, drop, ℕ, ℤ, Bool, true, false, Option, Some, None, if◌then◌else◌, cond, refl, sym, ◌∙◌, ap, ap₂, subst, append-nil, arith}
+use Rattle.std.proofs.Common.{◌≡◌, ◌≤◌, ◌<◌, ◌-◌, ◌++◌, ◌||◌, [], ◌∷◌, List, length, take, drop, ℕ, ℤ, Bool, true, false, Option, Some, None, if◌then◌else◌, cond, refl, sym, Result, Ok, Err, OnErr, ◌∙◌, ap, ap₂, subst, append-nil, arith}
 use Rattle.std.specs.BTreeSet.{BTreeSet, Updates}
 use Rattle.std.specs.List.{AllByRecursion}
 use Rattle.std.specs.Option.{is_some}
@@ -134,3 +134,8 @@ none_idle bytes at to j there other i stands idle = other (subst (λ (i : Instru
 -- The same numbers, from list to list.
 pub same_numbers : (old new : List ℤ) (ahead : List Definition) → new ≡ old → AreNumbersOf old ahead → AreNumbersOf new ahead
 same_numbers old new ahead same has f = ap (λ (ks : List ℤ). has_number ks f) same ∙ has f
+
+-- What holds in any case holds where there is an error.
+pub on_any : {A E : Type 0} (P : Type 0) (r : Result A E) → P → OnErr r P
+on_any P (Ok x) p = tt
+on_any P (Err y) p = p

@@ -17,7 +17,10 @@ use Rattle.dvi_frame.specs.declared.fault.FrameFault.{FrameFault}
 use Rattle.dvi_frame.specs.declared.fault.FrameFault.TheVariants.{OutOfMemory, Bad}
 use Rattle.dvi_frame.proofs.PlaceLemmas.{one_stands}
 use Rattle.dvi_pass.specs.Known.{HasSame}
-use Rattle.dvi_closing.specs.Closing.{BreaksClosing, Closes, ClosesOne, ClosesTo, IsClosingFault, IsFaultAt}
+use Rattle.dvi_pass.specs.Turning.{fault_at}
+use Rattle.dvi_pass.specs.declared.turning.PassFault.{PassFault}
+use Rattle.dvi_pass.specs.declared.turning.PassFault.TheVariants as faults
+use Rattle.dvi_closing.specs.Closing.{BreaksClosing, Closes, ClosesOne, ClosesTo, IsClosingFault, IsDefinitionFault, IsFaultAt}
 use Rattle.dvi_pass.proofs.KnownLemmas.{same_after, same_right, same_self, same_sym}
 
 -- What was read stands there.
@@ -138,3 +141,10 @@ sized_one known i right = tt
 pub sized_all : (known : List Definition) (is : List Instruction) → FontsAreRight known is → AllByRecursion (λ d. IsSize d.size) (definitions is)
 sized_all known [] right = tt
 sized_all known (i ∷ is) (here, right) = all_append (λ d. IsSize d.size) (definition_of i) (definitions is) (sized_one known i here) (sized_all (definition_of i ++ known) is right)
+
+-- A definition that stands there is refused.
+pub definition_fault : (bytes : List ℕ) (at to : ℕ) (old new : List Definition) (d : Definition) (fault : PassFault) → new ≡ old → StandsAt bytes at to (Do (FontDef d)) → IsDefinitionFault old d fault
+    → IsFaultAt bytes at to old new (fault_at at fault)
+definition_fault bytes at to old new d faults.OutOfMemory same stands right = (same, d, stands, right)
+definition_fault bytes at to old new d (faults.Broken cause) same stands (is, wrong) =
+    (refl, same, subst (λ (cause : DviCause). BreaksClosing bytes at to old cause) (sym is) (d, stands, wrong))

@@ -40,10 +40,10 @@ fn look_one(
     };
     match op {
         Op::Nop => Ok(Some(next)),
-        Op::FontDef(font) => match numbers.insert(font.number) {
-            Ok(_) => Ok(Some(next)),
-            Err(_) => Err(AllocError),
-        },
+        Op::FontDef(font) => {
+            numbers.insert(font.number)?;
+            Ok(Some(next))
+        }
         _ => Ok(None),
     }
 }
@@ -65,10 +65,9 @@ pub fn look_ahead(
     let mut numbers = BTreeSet::new(alloc);
     let mut at = from;
     while at < to {
-        at = match look_one(bytes, at, to, &mut numbers) {
-            Ok(Some(next)) => next,
-            Ok(None) => return Ok(numbers),
-            Err(refusal) => return Err(refusal),
+        at = match look_one(bytes, at, to, &mut numbers)? {
+            Some(next) => next,
+            None => return Ok(numbers),
         };
     }
     Ok(numbers)

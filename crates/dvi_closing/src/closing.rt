@@ -6,20 +6,7 @@ ghost use Rattle.dvi_closing.specs.Closing.{ClosesOne, ClosesTo, IsClosingFault,
 use crate::known::define;
 use dvi_fonts::KnownFonts;
 use dvi_frame::{BadDvi, DviCause, FrameFault, read_at};
-use dvi_ops::{Op, OpFault};
-use dvi_pass::PassFault;
-
-/// Why no instruction stands at a place.
-fn fault_at(place: usize, fault: OpFault) -> FrameFault
-    ensures opcode { fault ≡ OpFault.Opcode → result ≡ FrameFault.Bad (record { place = place; cause = DviCause.Opcode }) }
-    ensures truncated { fault ≡ OpFault.Truncated → result ≡ FrameFault.Bad (record { place = place; cause = DviCause.Truncated }) }
-{
-    let cause = match fault {
-        OpFault::Opcode => DviCause::Opcode,
-        OpFault::Truncated => DviCause::Truncated,
-    };
-    FrameFault::Bad(BadDvi { place, cause })
-}
+use dvi_ops::Op;
 
 /// One instruction, which is a nop or a right definition, and the place behind it.
 fn close_one<'a>(
@@ -35,14 +22,18 @@ fn close_one<'a>(
 {
     let (op, next) = match read_at(bytes, at, to) {
         Ok(found) => found,
-        Err(fault) => return Err(fault_at(at, fault)),
+        Err(fault) => {
+            return Err(FrameFault::Bad(BadDvi {
+                place: at,
+                cause: DviCause::from(fault),
+            }));
+        }
     };
     match op {
         Op::Nop => Ok(next),
         Op::FontDef(font) => match define(known, &font) {
             Ok(()) => Ok(next),
-            Err(PassFault::Broken(cause)) => Err(FrameFault::Bad(BadDvi { place: at, cause })),
-            Err(PassFault::OutOfMemory) => Err(FrameFault::OutOfMemory),
+            Err(fault) => Err(fault.at(at)),
         },
         _ => Err(FrameFault::Bad(BadDvi {
             place: at,
@@ -68,10 +59,7 @@ pub fn close<'a>(
 {
     let mut at = from;
     while at < to {
-        at = match close_one(bytes, at, to, known) {
-            Ok(next) => next,
-            Err(fault) => return Err(fault),
-        };
+        at = close_one(bytes, at, to, known)?;
     }
     Ok(())
 }

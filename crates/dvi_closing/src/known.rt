@@ -10,13 +10,14 @@ use dvi_fonts::KnownFonts;
 use dvi_frame::DviCause;
 use dvi_ops::FontDefinition;
 use dvi_pass::PassFault;
+use tfm_core::FontSize;
 
 /// Whether the size of a font is 1 to 2^27 - 1.
 fn has_size(font: &FontDefinition<'_>) -> bool
     ensures yes { result ≡ true → IsSize font.now.size }
     ensures no { result ≡ false → IsSize font.now.size → ⊥ }
 {
-    0 < font.size && font.size < 134_217_728
+    FontSize::try_new(i64::from(font.size)).is_some()
 }
 
 /// Puts a definition behind those that are known. It is refused where its size is out of range, or where another one of its number differs (DVItype, 18).
@@ -35,8 +36,6 @@ pub fn define<'a>(known: &mut KnownFonts<'a>, font: &FontDefinition<'a>) -> Resu
     if !known.agrees(font) {
         return Err(PassFault::Broken(DviCause::Font));
     }
-    if known.push(font).is_err() {
-        return Err(PassFault::OutOfMemory);
-    }
+    known.push(font)?;
     Ok(())
 }

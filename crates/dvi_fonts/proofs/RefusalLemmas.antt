@@ -1,9 +1,13 @@
--- A refused font has no widths; what holds a metric file breaks no rule.
-use Rattle.std.proofs.Common.{◌≡◌, ◌≢◌, List, ℕ, ℤ, Option, None, Some, Result, Ok, Err, refl, sym, ◌∙◌}
+-- A refused font has no widths; what holds a metric file breaks no rule; an error that `?` hands on.
+use Rattle.std.proofs.Common.{◌≡◌, ◌≢◌, List, ℕ, ℤ, Option, None, Some, Result, Ok, Err, false, refl, sym, ◌∙◌, subst}
+use Rattle.std.specs.Result.{IfErr, IsErrAnd}
 use Rattle.dvi_ops.specs.Instruction.{Definition}
-use Rattle.dvi_fonts.specs.Widths.{IsFontRefusal}
+use Rattle.dvi_fonts.specs.Widths.{IsFontRefusal, IsSizedRefusal, of_size}
 use Rattle.dvi_fonts.specs.declared.widths.FontRefusal.{FontRefusal}
 use Rattle.dvi_fonts.specs.declared.widths.FontRefusal.TheVariants.{OutOfMemory, NoFont, BadTfm, DimensionTooLarge}
+use Rattle.tfm_core.specs.declared.fault.FontFault.{FontFault}
+use Rattle.tfm_core.specs.declared.fault.FontFault.TheVariants as sizes
+use Rattle.tfm_core.specs.Fonts.{fits_at}
 use Rattle.tfm_core.specs.FileWidths.{file_widths, widths_by, widths_of_file}
 use Rattle.tfm_core.specs.MetricFile.{MetricFile}
 use Rattle.tfm_core.specs.NamedBytes.{NamedBytes, file_named}
@@ -35,3 +39,14 @@ widths_room files d w e = by_file (file_named d.name files) refl e
     by_file : (found : Option NamedBytes) → file_named d.name files ≡ found → widths_of_file found d.size ≡ Some w → IsFontRefusal files d OutOfMemory
     by_file None is e = absurd cc
     by_file (Some file) is e = (file, is, by_read file (metric_file file.bytes) refl e)
+
+-- What holds of an error holds of what is returned for it.
+pub handed_on : {A E : Type 0} (P : E → Type 0) (r : Result A E) (e : E) → IsErrAnd r (λ y. y ≡ e) → P e → IfErr r P
+handed_on P (Ok x) e given p = tt
+handed_on P (Err y) e given p = subst P (sym given) p
+
+-- A metric file that was read gives no font at a size.
+pub size_refused : (bytes : List ℕ) (size : ℤ) (metrics : MetricFile) (fault : FontFault) → metric_file bytes ≡ Ok metrics → (fault ≡ sizes.DimensionTooLarge → fits_at metrics size ≡ false)
+    → IsSizedRefusal bytes size (of_size fault)
+size_refused bytes size metrics sizes.OutOfMemory is unfit = front_holds bytes metrics is
+size_refused bytes size metrics sizes.DimensionTooLarge is unfit = (metrics, is, unfit refl)

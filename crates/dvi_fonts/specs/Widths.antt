@@ -1,6 +1,10 @@
 -- Why a font has no widths, by the font files (own).
 use Rattle.std.specs.Prelude.{◌≡◌, ◌<◌, List, ℕ, ℤ, false, Some, None, Ok, Err}
 use Rattle.dvi_ops.specs.Instruction.{Definition}
+use Rattle.tfm_core.specs.declared.fault.FontFault.{FontFault}
+use Rattle.tfm_core.specs.declared.fault.FontFault.TheVariants as sizes
+use Rattle.tfm_core.specs.declared.fault.TfmFault.{TfmFault}
+use Rattle.tfm_core.specs.declared.fault.TfmFault.TheVariants as files
 use Rattle.tfm_core.specs.declared.font.GlyphSize.{GlyphSize}
 use Rattle.tfm_core.specs.Fonts.{SizedFont, fits_at, glyph_of}
 use Rattle.tfm_core.specs.MetricFile.{MetricFile}
@@ -13,13 +17,17 @@ use Rattle.dvi_fonts.specs.declared.widths.FontRefusal.TheVariants.{OutOfMemory,
 abbrev pub HasBytes : SizedFont → Type 0
 HasBytes font = (code : ℕ) (size : GlyphSize) → glyph_of font code ≡ Some size → code < 256
 
--- Some bytes hold no metric file; or memory is wanting for its tables: the rules that need no table are looked at before any growth.
-abbrev pub IsTfmRefusal : List ℕ → FontRefusal → Type 0
-IsTfmRefusal bytes OutOfMemory = broken_in_front bytes ≡ None
-IsTfmRefusal bytes (BadTfm cause) = metric_file bytes ≡ Err cause
-IsTfmRefusal bytes refusal = ⊥
+-- What is said of a font where its metric file was not read (own).
+abbrev pub of_file : TfmFault → FontRefusal
+of_file files.OutOfMemory = OutOfMemory
+of_file (files.Bad cause) = BadTfm cause
 
--- Some bytes hold no metric file, or one of its dimensions at a size does not fit; or memory is wanting for it.
+-- The same where it was read, but not at that size (own).
+abbrev pub of_size : FontFault → FontRefusal
+of_size sizes.OutOfMemory = OutOfMemory
+of_size sizes.DimensionTooLarge = DimensionTooLarge
+
+-- Some bytes hold no metric file, or one of its dimensions at a size does not fit; or memory is wanting for its tables: the rules that need no table are looked at before any growth.
 abbrev pub IsSizedRefusal : List ℕ → (size : ℤ) → FontRefusal → Type 0
 IsSizedRefusal bytes size OutOfMemory = broken_in_front bytes ≡ None
 IsSizedRefusal bytes size NoFont = ⊥

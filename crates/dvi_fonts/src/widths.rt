@@ -3,7 +3,7 @@
 ghost use Rattle.std.specs.Prelude.{◌≡◌, Ok, Some, IfOk, IfErr};
 ghost use Rattle.dvi_ops.specs.Fonts.{IsSize};
 ghost use Rattle.dvi_ops.specs.View.{definition};
-ghost use Rattle.dvi_fonts.specs.Widths.{HasBytes, IsFontRefusal, IsSizedRefusal, IsTfmRefusal};
+ghost use Rattle.dvi_fonts.specs.Widths.{HasBytes, IsFontRefusal, IsSizedRefusal, of_file, of_size};
 ghost use Rattle.tfm_core.specs.FileWidths.{file_widths, width_at, widths_by};
 ghost use Rattle.tfm_core.specs.Rules.{metric_file};
 
@@ -29,15 +29,25 @@ pub enum FontRefusal {
     DimensionTooLarge,
 }
 
-/// The metric file that some bytes hold.
-fn metric_file(alloc: Global, bytes: &[u8]) -> Result<Tfm, FontRefusal>
-    ensures ok { IfOk result (λ tfm. metric_file bytes.now ≡ Ok tfm) }
-    ensures bad { IfErr result (IsTfmRefusal bytes.now) }
-{
-    match Tfm::read(alloc, bytes) {
-        Ok(tfm) => Ok(tfm),
-        Err(TfmFault::OutOfMemory) => Err(FontRefusal::OutOfMemory),
-        Err(TfmFault::Bad(cause)) => Err(FontRefusal::BadTfm(cause)),
+impl From<TfmFault> for FontRefusal {
+    ghost from_gives = { λ fault refusal. refusal ≡ of_file fault };
+
+    fn from(fault: TfmFault) -> FontRefusal {
+        match fault {
+            TfmFault::OutOfMemory => FontRefusal::OutOfMemory,
+            TfmFault::Bad(cause) => FontRefusal::BadTfm(cause),
+        }
+    }
+}
+
+impl From<FontFault> for FontRefusal {
+    ghost from_gives = { λ fault refusal. refusal ≡ of_size fault };
+
+    fn from(fault: FontFault) -> FontRefusal {
+        match fault {
+            FontFault::DimensionTooLarge => FontRefusal::DimensionTooLarge,
+            FontFault::OutOfMemory => FontRefusal::OutOfMemory,
+        }
     }
 }
 
@@ -57,15 +67,9 @@ fn sized_font(alloc: Global, bytes: &[u8], font: &FontDefinition<'_>) -> Result<
     ensures bytes { IfOk result HasBytes }
     ensures bad { IfErr result (IsSizedRefusal bytes.now font.now.size) }
 {
-    let tfm = match metric_file(alloc, bytes) {
-        Ok(tfm) => tfm,
-        Err(refusal) => return Err(refusal),
-    };
-    match Font::at_size(alloc, &tfm, size_of(font)) {
-        Ok(read) => Ok(read),
-        Err(FontFault::DimensionTooLarge) => Err(FontRefusal::DimensionTooLarge),
-        Err(FontFault::OutOfMemory) => Err(FontRefusal::OutOfMemory),
-    }
+    let tfm = Tfm::read(alloc, bytes)?;
+    let read = Font::at_size(alloc, &tfm, size_of(font))?;
+    Ok(read)
 }
 
 /// The font that a definition means: the first file of its name, at its size. The area is not looked at (own). It takes memory for the font.
@@ -82,8 +86,6 @@ pub fn read_font(
     // What a refusal says of the files is so.
     ensures bad { IfErr result (IsFontRefusal files.now (definition font.now)) }
 {
-    match file_named(files, font.name) {
-        Some(file) => sized_font(alloc, file.bytes(), font),
-        None => Err(FontRefusal::NoFont),
-    }
+    let file = file_named(files, font.name).ok_or(FontRefusal::NoFont)?;
+    sized_font(alloc, file.bytes(), font)
 }

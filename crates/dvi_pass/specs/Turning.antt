@@ -5,6 +5,8 @@ use Rattle.dvi_ops.specs.Body.{Acts, Mark, State, Widths, kept, kept_in}
 use Rattle.dvi_ops.specs.File.{MarkedPage}
 use Rattle.dvi_frame.specs.declared.fault.DviCause.{DviCause}
 use Rattle.dvi_frame.specs.declared.fault.DviCause.TheVariants.{Opcode, Stack, Glyph, Range}
+use Rattle.dvi_frame.specs.declared.fault.FrameFault.{FrameFault}
+use Rattle.dvi_frame.specs.declared.fault.FrameFault.TheVariants as frames
 use Rattle.dvi_pass.specs.Pass.{Pass, Between, Inside, turn}
 use Rattle.dvi_pass.specs.View.{mark_of, placed, stated}
 use Rattle.dvi_pass.specs.declared.turning.OpenPage.{OpenPage}
@@ -56,6 +58,11 @@ TakesRoom does most i p = ⊥
 abbrev pub IsTurnFault : Acts → (most : ℕ) → Instruction → Pass → PassFault → Type 0
 IsTurnFault does most i p OutOfMemory = TakesRoom does most i p
 IsTurnFault does most i p (Broken cause) = BreaksTurn does most i p cause
+
+-- The same of an instruction at a place of the file.
+abbrev pub fault_at : (place : ℕ) → PassFault → FrameFault
+fault_at place OutOfMemory = frames.OutOfMemory
+fault_at place (Broken cause) = frames.Bad (record { place = place; cause = cause })
 
 -- What was found for an instruction that takes the pass from one place to another.
 abbrev pub Turns : {A : Type 0} → Acts → (most : ℕ) → Instruction → (old new : Pass) → Result A PassFault → Type 0

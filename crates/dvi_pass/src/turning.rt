@@ -7,13 +7,13 @@ ghost use Rattle.dvi_ops.specs.Instruction.{Eop, Pop, Push};
 ghost use Rattle.dvi_ops.specs.View.{view};
 ghost use Rattle.dvi_pass.specs.Drawing.{always};
 ghost use Rattle.dvi_pass.specs.Pass.{Between};
-ghost use Rattle.dvi_pass.specs.Turning.{Turns, TurnsPage, inside_of, pass_at};
+ghost use Rattle.dvi_pass.specs.Turning.{Turns, TurnsPage, fault_at, inside_of, pass_at};
 ghost use Rattle.dvi_pass.specs.View.{page_of};
 ghost use Rattle.dvi_pass.specs.declared.turning.PassFault.TheVariants.{OutOfMemory, Broken};
 
 use crate::drawing::Size;
 use crate::page::{Mark, Page, Place, State};
-use dvi_frame::DviCause;
+use dvi_frame::{BadDvi, DviCause, FrameFault};
 use dvi_ops::Op;
 use smallvec::SmallVec;
 use std::alloc::{AllocError, AllocFailed, Global};
@@ -68,6 +68,18 @@ impl From<DviCause> for PassFault {
 
     fn from(cause: DviCause) -> PassFault {
         PassFault::Broken(cause)
+    }
+}
+
+impl PassFault {
+    /// The fault of the instruction at a place.
+    pub fn at(self, place: usize) -> FrameFault
+        ensures { result ≡ fault_at place self }
+    {
+        match self {
+            PassFault::OutOfMemory => FrameFault::OutOfMemory,
+            PassFault::Broken(cause) => FrameFault::Bad(BadDvi { place, cause }),
+        }
     }
 }
 

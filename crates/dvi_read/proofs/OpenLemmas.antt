@@ -27,6 +27,7 @@ use Rattle.dvi_read.specs.Opened.{Opened, GivesPages, HasFontsOf, HasUnitsOf, Is
 use Rattle.dvi_read.specs.Opening.{HasPages, IsDviFault, IsStray, StartsAt, ForPlaces, InTheChain, AtPost, AfterPost, ForDefinitions}
 use Rattle.dvi_read.specs.Parts.{IsFinishFault}
 use Rattle.dvi_read.proofs.FaultLemmas.{behind_within, no_fault, post_within}
+use Rattle.dvi_walk.specs.Faults.{of_frame}
 use Rattle.dvi_walk.specs.Stops.{HasEnded, IsWalkFault}
 use Rattle.dvi_walk.specs.declared.fault.DviFault.{DviFault}
 use Rattle.dvi_walk.specs.declared.fault.DviFault.TheVariants as faults
@@ -35,10 +36,10 @@ use Rattle.tfm_core.specs.FileWidths.{file_widths}
 use Rattle.tfm_core.specs.NamedBytes.{NamedBytes}
 
 -- A refusal of the chain.
-pub chain_refused : (files : List NamedBytes) (bytes : List ℕ) (post e : ℕ) (stop : Postamble) (fault : FrameFault) (result : DviFault) → Ends bytes post e stop → IsChainRefusal bytes post stop fault
-    → ((bad : BadDvi) → fault ≡ frames.Bad bad → result ≡ faults.Bad bad) → (fault ≡ frames.OutOfMemory → result ≡ faults.OutOfMemory) → IsDviFault files bytes result
-chain_refused files bytes post e stop frames.OutOfMemory result ends named bad memory = ForPlaces post e stop (memory refl) ends named
-chain_refused files bytes post e stop (frames.Bad fault) result ends broken bad memory = InTheChain fault post e stop (bad fault refl) ends broken
+pub chain_refused : (files : List NamedBytes) (bytes : List ℕ) (post e : ℕ) (stop : Postamble) (fault : FrameFault) → Ends bytes post e stop → IsChainRefusal bytes post stop fault
+    → IsDviFault files bytes (of_frame fault)
+chain_refused files bytes post e stop frames.OutOfMemory ends named = ForPlaces post e stop refl ends named
+chain_refused files bytes post e stop (frames.Bad fault) ends broken = InTheChain fault post e stop refl ends broken
 
 -- What is after the preamble begins the walk.
 pub starts_reached : (files : List NamedBytes) (bytes : List ℕ) (post behind last : ℕ) (stop : Postamble) (chain : List ℕ) (from : ℕ) (ahead : List ℤ) → StartsAt bytes post behind last stop chain from
@@ -167,13 +168,10 @@ pub exact_open : (files : List NamedBytes) (bytes : List ℕ) (result : Result O
 exact_open files bytes result read bad = λ pages f. exactly files bytes result pages read bad f
 
 -- What is wrong after post.
-pub tail_refused : (bytes : List ℕ) (post behind last : ℕ) (p : Pass) (left : Left) (pages : List MarkedPage) (known new : List Definition) (fault : FrameFault) (result : DviFault) → HasEnded p left pages
-    → IsClosingFault bytes behind (last - 5) known new fault
-    → ((bad : BadDvi) → fault ≡ frames.Bad bad → result ≡ faults.Bad bad) → (fault ≡ frames.OutOfMemory → result ≡ faults.OutOfMemory) → IsFinishFault bytes post behind last p left known result
-tail_refused bytes post behind last p left pages known new frames.OutOfMemory result ended wants bad memory =
-    subst (λ (f : DviFault). IsFinishFault bytes post behind last p left known f) (sym (memory refl)) (pages, ended, new, wants)
-tail_refused bytes post behind last p left pages known new (frames.Bad fault) result ended broken bad memory =
-    subst (λ (f : DviFault). IsFinishFault bytes post behind last p left known f) (sym (bad fault refl)) (inr (pages, ended, new, broken))
+pub tail_refused : (bytes : List ℕ) (post behind last : ℕ) (p : Pass) (left : Left) (pages : List MarkedPage) (known new : List Definition) (fault : FrameFault) → HasEnded p left pages
+    → IsClosingFault bytes behind (last - 5) known new fault → IsFinishFault bytes post behind last p left known (of_frame fault)
+tail_refused bytes post behind last p left pages known new frames.OutOfMemory ended wants = (pages, ended, new, wants)
+tail_refused bytes post behind last p left pages known new (frames.Bad fault) ended broken = inr (pages, ended, new, broken)
 
 -- The same, of pages that are equal to those of the walk.
 pub read_kept : (files : List NamedBytes) (bytes : List ℕ) (post behind last : ℕ) (stop : Postamble) (chain : List ℕ) (from : ℕ) (ahead : List ℤ) (seen : SoFar) (pages kept : List MarkedPage)

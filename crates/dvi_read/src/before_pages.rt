@@ -1,12 +1,11 @@
 //! What is found before the pages are read: the end of the file, the places of its pages, its preamble (DVItype, 15 to 20).
 
-ghost use Rattle.std.specs.Prelude.{◌≡◌, List, IfErr, IfOk};
-ghost use Rattle.dvi_frame.specs.declared.fault.BadDvi.{BadDvi};
+ghost use Rattle.std.specs.Prelude.{List, IfErr, IfOk};
 ghost use Rattle.dvi_read.specs.Opening.{IsDviFault};
 ghost use Rattle.dvi_read.specs.Parts.{HasFront};
 ghost use Rattle.tfm_core.specs.NamedBytes.{NamedBytes};
 
-use dvi_frame::{Ending, FrameFault, chain, ends, preamble};
+use dvi_frame::{Ending, chain, ends, preamble};
 use dvi_walk::DviFault;
 use std::alloc::Global;
 
@@ -21,34 +20,14 @@ pub struct Front {
     pub from: usize,
 }
 
-/// A fault of the end and of the places of pages.
-pub(crate) fn of_frame(fault: FrameFault) -> DviFault
-    ensures bad { (bad : BadDvi) → fault ≡ FrameFault.Bad bad → result ≡ DviFault.Bad bad }
-    ensures memory { fault ≡ FrameFault.OutOfMemory → result ≡ DviFault.OutOfMemory }
-{
-    match fault {
-        FrameFault::Bad(bad) => DviFault::Bad(bad),
-        FrameFault::OutOfMemory => DviFault::OutOfMemory,
-    }
-}
-
 /// Finds the end of a file, the places of its pages, and its preamble, in this order. It takes memory for the places.
 pub fn find_front(alloc: Global, bytes: &[u8]) -> Result<Front, DviFault>
     ensures ok { IfOk result (HasFront bytes.now) }
     ensures bad { IfErr result (λ fault. (files : List NamedBytes) → IsDviFault files bytes.now fault) }
 {
-    let ending = match ends(bytes) {
-        Ok(ending) => ending,
-        Err(bad) => return Err(DviFault::Bad(bad)),
-    };
-    let chain = match chain(alloc, bytes, &ending) {
-        Ok(chain) => chain,
-        Err(fault) => return Err(of_frame(fault)),
-    };
-    let from = match preamble(bytes, &ending) {
-        Ok(from) => from,
-        Err(bad) => return Err(DviFault::Bad(bad)),
-    };
+    let ending = ends(bytes)?;
+    let chain = chain(alloc, bytes, &ending)?;
+    let from = preamble(bytes, &ending)?;
     Ok(Front {
         ending,
         chain,

@@ -24,7 +24,7 @@ use tfm_core::FontFile;
 #[derive(Drop)]
 pub struct Dvi<'a> {
     units: Units,
-    pages: Vec<Page>,
+    pages: Vec<Page<'a>>,
     fonts: Vec<FontDefinition<'a>>,
 }
 
@@ -60,23 +60,14 @@ fn read_file<'a>(alloc: Global, bytes: &'a [u8], files: &[FontFile]) -> Result<D
     ensures ok { IfOk result (IsReadFrom files.now bytes.now) }
     ensures bad { IfErr result (IsDviFault files.now bytes.now) }
 {
-    let front = match find_front(alloc, bytes) {
-        Ok(front) => front,
-        Err(fault) => return Err(fault),
-    };
     let Front {
         ending,
         chain,
         from,
-    } = front;
-    let mut walk = match read_pages(alloc, bytes, files, &ending, from, chain) {
-        Ok(walk) => walk,
-        Err(fault) => return Err(fault),
-    };
-    match finish(bytes, &ending, &mut walk) {
-        Ok(()) => Ok(kept(ending.stop.units, walk)),
-        Err(fault) => Err(fault),
-    }
+    } = find_front(alloc, bytes)?;
+    let mut walk = read_pages(alloc, bytes, files, &ending, from, chain)?;
+    finish(bytes, &ending, &mut walk)?;
+    Ok(kept(ending.stop.units, walk))
 }
 
 impl<'a> Dvi<'a> {
@@ -107,7 +98,7 @@ impl<'a> Dvi<'a> {
     }
 
     /// A page, with its number counted from 0.
-    pub fn page(&self, index: usize) -> &Page
+    pub fn page(&self, index: usize) -> &Page<'a>
         requires { index < length self.now.pages }
         ensures { slice_get self.now.pages index ≡ Some (page_of result.now) }
     {

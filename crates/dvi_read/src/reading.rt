@@ -9,10 +9,9 @@ ghost use Rattle.dvi_read.specs.Parts.{HoldsPages, IsFinishFault};
 ghost use Rattle.dvi_walk.specs.Steps.{known_of, places_left, stand_of};
 ghost use Rattle.dvi_walk.specs.Stops.{HasEnded};
 
-use crate::before_pages::of_frame;
 use dvi_closing::{close, look_ahead};
 use dvi_frame::Ending;
-use dvi_walk::{DviFault, Walk, pages_end, walk_pages};
+use dvi_walk::{DviFault, Source, Walk, pages_end, walk_pages};
 use std::alloc::Global;
 use tfm_core::FontFile;
 
@@ -31,14 +30,14 @@ pub(crate) fn read_pages<'a>(
     ensures ok { IfOk result (HoldsPages files.now bytes.now ending.now.post ending.now.behind ending.now.last (postamble ending.now.stop) chain.items from) }
     ensures bad { IfErr result (IsDviFault files.now bytes.now) }
 {
-    let ahead = match look_ahead(alloc, bytes, ending.behind, ending.last - 5) {
-        Ok(ahead) => ahead,
-        Err(_) => return Err(DviFault::OutOfMemory),
+    let ahead = look_ahead(alloc, bytes, ending.behind, ending.last - 5)?;
+    let source = Source {
+        bytes,
+        files,
+        ahead: &ahead,
+        ending,
     };
-    match walk_pages(alloc, bytes, files, &ahead, ending, from, chain) {
-        Ok(walk) => Ok(walk),
-        Err(fault) => Err(fault),
-    }
+    walk_pages(alloc, &source, from, chain)
 }
 
 /// Ends a walk at post's place, and reads what is after post.
@@ -54,11 +53,7 @@ pub(crate) fn finish<'a>(
     ensures done { walk.new.done.items ≡ walk.old.done.items }
     ensures bad { IfErr result (IsFinishFault bytes.now ending.now.post ending.now.behind ending.now.last (stand_of walk.old) (places_left walk.old) (known_of walk.old)) }
 {
-    if let Err(bad) = pages_end(walk, ending.post) {
-        return Err(DviFault::Bad(bad));
-    }
-    match close(bytes, ending.behind, ending.last - 5, &mut walk.known) {
-        Ok(()) => Ok(()),
-        Err(fault) => Err(of_frame(fault)),
-    }
+    pages_end(walk, ending.post)?;
+    close(bytes, ending.behind, ending.last - 5, &mut walk.known)?;
+    Ok(())
 }

@@ -1,16 +1,16 @@
 -- One instruction of the pages: its width is that of the file's fonts, and the font that is selected behind it was read.
-use Rattle.std.proofs.Common.{◌≡◌, ◌++◌, [], ◌∷◌, List, map, ℕ, ℤ, Option, Some, None, refl, sym, ◌∙◌, ap, ap₂, subst, subst₂, inl, inr}
+use Rattle.std.proofs.Common.{◌≡◌, ◌≢◌, ◌++◌, ◌&&◌, if◌then◌else◌, [], ◌∷◌, Bool, true, false, List, map, ℕ, ℤ, Option, Some, None, refl, sym, ◌∙◌, ap, ap₂, subst, subst₂, inl, inr}
 use Rattle.std.specs.Prelude.{◌⊎◌, IsSome}
 use Rattle.std.specs.List.{AllByRecursion}
 use Rattle.dvi_frame.specs.declared.fault.DviCause.{DviCause}
 use Rattle.dvi_frame.specs.declared.fault.DviCause.TheVariants.{Glyph, Range}
-use Rattle.dvi_ops.specs.Body.{Mark, Place, State, Meaning, Widths, acts, glyph, glyph_of, kept, kept_in, put_glyph, set_glyph}
+use Rattle.dvi_ops.specs.Body.{Mark, Place, State, Meaning, Widths, acts, glyph, glyph_of, in_range, kept, kept_in, put_glyph, set_glyph}
 use Rattle.dvi_ops.specs.File.{MarkedPage}
 use Rattle.dvi_ops.specs.Fonts.{Metrics, IsRightAfter, definition_of, font, selection_of, widths_of, width_in as width_of_font}
 use Rattle.dvi_ops.specs.Tokens.{place_of}
 use Rattle.dvi_ops.specs.Instruction.{Definition, Leaf, SetChar, PutChar, FontNum, FontDef, Instruction, Do}
 use Rattle.dvi_pass.specs.Drawing.{always}
-use Rattle.dvi_pass.specs.Pass.{Pass, Between, Inside, turn}
+use Rattle.dvi_pass.specs.Pass.{Pass, Between, Inside, drawn, turn}
 use Rattle.dvi_pass.specs.Reached.{Left, behind_bops}
 use Rattle.dvi_pass.specs.Turning.{BreaksTurn, IsAsked, TakesRoom, pass_at}
 use Rattle.dvi_pass.specs.View.{page_of}
@@ -18,32 +18,28 @@ use Rattle.dvi_pass.specs.declared.turning.Stand.{Stand}
 use Rattle.dvi_pass.specs.declared.turning.Stand.TheVariants as stands
 use Rattle.dvi_pass.proofs.FontLemmas.{current_of, turn_font}
 use Rattle.dvi_pass.proofs.WidthLemmas.{one_width}
-use Rattle.dvi_walk.specs.ReadFonts.{AreSound, IsCurrent, ReadFonts, asked_width, code_in, read_of, selected_in, width_in}
+use Rattle.dvi_walk.specs.ReadFonts.{AreSound, Chooses, HasCurrent, IsCurrent, IsRead, asked_width, code_in, selected_in, width_in}
+use Rattle.dvi_walk.specs.declared.read_fonts.ReadFonts.{ReadFonts}
 use Rattle.dvi_walk.specs.Steps.{AreRead, BreaksNote, BreaksPass, LacksFont, LacksNote, Notes, PassesOn, Steps, StopsStep, known_of, so_far, stand_of}
 use Rattle.dvi_walk.specs.Stops.{BreaksRest, GoesOn, IsUnread, LacksRoom, WantsMemory}
 use Rattle.dvi_walk.specs.declared.fault.StepFault.{StepFault}
 use Rattle.dvi_walk.specs.declared.fault.StepFault.TheVariants.{OutOfMemory, Broken, Refused}
 use Rattle.dvi_walk.specs.declared.walk.Walk.{Walk}
-use Rattle.dvi_walk.proofs.SelectLemmas.{not_read, some_is, sound_more}
+use Rattle.dvi_walk.proofs.SelectLemmas.{not_read, sound_more}
 use Rattle.tfm_core.specs.FileWidths.{file_widths}
 use Rattle.tfm_core.specs.Fonts.{SizedFont}
 use Rattle.tfm_core.specs.NamedBytes.{NamedBytes}
 
--- The width of a character in a read font is that of the file's font.
-width_of_read : (metrics : Metrics) (table : List Definition) (fonts : ReadFonts) (selected : Option ℤ) (c : ℤ) → AreSound metrics table fonts
-    → ((f : ℤ) → selected ≡ Some f → IsSome (read_of f fonts)) → (f : ℤ) → selected ≡ Some f → asked_width fonts selected (Some c) ≡ widths_of metrics table f c
-width_of_read metrics table fonts None c sound current f e = absurd cc
-width_of_read metrics table fonts (Some g) c sound current f e =
-    let same : g ≡ f = cc in
-    let (read, is) = some_is (read_of f fonts) (current f e) in
-    ap (λ (n : ℤ). width_in (read_of n fonts) c) same
-    ∙ (ap (λ (o : Option SizedFont). width_in o c) is
-    ∙ sym (ap (λ (o : Option (ℤ → Option ℤ)). width_of_font o c) (sound f read is).widths))
+-- The width of a character in the font that was selected last is that of the file's font.
+width_of_read : (metrics : Metrics) (table : List Definition) (fonts : ReadFonts) (c f : ℤ) → AreSound metrics table fonts → HasCurrent f fonts → asked_width fonts (Some c) ≡ widths_of metrics table f c
+width_of_read metrics table fonts c f sound current =
+    let (read, there, widths) = sound.widths f fonts.current current in
+    ap (λ (o : Option SizedFont). width_in o c) there ∙ sym (ap (λ (o : Option (ℤ → Option ℤ)). width_of_font o c) widths)
 
 pub asked_is : (metrics : Metrics) (table : List Definition) (fonts : ReadFonts) (pages : List MarkedPage) (i : Instruction) (stand : Stand) → AreSound metrics table fonts → IsCurrent fonts stand
-    → IsAsked (widths_of metrics table) i (pass_at pages stand) (asked_width fonts (selected_in stand) (code_in i))
-asked_is metrics table fonts pages (Do (SetChar c)) (stands.Inside page) sound current = width_of_read metrics table fonts page.state.font c sound current
-asked_is metrics table fonts pages (Do (PutChar c)) (stands.Inside page) sound current = width_of_read metrics table fonts page.state.font c sound current
+    → IsAsked (widths_of metrics table) i (pass_at pages stand) (asked_width fonts (code_in i))
+asked_is metrics table fonts pages (Do (SetChar c)) (stands.Inside page) sound current = λ f e. width_of_read metrics table fonts c f sound (current f e)
+asked_is metrics table fonts pages (Do (PutChar c)) (stands.Inside page) sound current = λ f e. width_of_read metrics table fonts c f sound (current f e)
 asked_is metrics table fonts pages i stand sound current = tt
 
 -- What is broken with the width that is asked for is broken with the widths of the fonts.
@@ -73,6 +69,37 @@ current_same : (pages : List MarkedPage) (stand : Stand) → current_of (pass_at
 current_same pages stands.Between = refl
 current_same pages (stands.Inside page) = refl
 
+-- A selection, or another instruction.
+by_choice : (i : Instruction) (old new : ReadFonts) → Chooses i old new → ((g : ℤ) × (i ≡ Do (FontNum g)) × HasCurrent g new) ⊎ (((g : ℤ) → i ≢ Do (FontNum g)) × (new ≡ old))
+by_choice (Do (FontNum g)) old new chosen = inl (g, refl, chosen)
+by_choice i old new chosen = inr ((λ g e. absurd cc), chosen)
+
+-- After a selection its font is the one that is selected.
+selected_now : (widths : Widths) (most : ℕ) (g : ℤ) (p q : Pass) (f : ℤ) → turn (kept (acts widths)) most (Do (FontNum g)) p ≡ Some q → current_of q ≡ Some f → g ≡ f
+selected_now widths most g (Between pages) q f e at = absurd cc
+selected_now widths most g (Inside pages counts marks stack s) q f e at = go (in_range s.place.h && in_range s.place.v) e
+  where
+    go : (b : Bool) → drawn pages counts marks stack (if b then Some ([], record s { font = Some g }) else None) ≡ Some q → g ≡ f
+    go true e =
+        let same : Inside pages counts (marks ++ []) stack (record s { font = Some g }) ≡ q = cc in
+        let fonts : Some g ≡ Some f = ap current_of same ∙ at in cc
+    go false e = absurd cc
+
+-- The font that is selected after an instruction was read, and no other was selected since.
+current_next : (widths : Widths) (most : ℕ) (i : Instruction) (p q : Pass) (f : ℤ) (old new : ReadFonts) → turn (kept (acts widths)) most i p ≡ Some q → current_of q ≡ Some f
+    → ((g : ℤ) → current_of p ≡ Some g → HasCurrent g old) → Chooses i old new → HasCurrent f new
+current_next widths most i p q f old new e at before chosen = by (by_choice i old new chosen)
+  where
+    by_font : ((g : ℤ) → i ≢ Do (FontNum g)) → new ≡ old → (current_of p ≡ Some f) ⊎ (i ≡ Do (FontNum f)) → HasCurrent f new
+    by_font other same (inl here) = subst (λ (fonts : ReadFonts). HasCurrent f fonts) (sym same) (before f here)
+    by_font other same (inr is) = absurd (other f is)
+
+    by : ((g : ℤ) × (i ≡ Do (FontNum g)) × HasCurrent g new) ⊎ (((g : ℤ) → i ≢ Do (FontNum g)) × (new ≡ old)) → HasCurrent f new
+    by (inl (g, is, current)) =
+        let turned = subst (λ (i : Instruction). turn (kept (acts widths)) most i p ≡ Some q) is e in
+        subst (λ (n : ℤ). HasCurrent n new) (selected_now widths most g p q f turned at) current
+    by (inr (other, same)) = by_font other same (turn_font widths most i p q f e at)
+
 -- One instruction more.
 pub stepped : (files : List NamedBytes) (ahead : List ℤ) (most at : ℕ) (i : Instruction) (old mid new : Walk) → AreSound (file_widths files) (known_of old) old.fonts
     → IsCurrent old.fonts old.stand → PassesOn most i old mid → Notes (file_widths files) ahead at i mid new → Steps (file_widths files) ahead most at i old new
@@ -82,7 +109,7 @@ stepped files ahead most at i old mid new sound current passes notes =
     let asked = asked_is metrics table old.fonts (map page_of old.done.items) i old.stand sound current in
     let same_stand : stand_of new ≡ stand_of mid = ap₂ (λ (pages : List MarkedPage) (stand : Stand). pass_at pages stand) notes.pages notes.stand in
     let goes_on : turn (kept (acts (widths_of metrics table))) most i (stand_of old) ≡ Some (stand_of new) =
-    sym (one_width (widths_of metrics table) (asked_width old.fonts (selected_in old.stand) (code_in i)) most i (stand_of old) asked) ∙ (passes.goes_on ∙ ap (λ (p : Pass). Some p) (sym same_stand)) in
+    sym (one_width (widths_of metrics table) (asked_width old.fonts (code_in i)) most i (stand_of old) asked) ∙ (passes.goes_on ∙ ap (λ (p : Pass). Some p) (sym same_stand)) in
     record {
       goes_on = goes_on;
       bop = ap (behind_bops (place_of at i)) (sym passes.left) ∙ notes.bop;
@@ -91,26 +118,21 @@ stepped files ahead most at i old mid new sound current passes notes =
       widths = subst (λ (ds : List Definition). AllByRecursion (λ f. IsSome (font metrics ds f)) (selection_of i)) passes.known notes.widths;
       named = notes.named;
       read = notes.read;
-      kept = λ g some. notes.kept g (subst (λ (fonts : ReadFonts). IsSome (read_of g fonts)) (sym passes.fonts) some);
+      kept = λ g some. notes.kept g (subst (λ (fonts : ReadFonts). IsRead g fonts) (sym passes.fonts) some);
       sound = subst (λ (ds : List Definition). AreSound metrics ds new.fonts) (sym notes.known_is) (sound_more metrics (known_of mid) (definition_of i) new.fonts notes.sound);
       current = λ f at_new.
-          by_font f
-          (turn_font (widths_of metrics table) most i (stand_of old) (stand_of new) f goes_on (current_same (map page_of new.done.items) new.stand ∙ at_new));
+          current_next (widths_of metrics table) most i (stand_of old) (stand_of new) f mid.fonts new.fonts goes_on (current_same (map page_of new.done.items) new.stand ∙ at_new)
+          (λ g here. subst (λ (fonts : ReadFonts). HasCurrent g fonts) (sym passes.fonts) (current g (sym (current_same (map page_of old.done.items) old.stand) ∙ here))) notes.chosen;
     }
-  where
-    by_font : (f : ℤ) → (current_of (stand_of old) ≡ Some f) ⊎ (i ≡ Do (FontNum f)) → IsSome (read_of f new.fonts)
-    by_font f (inl before) =
-        notes.kept f (subst (λ (fonts : ReadFonts). IsSome (read_of f fonts)) (sym passes.fonts) (current f (sym (current_same (map page_of old.done.items) old.stand) ∙ before)))
-    by_font f (inr is) = let there : AreRead new.fonts (f ∷ []) = subst (λ (i : Instruction). AreRead new.fonts (selection_of i)) is notes.read in there.0
 
 -- A fault of the pass, and one of what is noted.
 pub pass_fault : (files : List NamedBytes) (ahead : List ℤ) (most at : ℕ) (i : Instruction) (old : Walk) (fault : StepFault) → AreSound (file_widths files) (known_of old) old.fonts
     → IsCurrent old.fonts old.stand → BreaksPass most i old fault → StopsStep files ahead most at i old fault
 pass_fault files ahead most at i old OutOfMemory sound current b selected read =
-    inl (room_same (widths_of (file_widths files) (known_of old)) (asked_width old.fonts (selected_in old.stand) (code_in i)) most i (stand_of old)
+    inl (room_same (widths_of (file_widths files) (known_of old)) (asked_width old.fonts (code_in i)) most i (stand_of old)
     (asked_is (file_widths files) (known_of old) old.fonts (map page_of old.done.items) i old.stand sound current) b)
 pass_fault files ahead most at i old (Broken cause) sound current b selected read =
-    inl (breaks_same (widths_of (file_widths files) (known_of old)) (asked_width old.fonts (selected_in old.stand) (code_in i)) most i (stand_of old) cause
+    inl (breaks_same (widths_of (file_widths files) (known_of old)) (asked_width old.fonts (code_in i)) most i (stand_of old) cause
     (asked_is (file_widths files) (known_of old) old.fonts (map page_of old.done.items) i old.stand sound current) b)
 pass_fault files ahead most at i old (Refused refusal) sound current b selected read = absurd b
 
@@ -132,7 +154,7 @@ goes_on files selected most i old mid sound current passes =
     let table : List Definition = known_of old in
     let asked = asked_is (file_widths files) table old.fonts (map page_of old.done.items) i old.stand sound current in
     let next : turn (kept (acts (widths_of (file_widths files) table))) most i (stand_of old) ≡ Some (stand_of mid) =
-    sym (one_width (widths_of (file_widths files) table) (asked_width old.fonts (selected_in old.stand) (code_in i)) most i (stand_of old) asked) ∙ passes.goes_on in
+    sym (one_width (widths_of (file_widths files) table) (asked_width old.fonts (code_in i)) most i (stand_of old) asked) ∙ passes.goes_on in
     subst (λ (p : Option Pass). IsSome p) (sym next) refl
 
 pub note_fault : (files : List NamedBytes) (ahead : List ℤ) (most at : ℕ) (i : Instruction) (old mid : Walk) (fault : StepFault) → AreSound (file_widths files) (known_of old) old.fonts

@@ -1,6 +1,6 @@
 -- The walk over the pages: one instruction more, and why it stops.
 use Rattle.std.proofs.Common.{◌≡◌, ◌≢◌, ◌≤◌, ◌-◌, ◌++◌, min, [], ◌∷◌, Bool, true, false, List, length, reverse, ℕ, ℤ, Option, Some, None, map, refl, sym, ◌∙◌, ap, ap₂, subst, inl, inr, arith}
-use Rattle.std.specs.Prelude.{◌⊎◌, IsSome}
+use Rattle.std.specs.Prelude.{◌⊎◌, IsSome, slice_get}
 use Rattle.std.proofs.lemmas.List.{reverse-reverse}
 use Rattle.std.specs.BTreeMap.{is_at}
 use Rattle.std.specs.List.{AllByRecursion}
@@ -30,10 +30,11 @@ use Rattle.dvi_pass.specs.declared.turning.Stand.{Stand}
 use Rattle.dvi_pass.specs.declared.turning.Stand.TheVariants as stands
 use Rattle.dvi_pass.proofs.ReachedLemmas.{next_right, reached_next}
 use Rattle.dvi_pass.proofs.TurnLemmas.{broken_turn}
-use Rattle.dvi_walk.specs.ReadFonts.{IsCurrent, read_of}
+use Rattle.dvi_walk.specs.ReadFonts.{IsCurrent, IsRead}
+use Rattle.dvi_walk.specs.Faults.{fault_in}
 use Rattle.dvi_walk.specs.Steps.{BreaksStep, StopsStep, known_of, places_left, so_far, stand_of}
 use Rattle.dvi_walk.specs.Stops.{BreaksPages, BreaksRest, BreaksRule, IsPagesFault, IsUnended, IsWalkFault, LacksWidths}
-use Rattle.dvi_walk.specs.Walks.{IsBegun, IsWalked, Reads, StopsReading, fault_in}
+use Rattle.dvi_walk.specs.Walks.{IsBegun, IsWalked, Reads, StopsReading}
 use Rattle.dvi_walk.specs.declared.fault.DviFault.{DviFault}
 use Rattle.dvi_walk.specs.declared.fault.DviFault.TheVariants as faults
 use Rattle.dvi_walk.specs.declared.fault.StepFault.{StepFault}
@@ -70,13 +71,13 @@ taken files ahead bytes most at post s i (Refused refusals.NoFont) stands (f, is
 taken files ahead bytes most at post s i (Refused (refusals.BadTfm cause)) stands (f, is, unread) = (f, subst (λ (i : Instruction). StandsAt bytes at post i) is stands, unread)
 taken files ahead bytes most at post s i (Refused refusals.DimensionTooLarge) stands (f, is, unread) = (f, subst (λ (i : Instruction). StandsAt bytes at post i) is stands, unread)
 
-pub taken_fault : (files : List NamedBytes) (ahead : List ℤ) (bytes : List ℕ) (most at post : ℕ) (walk : Walk) (i : Instruction) (fault : StepFault) → StandsAt bytes at post i
-    → StopsStep files ahead most at i walk fault → StopsReading files ahead bytes most at post walk (fault_in at fault)
-taken_fault files ahead bytes most at post walk i fault stands b selected read = taken files ahead bytes most at post (so_far selected walk) i fault stands (b selected read)
+pub taken_fault : (files : List NamedBytes) (ahead : List ℤ) (bytes : List ℕ) (stop : Postamble) (at post : ℕ) (walk : Walk) (i : Instruction) (fault : StepFault) → StandsAt bytes at post i
+    → StopsStep files ahead (min 1024 stop.stack_depth) at i walk fault → StopsReading files ahead bytes stop at post walk (fault_in at fault)
+taken_fault files ahead bytes stop at post walk i fault stands b selected read = taken files ahead bytes (min 1024 stop.stack_depth) at post (so_far selected walk) i fault stands (b selected read)
 
 -- One instruction more.
 pub walked_more : (metrics : Metrics) (ahead : List ℤ) (bytes : List ℕ) (stop : Postamble) (chain : List ℕ) (at post next : ℕ) (old new : Walk) → post ≤ length bytes
-    → IsWalked metrics ahead bytes stop chain at old → Reads metrics ahead bytes (min 1024 stop.stack_depth) at post old new next → IsWalked metrics ahead bytes stop chain next new
+    → IsWalked metrics ahead bytes stop chain at old → Reads metrics ahead bytes stop at post old new next → IsWalked metrics ahead bytes stop chain next new
 walked_more metrics ahead bytes stop chain at post next old new high walked reads =
     let steps = reads.steps in
     let forward = reads.forward in
@@ -88,8 +89,8 @@ walked_more metrics ahead bytes stop chain at post next old new high walked read
       selected = selected;
       reached = reached_next metrics ahead bytes stop chain at next (so_far walked.selected old) (so_far selected new) reads.here (omega arith) (omega arith) walked.reached reads.spelled right;
       read =
-          all_append (λ f. IsSome (read_of f new.fonts)) walked.selected (selection_of reads.here)
-          (all_weaker (λ f. IsSome (read_of f old.fonts)) (λ f. IsSome (read_of f new.fonts)) walked.selected steps.kept walked.read) steps.read;
+          all_append (λ f. IsRead f new.fonts) walked.selected (selection_of reads.here)
+          (all_weaker (λ f. IsRead f old.fonts) (λ f. IsRead f new.fonts) walked.selected steps.kept walked.read) steps.read;
       sound = steps.sound;
       current = steps.current;
     }
@@ -176,8 +177,10 @@ walked_first metrics ahead bytes stop chain from walk begun reached =
       selected = [];
       reached = subst (λ (l : Left). IsReached metrics ahead bytes stop chain from (record { pass = stand_of walk; known = known_of walk; selected = nothing; left = l })) left two;
       read = tt;
-      sound = λ f read there.
-          let none : None ≡ Some read = sym (ap (λ (fonts : List (ℤ × SizedFont)). lookup (is_at (int_cmp f)) fonts) begun.fonts) ∙ there in absurd cc;
+      sound = record {
+        widths = λ f place there. (let none : None ≡ Some place = sym (ap (λ (places : List (ℤ × ℕ)). lookup (is_at (int_cmp f)) places) begun.places) ∙ there in absurd cc);
+        codes = λ place read there. (let none : None ≡ Some read = sym (ap (λ (fonts : List SizedFont). slice_get fonts place) begun.fonts) ∙ there in absurd cc);
+      };
       current = subst (λ (stand : Stand). IsCurrent walk.fonts stand) (sym begun.stand) (λ f none. absurd cc);
     }
 
@@ -190,7 +193,3 @@ left_over walk post closed some =
     by_rule : (walk.missed ≡ true) ⊎ (walk.left.items ≢ []) → places_left walk ≡ all_left [] → ⊥
     by_rule (inl missed) same = let both : true ≡ false = sym missed ∙ ap (λ (l : Left). l.missed) same in cc
     by_rule (inr some) same = some (sym (reverse-reverse walk.left.items) ∙ ap (λ (l : Left). reverse l.places) same)
-
--- The lesser of two, either way.
-pub least : (a b : ℕ) → min a b ≡ min b a
-least a b = omega arith

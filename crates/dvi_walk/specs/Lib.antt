@@ -1,4 +1,5 @@
 pub mod ReadFonts
+pub mod Faults
 pub mod Stops
 pub mod Steps
 pub mod Walks

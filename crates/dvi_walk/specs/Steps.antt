@@ -13,7 +13,8 @@ use Rattle.dvi_pass.specs.Pass.{Pass, turn}
 use Rattle.dvi_pass.specs.Reached.{HasWidths, Left, SoFar, behind_bops, has_number}
 use Rattle.dvi_pass.specs.Turning.{BreaksTurn, TakesRoom, pass_at}
 use Rattle.dvi_pass.specs.View.{page_of}
-use Rattle.dvi_walk.specs.ReadFonts.{AreSound, IsCurrent, ReadFonts, asked_width, code_in, read_of, selected_in}
+use Rattle.dvi_walk.specs.ReadFonts.{AreSound, Chooses, HasCurrent, IsCurrent, IsRead, asked_width, code_in, font_place}
+use Rattle.dvi_walk.specs.declared.read_fonts.ReadFonts.{ReadFonts}
 use Rattle.dvi_walk.specs.Stops.{BreaksRest, BreaksRule, IsUnread, SelectsUnread, TakesMemory}
 use Rattle.dvi_walk.specs.declared.fault.StepFault.{StepFault}
 use Rattle.dvi_walk.specs.declared.fault.StepFault.TheVariants.{OutOfMemory, Broken, Refused}
@@ -25,9 +26,9 @@ use Rattle.tfm_core.specs.NamedBytes.{NamedBytes}
 pub record Selects (metrics : Metrics) (ahead : List ℤ) (known : List Definition) (f : ℤ) (old new : ReadFonts) : Type 0 where
   pub named : has_number ahead f ≡ true
   pub widths : HasWidths metrics known f
-  pub read : IsSome (read_of f new)
+  pub current : HasCurrent f new
   pub sound : AreSound metrics known new
-  pub kept : (g : ℤ) → IsSome (read_of g old) → IsSome (read_of g new)
+  pub kept : (g : ℤ) → IsRead g old → IsRead g new
 
 -- A selected font is not defined before, or its number is not defined after post.
 abbrev pub IsUndefined : (ahead : List ℤ) → (known : List Definition) → ℤ → Type 0
@@ -36,7 +37,7 @@ IsUndefined ahead known f = (defined f known ≡ None) ⊎ (has_number ahead f �
 -- Memory is wanting for a font: it was not read, and a file of its name was handed in, which breaks no rule that needs no table.
 pub record LacksFont (files : List NamedBytes) (ahead : List ℤ) (known : List Definition) (f : ℤ) (fonts : ReadFonts) : Type 0 where
   pub named : has_number ahead f ≡ true
-  pub new : read_of f fonts ≡ None
+  pub new : font_place f fonts ≡ None
   pub font : Definition
   pub found : defined f known ≡ Some font
   pub file : IsFontRefusal files font refusals.OutOfMemory
@@ -65,7 +66,7 @@ so_far selected walk = record { pass = stand_of walk; known = known_of walk; sel
 
 -- Each of these fonts was read.
 abbrev pub AreRead : ReadFonts → List ℤ → Type 0
-AreRead fonts selected = AllByRecursion (λ f. IsSome (read_of f fonts)) selected
+AreRead fonts selected = AllByRecursion (λ f. IsRead f fonts) selected
 
 -- What an instruction says of pages and fonts is right, and was kept: a bop is among what is left of the chain, a definition is after the others, a
 -- selected font was read.
@@ -75,8 +76,9 @@ pub record Notes (metrics : Metrics) (ahead : List ℤ) (at : ℕ) (i : Instruct
   pub known_is : known_of new ≡ known_of old ++ definition_of i
   pub widths : AllByRecursion (HasWidths metrics (known_of old)) (selection_of i)
   pub named : AllByRecursion (λ f. has_number ahead f ≡ true) (selection_of i)
-  pub read : AllByRecursion (λ f. IsSome (read_of f new.fonts)) (selection_of i)
-  pub kept : (g : ℤ) → IsSome (read_of g old.fonts) → IsSome (read_of g new.fonts)
+  pub read : AllByRecursion (λ f. IsRead f new.fonts) (selection_of i)
+  pub chosen : Chooses i old.fonts new.fonts
+  pub kept : (g : ℤ) → IsRead g old.fonts → IsRead g new.fonts
   pub sound : AreSound metrics (known_of old) new.fonts
   pub pages : map page_of new.done.items ≡ map page_of old.done.items
   pub stand : new.stand ≡ old.stand
@@ -93,9 +95,9 @@ BreaksNote files ahead at i walk OutOfMemory = LacksNote files ahead i walk
 BreaksNote files ahead at i walk (Broken cause) = BreaksRest ahead (known_of walk) at (places_left walk) i cause
 BreaksNote files ahead at i walk (Refused refusal) = (f : ℤ) × (i ≡ Do (FontNum f)) × IsUnread files ahead (known_of walk) f refusal
 
--- The width of the character that an instruction sets or puts, in the font that is selected.
+-- The width of the character that an instruction sets or puts, in the font that was selected last.
 abbrev pub asked_of : Walk → Instruction → Option ℤ
-asked_of walk i = asked_width walk.fonts (selected_in walk.stand) (code_in i)
+asked_of walk i = asked_width walk.fonts (code_in i)
 
 -- The pass goes on, and all else stays.
 pub record PassesOn (most : ℕ) (i : Instruction) (old new : Walk) : Type 0 where
@@ -118,8 +120,8 @@ pub record Steps (metrics : Metrics) (ahead : List ℤ) (most at : ℕ) (i : Ins
   pub known_is : known_of new ≡ known_of old ++ definition_of i
   pub widths : AllByRecursion (HasWidths metrics (known_of old)) (selection_of i)
   pub named : AllByRecursion (λ f. has_number ahead f ≡ true) (selection_of i)
-  pub read : AllByRecursion (λ f. IsSome (read_of f new.fonts)) (selection_of i)
-  pub kept : (g : ℤ) → IsSome (read_of g old.fonts) → IsSome (read_of g new.fonts)
+  pub read : AllByRecursion (λ f. IsRead f new.fonts) (selection_of i)
+  pub kept : (g : ℤ) → IsRead g old.fonts → IsRead g new.fonts
   pub sound : AreSound metrics (known_of new) new.fonts
   pub current : IsCurrent new.fonts new.stand
 

@@ -1,8 +1,7 @@
 -- The walk over the pages of a file, as the code goes it (own). No clause of a call that other crates use to read a file reaches these definitions, but for `IsWalked`: they speak of what
 -- the code holds.
-use Rattle.std.specs.Prelude.{◌≡◌, ◌≤◌, ◌<◌, ◌-◌, [], false, List, drop, take, ℕ, ℤ}
+use Rattle.std.specs.Prelude.{◌≡◌, ◌≤◌, ◌<◌, ◌-◌, min, [], false, List, drop, take, ℕ, ℤ}
 use Rattle.std.specs.BTreeMap.{IsEmpty}
-use Rattle.dvi_fonts.specs.declared.widths.FontRefusal.TheVariants as refusals
 use Rattle.dvi_ops.specs.Fonts.{Metrics}
 use Rattle.dvi_ops.specs.Instruction.{Instruction, Postamble}
 use Rattle.dvi_ops.specs.Table.{Spells}
@@ -12,9 +11,6 @@ use Rattle.dvi_walk.specs.ReadFonts.{AreSound, IsCurrent}
 use Rattle.dvi_walk.specs.Steps.{AreRead, Steps, known_of, so_far}
 use Rattle.dvi_walk.specs.Stops.{IsPagesFault}
 use Rattle.dvi_walk.specs.declared.fault.DviFault.{DviFault}
-use Rattle.dvi_walk.specs.declared.fault.DviFault.TheVariants as faults
-use Rattle.dvi_walk.specs.declared.fault.StepFault.{StepFault}
-use Rattle.dvi_walk.specs.declared.fault.StepFault.TheVariants.{OutOfMemory, Broken, Refused}
 use Rattle.dvi_walk.specs.declared.walk.Walk.{Walk}
 use Rattle.tfm_core.specs.NamedBytes.{NamedBytes}
 
@@ -27,31 +23,23 @@ pub record IsWalked (metrics : Metrics) (ahead : List ℤ) (bytes : List ℕ) (s
   pub current : IsCurrent walk.fonts walk.stand
 
 -- One instruction was read and taken.
-pub record Reads (metrics : Metrics) (ahead : List ℤ) (bytes : List ℕ) (most at post : ℕ) (old new : Walk) (next : ℕ) : Type 0 where
+pub record Reads (metrics : Metrics) (ahead : List ℤ) (bytes : List ℕ) (stop : Postamble) (at post : ℕ) (old new : Walk) (next : ℕ) : Type 0 where
   pub forward : at < next
   pub within : next ≤ post
   pub here : Instruction
   pub spelled : Spells here (take (next - at) (drop at bytes))
-  pub steps : Steps metrics ahead most at here old new
+  pub steps : Steps metrics ahead (min 1024 stop.stack_depth) at here old new
 
 -- None was taken, whichever fonts were selected so far, where each of them was read.
-abbrev pub StopsReading : List NamedBytes → (ahead : List ℤ) → (bytes : List ℕ) → (most at post : ℕ) → Walk → DviFault → Type 0
-StopsReading files ahead bytes most at post walk fault = (selected : List ℤ) → AreRead walk.fonts selected → IsPagesFault files ahead bytes most at post (so_far selected walk) fault
-
--- The fault of an instruction at a place.
-abbrev pub fault_in : ℕ → StepFault → DviFault
-fault_in place OutOfMemory = faults.OutOfMemory
-fault_in place (Broken cause) = faults.Bad (record { place = place; cause = cause })
-fault_in place (Refused refusals.OutOfMemory) = faults.OutOfMemory
-fault_in place (Refused refusals.NoFont) = faults.NoFont
-fault_in place (Refused (refusals.BadTfm cause)) = faults.BadTfm cause
-fault_in place (Refused refusals.DimensionTooLarge) = faults.DimensionTooLarge
+abbrev pub StopsReading : List NamedBytes → (ahead : List ℤ) → (bytes : List ℕ) → Postamble → (at post : ℕ) → Walk → DviFault → Type 0
+StopsReading files ahead bytes stop at post walk fault = (selected : List ℤ) → AreRead walk.fonts selected → IsPagesFault files ahead bytes (min 1024 stop.stack_depth) at post (so_far selected walk) fault
 
 -- A walk that stands before the first page.
 pub record IsBegun (left : List ℕ) (walk : Walk) : Type 0 where
   pub stand : walk.stand ≡ stands.Between
   pub done : walk.done.items ≡ []
   pub known : walk.known ≡ []
-  pub fonts : IsEmpty walk.fonts
+  pub fonts : walk.fonts.all.items ≡ []
+  pub places : IsEmpty walk.fonts.places
   pub left_is : walk.left.items ≡ left
   pub missed : walk.missed ≡ false

@@ -1,7 +1,12 @@
 //! Why a DVI file is refused.
 
+ghost use Rattle.std.specs.Prelude.{◌≡◌};
+ghost use Rattle.dvi_walk.specs.Faults.{fault_in, of_font, of_frame, of_pass};
+
 use dvi_fonts::FontRefusal;
-use dvi_frame::{BadDvi, DviCause};
+use dvi_frame::{BadDvi, DviCause, FrameFault};
+use dvi_pass::PassFault;
+use std::alloc::AllocError;
 use tfm_core::TfmCause;
 use thiserror::Error;
 
@@ -37,4 +42,83 @@ pub enum DviFault {
     /// A dimension of a selected font, at its size, does not fit.
     #[error("a dimension of a font is too large")]
     DimensionTooLarge,
+}
+
+impl From<AllocError> for StepFault {
+    ghost use Rattle.dvi_walk.specs.declared.fault.StepFault.TheVariants.{OutOfMemory};
+
+    ghost from_gives = { λ _ fault. fault ≡ OutOfMemory };
+
+    fn from(_error: AllocError) -> StepFault {
+        StepFault::OutOfMemory
+    }
+}
+
+impl From<PassFault> for StepFault {
+    ghost from_gives = { λ pass fault. fault ≡ of_pass pass };
+
+    fn from(fault: PassFault) -> StepFault {
+        match fault {
+            PassFault::OutOfMemory => StepFault::OutOfMemory,
+            PassFault::Broken(cause) => StepFault::Broken(cause),
+        }
+    }
+}
+
+impl From<FontRefusal> for StepFault {
+    ghost from_gives = { λ refusal fault. fault ≡ of_font refusal };
+
+    fn from(refusal: FontRefusal) -> StepFault {
+        match refusal {
+            FontRefusal::OutOfMemory => StepFault::OutOfMemory,
+            _ => StepFault::Refused(refusal),
+        }
+    }
+}
+
+impl StepFault {
+    /// The fault of the instruction at a place.
+    pub fn at(self, place: usize) -> DviFault
+        ensures { result ≡ fault_in place self }
+    {
+        match self {
+            StepFault::OutOfMemory => DviFault::OutOfMemory,
+            StepFault::Broken(cause) => DviFault::Bad(BadDvi { place, cause }),
+            StepFault::Refused(FontRefusal::OutOfMemory) => DviFault::OutOfMemory,
+            StepFault::Refused(FontRefusal::NoFont) => DviFault::NoFont,
+            StepFault::Refused(FontRefusal::BadTfm(cause)) => DviFault::BadTfm(cause),
+            StepFault::Refused(FontRefusal::DimensionTooLarge) => DviFault::DimensionTooLarge,
+        }
+    }
+}
+
+impl From<AllocError> for DviFault {
+    ghost use Rattle.dvi_walk.specs.declared.fault.DviFault.TheVariants.{OutOfMemory};
+
+    ghost from_gives = { λ _ fault. fault ≡ OutOfMemory };
+
+    fn from(_error: AllocError) -> DviFault {
+        DviFault::OutOfMemory
+    }
+}
+
+impl From<BadDvi> for DviFault {
+    ghost use Rattle.dvi_walk.specs.declared.fault.DviFault.TheVariants.{Bad};
+
+    ghost from_gives = { λ bad fault. fault ≡ Bad bad };
+
+    fn from(bad: BadDvi) -> DviFault {
+        DviFault::Bad(bad)
+    }
+}
+
+impl From<FrameFault> for DviFault {
+    ghost from_gives = { λ frame fault. fault ≡ of_frame frame };
+
+    fn from(fault: FrameFault) -> DviFault {
+        match fault {
+            FrameFault::OutOfMemory => DviFault::OutOfMemory,
+            FrameFault::Bad(bad) => DviFault::Bad(bad),
+        }
+    }
 }

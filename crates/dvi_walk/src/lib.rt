@@ -15,5 +15,5 @@ pub use fault::{DviFault, StepFault};
 pub use read_fonts::{Code, ReadFonts, width_asked, width_of};
 pub use selecting::select;
 pub use stepping::step;
-pub use walk::Walk;
+pub use walk::{Source, Walk};
 pub use walking::{pages_end, walk_pages};

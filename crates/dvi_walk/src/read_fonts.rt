@@ -1,19 +1,28 @@
 //! The fonts that were read, and the widths of their characters (DVItype, 18; TFtoPL, 11).
 
-ghost use Rattle.std.specs.Prelude.{◌≡◌, option_map};
+ghost use Rattle.std.specs.Prelude.{◌≡◌, ◌++◌, ◌∷◌, [], false, length, option_map, true, ℕ, None, OnErr, OnOk, Some};
+ghost use Rattle.std.specs.BTreeMap.{IsEmpty, Updates};
+ghost use Rattle.std.specs.Ordering.{int_cmp};
 ghost use Rattle.dvi_fonts.specs.Widths.{HasBytes};
 ghost use Rattle.dvi_ops.specs.View.{view};
-ghost use Rattle.dvi_walk.specs.ReadFonts.{HaveByteCodes, asked_width, code_in, read_of, selected_in, width_in};
+ghost use Rattle.dvi_walk.specs.ReadFonts.{AreUnchanged, HaveByteCodes, asked_width, code_in, current_font, font_place, width_in};
 ghost use Rattle.tfm_core.specs.FileWidths.{width_at};
 
 use dvi_fonts::Number;
 use dvi_ops::Op;
-use dvi_pass::Stand;
+use std::alloc::{AllocError, Global};
 use std::collections::BTreeMap;
 use tfm_core::Font;
 
-/// The fonts that were read, by the numbers by which they are selected. One of them is found in time by the logarithm of how many there are.
-pub type ReadFonts = BTreeMap<i32, Font>;
+/// The fonts that were read, in the order of their first selections, the place of each number among them, and the place of the font that was selected last.
+///
+/// A number is looked for at a selection alone, in time by the logarithm of how many fonts there are. A character takes its width from the font at that place.
+#[derive(Drop)]
+pub struct ReadFonts {
+    pub all: Vec<Font>,
+    pub places: BTreeMap<i32, usize>,
+    pub current: usize,
+}
 
 /// The number of a character.
 #[derive(Clone, Copy, Debug, PartialEq, Eq)]
@@ -31,6 +40,58 @@ pub fn width_of(font: &Font, code: Code) -> Option<i32>
     Some(size.width.get())
 }
 
+impl ReadFonts {
+    /// None yet.
+    pub(crate) fn new(alloc: Global) -> ReadFonts
+        ensures all { result.all.items ≡ [] }
+        ensures places { IsEmpty result.places }
+    {
+        ReadFonts {
+            all: Vec::new(alloc),
+            places: BTreeMap::new(alloc),
+            current: 0,
+        }
+    }
+
+    /// Selects the font of a number, if it was read. It takes no memory.
+    pub(crate) fn choose(&mut self, number: Number) -> bool
+        ensures yes { result ≡ true → (place : ℕ) × (font_place number.value self.old ≡ Some place) × (self.new ≡ record self.old { current = place }) }
+        ensures no { result ≡ false → (font_place number.value self.old ≡ None) × (self.new ≡ self.old) }
+    {
+        match self.places.get(&number.value) {
+            Some(place) => {
+                self.current = *place;
+                true
+            }
+            None => false,
+        }
+    }
+
+    /// Takes the font of a number, which is selected then. It takes memory for both.
+    pub(crate) fn add(&mut self, number: Number, font: Font) -> Result<(), AllocError>
+        ensures places { OnOk result (Updates int_cmp self.old.places self.new.places number.value (Some (length self.old.all.items))) }
+        ensures all { OnOk result (self.new.all.items ≡ self.old.all.items ++ font ∷ []) }
+        ensures current { OnOk result (self.new.current ≡ length self.old.all.items) }
+        ensures err { OnErr result (AreUnchanged self.old self.new) }
+    {
+        self.all.reserve(1)?;
+        let place = self.all.len();
+        self.places.insert(number.value, place)?;
+        self.all.push(font).unwrap();
+        self.current = place;
+        Ok(())
+    }
+
+    /// The width of a character in the font that was selected last, if both are there. It takes no memory.
+    fn width(&self, code: Code) -> Option<i32>
+        requires { HaveByteCodes self.now }
+        ensures { result ≡ width_in (current_font self.now) code.value }
+    {
+        let font = self.all.get(self.current)?;
+        width_of(font, code)
+    }
+}
+
 /// The character that an instruction sets or puts, if it does.
 fn code_of(op: &Op<'_>) -> Option<Code>
     ensures { option_map (λ code. code.value) result ≡ code_in (view op.now) }
@@ -42,34 +103,11 @@ fn code_of(op: &Op<'_>) -> Option<Code>
     }
 }
 
-/// The number of the font that is selected where the pass stands, if one is.
-fn selected_in(stand: &Stand) -> Option<Number>
-    ensures { option_map (λ number. number.value) result ≡ selected_in stand.now }
-{
-    match stand {
-        Stand::Between => None,
-        Stand::Inside(page) => {
-            let value = page.state.font?;
-            Some(Number { value })
-        }
-    }
-}
-
-/// The width of a character in the read font of a number, if both are there.
-fn width_in(fonts: &ReadFonts, number: Number, code: Code) -> Option<i32>
+/// The width of the character that an instruction sets or puts, in the font that was selected last. It takes no memory.
+pub fn width_asked(fonts: &ReadFonts, op: &Op<'_>) -> Option<i32>
     requires { HaveByteCodes fonts.now }
-    ensures { result ≡ width_in (read_of number.value fonts.now) code.value }
+    ensures { result ≡ asked_width fonts.now (code_in (view op.now)) }
 {
-    let font = fonts.get(&number.value)?;
-    width_of(font, code)
-}
-
-/// The width of the character that an instruction sets or puts, in the font that is selected where the pass stands. It takes no memory.
-pub fn width_asked(stand: &Stand, fonts: &ReadFonts, op: &Op<'_>) -> Option<i32>
-    requires { HaveByteCodes fonts.now }
-    ensures { result ≡ asked_width fonts.now (selected_in stand.now) (code_in (view op.now)) }
-{
-    let number = selected_in(stand)?;
     let code = code_of(op)?;
-    width_in(fonts, number, code)
+    fonts.width(code)
 }

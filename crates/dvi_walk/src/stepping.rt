@@ -1,6 +1,6 @@
 //! One instruction of the pages, with the fonts of the file (DVItype, 15 and 18).
 
-ghost use Rattle.std.specs.Prelude.{◌≡◌, ◌++◌, ◌∷◌, false, List, reverse, true, ℕ, IfErr, None, OnOk, Some};
+ghost use Rattle.std.specs.Prelude.{◌≡◌, false, min, reverse, true, IfErr, None, OnOk, Some};
 ghost use Rattle.std.specs.List.{AllByRecursion};
 ghost use Rattle.dvi_ops.specs.Fonts.{IsSize};
 ghost use Rattle.dvi_ops.specs.View.{view};
@@ -12,14 +12,16 @@ ghost use Rattle.tfm_core.specs.FileWidths.{file_widths};
 use crate::fault::StepFault;
 use crate::read_fonts::width_asked;
 use crate::selecting::select;
-use crate::walk::Walk;
-use dvi_closing::{NumbersAhead, define};
+use crate::walk::{Source, Walk};
+use dvi_closing::define;
 use dvi_fonts::Number;
-use dvi_frame::DviCause;
+use dvi_frame::{DviCause, Ending};
 use dvi_ops::Op;
-use dvi_pass::{PassFault, turn};
+use dvi_pass::turn;
 use std::alloc::Global;
-use tfm_core::FontFile;
+
+/// How many pushes may be open at once, whatever post says (own).
+const MOST_PUSHES: usize = 1024;
 
 /// Takes the place of a bop, if it is among those that are still to come; those before it are missed. They stand with the last one first.
 fn is_named(left: &mut Vec<usize>, missed: &mut bool, at: usize) -> bool
@@ -38,16 +40,15 @@ fn is_named(left: &mut Vec<usize>, missed: &mut bool, at: usize) -> bool
 /// What an instruction of the pages says of pages and fonts: a bop is named by the chain, a definition is right, a selected font is there.
 fn note<'a>(
     alloc: Global,
-    files: &[FontFile],
-    ahead: &NumbersAhead,
+    source: &Source<'_, 'a>,
     walk: &mut Walk<'a>,
     at: usize,
     op: &Op<'a>,
 ) -> Result<(), StepFault>
     requires sizes { AllByRecursion (λ d. IsSize d.size) (known_of walk.old) }
-    requires sound { AreSound (file_widths files.now) (known_of walk.old) walk.old.fonts }
-    ensures ok { OnOk result (Notes (file_widths files.now) ahead.now.keys at (view op.now) walk.old walk.new) }
-    ensures bad { IfErr result (BreaksNote files.now ahead.now.keys at (view op.now) walk.old) }
+    requires sound { AreSound (file_widths source.now.files.now) (known_of walk.old) walk.old.fonts }
+    ensures ok { OnOk result (Notes (file_widths source.now.files.now) source.now.ahead.now.keys at (view op.now) walk.old walk.new) }
+    ensures bad { IfErr result (BreaksNote source.now.files.now source.now.ahead.now.keys at (view op.now) walk.old) }
 {
     match *op {
         Op::Bop { .. } => {
@@ -57,59 +58,56 @@ fn note<'a>(
                 Err(StepFault::Broken(DviCause::Pointer))
             }
         }
-        Op::FontDef(font) => match define(&mut walk.known, &font) {
-            Ok(()) => Ok(()),
-            Err(PassFault::Broken(cause)) => Err(StepFault::Broken(cause)),
-            Err(PassFault::OutOfMemory) => Err(StepFault::OutOfMemory),
-        },
-        Op::FontNum(value) => select(
-            alloc,
-            files,
-            ahead,
-            &walk.known,
-            &mut walk.fonts,
-            Number { value },
-        ),
+        Op::FontDef(font) => {
+            define(&mut walk.known, &font)?;
+            Ok(())
+        }
+        Op::FontNum(value) => {
+            let number = Number { value };
+            select(alloc, source, &walk.known, &mut walk.fonts, number)
+        }
         _ => Ok(()),
     }
 }
 
 /// Takes an instruction where the pass stands.
-fn pass_on(alloc: Global, most: usize, op: &Op<'_>, walk: &mut Walk<'_>) -> Result<(), StepFault>
+fn pass_on<'a>(
+    alloc: Global,
+    most: usize,
+    op: &Op<'a>,
+    walk: &mut Walk<'a>,
+) -> Result<(), StepFault>
     requires { HaveByteCodes walk.old.fonts }
     ensures ok { OnOk result (PassesOn most (view op.now) walk.old walk.new) }
     ensures bad { IfErr result (BreaksPass most (view op.now) walk.old) }
 {
-    let width = width_asked(&walk.stand, &walk.fonts, op);
-    match turn(alloc, &mut walk.stand, &mut walk.done, most, op, width) {
-        Ok(()) => Ok(()),
-        Err(PassFault::Broken(cause)) => Err(StepFault::Broken(cause)),
-        Err(PassFault::OutOfMemory) => Err(StepFault::OutOfMemory),
-    }
+    let width = width_asked(&walk.fonts, op);
+    turn(alloc, &mut walk.stand, &mut walk.done, most, op, width)?;
+    Ok(())
 }
 
-/// Takes an instruction of the pages at a place, at most so many pushes being open (DVItype, 15 and 18). It takes memory for marks, pages, places, definitions and fonts.
+/// How many pushes may be open at once: as many as post says, but no more than `MOST_PUSHES`.
+fn most_pushes(ending: &Ending) -> usize
+    ensures { result ≡ min 1024 ending.now.stop.stack_depth }
+{
+    MOST_PUSHES.min(usize::from(ending.stop.stack_depth))
+}
+
+/// Takes an instruction of the pages at a place (DVItype, 15 and 18). It takes memory for marks, pages, places, definitions and fonts.
 pub fn step<'a>(
     alloc: Global,
-    files: &[FontFile],
-    ahead: &NumbersAhead,
-    most: usize,
+    source: &Source<'_, 'a>,
     at: usize,
     op: &Op<'a>,
     walk: &mut Walk<'a>,
 ) -> Result<(), StepFault>
     requires sizes { AllByRecursion (λ d. IsSize d.size) (known_of walk.old) }
-    requires sound { AreSound (file_widths files.now) (known_of walk.old) walk.old.fonts }
+    requires sound { AreSound (file_widths source.now.files.now) (known_of walk.old) walk.old.fonts }
     requires current { IsCurrent walk.old.fonts walk.old.stand }
-    ensures ok { OnOk result (Steps (file_widths files.now) ahead.now.keys most at (view op.now) walk.old walk.new) }
+    ensures ok { OnOk result (Steps (file_widths source.now.files.now) source.now.ahead.now.keys (min 1024 source.now.ending.now.stop.stack_depth) at (view op.now) walk.old walk.new) }
     // The rule that a fault names is broken.
-    ensures bad { IfErr result (StopsStep files.now ahead.now.keys most at (view op.now) walk.old) }
+    ensures bad { IfErr result (StopsStep source.now.files.now source.now.ahead.now.keys (min 1024 source.now.ending.now.stop.stack_depth) at (view op.now) walk.old) }
 {
-    if let Err(fault) = pass_on(alloc, most, op, walk) {
-        return Err(fault);
-    }
-    match note(alloc, files, ahead, walk, at, op) {
-        Ok(()) => Ok(()),
-        Err(fault) => Err(fault),
-    }
+    pass_on(alloc, most_pushes(source.ending), op, walk)?;
+    note(alloc, source, walk, at, op)
 }

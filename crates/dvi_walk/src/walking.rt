@@ -9,73 +9,45 @@ ghost use Rattle.dvi_pass.specs.View.{page_of};
 ghost use Rattle.dvi_walk.specs.ReadFonts.{AreSound, IsCurrent};
 ghost use Rattle.dvi_walk.specs.Steps.{known_of, places_left, stand_of};
 ghost use Rattle.dvi_walk.specs.Stops.{HasEnded, IsUnended, IsWalkFault};
-ghost use Rattle.dvi_walk.specs.Walks.{IsBegun, IsWalked, Reads, StopsReading, fault_in};
+ghost use Rattle.dvi_walk.specs.Walks.{IsBegun, IsWalked, Reads, StopsReading};
 ghost use Rattle.tfm_core.specs.FileWidths.{file_widths};
 
-use crate::fault::{DviFault, StepFault};
+use crate::fault::DviFault;
+use crate::read_fonts::ReadFonts;
 use crate::stepping::step;
-use crate::walk::Walk;
-use dvi_closing::NumbersAhead;
-use dvi_fonts::{FontRefusal, KnownFonts};
-use dvi_frame::{BadDvi, DviCause, Ending, read_at};
-use dvi_ops::OpFault;
+use crate::walk::{Source, Walk};
+use dvi_fonts::KnownFonts;
+use dvi_frame::{BadDvi, DviCause, read_at};
 use dvi_pass::Stand;
 use std::alloc::Global;
-use std::collections::BTreeMap;
-use tfm_core::FontFile;
 
-/// Why no instruction stands at a place.
-fn unread(place: usize, fault: OpFault) -> DviFault
-    ensures opcode { fault ≡ OpFault.Opcode → result ≡ DviFault.Bad (record { place = place; cause = DviCause.Opcode }) }
-    ensures truncated { fault ≡ OpFault.Truncated → result ≡ DviFault.Bad (record { place = place; cause = DviCause.Truncated }) }
-{
-    let cause = match fault {
-        OpFault::Opcode => DviCause::Opcode,
-        OpFault::Truncated => DviCause::Truncated,
-    };
-    DviFault::Bad(BadDvi { place, cause })
-}
-
-/// Why the instruction at a place is not taken.
-fn untaken(place: usize, fault: StepFault) -> DviFault
-    ensures { result ≡ fault_in place fault }
-{
-    match fault {
-        StepFault::OutOfMemory => DviFault::OutOfMemory,
-        StepFault::Broken(cause) => DviFault::Bad(BadDvi { place, cause }),
-        StepFault::Refused(FontRefusal::OutOfMemory) => DviFault::OutOfMemory,
-        StepFault::Refused(FontRefusal::NoFont) => DviFault::NoFont,
-        StepFault::Refused(FontRefusal::BadTfm(cause)) => DviFault::BadTfm(cause),
-        StepFault::Refused(FontRefusal::DimensionTooLarge) => DviFault::DimensionTooLarge,
-    }
-}
-
-/// Reads the instruction at a place before post, takes it, and says which place is behind it.
+/// Reads the instruction at a place before post, takes it, and returns the place after it.
 fn read_step<'a>(
     alloc: Global,
-    bytes: &'a [u8],
-    files: &[FontFile],
-    ahead: &NumbersAhead,
-    most: usize,
+    source: &Source<'_, 'a>,
     at: usize,
-    post: usize,
     walk: &mut Walk<'a>,
 ) -> Result<usize, DviFault>
-    requires low { at < post }
-    requires high { post ≤ length bytes.now }
+    requires low { at < source.now.ending.now.post }
+    requires high { source.now.ending.now.post ≤ length source.now.bytes.now }
     requires sizes { AllByRecursion (λ d. IsSize d.size) (known_of walk.old) }
-    requires sound { AreSound (file_widths files.now) (known_of walk.old) walk.old.fonts }
+    requires sound { AreSound (file_widths source.now.files.now) (known_of walk.old) walk.old.fonts }
     requires current { IsCurrent walk.old.fonts walk.old.stand }
-    ensures ok { IfOk result (Reads (file_widths files.now) ahead.now.keys bytes.now most at post walk.old walk.new) }
-    ensures bad { IfErr result (StopsReading files.now ahead.now.keys bytes.now most at post walk.old) }
+    ensures ok { IfOk result (Reads (file_widths source.now.files.now) source.now.ahead.now.keys source.now.bytes.now (postamble source.now.ending.now.stop) at source.now.ending.now.post walk.old walk.new) }
+    ensures bad { IfErr result (StopsReading source.now.files.now source.now.ahead.now.keys source.now.bytes.now (postamble source.now.ending.now.stop) at source.now.ending.now.post walk.old) }
 {
-    let (op, next) = match read_at(bytes, at, post) {
+    let (op, next) = match read_at(source.bytes, at, source.ending.post) {
         Ok(found) => found,
-        Err(fault) => return Err(unread(at, fault)),
+        Err(fault) => {
+            return Err(DviFault::Bad(BadDvi {
+                place: at,
+                cause: DviCause::from(fault),
+            }));
+        }
     };
-    match step(alloc, files, ahead, most, at, &op, walk) {
+    match step(alloc, source, at, &op, walk) {
         Ok(()) => Ok(next),
-        Err(fault) => Err(untaken(at, fault)),
+        Err(fault) => Err(fault.at(at)),
     }
 }
 
@@ -87,39 +59,32 @@ fn begun<'a>(alloc: Global, left: Vec<usize>) -> Walk<'a>
         stand: Stand::Between,
         done: Vec::new(alloc),
         known: KnownFonts::new(alloc),
-        fonts: BTreeMap::new(alloc),
+        fonts: ReadFonts::new(alloc),
         left,
         missed: false,
     }
 }
 
-/// Walks over the pages of a file, from the place behind the preamble up to post; `left` are the places of the pages, the last one first (DVItype, 15 and 18).
-/// The width of a character is that of the first definition of its font; `ahead` are the numbers that are defined after post. It takes memory for pages, marks, places, definitions and fonts.
+/// Walks over the pages of a file, from the place after the preamble up to post; `left` are the places of the pages, the last one first (DVItype, 15 and 18).
+/// The width of a character is that of the first definition of its font. It takes memory for pages, marks, places, definitions and fonts.
 pub fn walk_pages<'a>(
     alloc: Global,
-    bytes: &'a [u8],
-    files: &[FontFile],
-    ahead: &NumbersAhead,
-    ending: &Ending,
+    source: &Source<'_, 'a>,
     from: usize,
     left: Vec<usize>,
 ) -> Result<Walk<'a>, DviFault>
-    requires low { from ≤ ending.now.post }
-    requires high { ending.now.post ≤ length bytes.now }
-    requires reached { IsReached (file_widths files.now) ahead.now.keys bytes.now (postamble ending.now.stop) left.items from (at_first left.items) }
+    requires low { from ≤ source.now.ending.now.post }
+    requires high { source.now.ending.now.post ≤ length source.now.bytes.now }
+    requires reached { IsReached (file_widths source.now.files.now) source.now.ahead.now.keys source.now.bytes.now (postamble source.now.ending.now.stop) left.items from (at_first left.items) }
     // All up to post is right, and the walk holds what it gives.
-    ensures ok { IfOk result (IsWalked (file_widths files.now) ahead.now.keys bytes.now (postamble ending.now.stop) left.items ending.now.post) }
+    ensures ok { IfOk result (IsWalked (file_widths source.now.files.now) source.now.ahead.now.keys source.now.bytes.now (postamble source.now.ending.now.stop) left.items source.now.ending.now.post) }
     // Up to the place of a fault all is right, and there the rule that it names is broken.
-    ensures bad { IfErr result (IsWalkFault files.now ahead.now.keys bytes.now (postamble ending.now.stop) left.items ending.now.post) }
+    ensures bad { IfErr result (IsWalkFault source.now.files.now source.now.ahead.now.keys source.now.bytes.now (postamble source.now.ending.now.stop) left.items source.now.ending.now.post) }
 {
-    let most = usize::from(ending.stop.stack_depth).min(1024);
     let mut walk = begun(alloc, left);
     let mut at = from;
-    while at < ending.post {
-        at = match read_step(alloc, bytes, files, ahead, most, at, ending.post, &mut walk) {
-            Ok(next) => next,
-            Err(fault) => return Err(fault),
-        };
+    while at < source.ending.post {
+        at = read_step(alloc, source, at, &mut walk)?;
     }
     Ok(walk)
 }

@@ -7,20 +7,20 @@ use Rattle.dvi_closing.specs.Ahead.{LooksOne, NothingIdle}
 use Rattle.dvi_closing.proofs.AheadLemmas.{idle_more, looked_there, nothing_at_bound, same_numbers}
 use Rattle.dvi_closing.proofs.ahead.look_ahead.Goals as goal
 
-pub returns-in-Ok-None-clause-ok : goal.returns-in-Ok-None-clause-ok
-returns-in-Ok-None-clause-ok c =
+pub returns-in-None-clause-ok : goal.returns-in-None-clause-ok
+returns-in-None-clause-ok c =
     let (low, high, tokens, idle, has) = c.loop-at.invariant in
     let none =
-    subst (λ (o : Option ℕ). IfNone o (NothingIdle c.args.bytes.now c.loop-at.at c.args.to × IsUnchanged c.loop-at.numbers c.look_one.new.numbers)) c.in-Ok-None.field-0-is c.in-Ok-None.ensures.none in
+    subst (λ (o : Option ℕ). IfNone o (NothingIdle c.args.bytes.now c.loop-at.at c.args.to × IsUnchanged c.loop-at.numbers c.look_one.new.numbers)) c.in-None.is c.in_ok-next.ensures.none in
     looked_there c.args.bytes.now c.args.from c.loop-at.at c.args.to tokens c.look_one.new.numbers.keys low high idle
     (same_numbers c.loop-at.numbers.keys c.look_one.new.numbers.keys (definitions (says tokens)) none.1 has) none.0
 
 pub loop-at-preserved : goal.loop-at-preserved
 loop-at-preserved c =
     let (low, high, tokens, idle, has) = c.loop-at.invariant in
-    let one = subst (λ (o : Option ℕ). IfSome o (LooksOne c.args.bytes.now c.loop-at.at c.args.to c.loop-at.numbers.keys c.look_one.new.numbers.keys)) c.in-Ok-Some.field-0-is c.in-Ok-Some.ensures.some in
+    let one = subst (λ (o : Option ℕ). IfSome o (LooksOne c.args.bytes.now c.loop-at.at c.args.to c.loop-at.numbers.keys c.look_one.new.numbers.keys)) c.in-Some.is c.in_ok-next.ensures.some in
     let forward = one.forward in
-    let (more, there, kept) = idle_more c.args.bytes.now c.args.from c.loop-at.at c.args.to c.in-Ok-Some.next tokens c.loop-at.numbers.keys c.look_one.new.numbers.keys low c.requires.high idle has one in
+    let (more, there, kept) = idle_more c.args.bytes.now c.args.from c.loop-at.at c.args.to c.in-Some.next tokens c.loop-at.numbers.keys c.look_one.new.numbers.keys low c.requires.high idle has one in
     (omega arith, one.within, more, there, kept)
 
 pub returns-clause-ok : goal.returns-clause-ok

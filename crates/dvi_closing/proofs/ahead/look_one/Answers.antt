@@ -5,15 +5,16 @@ use Rattle.dvi_ops.specs.File.{IsIdle}
 use Rattle.dvi_ops.specs.Instruction.{FontDef, Instruction, Do}
 use Rattle.dvi_ops.specs.Table.{Spells}
 use Rattle.dvi_ops.specs.View.{definition, view}
-use Rattle.dvi_closing.proofs.AheadLemmas.{none_idle, number_put}
+use Rattle.dvi_closing.specs.Ahead.{MeetsNumber}
+use Rattle.dvi_closing.proofs.AheadLemmas.{none_idle, number_put, on_any}
 use Rattle.dvi_closing.proofs.ClosingLemmas.{read_found}
 use Rattle.dvi_closing.proofs.ahead.look_one.Goals as goal
 
 pub returns-in-Err-clause-none : goal.returns-in-Err-clause-none
 returns-in-Err-clause-none c = (λ i stands idle. c.in-Err.ensures.none i stands, refl)
 
-pub returns-in-Ok-insert-clause-some : goal.returns-in-Ok-insert-clause-some
-returns-in-Ok-insert-clause-some c =
+pub returns-in_ok-insert-in-FontDef-clause-some : goal.returns-in_ok-insert-in-FontDef-clause-some
+returns-in_ok-insert-in-FontDef-clause-some c =
     let updates : Updates int_cmp c.args.numbers.now c.insert.new.self c.in-FontDef.font.number true = search rules in
     record {
       forward = c.in-Ok.ensures.behind;
@@ -24,11 +25,11 @@ returns-in-Ok-insert-clause-some c =
       numbers = number_put (definition c.in-FontDef.font) c.args.numbers.now c.insert.new.self updates;
     }
 
-pub returns-in-Err-insert-clause-memory : goal.returns-in-Err-insert-clause-memory
-returns-in-Err-insert-clause-memory c =
+pub returns-in_err-insert-in-FontDef-clause-memory : goal.returns-in_err-insert-in-FontDef-clause-memory
+returns-in_err-insert-in-FontDef-clause-memory c =
     let absent : contains int_cmp c.args.numbers.now c.in-FontDef.font.number ≡ false = search rules in
     let stands = read_found c.args.bytes.now c.args.at c.in-Ok.found.1 c.args.to (view c.in-Ok.found.0) (Do (FontDef (definition c.in-FontDef.font))) c.in-Ok.ensures.behind c.in-Ok.ensures.within c.in-Ok.ensures.found (ap view c.in-FontDef.is) in
-    (definition c.in-FontDef.font, stands, absent)
+    on_any (MeetsNumber c.args.bytes.now c.args.at c.args.to c.args.numbers.now.keys) c.from_residual.result (definition c.in-FontDef.font, stands, absent)
 
 pub returns-in_default : goal.returns-in_default
 returns-in_default c =

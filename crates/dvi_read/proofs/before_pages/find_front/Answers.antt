@@ -1,22 +1,36 @@
-use Rattle.std.proofs.Common.{refl}
+use Rattle.std.proofs.Common.{List, refl}
+use Rattle.dvi_frame.proofs.ErrLemmas.{handed_on}
 use Rattle.dvi_ops.specs.View.{postamble}
-use Rattle.dvi_read.specs.Opening.{AtTheEnd, InThePreamble}
+use Rattle.dvi_read.specs.Opening.{AtTheEnd, InThePreamble, IsDviFault}
 use Rattle.dvi_read.proofs.OpenLemmas.{chain_refused}
+use Rattle.dvi_walk.specs.Faults.{of_frame}
+use Rattle.dvi_walk.specs.declared.fault.DviFault.{DviFault}
+use Rattle.dvi_walk.specs.declared.fault.DviFault.TheVariants.{Bad}
+use Rattle.tfm_core.specs.NamedBytes.{NamedBytes}
 use Rattle.dvi_read.proofs.before_pages.find_front.Goals as goal
 
-pub returns-in-Err-clause-bad : goal.returns-in-Err-clause-bad
-returns-in-Err-clause-bad c = λ files. AtTheEnd c.in-Err.bad refl c.in-Err.ensures.bad
+pub returns-in_err-ending-clause-bad : goal.returns-in_err-ending-clause-bad
+returns-in_err-ending-clause-bad c =
+    let bad = c.in_err-ending.field-0.0 in
+    handed_on (λ (fault : DviFault). (files : List NamedBytes) → IsDviFault files c.args.bytes.now fault) c.from_residual.result (Bad bad) c.from_residual.ensures.1
+    (λ files. AtTheEnd bad refl c.in_err-ending.ensures.bad)
 
-pub returns-in-Err-chain-clause-bad : goal.returns-in-Err-chain-clause-bad
-returns-in-Err-chain-clause-bad c = λ files.
-    chain_refused files c.args.bytes.now c.in-Ok.ending.post c.in-Ok.ending.last (postamble c.in-Ok.ending.stop) c.in-Err-chain.fault c.of_frame.result c.in-Ok.ensures.ok c.in-Err-chain.ensures.bad
-    c.of_frame.ensures.bad c.of_frame.ensures.memory
+pub returns-in_err-chain-clause-bad : goal.returns-in_err-chain-clause-bad
+returns-in_err-chain-clause-bad c =
+    let ending = c.in_ok-ending.ending in
+    let fault = c.in_err-chain.field-0.0 in
+    handed_on (λ (fault : DviFault). (files : List NamedBytes) → IsDviFault files c.args.bytes.now fault) c.from_residual-in_err-chain.result (of_frame fault) c.from_residual-in_err-chain.ensures.1
+    (λ files. chain_refused files c.args.bytes.now ending.post ending.last (postamble ending.stop) fault c.in_ok-ending.ensures.ok c.in_err-chain.ensures.bad)
 
-pub returns-in-Err-preamble-clause-bad : goal.returns-in-Err-preamble-clause-bad
-returns-in-Err-preamble-clause-bad c = λ files.
-    InThePreamble c.in-Err-preamble.bad c.in-Ok.ending.post c.in-Ok.ending.behind c.in-Ok.ending.last (postamble c.in-Ok.ending.stop) c.in-Ok-chain.chain.items refl
-    (record {
-      framed = record { ends = c.in-Ok.ensures.ok; spelled = c.in-Ok.ensures.behind; low = c.in-Ok.ensures.low; high = c.in-Ok.ensures.high; links = c.in-Ok-chain.ensures.found };
-      count = c.in-Ok-chain.ensures.count;
-    })
-    c.in-Err-preamble.ensures.bad
+pub returns-in_err-from-clause-bad : goal.returns-in_err-from-clause-bad
+returns-in_err-from-clause-bad c =
+    let ending = c.in_ok-ending.ending in
+    let bad = c.in_err-from.field-0.0 in
+    handed_on (λ (fault : DviFault). (files : List NamedBytes) → IsDviFault files c.args.bytes.now fault) c.from_residual-in_err-from.result (Bad bad) c.from_residual-in_err-from.ensures.1
+    (λ files.
+        InThePreamble bad ending.post ending.behind ending.last (postamble ending.stop) c.in_ok-chain.chain.items refl
+        (record {
+          framed = record { ends = c.in_ok-ending.ensures.ok; spelled = c.in_ok-ending.ensures.behind; low = c.in_ok-ending.ensures.low; high = c.in_ok-ending.ensures.high; links = c.in_ok-chain.ensures.found };
+          count = c.in_ok-chain.ensures.count;
+        })
+        c.in_err-from.ensures.bad)

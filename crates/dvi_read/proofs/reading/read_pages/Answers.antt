@@ -1,32 +1,43 @@
 use Rattle.std.proofs.Common.{refl}
+use Rattle.std.proofs.lemmas.Result.{IfErr-weaker, IfOk-weaker}
+use Rattle.dvi_frame.proofs.ErrLemmas.{handed_on}
 use Rattle.dvi_ops.specs.View.{postamble}
-use Rattle.dvi_read.specs.Opening.{InThePages, LookingAhead}
+use Rattle.dvi_read.specs.Opening.{InThePages, IsDviFault, LookingAhead}
+use Rattle.dvi_read.specs.Parts.{HoldsPages}
 use Rattle.dvi_read.proofs.OpenLemmas.{starts_reached, strays}
+use Rattle.dvi_walk.specs.Stops.{IsWalkFault}
+use Rattle.dvi_walk.specs.Walks.{IsWalked}
+use Rattle.dvi_walk.specs.declared.fault.DviFault.TheVariants.{OutOfMemory}
+use Rattle.tfm_core.specs.FileWidths.{file_widths}
 use Rattle.dvi_read.proofs.reading.read_pages.Goals as goal
 
-pub returns-in-Err-clause-bad : goal.returns-in-Err-clause-bad
-returns-in-Err-clause-bad c =
-    LookingAhead c.args.ending.now.post c.args.ending.now.behind c.args.ending.now.last (postamble c.args.ending.now.stop) c.args.chain.items c.args.from refl c.requires.starts c.in-Err.ensures.memory
+pub returns-in_err-ahead-clause-bad : goal.returns-in_err-ahead-clause-bad
+returns-in_err-ahead-clause-bad c =
+    let ending = c.args.ending.now in
+    handed_on (IsDviFault c.args.files.now c.args.bytes.now) c.from_residual.result OutOfMemory c.from_residual.ensures.1
+    (LookingAhead ending.post ending.behind ending.last (postamble ending.stop) c.args.chain.items c.args.from refl c.requires.starts c.in_err-ahead.ensures.memory)
 
 pub walk_pages-requires-clause-reached : goal.walk_pages-requires-clause-reached
 walk_pages-requires-clause-reached c =
-    starts_reached c.args.files.now c.args.bytes.now c.args.ending.now.post c.args.ending.now.behind c.args.ending.now.last (postamble c.args.ending.now.stop) c.args.chain.items c.args.from c.in-Ok.ahead.keys
-    c.requires.starts
+    let ending = c.args.ending.now in
+    starts_reached c.args.files.now c.args.bytes.now ending.post ending.behind ending.last (postamble ending.stop) c.args.chain.items c.args.from c.in_ok-ahead.ahead.keys c.requires.starts
 
-pub returns-in-Ok-walk_pages-clause-ok : goal.returns-in-Ok-walk_pages-clause-ok
-returns-in-Ok-walk_pages-clause-ok c = (
-  c.in-Ok.ahead.keys,
-  c.in-Ok-walk_pages.ensures.ok.selected,
-  record {
-    starts = c.requires.starts;
-    looked = c.in-Ok.ensures.ok;
-    reached = c.in-Ok-walk_pages.ensures.ok.reached;
-  },
-)
+pub returns-clause-ok : goal.returns-clause-ok
+returns-clause-ok c =
+    let ending = c.args.ending.now in
+    let stop = postamble ending.stop in
+    let ahead = c.in_ok-ahead.ahead.keys in
+    IfOk-weaker c.walk_pages.result (IsWalked (file_widths c.args.files.now) ahead c.args.bytes.now stop c.args.chain.items ending.post)
+    (HoldsPages c.args.files.now c.args.bytes.now ending.post ending.behind ending.last stop c.args.chain.items c.args.from)
+    (λ walk walked. (ahead, walked.selected, record { starts = c.requires.starts; looked = c.in_ok-ahead.ensures.ok; reached = walked.reached })) c.walk_pages.ensures.ok
 
 pub returns-clause-bad : goal.returns-clause-bad
 returns-clause-bad c =
-    InThePages c.args.ending.now.post c.args.ending.now.behind c.args.ending.now.last (postamble c.args.ending.now.stop) c.args.chain.items c.args.from c.in-Ok.ahead.keys c.requires.starts c.in-Ok.ensures.ok
-    c.in-Err-walk_pages.ensures.bad
-    (strays c.args.files.now c.in-Ok.ahead.keys c.args.bytes.now c.args.ending.now.post c.args.ending.now.behind c.args.ending.now.last (postamble c.args.ending.now.stop) c.args.chain.items c.in-Err-walk_pages.fault
-    c.requires.starts.chained.framed c.in-Err-walk_pages.ensures.bad)
+    let ending = c.args.ending.now in
+    let stop = postamble ending.stop in
+    let files = c.args.files.now in
+    let ahead = c.in_ok-ahead.ahead.keys in
+    IfErr-weaker c.walk_pages.result (IsWalkFault files ahead c.args.bytes.now stop c.args.chain.items ending.post) (IsDviFault files c.args.bytes.now)
+    (λ fault broken.
+        InThePages ending.post ending.behind ending.last stop c.args.chain.items c.args.from ahead c.requires.starts c.in_ok-ahead.ensures.ok broken
+        (strays files ahead c.args.bytes.now ending.post ending.behind ending.last stop c.args.chain.items fault c.requires.starts.chained.framed broken)) c.walk_pages.ensures.bad

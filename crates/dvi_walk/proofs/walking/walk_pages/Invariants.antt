@@ -6,7 +6,9 @@ use Rattle.dvi_walk.proofs.walking.walk_pages.Given as goal
 
 -- all up to the place is right
 abbrev pub invariant-loop-at : goal.invariant-loop-at
-invariant-loop-at l = (l.at ≤ l.ending.post) × IsWalked (file_widths l.files) l.ahead.keys l.bytes (postamble l.ending.stop) l.fn.left.items l.at l.walk
+invariant-loop-at l =
+    (l.at ≤ l.source.ending.now.post)
+    × IsWalked (file_widths l.source.files.now) l.source.ahead.now.keys l.source.bytes.now (postamble l.source.ending.now.stop) l.fn.left.items l.at l.walk
 
 abbrev pub decreases-loop-at : goal.decreases-loop-at
-decreases-loop-at l = l.ending.post - l.at
+decreases-loop-at l = l.source.ending.now.post - l.at
