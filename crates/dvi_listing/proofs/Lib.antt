@@ -1,2 +1,3 @@
+mod MarkLines
 mod NextLines
 mod PartLemmas

@@ -40,11 +40,11 @@ fn is_shown_plainly(byte: u8) -> bool
     32 <= byte && byte <= 126 && byte != b'\\'
 }
 
-/// Puts a byte of a special in front of what is there.
+/// Makes an empty part a byte of a special.
 #[tactic(auto, unfolding(crate::specs::Listing::shown_byte))]
 fn put_shown(byte: u8, part: &mut Part)
-    requires { length part.old + 3 ≤ PART }
-    ensures { part.new ≡ shown_byte byte ++ part.old }
+    requires { part.old ≡ [] }
+    ensures { part.new ≡ shown_byte byte }
 {
     if is_shown_plainly(byte) {
         part.put_byte(byte);

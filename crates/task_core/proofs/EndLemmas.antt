@@ -1,7 +1,8 @@
 -- Texts that go out one behind another, and what is said behind a task.
-use Rattle.std.proofs.Common.{◌≡◌, ◌⊎◌, ap, false, true, ◌++◌, ◌+◌, ℕ, Bool, List, length, take, Option, Some, None, Result, Ok, Err, OnOk, OnErr, inl, inr, refl, sym, ◌∙◌, subst, arith}
+use Rattle.std.proofs.Common.{◌≡◌, ◌⊎◌, ap, append_assoc, false, true, ◌++◌, ◌+◌, ℕ, Bool, List, length, take, Option, Some, None, Result, Ok, Err, OnOk, OnErr, inl, inr, refl, sym, ◌∙◌, subst, arith}
 use Rattle.std.proofs.Math.Seq.{take-append-add}
-use Rattle.std.proofs.lemmas.List.{take-append-le, length-append}
+use Rattle.std.proofs.KnownBytes.{Appends-nil}
+use Rattle.std.proofs.lemmas.List.{append-nil, take-append-le, length-append}
 use Rattle.std.specs.Borrow.{Bor}
 use Rattle.std.specs.Io.KnownBytes.{Appends, Keeps}
 use Rattle.std.specs.Prelude.{◌==◌, [], IfSome, IsSome}
@@ -43,6 +44,30 @@ front_behind old mid new a b h front = (
   omega (arith, length-append a b, front.1),
   subst (λ (text : List ℕ). Appends old new text) (sym (take-append-add a b front.0)) (appends_both old mid new a (take front.0 b) h front.2),
 )
+
+-- a beginning of a piece behind what was written before it
+pub front_of_pieces : (old mid new : Option (List ℕ)) (taken piece rest whole : List ℕ) → taken ++ (piece ++ rest) ≡ whole → Appends old mid taken → WritesFront mid new piece
+    → WritesFront old new whole
+front_of_pieces old mid new taken piece rest whole is before front =
+    subst (λ (text : List ℕ). WritesFront old new text) is (front_behind old mid new taken (piece ++ rest) before (front_more mid new piece rest front))
+
+-- nothing was written, and all is still to come
+pub none_written : (old : Option (List ℕ)) (rest whole : List ℕ) → rest ≡ whole → (taken : List ℕ) × Appends old old taken × (taken ++ rest ≡ whole)
+none_written old rest whole is = ([], Appends-nil old, is)
+
+-- a piece was written, and the rest is still to come
+pub piece_written : (old mid new : Option (List ℕ)) (piece ahead rest whole : List ℕ) → ahead ≡ piece ++ rest → Appends mid new piece
+    → (taken : List ℕ) × Appends old mid taken × (taken ++ ahead ≡ whole) → (taken : List ℕ) × Appends old new taken × (taken ++ rest ≡ whole)
+piece_written old mid new piece ahead rest whole is written (taken, before, same) = (
+  taken ++ piece,
+  appends_both old mid new taken piece before written,
+  append_assoc taken piece rest ∙ (ap (λ (text : List ℕ). taken ++ text) (sym is) ∙ same),
+)
+
+-- all was written, and nothing is still to come
+pub all_written : (old new : Option (List ℕ)) (ahead whole : List ℕ) → ahead ≡ [] → (taken : List ℕ) × Appends old new taken × (taken ++ ahead ≡ whole) → Appends old new whole
+all_written old new ahead whole none (taken, written, same) =
+    subst (λ (text : List ℕ). Appends old new text) (sym (append-nil taken) ∙ (ap (λ (text : List ℕ). taken ++ text) (sym none) ∙ same)) written
 
 -- known bytes that stay twice
 pub keeps_twice : (old mid new : Option (List ℕ)) → Keeps old mid → Keeps mid new → Keeps old new

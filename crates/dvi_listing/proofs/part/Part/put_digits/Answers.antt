@@ -22,6 +22,6 @@ invariant_of-self c =
     record {
       within = omega (arith, write.ensures.start, c.self.invariant.within);
       kept = end_stays inside.bytes write.new.buf inside.begin write.result inside.ended (omega (arith, write.ensures.start))
-      (after_digits write.new.buf (decimal c.args.number) (drop inside.begin inside.bytes) write.result inside.begin write.ensures.start write.ensures.written)
-      c.self.invariant.kept;
+          (after_digits write.new.buf (decimal c.args.number) (drop inside.begin inside.bytes) write.result inside.begin write.ensures.start write.ensures.written)
+          c.self.invariant.kept;
     }

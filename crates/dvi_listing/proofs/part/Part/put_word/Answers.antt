@@ -10,7 +10,7 @@ invariant_of-self c =
     record {
       within = omega (arith, c.self.invariant.within);
       kept = end_stays inside.bytes _ inside.begin _ inside.ended (omega arith)
-      (drop-put_mid (inside.begin - size) (inside.begin - (inside.begin - size)) inside.bytes c.copy_from_slice.new.self inside.begin (omega arith)
-      (omega (arith, c.self.invariant.within, c.self.ranges)) (omega (arith, c.copy_from_slice.ensures.len)))
-      c.self.invariant.kept;
+          (drop-put_mid (inside.begin - size) (inside.begin - (inside.begin - size)) inside.bytes c.copy_from_slice.new.self inside.begin (omega arith)
+          (omega (arith, c.self.invariant.within, c.self.ranges)) (omega (arith, c.copy_from_slice.ensures.len)))
+          c.self.invariant.kept;
     }
