@@ -1,8 +1,7 @@
 -- Texts that go out one behind another, and what is said behind a task.
 use Rattle.std.proofs.Common.{◌≡◌, ◌⊎◌, ap, append_assoc, false, true, ◌++◌, ◌+◌, ℕ, Bool, List, length, take, Option, Some, None, Result, Ok, Err, OnOk, OnErr, inl, inr, refl, sym, ◌∙◌, subst, arith}
 use Rattle.std.proofs.Math.Seq.{take-append-add}
-use Rattle.std.proofs.KnownBytes.{Appends-nil}
-use Rattle.std.proofs.lemmas.List.{append-nil, take-append-le, length-append}
+use Rattle.std.proofs.lemmas.List.{take-append-le, length-append}
 use Rattle.std.specs.Borrow.{Bor}
 use Rattle.std.specs.Io.KnownBytes.{Appends, Keeps}
 use Rattle.std.specs.Prelude.{◌==◌, [], IfSome, IsSome}
@@ -29,6 +28,10 @@ pub err_then : {A E : Type 0} {P Q : Type 0} (r : Result A E) → OnErr r P → 
 err_then (Ok x) h f = tt
 err_then (Err e) h f = f h
 
+pub said_of_err : {A E : Type 0} {P : Type 0} (r : Result A E) → P → OnErr r P
+said_of_err (Ok x) h = tt
+said_of_err (Err e) h = h
+
 -- a beginning of a text is one of a longer text
 pub front_more : (old new : Option (List ℕ)) (a b : List ℕ) → WritesFront old new a → WritesFront old new (a ++ b)
 front_more old new a b front = (
@@ -51,10 +54,6 @@ pub front_of_pieces : (old mid new : Option (List ℕ)) (taken piece rest whole 
 front_of_pieces old mid new taken piece rest whole is before front =
     subst (λ (text : List ℕ). WritesFront old new text) is (front_behind old mid new taken (piece ++ rest) before (front_more mid new piece rest front))
 
--- nothing was written, and all is still to come
-pub none_written : (old : Option (List ℕ)) (rest whole : List ℕ) → rest ≡ whole → (taken : List ℕ) × Appends old old taken × (taken ++ rest ≡ whole)
-none_written old rest whole is = ([], Appends-nil old, is)
-
 -- a piece was written, and the rest is still to come
 pub piece_written : (old mid new : Option (List ℕ)) (piece ahead rest whole : List ℕ) → ahead ≡ piece ++ rest → Appends mid new piece
     → (taken : List ℕ) × Appends old mid taken × (taken ++ ahead ≡ whole) → (taken : List ℕ) × Appends old new taken × (taken ++ rest ≡ whole)
@@ -63,11 +62,6 @@ piece_written old mid new piece ahead rest whole is written (taken, before, same
   appends_both old mid new taken piece before written,
   append_assoc taken piece rest ∙ (ap (λ (text : List ℕ). taken ++ text) (sym is) ∙ same),
 )
-
--- all was written, and nothing is still to come
-pub all_written : (old new : Option (List ℕ)) (ahead whole : List ℕ) → ahead ≡ [] → (taken : List ℕ) × Appends old new taken × (taken ++ ahead ≡ whole) → Appends old new whole
-all_written old new ahead whole none (taken, written, same) =
-    subst (λ (text : List ℕ). Appends old new text) (sym (append-nil taken) ∙ (ap (λ (text : List ℕ). taken ++ text) (sym none) ∙ same)) written
 
 -- known bytes that stay twice
 pub keeps_twice : (old mid new : Option (List ℕ)) → Keeps old mid → Keeps mid new → Keeps old new
