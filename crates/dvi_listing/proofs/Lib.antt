@@ -1,1 +1,3 @@
+mod MarkLines
 mod NextLines
+mod PartLemmas

@@ -55,13 +55,13 @@ fn put_shown(byte: u8, part: &mut Part)
     part.put_byte(b'\\');
 }
 
-/// Makes an empty part the next byte of the text of a special, or the line feed after it. Reports what is still to come.
+/// Makes a part the next byte of the text of a special, or the line feed after it. Reports what is still to come.
 #[tactic(auto, unfolding(crate::specs::Listing::text_line))]
 pub(crate) fn put_text<'f>(text: &'f [u8], part: &mut Part) -> Option<&'f [u8]>
-    requires { part.old ≡ [] }
     ensures all { text_line text.now ≡ part.new ++ text_ahead result }
     ensures filled { 0 < length part.new }
 {
+    part.clear();
     let [byte, rest @ ..] = text else {
         part.put_byte(b'\n');
         return None;
@@ -70,17 +70,18 @@ pub(crate) fn put_text<'f>(text: &'f [u8], part: &mut Part) -> Option<&'f [u8]>
     Some(rest)
 }
 
-/// Makes an empty part the line of a mark. Reports what is still to come of it: the text of a special.
+/// Makes a part the line of a mark. Reports what is still to come of it: the text of a special.
 #[tactic(auto, unfolding(crate::specs::Listing::line, crate::specs::Listing::special_line))]
 pub(crate) fn put_mark<'f>(mark: &Mark<'f>, part: &mut Part) -> Option<&'f [u8]>
-    requires { part.old ≡ [] }
     ensures all { mark_line (mark_of mark.now) ≡ part.new ++ text_ahead result }
     ensures filled { 0 < length part.new }
 {
     match *mark {
         Mark::Glyph { font, code, h, v } => {
-            part.put_byte(b'\n');
-            put_numbers(&[font, code, h, v], part);
+            part.end_line(v);
+            part.put_number(h);
+            part.put_number(code);
+            part.put_number(font);
             part.put_word("glyph");
             None
         }
@@ -90,26 +91,30 @@ pub(crate) fn put_mark<'f>(mark: &Mark<'f>, part: &mut Part) -> Option<&'f [u8]>
             height,
             width,
         } => {
-            part.put_byte(b'\n');
-            put_numbers(&[h, v, height, width], part);
+            part.end_line(width);
+            part.put_number(height);
+            part.put_number(v);
+            part.put_number(h);
             part.put_word("rule");
             None
         }
         Mark::Special { h, v, text } => {
+            part.clear();
             part.put_byte(b' ');
-            put_numbers(&[h, v], part);
+            part.put_number(v);
+            part.put_number(h);
             part.put_word("special");
             Some(text)
         }
     }
 }
 
-/// Makes an empty part the line that begins a page: its number and its counts.
+/// Makes a part the line that begins a page: its number and its counts.
 #[tactic(auto, unfolding(crate::specs::Listing::line))]
 pub(crate) fn put_counts(page: usize, counts: &[i32; 10], part: &mut Part)
-    requires { part.old ≡ [] }
     ensures { part.new ≡ line (codes "page " ++ (decimal page ++ codes " counts")) counts.now }
 {
+    part.clear();
     part.put_byte(b'\n');
     put_numbers(counts, part);
     part.put_word(" counts");

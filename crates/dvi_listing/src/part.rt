@@ -2,6 +2,7 @@
 
 ghost use Rattle.std.specs.Prelude.{◌≡◌, ◌++◌, ◌+◌, ◌<◌, ◌≤◌, [], ◌∷◌, codes, decimal, length};
 ghost use Rattle.std.specs.Fmt.{signed_decimal};
+ghost use Rattle.dvi_listing.specs.Parts.{line_end};
 ghost use Rattle.dvi_listing.specs.declared.part.TheConstants.{PART};
 
 use itoa::write_digits;
@@ -10,21 +11,32 @@ use std::marker::Model;
 /// The most bytes of a part. The line of a page takes most: its number, and ten counts, each with a space and a sign, and of at most 20 digits here.
 pub const PART: usize = 256;
 
-/// A part of a listing. It is written from its end to its beginning, as the digits of a number come.
+/// What is kept of the end of a line: the number there, and where its space is.
+#[derive(Clone, Copy, Debug)]
+struct LineEnd {
+    number: i32,
+    begin: usize,
+}
+
+/// A part of a listing. It is written from its end to its beginning, as the digits of a number come. The end of the last line stays there, since the next
+/// line mostly ends by the same number.
 #[derive(Drop)]
 pub struct Part {
     bytes: [u8; PART],
     begin: usize,
+    ended: Option<LineEnd>,
 }
 
 impl Model for Part {
-    ghost use Rattle.std.specs.Prelude.{ℕ, List, drop, ◌≤◌};
+    ghost use Rattle.std.specs.Prelude.{ℕ, List, drop};
 
     ghost Value = { List ℕ };
 
+    ghost use Rattle.dvi_listing.specs.Parts.{IsPart};
+
     ghost view = { λ part. drop part.begin part.bytes };
 
-    ghost invariant = { λ part. part.begin ≤ 256 };
+    ghost invariant = { λ part. IsPart part.bytes part.begin part.ended };
 }
 
 impl Part {
@@ -35,6 +47,7 @@ impl Part {
         Part {
             bytes: [0; PART],
             begin: PART,
+            ended: None,
         }
     }
 
@@ -43,6 +56,27 @@ impl Part {
         ensures { self.new ≡ [] }
     {
         self.begin = PART;
+        self.ended = None;
+    }
+
+    /// Makes it the end of a line: a number in decimal, with a space before it, and a line feed.
+    pub fn end_line(&mut self, number: i32)
+        ensures text { self.new ≡ line_end number }
+        ensures len { length self.new ≤ 23 }
+    {
+        if let Some(ended) = self.ended {
+            if ended.number == number {
+                self.begin = ended.begin;
+                return;
+            }
+        }
+        self.clear();
+        self.put_byte(b'\n');
+        self.put_number(number);
+        self.ended = Some(LineEnd {
+            number,
+            begin: self.begin,
+        });
     }
 
     /// The bytes.

@@ -31,7 +31,6 @@ impl<'a, 'f> Lines<'a, 'f> {
         ensures still { result ≡ false → self.new ≡ self.old }
         ensures filled { IsTrue result → 0 < length part.new }
     {
-        part.clear();
         if let Some(text) = self.text {
             self.text = put_text(text, part);
             return true;

@@ -7,7 +7,6 @@ use Rattle.dvi_closing.specs.Closing.{ClosesTo, IsClosingFault}
 use Rattle.dvi_closing.proofs.AheadLemmas.{looked}
 use Rattle.dvi_frame.specs.Chain.{IsChainRefusal}
 use Rattle.dvi_frame.specs.Ends.{Ends}
-use Rattle.dvi_frame.specs.declared.fault.BadDvi.{BadDvi}
 use Rattle.dvi_frame.specs.declared.fault.FrameFault.{FrameFault}
 use Rattle.dvi_frame.specs.declared.fault.FrameFault.TheVariants as frames
 use Rattle.dvi_frame.proofs.EndLemmas.{frame_ends, frame_last, one_end}

@@ -8,9 +8,8 @@ use Rattle.dvi_ops.specs.Instruction.{Definition, SetChar, PutChar, FontNum, Ins
 use Rattle.dvi_pass.specs.declared.turning.Stand.{Stand}
 use Rattle.dvi_pass.specs.declared.turning.Stand.TheVariants.{Between, Inside}
 use Rattle.dvi_walk.specs.declared.read_fonts.ReadFonts.{ReadFonts}
-use Rattle.tfm_core.specs.FileWidths.{file_widths, width_at}
+use Rattle.tfm_core.specs.FileWidths.{width_at}
 use Rattle.tfm_core.specs.Fonts.{SizedFont}
-use Rattle.tfm_core.specs.NamedBytes.{NamedBytes}
 
 -- Where the font of a number is among those that were read.
 abbrev pub font_place : ℤ → ReadFonts → Option ℕ

@@ -1,5 +1,5 @@
 -- One instruction of the pages, as the code takes it (own). No clause of a call that other crates use to read a file reaches these definitions: they speak of what the code holds.
-use Rattle.std.specs.Prelude.{◌≡◌, ◌++◌, ◌⊎◌, false, true, List, map, reverse, ℕ, ℤ, Option, Some, None, IsSome}
+use Rattle.std.specs.Prelude.{◌≡◌, ◌++◌, ◌⊎◌, false, true, List, map, reverse, ℕ, ℤ, Option, Some, None}
 use Rattle.std.specs.List.{AllByRecursion}
 use Rattle.dvi_fonts.specs.Widths.{IsFontRefusal}
 use Rattle.dvi_fonts.specs.declared.widths.FontRefusal.TheVariants as refusals

@@ -18,7 +18,7 @@ ghost use Rattle.job_core.specs.Shown.{FilesPages};
 ghost use Rattle.job_core.specs.Headline.{IsDone};
 
 /// After any list of commands, each answer and the kept state are the abstract machine's, and the finished file, where every write
-/// succeeded, is by the DVI definition a well-formed file of exactly the machine's pages in order: the same glyphs and rules, in the
+/// succeeded, is by the DVI definition a well-formed file of exactly the machine's pages in order: the same glyphs, rules and specials, in the
 /// same order, at the same scaled points, under the same ten counts. The widths of the glyphs are those of the job's own font files.
 ///
 /// What it rests on is what `Job::new`, `Job::run` and `Job::finish` ensure, in this order.

@@ -16,7 +16,7 @@ ghost use Rattle.tfm_core.specs.NamedBytes.{NamedBytes};
 use dvi_ops::dvi_file::one_file;
 
 /// The file that a job with a page has finished is opened with the job's font files, unless memory is wanting, and its pages are those of the machine, in order:
-/// the same counts, glyphs and rules.
+/// the same counts, glyphs, rules and specials.
 ///
 /// It rests on what `Job::finish` and `Dvi::open` ensure (`dvi` and `exact`).
 pub fn finished_files_are_read_back()

@@ -1,5 +1,5 @@
 -- Texts that go out one behind another, and what is said behind a task.
-use Rattle.std.proofs.Common.{◌≡◌, ◌⊎◌, ap, false, true, ◌++◌, ◌+◌, ℕ, Bool, List, length, take, Option, Some, None, Result, Ok, Err, OnOk, OnErr, inl, inr, refl, sym, ◌∙◌, subst, arith}
+use Rattle.std.proofs.Common.{◌≡◌, ◌⊎◌, ap, append_assoc, false, true, ◌++◌, ◌+◌, ℕ, Bool, List, length, take, Option, Some, None, Result, Ok, Err, OnOk, OnErr, inl, inr, refl, sym, ◌∙◌, subst, arith}
 use Rattle.std.proofs.Math.Seq.{take-append-add}
 use Rattle.std.proofs.lemmas.List.{take-append-le, length-append}
 use Rattle.std.specs.Borrow.{Bor}
@@ -30,6 +30,10 @@ pub err_then : {A E : Type 0} {P Q : Type 0} (r : Result A E) → OnErr r P → 
 err_then (Ok x) h f = tt
 err_then (Err e) h f = f h
 
+pub said_of_err : {A E : Type 0} {P : Type 0} (r : Result A E) → P → OnErr r P
+said_of_err (Ok x) h = tt
+said_of_err (Err e) h = h
+
 -- a beginning of a text is one of a longer text
 pub front_more : (old new : Option (List ℕ)) (a b : List ℕ) → WritesFront old new a → WritesFront old new (a ++ b)
 front_more old new a b front = (
@@ -44,6 +48,21 @@ front_behind old mid new a b h front = (
   length a + front.0,
   omega (arith, length-append a b, front.1),
   subst (λ (text : List ℕ). Appends old new text) (sym (take-append-add a b front.0)) (appends_both old mid new a (take front.0 b) h front.2),
+)
+
+-- a beginning of a piece behind what was written before it
+pub front_of_pieces : (old mid new : Option (List ℕ)) (taken piece rest whole : List ℕ) → taken ++ (piece ++ rest) ≡ whole → Appends old mid taken → WritesFront mid new piece
+    → WritesFront old new whole
+front_of_pieces old mid new taken piece rest whole is before front =
+    subst (λ (text : List ℕ). WritesFront old new text) is (front_behind old mid new taken (piece ++ rest) before (front_more mid new piece rest front))
+
+-- a piece was written, and the rest is still to come
+pub piece_written : (old mid new : Option (List ℕ)) (piece ahead rest whole : List ℕ) → ahead ≡ piece ++ rest → Appends mid new piece
+    → (taken : List ℕ) × Appends old mid taken × (taken ++ ahead ≡ whole) → (taken : List ℕ) × Appends old new taken × (taken ++ rest ≡ whole)
+piece_written old mid new piece ahead rest whole is written (taken, before, same) = (
+  taken ++ piece,
+  appends_both old mid new taken piece before written,
+  append_assoc taken piece rest ∙ (ap (λ (text : List ℕ). taken ++ text) (sym is) ∙ same),
 )
 
 -- known bytes that stay twice

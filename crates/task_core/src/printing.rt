@@ -49,7 +49,11 @@ impl From<Unwritten> for PrintFault {
 const PIECE: usize = 65_536;
 
 /// Writes the listing of a file, piece after piece. All memory was taken before: a piece has room for PART bytes.
-fn write_listing<W: Write>(dvi: &Dvi<'_>, piece: &mut Vec<u8>, writer: &mut W) -> Result<(), Unwritten>
+fn write_listing<W: Write>(
+    dvi: &Dvi<'_>,
+    piece: &mut Vec<u8>,
+    writer: &mut W,
+) -> Result<(), Unwritten>
     requires { PART ≤ vec_capacity piece.old }
     ensures all { OnOk result (Appends (W.contents writer.old) (W.contents writer.new) (listing dvi.now.pages)) }
     ensures front { OnErr result (WritesFront (W.contents writer.old) (W.contents writer.new) (listing dvi.now.pages)) }

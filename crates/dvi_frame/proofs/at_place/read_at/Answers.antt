@@ -1,8 +1,5 @@
-use Rattle.std.proofs.Common.{◌≡◌, ◌≤◌, ◌-◌, ℕ, drop, slice_index, sym, ◌∙◌, subst, take, arith}
-use Rattle.std.specs.Prelude.{Err}
+use Rattle.std.proofs.Common.{◌≤◌, ◌-◌, ℕ, drop, slice_index, sym, subst, take, arith}
 use Rattle.dvi_ops.specs.View.{view}
-use Rattle.dvi_ops.specs.declared.fault.OpFault.{OpFault}
-use Rattle.dvi_ops.specs.declared.fault.OpFault.TheVariants.{Opcode, Truncated}
 use Rattle.dvi_frame.proofs.PlaceLemmas.{first_between, nothing_stands, some_between, some_size}
 use Rattle.dvi_frame.proofs.at_place.read_at.Goals as goal
 

@@ -39,5 +39,5 @@ returns-clause-bad c =
     let ahead = c.in_ok-ahead.ahead.keys in
     IfErr-weaker c.walk_pages.result (IsWalkFault files ahead c.args.bytes.now stop c.args.chain.items ending.post) (IsDviFault files c.args.bytes.now)
     (λ fault broken.
-        InThePages ending.post ending.behind ending.last stop c.args.chain.items c.args.from ahead c.requires.starts c.in_ok-ahead.ensures.ok broken
-        (strays files ahead c.args.bytes.now ending.post ending.behind ending.last stop c.args.chain.items fault c.requires.starts.chained.framed broken)) c.walk_pages.ensures.bad
+    InThePages ending.post ending.behind ending.last stop c.args.chain.items c.args.from ahead c.requires.starts c.in_ok-ahead.ensures.ok broken
+    (strays files ahead c.args.bytes.now ending.post ending.behind ending.last stop c.args.chain.items fault c.requires.starts.chained.framed broken)) c.walk_pages.ensures.bad

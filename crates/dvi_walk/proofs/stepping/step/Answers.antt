@@ -2,7 +2,7 @@ use Rattle.std.proofs.Common.{ℕ, min, subst}
 use Rattle.std.proofs.lemmas.Result.{IfErr-weaker, on_ok_weaker}
 use Rattle.dvi_fonts.proofs.RefusalLemmas.{handed_on}
 use Rattle.dvi_ops.specs.View.{view}
-use Rattle.dvi_walk.specs.Steps.{BreaksNote, BreaksPass, Notes, PassesOn, Steps, StopsStep}
+use Rattle.dvi_walk.specs.Steps.{BreaksNote, BreaksPass, Notes, PassesOn, StopsStep}
 use Rattle.dvi_walk.proofs.StepLemmas.{note_fault, pass_fault, stepped}
 use Rattle.tfm_core.specs.FileWidths.{file_widths}
 use Rattle.dvi_walk.proofs.stepping.step.Goals as goal
@@ -30,7 +30,7 @@ returns-clause-ok c =
     let passes = subst (λ (n : ℕ). PassesOn n i c.args.walk.now c.pass_on.new.walk) c.most_pushes.ensures c.in_ok-pass_on.ensures.ok in
     on_ok_weaker c.note.result
     (λ (notes : Notes (file_widths files) ahead c.args.at i c.pass_on.new.walk c.note.new.walk).
-        stepped files ahead most c.args.at i c.args.walk.now c.pass_on.new.walk c.note.new.walk c.requires.sound c.requires.current passes notes) c.note.ensures.ok
+    stepped files ahead most c.args.at i c.args.walk.now c.pass_on.new.walk c.note.new.walk c.requires.sound c.requires.current passes notes) c.note.ensures.ok
 
 pub returns-clause-bad : goal.returns-clause-bad
 returns-clause-bad c =

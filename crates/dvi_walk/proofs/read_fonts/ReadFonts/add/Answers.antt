@@ -1,4 +1,4 @@
-use Rattle.std.proofs.Common.{rules, ◌≡◌, length, ℕ, ℤ, Some, subst, subst₂, to_z, of_z, w32}
+use Rattle.std.proofs.Common.{rules, ◌≡◌, length, ℕ, ℤ, Some, subst₂, to_z, of_z, w32}
 use Rattle.std.proofs.lemmas.Int.{ints}
 use Rattle.std.specs.BTreeMap.{Updates}
 use Rattle.std.specs.Ordering.{int_cmp}
