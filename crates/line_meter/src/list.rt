@@ -11,6 +11,9 @@ use crate::fault::BreakFault;
 use node_core::{Kind, Node};
 use std::alloc::{AllocError, Global};
 
+/// How many legal places a list may have.
+pub const MOST_PLACES: usize = 8192;
+
 /// Whether an item is dropped at the beginning of a line.
 #[tactic(auto, unfolding(crate::specs::Legal::is_dropped))]
 pub fn is_dropped(node: &Node) -> bool
@@ -87,7 +90,7 @@ pub fn refusal(nodes: &[Node]) -> Option<BreakFault>
     if any_shrinks_infinitely(nodes) {
         return Some(BreakFault::InfiniteShrink);
     }
-    if count_places(nodes) > 8192 {
+    if count_places(nodes) > MOST_PLACES {
         return Some(BreakFault::TooManyBreaks);
     }
     None

@@ -5,7 +5,7 @@ ghost use Rattle.node_core.specs.Nodes.{most_nodes};
 ghost use Rattle.line_meter.specs.Facts.{refusal};
 ghost use Rattle.line_meter.specs.Marks.{IsWalked, IsMarked};
 
-use crate::list::{is_dropped, is_legal, penalty_at};
+use crate::list::{MOST_PLACES, is_dropped, is_legal, penalty_at};
 use crate::mark::Mark;
 use crate::sums::{Sums, with_item};
 use node_core::Node;
@@ -77,7 +77,7 @@ impl Walk {
         if !is_legal(nodes, index) {
             return Ok(true);
         }
-        if self.marks.len() >= 8192 {
+        if self.marks.len() >= MOST_PLACES {
             return Ok(false);
         }
         self.marks.push(Mark {

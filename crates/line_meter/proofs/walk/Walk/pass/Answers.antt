@@ -57,11 +57,11 @@ returns-then-not-is_legal-clause-goes_on c goes =
       finite = finite_more list i x within is (sym c.shrinks_infinitely.ensures ∙ c.if-shrinks_infinitely.false) old.finite;
     }
 
-pub returns-then-len-ge8192-clause-stops : goal.returns-then-len-ge8192-clause-stops
-returns-then-len-ge8192-clause-stops c stop =
+pub returns-then-len-ge-MOST_PLACES-clause-stops : goal.returns-then-len-ge-MOST_PLACES-clause-stops
+returns-then-len-ge-MOST_PLACES-clause-stops c stop =
     let legal : is_legal c.args.nodes.now c.args.index ≡ true = sym c.is_legal.ensures ∙ c.if-not-is_legal.false in
     let long : c.len.result ≡ length c.args.self.now.marks.items = search rules in
-    too_many c.args.nodes.now c.args.index c.args.self.now.marks.items legal (omega (arith, long, c.if-len-ge8192.true)) c.requires.walked.marks
+    too_many c.args.nodes.now c.args.index c.args.self.now.marks.items legal (omega (arith, long, c.if-len-ge-MOST_PLACES.true)) c.requires.walked.marks
 
 pub returns-clause-goes_on : goal.returns-clause-goes_on
 returns-clause-goes_on c goes =
@@ -89,7 +89,7 @@ returns-clause-goes_on c goes =
     let long : c.len.result ≡ length w.marks.items = search rules in
     record {
       marks = marks_more list i w.marks.items c.push.new.self.items mark _ legal here items old.marks;
-      few = omega (arith, ap length items, long, c.if-len-ge8192.false);
+      few = omega (arith, ap length items, long, c.if-len-ge-MOST_PLACES.false);
       small_marks = subst (λ ms. AreSmallMarks (reverse ms)) (sym items) (small_more w.marks.items mark
           (record { from_position = wide (length list - i) c.with_item-self-2.result (omega (arith, c.requires.short)) small_sums; from_begin = small_start }) old.small_marks);
       sums = sums;
