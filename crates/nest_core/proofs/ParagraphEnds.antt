@@ -1,5 +1,5 @@
 -- How a paragraph is set, as the machine has it.
-use Rattle.std.proofs.Common.{◌≡◌, ◌≢◌, ℤ, false, List, None, Result, Ok, Err, IfOk, IfErr, OnOk}
+use Rattle.std.proofs.Common.{◌≡◌, ◌≢◌, ℤ, false, refl, List, None, Result, Ok, Err, IfOk, IfErr, OnOk}
 use Rattle.std.specs.Prelude.{is_none}
 use Rattle.node_core.specs.declared.params.Params.{Params}
 use Rattle.node_core.specs.declared.tree.Node.{Node}
