@@ -1,6 +1,6 @@
 -- What stands at a place, and what is read from the bytes between a place and a bound.
-use Rattle.std.proofs.Common.{◌≡◌, ◌≤◌, ◌<◌, ◌+◌, ◌-◌, List, length, take, drop, slice_index, ℕ, zero, suc, sym, ◌∙◌, ap, subst, arith}
-use Rattle.std.proofs.lemmas.List.{get_or-drop, get_or-take, take-take, take-append-drop, length-drop, length-take-le}
+use Rattle.std.proofs.Common.{◌≡◌, ◌≤◌, ◌<◌, ◌+◌, ◌-◌, List, [], ◌∷◌, get_or, length, take, drop, slice_index, ℕ, zero, suc, sym, ◌∙◌, ap, subst, arith}
+use Rattle.std.proofs.lemmas.List.{drop_more, get_or-drop, get_or-take, length-take, take-take, take-append-drop, length-drop, length-take-le}
 use Rattle.dvi_ops.specs.Instruction.{Instruction}
 use Rattle.dvi_ops.specs.Table.{Spells}
 use Rattle.dvi_ops.proofs.FrontLaws.{one_reading}
@@ -66,3 +66,17 @@ one_spelled bytes place bound i j size read (n, room, spelled) = (same_front i j
 -- What ends before a bound ends before a larger one.
 pub stands_wider : (bytes : List ℕ) (place bound wider : ℕ) (i : Instruction) → bound ≤ wider → StandsAt bytes place bound i → StandsAt bytes place wider i
 stands_wider bytes place bound wider i more (size, room, spelled) = (size, omega arith, spelled)
+
+-- The first byte from a place on.
+pub one_byte : (bytes : List ℕ) (place : ℕ) → place < length bytes → take (place + 1 - place) (drop place bytes) ≡ get_or bytes place 0 ∷ []
+one_byte bytes place below =
+    let one : place + 1 - place ≡ 1 = omega arith in
+    ap (λ (n : ℕ). take n (drop place bytes)) one ∙ ap (take 1) (drop_more bytes place 0 below)
+
+-- What the first bytes between a place and a bound spell, those from the place on spell.
+pub spelled_between : (bytes : List ℕ) (place bound size : ℕ) (i : Instruction) → size ≤ length (between bytes place bound) → Spells i (take size (between bytes place bound))
+    → Spells i (take (place + size - place) (drop place bytes))
+spelled_between bytes place bound size i within spelled =
+    let same : place + size - place ≡ size = omega arith in
+    let few : size ≤ bound - place = omega (arith, within, length-take (bound - place) (drop place bytes)) in
+    subst (λ (n : ℕ). Spells i (take n (drop place bytes))) (sym same) (subst (λ (x : List ℕ). Spells i x) (take-take size (bound - place) (drop place bytes) few) spelled)

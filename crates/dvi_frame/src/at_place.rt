@@ -25,6 +25,10 @@ pub fn read_at(bytes: &[u8], place: usize, bound: usize) -> Result<(Op<'_>, usiz
     // Truncated comes only where it begins one.
     ensures truncated { result ≡ Err OpFault.Truncated → place < bound → 250 ≤ slice_index bytes.now place → ⊥ }
 {
+    // Most instructions are characters of one byte, which is their code: these are not looked up.
+    if place < bound && bytes[place] < 128 {
+        return Ok((Op::SetChar(i32::from(bytes[place])), place + 1));
+    }
     match next(&bytes[place..bound]) {
         Ok((op, size)) => Ok((op, place + size)),
         Err(fault) => Err(fault),

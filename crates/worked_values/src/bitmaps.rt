@@ -17,7 +17,7 @@ const PIXELS: Units = Units {
 };
 
 /// A rule with its bottom left corner at (h, v).
-fn rule(h: i32, v: i32, height: i32, width: i32) -> Mark {
+fn rule(h: i32, v: i32, height: i32, width: i32) -> Mark<'static> {
     Mark::Rule {
         h,
         v,

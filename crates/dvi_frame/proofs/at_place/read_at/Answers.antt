@@ -1,6 +1,7 @@
-use Rattle.std.proofs.Common.{◌≤◌, ◌-◌, ℕ, drop, slice_index, sym, subst, take, arith}
+use Rattle.std.proofs.Common.{◌≤◌, ◌-◌, ℕ, inl, get_or, drop, slice_index, sym, subst, take, arith}
 use Rattle.dvi_ops.specs.View.{view}
-use Rattle.dvi_frame.proofs.PlaceLemmas.{first_between, nothing_stands, some_between, some_size}
+use Rattle.std.proofs.lemmas.Int.{ints}
+use Rattle.dvi_frame.proofs.PlaceLemmas.{first_between, nothing_stands, one_byte, some_between, some_size, spelled_between}
 use Rattle.dvi_frame.proofs.at_place.read_at.Goals as goal
 
 pub returns-in-Ok-clause-behind : goal.returns-in-Ok-clause-behind
@@ -18,3 +19,16 @@ returns-in-Err-clause-truncated c = λ e below code.
     subst (λ (n : ℕ). 250 ≤ n) (sym (first_between c.args.bytes.now c.args.place c.args.bound below)) code in
     let opcode = c.in-Err.ensures.opcode.1 here in
     absurd cc
+
+pub returns-then-bytes-place-lt128-clause-found : goal.returns-then-bytes-place-lt128-clause-found
+returns-then-bytes-place-lt128-clause-found c =
+    let bytes = c.args.bytes.now in
+    inl (
+      get_or bytes c.args.place 0,
+      c.if-bytes-place-lt128.true,
+      omega (arith, ints, c.from.ensures),
+      one_byte bytes c.args.place (omega (arith, c.if-place-bound.true, c.requires.high)),
+    )
+
+pub returns-in-Ok-clause-found : goal.returns-in-Ok-clause-found
+returns-in-Ok-clause-found c = spelled_between c.args.bytes.now c.args.place c.args.bound c.in-Ok.size (view c.in-Ok.op) c.in-Ok.ensures.length c.in-Ok.ensures.found
