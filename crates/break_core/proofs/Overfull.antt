@@ -1,5 +1,5 @@
 -- Overfull lines of steady paragraphs stay overfull.
-use Rattle.std.proofs.Common.{◌≡◌, ◌∙◌, ℕ, zero, suc, ◌+◌, ◌-◌, ◌<◌, ◌≤◌, Bool, true, false, not, cond, ◌&&◌, ◌||◌, refl, ap, sym, subst, arith, Option, None, List}
+use Rattle.std.proofs.Common.{◌≡◌, ◌∙◌, ℕ, zero, suc, ◌+◌, ◌-◌, ◌<◌, ◌≤◌, Bool, true, false, not, cond, ◌&&◌, refl, ap, subst, arith, Option, None, List}
 use Rattle.std.specs.Prelude.{ℤ, pos, int_le, nat_le}
 use Rattle.std.proofs.lemmas.Int.{ints}
 use Rattle.node_core.specs.declared.params.Params.{Params}
@@ -18,7 +18,6 @@ use Rattle.break_cost.specs.declared.sizes.Judgement.{Judgement}
 use Rattle.break_cost.specs.Costs.{judged, admits, line_of}
 use Rattle.break_cost.specs.Sizes.{line_size, greatest_size, judgement}
 use Rattle.break_cost.proofs.Widths.{overfull_means, overfull_is, overfull_each, both_overfull}
-use Rattle.line_meter.specs.Legal.{is_forced}
 use Rattle.line_meter.specs.Facts.{Facts}
 use Rattle.break_core.specs.Passes.{problem_of}
 use Rattle.line_meter.specs.Steady.{IsNoNarrower, IsSteady}

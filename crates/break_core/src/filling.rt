@@ -131,7 +131,7 @@ fn offer_group(
     }
 }
 
-/// The same, where the line is not left out.
+/// Offers the entries of a group for a place, by a line that was tried from there, unless the line is left out.
 fn offer_unless(
     left: bool,
     row: &mut Vec<Option<Best>>,
@@ -177,7 +177,7 @@ fn add_group(lives: &mut Vec<Live>, forced: bool, group: Group) -> Result<(), Al
     keep_group(lives, group.start == group.end, Live { group, over: None })
 }
 
-/// Tries the line to a place from each live group once.
+/// Tries the line to a place from each live group once. What is kept beside a group goes on with it.
 fn try_lines<M: Meter>(
     meter: &mut M,
     rules: &Rules,

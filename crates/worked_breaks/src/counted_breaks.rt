@@ -119,3 +119,33 @@ fn trials_of_each_place(rt: HostRuntime) {
     let items = Vec::from_array(alloc, items).expect(&rt, "there is memory");
     expect_trials(&rt, alloc, items, false, &[3, 0, 1, 0, 0]);
 }
+
+/// 8,192 words of 7pt with glue between them that cannot stretch.
+fn rigid_words(rt: &impl Abort, alloc: Global) -> Vec<Node> {
+    let mut items = Vec::new(alloc);
+    for word in 0..8_192 {
+        if word > 0 {
+            let between = items.push(glue(rt, 0, 0));
+            between.ok().expect(rt, "there is memory");
+        }
+        let shown = items.push(rule(rt, 7));
+        shown.ok().expect(rt, "there is memory");
+    }
+    items
+}
+
+#[test]
+fn last_pass_over_many_words(rt: HostRuntime) {
+    // Five words fit into 40pt, the line of six is overfull, and that of seven hangs over more: no line is tried further. In the first two passes no line is
+    // good enough, and six are tried from the start alone. (7 for each of 8,185 places, 6 to 1 for the next ones, and 19 for the start)
+    let params = narrow(&rt);
+    let nodes = finished(&rt, rigid_words(&rt, rt.alloc()), &params);
+    assert!(rt; nodes.len() <= 131_072);
+    let mut meter = ListMeter::new(rt.alloc(), &nodes).expect(&rt, "not refused");
+    let found = active_breaks(rt.alloc(), &mut meter, &params);
+    let found = found.ok().expect(&rt, "there is memory");
+    assert!(rt; found.pass == Pass::Third && found.overhang == 0);
+    assert_eq!(rt; meter.trials(0), 19);
+    assert_eq!(rt; meter.trials(8_185), 7);
+    assert_eq!(rt; meter.all_trials(), 57_335);
+}

@@ -1,4 +1,4 @@
-use Rattle.std.proofs.Common.{◌≡◌, ◌+◌, sym, subst}
+use Rattle.std.proofs.Common.{◌+◌, sym, subst}
 use Rattle.std.specs.Prelude.{IfOk}
 use Rattle.break_table.specs.Tables.{IsTable}
 use Rattle.break_core.specs.Active.{pruned, MayEnd}
