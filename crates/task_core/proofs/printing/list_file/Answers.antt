@@ -8,12 +8,11 @@ pub returns-in_err-write_text-in-Err-clause-unwritten : goal.returns-in_err-writ
 returns-in_err-write_text-in-Err-clause-unwritten g c said =
     let refusal = c.in_ok-text-in-Err in
     let output = refusal.field-0 in
-    let front = rw c.deref.ensures.value at c.in_err-write_text-in-Err.ensures.front in
-    (
+    let front = rw c.deref.ensures.value at c.in_err-write_text-in-Err.ensures.front in (
       output.text.items,
       output.accepted,
       inr (refuses c.args.files.now c.args.dvi.now output.text.items c.in-Err.fault output.accepted refusal.ensures.other c.in-Err.ensures.bad c.in-Err.ensures.refused
-      refusal.ensures.text refusal.ensures.refused),
+          refusal.ensures.text refusal.ensures.refused),
       front,
     )
 
@@ -21,11 +20,10 @@ pub returns-in-Err-clause-listed : goal.returns-in-Err-clause-listed
 returns-in-Err-clause-listed g c =
     let refusal = c.in_ok-text-in-Err in
     let output = refusal.field-0 in
-    let written = rw c.deref.ensures.value at c.in_ok-write_text-in-Err.ensures.all in
-    (
+    let written = rw c.deref.ensures.value at c.in_ok-write_text-in-Err.ensures.all in (
       output.text.items,
       inr (refuses c.args.files.now c.args.dvi.now output.text.items c.in-Err.fault output.accepted refusal.ensures.other c.in-Err.ensures.bad c.in-Err.ensures.refused
-      refusal.ensures.text refusal.ensures.refused),
+          refusal.ensures.text refusal.ensures.refused),
       written,
     )
 
