@@ -50,7 +50,7 @@ front_behind old mid new a b h front = (
   subst (λ (text : List ℕ). Appends old new text) (sym (take-append-add a b front.0)) (appends_both old mid new a (take front.0 b) h front.2),
 )
 
--- a beginning of a piece behind what was written before it
+-- a beginning of a piece, after what was written before it
 pub front_of_pieces : (old mid new : Option (List ℕ)) (taken piece rest whole : List ℕ) → taken ++ (piece ++ rest) ≡ whole → Appends old mid taken → WritesFront mid new piece
     → WritesFront old new whole
 front_of_pieces old mid new taken piece rest whole is before front =
