@@ -4,6 +4,7 @@ use crate::hosts::{Unwritable, bytes_of, host_of, run};
 use crate::samples::{
     ONE_RULE, ONE_RULE_ANSWERS, ONE_RULE_BYTES, REFUSED_JOB, REFUSED_JOB_ANSWERS, UNWRITTEN_ANSWERS,
 };
+use task_core::FailureCount;
 
 /// A command line with a script, over the file of the one-rule page: its status, its output and its errors, and the file that it makes, as hexadecimal digits
 /// (none: no file is created).
