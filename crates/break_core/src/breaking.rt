@@ -14,8 +14,8 @@ use node_core::{Node, Params};
 use std::alloc::{AllocError, Global};
 
 /// The breaks of a finished list of at most 131,072 nodes: the least list of breaks of all that the first pass admits which admits any. The list is
-/// refused exactly where it has glue that shrinks without end, or else more than 8,192 legal places, both found before any growth, or where a growth is
-/// refused.
+/// refused exactly where it has glue that shrinks without end, or else more than 8,192 legal places, which a refused growth never hides, or where a growth
+/// is refused.
 pub fn breaks(alloc: Global, nodes: &[Node], params: &Params) -> Result<Breaks, BreakFault>
     requires short { length nodes.now ≤ most_nodes }
     ensures broken { IfOk result (IsBroken (facts_of nodes.now) params.now) }
