@@ -101,7 +101,6 @@ fn dimension(size: FontSize, word: i32) -> Dimen
 }
 
 /// Words at a size, at which each of them fits.
-#[tactic(auto, using(crate::proofs::SizeLemmas::tables))]
 fn dimensions(alloc: Global, size: FontSize, words: &[i32]) -> Result<Vec<Dimen>, AllocError>
     requires { are_dimens_at size words.now ≡ true }
     ensures { IfOk result (λ dimensions. dimensions.items ≡ map (scaled_by size) words.now) }

@@ -6,7 +6,6 @@ use Rattle.tfm_core.specs.Scaling.{scaled}
 use Rattle.tfm_core.proofs.SizeLemmas.{dimen-at}
 use Rattle.tfm_core.proofs.sized_file.dimensions.Goals as goal
 
--- src/font.rt:145:9
 pub dimension-requires : goal.dimension-requires
 dimension-requires c =
     let x = get_or c.args.words.now c.loop-word.word-index (pos 0) in
