@@ -11,7 +11,7 @@ use crate::tiny::TINY;
 use crate::values::{ONE_GLYPH, ONE_RULE, box_of_a_rule, narrow, one_rule, tiny_name, two_rules};
 use crate::writing::same_pages;
 use anyhow::{Context, Result};
-use dvi_write::Fonts;
+use dvi_write::{Fonts, Offsets};
 use job_core::FontFile;
 use scaled_core::Dimen;
 use std::alloc::Global;
@@ -69,8 +69,12 @@ pub fn print_completed<W: Write>(alloc: Global, output: &mut W) -> Result<()> {
 pub fn print_same_pages<W: Write>(alloc: Global, output: &mut W) -> Result<()> {
     let shown = box_of_a_rule(alloc)?;
     let fonts = Fonts::new(alloc)?;
+    let at = Offsets {
+        h: Dimen::ZERO,
+        v: Dimen::ZERO,
+    };
     let counts = [[0; 10], [7; 10]];
-    let memory = same_pages(alloc, &shown, &counts, &fonts)?;
+    let memory = same_pages(alloc, &shown, at, &counts, &fonts)?;
     writeln!(output, "== same_pages")?;
     writeln!(output, "{} bytes", memory.bytes().len())?;
     Ok(())
