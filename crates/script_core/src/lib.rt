@@ -5,12 +5,14 @@
 
 mod amounts;
 mod cause;
+mod commands;
 mod fields;
 pub mod laws;
 mod lines;
 mod name;
 mod parameter;
 mod script;
+mod values;
 
 pub use cause::Cause;
 pub use script::{Line, ScriptFault, read_script};

@@ -3,7 +3,7 @@ use Rattle.std.proofs.Common.{FitsSigned, rules}
 use Rattle.std.specs.Int.{w64}
 use Rattle.std.proofs.lemmas.Int.{to_z-of_z}
 use Rattle.script_core.proofs.Numbers.{penalty_tried}
-use Rattle.script_core.proofs.fields.penalty_of.Goals as goal
+use Rattle.script_core.proofs.values.penalty_of.Goals as goal
 
 pub returns-in-Some : goal.returns-in-Some
 returns-in-Some c =

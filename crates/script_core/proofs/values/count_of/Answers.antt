@@ -3,7 +3,7 @@ use Rattle.std.proofs.Common.{sym, ◌∙◌, FitsSigned, rules}
 use Rattle.std.specs.Int.{w64}
 use Rattle.std.proofs.lemmas.Int.{to_z-of_z}
 use Rattle.script_core.proofs.CountNumbers.{count_names}
-use Rattle.script_core.proofs.fields.count_of.Goals as goal
+use Rattle.script_core.proofs.values.count_of.Goals as goal
 
 pub returns-in-Some : goal.returns-in-Some
 returns-in-Some c =
