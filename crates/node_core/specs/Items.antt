@@ -6,10 +6,6 @@ use Rattle.node_core.specs.declared.tree.Kind.{Kind}
 use Rattle.node_core.specs.declared.tree.Rule.{Rule}
 use Rattle.node_core.specs.declared.tree.Setting.{Setting}
 
--- The text of a special has at most so many bytes (own).
-abbrev pub most_text : ℕ
-most_text = 65535
-
 -- An item that has no items of its own: a character of a font, a kern of a font, an explicit kern, glue, a penalty, a rule, or a special, which is
 -- its text (TeX: The Program, parts 10 and 53).
 pub data Leaf : Type 0 where

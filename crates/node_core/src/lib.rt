@@ -4,6 +4,7 @@
 #![tactic(auto)]
 
 pub mod class;
+pub mod limits;
 pub mod params;
 pub mod special;
 pub mod tree;

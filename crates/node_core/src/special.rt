@@ -1,7 +1,7 @@
 //! The text of a special.
 
 ghost use Rattle.std.specs.Prelude.{◌≡◌, ◌≤◌, length, IfOk};
-ghost use Rattle.node_core.specs.Items.{most_text};
+ghost use Rattle.node_core.specs.declared.limits.TheConstants.{MAX_SPECIAL_TEXT};
 
 use std::alloc::{AllocError, Global};
 use std::marker::Model;
@@ -14,19 +14,19 @@ pub struct SpecialText {
 
 impl Model for SpecialText {
     ghost use Rattle.std.specs.Prelude.{List, ℕ, ◌≤◌, length};
-    ghost use Rattle.node_core.specs.Items.{most_text};
+    ghost use Rattle.node_core.specs.declared.limits.TheConstants.{MAX_SPECIAL_TEXT};
 
     ghost Value = { List ℕ };
 
     ghost view = { λ text. text.bytes.items };
 
-    ghost invariant = { λ text. length text.bytes.items ≤ most_text };
+    ghost invariant = { λ text. length text.bytes.items ≤ MAX_SPECIAL_TEXT };
 }
 
 impl SpecialText {
     /// A text of these bytes, at most 65,535. It takes no memory.
     pub fn from_vec(bytes: Vec<u8>) -> SpecialText
-        requires short { length bytes.items ≤ most_text }
+        requires short { length bytes.items ≤ MAX_SPECIAL_TEXT }
         ensures { result ≡ bytes.items }
     {
         SpecialText { bytes }
@@ -35,7 +35,7 @@ impl SpecialText {
     /// The bytes of the text, lent.
     pub fn as_bytes(&self) -> &[u8]
         ensures bytes { result.now ≡ self.now }
-        ensures short { length self.now ≤ most_text }
+        ensures short { length self.now ≤ MAX_SPECIAL_TEXT }
     {
         &self.bytes
     }
