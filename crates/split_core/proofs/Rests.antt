@@ -1,10 +1,10 @@
 -- The parts of a list that is split, and why it is not.
 use Rattle.std.proofs.Common.{◌≡◌, ◌≢◌, ◌∙◌, ◌⊎◌, ℕ, ◌+◌, ◌-◌, ◌<◌, ◌≤◌, ◌&&◌, List, [], ◌∷◌, ◌++◌, length, take, drop, get_or, Bool, true, false, inl, inr, refl, ap, sym, subst, arith}
-use Rattle.std.specs.Prelude.{ℤ, pos, Option, Some, None, is_some, IsTrue, if◌then◌else◌}
-use Rattle.std.specs.List.{list_all, list_any, slice_get}
+use Rattle.std.specs.Prelude.{ℤ, pos, Option, Some, None, is_err, is_ok, IfErr, IsErrAnd, IsTrue, Result, Ok, Err, if◌then◌else◌}
+use Rattle.std.specs.List.{filter, list_all, list_any, slice_get}
 use Rattle.std.specs.Option.{IfSome}
 use Rattle.std.proofs.lemmas.Bool.{cases_eq}
-use Rattle.std.proofs.lemmas.List.{drop-drop, drop_all, drop_more, length-drop}
+use Rattle.std.proofs.lemmas.List.{drop-drop, drop_all, drop_more, length-append, length-drop, length-take}
 use Rattle.std.proofs.lemmas.Option.{slice_get-get_or}
 use Rattle.std.proofs.lemmas.List.Folds.{list_all-append}
 use Rattle.node_core.specs.declared.params.SplitParams.{SplitParams}
@@ -18,9 +18,9 @@ use Rattle.pack_core.specs.Boxes.{vbox_numbers}
 use Rattle.split_core.specs.declared.plan.Rest.{Rest}
 use Rattle.split_core.specs.declared.parts.SplitFault.TheVariants.{InfiniteShrink, DimensionTooLarge}
 use Rattle.split_core.specs.Places.{is_box_or_rule, is_some_before_break, precedes_break}
-use Rattle.split_core.specs.Split.{from_box_or_rule, specials_above, split_place, front_items, items_after, topped, left_of, top_widths, rest_numbers, split_numbers}
+use Rattle.split_core.specs.Split.{from_box_or_rule, specials_above, split_place, front_items, items_after, topped, left_of, is_special, top_widths, rest_numbers, split_numbers}
 use Rattle.split_core.specs.Split.{refusal, no_limit, packed_as, packed_rest, front_of, rest_of}
-use Rattle.split_core.specs.Steps.{glued, rest_list, left_items}
+use Rattle.split_core.specs.Steps.{glued, rest_list, left_items, IsInside}
 use Rattle.split_core.proofs.Search.{both-true}
 use Rattle.split_core.proofs.Specials.{above-filtered, numbers-above}
 
@@ -87,7 +87,8 @@ pub none-fits :
 none-fits params items place first specials solid end =
     let none : drop first items ≡ [] = drop_all first items (omega (arith, end)) in
     let weak : from_box_or_rule (drop place items) ≡ [] = sym solid ∙ ap from_box_or_rule none in
-    rw (weak, ← none-left params items place first specials solid end) refl
+    let high : specials_above (drop place items) ≡ [] = sym specials ∙ ap specials_above none in
+    rw (weak, high) refl
 
 pub planned-left :
     (params : SplitParams) (items : List Node) (place first start : ℕ) (glue : Option Glue) → first ≤ start → start ≤ length items
@@ -160,14 +161,50 @@ pub rest-planned :
 unfolding rest_of
 rest-planned params goal items rest is = ap packed_rest is
 
--- Where the plan has a rest the split has one.
-packed-some : (xs : List Node) → 0 < length xs → is_some (packed_rest xs) ≡ true
+-- What has an item is packed.
+pub packed-some : (xs : List Node) → 0 < length xs → packed_rest xs ≡ Some (packed_as Natural no_limit xs)
 packed-some [] some = absurd (omega (arith, some))
 packed-some (x ∷ xs) some = refl
 
-pub rest-some :
-    (params : SplitParams) (goal : ℤ) (items : List Node) (rest : Option Rest) → IfSome rest (λ r. 0 < length (left_of params (items_after params goal items)))
-    → is_some rest ≡ true → is_some (rest_of params goal items) ≡ true
-unfolding rest_of
-rest-some params goal items None left some = absurd (cc)
-rest-some params goal items (Some rest) left some = packed-some (left_of params (items_after params goal items)) left
+-- A rest has no more items than the list.
+filter-shorter : (xs : List Node) → length (filter is_special xs) ≤ length xs
+filter-shorter [] = omega arith
+filter-shorter (x ∷ xs) = here (is_special x) refl (filter-shorter xs)
+  where
+    here : (special : Bool) → is_special x ≡ special → length (filter is_special xs) ≤ length xs → length (filter is_special (x ∷ xs)) ≤ length (x ∷ xs)
+    here true e less = rw e (omega arith)
+    here false e less = rw e (omega arith)
+
+glued-shorter : (glue : Option Glue) (xs : List Node) → length (glued glue xs) ≤ length xs + 1
+glued-shorter None xs = omega arith
+glued-shorter (Some glue) xs = omega arith
+
+pub rest-shorter : (rest : Rest) (items : List Node) → IsInside rest items → length (rest_list rest items) ≤ length items
+rest-shorter rest items inside =
+    let above : List Node = take (rest.start - rest.first) (drop rest.first items) in
+    omega (arith, inside.free, inside.ordered, inside.within, length-append (filter is_special above) (glued rest.glue (drop rest.start items)), filter-shorter above,
+    length-take (rest.start - rest.first) (drop rest.first items), glued-shorter rest.glue (drop rest.start items), length-drop rest.start items)
+
+-- The rest that is split off one item earlier.
+pub taken :
+    (items left : List Node) (rest : Rest) → left ≡ drop (rest.first - 1) items → IsInside rest items
+    → filter is_special (take (rest.start - (rest.first - 1) - 1) (drop 1 left)) ++ glued rest.glue (drop (rest.start - (rest.first - 1)) left) ≡ rest_list rest items
+taken items left rest is inside =
+    let from : rest.first - 1 + 1 ≡ rest.first = omega (arith, inside.free) in
+    let to : rest.first - 1 + (rest.start - (rest.first - 1)) ≡ rest.start = omega (arith, inside.free, inside.ordered) in
+    let many : rest.start - (rest.first - 1) - 1 ≡ rest.start - rest.first = omega (arith, inside.free) in
+    let above : drop 1 left ≡ drop rest.first items = ap (drop 1) is ∙ drop-drop 1 (rest.first - 1) items ∙ ap (λ (i : ℕ). drop i items) from in
+    let below : drop (rest.start - (rest.first - 1)) left ≡ drop rest.start items =
+    ap (drop (rest.start - (rest.first - 1))) is ∙ drop-drop (rest.start - (rest.first - 1)) (rest.first - 1) items ∙ ap (λ (i : ℕ). drop i items) to in
+    ap (λ (xs : List Node). filter is_special (take (rest.start - (rest.first - 1) - 1) xs) ++ glued rest.glue (drop (rest.start - (rest.first - 1)) left)) above
+    ∙ ap (λ (n : ℕ). filter is_special (take n (drop rest.first items)) ++ glued rest.glue (drop (rest.start - (rest.first - 1)) left)) many
+    ∙ ap (λ (xs : List Node). filter is_special (take (rest.start - rest.first) (drop rest.first items)) ++ glued rest.glue xs) below
+
+-- What an error that is handed on is.
+pub handed_on : {A E : Type 0} (P : E → Type 0) (r : Result A E) (e : E) → IsErrAnd r (λ y. y ≡ e) → P e → IfErr r P
+handed_on P (Ok x) e given p = tt
+handed_on P (Err y) e given p = subst P (sym given) p
+
+pub not_ok : {A E : Type 0} (r : Result A E) → is_err r ≡ true → is_ok r ≡ false
+not_ok (Ok x) e = absurd (cc)
+not_ok (Err y) e = refl

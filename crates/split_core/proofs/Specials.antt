@@ -61,14 +61,14 @@ above-filtered (x ∷ xs) zero within at = here (is_box_or_rule x) refl at
     here : (solid : Bool) → is_box_or_rule x ≡ solid → x ∷ xs ≡ from_box_or_rule (x ∷ xs) → [] ≡ specials_above (x ∷ xs)
     here true e at = rw e refl
     here false e at = let more : x ∷ xs ≡ from_box_or_rule xs = rw e at at in absurd (omega (arith, ap length more, rest-shorter xs))
-above-filtered (x ∷ xs) (suc n) within at = here (is_box_or_rule x) (is_special x) refl refl at
+above-filtered (x ∷ xs) (suc n) within at = here (is_box_or_rule x) (is_special x) refl refl at (above-filtered xs n (omega (arith, within)))
   where
     here :
         (solid special : Bool) → is_box_or_rule x ≡ solid → is_special x ≡ special → drop n xs ≡ from_box_or_rule (x ∷ xs)
-        → filter is_special (take (suc n) (x ∷ xs)) ≡ specials_above (x ∷ xs)
-    here true special e s at = let all : drop n xs ≡ x ∷ xs = rw e at at in absurd (omega (arith, ap length all, length-drop n xs))
-    here false true e s at = rw (e, s) (ap (λ (ys : List Node). x ∷ ys) (above-filtered xs n (omega (arith, within)) (rw e at at)))
-    here false false e s at = rw (e, s) (above-filtered xs n (omega (arith, within)) (rw e at at))
+        → (drop n xs ≡ from_box_or_rule xs → filter is_special (take n xs) ≡ specials_above xs) → filter is_special (take (suc n) (x ∷ xs)) ≡ specials_above (x ∷ xs)
+    here true special e s at later = let all : drop n xs ≡ x ∷ xs = rw e at at in absurd (omega (arith, ap length all, length-drop n xs))
+    here false true e s at later = rw (e, s) (ap (λ (ys : List Node). x ∷ ys) (later (rw e at at)))
+    here false false e s at later = rw (e, s) (later (rw e at at))
 
 -- An item is swapped with an earlier one.
 pub swapped-front :

@@ -48,11 +48,12 @@ abbrev pub left_items : Option Rest → List Node → List Node
 left_items None items = []
 left_items (Some rest) items = rest_list rest items
 
--- The rest can be taken from the list: the item before its first one is free for the glue.
+-- The rest can be taken from the list: it has an item, and the item of the list before its first one is free for the glue.
 pub record IsInside (rest : Rest) (items : List Node) : Type 0 where
-  pub some : 0 < rest.first
+  pub free : 0 < rest.first
   pub ordered : rest.first ≤ rest.start
   pub within : rest.start ≤ length items
+  pub some : 0 < length (rest_list rest items)
 
 -- The plan fits the list: it can be carried out.
 pub record IsSound (params : SplitParams) (goal : ℤ) (items : List Node) (plan : Plan) : Type 0 where

@@ -62,7 +62,7 @@ fn carry_out(
     requires sound { IsSound params.now height nodes.items plan.now }
     ensures front { IfOk result (λ s. s.front ≡ packed_as (Target.To height) params.now.split_max_depth (take plan.now.place nodes.items)) }
     ensures rest { IfOk result (λ s. s.rest ≡ packed_rest (left_items plan.now.rest nodes.items)) }
-    ensures growth { OnErr result (is_some plan.now.rest ≡ true) }
+    ensures growth { OnErr result (is_some (packed_rest (left_items plan.now.rest nodes.items)) ≡ true) }
     ensures back { IfErr result (λ back. back.items ≡ nodes.items) }
 {
     let Some(rest) = &plan.rest else {

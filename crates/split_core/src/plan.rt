@@ -126,7 +126,6 @@ fn plan_rest(nodes: &[Node], place: usize, params: &SplitParams) -> Result<Optio
     ensures ok { IfOk result (λ rest. left_items rest nodes.now ≡ left_of params.now (drop place nodes.now)) }
     ensures after { IfOk result (λ rest. IfSome rest (λ r. place < r.first)) }
     ensures inside { IfOk result (λ rest. IfSome rest (λ r. IsInside r nodes.now)) }
-    ensures some { IfOk result (λ rest. IfSome rest (λ r. 0 < length (left_of params.now (drop place nodes.now)))) }
     ensures fits { is_ok result ≡ list_all fits (rest_numbers params.now (drop place nodes.now)) }
     ensures fault { IfErr result (λ e. e ≡ SplitFault.DimensionTooLarge) }
 {
@@ -144,7 +143,6 @@ pub fn plan_split(nodes: &[Node], height: Dimen, params: &SplitParams) -> Result
     requires short { length nodes.now ≤ most_nodes }
     ensures place { IfOk result (λ p. p.place ≡ split_place params.now height nodes.now) }
     ensures rest { IfOk result (λ p. left_items p.rest nodes.now ≡ left_of params.now (items_after params.now height nodes.now)) }
-    ensures some { IfOk result (λ p. IfSome p.rest (λ r. 0 < length (left_of params.now (items_after params.now height nodes.now)))) }
     ensures sound { IfOk result (λ p. IsSound params.now height nodes.now p) }
     ensures ok { OnOk result (refusal params.now height nodes.now ≡ None) }
     ensures err { IfErr result (λ e. refusal params.now height nodes.now ≡ Some e) }

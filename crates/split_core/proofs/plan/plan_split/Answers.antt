@@ -1,13 +1,12 @@
-use Rattle.std.proofs.Common.{◌≡◌, ◌∙◌, ◌<◌, ℕ, List, length, take, drop, true, false, refl, ap, subst, sym}
+use Rattle.std.proofs.Common.{◌≡◌, ◌∙◌, ℕ, take, drop, true, false, refl, ap, sym}
 use Rattle.std.specs.Prelude.{Some}
 use Rattle.std.specs.List.{list_all}
-use Rattle.std.specs.Option.{IfSome}
-use Rattle.node_core.specs.declared.tree.Node.{Node}
 use Rattle.pack_core.specs.declared.pack.Target.TheVariants.{To}
 use Rattle.scaled_core.specs.Dimensions.{fits}
 use Rattle.pack_core.specs.Boxes.{vbox_numbers}
-use Rattle.split_core.specs.Split.{left_of, items_after, rest_numbers}
-use Rattle.split_core.proofs.Rests.{left-fits, refusal-infinite, refusal-fits, refusal-planned}
+use Rattle.split_core.specs.declared.parts.SplitFault.{SplitFault}
+use Rattle.split_core.specs.Split.{items_after, refusal, rest_numbers}
+use Rattle.split_core.proofs.Rests.{left-fits, refusal-infinite, refusal-fits, refusal-planned, handed_on}
 use Rattle.split_core.proofs.plan.plan_split.Goals as goal
 
 pub returns-then-has_infinite_shrink-clause-err : goal.returns-then-has_infinite_shrink-clause-err
@@ -21,3 +20,27 @@ returns-then-not-vbox_fits-clause-err c =
     (sym c.has_infinite_shrink.ensures ∙ c.if-has_infinite_shrink.false)
     (ap (λ (i : ℕ). list_all fits (vbox_numbers (To c.args.height) c.args.params.now.split_max_depth (take i c.args.nodes.now))) (sym place) ∙ sym c.vbox_fits.ensures ∙ c.if-not-vbox_fits.true)
     refl
+
+pub returns-in_err-rest-clause-err : goal.returns-in_err-rest-clause-err
+returns-in_err-rest-clause-err c =
+    let at =
+    refusal-planned c.args.params.now c.args.height c.args.nodes.now c.split_place-place.result true false
+    (sym c.has_infinite_shrink.ensures ∙ c.if-has_infinite_shrink.false) c.split_place-place.ensures.value
+    (sym c.vbox_fits.ensures ∙ c.if-not-vbox_fits.false) (sym c.in_err-rest.ensures.fits) in
+    handed_on (λ (e : SplitFault). refusal c.args.params.now c.args.height c.args.nodes.now ≡ Some e) c.from_residual.result c.in_err-rest.field-0.0
+    c.from_residual.ensures.1 (at ∙ ap Some (sym c.in_err-rest.ensures.fault))
+
+pub returns-clause-sound : goal.returns-clause-sound
+returns-clause-sound c = record {
+  within = c.split_place-place.ensures.within;
+  after = c.in_ok-rest.ensures.after;
+  front_fits = sym c.vbox_fits.ensures ∙ c.if-not-vbox_fits.false;
+  inside = c.in_ok-rest.ensures.inside;
+  rest_fits = left-fits c.args.params.now c.args.nodes.now (drop c.split_place-place.result c.args.nodes.now) c.in_ok-rest.rest c.in_ok-rest.ensures.ok (sym c.in_ok-rest.ensures.fits);
+}
+
+pub returns-clause-ok : goal.returns-clause-ok
+returns-clause-ok c =
+    refusal-planned c.args.params.now c.args.height c.args.nodes.now c.split_place-place.result true true
+    (sym c.has_infinite_shrink.ensures ∙ c.if-has_infinite_shrink.false) c.split_place-place.ensures.value
+    (sym c.vbox_fits.ensures ∙ c.if-not-vbox_fits.false) (sym c.in_ok-rest.ensures.fits)
