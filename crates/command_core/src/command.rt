@@ -4,7 +4,7 @@ ghost use Rattle.std.specs.Prelude.{◌≡◌, ◌<◌};
 ghost use Rattle.std.specs.Option.{SomeIff};
 ghost use Rattle.command_core.specs.BoxForms.{kind_of};
 
-use crate::limits::{COUNTS, REGISTERS};
+use node_core::limits::{COUNTS, REGISTERS};
 use node_core::{FirstLines, Glue, Kind, Number, Rule};
 use pack_core::Target;
 use scaled_core::Dimen;
@@ -12,7 +12,7 @@ use std::marker::Model;
 use tfm_core::{FontName, FontSize, TfmCause};
 use thiserror::Error;
 
-/// The number of a box register: 0 to 255.
+/// The number of a box register: 0 to 32767.
 #[derive(Clone, Copy, Debug, PartialEq, Eq)]
 pub struct Register {
     number: u16,
@@ -20,7 +20,7 @@ pub struct Register {
 
 impl Model for Register {
     ghost use Rattle.std.specs.Prelude.{ℕ, ◌<◌};
-    ghost use Rattle.command_core.specs.declared.limits.TheConstants.{REGISTERS};
+    ghost use Rattle.node_core.specs.declared.limits.TheConstants.{REGISTERS};
 
     ghost Value = { ℕ };
 
@@ -65,7 +65,7 @@ pub struct CountNumber {
 
 impl Model for CountNumber {
     ghost use Rattle.std.specs.Prelude.{ℕ, ◌<◌};
-    ghost use Rattle.command_core.specs.declared.limits.TheConstants.{COUNTS};
+    ghost use Rattle.node_core.specs.declared.limits.TheConstants.{COUNTS};
 
     ghost Value = { ℕ };
 

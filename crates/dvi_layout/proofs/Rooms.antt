@@ -10,7 +10,7 @@ use Rattle.dvi_ops.proofs.Layouts.{length-bytes_of-append}
 use Rattle.node_core.specs.Nodes.{box_count}
 use Rattle.ship_core.specs.Marks.{Page, is_huge}
 use Rattle.dvi_layout.specs.declared.progress.WriteFault.TheVariants.{TooManyPages, TooMuchShipped, HugePage}
-use Rattle.dvi_layout.specs.declared.progress.TheConstants.{MOST_PAGES, MOST_SHIPPED}
+use Rattle.node_core.specs.declared.limits.TheConstants.{MAX_PAGES, MAX_SHIPPED_NODES}
 use Rattle.dvi_layout.specs.declared.fonts.LoadedFont.{LoadedFont}
 use Rattle.dvi_layout.specs.Fonts.{Slots, font_in, IsDefinable, AreDefinable}
 use Rattle.dvi_layout.specs.Shippable.{IsShippable, slot_widths}
@@ -61,14 +61,14 @@ short_names fonts all s l has = let of = definable_in fonts s l all has in (of.1
 
 -- What holds where no limit is met.
 pub record Admits (s : SoFar) (page : Page) : Type 0 where
-  pub pages : nat_le MOST_PAGES s.pages ≡ false
-  pub nodes : nat_lt MOST_SHIPPED (s.nodes + box_count page.box_node) ≡ false
+  pub pages : nat_le MAX_PAGES s.pages ≡ false
+  pub nodes : nat_lt MAX_SHIPPED_NODES (s.nodes + box_count page.box_node) ≡ false
   pub small : is_huge page ≡ false
 
 pub admitted : (s : SoFar) (page : Page) → limit_of s page ≡ None → Admits s page
-admitted s page none = by_tests (nat_le MOST_PAGES s.pages) (nat_lt MOST_SHIPPED (s.nodes + box_count page.box_node)) (is_huge page) refl refl refl none
+admitted s page none = by_tests (nat_le MAX_PAGES s.pages) (nat_lt MAX_SHIPPED_NODES (s.nodes + box_count page.box_node)) (is_huge page) refl refl refl none
   where
-    by_tests : (a b c : Bool) → nat_le MOST_PAGES s.pages ≡ a → nat_lt MOST_SHIPPED (s.nodes + box_count page.box_node) ≡ b → is_huge page ≡ c
+    by_tests : (a b c : Bool) → nat_le MAX_PAGES s.pages ≡ a → nat_lt MAX_SHIPPED_NODES (s.nodes + box_count page.box_node) ≡ b → is_huge page ≡ c
         → (if a then Some TooManyPages else if b then Some TooMuchShipped else if c then Some HugePage else None) ≡ None → Admits s page
     by_tests true b c first second third none = cc
     by_tests false true c first second third none = cc
@@ -88,8 +88,8 @@ pub room_next : (fonts : Slots) (s : SoFar) (page : Page) → AreDefinable fonts
 unfolding with_next next_bytes
 room_next fonts s page definable sound ten none room =
     let admits = admitted s page none in
-    let nodes = ltb-false MOST_SHIPPED (s.nodes + box_count page.box_node) admits.nodes in
-    let pages = leb-false MOST_PAGES s.pages admits.pages in
+    let nodes = ltb-false MAX_SHIPPED_NODES (s.nodes + box_count page.box_node) admits.nodes in
+    let pages = leb-false MAX_PAGES s.pages admits.pages in
     let fresh = fresh_slots fonts s.defined (flat (written_body page)) in
     let sheet = sheet_from s.last (sheet_of fonts s.defined page) in
     record {

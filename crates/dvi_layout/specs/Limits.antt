@@ -4,23 +4,23 @@ use Rattle.node_core.specs.Nodes.{box_count}
 use Rattle.ship_core.specs.Marks.{Page, is_huge}
 use Rattle.dvi_layout.specs.declared.progress.WriteFault.{WriteFault}
 use Rattle.dvi_layout.specs.declared.progress.WriteFault.TheVariants.{TooManyPages, TooMuchShipped, HugePage}
-use Rattle.dvi_layout.specs.declared.progress.TheConstants.{MOST_PAGES, MOST_SHIPPED, MOST_DEEP}
+use Rattle.node_core.specs.declared.limits.TheConstants.{MAX_PAGES, MAX_SHIPPED_NODES, MAX_DEPTH}
 use Rattle.dvi_layout.specs.Sheets.{in_rising_order}
 use Rattle.dvi_layout.specs.SoFar.{SoFar}
 
 -- Why a page is not taken before memory is asked for: the first of these that holds.
 abbrev pub limit_of : SoFar → Page → Option WriteFault
 limit_of s page =
-    if nat_le MOST_PAGES s.pages then Some TooManyPages
-    else if nat_lt MOST_SHIPPED (s.nodes + box_count page.box_node) then Some TooMuchShipped
+    if nat_le MAX_PAGES s.pages then Some TooManyPages
+    else if nat_lt MAX_SHIPPED_NODES (s.nodes + box_count page.box_node) then Some TooMuchShipped
     else if is_huge page then Some HugePage
     else None
 
 -- What is kept lies within the limits, so that every place in the file is below 2^31 (the invariant of the writer).
 pub record HasRoom (s : SoFar) : Type 0 where
-  pub nodes : s.nodes ≤ MOST_SHIPPED
-  pub pages : s.pages ≤ MOST_PAGES
-  pub deep : s.deep ≤ MOST_DEEP
+  pub nodes : s.nodes ≤ MAX_SHIPPED_NODES
+  pub pages : s.pages ≤ MAX_PAGES
+  pub deep : s.deep ≤ MAX_DEPTH
   -- Each slot is defined once, so that there are at most `FONT_SLOTS` definitions.
   pub defined : length (in_rising_order s.defined) ≡ length s.defined
   -- Nothing goes out before the first page.

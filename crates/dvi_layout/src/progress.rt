@@ -16,7 +16,6 @@ ghost use Rattle.ship_core.specs.Pages.{page_at, reach_down, reach_right};
 ghost use Rattle.dvi_layout.specs.Sheets.{definitions_of, written_body};
 ghost use Rattle.dvi_layout.specs.SoFar.{closing_so_far, last_bytes, next_bytes, nothing_so_far, opening, stop_so_far, with_next};
 ghost use Rattle.dvi_layout.specs.Limits.{HasRoom, limit_of};
-ghost use Rattle.dvi_layout.specs.declared.fonts.TheConstants.{FONT_SLOTS};
 
 use crate::defined::DefinedSlots;
 use crate::fonts::Fonts;
@@ -27,28 +26,12 @@ use crate::layout::{
 use dvi_ops::{Op, Postamble, opcodes};
 use move_core::reuse;
 use node_core::BoxNode;
+use node_core::limits::{MAX_PAGES, MAX_SHIPPED_NODES};
 use scaled_core::Dimen;
 use ship_core::{PagePoint, draw_page, is_huge, push_depth};
 use std::alloc::{AllocError, Global};
 use std::marker::Model;
 use thiserror::Error;
-
-/// How many pages a file may have.
-pub const MOST_PAGES: u32 = 65_535;
-
-/// How many nodes the boxes of all pages may have together.
-pub const MOST_SHIPPED: u64 = 16_777_216;
-
-/// How deep boxes may nest in the box of a page, that box counted.
-pub const MOST_DEEP: u64 = 200;
-
-/// The limits of a file are these numbers. The definitions take them from the constants.
-pub fn limits_of_a_file()
-    ensures pages { MOST_PAGES ≡ 65535 }
-    ensures shipped { MOST_SHIPPED ≡ 16777216 }
-    ensures deep { MOST_DEEP ≡ 200 }
-    ensures slots { FONT_SLOTS ≡ 256 }
-{}
 
 /// Why a page was not taken, or a file not ended.
 #[derive(Clone, Copy, Debug, PartialEq, Eq, Error)]
@@ -223,11 +206,11 @@ impl Progress {
         ensures ok { OnOk result ((counts : List ℤ) → limit_of self.now (page_at counts at.h at.v box_node.now) ≡ None) }
         ensures err { IfErr result (λ fault. (counts : List ℤ) → limit_of self.now (page_at counts at.h at.v box_node.now) ≡ Some fault) }
     {
-        if self.pages >= MOST_PAGES {
+        if self.pages >= MAX_PAGES {
             return Err(WriteFault::TooManyPages);
         }
         let nodes = box_node.count();
-        if self.nodes.saturating_add(nodes) > MOST_SHIPPED {
+        if self.nodes.saturating_add(nodes) > MAX_SHIPPED_NODES {
             return Err(WriteFault::TooMuchShipped);
         }
         if is_huge(box_node, at) {
@@ -262,8 +245,8 @@ impl Progress {
         requires few { length self.old.defined + length slots.now ≤ 256 }
         requires within { bop ≤ size }
         requires room { self.old.size + size < 2 ^ 31 }
-        requires pages { self.old.pages < MOST_PAGES }
-        requires nodes { self.old.nodes + nodes ≤ MOST_SHIPPED }
+        requires pages { self.old.pages < MAX_PAGES }
+        requires nodes { self.old.nodes + nodes ≤ MAX_SHIPPED_NODES }
         ensures { self.new ≡ record self.old { last = pos (self.old.size + bop); size = self.old.size + size; defined = self.old.defined ++ slots.now; pages = self.old.pages + 1; nodes = self.old.nodes + nodes } }
     {
         self.defined.append(slots);

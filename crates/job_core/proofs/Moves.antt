@@ -7,7 +7,7 @@ use Rattle.command_core.specs.declared.command.Command.TheVariants.{LoadFont, Us
 use Rattle.command_core.specs.declared.command.Refusal.{Refusal}
 use Rattle.command_core.specs.declared.command.Refusal.TheVariants.{OutOfMemory, Device, JobOver, VoidBox, TooManyPages, TooMuchShipped, HugePage}
 use Rattle.command_core.specs.Reply.{Reply}
-use Rattle.command_core.specs.declared.limits.TheConstants.{MOST_PAGES, MOST_SHIPPED}
+use Rattle.node_core.specs.declared.limits.TheConstants.{MAX_PAGES, MAX_SHIPPED_NODES}
 use Rattle.ship_core.specs.Marks.{Page}
 use Rattle.dvi_layout.specs.Fonts.{Slots}
 use Rattle.device_core.specs.Told.{grown, GrowsByFront}
@@ -40,7 +40,7 @@ second_fails false false p q rest none = refl
 box_is_held : (s : State) (r : ℕ) → first_of (checks s (Ship r)) ≡ None → is_none (held_in s.registers r) ≡ false
 box_is_held s r none =
     second_fails s.over (is_none (held_in s.registers r)) JobOver VoidBox
-    ((nat_le MOST_PAGES s.pages, TooManyPages) ∷ (nat_lt MOST_SHIPPED (s.shipped + count_in (held_in s.registers r)), TooMuchShipped)
+    ((nat_le MAX_PAGES s.pages, TooManyPages) ∷ (nat_lt MAX_SHIPPED_NODES (s.shipped + count_in (held_in s.registers r)), TooMuchShipped)
     ∷ (is_huge_in s (held_in s.registers r), HugePage) ∷ [])
     none
 

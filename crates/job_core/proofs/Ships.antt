@@ -8,7 +8,7 @@ use Rattle.command_core.specs.declared.command.Answer.TheVariants.{Shipped}
 use Rattle.command_core.specs.declared.command.Command.TheVariants.{Ship}
 use Rattle.command_core.specs.declared.command.Refusal.{Refusal}
 use Rattle.command_core.specs.declared.command.Refusal.TheVariants.{JobOver, VoidBox, TooManyPages, TooMuchShipped, HugePage, Device}
-use Rattle.command_core.specs.declared.limits.TheConstants.{MOST_PAGES, MOST_SHIPPED}
+use Rattle.node_core.specs.declared.limits.TheConstants.{MAX_PAGES, MAX_SHIPPED_NODES}
 use Rattle.command_core.specs.Reply.{Reply}
 use Rattle.device_core.specs.Told.{GrowsByFront}
 use Rattle.ship_core.specs.Marks.{Page, is_huge}
@@ -77,7 +77,7 @@ never_by false false false false fault (inr e) is = cc
 
 never_lost : (w : Writing) (page : Page) → refusal_of w page ≡ Some faults.Device → ⊥
 never_lost w page is =
-    never_by w.over (nat_le MOST_PAGES w.so_far.pages) (nat_lt MOST_SHIPPED (w.so_far.nodes + box_count page.box_node)) (is_huge page) faults.Device (inr refl) is
+    never_by w.over (nat_le MAX_PAGES w.so_far.pages) (nat_lt MAX_SHIPPED_NODES (w.so_far.nodes + box_count page.box_node)) (is_huge page) faults.Device (inr refl) is
 
 -- A void register is refused.
 pub void_refused : (kept : Keeping) (w : Writing) (r : ℕ) → w.over ≡ false → held_in kept.registers r ≡ None → KeepsTo (seen_by kept w) (Ship r) (Err VoidBox) (seen_by kept w)
@@ -90,9 +90,9 @@ module _ (kept : Keeping) (w : Writing) (r : ℕ) (b : BoxNode) (page : Page) (i
 
   checked : first_of (checks s (Ship r)) ≡ option_map refusal_for (refusal_of w page)
   checked =
-      ap (λ held. first_of ((w.over, JobOver) ∷ (is_none held, VoidBox) ∷ (nat_le MOST_PAGES w.so_far.pages, TooManyPages)
-      ∷ (nat_lt MOST_SHIPPED (w.so_far.nodes + count_in held), TooMuchShipped) ∷ (is_huge_in s held, HugePage) ∷ [])) is
-      ∙ (by_tests w.over (nat_le MOST_PAGES w.so_far.pages) (nat_lt MOST_SHIPPED (w.so_far.nodes + box_count b)) (is_huge (page_in (unshipped kept) b))
+      ap (λ held. first_of ((w.over, JobOver) ∷ (is_none held, VoidBox) ∷ (nat_le MAX_PAGES w.so_far.pages, TooManyPages)
+      ∷ (nat_lt MAX_SHIPPED_NODES (w.so_far.nodes + count_in held), TooMuchShipped) ∷ (is_huge_in s held, HugePage) ∷ [])) is
+      ∙ (by_tests w.over (nat_le MAX_PAGES w.so_far.pages) (nat_lt MAX_SHIPPED_NODES (w.so_far.nodes + box_count b)) (is_huge (page_in (unshipped kept) b))
       ∙ ap (λ (p : Page). option_map refusal_for (refusal_of w p)) (sym same))
 
   accepted : refusal_of w page ≡ None → first_of (checks s (Ship r)) ≡ None

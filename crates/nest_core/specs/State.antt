@@ -8,12 +8,12 @@ use Rattle.node_core.specs.Nodes.{nodes_of, box_count}
 use Rattle.node_core.specs.Parameters.{first_params}
 use Rattle.nest_core.specs.declared.nest.OpenList.{OpenList}
 use Rattle.command_core.specs.declared.command.FontLoad.{FontLoad}
-use Rattle.command_core.specs.declared.limits.TheConstants.{REGISTERS, COUNTS}
+use Rattle.node_core.specs.declared.limits.TheConstants.{REGISTERS, COUNTS}
 use Rattle.command_core.specs.declared.command.Refusal.{Refusal}
 use Rattle.tfm_core.specs.NamedBytes.{NamedBytes, file_named}
 use Rattle.tfm_core.specs.Fonts.{SizedFont}
 use Rattle.dvi_layout.specs.Fonts.{Slots}
-use Rattle.dvi_layout.specs.declared.fonts.TheConstants.{FONT_SLOTS}
+use Rattle.node_core.specs.declared.limits.TheConstants.{FONT_SLOTS}
 use Rattle.nest_core.specs.FontSlots.{font_of}
 
 -- What commands read and change: the font files; the fonts by slot, and the slot of the current one; the parameters; the open lists, the

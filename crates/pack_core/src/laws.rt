@@ -11,7 +11,7 @@ ghost use Rattle.node_core.specs.declared.tree.Order.{Order};
 ghost use Rattle.node_core.specs.declared.tree.Setting.TheVariants.{Natural};
 ghost use Rattle.pack_core.specs.declared.pack.Target.{Target};
 ghost use Rattle.pack_core.specs.declared.pack.Target.TheVariants as targets;
-ghost use Rattle.pack_core.specs.Items.{advance, is_penalty, last_below};
+ghost use Rattle.pack_core.specs.Items.{advance, is_sizeless, last_below};
 ghost use Rattle.pack_core.specs.Totals.{total, pending_depth};
 ghost use Rattle.pack_core.specs.Glue.{highest, IsHighest, setting_of, setting_badness};
 ghost use Rattle.pack_core.specs.Boxes.{hbox, hbox_badness, vbox, vtop_box};
@@ -30,11 +30,11 @@ pub fn highest_order_is_set()
     ensures none { (totals : Order → ℤ) → ((highest totals ≡ None) ↔ ((order : Order) → totals order ≡ pos 0)) }
 {}
 
-/// The depth that is pending at the end of a list is that of the last item that is no penalty, where it is a rule or a box, and else 0.
+/// The depth that is pending at the end of a list is that of the last item that is no penalty and no special, where it is a rule or a box, and else 0.
 pub fn depth_of_the_last_rule()
-    ensures last { (front : List Node) → (item : Node) → (penalties : List Node) → is_penalty item ≡ false → IsTrue (list_all is_penalty penalties) →
+    ensures last { (front : List Node) → (item : Node) → (penalties : List Node) → is_sizeless item ≡ false → IsTrue (list_all is_sizeless penalties) →
         pending_depth (front ++ item ∷ penalties) ≡ last_below item }
-    ensures none { (penalties : List Node) → IsTrue (list_all is_penalty penalties) → pending_depth penalties ≡ pos 0 }
+    ensures none { (penalties : List Node) → IsTrue (list_all is_sizeless penalties) → pending_depth penalties ≡ pos 0 }
 {}
 
 /// A box in front of a horizontal list adds its width, and its shift moves it down: it stands so much less above the baseline, and so

@@ -125,7 +125,7 @@ fn pending_behind(before: Dimen, node: &Node) -> Dimen
     ensures { result ≡ pending_behind before node.now }
 {
     match node.class() {
-        ItemClass::Penalty => before,
+        ItemClass::Penalty | ItemClass::Special => before,
         ItemClass::BoxOrRule => depth_by_itself(node),
         _ => Dimen::ZERO,
     }

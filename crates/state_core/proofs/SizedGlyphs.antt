@@ -47,7 +47,7 @@ use Rattle.nest_core.specs.declared.nest.ListPurpose.TheVariants as purposes
 use Rattle.command_core.specs.declared.command.Splitting.{Splitting}
 use Rattle.command_core.specs.declared.command.Taking.{Taking}
 use Rattle.command_core.specs.declared.command.Taking.TheVariants.{Moved, Copied}
-use Rattle.command_core.specs.declared.limits.TheConstants.{REGISTERS, MOST_DEEP, MOST_ITEMS}
+use Rattle.node_core.specs.declared.limits.TheConstants.{REGISTERS, MAX_DEPTH, MAX_ITEMS}
 use Rattle.nest_core.specs.State.{State, first_state, innermost, outer, items_in, held_in, font_for}
 use Rattle.nest_core.specs.OpenLists.{glue_in, box_items, if_packed, packed_by}
 use Rattle.nest_core.specs.Checks.{home_checks, packed_checks, purpose_checks, close_checks, checks, first_of, refusal_in}
@@ -73,8 +73,8 @@ second_fails true second r t rest may = cc
 second_fails false true r t rest may = cc
 second_fails false false r t rest may = refl
 
-not_deeper : (depth : ℕ) → nat_lt MOST_DEEP depth ≡ false → depth ≤ MOST_DEEP
-not_deeper depth is = ltb-false MOST_DEEP depth is
+not_deeper : (depth : ℕ) → nat_lt MAX_DEPTH depth ≡ false → depth ≤ MAX_DEPTH
+not_deeper depth is = ltb-false MAX_DEPTH depth is
 
 none_by : {A : Type 0} (o : Option A) → is_some o ≡ false → o ≡ None
 none_by None h = refl
@@ -170,7 +170,7 @@ sized_leaves fonts leaves.none all = tt
 sized_leaves fonts (leaves.leaf x rest) all = (leaf_sized fonts x all.0, sized_leaves fonts rest all.1)
 sized_leaves fonts (leaves.box shift frame inner rest) all = (all.0.glyphs, sized_leaves fonts rest all.1)
 
-sized_nodes : (fonts : Slots) (items : Items) → EachLeaf (IsSizedLeaf fonts) items → items_depth items ≤ MOST_DEEP → AreSized fonts (nodes_of items)
+sized_nodes : (fonts : Slots) (items : Items) → EachLeaf (IsSizedLeaf fonts) items → items_depth items ≤ MAX_DEPTH → AreSized fonts (nodes_of items)
 sized_nodes fonts leaves.none all shallow = tt
 sized_nodes fonts (leaves.leaf x rest) all shallow = (sized_leaf fonts x all.0, sized_nodes fonts rest all.1 shallow)
 sized_nodes fonts (leaves.box shift frame inner rest) all shallow =
@@ -330,7 +330,7 @@ packed_sized s l into (Err large) own may sized list = sized
 packed_sized s l into (Ok q) own may sized list =
     let glyphs = subst (EachLeaf (IsSizedLeaf s.fonts)) (own q refl) (sized_leaves s.fonts l.list list) in
     let shallow =
-    second_fails s.over (nat_lt MOST_DEEP (box_depth q.box_node)) JobOver TooDeep (home_checks s.params (outer s.nest) into q.box_node) may in
+    second_fails s.over (nat_lt MAX_DEPTH (box_depth q.box_node)) JobOver TooDeep (home_checks s.params (outer s.nest) into q.box_node) may in
     home_sized s into q.box_node sized (record { glyphs = glyphs; depth = not_deeper (box_depth q.box_node) shallow })
 
 -- The lines of a paragraph.
@@ -348,7 +348,7 @@ lines_sized fonts around None result over nowhere count is glyphs may all = all
 lines_sized fonts around (Some l) (Err fault) over nowhere count is glyphs may all = all
 lines_sized fonts around (Some l) (Ok set) over nowhere count is glyphs may all =
     let shallow =
-    third_fails over nowhere (nat_lt MOST_DEEP (items_depth set.items)) JobOver NoOpenList TooDeep ((nat_lt MOST_ITEMS (count + length (nodes_of set.items)), ListTooLong) ∷ []) may in
+    third_fails over nowhere (nat_lt MAX_DEPTH (items_depth set.items)) JobOver NoOpenList TooDeep ((nat_lt MAX_ITEMS (count + length (nodes_of set.items)), ListTooLong) ∷ []) may in
     let here = sized_nodes fonts set.items (glyphs set refl) (not_deeper (items_depth set.items) shallow) in
     each_set (IsSizedList fonts) around (length around - 1) _ all
     (nodes_sized fonts (nodes_of l.list) (nodes_of set.items) (each_at (IsSizedList fonts) around (length around - 1) l all is) here)

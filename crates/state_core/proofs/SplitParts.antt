@@ -13,7 +13,7 @@ use Rattle.pack_core.specs.declared.pack.Packed as packs
 use Rattle.pack_core.specs.Boxes.{vbox}
 use Rattle.split_core.specs.Places.{is_box_or_rule}
 use Rattle.split_core.specs.Split.{from_box_or_rule, rest_items, split_place, topped, packed_rest, front_of, rest_of}
-use Rattle.command_core.specs.declared.limits.TheConstants.{MOST_DEEP}
+use Rattle.node_core.specs.declared.limits.TheConstants.{MAX_DEPTH}
 use Rattle.dvi_layout.specs.Fonts.{Slots}
 use Rattle.dvi_layout.proofs.EachOf.{each_taken}
 use Rattle.state_core.specs.Sized.{HasSizes, IsSizedLeaf, IsSoundBox, IsSizedHeld}
@@ -32,7 +32,7 @@ IsInner fonts (nodes.Kern width) = Unit {0}
 IsInner fonts (nodes.Glue g) = Unit {0}
 IsInner fonts (nodes.Penalty p) = Unit {0}
 IsInner fonts (nodes.Rule sizes) = Unit {0}
-IsInner fonts (nodes.Box shift b) = EachLeaf (IsSizedLeaf fonts) b.list × (box_depth b + 1 ≤ MOST_DEEP)
+IsInner fonts (nodes.Box shift b) = EachLeaf (IsSizedLeaf fonts) b.list × (box_depth b + 1 ≤ MAX_DEPTH)
 
 abbrev pub AreInner : Slots → List Node → Type 0
 AreInner fonts items = AllByRecursion (IsInner fonts) items
@@ -45,7 +45,7 @@ inner_leaf fonts (leaves.glue g) is = tt
 inner_leaf fonts (leaves.penalty p) is = tt
 inner_leaf fonts (leaves.rule sizes) is = tt
 
-inner_items : (fonts : Slots) (items : Items) → EachLeaf (IsSizedLeaf fonts) items → items_depth items + 1 ≤ MOST_DEEP → AreInner fonts (nodes_of items)
+inner_items : (fonts : Slots) (items : Items) → EachLeaf (IsSizedLeaf fonts) items → items_depth items + 1 ≤ MAX_DEPTH → AreInner fonts (nodes_of items)
 inner_items fonts leaves.none all shallow = tt
 inner_items fonts (leaves.leaf x rest) all shallow = (inner_leaf fonts x all.0, inner_items fonts rest all.1 shallow)
 inner_items fonts (leaves.box shift frame inner rest) all shallow =
@@ -58,7 +58,7 @@ inner_nodes fonts b sound = inner_items fonts b.list sound.glyphs sound.depth
 -- What such items are as a list.
 record IsSoundList (fonts : Slots) (items : Items) : Type 0 where
   glyphs : EachLeaf (IsSizedLeaf fonts) items
-  depth : items_depth items + 1 ≤ MOST_DEEP
+  depth : items_depth items + 1 ≤ MAX_DEPTH
 
 sound_list : (fonts : Slots) (items : List Node) → AreInner fonts items → IsSoundList fonts (items_of items)
 sound_list fonts [] all = record { glyphs = tt; depth = omega arith }

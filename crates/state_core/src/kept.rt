@@ -19,7 +19,6 @@ ghost use Rattle.shape_core.specs.Texts.{text_items, text_missing};
 ghost use Rattle.shape_core.specs.Spaces.{space_glue};
 ghost use Rattle.tfm_core.specs.Fonts.{glyph_of, step_of};
 
-use command_core::limits::{COUNTS, MOST_DEEP, MOST_ITEMS, MOST_OPEN};
 use command_core::{
     Answer, BoxUse, Characters, Counting, FontLoad, Opening, Parameter, Refusal, Register, Reply,
     Splitting, Taking, Unboxing,
@@ -27,6 +26,7 @@ use command_core::{
 use dvi_layout::{Fonts, LoadedFont, Offsets};
 use nest_core::fonts::read_font;
 use nest_core::nest::{ListPurpose, Nest};
+use node_core::limits::{COUNTS, MAX_DEPTH, MAX_ITEMS, MAX_OPEN_LISTS};
 use node_core::{BoxNode, Kind, Node, Params, Rule, RuleSize};
 use pack_core::Packed;
 use register_core::registers::{Registers, sizes_of};
@@ -166,7 +166,7 @@ impl Kept {
         ensures fits { OnErr result (first_of (length_checks (unshipped self.old) items.items) ≡ None) }
         ensures takes { OnErr result (items.items ≢ []) }
     {
-        if self.nest.item_count().saturating_add(items.len()) > MOST_ITEMS {
+        if self.nest.item_count().saturating_add(items.len()) > MAX_ITEMS {
             return Ok(Err(Refusal::ListTooLong));
         }
         let count = items.len();
@@ -242,7 +242,7 @@ impl Kept {
         if opening.into.is_none() && count == 0 {
             return Ok(Err(Refusal::NoOpenList));
         }
-        if count >= MOST_OPEN {
+        if count >= MAX_OPEN_LISTS {
             return Ok(Err(Refusal::TooDeep));
         }
         self.nest.begin(ListPurpose::Box(opening))?;
@@ -269,7 +269,7 @@ impl Kept {
         let Some(innermost) = self.nest.innermost() else {
             return Ok(Err(Refusal::NoOpenList));
         };
-        if innermost.list.len() >= MOST_ITEMS {
+        if innermost.list.len() >= MAX_ITEMS {
             return Ok(Err(Refusal::ListTooLong));
         }
         self.nest.append(item)?;
@@ -289,7 +289,7 @@ impl Kept {
         if is_misplaced(innermost.purpose.kind(), &rule) {
             return Ok(Err(Refusal::WrongMode));
         }
-        if innermost.list.len() >= MOST_ITEMS {
+        if innermost.list.len() >= MAX_ITEMS {
             return Ok(Err(Refusal::ListTooLong));
         }
         self.nest.append_rule(rule)?;
@@ -381,7 +381,7 @@ impl Kept {
 
     /// Moves the items of the box of a register to the end of the innermost list, where they have room.
     fn move_items(&mut self, register: Register) -> Result<(), AllocError>
-        requires { length (nodes_of (items_in (innermost self.old.nest))) + length (nodes_in (held_in self.old.registers register)) ≤ MOST_ITEMS }
+        requires { length (nodes_of (items_in (innermost self.old.nest))) + length (nodes_in (held_in self.old.registers register)) ≤ MAX_ITEMS }
         ensures ok { OnOk result (unshipped self.new ≡ with_unboxed (unshipped self.old) Taking.Moved register (held_in self.old.registers register)) }
         ensures err { OnErr result (self.new ≡ self.old) }
         ensures takes { OnErr result (nodes_in (held_in self.old.registers register) ≢ []) }
@@ -400,7 +400,7 @@ impl Kept {
 
     /// Puts copies of the items of the box of a register at the end of the innermost list, where they have room.
     fn copy_items(&mut self, register: Register) -> Result<(), AllocError>
-        requires { length (nodes_of (items_in (innermost self.old.nest))) + length (nodes_in (held_in self.old.registers register)) ≤ MOST_ITEMS }
+        requires { length (nodes_of (items_in (innermost self.old.nest))) + length (nodes_in (held_in self.old.registers register)) ≤ MAX_ITEMS }
         ensures ok { OnOk result (unshipped self.new ≡ with_unboxed (unshipped self.old) Taking.Copied register (held_in self.old.registers register)) }
         ensures err { OnErr result (self.new ≡ self.old) }
         ensures takes { OnErr result (nodes_in (held_in self.old.registers register) ≢ []) }
@@ -471,7 +471,7 @@ impl Kept {
     fn refusal_of(&self, into: &Option<Register>, box_node: &BoxNode) -> Option<Refusal>
         ensures { result ≡ first_of (place_checks self.now.params (outer self.now.nest) into.now box_node.now) }
     {
-        if box_node.depth() > MOST_DEEP {
+        if box_node.depth() > MAX_DEPTH {
             return Some(Refusal::TooDeep);
         }
         if into.is_some() {
@@ -491,7 +491,7 @@ impl Kept {
         box_node: BoxNode,
     ) -> Result<(), AllocError>
         requires free { first_of (home_checks self.old.params (outer self.old.nest) into box_node) ≡ None }
-        requires short { length (nodes_of box_node.list) ≤ MOST_ITEMS }
+        requires short { length (nodes_of box_node.list) ≤ MAX_ITEMS }
         ensures ok { OnOk result (unshipped self.new ≡ with_home (unshipped self.old) (outer self.old.nest) into box_node) }
         ensures err { OnErr result (self.new ≡ record self.old { nest = refilled_nest self.old.nest box_node.list (innermost self.old.nest) }) }
         ensures takes { OnErr result (into ≡ None) }
