@@ -85,6 +85,10 @@ admitted s page none =
     by_tests false false false true first second third fourth none = cc
     by_tests false false false false first second third fourth none = record { pages = first; nodes = second; text = third; small = fourth }
 
+-- The texts of the specials of the page are within the limit of a job.
+pub few_text : (s : SoFar) (page : Page) → limit_of s page ≡ None → box_text page.box_node ≤ MAX_SHIPPED_TEXT
+few_text s page none = omega (arith, ltb-false MAX_SHIPPED_TEXT (s.load.text + box_text page.box_node) (admitted s page none).text)
+
 -- Nothing was sent before the preamble.
 opening_fills : (n size nodes text fonts : ℕ) → size ≤ 15 + 46 * n + 19 * nodes + text + 271 * fonts → (n ≡ 0 → size ≡ 0)
     → size + length (bytes_of (opening n)) ≤ 15 + 46 * n + 19 * nodes + text + 271 * fonts
