@@ -49,7 +49,7 @@ class Svg:
             "<title>%s</title>" % html.escape(title), '<rect width="100%" height="100%" fill="white"/>']
 
     def text(self, x, y, words, anchor="start", colour=INK, size=12, weight="normal"):
-        self.parts.append('<text x="%.1f" y="%.1f" text-anchor="%s" fill="%s" font-size="%d" font-weight="%s">%s</text>' % (x, y, anchor, colour, size, weight, html.escape(words)))
+        self.parts.append('<text x="%.1f" y="%.1f" text-anchor="%s" fill="%s" font-size="%d" font-weight="%s" stroke="white" stroke-width="3" paint-order="stroke">%s</text>' % (x, y, anchor, colour, size, weight, html.escape(words)))
 
     def line(self, x1, y1, x2, y2, colour=GRID, width=1, dash=""):
         self.parts.append('<line x1="%.1f" y1="%.1f" x2="%.1f" y2="%.1f" stroke="%s" stroke-width="%g" stroke-dasharray="%s"/>' % (x1, y1, x2, y2, colour, width, dash))
