@@ -182,8 +182,17 @@ glued-shorter (Some glue) xs = omega arith
 pub rest-shorter : (rest : Rest) (items : List Node) → IsInside rest items → length (rest_list rest items) ≤ length items
 rest-shorter rest items inside =
     let above : List Node = take (rest.start - rest.first) (drop rest.first items) in
-    omega (arith, inside.free, inside.ordered, inside.within, length-append (filter is_special above) (glued rest.glue (drop rest.start items)), filter-shorter above,
-    length-take (rest.start - rest.first) (drop rest.first items), glued-shorter rest.glue (drop rest.start items), length-drop rest.start items)
+    omega (
+      arith,
+      inside.free,
+      inside.ordered,
+      inside.within,
+      length-append (filter is_special above) (glued rest.glue (drop rest.start items)),
+      filter-shorter above,
+      length-take (rest.start - rest.first) (drop rest.first items),
+      glued-shorter rest.glue (drop rest.start items),
+      length-drop rest.start items,
+    )
 
 -- The rest that is split off one item earlier.
 pub taken :

@@ -133,9 +133,19 @@ pending-special text xs = here (list_all is_sizeless xs) refl
 pub numbers-special : (target : Target) (limit : ℤ) (text : List ℕ) (xs : List Node) → vbox_numbers target limit (nodes.Special text ∷ xs) ≡ vbox_numbers target limit xs
 numbers-special target limit text xs =
     let wide : int_max (pos 0) (greatest breadth xs) ≡ greatest breadth xs = omega (arith, ints, clamps, greatest_positive breadth xs) in
-    rw (pending-special text xs, wide, zero-more (total downward xs), zero-more (total (stretch_in Normal) xs), zero-more (total (stretch_in Fil) xs),
-    zero-more (total (stretch_in Fill) xs), zero-more (total (stretch_in Filll) xs), zero-more (total (shrink_in Normal) xs), zero-more (total (shrink_in Fil) xs),
-    zero-more (total (shrink_in Fill) xs), zero-more (total (shrink_in Filll) xs)) refl
+    rw (
+      pending-special text xs,
+      wide,
+      zero-more (total downward xs),
+      zero-more (total (stretch_in Normal) xs),
+      zero-more (total (stretch_in Fil) xs),
+      zero-more (total (stretch_in Fill) xs),
+      zero-more (total (stretch_in Filll) xs),
+      zero-more (total (shrink_in Normal) xs),
+      zero-more (total (shrink_in Fil) xs),
+      zero-more (total (shrink_in Fill) xs),
+      zero-more (total (shrink_in Filll) xs),
+    ) refl
 
 pub numbers-above :
     (target : Target) (limit : ℤ) (after xs : List Node) → vbox_numbers target limit (specials_above after ++ xs) ≡ vbox_numbers target limit xs

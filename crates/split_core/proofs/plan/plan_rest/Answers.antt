@@ -1,4 +1,4 @@
-use Rattle.std.proofs.Common.{◌≡◌, ◌∙◌, ◌<◌, drop, length, ap, sym, arith}
+use Rattle.std.proofs.Common.{◌∙◌, ◌<◌, drop, length, ap, arith}
 use Rattle.std.specs.Prelude.{List}
 use Rattle.std.proofs.lemmas.List.{take_rest}
 use Rattle.node_core.specs.declared.tree.Node.{Node}
@@ -30,8 +30,11 @@ returns-clause-inside c =
       ordered = start.after;
       within = start.within;
       some =
-          omega (arith, ap (λ (xs : List Node). length xs) left,
-          some-left c.args.params.now c.args.nodes.now c.args.place c.first_kept-first.result first.specials first.solid below kept);
+          omega (
+            arith,
+            ap (λ (xs : List Node). length xs) left,
+            some-left c.args.params.now c.args.nodes.now c.args.place c.first_kept-first.result first.specials first.solid below kept,
+          );
     }
 
 pub returns-clause-fits : goal.returns-clause-fits

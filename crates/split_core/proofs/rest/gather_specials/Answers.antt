@@ -1,4 +1,4 @@
-use Rattle.std.proofs.Common.{◌≡◌, ◌∙◌, ◌<◌, ap, sym, arith, length}
+use Rattle.std.proofs.Common.{◌∙◌, ◌<◌, sym, arith, length}
 use Rattle.std.proofs.lemmas.List.Edits.{length-swap}
 use Rattle.split_core.proofs.Specials.{swapped-front, swapped-back, same-item, same-below, gathered-special, gathered-other}
 use Rattle.split_core.proofs.rest.gather_specials.Goals.{then-is_special, else-is_special}
