@@ -86,9 +86,11 @@ fn command_of(alloc: Global, line: &[u8]) -> Result<Result<Command, Cause>, Allo
         return Ok(Err(Cause::Byte));
     }
     let (word, text) = field_and_text(line);
-    match word {
-        b"text" => Ok(Ok(Command::Text(Characters::new(text.to_vec(alloc)?)))),
-        b"special" => Ok(Ok(Command::Special(Characters::new(text.to_vec(alloc)?)))),
-        _ => Fields::new(line).command(alloc),
+    if word == b"text".as_slice() {
+        return Ok(Ok(Command::Text(Characters::new(text.to_vec(alloc)?))));
     }
+    if word == b"special".as_slice() {
+        return Ok(Ok(Command::Special(Characters::new(text.to_vec(alloc)?))));
+    }
+    Fields::new(line).command(alloc)
 }
