@@ -21,7 +21,7 @@ use Rattle.script_core.proofs.GivenCommands.{complete}
 use Rattle.script_core.proofs.CommandLaws.{sound}
 use Rattle.script_core.proofs.FieldLaws.{same_bytes, bytes_same}
 use Rattle.script_core.proofs.CauseLaws.{cause_holds}
-use Rattle.script_core.proofs.TextLines.{line_said, text_read, special_read, first_is}
+use Rattle.script_core.proofs.TextLines.{word_said, text_read, special_read, first_is}
 
 -- what the fields say is given, but for a text or a special
 gives : (line : List ℕ) (command : Command) → Says (fields_of line) command → Gives line command
@@ -36,13 +36,13 @@ given_in line command true c e f h =
     let s : Ok (Text (kept_text line)) ≡ Ok command = rw e at h in
     let is : Text (kept_text line) ≡ command = cc in
     let P : Command → Type 0 = λ x. Gives line x in
-    subst P is (line_said (codes "text") line (same_bytes (front_field line) (codes "text") e))
+    subst P is (word_said (codes "text") line (same_bytes (front_field line) (codes "text") e))
 given_in line command false true e f h =
-    let s : Ok (Special (kept_text line)) ≡ Ok command = rw f at (rw e at h) in
+    let s : Ok (Special (kept_text line)) ≡ Ok command = rw (e, f) at h in
     let is : Special (kept_text line) ≡ command = cc in
     let P : Command → Type 0 = λ x. Gives line x in
-    subst P is (line_said (codes "special") line (same_bytes (front_field line) (codes "special") f))
-given_in line command false false e f h = gives line command (sound (fields_of line) command (rw f at (rw e at h)))
+    subst P is (word_said (codes "special") line (same_bytes (front_field line) (codes "special") f))
+given_in line command false false e f h = gives line command (sound (fields_of line) command (rw (e, f) at h))
 
 no_text : (more : List (List ℕ)) → command_of (codes "text" ∷ more) ≡ Err Word
 unfolding command_of name_of box_name register_name item_name
@@ -67,8 +67,8 @@ fields_by line command false false e f h = rw (e, f) (complete (fields_of line) 
 -- what is given is read
 given_read : (line : List ℕ) (command : Command) → Gives line command → given line ≡ Ok command
 unfolding given
-given_read line (Text text) h = let read = text_read line text h in rw (read.word, read.text) refl
-given_read line (Special text) h = let read = special_read line text h in rw (read.word, read.text) refl
+given_read line (Text text) h = let read = text_read line text h in rw (read.front, read.kept) refl
+given_read line (Special text) h = let read = special_read line text h in rw (read.front, read.kept) refl
 given_read line command h = fields_by line command _ _ refl refl h
 
 -- what is read of a line
@@ -88,15 +88,15 @@ line_read line command h = rw h.printable (given_read line command h.says)
 
 no_text_line : (line text : List ℕ) → bytes_eq (front_field line) (codes "text") ≡ false → bytes_eq (front_field line) (codes "special") ≡ false → HasText line text → ⊥
 no_text_line line text e f said = ⊎_elim
-    (λ (is : IsTextLine line text). let same : true ≡ false = sym (rw (text_read line text is).word (bytes_same (codes "text"))) ∙ e in cc)
-    (λ (is : IsSpecialLine line text). let same : true ≡ false = sym (rw (special_read line text is).word (bytes_same (codes "special"))) ∙ f in cc)
+    (λ (is : IsTextLine line text). let same : true ≡ false = sym (rw (text_read line text is).front (bytes_same (codes "text"))) ∙ e in cc)
+    (λ (is : IsSpecialLine line text). let same : true ≡ false = sym (rw (special_read line text is).front (bytes_same (codes "special"))) ∙ f in cc)
     said
 
 given_fault : (line : List ℕ) (cause : Cause) (b c : Bool) → bytes_eq (front_field line) (codes "text") ≡ b → bytes_eq (front_field line) (codes "special") ≡ c → given line ≡ Err cause → ((text : List ℕ) → HasText line text → ⊥) × IsFieldCause cause (fields_of line)
 unfolding given
 given_fault line cause true c e f h = let s : Ok (Text (kept_text line)) ≡ Err cause = rw e at h in absurd (cc)
-given_fault line cause false true e f h = let s : Ok (Special (kept_text line)) ≡ Err cause = rw f at (rw e at h) in absurd (cc)
-given_fault line cause false false e f h = (λ text said. no_text_line line text e f said, cause_holds (fields_of line) cause (rw f at (rw e at h)))
+given_fault line cause false true e f h = let s : Ok (Special (kept_text line)) ≡ Err cause = rw (e, f) at h in absurd (cc)
+given_fault line cause false false e f h = (λ text said. no_text_line line text e f said, cause_holds (fields_of line) cause (rw (e, f) at h))
 
 line_fault : (line : List ℕ) (cause : Cause) (b : Bool) → list_all is_printable line ≡ b → line_of line ≡ Err cause → IsCause cause line
 unfolding line_of

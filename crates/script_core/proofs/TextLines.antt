@@ -40,9 +40,9 @@ said_from word t k n e front = ⊎_elim
     (cases_lt n (length t))
 
 -- a line whose first field is this word is a line of the word and of the text that is kept
-pub line_said : (word line : List ℕ) → front_field line ≡ word → IsLineOf word line (kept_text line)
+pub word_said : (word line : List ℕ) → front_field line ≡ word → IsLineOf word line (kept_text line)
 unfolding front_field behind_field
-line_said word line h =
+word_said word line h =
     let P : List ℕ → Type 0 = λ x. IsLineOf word x (drop 1 (drop (prefix_len in_field (without_spaces line)) (without_spaces line))) in
     subst P (sym (spaced line)) (said_from word (without_spaces line) (prefix_len is_space line) (prefix_len in_field (without_spaces line)) refl h)
 
@@ -53,8 +53,8 @@ unspaced (suc n) byte rest e = rw one-add (unspaced n byte rest e)
 
 -- what is read of a line: its first field and the text that is kept
 pub record IsRead (line word text : List ℕ) : Type 0 where
-  pub word : front_field line ≡ word
-  pub text : kept_text line ≡ text
+  pub front : front_field line ≡ word
+  pub kept : kept_text line ≡ text
 
 -- a word that a line may begin with, by its first byte and the others: its bytes are no spaces
 pub record IsFirstWord (byte : ℕ) (more : List ℕ) : Type 0 where
@@ -63,24 +63,24 @@ pub record IsFirstWord (byte : ℕ) (more : List ℕ) : Type 0 where
   pub followed : (text : List ℕ) → prefix_len in_field (byte ∷ more ++ 32 ∷ text) ≡ length (byte ∷ more)
 
 -- a line of a word and a text is read as such
-line_read : (byte : ℕ) (more line text : List ℕ) → IsFirstWord byte more → IsLineOf (byte ∷ more) line text → IsRead line (byte ∷ more) text
+word_read : (byte : ℕ) (more line text : List ℕ) → IsFirstWord byte more → IsLineOf (byte ∷ more) line text → IsRead line (byte ∷ more) text
 unfolding front_field behind_field
-line_read byte more line text is (n, said) = ⊎_elim
+word_read byte more line text is (n, said) = ⊎_elim
     (λ (alone : (line ≡ replicate n 32 ++ byte ∷ more) × (text ≡ [])). record {
-        word = rw (alone.0, unspaced n byte more is.starts, is.alone) (take_all (length (byte ∷ more)) (byte ∷ more) (omega arith));
-        text = rw (alone.0, alone.1, unspaced n byte more is.starts, is.alone) (ap (drop 1) (drop_all (length (byte ∷ more)) (byte ∷ more) (omega arith)));
+        front = rw (alone.0, unspaced n byte more is.starts, is.alone) (take_all (length (byte ∷ more)) (byte ∷ more) (omega arith));
+        kept = rw (alone.0, alone.1, unspaced n byte more is.starts, is.alone) (ap (drop 1) (drop_all (length (byte ∷ more)) (byte ∷ more) (omega arith)));
     })
     (λ (followed : line ≡ replicate n 32 ++ (byte ∷ more ++ 32 ∷ text)). record {
-        word = rw (followed, unspaced n byte (more ++ 32 ∷ text) is.starts, is.followed text) (take-append_seam (byte ∷ more) (32 ∷ text));
-        text = rw (followed, unspaced n byte (more ++ 32 ∷ text) is.starts, is.followed text) (ap (drop 1) (drop-append_seam (byte ∷ more) (32 ∷ text)));
+        front = rw (followed, unspaced n byte (more ++ 32 ∷ text) is.starts, is.followed text) (take-append_seam (byte ∷ more) (32 ∷ text));
+        kept = rw (followed, unspaced n byte (more ++ 32 ∷ text) is.starts, is.followed text) (ap (drop 1) (drop-append_seam (byte ∷ more) (32 ∷ text)));
     })
     said
 
 pub text_read : (line text : List ℕ) → IsTextLine line text → IsRead line (codes "text") text
-text_read line text said = line_read 116 (codes "ext") line text (record { starts = refl; alone = refl; followed = λ text. refl }) said
+text_read line text said = word_read 116 (codes "ext") line text (record { starts = refl; alone = refl; followed = λ text. refl }) said
 
 pub special_read : (line text : List ℕ) → IsSpecialLine line text → IsRead line (codes "special") text
-special_read line text said = line_read 115 (codes "pecial") line text (record { starts = refl; alone = refl; followed = λ text. refl }) said
+special_read line text said = word_read 115 (codes "pecial") line text (record { starts = refl; alone = refl; followed = λ text. refl }) said
 
 -- the fields of a line whose first one is not empty
 pub first_is : (byte : ℕ) (word line : List ℕ) → front_field line ≡ byte ∷ word → fields_of line ≡ (byte ∷ word) ∷ fields_of (behind_field line)
