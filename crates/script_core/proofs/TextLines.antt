@@ -29,14 +29,14 @@ after_one_space xs byte rest space e = rw (e, eqb-true byte 32 space) refl
 said_from : (word t : List ℕ) (k n : ℕ) → n ≡ prefix_len in_field t → take n t ≡ word → IsLineOf word (replicate k 32 ++ t) (drop 1 (drop n t))
 said_from word t k n e front = ⊎_elim
     (λ (inside : n < length t).
-        let space : is_space (get_or t n 0) ≡ true = rw e (passes_at_first is_space t 0 (rw (← e) inside)) in
-        let text = after_one_space (drop n t) (get_or t n 0) (drop (n + 1) t) space (drop_more t n 0 inside) in
-        let all : t ≡ word ++ 32 ∷ drop 1 (drop n t) = sym (take-append-drop n t) ∙ ap (λ (xs : List ℕ). xs ++ drop n t) front ∙ ap (λ (xs : List ℕ). word ++ xs) text in
-        (k, inr (ap (λ (xs : List ℕ). replicate k 32 ++ xs) all)))
+    let space : is_space (get_or t n 0) ≡ true = rw e (passes_at_first is_space t 0 (rw (← e) inside)) in
+    let text = after_one_space (drop n t) (get_or t n 0) (drop (n + 1) t) space (drop_more t n 0 inside) in
+    let all : t ≡ word ++ 32 ∷ drop 1 (drop n t) = sym (take-append-drop n t) ∙ ap (λ (xs : List ℕ). xs ++ drop n t) front ∙ ap (λ (xs : List ℕ). word ++ xs) text in
+    (k, inr (ap (λ (xs : List ℕ). replicate k 32 ++ xs) all)))
     (λ (past : length t ≤ n).
-        let nothing : drop n t ≡ [] = drop_all n t past in
-        let all : t ≡ word = sym (take-append-drop n t) ∙ (rw (front, nothing) (append-nil word)) in
-        (k, inl (ap (λ (xs : List ℕ). replicate k 32 ++ xs) all, ap (drop 1) nothing)))
+    let nothing : drop n t ≡ [] = drop_all n t past in
+    let all : t ≡ word = sym (take-append-drop n t) ∙ (rw (front, nothing) (append-nil word)) in
+    (k, inl (ap (λ (xs : List ℕ). replicate k 32 ++ xs) all, ap (drop 1) nothing)))
     (cases_lt n (length t))
 
 -- a line whose first field is this word is a line of the word and of the text that is kept
@@ -67,12 +67,12 @@ word_read : (byte : ℕ) (more line text : List ℕ) → IsFirstWord byte more �
 unfolding front_field behind_field
 word_read byte more line text is (n, said) = ⊎_elim
     (λ (alone : (line ≡ replicate n 32 ++ byte ∷ more) × (text ≡ [])). record {
-        front = rw (alone.0, unspaced n byte more is.starts, is.alone) (take_all (length (byte ∷ more)) (byte ∷ more) (omega arith));
-        kept = rw (alone.0, alone.1, unspaced n byte more is.starts, is.alone) (ap (drop 1) (drop_all (length (byte ∷ more)) (byte ∷ more) (omega arith)));
+      front = rw (alone.0, unspaced n byte more is.starts, is.alone) (take_all (length (byte ∷ more)) (byte ∷ more) (omega arith));
+      kept = rw (alone.0, alone.1, unspaced n byte more is.starts, is.alone) (ap (drop 1) (drop_all (length (byte ∷ more)) (byte ∷ more) (omega arith)));
     })
     (λ (followed : line ≡ replicate n 32 ++ (byte ∷ more ++ 32 ∷ text)). record {
-        front = rw (followed, unspaced n byte (more ++ 32 ∷ text) is.starts, is.followed text) (take-append_seam (byte ∷ more) (32 ∷ text));
-        kept = rw (followed, unspaced n byte (more ++ 32 ∷ text) is.starts, is.followed text) (ap (drop 1) (drop-append_seam (byte ∷ more) (32 ∷ text)));
+      front = rw (followed, unspaced n byte (more ++ 32 ∷ text) is.starts, is.followed text) (take-append_seam (byte ∷ more) (32 ∷ text));
+      kept = rw (followed, unspaced n byte (more ++ 32 ∷ text) is.starts, is.followed text) (ap (drop 1) (drop-append_seam (byte ∷ more) (32 ∷ text)));
     })
     said
 
