@@ -32,6 +32,7 @@ IsInner fonts (nodes.Kern width) = Unit {0}
 IsInner fonts (nodes.Glue g) = Unit {0}
 IsInner fonts (nodes.Penalty p) = Unit {0}
 IsInner fonts (nodes.Rule sizes) = Unit {0}
+IsInner fonts (nodes.Special text) = Unit {0}
 IsInner fonts (nodes.Box shift b) = EachLeaf (IsSizedLeaf fonts) b.list × (box_depth b + 1 ≤ MAX_DEPTH)
 
 abbrev pub AreInner : Slots → List Node → Type 0
@@ -44,6 +45,7 @@ inner_leaf fonts (leaves.kern width) is = tt
 inner_leaf fonts (leaves.glue g) is = tt
 inner_leaf fonts (leaves.penalty p) is = tt
 inner_leaf fonts (leaves.rule sizes) is = tt
+inner_leaf fonts (leaves.special text) is = tt
 
 inner_items : (fonts : Slots) (items : Items) → EachLeaf (IsSizedLeaf fonts) items → items_depth items + 1 ≤ MAX_DEPTH → AreInner fonts (nodes_of items)
 inner_items fonts leaves.none all shallow = tt
@@ -78,6 +80,9 @@ sound_list fonts ((nodes.Penalty p) ∷ rest) all =
     let more = sound_list fonts rest all.1 in
     record { glyphs = (tt, more.glyphs); depth = more.depth }
 sound_list fonts ((nodes.Rule sizes) ∷ rest) all =
+    let more = sound_list fonts rest all.1 in
+    record { glyphs = (tt, more.glyphs); depth = more.depth }
+sound_list fonts ((nodes.Special text) ∷ rest) all =
     let more = sound_list fonts rest all.1 in
     record { glyphs = (tt, more.glyphs); depth = more.depth }
 sound_list fonts ((nodes.Box shift b) ∷ rest) all =
