@@ -22,7 +22,7 @@ use Rattle.nest_core.specs.Effects.{after, new_pages}
 use Rattle.nest_core.specs.Machine.{Machine, reply_by, reply_to, state_by, state_after, step, stopped_machine, lost_machine}
 use Rattle.nest_core.specs.Runs.{IsShip, TakesMemory, early_checks, Steps, Replies, LacksMemory, LosesDevice, Run}
 use Rattle.job_core.specs.Jobs.{GoesOn, Seen, writing_of, untold, pages_after, HasSent, Holds, KeepsTo, RunsTo}
-use Rattle.job_core.specs.Sound.{IsSound, shipped_by, seen_by}
+use Rattle.job_core.specs.Sound.{IsSound, seen_by}
 use Rattle.state_core.specs.Loaded.{GivesNumbersFor}
 use Rattle.state_core.specs.Keeping.{Keeping, state_of, unshipped}
 use Rattle.state_core.proofs.Refusals.{counted_fault}
@@ -248,27 +248,27 @@ sound_after s command reply says numbers sound = sound_by s command (first_of (c
 -- What a command does that ships nothing is the same under the numbers of any writer whose file is not over.
 module _ (kept : Keeping) (w : Writing) (command : Command) (other : IsShip command → ⊥) (running : w.over ≡ false) where
   abbrev s : State
-  s = state_of kept (shipped_by w.so_far) w.so_far.pages false
+  s = state_of kept w.so_far.load w.so_far.pages false
 
   runs : s ≡ (seen_by kept w).state
-  runs = ap (λ over. state_of kept (shipped_by w.so_far) w.so_far.pages over) (sym running)
+  runs = ap (λ over. state_of kept w.so_far.load w.so_far.pages over) (sym running)
 
   pub seen_reply : (reply : Reply) → reply ≡ reply_to (unshipped kept) command → reply ≡ reply_to (seen_by kept w).state command
   seen_reply reply says =
-      says ∙ (sym (reply_apart (unshipped kept) (shipped_by w.so_far) w.so_far.pages command other) ∙ ap (λ s. reply_to s command) runs)
+      says ∙ (sym (reply_apart (unshipped kept) w.so_far.load w.so_far.pages command other) ∙ ap (λ s. reply_to s command) runs)
 
   pub seen_state : (now : Keeping) → unshipped now ≡ state_after (unshipped kept) command → (seen_by now w).state ≡ state_after (seen_by kept w).state command
   seen_state now goes =
-      ap (λ over. state_of now (shipped_by w.so_far) w.so_far.pages over) running
-      ∙ (ap (λ t. numbered t (shipped_by w.so_far) w.so_far.pages) goes
-      ∙ (sym (state_apart (unshipped kept) (shipped_by w.so_far) w.so_far.pages command other) ∙ ap (λ s. state_after s command) runs))
+      ap (λ over. state_of now w.so_far.load w.so_far.pages over) running
+      ∙ (ap (λ t. numbered t w.so_far.load w.so_far.pages) goes
+      ∙ (sym (state_apart (unshipped kept) w.so_far.load w.so_far.pages command other) ∙ ap (λ s. state_after s command) runs))
 
   pub seen_early : first_of (early_checks (unshipped kept) command) ≡ None → first_of (early_checks (seen_by kept w).state command) ≡ None
   seen_early none =
-      ap (λ s. first_of (early_checks s command)) (sym runs) ∙ ((apart (unshipped kept) (shipped_by w.so_far) w.so_far.pages command other).early ∙ none)
+      ap (λ s. first_of (early_checks s command)) (sym runs) ∙ ((apart (unshipped kept) w.so_far.load w.so_far.pages command other).early ∙ none)
 
   pub seen_memory : TakesMemory (unshipped kept) command → TakesMemory (seen_by kept w).state command
-  seen_memory takes = subst (λ (s : State). TakesMemory s command) runs ((apart (unshipped kept) (shipped_by w.so_far) w.so_far.pages command other).memory takes)
+  seen_memory takes = subst (λ (s : State). TakesMemory s command) runs ((apart (unshipped kept) w.so_far.load w.so_far.pages command other).memory takes)
 
   -- A job that replies so keeps to the machine.
   pub obeyed : (now : Keeping) (reply : Reply) → reply ≡ reply_to (unshipped kept) command → unshipped now ≡ state_after (unshipped kept) command

@@ -13,7 +13,7 @@ use Rattle.state_core.specs.Keeping.{Keeping, state_of, unshipped}
 use Rattle.state_core.proofs.SizedGlyphs.{sized_first}
 use Rattle.state_core.proofs.LoadedFonts.{loaded_first}
 use Rattle.job_core.specs.Jobs.{untold, Holds}
-use Rattle.job_core.specs.Sound.{IsSound, shipped_by, seen_by}
+use Rattle.job_core.specs.Sound.{IsSound, seen_by}
 use Rattle.job_core.proofs.Moves.{true_or_false}
 
 grown_by_none : (told : Option (List ℕ)) → grown told [] ≡ told
@@ -39,7 +39,7 @@ new_holds files device kept w fresh is written =
     let fonts = (first_state files).fonts in
     let before : device ≡ untold w.told = fresh_untold device fresh ∙ ap untold (sym (new_told fonts device w written)) in
     record {
-      state = ap (λ (x : SoFar). state_of kept (shipped_by x) x.pages w.over) written.so_far ∙ (ap (λ over. record (unshipped kept) { over = over }) written.running ∙ is);
+      state = ap (λ (x : SoFar). state_of kept x.load x.pages w.over) written.so_far ∙ (ap (λ over. record (unshipped kept) { over = over }) written.running ∙ is);
       count = refl;
       written = λ running. subst (λ before. HasWritten fonts before w []) before written;
       none = λ running. refl;

@@ -29,7 +29,7 @@ use Rattle.nest_core.specs.Machine.{Machine, reply_by, state_by}
 use Rattle.state_core.specs.Keeping.{Keeping, state_of, unshipped}
 use Rattle.state_core.proofs.SizedGlyphs.{sized_held}
 use Rattle.job_core.specs.Jobs.{GoesOn, Holds, KeepsTo, untold}
-use Rattle.job_core.specs.Sound.{IsSound, refusal_for, shipped_by, seen_by}
+use Rattle.job_core.specs.Sound.{IsSound, refusal_for, seen_by}
 use Rattle.job_core.proofs.Moves.{replied, refuses, lacking, losing_page, true_or_false}
 use Rattle.job_core.proofs.Endings.{has_written, stopped}
 use Rattle.job_core.proofs.PageFonts.{shippable}
@@ -47,7 +47,7 @@ next_pages : (fonts : Slots) (s : SoFar) (page : Page) → (with_next fonts s pa
 unfolding with_next
 next_pages fonts s page = refl
 
-next_load : (fonts : Slots) (s : SoFar) (page : Page) → shipped_by (with_next fonts s page) ≡ heavier (shipped_by s) page.box_node
+next_load : (fonts : Slots) (s : SoFar) (page : Page) → (with_next fonts s page).load ≡ heavier s.load page.box_node
 unfolding with_next
 next_load fonts s page = refl
 
@@ -83,8 +83,8 @@ never_by false false false false false fault (inr e) is = cc
 
 never_lost : (w : Writing) (page : Page) → refusal_of w page ≡ Some faults.Device → ⊥
 never_lost w page is =
-    never_by w.over (nat_le MAX_PAGES w.so_far.pages) (nat_lt MAX_SHIPPED_NODES (w.so_far.nodes + box_count page.box_node))
-    (nat_lt MAX_SHIPPED_TEXT (w.so_far.text + box_text page.box_node)) (is_huge page) faults.Device (inr refl) is
+    never_by w.over (nat_le MAX_PAGES w.so_far.pages) (nat_lt MAX_SHIPPED_NODES (w.so_far.load.nodes + box_count page.box_node))
+    (nat_lt MAX_SHIPPED_TEXT (w.so_far.load.text + box_text page.box_node)) (is_huge page) faults.Device (inr refl) is
 
 -- A void register is refused.
 pub void_refused : (kept : Keeping) (w : Writing) (r : ℕ) → w.over ≡ false → held_in kept.registers r ≡ None → KeepsTo (seen_by kept w) (Ship r) (Err VoidBox) (seen_by kept w)
@@ -98,9 +98,9 @@ module _ (kept : Keeping) (w : Writing) (r : ℕ) (b : BoxNode) (page : Page) (i
   checked : first_of (checks s (Ship r)) ≡ option_map refusal_for (refusal_of w page)
   checked =
       ap (λ held. first_of ((w.over, JobOver) ∷ (is_none held, VoidBox) ∷ (nat_le MAX_PAGES w.so_far.pages, TooManyPages)
-      ∷ (nat_lt MAX_SHIPPED_NODES (shipped_with (shipped_by w.so_far) held).nodes, TooMuchShipped) ∷ (nat_lt MAX_SHIPPED_TEXT (shipped_with (shipped_by w.so_far) held).text, TooMuchSpecial)
+      ∷ (nat_lt MAX_SHIPPED_NODES (shipped_with w.so_far.load held).nodes, TooMuchShipped) ∷ (nat_lt MAX_SHIPPED_TEXT (shipped_with w.so_far.load held).text, TooMuchSpecial)
       ∷ (is_huge_in s held, HugePage) ∷ [])) is
-      ∙ (by_tests w.over (nat_le MAX_PAGES w.so_far.pages) (nat_lt MAX_SHIPPED_NODES (w.so_far.nodes + box_count b)) (nat_lt MAX_SHIPPED_TEXT (w.so_far.text + box_text b))
+      ∙ (by_tests w.over (nat_le MAX_PAGES w.so_far.pages) (nat_lt MAX_SHIPPED_NODES (w.so_far.load.nodes + box_count b)) (nat_lt MAX_SHIPPED_TEXT (w.so_far.load.text + box_text b))
       (is_huge (page_in (unshipped kept) b))
       ∙ ap (λ (p : Page). option_map refusal_for (refusal_of w p)) (sym same))
 
@@ -113,20 +113,20 @@ module _ (kept : Keeping) (w : Writing) (r : ℕ) (b : BoxNode) (page : Page) (i
   -- The state when the page went out and the register is void.
   module _ (now : Keeping) (new : Writing) (fonts : Slots) (emptied : now ≡ record kept { registers = slice_set kept.registers r None }) (next : new.so_far ≡ with_next fonts w.so_far page)
       (old_runs : w.over ≡ false) (new_runs : new.over ≡ false) (none : refusal_of w page ≡ None) where
-    load : shipped_by new.so_far ≡ shipped_with (shipped_by w.so_far) (held_in kept.registers r)
+    load : new.so_far.load ≡ shipped_with w.so_far.load (held_in kept.registers r)
     load =
-        ap shipped_by next
-        ∙ (next_load fonts w.so_far page ∙ (ap (λ (p : Page). heavier (shipped_by w.so_far) p.box_node) same ∙ ap (shipped_with (shipped_by w.so_far)) (sym is)))
+        ap (λ (x : SoFar). x.load) next
+        ∙ (next_load fonts w.so_far page ∙ (ap (λ (p : Page). heavier w.so_far.load p.box_node) same ∙ ap (shipped_with w.so_far.load) (sym is)))
 
     pages : new.so_far.pages ≡ w.so_far.pages + 1
     pages = ap (λ (x : SoFar). x.pages) next ∙ next_pages fonts w.so_far page
 
     behind : (seen_by now new).state ≡ after s (Ship r)
     behind =
-        ap (λ kept. state_of kept (shipped_by new.so_far) new.so_far.pages new.over) emptied
+        ap (λ kept. state_of kept new.so_far.load new.so_far.pages new.over) emptied
         ∙ (ap (λ (n : Load). state_of (record kept { registers = slice_set kept.registers r None }) n new.so_far.pages new.over) load
-        ∙ (ap (λ n. state_of (record kept { registers = slice_set kept.registers r None }) (shipped_with (shipped_by w.so_far) (held_in kept.registers r)) n new.over) pages
-        ∙ ap (λ over. state_of (record kept { registers = slice_set kept.registers r None }) (shipped_with (shipped_by w.so_far) (held_in kept.registers r)) (w.so_far.pages + 1) over)
+        ∙ (ap (λ n. state_of (record kept { registers = slice_set kept.registers r None }) (shipped_with w.so_far.load (held_in kept.registers r)) n new.over) pages
+        ∙ ap (λ over. state_of (record kept { registers = slice_set kept.registers r None }) (shipped_with w.so_far.load (held_in kept.registers r)) (w.so_far.pages + 1) over)
         (new_runs ∙ sym old_runs)))
 
     goes_on : ((before : Option (List ℕ)) (pages : List Page) → HasWritten kept.fonts before w pages → HasWritten kept.fonts before new (pages ++ page ∷ [])) → GoesOn s (Ship r) w new

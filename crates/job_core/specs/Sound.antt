@@ -4,8 +4,6 @@ use Rattle.command_core.specs.declared.command.Refusal.{Refusal}
 use Rattle.command_core.specs.declared.command.Refusal.TheVariants as refusals
 use Rattle.dvi_layout.specs.declared.progress.WriteFault.{WriteFault}
 use Rattle.dvi_layout.specs.declared.progress.WriteFault.TheVariants.{JobOver, TooManyPages, TooMuchShipped, TooMuchSpecial, HugePage, OutOfMemory, Device}
-use Rattle.node_core.specs.Loads.{Load}
-use Rattle.dvi_layout.specs.SoFar.{SoFar}
 use Rattle.dvi_write.specs.Writing.{Writing}
 use Rattle.nest_core.specs.State.{State}
 use Rattle.state_core.specs.Keeping.{Keeping, state_of}
@@ -13,14 +11,10 @@ use Rattle.state_core.specs.Sized.{HasSizedGlyphs}
 use Rattle.state_core.specs.Loaded.{AreLoaded}
 use Rattle.job_core.specs.Jobs.{Seen}
 
--- What a writer counts of the pages that went out.
-abbrev pub shipped_by : SoFar → Load
-shipped_by so_far = record { nodes = so_far.nodes; text = so_far.text }
-
 -- A job that keeps this and has this writer: how much went out, and whether the job is over, the writer alone keeps.
 abbrev pub seen_by : Keeping → Writing → Seen
 seen_by kept w =
-    record { state = state_of kept (shipped_by w.so_far) w.so_far.pages w.over; so_far = w.so_far; told = w.told; failed = w.failed; began = w.began }
+    record { state = state_of kept w.so_far.load w.so_far.pages w.over; so_far = w.so_far; told = w.told; failed = w.failed; began = w.began }
 
 -- Fonts and glyphs are those of the font files.
 pub record IsSound (s : State) : Type 0 where
