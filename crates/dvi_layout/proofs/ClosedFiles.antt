@@ -120,7 +120,7 @@ pages_writable fonts definable slots s (page ∷ pages) (here, all) fit small =
     all_append IsWritable (sheet_from s.last sheet) (sheets_from next (sheets_of fonts later pages))
     (all_append IsWritable (define sheet.fresh) (Bop page.counts s.last ∷ (flat sheet.body ++ Eop ∷ [])) (all_defined (table_of fonts) sheet.fresh
     (each_of (IsTabled (table_of fonts)) fonts (fresh_slots fonts slots (flat (written_body page))) (λ s l among has. tabled fonts definable s l has)))
-    ((tt, (here.ten, here.counts_fit, fit)), all_append IsWritable (flat sheet.body) (Eop ∷ []) (writable_written (slot_widths fonts) page here.small here.sound.glyphs) ((tt, tt), tt)))
+    ((tt, (here.ten, here.counts_fit, fit)), all_append IsWritable (flat sheet.body) (Eop ∷ []) (writable_written (slot_widths fonts) page here.small here.sound.glyphs (omega (arith, here.text))) ((tt, tt), tt)))
     (pages_writable fonts definable later next pages all (place_fits fonts slots s page pages small) small)
 
 -- Few pushes are open at once in the pages.

@@ -38,12 +38,12 @@ pub fn append_all(bytes: &mut Vec<u8>, ops: &[Op<'_>]) -> Result<(), AllocError>
 }
 
 /// The instructions of a page with these counts, from bop to eop, behind a bop at a place (or -1).
-pub fn page_ops(
+pub fn page_ops<'a>(
     alloc: Global,
     counts: &[i32; 10],
-    body: &[Op<'static>],
+    body: &[Op<'a>],
     last: i32,
-) -> Result<Vec<Op<'static>>, AllocError>
+) -> Result<Vec<Op<'a>>, AllocError>
     ensures { IfOk result (λ ops. map view ops.items ≡ Bop counts.now last ∷ (map view body.now ++ Eop ∷ [])) }
 {
     let mut ops = Vec::new(alloc);

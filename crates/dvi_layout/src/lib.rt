@@ -8,4 +8,4 @@ mod layout;
 pub mod progress;
 
 pub use fonts::{Fonts, LoadedFont};
-pub use progress::{NextPage, Offsets, Progress, WriteFault};
+pub use progress::{NextPage, Offsets, PageLoad, Progress, WriteFault};

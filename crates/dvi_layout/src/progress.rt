@@ -9,7 +9,7 @@ ghost use Rattle.dvi_ops.specs.Forest.{Forest, flat, nests};
 ghost use Rattle.dvi_ops.specs.Layout.{bytes_of, define};
 ghost use Rattle.dvi_ops.specs.Spelling.{HasSpelling};
 ghost use Rattle.dvi_ops.specs.View.{view};
-ghost use Rattle.node_core.specs.Nodes.{box_count};
+ghost use Rattle.node_core.specs.Nodes.{box_count, box_text};
 ghost use Rattle.scaled_core.specs.Dimensions.{fits};
 ghost use Rattle.ship_core.specs.Marks.{is_huge};
 ghost use Rattle.ship_core.specs.Pages.{page_at, reach_down, reach_right};
@@ -26,7 +26,7 @@ use crate::layout::{
 use dvi_ops::{Op, Postamble, opcodes};
 use move_core::reuse;
 use node_core::BoxNode;
-use node_core::limits::{MAX_PAGES, MAX_SHIPPED_NODES};
+use node_core::limits::{MAX_PAGES, MAX_SHIPPED_NODES, MAX_SHIPPED_TEXT};
 use scaled_core::Dimen;
 use ship_core::{PagePoint, draw_page, is_huge, push_depth};
 use std::alloc::{AllocError, Global};
@@ -45,6 +45,9 @@ pub enum WriteFault {
     /// The boxes of all pages would have more than 16,777,216 nodes.
     #[error("too much is shipped")]
     TooMuchShipped,
+    /// More than 1,048,576 bytes of special texts would be shipped in the job.
+    #[error("too much special text is shipped")]
+    TooMuchSpecial,
     /// A place or a size on the page is more than 2^30 - 1 sp or less than -(2^30 - 1) sp.
     #[error("a place or size of the page does not fit")]
     HugePage,
@@ -86,6 +89,7 @@ pub struct Progress {
     deep: usize,
     pages: u32,
     nodes: u64,
+    text: u64,
 }
 
 impl Model for Progress {
@@ -93,7 +97,14 @@ impl Model for Progress {
 
     ghost Value = { SoFar };
 
-    ghost view = { λ p. record { last = p.last; size = p.size; defined = p.defined; tall = p.tall; wide = p.wide; deep = p.deep; pages = p.pages; nodes = p.nodes } };
+    ghost view = { λ p. record { last = p.last; size = p.size; defined = p.defined; tall = p.tall; wide = p.wide; deep = p.deep; pages = p.pages; load = record { nodes = p.nodes; text = p.text } } };
+}
+
+/// How many nodes the box of a page has, and how many bytes the texts of its specials.
+#[derive(Clone, Copy, Debug, PartialEq, Eq)]
+pub struct PageLoad {
+    pub nodes: u64,
+    pub text: u64,
 }
 
 /// The bytes of a page with what stands before it, and what is kept once they are sent.
@@ -105,12 +116,12 @@ pub struct NextPage {
 
 /// The instructions of the body of a page as it is written.
 #[tactic(auto, unfolding(ship_core::specs::Marks::is_huge))]
-fn written_body(
+fn written_body<'a>(
     alloc: Global,
-    box_node: &BoxNode,
+    box_node: &'a BoxNode,
     at: PagePoint,
     counts: &[i32; 10],
-) -> Result<Vec<Op<'static>>, AllocError>
+) -> Result<Vec<Op<'a>>, AllocError>
     requires { is_huge (page_at counts.now at.h at.v box_node.now) ≡ false }
     ensures { IfOk result (λ ops. map view ops.items ≡ flat (written_body (page_at counts.now at.h at.v box_node.now))) }
 {
@@ -173,6 +184,7 @@ impl Progress {
             deep: 0,
             pages: 0,
             nodes: 0,
+            text: 0,
         }
     }
 
@@ -200,9 +212,10 @@ impl Progress {
         }
     }
 
-    /// How many nodes the page of a box has that may be sent next, or why it may not.
-    pub fn admit(&self, box_node: &BoxNode, at: PagePoint) -> Result<u64, WriteFault>
-        ensures nodes { IfOk result (λ nodes. nodes ≡ box_count box_node.now) }
+    /// What the page of a box has that may be sent next, or why it may not.
+    pub fn admit(&self, box_node: &BoxNode, at: PagePoint) -> Result<PageLoad, WriteFault>
+        ensures nodes { IfOk result (λ load. load.nodes ≡ box_count box_node.now) }
+        ensures text { IfOk result (λ load. load.text ≡ box_text box_node.now) }
         ensures ok { OnOk result ((counts : List ℤ) → limit_of self.now (page_at counts at.h at.v box_node.now) ≡ None) }
         ensures err { IfErr result (λ fault. (counts : List ℤ) → limit_of self.now (page_at counts at.h at.v box_node.now) ≡ Some fault) }
     {
@@ -213,10 +226,14 @@ impl Progress {
         if self.nodes.saturating_add(nodes) > MAX_SHIPPED_NODES {
             return Err(WriteFault::TooMuchShipped);
         }
+        let text = box_node.text_size();
+        if self.text.saturating_add(text) > MAX_SHIPPED_TEXT {
+            return Err(WriteFault::TooMuchSpecial);
+        }
         if is_huge(box_node, at) {
             return Err(WriteFault::HugePage);
         }
-        Ok(nodes)
+        Ok(PageLoad { nodes, text })
     }
 
     /// The bytes of a page with this body, behind the definitions of the fonts in these slots, and the place of its bop among them.
@@ -226,7 +243,7 @@ impl Progress {
         fonts: &Fonts,
         slots: &[u8],
         counts: &[i32; 10],
-        body: &[Op<'static>],
+        body: &[Op<'_>],
     ) -> Result<(Vec<u8>, usize), AllocError>
         requires { AllByRecursion HasSpelling (map view body.now) }
         ensures bytes { IfOk result (λ page. page.0.items ≡ bytes_of ((opening self.now.pages ++ define (definitions_of fonts.now slots.now)) ++ (Bop counts.now self.now.last ∷ (map view body.now ++ Eop ∷ [])))) }
@@ -241,19 +258,21 @@ impl Progress {
     }
 
     /// Keeps the slots whose fonts a page defines, where its bop stands among its bytes, and how many bytes and nodes it has.
-    fn keep_size(&mut self, slots: &[u8], bop: usize, size: usize, nodes: u64)
+    fn keep_size(&mut self, slots: &[u8], bop: usize, size: usize, load: PageLoad)
         requires few { length self.old.defined + length slots.now ≤ 256 }
         requires within { bop ≤ size }
         requires room { self.old.size + size < 2 ^ 31 }
         requires pages { self.old.pages < MAX_PAGES }
-        requires nodes { self.old.nodes + nodes ≤ MAX_SHIPPED_NODES }
-        ensures { self.new ≡ record self.old { last = pos (self.old.size + bop); size = self.old.size + size; defined = self.old.defined ++ slots.now; pages = self.old.pages + 1; nodes = self.old.nodes + nodes } }
+        requires nodes { self.old.load.nodes + load.nodes ≤ MAX_SHIPPED_NODES }
+        requires text { self.old.load.text + load.text ≤ MAX_SHIPPED_TEXT }
+        ensures { self.new ≡ record self.old { last = pos (self.old.size + bop); size = self.old.size + size; defined = self.old.defined ++ slots.now; pages = self.old.pages + 1; load = record { nodes = self.old.load.nodes + load.nodes; text = self.old.load.text + load.text } } }
     {
         self.defined.append(slots);
         self.last = (self.size + bop) as i32;
         self.size += size;
         self.pages += 1;
-        self.nodes += nodes;
+        self.nodes += load.nodes;
+        self.text += load.text;
     }
 
     /// Keeps how far a page reaches.
@@ -267,7 +286,7 @@ impl Progress {
     }
 
     /// Keeps how many pushes are open at once in a page with this body, where no page before it has more.
-    fn keep_depth(&mut self, body: &[Op<'static>])
+    fn keep_depth(&mut self, body: &[Op<'_>])
         ensures { (forest : Forest) → map view body.now ≡ flat forest → self.new ≡ record self.old { deep = max self.old.deep (nests forest) } }
     {
         self.deep = self.deep.max(push_depth(body));
@@ -282,10 +301,11 @@ impl Progress {
         at: PagePoint,
         counts: &[i32; 10],
         fonts: &Fonts,
-        nodes: u64,
+        load: PageLoad,
     ) -> Result<NextPage, AllocError>
         requires huge { is_huge (page_at counts.now at.h at.v box_node.now) ≡ false }
-        requires nodes { nodes ≡ box_count box_node.now }
+        requires nodes { load.nodes ≡ box_count box_node.now }
+        requires text { load.text ≡ box_text box_node.now }
         requires room { HasRoom (with_next fonts.now self.now (page_at counts.now at.h at.v box_node.now)) }
         ensures bytes { IfOk result (λ next. next.bytes.items ≡ next_bytes fonts.now self.now (page_at counts.now at.h at.v box_node.now)) }
         ensures behind { IfOk result (λ next. next.behind ≡ with_next fonts.now self.now (page_at counts.now at.h at.v box_node.now)) }
@@ -294,7 +314,7 @@ impl Progress {
         let fresh = fresh_slots(alloc, fonts, self.defined.as_slice(), &body)?;
         let (bytes, bop) = self.lay_out(alloc, fonts, &fresh, counts, &body)?;
         let mut behind = self.copied();
-        behind.keep_size(&fresh, bop, bytes.len(), nodes);
+        behind.keep_size(&fresh, bop, bytes.len(), load);
         behind.keep_reach(box_node, at, counts);
         behind.keep_depth(&body);
         Ok(NextPage { bytes, behind })

@@ -5,7 +5,7 @@ use Rattle.std.specs.Option.{option_map}
 use Rattle.std.specs.Ordering.{int_eq}
 use Rattle.std.proofs.lemmas.List.{append-nil}
 use Rattle.std.proofs.lemmas.Bool.{eqb-true}
-use Rattle.dvi_ops.specs.Instruction.{Axis, Across, Downward, SetChar, FontNum, Instruction, Do, Push, Pop}
+use Rattle.dvi_ops.specs.Instruction.{Axis, Across, Downward, SetChar, FontNum, Xxx, Instruction, Do, Push, Pop}
 use Rattle.dvi_ops.specs.View.{view}
 use Rattle.node_core.specs.Items.{Items, none, leaf, box}
 use Rattle.node_core.specs.Nodes.{nodes_of}
@@ -50,7 +50,23 @@ flat-drawn_glyph kind h v current font code x y by rest =
     flat-moved_by Across (x -ℤ h) _
     ∙ ap (λ is. movement Across (x -ℤ h) ++ is) (flat-moved_by Downward (y -ℤ v) _ ∙ ap (λ is. movement Downward (y -ℤ v) ++ is) (flat-selected current font _))
 
-pub ruleset movements = (flat-drawn_rule, flat-drawn_glyph, append_assoc)
+-- A special is drawn by a movement right, one down, and the special.
+pub flat-drawn_special :
+    (kind : Kind) (h v : ℤ) (current : Option ℤ) (x y : ℤ) (text : List ℕ) (by : ℤ) (rest : Picture)
+    → flat (drawn kind h v current (stroke (body.Special x y text) by rest))
+    ≡ movement Across (x -ℤ h) ++ (movement Downward (y -ℤ v) ++ (Do (Xxx text) ∷ flat (drawn kind x y current rest)))
+flat-drawn_special kind h v current x y text by rest =
+    flat-moved_by Across (x -ℤ h) _ ∙ ap (λ is. movement Across (x -ℤ h) ++ is) (flat-moved_by Downward (y -ℤ v) _)
+
+pub ruleset movements = (flat-drawn_rule, flat-drawn_glyph, flat-drawn_special, append_assoc)
+
+-- What stands when a special was drawn makes the same as before, for the strokes that follow.
+pub noted_mark :
+    (kind : Kind) (before after : List Instruction) (h v : ℤ) (current left : Option ℤ) (x y : ℤ) (text : List ℕ) (end down : ℤ) (rest : Picture)
+    → after ≡ ((before ++ movement Across (x -ℤ h)) ++ movement Downward (y -ℤ v)) ++ Do (Xxx text) ∷ [] → end ≡ x → down ≡ y → left ≡ current
+    → before ++ flat (drawn kind h v current (stroke (body.Special x y text) (pos 0) rest)) ≡ after ++ flat (drawn kind end down left rest)
+noted_mark kind before after h v current left x y text end down rest is edge below font =
+    rw (is, edge, below, font) (rw (flat-drawn_special kind h v current x y text (pos 0) rest) (simp append_assoc))
 
 -- The selection that ink needs, and the font that it leaves.
 abbrev pub chosen : Option ℤ → Ink → List Instruction

@@ -17,7 +17,8 @@ use Rattle.pack_core.specs.Places.{place}
 use Rattle.pack_core.specs.Cursors.{Reached, reached, one_more, place_at}
 use Rattle.pack_core.proofs.Walks.{one_more-reached, place-reached, reached-passed}
 use Rattle.ship_core.specs.Marks.{Page, page_v, is_huge, right_at, down_at, list_v, item_h, item_v, box_h, box_v, numbers_at, numbers_behind}
-use Rattle.ship_core.specs.Drawing.{Picture, grouped, picture_after}
+use Rattle.dvi_ops.specs.Body as body
+use Rattle.ship_core.specs.Drawing.{Picture, stroke, grouped, picture_after}
 use Rattle.ship_core.specs.Placing.{Reaches, numbers_between, strokes_of, strokes_at, reference_h, reference_v}
 use Rattle.ship_core.proofs.Walked.{reach_by}
 
@@ -34,6 +35,7 @@ abbrev pub inside : BoxNode → (h v : ℤ) → Node → Picture → Picture
 inside b h v (nodes.Box shift inner) rest =
     grouped inner.list inner.kind
     (picture_after inner (box_h b.kind h shift) (list_v inner.kind inner.height (box_v b.kind v shift inner.height)) [] inner.list) rest
+inside b h v (nodes.Special text) rest = stroke (body.Special h v text) (pos 0) rest
 inside b h v other rest = rest
 
 abbrev pub numbers_inside : BoxNode → (h v : ℤ) → Node → List ℤ
@@ -52,6 +54,7 @@ picture-one b h v before rest (nodes.FontKern width) = refl
 picture-one b h v before rest (nodes.Kern width) = refl
 picture-one b h v before rest (nodes.Glue g) = refl
 picture-one b h v before rest (nodes.Penalty p) = refl
+picture-one b h v before rest (nodes.Special text) = refl
 picture-one b h v before rest (nodes.Rule sizes) = refl
 picture-one b h v before rest (nodes.Box shift inner) = refl
 
@@ -65,6 +68,7 @@ numbers-one b h v before rest (nodes.FontKern width) = refl
 numbers-one b h v before rest (nodes.Kern width) = refl
 numbers-one b h v before rest (nodes.Glue g) = refl
 numbers-one b h v before rest (nodes.Penalty p) = refl
+numbers-one b h v before rest (nodes.Special text) = refl
 numbers-one b h v before rest (nodes.Rule sizes) = refl
 numbers-one b h v before rest (nodes.Box shift inner) = refl
 
@@ -239,17 +243,33 @@ leaf_numbers b h v (nodes.FontKern width) other = refl
 leaf_numbers b h v (nodes.Kern width) other = refl
 leaf_numbers b h v (nodes.Glue g) other = refl
 leaf_numbers b h v (nodes.Penalty p) other = refl
+leaf_numbers b h v (nodes.Special text) other = refl
 leaf_numbers b h v (nodes.Rule sizes) other = refl
 
 pub leaf_picture :
-    (b : BoxNode) (h v : ℤ) (x : Node) (rest : Picture) → ((shift : ℤ) (inner : BoxNode) → x ≢ nodes.Box shift inner) → inside b h v x rest ≡ rest
-leaf_picture b h v (nodes.Box shift inner) rest other = absurd (other shift inner refl)
-leaf_picture b h v (nodes.Glyph g) rest other = refl
-leaf_picture b h v (nodes.FontKern width) rest other = refl
-leaf_picture b h v (nodes.Kern width) rest other = refl
-leaf_picture b h v (nodes.Glue g) rest other = refl
-leaf_picture b h v (nodes.Penalty p) rest other = refl
-leaf_picture b h v (nodes.Rule sizes) rest other = refl
+    (b : BoxNode) (h v : ℤ) (x : Node) (rest : Picture) → ((shift : ℤ) (inner : BoxNode) → x ≢ nodes.Box shift inner) → ((text : List ℕ) → x ≢ nodes.Special text)
+    → inside b h v x rest ≡ rest
+leaf_picture b h v (nodes.Box shift inner) rest other none = absurd (other shift inner refl)
+leaf_picture b h v (nodes.Glyph g) rest other none = refl
+leaf_picture b h v (nodes.FontKern width) rest other none = refl
+leaf_picture b h v (nodes.Kern width) rest other none = refl
+leaf_picture b h v (nodes.Glue g) rest other none = refl
+leaf_picture b h v (nodes.Penalty p) rest other none = refl
+leaf_picture b h v (nodes.Special text) rest other none = absurd (none text refl)
+leaf_picture b h v (nodes.Rule sizes) rest other none = refl
+
+-- A special that is found by a walk which has passed the items before it stands at its place.
+pub special_picture :
+    (b : BoxNode) (h v : ℤ) (before : List Node) (x : Node) (text : List ℕ) (from : Reached) (at_h at_v : ℤ) (rest : Picture)
+    → from ≡ reached b.kind b.setting before → x ≡ nodes.Special text
+    → at_h ≡ reference_h b.kind (right_at b.kind h (place_at b.setting from)) x
+    → at_v ≡ reference_v b.kind (down_at b.kind v (place_at b.setting from)) x
+    → inside b (item_h b h before) (item_v b v before) x rest ≡ stroke (body.Special at_h at_v text) (pos 0) rest
+special_picture b h v before x text from at_h at_v rest at is right down =
+    let here = reached-place b before from at in
+    let across : at_h ≡ item_h b h before = right ∙ (ap (reference_h b.kind (right_at b.kind h (place_at b.setting from))) is ∙ ap (λ place. right_at b.kind h place) here) in
+    let below : at_v ≡ item_v b v before = down ∙ (ap (reference_v b.kind (down_at b.kind v (place_at b.setting from))) is ∙ ap (λ place. down_at b.kind v place) here) in
+    rw (is, across, below) refl
 
 -- A box in a list nests less deep than the list.
 tail_depth : (x : Node) (rest : List Node) → items_depth (items_of rest) ≤ items_depth (items_of (x ∷ rest))
@@ -259,6 +279,7 @@ tail_depth (nodes.FontKern width) rest = omega arith
 tail_depth (nodes.Kern width) rest = omega arith
 tail_depth (nodes.Glue g) rest = omega arith
 tail_depth (nodes.Penalty p) rest = omega arith
+tail_depth (nodes.Special text) rest = omega arith
 tail_depth (nodes.Rule sizes) rest = omega arith
 
 left_depth : (i : ℕ) (xs : List Node) → items_depth (items_of (drop i xs)) ≤ items_depth (items_of xs)

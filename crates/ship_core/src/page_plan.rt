@@ -173,7 +173,11 @@ pub fn is_huge(box_node: &BoxNode, at: PagePoint) -> bool
 }
 
 /// Draws the list of a box; each inner box with items is a group, from the place in front of it.
-fn draw_list(drawing: &mut Drawing, box_node: &BoxNode, begin: &Begin) -> Result<(), AllocError>
+fn draw_list<'a>(
+    drawing: &mut Drawing<'a>,
+    box_node: &'a BoxNode,
+    begin: &Begin,
+) -> Result<(), AllocError>
     requires { list_all fits (numbers_behind box_node.now begin.now.h begin.now.v [] box_node.now.list) ≡ true }
     ensures ops { OnOk result (map view drawing.new.ops.items
         ≡ makes box_node.now.kind drawing.old (picture_after box_node.now begin.now.h begin.now.v [] box_node.now.list)) }
@@ -185,12 +189,16 @@ fn draw_list(drawing: &mut Drawing, box_node: &BoxNode, begin: &Begin) -> Result
             unreachable!();
         };
         drawing.draw(box_node.kind, seen.mark)?;
-        if let Node::Box(_, inner) = node {
-            if !inner.list.is_empty() {
-                let before = drawing.open()?;
-                draw_list(drawing, inner, &begin_of(inner, seen.at.point()))?;
-                drawing.close(before)?;
+        match node {
+            Node::Box(_, inner) => {
+                if !inner.list.is_empty() {
+                    let before = drawing.open()?;
+                    draw_list(drawing, inner, &begin_of(inner, seen.at.point()))?;
+                    drawing.close(before)?;
+                }
             }
+            Node::Special(text) => drawing.draw_special(seen.at, text.as_bytes())?,
+            _ => {}
         }
     }
     Ok(())
@@ -214,7 +222,7 @@ pub fn draw_page(
     alloc: Global,
     box_node: &BoxNode,
     at: PagePoint,
-) -> Result<Vec<Op<'static>>, AllocError>
+) -> Result<Vec<Op<'_>>, AllocError>
     requires { (counts : List ℤ) → is_huge (page_at counts at.h at.v box_node.now) ≡ false }
     ensures { IfOk result (λ ops. (counts : List ℤ) → map view ops.items ≡ flat (body_of (page_at counts at.h at.v box_node.now))) }
 {
@@ -225,7 +233,7 @@ pub fn draw_page(
 
 /// The instructions that draw the page of a box whose reference point is `at`, as `draw_page` gives them. HugePage exactly where a place
 /// or a size on the page does not fit; that is found before memory is taken.
-pub fn plan(alloc: Global, box_node: &BoxNode, at: PagePoint) -> Result<Vec<Op<'static>>, ShipFault>
+pub fn plan(alloc: Global, box_node: &BoxNode, at: PagePoint) -> Result<Vec<Op<'_>>, ShipFault>
     ensures ok { IfOk result (λ ops. (counts : List ℤ) → map view ops.items ≡ flat (body_of (page_at counts at.h at.v box_node.now))) }
     ensures fits { OnOk result ((counts : List ℤ) → is_huge (page_at counts at.h at.v box_node.now) ≡ false) }
     ensures huge { IfErr result (λ fault. (counts : List ℤ)

@@ -8,13 +8,15 @@ use Rattle.scaled_core.specs.Dimensions.{fits}
 use Rattle.pack_core.specs.Cursors.{one_more}
 use Rattle.pack_core.proofs.Walks.{reached-more}
 use Rattle.ship_core.specs.Marks.{item_h, item_v, box_h, box_v, list_v, numbers_behind}
-use Rattle.ship_core.specs.Drawing.{group, picture_after}
+use Rattle.std.specs.Prelude.{pos, List, ℕ}
+use Rattle.dvi_ops.specs.Body.{Special}
+use Rattle.ship_core.specs.Drawing.{group, stroke, picture_after}
 use Rattle.ship_core.specs.Placing.{strokes_in, makes, leaves}
 use Rattle.ship_core.specs.declared.placing.Position.{Position}
 use Rattle.ship_core.proofs.Drawings.{Draws, then_draws, same_picture, same_drawing, grouped-none, grouped-some, drawn_group}
-use Rattle.ship_core.proofs.Places.{inside, picture_left, fits_more, picture_more, item_fits, item_strokes, inner_begin, inner_numbers, inner_picture, inner_depth, leaf_picture, first_of_and, last_of_and, rest_of_and, no_rest, few_passed, reached-none}
+use Rattle.ship_core.proofs.Places.{inside, picture_left, fits_more, picture_more, item_fits, item_strokes, inner_begin, inner_numbers, inner_picture, inner_depth, leaf_picture, special_picture, first_of_and, last_of_and, rest_of_and, no_rest, few_passed, reached-none}
 use Rattle.ship_core.proofs.page_plan.+draw_list.Goals as goal
-use Rattle.ship_core.proofs.page_plan.+draw_list.Goals.{in-Box+then-not-is_empty+in_ok-before+in_ok-draw_list+in_ok-close, in-Box+else-not-is_empty, in_default-node}
+use Rattle.ship_core.proofs.page_plan.+draw_list.Goals.{in-Box+then-not-is_empty+in_ok-before-in-Box+in_ok-draw_list-in-Box+in_ok-close-in-Box, in-Box+else-not-is_empty, in-Special+in_ok-draw_special-in-Special, in_default-node}
 
 pub loop-node-init : goal.loop-node-init
 loop-node-init t c =
@@ -85,7 +87,7 @@ loop-node-preserved t c =
     (same_picture b.kind first _ _ (picture_more b h v xs i x c.loop-node-test.true c.node-item.is ∙ sym mark))
     (c.in_ok-draw.ensures.ops own, c.in_ok-draw.ensures.font own) in
     let inner : Draws b.kind marked own c.match-node.drawing later = elim c.match-node.branch [
-      | in-Box+then-not-is_empty+in_ok-before+in_ok-draw_list+in_ok-close w ↦
+      | in-Box+then-not-is_empty+in_ok-before-in-Box+in_ok-draw_list-in-Box+in_ok-close-in-Box w ↦
           let box = w.in-Box.inner in
           let start = w.begin_of.result in
           let begin = inner_begin b box h v (take i xs) x w.in-Box.field-0 c.loop-node.walk.cursor c.in-Some.seen.at.h c.in-Some.seen.at.v start.h start.v
@@ -93,14 +95,14 @@ loop-node-preserved t c =
           let picture = picture_after box start.h start.v [] box.list in
           let grouped = inner_picture b box x_h x_v w.in-Box.field-0 start.h start.v x later w.in-Box.is begin
           ∙ grouped-some box.list box.kind picture later (sym w.is_empty.ensures ∙ w.if-not-is_empty.true) in
-          let before = w.in_ok-before.ensures.place in
+          let before = w.in_ok-before-in-Box.ensures.place in
           let framed = group box.kind picture later in
           then_draws b.kind marked marked c.match-node.drawing own framed later (same_picture b.kind marked own framed grouped)
           (then_draws b.kind marked w.close.new.self c.match-node.drawing framed later later
           (drawn_group b.kind box.kind marked w.open.new.self w.draw_list.new.drawing w.close.new.self picture later
-          w.in_ok-before.ensures.ops w.in_ok-before.ensures.h w.in_ok-before.ensures.v w.in_ok-before.ensures.font
-          w.in_ok-draw_list.ensures.ops w.in_ok-draw_list.ensures.font w.in_ok-close.ensures.ops
-          (w.in_ok-close.ensures.h ∙ ap (λ (p : Position). p.h) before) (w.in_ok-close.ensures.v ∙ ap (λ (p : Position). p.v) before) w.in_ok-close.ensures.font)
+          w.in_ok-before-in-Box.ensures.ops w.in_ok-before-in-Box.ensures.h w.in_ok-before-in-Box.ensures.v w.in_ok-before-in-Box.ensures.font
+          w.in_ok-draw_list-in-Box.ensures.ops w.in_ok-draw_list-in-Box.ensures.font w.in_ok-close-in-Box.ensures.ops
+          (w.in_ok-close-in-Box.ensures.h ∙ ap (λ (p : Position). p.h) before) (w.in_ok-close-in-Box.ensures.v ∙ ap (λ (p : Position). p.v) before) w.in_ok-close-in-Box.ensures.font)
           (same_drawing b.kind w.close.new.self c.match-node.drawing later w.drawing-is))
       | in-Box+else-not-is_empty w ↦
           let box = w.in-Box.inner in
@@ -110,9 +112,18 @@ loop-node-preserved t c =
           ∙ grouped-none box.list box.kind (picture_after box at_h at_v [] box.list) later (sym w.is_empty.ensures ∙ w.if-not-is_empty.false) in
           then_draws b.kind marked marked c.match-node.drawing own later later (same_picture b.kind marked own later none)
           (same_drawing b.kind marked c.match-node.drawing later w.drawing-is)
+      | in-Special+in_ok-draw_special-in-Special w ↦
+          let found = special_picture b h v (take i xs) x w.in-Special.text c.loop-node.walk.cursor c.in-Some.seen.at.h c.in-Some.seen.at.v later
+          c.loop-node.invariant.cursor w.in-Special.is c.in-Some.ensures.h c.in-Some.ensures.v
+          ∙ ap (λ (text : List ℕ). stroke (Special c.in-Some.seen.at.h c.in-Some.seen.at.v text) (pos 0) later) (sym w.as_bytes.ensures.bytes) in
+          let drawn_text = stroke (Special c.in-Some.seen.at.h c.in-Some.seen.at.v w.as_bytes.result.now) (pos 0) later in
+          then_draws b.kind marked marked c.match-node.drawing own drawn_text later (same_picture b.kind marked own drawn_text found)
+          (then_draws b.kind marked w.draw_special.new.self c.match-node.drawing drawn_text later later
+          (w.in_ok-draw_special-in-Special.ensures.ops b.kind later, w.in_ok-draw_special-in-Special.ensures.font later)
+          (same_drawing b.kind w.draw_special.new.self c.match-node.drawing later w.drawing-is))
       | in_default-node w ↦
           then_draws b.kind marked marked c.match-node.drawing own later later
-          (same_picture b.kind marked own later (leaf_picture b x_h x_v x later w.in_default-node.not-Box))
+          (same_picture b.kind marked own later (leaf_picture b x_h x_v x later w.in_default-node.not-Box w.in_default-node.not-Special))
           (same_drawing b.kind marked c.match-node.drawing later w.drawing-is)
     ] in
     let all = then_draws b.kind first marked c.match-node.drawing (picture_left b h v xs i) own later drawn inner in

@@ -3,13 +3,14 @@ use Rattle.dvi_ops.specs.View.{view}
 use Rattle.ship_core.specs.Pages.{page_at}
 use Rattle.dvi_layout.specs.Sheets.{fresh_slots}
 use Rattle.dvi_layout.specs.SoFar.{SoFar}
-use Rattle.dvi_layout.proofs.Rooms.{next_small, next_few}
+use Rattle.dvi_layout.proofs.Rooms.{next_small, next_few, next_short}
 use Rattle.dvi_layout.proofs.WrittenBodies.{spelled_written}
 use Rattle.dvi_layout.proofs.progress.Progress.next_page.Goals as goal
 
 pub lay_out-requires : goal.lay_out-requires
 lay_out-requires c =
-    rw (c.deref-3.ensures.value, c.in_ok-body.ensures) (spelled_written (page_at c.args.counts.now c.args.at.h c.args.at.v c.args.box_node.now))
+    let page = page_at c.args.counts.now c.args.at.h c.args.at.v c.args.box_node.now in
+    rw (c.deref-3.ensures.value, c.in_ok-body.ensures) (spelled_written page (next_short c.args.fonts.now c.args.self.now page c.requires.room))
 
 pub keep_size-requires-clause-few : goal.keep_size-requires-clause-few
 keep_size-requires-clause-few c =
