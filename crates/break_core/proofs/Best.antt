@@ -12,7 +12,7 @@ use Rattle.break_table.specs.declared.state.State.{State}
 use Rattle.break_table.specs.Orders.{NotAfter}
 use Rattle.break_table.specs.Problems.{Problem}
 use Rattle.break_table.specs.Ways.{since}
-use Rattle.break_table.specs.Tables.{Entry, extended, short, offer, IsOffered, IsRow, IsPut}
+use Rattle.break_table.specs.Tables.{Entry, extended, short, offer, IsOffered, IsRow, IsKept, IsPut}
 use Rattle.break_table.proofs.Dictionary.{state_same, not_after_refl, not_after_trans}
 use Rattle.break_table.proofs.Reached.{offer_is}
 use Rattle.break_table.proofs.Rows.{row_best}
@@ -61,7 +61,7 @@ best_first table params place alone start next e best stands is_next is =
         (not_after_refl (short best))
 
 -- One more entry: what it offers is the least, or is not before it.
-pub best_taken :
+best_taken :
     (table : List Entry) (params : Params) (place : ℕ) (alone : Line) (from to : ℕ) (e best offered : Entry)
     → IsBestOffer table params place alone from to best → from ≤ to → slice_get table to ≡ Some e → offered ≡ offer_behind params e to place alone
     → NotAfter (short offered) (short best) → IsBestOffer table params place alone from (to + 1) offered
@@ -83,7 +83,7 @@ best_taken table params place alone from to e best offered is rises stands made 
             (made ∙ ap (λ n. offer_behind params e n place alone) same ∙ ap (λ x. offer_behind params x k place alone) one)
             (not_after_refl (short offered))
 
-pub best_stays :
+best_stays :
     (table : List Entry) (params : Params) (place : ℕ) (alone : Line) (from to : ℕ) (e best offered : Entry)
     → IsBestOffer table params place alone from to best → slice_get table to ≡ Some e → offered ≡ offer_behind params e to place alone
     → NotAfter (short best) (short offered) → IsBestOffer table params place alone from (to + 1) best
@@ -101,6 +101,22 @@ best_stays table params place alone from to e best offered is stands made before
             let one : e ≡ f = same_Some e f (sym stands ∙ ap (slice_get table) same ∙ at) in
             subst (λ x. NotAfter (short best) (short x))
             (made ∙ ap (λ n. offer_behind params e n place alone) same ∙ ap (λ x. offer_behind params x k place alone) one) before
+
+-- The lesser of both is kept.
+pub best_more :
+    (table : List Entry) (params : Params) (place : ℕ) (alone : Line) (from to : ℕ) (e best offered kept : Entry)
+    → IsBestOffer table params place alone from to best → from ≤ to → slice_get table to ≡ Some e → offered ≡ offer_behind params e to place alone
+    → IsKept (Some best) offered kept → IsBestOffer table params place alone from (to + 1) kept
+best_more table params place alone from to e best offered kept is rises stands made is_kept = which is_kept.is
+  where
+    which : (kept ≡ offered) ⊎ (Some best ≡ Some kept) → IsBestOffer table params place alone from (to + 1) kept
+    which (inl same) =
+        best_taken table params place alone from to e best kept is rises stands (same ∙ made) (is_kept.older best refl)
+    which (inr same) =
+        let one : best ≡ kept = same_Some best kept same in
+        subst (λ x. IsBestOffer table params place alone from (to + 1) x) one
+        (best_stays table params place alone from to e best offered is stands made
+        (subst (λ x. NotAfter (short x) (short offered)) (sym one) is_kept.offered))
 
 -- The least offer alone, put into its slot, is all that the group offers.
 pub best_offered :

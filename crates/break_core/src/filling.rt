@@ -1,7 +1,7 @@
 //! The table of a paragraph in a pass, filled place by place.
 
-ghost use Rattle.std.specs.Prelude.{◌≡◌, ◌+◌, ◌<◌, ◌≤◌, ◌++◌, ◌<ℤ◌, ℕ, pos, true, false, ◌&&◌, [], ◌∷◌, length, replicate, None, if◌then◌else◌, OnOk, IfOk};
-ghost use Rattle.break_table.specs.Tables.{Entry, most_places, slots, IsTable, IsRow};
+ghost use Rattle.std.specs.Prelude.{◌≡◌, ◌+◌, ◌<◌, ◌≤◌, ◌++◌, ℕ, true, false, ◌&&◌, [], ◌∷◌, length, replicate, slice_get, Some, None, if◌then◌else◌, OnOk, IfOk};
+ghost use Rattle.break_table.specs.Tables.{Entry, most_places, slots, IsTable, IsRow, IsKept};
 ghost use Rattle.break_cost.specs.Sizes.{judgement, IsSmallJudgement};
 ghost use Rattle.break_cost.specs.Small.{IsSmallAlone};
 ghost use Rattle.line_meter.specs.Legal.{is_forced};
@@ -164,6 +164,16 @@ fn offer_behind(table: &[Best], index: usize, params: &Params, place: usize, alo
     entry.extended(index, place, line, 0)
 }
 
+/// The lesser of two offers.
+fn lesser(best: Best, offered: Best) -> Best
+    ensures { IsKept (Some best) offered result }
+{
+    if best.is_not_after(offered) {
+        return best;
+    }
+    offered
+}
+
 /// The least of what the entries of a group offer for a place by a line, where no line is counted.
 fn best_offer(table: &[Best], group: Group, params: &Params, place: usize, alone: &Line) -> Best
     requires some { group.start < group.end }
@@ -177,9 +187,7 @@ fn best_offer(table: &[Best], group: Group, params: &Params, place: usize, alone
     let mut best = offer_behind(table, group.start, params, place, alone);
     for index in group.start + 1..group.end {
         let offered = offer_behind(table, index, params, place, alone);
-        if !best.is_not_after(offered) {
-            best = offered;
-        }
+        best = lesser(best, offered);
     }
     best
 }

@@ -1,7 +1,7 @@
 use Rattle.std.proofs.Common.{◌≡◌, ◌∙◌, ◌≤◌, refl, subst, arith}
 use Rattle.break_table.proofs.Entries.{get_at}
 use Rattle.break_core.specs.Filling.{IsBestOffer}
-use Rattle.break_core.proofs.Best.{best_first, best_taken, best_stays}
+use Rattle.break_core.proofs.Best.{best_first, best_more}
 use Rattle.break_core.proofs.filling.best_offer.Goals as goal
 
 pub offer_behind-best-requires-clause-uncounted : goal.offer_behind-best-requires-clause-uncounted
@@ -28,6 +28,18 @@ offer_behind-offered-requires-clause-uncounted c = λ e at.
 pub offer_behind-offered-requires-clause-later : goal.offer_behind-offered-requires-clause-later
 offer_behind-offered-requires-clause-later c = λ e at.
     omega (arith, (c.requires.entries c.loop-index.index e (omega (arith, c.loop-index.invariant.low)) c.loop-index-test.true at).0, c.requires.earlier)
+
+pub loop-index-preserved : goal.loop-index-preserved
+loop-index-preserved c =
+    let table = c.args.table.now in
+    let index = c.loop-index.index in
+    let inv = c.loop-index.invariant in
+    let here = get_at table index (omega (arith, c.loop-index-test.true, c.requires.within)) in
+    record {
+      low = omega (arith, inv.low);
+      best = best_more table c.args.params.now c.args.place c.args.alone.now c.args.group.start index here.0 c.loop-index.best c.offer_behind-offered.result
+          c.lesser-best.result inv.best (omega (arith, inv.low)) here.1 (c.offer_behind-offered.ensures here.0 here.1) c.lesser-best.ensures;
+    }
 
 pub returns : goal.returns
 returns c =
