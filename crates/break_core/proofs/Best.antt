@@ -1,6 +1,6 @@
 -- The least offer of a group, where no line is counted.
 use Rattle.std.proofs.Common.{◌≡◌, ◌∙◌, ℕ, ◌+◌, ◌<◌, ◌≤◌, Bool, true, false, cond, List, min, refl, ap, sym, subst, arith, Option, Some, None}
-use Rattle.std.specs.Prelude.{ℤ, nat_lt, slice_get}
+use Rattle.std.specs.Prelude.{ℤ, nat_lt, slice_get, ◌&&◌}
 use Rattle.std.proofs.Math.Logic.{◌⊎◌, inl, inr}
 use Rattle.std.proofs.lemmas.Bool.{cases_Bool, cond-false}
 use Rattle.std.proofs.lemmas.Option.{same_Some}

@@ -221,12 +221,7 @@ fn alone_demerits(params: &Params, penalty: i32, badness: u32) -> i64
 
 /// The line to a break of a penalty, if the bound admits it, without what the class of the line before it adds.
 #[tactic(auto, unfolding(crate::specs::Costs::line_alone))]
-pub fn line_alone(
-    params: &Params,
-    bound: &Bound,
-    penalty: i32,
-    line: &Judged,
-) -> Option<Line>
+pub fn line_alone(params: &Params, bound: &Bound, penalty: i32, line: &Judged) -> Option<Line>
     requires penalty { penalty <ℤ pos 10000 }
     requires small { IsSmallJudged line.now }
     ensures value { result ≡ line_alone params.now bound.now penalty line.now }

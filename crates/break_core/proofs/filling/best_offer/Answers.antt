@@ -1,4 +1,4 @@
-use Rattle.std.proofs.Common.{◌≡◌, ◌∙◌, ◌≤◌, refl, subst, arith}
+use Rattle.std.proofs.Common.{◌≡◌, ◌+◌, refl, subst, arith}
 use Rattle.break_table.proofs.Entries.{get_at}
 use Rattle.break_core.specs.Filling.{IsBestOffer}
 use Rattle.break_core.proofs.Best.{best_first, best_more}
