@@ -7,6 +7,7 @@ import subprocess
 from functools import partial
 
 TITLE = "completions/ and the manual page: the words of the program's help"
+TRIES = False
 LIMIT = 60
 # Prints what bash completes: its words are the words of the line, of which the last is completed.
 BASH = """source "$1"; shift; COMP_WORDS=("$@"); COMP_CWORD=$(($# - 1)); _boxglue; printf '%s\\n' "${COMPREPLY[@]}" """
@@ -111,8 +112,9 @@ def outcome(found, programs, root):
 def paths_of_bash(root):
     """After a `=` bash completes a path, and no option; after an option that has a number, nothing."""
     path, start = f"{root}/completions/boxglue.bash", f"{root}/examples/plain.t"
-    found = bash_words(path, "list", "out.dvi", "plain", "=", start), bash_words(path, "paint", "--page", ""), bash_words(path, "paint", "--page", "=", "1"), bash_words(path, "other", "")
-    return None if found == ({f"{root}/examples/plain.tfm"}, set(), set(), set()) else f"bash completes {found}"
+    lines = [("list", "out.dvi", "plain", "=", start), ("paint", "--page", ""), ("paint", "--page", "=", "1"), ("other", "")]
+    found = [bash_words(path, *words) for words in lines]
+    return None if found == [{f"{root}/examples/plain.tfm"}, set(), set(), set()] else f"bash completes {found}"
 
 
 def cases(programs, root):
