@@ -12,7 +12,7 @@ use Rattle.pack_core.specs.Measures.{HasPassed}
 use Rattle.pack_core.proofs.Sums.{total_more}
 use Rattle.pack_core.proofs.Passing.{within-more}
 
--- What is small after so many items is small after more.
+-- What is small after m items is small after more.
 pub passed-more : (m n : ℕ) (across : Across) → m ≤ n → HasPassed m across → HasPassed n across
 passed-more m n across less small = record {
   width = record { low = omega (arith, ints, small.width.low); high = omega (arith, ints, small.width.high) };

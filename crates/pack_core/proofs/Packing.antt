@@ -46,6 +46,13 @@ unfolding vtopped vtop_box vbox vbox_shell vtop_shell packed_of
 boxed-vtop target limit items =
     boxed-given (list_all fits (vtop_numbers target limit (nodes_of items))) items (vtop_shell (vbox_shell target limit (nodes_of items)) (first_height (nodes_of items)))
 
+-- A list in the shell of its vbox is its vbox.
+pub packed-vbox :
+    (target : Target) (limit : ℤ) (items : Items)
+    → packed_of items (vbox_shell target limit (nodes_of items)) ≡ record { box_node = vbox target limit items; badness = vbox_badness target limit (nodes_of items) }
+unfolding vbox vbox_shell packed_of
+packed-vbox target limit items = refl
+
 -- A fact of the packed box holds wherever the list is packed; and the list is packed exactly where all its numbers fit.
 packed-ok :
     (fit : Bool) (packed : Packed) (items : Items) (P : Packed → Type 0)

@@ -4,7 +4,7 @@ use Rattle.scaled_core.specs.Dimensions.{Within}
 use Rattle.pack_core.specs.declared.across.Across.{Across}
 use Rattle.pack_core.specs.Orders.{AreWithin}
 
--- Sums of so many items, and the greatest sizes of items, are small.
+-- After n items the sums and the greatest sizes are small.
 pub record HasPassed (n : ℕ) (across : Across) : Type 0 where
   pub width : Within (2 ^ 31 * n) across.width
   pub high : pos 0 ≤ℤ across.height

@@ -18,9 +18,9 @@ use node_core::Node;
 pub struct Across {
     /// How wide they are together.
     pub width: i64,
-    /// How far the highest stands above the baseline, at least 0.
+    /// How far the highest reaches above the baseline, at least 0.
     pub height: i64,
-    /// How far the deepest stands below the baseline, at least 0.
+    /// How far the deepest reaches below the baseline, at least 0.
     pub depth: i64,
     /// How much their glue can stretch, in each order.
     pub stretch: OrderAmounts,
@@ -46,7 +46,7 @@ impl Across {
         }
     }
 
-    /// Passes one more item. Glue alone has amounts, and most items have neither those nor more than three sizes.
+    /// Passes one more item. Characters, glue and kerns have arms of their own, since nearly all items of a line are of these kinds.
     fn pass(&mut self, node: &Node)
         requires { HasPassed most_nodes self.old }
         ensures width { self.new.width ≡ self.old.width +ℤ across node.now }
