@@ -309,9 +309,8 @@ impl NodeList {
     pub fn count(&self) -> u64
         ensures { result ≡ min (items_count self.now) u64.MAX }
     {
-        let mut count: u64 = 0;
+        let mut count = self.nodes.len() as u64;
         for node in &self.nodes {
-            count = count.saturating_add(1);
             if let Node::Box(_, inner) = node {
                 count = count.saturating_add(inner.list.count());
             }

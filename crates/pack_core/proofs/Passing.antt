@@ -69,6 +69,7 @@ no_stretch (nodes.Glyph glyph) other order = refl
 no_stretch (nodes.FontKern width) other order = refl
 no_stretch (nodes.Kern width) other order = refl
 no_stretch (nodes.Penalty penalty) other order = refl
+no_stretch (nodes.Special text) other order = refl
 no_stretch (nodes.Rule rule) other order = refl
 no_stretch (nodes.Box shift b) other order = refl
 
@@ -78,6 +79,7 @@ no_shrink (nodes.Glyph glyph) other order = refl
 no_shrink (nodes.FontKern width) other order = refl
 no_shrink (nodes.Kern width) other order = refl
 no_shrink (nodes.Penalty penalty) other order = refl
+no_shrink (nodes.Special text) other order = refl
 no_shrink (nodes.Rule rule) other order = refl
 no_shrink (nodes.Box shift b) other order = refl
 
