@@ -37,23 +37,23 @@ pub fn append_all(bytes: &mut Vec<u8>, ops: &[Op<'_>]) -> Result<(), AllocError>
     Ok(())
 }
 
-/// The instructions of a page with these counts, from bop to eop, behind a bop at a place (or -1).
-pub fn page_ops<'a>(
-    alloc: Global,
+/// Appends the spellings of a page with these counts and this body, from bop to eop, behind a bop at a place (or -1); or a front of them.
+pub fn append_page(
+    bytes: &mut Vec<u8>,
     counts: &[i32; 10],
-    body: &[Op<'a>],
+    body: &[Op<'_>],
     last: i32,
-) -> Result<Vec<Op<'a>>, AllocError>
-    ensures { IfOk result (λ ops. map view ops.items ≡ Bop counts.now last ∷ (map view body.now ++ Eop ∷ [])) }
+) -> Result<(), AllocError>
+    requires { AllByRecursion HasSpelling (map view body.now) }
+    ensures { OnOk result (bytes.new.items ≡ bytes.old.items ++ bytes_of (Bop counts.now last ∷ (map view body.now ++ Eop ∷ []))) }
 {
-    let mut ops = Vec::new(alloc);
-    ops.push(Op::Bop {
+    let bop = Op::Bop {
         counts: *counts,
         pointer: last,
-    })?;
-    ops.extend_from_slice(body)?;
-    ops.push(Op::Eop)?;
-    Ok(ops)
+    };
+    spell(&bop, bytes)?;
+    append_all(bytes, body)?;
+    spell(&Op::Eop, bytes)
 }
 
 /// Whether an instruction selects the font of a slot.
@@ -157,28 +157,6 @@ pub fn append_definitions<'a>(
         }
     }
     Ok(())
-}
-
-/// Appends the spellings of instructions and of others behind them, and tells where the others begin; or appends nothing.
-pub fn append_both(
-    bytes: &mut Vec<u8>,
-    first: &[Op<'_>],
-    second: &[Op<'_>],
-) -> Result<usize, AllocError>
-    requires first { AllByRecursion HasSpelling (map view first.now) }
-    requires second { AllByRecursion HasSpelling (map view second.now) }
-    ensures ok { OnOk result (bytes.new.items ≡ bytes.old.items ++ bytes_of (map view first.now ++ map view second.now)) }
-    ensures place { IfOk result (λ place. place ≡ length bytes.old.items + length (bytes_of (map view first.now))) }
-    ensures err { OnErr result (bytes.new.items ≡ bytes.old.items) }
-{
-    let held = bytes.len();
-    append_all(bytes, first)?;
-    let place = bytes.len();
-    if append_all(bytes, second).is_err() {
-        bytes.truncate(held);
-        return Err(AllocError);
-    }
-    Ok(place)
 }
 
 /// Appends four to seven padding bytes, so that the length with `before` bytes in front is a multiple of 4, or nothing.

@@ -138,16 +138,11 @@ impl<D: Device> DviWriter<D> {
             return Err(WriteFault::JobOver);
         }
         let at = offsets.point_of(box_node);
-        let load = self.progress.admit(box_node, at)?;
+        let load = self.progress.admit(box_node)?;
         ten_fit(counts);
         fonts.can_be_defined();
-        match self
-            .progress
+        self.progress
             .next_page(alloc, box_node, at, counts, fonts, load)
-        {
-            Ok(next) => Ok(next),
-            Err(_) => Err(WriteFault::OutOfMemory),
-        }
     }
 
     /// Sends the page of a box under these counts: the preamble before the first page, the definitions of the fonts that no page before it uses,
