@@ -87,6 +87,10 @@ admitted s page none =
     by_tests false false true false first second third none = cc
     by_tests false false false c first second third none = record { pages = first; nodes = second; text = third }
 
+-- The texts of the specials of the page are within the limit of a job.
+pub few_text : (s : SoFar) (page : Page) → limit_of s page ≡ (if is_huge page then Some HugePage else None) → box_text page.box_node ≤ MAX_SHIPPED_TEXT
+few_text s page none = omega (arith, ltb-false MAX_SHIPPED_TEXT (s.load.text + box_text page.box_node) (admitted s page none).text)
+
 -- Nothing was sent before the preamble.
 opening_fills : (n size nodes text fonts : ℕ) → size ≤ 15 + 46 * n + 19 * nodes + text + 271 * fonts → (n ≡ 0 → size ≡ 0)
     → size + length (bytes_of (opening n)) ≤ 15 + 46 * n + 19 * nodes + text + 271 * fonts

@@ -32,6 +32,11 @@ EachStroke P kind blank = Unit {0}
 EachStroke P kind (stroke mark by rest) = P kind mark by × EachStroke P kind rest
 EachStroke P kind (group own inner rest) = EachStroke P own inner × EachStroke P kind rest
 
+pub every_stroke : (P : Kind → Mark → (by : ℤ) → Type 0) → ((kind : Kind) (mark : Mark) (by : ℤ) → P kind mark by) → (kind : Kind) (p : Picture) → EachStroke P kind p
+every_stroke P holds kind blank = tt
+every_stroke P holds kind (stroke mark by rest) = (holds kind mark by, every_stroke P holds kind rest)
+every_stroke P holds kind (group own inner rest) = (every_stroke P holds own inner, every_stroke P holds kind rest)
+
 pub stroke_map :
     (P Q : Kind → Mark → (by : ℤ) → Type 0) → ((kind : Kind) (mark : Mark) (by : ℤ) → P kind mark by → Q kind mark by) → (kind : Kind) (p : Picture)
     → EachStroke P kind p → EachStroke Q kind p
