@@ -2,7 +2,7 @@
 use Rattle.std.proofs.Common.{◌≡◌, ◌<◌, ◌+◌, ◌-◌, ◌∷◌, [], ◌++◌, List, ℕ, Bool, true, false, cond, Option, Some, None, refl, sym, ◌∙◌, ap, ap₂, reverse, length, get_or, set, take, drop, map, unwrap_or, arith}
 use Rattle.std.specs.Prelude.{option_to_list, MatchOption}
 use Rattle.std.proofs.lemmas.List.{append_assoc, drop_more, drop-set-lt, length-set, map-append, nil_from_length, reverse-append, take_more, take_more_set}
-use Rattle.dvi_ops.specs.Instruction.{By, Set, Again, Move, Instruction, Do, Push, Pop}
+use Rattle.dvi_ops.specs.Instruction.{Across, Downward, By, Set, Again, Move, Instruction, Do, Push, Pop}
 use Rattle.dvi_ops.specs.View.{view}
 use Rattle.dvi_ops.specs.declared.op.Op.{Op}
 use Rattle.move_core.specs.Registers.{Known}
@@ -56,8 +56,10 @@ written_move known known' outer i written again rest move e w k = absurd (cc)
 pub written_other : (g g' : Groups) (i : Instruction) (rest : List Instruction) → is_move i ≡ false → g' ≡ entered i g →
     rewritten (i ∷ rest) g ≡ i ∷ rewritten rest g'
 written_other g g' (Do (Move axis (By n))) rest other e = absurd (cc)
-written_other g g' (Do (Move axis (Set register n))) rest other e = rw e refl
-written_other g g' (Do (Move axis (Again register))) rest other e = rw e refl
+written_other g g' (Do (Move Across (Set register n))) rest other e = rw e refl
+written_other g g' (Do (Move Downward (Set register n))) rest other e = rw e refl
+written_other g g' (Do (Move Across (Again register))) rest other e = rw e refl
+written_other g g' (Do (Move Downward (Again register))) rest other e = rw e refl
 written_other g g' (Do leaf) rest other e = rw e refl
 written_other g g' i rest other e = rw e refl
 

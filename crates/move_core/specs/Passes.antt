@@ -59,6 +59,20 @@ trimmed [] out = reverse out
 trimmed (Pop ∷ rest) (Push ∷ out) = trimmed rest out
 trimmed (i ∷ rest) out = trimmed rest (i ∷ out)
 
+-- Whether an instruction is a push; and whether it ends an empty group, where `pushed` says whether a push stands directly in front of it.
+abbrev pub is_push : Instruction → Bool
+is_push Push = true
+is_push i = false
+
+abbrev pub ends_empty_group : (pushed : Bool) → Instruction → Bool
+ends_empty_group true Pop = true
+ends_empty_group pushed i = false
+
+-- Whether a pop stands directly after a push, where `pushed` says whether a push stands directly in front of these instructions.
+abbrev pub has_empty_group : (pushed : Bool) → List Instruction → Bool
+has_empty_group pushed [] = false
+has_empty_group pushed (i ∷ rest) = ends_empty_group pushed i || has_empty_group (is_push i) rest
+
 -- Whether a plain movement by that amount comes, before its end, in the group that is open behind so many more pops, and not in a group of it.
 abbrev pub comes : List Instruction → (pops : ℕ) → Axis → ℤ → Bool
 comes [] pops axis n = false

@@ -3,7 +3,7 @@
 ghost use Rattle.std.specs.Prelude.{◌≡◌, ◌<◌, [], ◌∷◌, List, length, map, reverse, IfOk, OnOk};
 ghost use Rattle.dvi_ops.specs.Instruction.{Instruction};
 ghost use Rattle.dvi_ops.specs.View.{view};
-ghost use Rattle.move_core.specs.Passes.{again_in, trimmed, flags_of, is_move, rewritten, at_first, entered, groups_of, Turns};
+ghost use Rattle.move_core.specs.Passes.{again_in, trimmed, ends_empty_group, is_push, has_empty_group, flags_of, is_move, rewritten, at_first, entered, groups_of, Turns};
 
 use crate::later::Later;
 use crate::registers::Known;
@@ -23,10 +23,41 @@ fn keep<'a>(kept: &mut Vec<Op<'a>>, op: Op<'a>) -> Result<(), AllocError>
     Ok(())
 }
 
-/// The instructions without the groups that hold nothing but such groups.
+/// Whether an instruction ends an empty group, where `pushed` says whether a push stands directly in front of it.
+fn ends_empty_group(pushed: bool, op: &Op<'_>) -> bool
+    ensures { result ≡ ends_empty_group pushed (view op.now) }
+{
+    pushed && matches!(op, Op::Pop)
+}
+
+/// Whether an instruction is a push.
+fn is_push(op: &Op<'_>) -> bool
+    ensures { result ≡ is_push (view op.now) }
+{
+    matches!(op, Op::Push)
+}
+
+/// Whether a pop stands directly after a push.
+fn has_empty_group(ops: &[Op<'_>]) -> bool
+    ensures { result ≡ has_empty_group false (map view ops.now) }
+{
+    let mut pushed = false;
+    for op in ops {
+        if ends_empty_group(pushed, op) {
+            return true;
+        }
+        pushed = is_push(op);
+    }
+    false
+}
+
+/// The instructions without the groups that hold nothing but such groups: where there is none, as they are.
 pub fn without_empty_groups<'a>(ops: Vec<Op<'a>>) -> Result<Vec<Op<'a>>, AllocError>
     ensures { IfOk result (λ kept. map view kept.items ≡ trimmed (map view ops.entry.items) []) }
 {
+    if !has_empty_group(&ops) {
+        return Ok(ops);
+    }
     let mut kept = Vec::with_capacity(*ops.allocator(), ops.len())?;
     for op in &ops {
         keep(&mut kept, *op)?;
