@@ -135,14 +135,10 @@ fn written_body<'a>(
         ≡ (if is_huge (page_at counts.now at.h at.v box_node.now) then WriteFault.HugePage else WriteFault.OutOfMemory)) }
 {
     let _counts = *counts;
-    let drawn = match plan(alloc, box_node, at) {
-        Ok(drawn) => drawn,
-        Err(ShipFault::HugePage) => return Err(WriteFault::HugePage),
-        Err(ShipFault::OutOfMemory) => return Err(WriteFault::OutOfMemory),
-    };
-    match reuse(drawn) {
-        Ok(written) => Ok(written),
-        Err(_) => Err(WriteFault::OutOfMemory),
+    match plan(alloc, box_node, at) {
+        Ok(drawn) => Ok(reuse(drawn)?),
+        Err(ShipFault::HugePage) => Err(WriteFault::HugePage),
+        Err(ShipFault::OutOfMemory) => Err(WriteFault::OutOfMemory),
     }
 }
 

@@ -187,21 +187,21 @@ fn draw_list<'a>(
 {
     let mut walk = Walk::new(box_node, begin);
     for node in box_node.list.as_slice() {
-        let Some(seen) = walk.step(box_node, begin, node) else {
+        let Some(placed) = walk.step(box_node, begin, node) else {
             return Ok(false);
         };
-        drawing.draw(box_node.kind, seen.mark)?;
+        drawing.draw(box_node.kind, placed.mark)?;
         match node {
             Node::Box(_, inner) => {
                 if !inner.list.is_empty() {
                     let before = drawing.open()?;
-                    if !draw_list(drawing, inner, &begin_of(inner, seen.at.point()))? {
+                    if !draw_list(drawing, inner, &begin_of(inner, placed.at.point()))? {
                         return Ok(false);
                     }
                     drawing.close(before)?;
                 }
             }
-            Node::Special(text) => drawing.draw_special(seen.at, text.as_bytes())?,
+            Node::Special(text) => drawing.draw_special(placed.at, text.as_bytes())?,
             _ => {}
         }
     }

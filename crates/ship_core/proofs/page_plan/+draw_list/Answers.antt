@@ -67,7 +67,7 @@ returns-then-not-in_ok-draw_list-in-Box-clause-fits t c =
     let i = c.loop-node.node-index in
     let x = c.node-item.result in
     let here = item_fits b h v (take i xs) x c.loop-node.walk.cursor _ c.loop-node.invariant.cursor c.in-Some.ensures.fits in
-    let begin = inner_begin b c.in-Box.inner h v (take i xs) x c.in-Box.field-0 c.loop-node.walk.cursor c.in-Some.seen.at.h c.in-Some.seen.at.v c.begin_of.result.h c.begin_of.result.v
+    let begin = inner_begin b c.in-Box.inner h v (take i xs) x c.in-Box.field-0 c.loop-node.walk.cursor c.in-Some.placed.at.h c.in-Some.placed.at.v c.begin_of.result.h c.begin_of.result.v
     c.loop-node.invariant.cursor c.in-Box.is c.in-Some.ensures.h c.in-Some.ensures.v (c.begin_of.ensures.h ∙ c.point.ensures.h) (c.begin_of.ensures.v ∙ ap (list_v c.in-Box.inner.kind c.in-Box.inner.height) c.point.ensures.v) in
     let inner = inner_numbers b c.in-Box.inner (item_h b h (take i xs)) (item_v b v (take i xs)) c.in-Box.field-0 c.begin_of.result.h c.begin_of.result.v x c.in-Box.is begin in
     let none : false ≡ list_all fits (numbers_inside b (item_h b h (take i xs)) (item_v b v (take i xs)) x) =
@@ -94,14 +94,14 @@ loop-node-preserved t c =
     let here = item_fits b h v (take i xs) x c.loop-node.walk.cursor _ c.loop-node.invariant.cursor c.in-Some.ensures.fits in
     let mark = item_strokes b h v (take i xs) x c.loop-node.walk.cursor own _ c.loop-node.invariant.cursor (c.in-Some.ensures.mark own) in
     let drawn : Draws b.kind first (picture_left b h v xs i) marked own =
-    then_draws b.kind first first marked (picture_left b h v xs i) (strokes_in c.in-Some.seen.mark own) own
+    then_draws b.kind first first marked (picture_left b h v xs i) (strokes_in c.in-Some.placed.mark own) own
     (same_picture b.kind first _ _ (picture_more b h v xs i x c.loop-node-test.true c.node-item.is ∙ sym mark))
     (c.in_ok-draw.ensures.ops own, c.in_ok-draw.ensures.font own) in
     let within : (true ≡ list_all fits (numbers_inside b x_h x_v x)) × Draws b.kind marked own c.match-node.drawing later = elim c.match-node.branch [
       | in-Box+then-not-is_empty+in_ok-before-in-Box+in_ok-draw_list-in-Box+in_ok-close-in-Box w ↦
           let box = w.in-Box.inner in
           let start = w.begin_of.result in
-          let begin = inner_begin b box h v (take i xs) x w.in-Box.field-0 c.loop-node.walk.cursor c.in-Some.seen.at.h c.in-Some.seen.at.v start.h start.v
+          let begin = inner_begin b box h v (take i xs) x w.in-Box.field-0 c.loop-node.walk.cursor c.in-Some.placed.at.h c.in-Some.placed.at.v start.h start.v
           c.loop-node.invariant.cursor w.in-Box.is c.in-Some.ensures.h c.in-Some.ensures.v (w.begin_of.ensures.h ∙ w.point.ensures.h) (w.begin_of.ensures.v ∙ ap (list_v w.in-Box.inner.kind w.in-Box.inner.height) w.point.ensures.v) in
           let picture = picture_after box start.h start.v [] box.list in
           let grouped = inner_picture b box x_h x_v w.in-Box.field-0 start.h start.v x later w.in-Box.is begin
@@ -130,10 +130,10 @@ loop-node-preserved t c =
           then_draws b.kind marked marked c.match-node.drawing own later later (same_picture b.kind marked own later none)
           (same_drawing b.kind marked c.match-node.drawing later w.drawing-is))
       | in-Special+in_ok-draw_special-in-Special w ↦
-          let found = special_picture b h v (take i xs) x w.in-Special.text c.loop-node.walk.cursor c.in-Some.seen.at.h c.in-Some.seen.at.v later
+          let found = special_picture b h v (take i xs) x w.in-Special.text c.loop-node.walk.cursor c.in-Some.placed.at.h c.in-Some.placed.at.v later
           c.loop-node.invariant.cursor w.in-Special.is c.in-Some.ensures.h c.in-Some.ensures.v
-          ∙ ap (λ (text : List ℕ). stroke (Special c.in-Some.seen.at.h c.in-Some.seen.at.v text) (pos 0) later) (sym w.as_bytes.ensures.bytes) in
-          let drawn_text = stroke (Special c.in-Some.seen.at.h c.in-Some.seen.at.v w.as_bytes.result.now) (pos 0) later in
+          ∙ ap (λ (text : List ℕ). stroke (Special c.in-Some.placed.at.h c.in-Some.placed.at.v text) (pos 0) later) (sym w.as_bytes.ensures.bytes) in
+          let drawn_text = stroke (Special c.in-Some.placed.at.h c.in-Some.placed.at.v w.as_bytes.result.now) (pos 0) later in
           (sym (ap (λ y. list_all fits (numbers_inside b x_h x_v y)) w.in-Special.is),
           then_draws b.kind marked marked c.match-node.drawing own drawn_text later (same_picture b.kind marked own drawn_text found)
           (then_draws b.kind marked w.draw_special.new.self c.match-node.drawing drawn_text later later
