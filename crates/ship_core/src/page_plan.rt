@@ -89,7 +89,7 @@ impl Walk {
         self.here = place_of(box_node, begin, &self.cursor);
     }
 
-    /// Goes behind the next item, and tells how it is seen; None exactly where one of its numbers does not fit.
+    /// Goes past the next item, and returns how it is seen; None exactly where one of its numbers does not fit.
     fn step(&mut self, box_node: &BoxNode, begin: &Begin, node: &Node) -> Option<PlacedItem>
         requires few { self.old.cursor.passed < most_nodes }
         requires here { self.old.here ≡ point_in box_node.now begin.now.h begin.now.v (place_at box_node.now.setting self.old.cursor) }
@@ -195,7 +195,8 @@ fn draw_list<'a>(
             Node::Box(_, inner) => {
                 if !inner.list.is_empty() {
                     let before = drawing.open()?;
-                    if !draw_list(drawing, inner, &begin_of(inner, placed.at.point()))? {
+                    let fit = draw_list(drawing, inner, &begin_of(inner, placed.at.point()))?;
+                    if !fit {
                         return Ok(false);
                     }
                     drawing.close(before)?;
@@ -242,7 +243,8 @@ fn draw_page(
         return Ok(None);
     }
     let mut drawing = Drawing::new(alloc);
-    if !draw_list(&mut drawing, box_node, &begin_of(box_node, at))? {
+    let fit = draw_list(&mut drawing, box_node, &begin_of(box_node, at))?;
+    if !fit {
         return Ok(None);
     }
     Ok(Some(drawing.ops))

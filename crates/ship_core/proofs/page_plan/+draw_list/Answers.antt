@@ -16,7 +16,7 @@ use Rattle.ship_core.specs.declared.placing.Position.{Position}
 use Rattle.ship_core.proofs.Drawings.{Draws, then_draws, same_picture, same_drawing, grouped-none, grouped-some, drawn_group}
 use Rattle.ship_core.proofs.Places.{inside, numbers_inside, picture_left, fits_more, picture_more, item_fits, item_strokes, inner_begin, inner_numbers, inner_picture, inner_depth, leaf_numbers, leaf_picture, no_numbers, special_picture, rest_of_and, first_false, second_false, few_passed, reached-none}
 use Rattle.ship_core.proofs.page_plan.+draw_list.Goals as goal
-use Rattle.ship_core.proofs.page_plan.+draw_list.Goals.{in-Box+then-not-is_empty+in_ok-before-in-Box+in_ok-draw_list-in-Box+in_ok-close-in-Box, in-Box+else-not-is_empty, in-Special+in_ok-draw_special-in-Special, in_default-node}
+use Rattle.ship_core.proofs.page_plan.+draw_list.Goals.{in-Box+then-not-is_empty+in_ok-before-in-Box+in_ok-fit-in-Box+else-not-fit+in_ok-close-in-Box, in-Box+else-not-is_empty, in-Special+in_ok-draw_special-in-Special, in_default-node}
 
 pub loop-node-init : goal.loop-node-init
 loop-node-init t c =
@@ -58,8 +58,8 @@ returns-in_default-clause-fits t c =
     ∙ (sym (fits_more b h v xs i x c.loop-node-test.true c.node-item.is)
     ∙ (c.loop-node.invariant.left ∙ ap (λ items. list_all fits (numbers_behind b h v [] items)) whole))
 
-pub returns-then-not-in_ok-draw_list-in-Box-clause-fits : goal.returns-then-not-in_ok-draw_list-in-Box-clause-fits
-returns-then-not-in_ok-draw_list-in-Box-clause-fits t c =
+pub returns-then-not-fit-clause-fits : goal.returns-then-not-fit-clause-fits
+returns-then-not-fit-clause-fits t c =
     let b = c.args.box_node.now in
     let h = c.args.begin.now.h in
     let v = c.args.begin.now.v in
@@ -71,7 +71,7 @@ returns-then-not-in_ok-draw_list-in-Box-clause-fits t c =
     c.loop-node.invariant.cursor c.in-Box.is c.in-Some.ensures.h c.in-Some.ensures.v (c.begin_of.ensures.h ∙ c.point.ensures.h) (c.begin_of.ensures.v ∙ ap (list_v c.in-Box.inner.kind c.in-Box.inner.height) c.point.ensures.v) in
     let inner = inner_numbers b c.in-Box.inner (item_h b h (take i xs)) (item_v b v (take i xs)) c.in-Box.field-0 c.begin_of.result.h c.begin_of.result.v x c.in-Box.is begin in
     let none : false ≡ list_all fits (numbers_inside b (item_h b h (take i xs)) (item_v b v (take i xs)) x) =
-    sym c.if-not-in_ok-draw_list-in-Box.true ∙ (c.in_ok-draw_list-in-Box.ensures.fits ∙ sym (ap (list_all fits) inner)) in
+    sym c.if-not-fit.true ∙ (c.in_ok-fit-in-Box.ensures.fits ∙ sym (ap (list_all fits) inner)) in
     let whole : items_of xs ≡ b.list = ap items_of c.as_slice-node-items.ensures.nodes ∙ items_of-nodes_of b.list in
     sym (second_false _ _ _ none)
     ∙ (sym (fits_more b h v xs i x c.loop-node-test.true c.node-item.is)
@@ -98,7 +98,7 @@ loop-node-preserved t c =
     (same_picture b.kind first _ _ (picture_more b h v xs i x c.loop-node-test.true c.node-item.is ∙ sym mark))
     (c.in_ok-draw.ensures.ops own, c.in_ok-draw.ensures.font own) in
     let within : (true ≡ list_all fits (numbers_inside b x_h x_v x)) × Draws b.kind marked own c.match-node.drawing later = elim c.match-node.branch [
-      | in-Box+then-not-is_empty+in_ok-before-in-Box+in_ok-draw_list-in-Box+in_ok-close-in-Box w ↦
+      | in-Box+then-not-is_empty+in_ok-before-in-Box+in_ok-fit-in-Box+else-not-fit+in_ok-close-in-Box w ↦
           let box = w.in-Box.inner in
           let start = w.begin_of.result in
           let begin = inner_begin b box h v (take i xs) x w.in-Box.field-0 c.loop-node.walk.cursor c.in-Some.placed.at.h c.in-Some.placed.at.v start.h start.v
@@ -107,15 +107,15 @@ loop-node-preserved t c =
           let grouped = inner_picture b box x_h x_v w.in-Box.field-0 start.h start.v x later w.in-Box.is begin
           ∙ grouped-some box.list box.kind picture later (sym w.is_empty.ensures ∙ w.if-not-is_empty.true) in
           let numbers = inner_numbers b box x_h x_v w.in-Box.field-0 start.h start.v x w.in-Box.is begin in
-          let fit : w.in_ok-draw_list-in-Box.value ≡ true = sym w.if-not-in_ok-draw_list-in-Box.false in
+          let fit : w.in_ok-fit-in-Box.fit ≡ true = w.if-not-fit.false in
           let before = w.in_ok-before-in-Box.ensures.place in
           let framed = group box.kind picture later in
-          (sym fit ∙ (w.in_ok-draw_list-in-Box.ensures.fits ∙ sym (ap (list_all fits) numbers)),
+          (sym fit ∙ (w.in_ok-fit-in-Box.ensures.fits ∙ sym (ap (list_all fits) numbers)),
           then_draws b.kind marked marked c.match-node.drawing own framed later (same_picture b.kind marked own framed grouped)
           (then_draws b.kind marked w.close.new.self c.match-node.drawing framed later later
           (drawn_group b.kind box.kind marked w.open.new.self w.draw_list.new.drawing w.close.new.self picture later
           w.in_ok-before-in-Box.ensures.ops w.in_ok-before-in-Box.ensures.h w.in_ok-before-in-Box.ensures.v w.in_ok-before-in-Box.ensures.font
-          (w.in_ok-draw_list-in-Box.ensures.ops fit) (w.in_ok-draw_list-in-Box.ensures.font fit) w.in_ok-close-in-Box.ensures.ops
+          (w.in_ok-fit-in-Box.ensures.ops fit) (w.in_ok-fit-in-Box.ensures.font fit) w.in_ok-close-in-Box.ensures.ops
           (w.in_ok-close-in-Box.ensures.h ∙ ap (λ (p : Position). p.h) before) (w.in_ok-close-in-Box.ensures.v ∙ ap (λ (p : Position). p.v) before) w.in_ok-close-in-Box.ensures.font)
           (same_drawing b.kind w.close.new.self c.match-node.drawing later w.drawing-is)))
       | in-Box+else-not-is_empty w ↦

@@ -11,18 +11,18 @@ pub returns-then-not-ends_fit-clause-huge : goal.returns-then-not-ends_fit-claus
 returns-then-not-ends_fit-clause-huge c counts =
     ends_huge (page_at counts c.args.at.h c.args.at.v c.args.box_node.now) (sym c.ends_fit.ensures ∙ c.if-not-ends_fit.true)
 
-pub returns-then-not-draw_list-clause-huge : goal.returns-then-not-draw_list-clause-huge
-returns-then-not-draw_list-clause-huge c counts =
+pub returns-then-not-fit-clause-huge : goal.returns-then-not-fit-clause-huge
+returns-then-not-fit-clause-huge c counts =
     let b = c.args.box_node.now in
     let page = page_at counts c.args.at.h c.args.at.v b in
     items_huge page _ (sym c.ends_fit.ensures ∙ c.if-not-ends_fit.false)
-    (c.in_ok-draw_list.ensures.fits ∙ rw (c.begin_of.ensures.h, c.begin_of.ensures.v) refl)
-    ∙ ap not c.if-not-draw_list.true
+    (c.in_ok-fit.ensures.fits ∙ rw (c.begin_of.ensures.h, c.begin_of.ensures.v) refl)
+    ∙ ap not c.if-not-fit.true
 
 pub returns-clause-huge : goal.returns-clause-huge
 returns-clause-huge c counts =
     let b = c.args.box_node.now in
     let page = page_at counts c.args.at.h c.args.at.v b in
     items_huge page _ (sym c.ends_fit.ensures ∙ c.if-not-ends_fit.false)
-    (c.in_ok-draw_list.ensures.fits ∙ rw (c.begin_of.ensures.h, c.begin_of.ensures.v) refl)
-    ∙ ap not c.if-not-draw_list.false
+    (c.in_ok-fit.ensures.fits ∙ rw (c.begin_of.ensures.h, c.begin_of.ensures.v) refl)
+    ∙ ap not c.if-not-fit.false
