@@ -141,10 +141,13 @@ impl<D: Device> DviWriter<D> {
         let load = self.progress.admit(box_node)?;
         ten_fit(counts);
         fonts.can_be_defined();
-        let next = self
+        match self
             .progress
-            .next_page(alloc, box_node, at, counts, fonts, load)?;
-        Ok(next)
+            .next_page(alloc, box_node, at, counts, fonts, load)
+        {
+            Ok(next) => Ok(next),
+            Err(fault) => Err(fault),
+        }
     }
 
     /// Sends the page of a box under these counts: the preamble before the first page, the definitions of the fonts that no page before it uses,
