@@ -2,7 +2,7 @@ use Rattle.std.proofs.Common.{◌≡◌, ap, sym, ◌∙◌, subst}
 use Rattle.std.specs.Prelude.{None, false}
 use Rattle.ship_core.specs.declared.placing.PagePoint.{PagePoint}
 use Rattle.ship_core.specs.Pages.{page_at}
-use Rattle.dvi_layout.specs.Limits.{HasRoom}
+use Rattle.dvi_layout.specs.Limits.{HasRoom, limit_of}
 use Rattle.dvi_layout.specs.Shippable.{IsRightPage, page_with}
 use Rattle.dvi_layout.proofs.Rooms.{few_text, room_next}
 use Rattle.dvi_write.specs.Writing.{Writing, Refuses, refusal_of}
@@ -36,7 +36,7 @@ returns-in-Ok-clause-may g c =
     let w = c.args.self.now in
     let running : w.over ≡ false = sym (ap (λ (w : Writing). w.over) c.self.view_is) ∙ c.if-over.false in
     let page = page_at c.args.counts.now c.point_of-at.result.h c.point_of-at.result.v c.args.box_node.now in
-    let limit = rw (c.self.view_is) at c.in_ok-load.ensures.ok c.args.counts.now c.point_of-at.result.h c.point_of-at.result.v in
+    let limit = ap (λ (w : Writing). limit_of w.so_far page) (sym c.self.view_is) ∙ c.in_ok-load.ensures.ok c.args.counts.now c.point_of-at.result.h c.point_of-at.result.v in
     subst (λ (at : PagePoint). refusal_of w (page_at c.args.counts.now at.h at.v c.args.box_node.now) ≡ None) c.point_of-at.ensures (may_go w page running limit c.in-Ok.ensures.fits)
 
 pub returns-in-Err-clause-refused : goal.returns-in-Err-clause-refused
@@ -44,5 +44,5 @@ returns-in-Err-clause-refused g c =
     let w = c.args.self.now in
     let running : w.over ≡ false = sym (ap (λ (w : Writing). w.over) c.self.view_is) ∙ c.if-over.false in
     let page = page_at c.args.counts.now c.point_of-at.result.h c.point_of-at.result.v c.args.box_node.now in
-    let limit = rw (c.self.view_is) at c.in_ok-load.ensures.ok c.args.counts.now c.point_of-at.result.h c.point_of-at.result.v in
+    let limit = ap (λ (w : Writing). limit_of w.so_far page) (sym c.self.view_is) ∙ c.in_ok-load.ensures.ok c.args.counts.now c.point_of-at.result.h c.point_of-at.result.v in
     subst (λ (at : PagePoint). Refuses w (page_at c.args.counts.now at.h at.v c.args.box_node.now) c.in-Err.fault) c.point_of-at.ensures (refused_by w page c.in-Err.fault running limit c.in-Err.ensures.err)
