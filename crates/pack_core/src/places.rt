@@ -6,7 +6,8 @@ ghost use Rattle.node_core.specs.Nodes.{most_nodes, nodes_of};
 ghost use Rattle.node_core.specs.declared.tree.Kind.{Kind};
 ghost use Rattle.node_core.specs.declared.tree.Node.{Node};
 ghost use Rattle.node_core.specs.declared.tree.Setting.{Setting};
-ghost use Rattle.pack_core.specs.Places.{place, place_in, set_by};
+ghost use Rattle.pack_core.specs.Items.{advance};
+ghost use Rattle.pack_core.specs.Places.{place, place_in, share, set_by};
 ghost use Rattle.pack_core.specs.Cursors.{reached, one_more, moved_on, place_at};
 
 use crate::sizes::{advance_of, share_of};
@@ -66,6 +67,8 @@ impl Cursor {
         requires few { self.old.passed < most_nodes }
         requires small { Within (2 ^ 31) distance }
         ensures value { self.new ≡ moved_on self.old distance }
+        ensures reached { (kind : Kind) → (setting : Setting) → (before : List Node) → (node : Node) → distance ≡ advance kind node → share setting node ≡ pos 0 →
+            self.old ≡ reached kind setting before → self.new ≡ reached kind setting (before ++ node ∷ []) }
     {
         self.natural += distance;
         self.passed += 1;

@@ -107,7 +107,7 @@ pub fn first_height_of(node: &Node) -> Dimen
 }
 
 /// How far an item of a horizontal list moves what follows it.
-fn across_of(node: &Node) -> i64
+pub fn across_of(node: &Node) -> i64
     ensures value { result ≡ across node.now }
     ensures small { Within (2 ^ 31) result }
 {
