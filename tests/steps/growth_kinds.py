@@ -14,7 +14,7 @@ from dataclasses import dataclass
 ALONE = b"refused 1 OutOfMemory\n"
 WANTS_MEMORY, FAILED, OVER = "refused 1 OutOfMemory", "refused 18 Device", "refused 19 JobOver"
 MAY_TAKE_MEMORY = {
-    "font", "hbox", "vbox", "vtop", "par", "end", "text", "char", "rule", "kern", "glue", "penalty", "ship", "box", "copy",
+    "font", "hbox", "vbox", "vtop", "par", "end", "text", "char", "rule", "kern", "glue", "penalty", "special", "ship", "box", "copy",
     "unhbox", "unhcopy", "unvbox", "unvcopy", "vsplit",
 }
 NOTHING, WHOLE, COMMAND, DEVICE, END, END_DEVICE, TEXTS = "nwcdeft"
