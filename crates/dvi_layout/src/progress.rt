@@ -60,7 +60,9 @@ pub enum WriteFault {
 }
 
 impl From<AllocError> for WriteFault {
-    ghost from_gives = { λ _ fault. fault ≡ WriteFault.OutOfMemory };
+    ghost use Rattle.dvi_layout.specs.declared.progress.WriteFault.TheVariants.{OutOfMemory};
+
+    ghost from_gives = { λ _ fault. fault ≡ OutOfMemory };
 
     fn from(_error: AllocError) -> WriteFault {
         WriteFault::OutOfMemory

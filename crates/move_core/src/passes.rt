@@ -1,6 +1,6 @@
 //! The passes over the instructions of a page.
 
-ghost use Rattle.std.specs.Prelude.{◌≡◌, ◌<◌, [], ◌∷◌, List, length, map, reverse, IfOk, OnOk};
+ghost use Rattle.std.specs.Prelude.{◌≡◌, ◌<◌, [], ◌∷◌, List, false, length, map, reverse, IfOk, OnOk};
 ghost use Rattle.dvi_ops.specs.Instruction.{Instruction};
 ghost use Rattle.dvi_ops.specs.View.{view};
 ghost use Rattle.move_core.specs.Passes.{again_in, trimmed, ends_empty_group, is_push, has_empty_group, flags_of, is_move, rewritten, at_first, entered, groups_of, Turns};

@@ -254,14 +254,14 @@ leaf_numbers b h v (nodes.Rule sizes) other = refl
 pub leaf_picture :
     (b : BoxNode) (h v : ℤ) (x : Node) (rest : Picture) → ((shift : ℤ) (inner : BoxNode) → x ≢ nodes.Box shift inner) → ((text : List ℕ) → x ≢ nodes.Special text)
     → inside b h v x rest ≡ rest
-leaf_picture b h v (nodes.Box shift inner) rest other none = absurd (other shift inner refl)
-leaf_picture b h v (nodes.Glyph g) rest other none = refl
-leaf_picture b h v (nodes.FontKern width) rest other none = refl
-leaf_picture b h v (nodes.Kern width) rest other none = refl
-leaf_picture b h v (nodes.Glue g) rest other none = refl
-leaf_picture b h v (nodes.Penalty p) rest other none = refl
-leaf_picture b h v (nodes.Special text) rest other none = absurd (none text refl)
-leaf_picture b h v (nodes.Rule sizes) rest other none = refl
+leaf_picture b h v (nodes.Box shift inner) rest other no_text = absurd (other shift inner refl)
+leaf_picture b h v (nodes.Glyph g) rest other no_text = refl
+leaf_picture b h v (nodes.FontKern width) rest other no_text = refl
+leaf_picture b h v (nodes.Kern width) rest other no_text = refl
+leaf_picture b h v (nodes.Glue g) rest other no_text = refl
+leaf_picture b h v (nodes.Penalty p) rest other no_text = refl
+leaf_picture b h v (nodes.Special text) rest other no_text = absurd (no_text text refl)
+leaf_picture b h v (nodes.Rule sizes) rest other no_text = refl
 
 -- A special that is found by a walk which has passed the items before it stands at its place.
 pub special_picture :
@@ -303,7 +303,9 @@ inner_depth items xs i x shift inner within at all is =
 -- A page that reaches too far is huge; another one where the numbers of its items do not fit.
 pub ends_huge : (page : Page) → (fits (page.v +ℤ page.box_node.depth) && fits (page.h +ℤ page.box_node.width)) ≡ false → is_huge page ≡ true
 unfolding is_huge
-ends_huge page over = by_tests _ _ _ over
+ends_huge page over =
+    by_tests (fits (page.v +ℤ page.box_node.depth)) (fits (page.h +ℤ page.box_node.width))
+    (list_all fits (numbers_behind page.box_node page.h (page_v page) [] page.box_node.list)) over
   where
     by_tests : (a b c : Bool) → (a && b) ≡ false → not (a && (b && c)) ≡ true
     by_tests true true c over = absurd (cc)
@@ -314,7 +316,10 @@ pub items_huge :
     (page : Page) (fit : Bool) → (fits (page.v +ℤ page.box_node.depth) && fits (page.h +ℤ page.box_node.width)) ≡ true
     → fit ≡ list_all fits (numbers_behind page.box_node page.h (page_v page) [] page.box_node.list) → is_huge page ≡ not fit
 unfolding is_huge
-items_huge page fit within is = by_tests _ _ _ within ∙ ap not (sym is)
+items_huge page fit within is =
+    by_tests (fits (page.v +ℤ page.box_node.depth)) (fits (page.h +ℤ page.box_node.width))
+    (list_all fits (numbers_behind page.box_node page.h (page_v page) [] page.box_node.list)) within
+    ∙ ap not (sym is)
   where
     by_tests : (a b c : Bool) → (a && b) ≡ true → not (a && (b && c)) ≡ not c
     by_tests true true c within = refl

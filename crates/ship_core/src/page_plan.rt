@@ -220,14 +220,6 @@ pub enum ShipFault {
     OutOfMemory,
 }
 
-impl From<AllocError> for ShipFault {
-    ghost from_gives = { λ _ fault. fault ≡ ShipFault.OutOfMemory };
-
-    fn from(_error: AllocError) -> ShipFault {
-        ShipFault::OutOfMemory
-    }
-}
-
 /// The instructions that draw the page of a box whose reference point is `at`: plain movements, selections of fonts, characters, rules and
 /// specials, and an inner box with items between push and pop. None exactly where the page is huge.
 #[tactic(auto, unfolding(crate::specs::Drawing::body_of, crate::specs::Marks::is_huge))]
