@@ -53,6 +53,9 @@ marked_same before is i slot none marked =
     ∙ (ap (λ (b : Bool). list_any (selects slot) is || b) (sym (selects-by slot i ∙ ap (is_slot slot) none))
     ∙ sym (selected_more is i slot)))
 
+differ : true ≡ false → ⊥
+differ is = cc
+
 -- The slot of a font is marked, where there is one.
 pub marked_at : (marked : List Bool) (font : ℤ) (n slot : ℕ) → font ≡ pos n → n < length marked
     → get_or (set marked n true) slot false ≡ (get_or marked slot false || int_eq font (pos slot))
@@ -63,11 +66,8 @@ marked_at marked font n slot is within = by_test (int_eq font (pos slot)) refl
         let here : slot ≡ n = omega (arith, ints, is, (Decides-int_eq font (pos slot)).0 same) in
         get_or-set_at marked n slot true false here within ∙ sym (or-true (get_or marked slot false))
     by_test false other =
-        let apart : slot ≢ n = λ e. true_not_false (sym ((Decides-int_eq font (pos slot)).1 (is ∙ ap pos (sym e))) ∙ other) in
+        let apart : slot ≢ n = λ e. differ (sym ((Decides-int_eq font (pos slot)).1 (is ∙ ap pos (sym e))) ∙ other) in
         get_or-set_other marked n slot true false apart ∙ sym (or-false (get_or marked slot false))
-
-    true_not_false : true ≡ false → ⊥
-    true_not_false is = cc
 
 pub marked_none : (marked : List Bool) (font : ℤ) (slot : ℕ) → slot < 256 → ((n : ℕ) → n < 256 → font ≢ pos n)
     → get_or marked slot false ≡ (get_or marked slot false || int_eq font (pos slot))

@@ -20,7 +20,7 @@ ghost use Rattle.dvi_layout.specs.Limits.{HasRoom, limit_of};
 use crate::defined::DefinedSlots;
 use crate::fonts::Fonts;
 use crate::layout::{
-    SCALED_POINTS, append_all, append_definitions, append_page, append_padding, fresh_slots,
+    SCALED_POINTS, append_all, append_definitions, append_padding, append_page, fresh_slots,
     in_rising_order,
 };
 use dvi_ops::{Op, Postamble, opcodes};
@@ -28,10 +28,13 @@ use move_core::reuse;
 use node_core::BoxNode;
 use node_core::limits::{MAX_PAGES, MAX_SHIPPED_NODES, MAX_SHIPPED_TEXT};
 use scaled_core::Dimen;
-use ship_core::{PagePoint, ShipFault, plan, push_depth};
+use ship_core::{PagePoint, ShipFault, plan_with_room, push_depth};
 use std::alloc::{AllocError, Global};
 use std::marker::Model;
 use thiserror::Error;
+
+/// For how many instructions of a page there is room from the start, at most; a page of a book has fewer.
+const MAX_ROOM: u64 = 16_384;
 
 /// Why a page was not taken, or a file not ended.
 #[derive(Clone, Copy, Debug, PartialEq, Eq, Error)]
@@ -124,12 +127,14 @@ pub struct NextPage {
     pub behind: Progress,
 }
 
-/// The instructions of the body of a page as it is written. HugePage exactly where the page is huge, else OutOfMemory.
+/// The instructions of the body of a page as it is written, with room for that many from the start. HugePage exactly where the page is huge, else
+/// OutOfMemory.
 fn written_body<'a>(
     alloc: Global,
     box_node: &'a BoxNode,
     at: PagePoint,
     counts: &[i32; 10],
+    room: usize,
 ) -> Result<Vec<Op<'a>>, WriteFault>
     ensures ok { IfOk result (λ ops. map view ops.items ≡ flat (written_body (page_at counts.now at.h at.v box_node.now))) }
     ensures fits { OnOk result (is_huge (page_at counts.now at.h at.v box_node.now) ≡ false) }
@@ -137,7 +142,7 @@ fn written_body<'a>(
         ≡ (if is_huge (page_at counts.now at.h at.v box_node.now) then WriteFault.HugePage else WriteFault.OutOfMemory)) }
 {
     let _counts = *counts;
-    match plan(alloc, box_node, at) {
+    match plan_with_room(alloc, box_node, at, room) {
         Ok(drawn) => Ok(reuse(drawn)?),
         Err(ShipFault::HugePage) => Err(WriteFault::HugePage),
         Err(ShipFault::OutOfMemory) => Err(WriteFault::OutOfMemory),
@@ -325,7 +330,13 @@ impl Progress {
         ensures err { IfErr result (λ fault. fault
             ≡ (if is_huge (page_at counts.now at.h at.v box_node.now) then WriteFault.HugePage else WriteFault.OutOfMemory)) }
     {
-        let body = written_body(alloc, box_node, at, counts)?;
+        let body = written_body(
+            alloc,
+            box_node,
+            at,
+            counts,
+            load.nodes.min(MAX_ROOM) as usize,
+        )?;
         let fresh = fresh_slots(alloc, fonts, self.defined.as_slice(), &body)?;
         let (bytes, bop) = self.lay_out(alloc, fonts, &fresh, counts, &body)?;
         let mut behind = self.copied();

@@ -40,7 +40,7 @@ popped_flag flags flags' None i rest n n' move e l none all =
     let empty : [] ≡ again_in i rest ∷ flags_of rest = sym (ap reverse (nil_from_length flags (l ∙ none.0))) ∙ (all ∙ flags_at_move i rest move) in absurd cc
 popped_flag flags flags' (Some again) i rest n n' move e l some all =
     let whole : again ∷ reverse flags' ≡ again_in i rest ∷ flags_of rest =
-      sym (ap reverse e ∙ reverse-append flags' (again ∷ [])) ∙ (all ∙ flags_at_move i rest move) in
+    sym (ap reverse e ∙ reverse-append flags' (again ∷ [])) ∙ (all ∙ flags_at_move i rest move) in
     (cc, cc)
 
 -- A movement is written by what is known, and enters and leaves no group.

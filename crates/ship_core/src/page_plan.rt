@@ -227,6 +227,7 @@ fn draw_page(
     alloc: Global,
     box_node: &BoxNode,
     at: PagePoint,
+    room: usize,
 ) -> Result<Option<Vec<Op<'_>>>, AllocError>
     ensures ops { IfOk result (λ drawn. IfSome drawn (λ ops. (counts : List ℤ) → map view ops.items ≡ flat (body_of (page_at counts at.h at.v box_node.now)))) }
     ensures huge { IfOk result (λ drawn. (counts : List ℤ) → is_huge (page_at counts at.h at.v box_node.now) ≡ is_none drawn) }
@@ -234,7 +235,7 @@ fn draw_page(
     if !ends_fit(box_node, at) {
         return Ok(None);
     }
-    let mut drawing = Drawing::new(alloc);
+    let mut drawing = Drawing::new(alloc, room)?;
     let fit = draw_list(&mut drawing, box_node, &begin_of(box_node, at))?;
     if !fit {
         return Ok(None);
@@ -251,7 +252,22 @@ pub fn plan(alloc: Global, box_node: &BoxNode, at: PagePoint) -> Result<Vec<Op<'
     ensures huge { IfErr result (λ fault. (counts : List ℤ)
         → (fault ≡ ShipFault.HugePage) ↔ (is_huge (page_at counts at.h at.v box_node.now) ≡ true)) }
 {
-    match draw_page(alloc, box_node, at) {
+    plan_with_room(alloc, box_node, at, 0)
+}
+
+/// The same, with room for that many instructions from the start.
+pub fn plan_with_room(
+    alloc: Global,
+    box_node: &BoxNode,
+    at: PagePoint,
+    room: usize,
+) -> Result<Vec<Op<'_>>, ShipFault>
+    ensures ok { IfOk result (λ ops. (counts : List ℤ) → map view ops.items ≡ flat (body_of (page_at counts at.h at.v box_node.now))) }
+    ensures fits { OnOk result ((counts : List ℤ) → is_huge (page_at counts at.h at.v box_node.now) ≡ false) }
+    ensures huge { IfErr result (λ fault. (counts : List ℤ)
+        → (fault ≡ ShipFault.HugePage) ↔ (is_huge (page_at counts at.h at.v box_node.now) ≡ true)) }
+{
+    match draw_page(alloc, box_node, at, room) {
         Ok(Some(ops)) => Ok(ops),
         Ok(None) => Err(ShipFault::HugePage),
         Err(_) => {

@@ -9,6 +9,7 @@ use Rattle.dvi_ops.specs.declared.op.Op.TheVariants as ops
 use Rattle.dvi_layout.specs.Sheets.{selects}
 use Rattle.dvi_layout.proofs.FreshFonts.{marked_more, marked_same}
 use Rattle.dvi_layout.proofs.layout.selected_slots.Goals as goal
+use Rattle.dvi_layout.proofs.layout.selected_slots.Goals.{in-Some, in_default}
 
 pub loop-op-init : goal.loop-op-init
 loop-op-init c slot within = get_or-replicate _ slot false false within

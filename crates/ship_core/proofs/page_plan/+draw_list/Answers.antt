@@ -109,15 +109,16 @@ loop-node-preserved t c =
           let numbers = inner_numbers b box x_h x_v w.in-Box.field-0 start.h start.v x w.in-Box.is begin in
           let fit : w.in_ok-fit-in-Box.fit ≡ true = w.if-not-fit.false in
           let before = w.in_ok-before-in-Box.ensures.place in
-          let framed = group box.kind picture later in
-          (sym fit ∙ (w.in_ok-fit-in-Box.ensures.fits ∙ sym (ap (list_all fits) numbers)),
-          then_draws b.kind marked marked c.match-node.drawing own framed later (same_picture b.kind marked own framed grouped)
-          (then_draws b.kind marked w.close.new.self c.match-node.drawing framed later later
-          (drawn_group b.kind box.kind marked w.open.new.self w.draw_list.new.drawing w.close.new.self picture later
-          w.in_ok-before-in-Box.ensures.ops w.in_ok-before-in-Box.ensures.h w.in_ok-before-in-Box.ensures.v w.in_ok-before-in-Box.ensures.font
-          (w.in_ok-fit-in-Box.ensures.ops fit) (w.in_ok-fit-in-Box.ensures.font fit) w.in_ok-close-in-Box.ensures.ops
-          (w.in_ok-close-in-Box.ensures.h ∙ ap (λ (p : Position). p.h) before) (w.in_ok-close-in-Box.ensures.v ∙ ap (λ (p : Position). p.v) before) w.in_ok-close-in-Box.ensures.font)
-          (same_drawing b.kind w.close.new.self c.match-node.drawing later w.drawing-is)))
+          let framed = group box.kind picture later in (
+            sym fit ∙ (w.in_ok-fit-in-Box.ensures.fits ∙ sym (ap (list_all fits) numbers)),
+            then_draws b.kind marked marked c.match-node.drawing own framed later (same_picture b.kind marked own framed grouped)
+                (then_draws b.kind marked w.close.new.self c.match-node.drawing framed later later
+                (drawn_group b.kind box.kind marked w.open.new.self w.draw_list.new.drawing w.close.new.self picture later
+                w.in_ok-before-in-Box.ensures.ops w.in_ok-before-in-Box.ensures.h w.in_ok-before-in-Box.ensures.v w.in_ok-before-in-Box.ensures.font
+                (w.in_ok-fit-in-Box.ensures.ops fit) (w.in_ok-fit-in-Box.ensures.font fit) w.in_ok-close-in-Box.ensures.ops
+                (w.in_ok-close-in-Box.ensures.h ∙ ap (λ (p : Position). p.h) before) (w.in_ok-close-in-Box.ensures.v ∙ ap (λ (p : Position). p.v) before) w.in_ok-close-in-Box.ensures.font)
+                (same_drawing b.kind w.close.new.self c.match-node.drawing later w.drawing-is)),
+          )
       | in-Box+else-not-is_empty w ↦
           let box = w.in-Box.inner in
           let at_h = box_h b.kind x_h w.in-Box.field-0 in
@@ -125,25 +126,28 @@ loop-node-preserved t c =
           let none = inner_picture b box x_h x_v w.in-Box.field-0 at_h at_v x later w.in-Box.is (refl, refl)
           ∙ grouped-none box.list box.kind (picture_after box at_h at_v [] box.list) later (sym w.is_empty.ensures ∙ w.if-not-is_empty.false) in
           let numbers = inner_numbers b box x_h x_v w.in-Box.field-0 at_h at_v x w.in-Box.is (refl, refl) in
-          let fit = no_numbers box at_h at_v box.list (sym w.is_empty.ensures ∙ w.if-not-is_empty.false) in
-          (sym fit ∙ sym (ap (list_all fits) numbers),
-          then_draws b.kind marked marked c.match-node.drawing own later later (same_picture b.kind marked own later none)
-          (same_drawing b.kind marked c.match-node.drawing later w.drawing-is))
+          let fit = no_numbers box at_h at_v box.list (sym w.is_empty.ensures ∙ w.if-not-is_empty.false) in (
+            sym fit ∙ sym (ap (list_all fits) numbers),
+            then_draws b.kind marked marked c.match-node.drawing own later later (same_picture b.kind marked own later none)
+                (same_drawing b.kind marked c.match-node.drawing later w.drawing-is),
+          )
       | in-Special+in_ok-draw_special-in-Special w ↦
           let found = special_picture b h v (take i xs) x w.in-Special.text c.loop-node.walk.cursor c.in-Some.placed.at.h c.in-Some.placed.at.v later
           c.loop-node.invariant.cursor w.in-Special.is c.in-Some.ensures.h c.in-Some.ensures.v
           ∙ ap (λ (text : List ℕ). stroke (Special c.in-Some.placed.at.h c.in-Some.placed.at.v text) (pos 0) later) (sym w.as_bytes.ensures.bytes) in
-          let drawn_text = stroke (Special c.in-Some.placed.at.h c.in-Some.placed.at.v w.as_bytes.result.now) (pos 0) later in
-          (sym (ap (λ y. list_all fits (numbers_inside b x_h x_v y)) w.in-Special.is),
-          then_draws b.kind marked marked c.match-node.drawing own drawn_text later (same_picture b.kind marked own drawn_text found)
-          (then_draws b.kind marked w.draw_special.new.self c.match-node.drawing drawn_text later later
-          (w.in_ok-draw_special-in-Special.ensures.ops b.kind later, w.in_ok-draw_special-in-Special.ensures.font later)
-          (same_drawing b.kind w.draw_special.new.self c.match-node.drawing later w.drawing-is)))
-      | in_default-node w ↦
-          (sym (ap (list_all fits) (leaf_numbers b x_h x_v x w.in_default-node.not-Box)),
-          then_draws b.kind marked marked c.match-node.drawing own later later
-          (same_picture b.kind marked own later (leaf_picture b x_h x_v x later w.in_default-node.not-Box w.in_default-node.not-Special))
-          (same_drawing b.kind marked c.match-node.drawing later w.drawing-is))
+          let drawn_text = stroke (Special c.in-Some.placed.at.h c.in-Some.placed.at.v w.as_bytes.result.now) (pos 0) later in (
+            sym (ap (λ y. list_all fits (numbers_inside b x_h x_v y)) w.in-Special.is),
+            then_draws b.kind marked marked c.match-node.drawing own drawn_text later (same_picture b.kind marked own drawn_text found)
+                (then_draws b.kind marked w.draw_special.new.self c.match-node.drawing drawn_text later later
+                (w.in_ok-draw_special-in-Special.ensures.ops b.kind later, w.in_ok-draw_special-in-Special.ensures.font later)
+                (same_drawing b.kind w.draw_special.new.self c.match-node.drawing later w.drawing-is)),
+          )
+      | in_default-node w ↦ (
+        sym (ap (list_all fits) (leaf_numbers b x_h x_v x w.in_default-node.not-Box)),
+        then_draws b.kind marked marked c.match-node.drawing own later later
+            (same_picture b.kind marked own later (leaf_picture b x_h x_v x later w.in_default-node.not-Box w.in_default-node.not-Special))
+            (same_drawing b.kind marked c.match-node.drawing later w.drawing-is),
+      )
     ] in
     let all = then_draws b.kind first marked c.match-node.drawing (picture_left b h v xs i) own later drawn within.1 in
     record {
