@@ -1,5 +1,7 @@
-use Rattle.std.proofs.Common.{◌≡◌, ◌∙◌, ◌+◌, ◌++◌, [], ◌∷◌, ℕ, List, pos, ap, sym, map, take, get_or}
-use Rattle.std.specs.Prelude.{false, replicate}
+use Rattle.std.proofs.Common.{◌≡◌, ◌∙◌, ◌+◌, ◌++◌, [], ◌∷◌, ℕ, List, pos, ap, sym, map, take, get_or, to_z, of_z, w32, arith}
+use Rattle.std.specs.Prelude.{ℤ, false, replicate, ◌||◌}
+use Rattle.std.specs.Ordering.{int_eq}
+use Rattle.std.proofs.lemmas.Int.{ints}
 use Rattle.std.specs.List.{list_any}
 use Rattle.std.proofs.lemmas.List.{take_all, take_more, map-append, get_or-replicate}
 use Rattle.dvi_ops.specs.Instruction.{Instruction}
@@ -23,7 +25,9 @@ loop-op-preserved c slot within =
     ap (map view) (take_more all i (ops.SetChar (pos 0)) c.loop-op-test.true) ∙ map-append view (take i all) (op ∷ []) in
     let marked : get_or c.match-font_of.selected slot false ≡ list_any (selects slot) (map view (take i all) ++ view op ∷ []) = elim c.match-font_of.branch [
       | in-Some w ↦
-          marked_more c.loop-op.selected w.mark.new.marked (map view (take i all)) (view op) w.in-Some.font slot (sym c.font_of.ensures ∙ w.in-Some.is) (w.mark.ensures slot within) (c.loop-op.invariant slot within)
+          let same : to_z w32 (of_z w32 w.in-Some.font) ≡ w.in-Some.font = omega (arith, ints) in
+          marked_more c.loop-op.selected w.mark.new.marked (map view (take i all)) (view op) w.in-Some.font slot (sym c.font_of.ensures ∙ w.in-Some.is)
+          (w.mark.ensures slot within ∙ ap (λ (font : ℤ). get_or c.loop-op.selected slot false || int_eq font (pos slot)) same) (c.loop-op.invariant slot within)
       | in_default w ↦ marked_same c.loop-op.selected (map view (take i all)) (view op) slot (sym c.font_of.ensures ∙ w.in_default.is) (c.loop-op.invariant slot within)
     ] in
     marked ∙ ap (λ (is : List Instruction). list_any (selects slot) is) (sym more)
