@@ -83,8 +83,9 @@ fn selected_slots(ops: &[Op<'_>]) -> [bool; FONT_SLOTS]
 {
     let mut selected = [false; FONT_SLOTS];
     for op in ops {
-        if let Some(font) = font_of(op) {
-            mark(&mut selected, font);
+        match font_of(op) {
+            Some(font) => mark(&mut selected, font),
+            None => {}
         }
     }
     selected

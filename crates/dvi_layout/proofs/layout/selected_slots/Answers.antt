@@ -1,4 +1,4 @@
-use Rattle.std.proofs.Common.{◌≡◌, ◌∙◌, ◌+◌, ◌++◌, [], ◌∷◌, ℕ, List, pos, ap, sym, map, take, get_or, to_z, of_z, w32, arith}
+use Rattle.std.proofs.Common.{◌≡◌, ◌∙◌, ◌+◌, ◌++◌, [], ◌∷◌, ℕ, List, Bool, pos, ap, sym, map, take, get_or, to_z, of_z, w32, arith}
 use Rattle.std.specs.Prelude.{ℤ, false, replicate, ◌||◌}
 use Rattle.std.specs.Ordering.{int_eq}
 use Rattle.std.proofs.lemmas.Int.{ints}
@@ -11,7 +11,7 @@ use Rattle.dvi_ops.specs.declared.op.Op.TheVariants as ops
 use Rattle.dvi_layout.specs.Sheets.{selects}
 use Rattle.dvi_layout.proofs.FreshFonts.{marked_more, marked_same}
 use Rattle.dvi_layout.proofs.layout.selected_slots.Goals as goal
-use Rattle.dvi_layout.proofs.layout.selected_slots.Goals.{in-Some, in_default}
+use Rattle.dvi_layout.proofs.layout.selected_slots.Goals.{in-Some, in-None}
 
 pub loop-op-init : goal.loop-op-init
 loop-op-init c slot within = get_or-replicate _ slot false false within
@@ -26,9 +26,12 @@ loop-op-preserved c slot within =
     let marked : get_or c.match-font_of.selected slot false ≡ list_any (selects slot) (map view (take i all) ++ view op ∷ []) = elim c.match-font_of.branch [
       | in-Some w ↦
           let same : to_z w32 (of_z w32 w.in-Some.font) ≡ w.in-Some.font = omega (arith, ints) in
-          marked_more c.loop-op.selected w.mark.new.marked (map view (take i all)) (view op) w.in-Some.font slot (sym c.font_of.ensures ∙ w.in-Some.is)
+          ap (λ (s : List Bool). get_or s slot false) w.selected-is
+          ∙ marked_more c.loop-op.selected w.mark.new.marked (map view (take i all)) (view op) w.in-Some.font slot (sym c.font_of.ensures ∙ w.in-Some.is)
           (w.mark.ensures slot within ∙ ap (λ (font : ℤ). get_or c.loop-op.selected slot false || int_eq font (pos slot)) same) (c.loop-op.invariant slot within)
-      | in_default w ↦ marked_same c.loop-op.selected (map view (take i all)) (view op) slot (sym c.font_of.ensures ∙ w.in_default.is) (c.loop-op.invariant slot within)
+      | in-None w ↦
+          ap (λ (s : List Bool). get_or s slot false) w.selected-is
+          ∙ marked_same c.loop-op.selected (map view (take i all)) (view op) slot (sym c.font_of.ensures ∙ w.in-None.is) (c.loop-op.invariant slot within)
     ] in
     marked ∙ ap (λ (is : List Instruction). list_any (selects slot) is) (sym more)
 
