@@ -34,7 +34,7 @@ returns-in-Ok-clause-right g c =
 pub returns-in-Ok-clause-may : goal.returns-in-Ok-clause-may
 returns-in-Ok-clause-may g c =
     let w = c.args.self.now in
-    let running : w.over ≡ false = sym (ap (λ (w : Writing). w.over) c.self.view_is) ∙ c.if-over.false in
+    let running : w.over ≡ false = sym (ap (λ (w : Writing). w.over) c.self.view_is) ∙ c.if-self.false in
     let page = page_at c.args.counts.now c.point_of-at.result.h c.point_of-at.result.v c.args.box_node.now in
     let limit = ap (λ (w : Writing). limit_of w.so_far page) (sym c.self.view_is) ∙ c.in_ok-load.ensures.ok c.args.counts.now c.point_of-at.result.h c.point_of-at.result.v in
     subst (λ (at : PagePoint). refusal_of w (page_at c.args.counts.now at.h at.v c.args.box_node.now) ≡ None) c.point_of-at.ensures (may_go w page running limit c.in-Ok.ensures.fits)
@@ -42,7 +42,7 @@ returns-in-Ok-clause-may g c =
 pub returns-in-Err-clause-refused : goal.returns-in-Err-clause-refused
 returns-in-Err-clause-refused g c =
     let w = c.args.self.now in
-    let running : w.over ≡ false = sym (ap (λ (w : Writing). w.over) c.self.view_is) ∙ c.if-over.false in
+    let running : w.over ≡ false = sym (ap (λ (w : Writing). w.over) c.self.view_is) ∙ c.if-self.false in
     let page = page_at c.args.counts.now c.point_of-at.result.h c.point_of-at.result.v c.args.box_node.now in
     let limit = ap (λ (w : Writing). limit_of w.so_far page) (sym c.self.view_is) ∙ c.in_ok-load.ensures.ok c.args.counts.now c.point_of-at.result.h c.point_of-at.result.v in
     subst (λ (at : PagePoint). Refuses w (page_at c.args.counts.now at.h at.v c.args.box_node.now) c.in-Err.fault) c.point_of-at.ensures (refused_by w page c.in-Err.fault running limit c.in-Err.ensures.err)
