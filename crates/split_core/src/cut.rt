@@ -6,11 +6,12 @@ ghost use Rattle.scaled_core.specs.Dimensions.{fits};
 ghost use Rattle.node_core.specs.Nodes.{most_nodes, nodes_of};
 ghost use Rattle.pack_core.specs.Boxes.{vbox_numbers};
 ghost use Rattle.split_core.specs.Split.{front_of, rest_of, refusal, fault_of, packed_as, packed_rest, no_limit};
-ghost use Rattle.split_core.specs.Steps.{top_items, IsSound};
+ghost use Rattle.split_core.specs.Steps.{rest_list, left_items, IsInside, IsSound};
 
 use crate::parts::{Split, SplitFault, Unsplit};
-use crate::plan::{Plan, Top, plan_split};
-use node_core::{Glue, Node, NodeList, SplitParams};
+use crate::plan::{Plan, Rest, plan_split};
+use crate::rest::take_rest;
+use node_core::{Node, NodeList, SplitParams};
 use pack_core::{Packed, Target, vpack};
 use scaled_core::Dimen;
 use std::alloc::{AllocError, Global};
@@ -27,35 +28,20 @@ fn packed(nodes: Vec<Node>, target: Target, limit: Dimen) -> Packed
     }
 }
 
-/// Takes the rest away from the nodes: the items from `start` on, below the glue, which comes into the place of the item before them. A
-/// refused growth leaves the nodes as they were.
-fn take_rest(nodes: &mut Vec<Node>, start: usize, glue: Glue) -> Result<Vec<Node>, AllocError>
-    requires some { 0 < start }
-    requires within { start ≤ length nodes.old.items }
-    ensures rest { IfOk result (λ rest. rest.items ≡ Node.Glue glue ∷ drop start nodes.old.items) }
-    ensures front { OnOk result (nodes.new.items ≡ take (start - 1) nodes.old.items) }
-    ensures err { OnErr result (nodes.new.items ≡ nodes.old.items) }
-{
-    let mut rest = nodes.split_off(start - 1)?;
-    rest[0] = Node::Glue(glue);
-    Ok(rest)
-}
-
 /// Takes the rest away from the nodes and packs it.
-fn pack_rest(nodes: &mut Vec<Node>, top: Top) -> Result<Packed, AllocError>
+fn pack_rest(nodes: &mut Vec<Node>, rest: &Rest) -> Result<Packed, AllocError>
     requires short { length nodes.old.items ≤ most_nodes }
-    requires some { 0 < top.start }
-    requires within { top.start ≤ length nodes.old.items }
-    requires fits { IsTrue (list_all fits (vbox_numbers Target.Natural no_limit (Node.Glue top.glue ∷ drop top.start nodes.old.items))) }
-    ensures rest { IfOk result (λ rest. rest ≡ packed_as Target.Natural no_limit (Node.Glue top.glue ∷ drop top.start nodes.old.items)) }
-    ensures front { OnOk result (nodes.new.items ≡ take (top.start - 1) nodes.old.items) }
+    requires inside { IsInside rest.now nodes.old.items }
+    requires fits { IsTrue (list_all fits (vbox_numbers Target.Natural no_limit (rest_list rest.now nodes.old.items))) }
+    ensures rest { IfOk result (λ packed. packed ≡ packed_as Target.Natural no_limit (rest_list rest.now nodes.old.items)) }
+    ensures front { OnOk result (nodes.new.items ≡ take (rest.now.first - 1) nodes.old.items) }
     ensures err { OnErr result (nodes.new.items ≡ nodes.old.items) }
 {
-    let rest = take_rest(nodes, top.start, top.glue)?;
+    let rest = take_rest(nodes, rest)?;
     Ok(packed(rest, Target::Natural, Dimen::MAX))
 }
 
-/// Packs what stands before a place.
+/// Packs what is before a place.
 fn pack_front(mut nodes: Vec<Node>, place: usize, height: Dimen, params: &SplitParams) -> Packed
     requires short { length nodes.items ≤ most_nodes }
     requires fits { IsTrue (list_all fits (vbox_numbers (Target.To height) params.now.split_max_depth (take place nodes.items))) }
@@ -75,17 +61,17 @@ fn carry_out(
     requires short { length nodes.items ≤ most_nodes }
     requires sound { IsSound params.now height nodes.items plan.now }
     ensures front { IfOk result (λ s. s.front ≡ packed_as (Target.To height) params.now.split_max_depth (take plan.now.place nodes.items)) }
-    ensures rest { IfOk result (λ s. s.rest ≡ packed_rest (top_items plan.now.top nodes.items)) }
-    ensures growth { OnErr result (is_some plan.now.top ≡ true) }
+    ensures rest { IfOk result (λ s. s.rest ≡ packed_rest (left_items plan.now.rest nodes.items)) }
+    ensures growth { OnErr result (is_some (packed_rest (left_items plan.now.rest nodes.items)) ≡ true) }
     ensures back { IfErr result (λ back. back.items ≡ nodes.items) }
 {
-    let Some(top) = plan.top else {
+    let Some(rest) = &plan.rest else {
         return Ok(Split {
             front: pack_front(nodes, plan.place, height, params),
             rest: None,
         });
     };
-    match pack_rest(&mut nodes, top) {
+    match pack_rest(&mut nodes, rest) {
         Err(AllocError) => Err(nodes),
         Ok(rest) => Ok(Split {
             front: pack_front(nodes, plan.place, height, params),
@@ -94,15 +80,15 @@ fn carry_out(
     }
 }
 
-/// Splits a vertical list to that height: what stands before the place is packed to just this height, no deeper than splitmaxdepth, and what is
-/// left to its natural height. No item is copied; one growth, for the nodes of the rest. Refused, the list comes back as it was.
+/// Splits a vertical list to that height: what is before the place is packed to just this height, no deeper than splitmaxdepth, and what is
+/// left to its natural height. No item is copied. One growth, for the nodes of the rest, before anything is moved. Refused, the list comes back as it was.
 pub fn split_list(list: NodeList, height: Dimen, params: &SplitParams) -> Result<Split, Unsplit>
     ensures front { IfOk result (λ s. s.front ≡ front_of params.now height (nodes_of list)) }
     ensures rest { IfOk result (λ s. s.rest ≡ rest_of params.now height (nodes_of list)) }
     // Nothing speaks against the split, and else this is the fault, even where memory would be refused too.
     ensures ok { OnOk result (refusal params.now height (nodes_of list) ≡ None) }
     ensures fault { IfErr result (λ e. e.fault ≡ fault_of (refusal params.now height (nodes_of list))) }
-    // Memory is wanted only where something is left.
+    // Memory is taken only where something is left.
     ensures growth { OnErr result (refusal params.now height (nodes_of list) ≡ None → is_some (rest_of params.now height (nodes_of list)) ≡ true) }
     ensures back { IfErr result (λ e. e.list ≡ list) }
 {
@@ -140,7 +126,7 @@ fn split_copy(
     requires short { length nodes.now ≤ most_nodes }
     requires sound { IsSound params.now height nodes.now plan.now }
     ensures front { IfOk result (λ s. s.front ≡ packed_as (Target.To height) params.now.split_max_depth (take plan.now.place nodes.now)) }
-    ensures rest { IfOk result (λ s. s.rest ≡ packed_rest (top_items plan.now.top nodes.now)) }
+    ensures rest { IfOk result (λ s. s.rest ≡ packed_rest (left_items plan.now.rest nodes.now)) }
 {
     match carry_out(copied(alloc, nodes)?, plan, height, params) {
         Ok(parts) => Ok(parts),

@@ -8,4 +8,4 @@ returns-in-Ok-split_copy-clause-front c =
 
 pub returns-in-Ok-split_copy-clause-rest : goal.returns-in-Ok-split_copy-clause-rest
 returns-in-Ok-split_copy-clause-rest c =
-    c.in-Ok-split_copy.ensures.rest ∙ rest-planned c.args.params.now c.args.height c.args.nodes.now c.in-Ok.plan.top c.in-Ok.ensures.rest
+    c.in-Ok-split_copy.ensures.rest ∙ rest-planned c.args.params.now c.args.height c.args.nodes.now c.in-Ok.plan.rest c.in-Ok.ensures.rest
