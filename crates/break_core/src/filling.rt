@@ -129,6 +129,8 @@ fn offer_each(
 
 /// Offers the entries of a group for a place, by a line that was tried from there, unless it is left out. Returns whether it is overfull after any number of
 /// lines.
+#[cold]
+#[inline(never)]
 fn offer_counted(
     left: bool,
     row: &mut Vec<Option<Best>>,
@@ -218,6 +220,7 @@ fn offer_best(
 }
 
 /// The same of a line that was tried, unless it is left out. Where no line is counted, it is judged once.
+#[inline(always)]
 fn offer_line(
     left: bool,
     row: &mut Vec<Option<Best>>,
@@ -368,8 +371,10 @@ pub(crate) fn fill<M: Meter>(
     ensures kept { AreKept (M.trials meter.old) (M.trials meter.new) }
     ensures tried { OnOk result (M.trials meter.old 0 < M.trials meter.new 0) }
 {
+    // (most places have an entry at least)
+    let table = Vec::with_capacity(alloc, meter.places() + 1)?;
     let mut reached = Reached {
-        table: Vec::new(alloc),
+        table,
         live: Vec::new(alloc),
     };
     reached.table.push(Best::first())?;
