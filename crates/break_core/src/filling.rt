@@ -248,7 +248,7 @@ fn offer_line(
     line.overfull
 }
 
-/// Puts a group behind others, unless trying lines from it has ended.
+/// Puts a group after others, unless trying lines from it has ended.
 fn keep_group(lives: &mut Vec<Live>, ended: bool, live: Live) -> Result<(), AllocError>
     ensures { OnOk result (lives.new.items ≡ (if ended then lives.old.items else (lives.old.items ++ live ∷ []))) }
 {
@@ -258,7 +258,7 @@ fn keep_group(lives: &mut Vec<Live>, ended: bool, live: Live) -> Result<(), Allo
     Ok(())
 }
 
-/// Puts the group of a place behind those of earlier places, unless it has no entries; those of earlier places stay, unless a line must end here.
+/// Puts the group of a place after those of earlier places, unless it has no entries; those of earlier places stay, unless a line must end here.
 fn add_group(lives: &mut Vec<Live>, forced: bool, group: Group) -> Result<(), AllocError>
     ensures { OnOk result (lives.new.items ≡ with_live (if forced then [] else lives.old.items) (record { group = group; over = None })) }
 {
