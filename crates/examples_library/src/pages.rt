@@ -1,6 +1,6 @@
 //! A page is made by a job.
 
-use job_core::{BoxForm, Command, Job, Memory, Opening, Refusal, Register, Target};
+use job_core::{Answer, BoxForm, Command, Job, Memory, Opening, Refusal, Register, Target};
 use node_core::{Rule, RuleSize};
 use scaled_core::Dimen;
 use std::alloc::Global;
@@ -14,8 +14,8 @@ pub fn hbox() -> Command {
     })
 }
 
-/// The DVI file of a page with one rule as wide and high as a point.
-pub fn one_rule_page(alloc: Global, point: Dimen) -> Result<Memory, Refusal> {
+/// The DVI file of a page with one rule as wide and high as a point, and the answer to the command that packed its box.
+pub fn one_rule_page(alloc: Global, point: Dimen) -> Result<(Memory, Answer), Refusal> {
     let Ok(mut job) = Job::new(alloc, Memory::new(alloc), &[]) else {
         return Err(Refusal::OutOfMemory); // the device came back in the Err
     };
@@ -26,8 +26,8 @@ pub fn one_rule_page(alloc: Global, point: Dimen) -> Result<Memory, Refusal> {
     };
     job.step(&hbox())?; // an Err: refused, and nothing has changed
     job.step(&Command::Rule(rule))?;
-    job.step(&Command::End)?; // Answer::Packed(sizes, badness)
+    let packed = job.step(&Command::End)?; // Answer::Packed(sizes, badness)
     job.step(&Command::Ship(Register::FIRST))?; // Answer::Shipped(1): the page has gone to the device
     job.finish()?; // the end of the file goes, too
-    Ok(job.into_device()) // its bytes() are the file
+    Ok((job.into_device(), packed)) // the bytes() of the device are the file
 }

@@ -40,15 +40,17 @@ pub fn print_run<W: Write>(alloc: Global, output: &mut W) -> Result<()> {
     Ok(())
 }
 
-/// The lengths of the files of the page with one rule, and of that with the paragraph `c c`.
+/// The answers to the ends of the box of one rule and of the paragraph `c c`, and the lengths of the files of their pages.
 pub fn print_pages<W: Write>(alloc: Global, output: &mut W) -> Result<()> {
-    let memory = one_rule_page(alloc, Dimen::points(1))?;
+    let (memory, packed) = one_rule_page(alloc, Dimen::points(1))?;
     writeln!(output, "== one_rule_page")?;
+    writeln!(output, "{packed:?}")?;
     writeln!(output, "{} bytes", memory.bytes().len())?;
     let file = FontFile::new(tiny_name(alloc)?, Vec::from_slice(alloc, &TINY)?);
     let text = Vec::from_slice(alloc, b"c c")?;
-    let memory = text_page(alloc, &[file], tiny_name(alloc)?, text)?;
+    let (memory, paragraph) = text_page(alloc, &[file], tiny_name(alloc)?, text)?;
     writeln!(output, "== text_page")?;
+    writeln!(output, "{paragraph:?}")?;
     writeln!(output, "{} bytes", memory.bytes().len())?;
     Ok(())
 }
@@ -82,7 +84,7 @@ pub fn print_same_pages<W: Write>(alloc: Global, output: &mut W) -> Result<()> {
 
 /// The listing of the page with one rule, the length of its bitmap, and how many digits 1 there are in the text of the bitmap.
 pub fn print_shown<W: Write>(alloc: Global, output: &mut W) -> Result<()> {
-    let memory = one_rule_page(alloc, Dimen::points(1))?;
+    let (memory, _) = one_rule_page(alloc, Dimen::points(1))?;
     let (text, picture) = shown(alloc, memory.bytes(), &[])?;
     let ones = picture.iter().filter(|byte| **byte == b'1').count();
     writeln!(output, "== shown")?;

@@ -1,18 +1,18 @@
 //! A page of text is made by a job.
 
 use job_core::{
-    BoxForm, Characters, Command, FontFile, FontLoad, FontName, Job, Memory, Opening, Refusal,
-    Register, Target,
+    Answer, BoxForm, Characters, Command, FontFile, FontLoad, FontName, Job, Memory, Opening,
+    Refusal, Register, Target,
 };
 use std::alloc::Global;
 
-/// The DVI file of a page with a paragraph of text, in the font of the first of these files that has the name.
+/// The DVI file of a page with a paragraph of text, in the font of the first of these files that has the name, and what the paragraph became.
 pub fn text_page(
     alloc: Global,
     files: &[FontFile],
     name: FontName,
     text: Vec<u8>,
-) -> Result<Memory, Refusal> {
+) -> Result<(Memory, Answer), Refusal> {
     let Ok(mut job) = Job::new(alloc, Memory::new(alloc), files) else {
         return Err(Refusal::OutOfMemory);
     };
@@ -30,9 +30,9 @@ pub fn text_page(
     }))?;
     job.step(&Command::Paragraph)?;
     job.step(&Command::Text(Characters::new(text)))?; // Answer::Shaped { items, missing }
-    job.step(&Command::End)?; // Answer::Paragraph { lines, pass, overhang, demerits }
+    let paragraph = job.step(&Command::End)?; // Answer::Paragraph { lines, pass, overhang, demerits }
     job.step(&Command::End)?;
     job.step(&Command::Ship(Register::FIRST))?;
     job.finish()?;
-    Ok(job.into_device())
+    Ok((job.into_device(), paragraph))
 }
