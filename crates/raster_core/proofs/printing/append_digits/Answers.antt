@@ -1,4 +1,4 @@
-use Rattle.std.proofs.Common.{◌≡◌, ◌+◌, ◌-◌, ◌*◌, arith}
+use Rattle.std.proofs.Common.{◌+◌, ◌*◌, arith}
 use Rattle.raster_core.proofs.TextRuns.{front_kept}
 use Rattle.raster_core.proofs.RowLines.{no_digits, more_digits, next_digit}
 use Rattle.raster_core.proofs.printing.append_digits.Goals as goal

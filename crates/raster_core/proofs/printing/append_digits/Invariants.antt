@@ -1,4 +1,4 @@
-use Rattle.std.proofs.Common.{◌≡◌, ◌++◌, ◌+◌, ◌*◌, ◌-◌}
+use Rattle.std.proofs.Common.{◌≡◌, ◌++◌, ◌*◌, ◌-◌}
 use Rattle.raster_rows.specs.Words.{in_rows}
 use Rattle.raster_core.specs.RowPieces.{digits}
 use Rattle.raster_core.proofs.printing.append_digits.Given as goal

@@ -1,4 +1,4 @@
-use Rattle.std.proofs.Common.{◌≡◌, ◌++◌, ◌∙◌, ap}
+use Rattle.std.proofs.Common.{◌++◌, ◌∙◌, ap}
 use Rattle.raster_core.proofs.RowLines.{eight_digits}
 use Rattle.raster_core.proofs.printing.append_eight.Goals as goal
 

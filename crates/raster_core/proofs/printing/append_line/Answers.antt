@@ -1,4 +1,4 @@
-use Rattle.std.proofs.Common.{◌≡◌, ◌+◌, ◌-◌, ◌*◌, arith}
+use Rattle.std.proofs.Common.{arith}
 use Rattle.raster_core.proofs.RowLines.{ended_line}
 use Rattle.raster_core.proofs.printing.append_line.Goals as goal
 

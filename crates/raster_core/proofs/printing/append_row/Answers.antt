@@ -1,4 +1,4 @@
-use Rattle.std.proofs.Common.{◌≡◌, ◌+◌, ◌*◌, min, arith}
+use Rattle.std.proofs.Common.{◌*◌, min, arith}
 use Rattle.raster_core.proofs.TextRuns.{front_kept}
 use Rattle.raster_core.proofs.RowLines.{no_columns, more_lines, all_columns}
 use Rattle.raster_core.proofs.printing.append_row.Goals as goal
