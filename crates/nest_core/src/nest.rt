@@ -452,6 +452,20 @@ impl Nest {
         innermost.pack(alloc, params)
     }
 
+    /// Takes the items of the innermost list, in the vector that it kept; the list is then empty. It takes no memory.
+    #[tactic(auto, using(crate::proofs::ShortLists::innermost_short))]
+    pub fn take_items(&mut self) -> Vec<Node>
+        ensures items { result.items ≡ nodes_of (items_in (innermost self.old)) }
+        ensures emptied { self.new ≡ emptied_nest self.old (innermost self.old) }
+        ensures short { length result.items ≤ MAX_ITEMS }
+    {
+        let alloc = *self.lists.allocator();
+        let Some(innermost) = innermost_of(&mut self.lists) else {
+            return Vec::new(alloc);
+        };
+        replace(&mut innermost.list, NodeList::new(alloc)).into_vec()
+    }
+
     /// Gives the innermost list these items.
     pub fn refill(&mut self, list: NodeList)
         requires { length (nodes_of list) ≤ MAX_ITEMS }
