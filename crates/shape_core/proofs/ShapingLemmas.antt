@@ -24,7 +24,6 @@ items_from-turn slot sizes steps c word i h =
 pub missing_from-turn : (sizes : ℕ → Option GlyphSize) (steps : ℕ → ℕ → Option Step) (c : ℕ) (word : List ℕ) (i : ℕ) → i < length word → missing_from sizes steps c (drop i word) ≡ outcome_missing (outcome_at sizes steps c (Some (get_or word i 0))) + missing_from sizes steps (outcome_next (get_or word i 0) (outcome_at sizes steps c (Some (get_or word i 0)))) (drop (i + 1) word)
 missing_from-turn sizes steps c word i h = ap (missing_from sizes steps c) (drop_more word i 0 h)
 
-
 pub turn-items : (slot : ℕ) (sizes : ℕ → Option GlyphSize) (steps : ℕ → ℕ → Option Step) (c : ℕ) (word : List ℕ) (i : ℕ) (all held new : List Node) (o : Outcome) (n : ℕ) → i < length word → all ≡ held ++ items_from slot sizes steps c (drop i word) → o ≡ outcome_at sizes steps c (Some (get_or word i 0)) → new ≡ held ++ outcome_items slot c o → n ≡ outcome_next (get_or word i 0) o → all ≡ new ++ items_from slot sizes steps n (drop (i + 1) word)
 turn-items slot sizes steps c word i all held new o n h e eo en em =
     rw (en, em, eo) (e ∙ ap (λ xs. held ++ xs) (items_from-turn slot sizes steps c word i h) ∙ sym (append_assoc held _ _))
