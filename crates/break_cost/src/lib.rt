@@ -9,6 +9,6 @@ pub mod laws;
 mod sizes;
 mod sums;
 
-pub use cost::{Bound, Judged, judge};
+pub use cost::{Bound, Judged, judge, line_after, line_alone};
 pub use sizes::{Alone, Judgement, judge_both, line_size};
 pub use sums::Sums;
