@@ -1,6 +1,7 @@
 -- What characters come to is kept at the end of other items, or cut off again.
-use Rattle.std.proofs.Common.{◌≡◌, ◌∙◌, ◌+◌, ◌-◌, ◌++◌, ℕ, Bool, true, false, List, [], length, length-append, set, Option, Some, None, refl, ap, sym, arith}
-use Rattle.std.specs.Prelude.{nat_lt, slice_get}
+use Rattle.std.proofs.Common.{◌≡◌, ◌∙◌, ◌+◌, ◌-◌, ◌==◌, ◌≤◌, ◌++◌, ◌∷◌, ℕ, Bool, true, List, [], length, set, Option, Some, None, Ok, refl, ap, sym, arith, append-nil}
+use Rattle.std.specs.Prelude.{slice_get}
+use Rattle.std.proofs.lemmas.Bool.{eqb-true, le-ltb}
 use Rattle.std.proofs.lemmas.List.{length-set}
 use Rattle.node_core.specs.declared.limits.TheConstants.{MAX_ITEMS}
 use Rattle.node_core.specs.declared.tree.Node.{Node}
@@ -9,27 +10,42 @@ use Rattle.node_core.specs.Nodes.{items_of, nodes_of}
 use Rattle.node_core.proofs.NodeLemmas.{items_of-nodes_of}
 use Rattle.command_core.specs.declared.command.Refusal.{Refusal}
 use Rattle.command_core.specs.declared.command.Refusal.TheVariants.{ListTooLong}
+use Rattle.command_core.specs.declared.command.Answer.TheVariants.{Shaped}
+use Rattle.shape_core.specs.Texts.{text_items, text_missing}
+use Rattle.dvi_layout.specs.declared.fonts.LoadedFont.{LoadedFont}
+use Rattle.nest_core.specs.FontSlots.{CharacterItems, unshaped, text_in}
+use Rattle.nest_core.specs.Answers.{shaped_answer}
 use Rattle.nest_core.specs.declared.nest.OpenList.{OpenList}
 use Rattle.nest_core.specs.State.{innermost, with_innermost, items_in}
 use Rattle.nest_core.specs.Checks.{room_checks, first_of}
 use Rattle.nest_core.specs.Effects.{with_nodes}
 use Rattle.nest_core.specs.EmptiedNest.{emptied_nest, refilled_nest}
-use Rattle.nest_core.specs.Machine.{state_by}
+use Rattle.nest_core.specs.Machine.{reply_by, state_by}
 use Rattle.nest_core.proofs.Nests.{get_set, set_again, same_innermost}
 
--- How many items there are decides whether they are kept.
-module _ (items list added : List Node) (are : items ≡ list ++ added) where
-  counted : length items ≡ length list + length added
-  counted = ap length are ∙ length-append list added
+-- A text without characters comes to nothing, for which there is room.
+no_text : (loaded : LoadedFont) (slot : ℕ) (text : List ℕ) → (length text == 0) ≡ true → text_in (Some loaded) slot text ≡ unshaped
+unfolding text_items text_missing
+no_text loaded slot [] empty = refl
+no_text loaded slot (c ∷ text) empty = absurd (omega (arith, eqb-true (length (c ∷ text)) 0 empty))
 
-  pub too_many : nat_lt MAX_ITEMS (length items) ≡ true → first_of (room_checks (length list) added) ≡ Some ListTooLong
-  too_many is = rw (sym counted, is) refl
+room_for_none : (count : ℕ) → count ≤ MAX_ITEMS → first_of (room_checks count []) ≡ None
+room_for_none count short = rw (le-ltb MAX_ITEMS (count + 0) (omega (arith, short))) refl
 
-  pub few : nat_lt MAX_ITEMS (length items) ≡ false → first_of (room_checks (length list) added) ≡ None
-  few is = rw (sym counted, is) refl
+module _ (loaded : LoadedFont) (slot : ℕ) (text : List ℕ) (items : List Node) (empty : (length text == 0) ≡ true) (short : length items ≤ MAX_ITEMS) where
+  none_reply : reply_by (first_of (room_checks (length items) [])) (shaped_answer unshaped) ≡ Ok (Shaped 0 0)
+  none_reply = ap (λ (o : Option Refusal). reply_by o (shaped_answer unshaped)) (room_for_none (length items) short)
 
-  pub more_than : (before : ℕ) → before ≡ length list → length items - before ≡ length added
-  more_than before is = omega (arith, is, counted)
+  pub reply_to_none : Ok (Shaped 0 0) ≡ reply_by (first_of (room_checks (length items) (text_in (Some loaded) slot text).items)) (shaped_answer (text_in (Some loaded) slot text))
+  reply_to_none =
+      sym (ap (λ (x : CharacterItems). reply_by (first_of (room_checks (length items) x.items)) (shaped_answer x)) (no_text loaded slot text empty) ∙ none_reply)
+
+  none_kept : state_by (first_of (room_checks (length items) [])) items (items ++ []) ≡ items
+  none_kept = ap (λ (o : Option Refusal). state_by o items (items ++ [])) (room_for_none (length items) short) ∙ append-nil items
+
+  pub items_with_none : items ≡ state_by (first_of (room_checks (length items) (text_in (Some loaded) slot text).items)) items (items ++ (text_in (Some loaded) slot text).items)
+  items_with_none =
+      sym (ap (λ (x : CharacterItems). state_by (first_of (room_checks (length items) x.items)) items (items ++ x.items)) (no_text loaded slot text empty) ∙ none_kept)
 
 -- Other items go into the innermost list, whose own were taken out before.
 refilled_again : (nest : List OpenList) (items : Items)
@@ -71,3 +87,8 @@ put_more nest bare after taken items more refused emptied were are put =
     are ∙ ap (λ (own : List Node). state_by refused own (own ++ more)) were in
     put ∙ (ap (λ (n : List OpenList). refilled_nest n (items_of items) (innermost n)) emptied
     ∙ (refilled_again nest (items_of items) ∙ (ap (λ (list : List Node). refilled_nest nest (items_of list) (innermost nest)) same ∙ kept_or_added nest more refused)))
+
+-- Where memory was refused, the innermost list gets its own items back.
+pub put_back_all : (nest bare after : List OpenList) (taken items : List Node) → bare ≡ emptied_nest nest (innermost nest)
+    → taken ≡ nodes_of (items_in (innermost nest)) → items ≡ taken → after ≡ refilled_nest bare (items_of items) (innermost bare) → after ≡ nest
+put_back_all nest bare after taken items emptied were are put = put_more nest bare after taken items [] (Some ListTooLong) emptied were are put

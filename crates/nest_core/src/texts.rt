@@ -7,10 +7,10 @@ ghost use Rattle.nest_core.specs.Checks.{room_checks, first_of};
 ghost use Rattle.nest_core.specs.Answers.{shaped_answer};
 ghost use Rattle.nest_core.specs.Machine.{reply_by, state_by};
 
-use node_core::limits::MAX_ITEMS;
 use command_core::{Answer, Refusal, Reply};
 use dvi_layout::LoadedFont;
 use node_core::Node;
+use node_core::limits::MAX_ITEMS;
 use shape_core::{Missing, shape_character, shape_text};
 use std::alloc::AllocError;
 

@@ -1,6 +1,5 @@
 -- What the commands on characters answer and change, by what their characters come to.
-use Rattle.std.proofs.Common.{◌≡◌, ◌∙◌, ◌++◌, ◌∷◌, ℕ, Bool, true, false, List, [], length, Option, Some, None, Result, Ok, Err, OnOk, OnErr, IfOk, refl, ap, sym, subst}
-use Rattle.command_core.specs.Reply.{Reply}
+use Rattle.std.proofs.Common.{◌≡◌, ◌∙◌, ◌++◌, ◌∷◌, ℕ, Bool, true, false, List, [], Option, Some, None, Result, Ok, Err, OnOk, OnErr, refl, ap, sym}
 use Rattle.command_core.specs.declared.command.Command.TheVariants.{Text, Character}
 use Rattle.command_core.specs.declared.command.Refusal.{Refusal}
 use Rattle.command_core.specs.declared.command.Refusal.TheVariants.{JobOver}
@@ -10,9 +9,17 @@ use Rattle.nest_core.specs.declared.nest.OpenList.{OpenList}
 use Rattle.nest_core.specs.FontSlots.{CharacterItems, text_in, character_in, text_shaped, character_shaped}
 use Rattle.nest_core.specs.State.{State, innermost, open_count}
 use Rattle.nest_core.specs.Checks.{character_checks, room_checks, length_checks, shape_checks, first_of}
-use Rattle.nest_core.specs.Answers.{shaped_answer}
 use Rattle.nest_core.specs.Effects.{with_nodes, with_items}
-use Rattle.nest_core.specs.Machine.{reply_by, reply_to, state_by, state_after}
+use Rattle.nest_core.specs.Machine.{state_by, state_after}
+
+module _ {A E P Q : Type 0} where
+  pub on_ok : (r : Result A E) → (P → Q) → OnOk r P → OnOk r Q
+  on_ok (Ok x) f p = f p
+  on_ok (Err e) f p = tt
+
+  pub on_err : (r : Result A E) → (P → Q) → OnErr r P → OnErr r Q
+  on_err (Ok x) f p = tt
+  on_err (Err e) f p = f p
 
 -- Where nothing speaks against any characters, only their number counts.
 none_before : (own more : List (Bool × Refusal)) → first_of own ≡ None → first_of (own ++ more) ≡ first_of more
@@ -24,15 +31,8 @@ by_number : (s : State) (shaped : CharacterItems) → s.over ≡ false → first
     → first_of (length_checks s shaped.items) ≡ first_of ((s.over, JobOver) ∷ shape_checks s shaped)
 by_number s shaped running free = rw running (sym (none_before (character_checks s) (length_checks s shaped.items) free))
 
--- The reply and the state that characters come to, where they come to these items, of which the innermost list has room for all or for none.
+-- The state with the items that characters come to, where the innermost list has room for them.
 module _ (s : State) (shaped : CharacterItems) (running : s.over ≡ false) (free : first_of (character_checks s) ≡ None) where
-  shaped_reply : (found : CharacterItems) (count : ℕ) → found ≡ shaped → count ≡ open_count s
-      → reply_by (first_of (room_checks count found.items)) (shaped_answer found) ≡ reply_by (first_of ((s.over, JobOver) ∷ shape_checks s shaped)) (shaped_answer shaped)
-  shaped_reply found count same many =
-      ap (λ (x : CharacterItems). reply_by (first_of (room_checks count x.items)) (shaped_answer x)) same
-      ∙ (ap (λ (n : ℕ). reply_by (first_of (room_checks n shaped.items)) (shaped_answer shaped)) many
-      ∙ ap (λ (o : Option Refusal). reply_by o (shaped_answer shaped)) (by_number s shaped running free))
-
   shaped_state : (now : List OpenList) (found : CharacterItems) (count : ℕ) → found ≡ shaped → count ≡ open_count s
       → now ≡ state_by (first_of (room_checks count found.items)) s.nest (with_nodes s.nest found.items (innermost s.nest))
       → record s { nest = now } ≡ state_by (first_of ((s.over, JobOver) ∷ shape_checks s shaped)) s (with_items s shaped.items)
@@ -55,25 +55,11 @@ module _ (s : State) (slot : ℕ) (loaded : LoadedFont) (running : s.over ≡ fa
   character_same : (code : ℕ) → character_in (Some loaded) slot code ≡ character_shaped s.fonts s.current code
   character_same code = rw (current, font) refl
 
-  pub text_reply : {E : Type 0} (result : Result Reply E) (text codes : List ℕ) (count : ℕ) → codes ≡ text → count ≡ open_count s
-      → IfOk result (λ reply. reply ≡ reply_by (first_of (room_checks count (text_in (Some loaded) slot codes).items)) (shaped_answer (text_in (Some loaded) slot codes)))
-      → IfOk result (λ reply. reply ≡ reply_to s (Text text))
-  text_reply result text codes count are many says =
-      subst (λ (r : Reply). IfOk result (λ reply. reply ≡ r))
-      (shaped_reply s (text_shaped s.fonts s.current text) running free (text_in (Some loaded) slot codes) count (ap (text_in (Some loaded) slot) are ∙ text_same text) many) says
-
   pub text_state : (now : List OpenList) (text codes : List ℕ) (count : ℕ) → codes ≡ text → count ≡ open_count s
       → now ≡ state_by (first_of (room_checks count (text_in (Some loaded) slot codes).items)) s.nest (with_nodes s.nest (text_in (Some loaded) slot codes).items (innermost s.nest))
       → record s { nest = now } ≡ state_after s (Text text)
   text_state now text codes count are many is =
       shaped_state s (text_shaped s.fonts s.current text) running free now (text_in (Some loaded) slot codes) count (ap (text_in (Some loaded) slot) are ∙ text_same text) many is
-
-  pub character_reply : {E : Type 0} (result : Result Reply E) (code : ℕ) (count : ℕ) → count ≡ open_count s
-      → IfOk result (λ reply. reply ≡ reply_by (first_of (room_checks count (character_in (Some loaded) slot code).items)) (shaped_answer (character_in (Some loaded) slot code)))
-      → IfOk result (λ reply. reply ≡ reply_to s (Character code))
-  character_reply result code count many says =
-      subst (λ (r : Reply). IfOk result (λ reply. reply ≡ r))
-      (shaped_reply s (character_shaped s.fonts s.current code) running free (character_in (Some loaded) slot code) count (character_same code) many) says
 
   pub character_state : (now : List OpenList) (code : ℕ) (count : ℕ) → count ≡ open_count s
       → now ≡ state_by (first_of (room_checks count (character_in (Some loaded) slot code).items)) s.nest (with_nodes s.nest (character_in (Some loaded) slot code).items (innermost s.nest))
