@@ -140,7 +140,8 @@ def stops_when_told(root, number, lines):
         top, path = made_repository(root, room)
         write(f"{room}/slow", "right\n")
         env = {"HOME": f"{room}/home", "PATH": path, "ROOM": room}
-        with subprocess.Popen([f"{top}/install"], env=env, stdin=subprocess.DEVNULL, stdout=subprocess.PIPE, stderr=subprocess.PIPE, text=True) as started:
+        # A shell cannot trap a signal that was ignored when it began, as an interrupt is in what a script runs in the background.
+        with subprocess.Popen(["env", "--default-signal=INT", f"{top}/install"], env=env, stdin=subprocess.DEVNULL, stdout=subprocess.PIPE, stderr=subprocess.PIPE, text=True) as started:
             found = [started.stdout.readline() for _ in lines]
             began = time.monotonic()
             started.send_signal(number)
