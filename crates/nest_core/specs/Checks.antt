@@ -36,9 +36,13 @@ abbrev pub first_of : List (Bool × Refusal) → Option Refusal
 first_of [] = None
 first_of ((holds, refusal) ∷ rest) = if holds then Some refusal else first_of rest
 
+-- The refusal of items that are too many for a list that has so many already.
+abbrev pub room_checks : (count : ℕ) → List Node → List (Bool × Refusal)
+room_checks count items = (nat_lt MAX_ITEMS (count + length items), ListTooLong) ∷ []
+
 -- The refusal of items that are too many for the innermost list.
 abbrev pub length_checks : State → List Node → List (Bool × Refusal)
-length_checks m items = (nat_lt MAX_ITEMS (open_count m + length items), ListTooLong) ∷ []
+length_checks m items = room_checks (open_count m) items
 
 -- The refusals of one more item.
 abbrev pub item_checks : State → List (Bool × Refusal)

@@ -301,16 +301,6 @@ impl Nest {
         self.lists.last()
     }
 
-    /// How many items the innermost open list has: 0 where none is open.
-    pub fn item_count(&self) -> usize
-        ensures { result ≡ length (nodes_of (items_in (innermost self.now))) }
-    {
-        match self.lists.last() {
-            Some(innermost) => innermost.list.len(),
-            None => 0,
-        }
-    }
-
     /// The innermost list has at most `MAX_ITEMS` items. It does nothing.
     #[tactic(auto, using(crate::proofs::ShortLists::innermost_short))]
     pub fn innermost_is_short(&self)
@@ -348,23 +338,6 @@ impl Nest {
             Ok(()) => Ok(()),
             Err(_) => Err(AllocError),
         }
-    }
-
-    /// Puts nodes at the end of the innermost list, in order. No nodes take no memory.
-    #[tactic(auto, using(crate::proofs::Nests::same_innermost, crate::proofs::Nests::none_added, crate::proofs::Nests::some_nodes))]
-    pub fn extend(&mut self, nodes: Vec<Node>) -> Result<(), AllocError>
-        requires { length (nodes_of (items_in (innermost self.old))) + length nodes.items ≤ MAX_ITEMS }
-        ensures ok { OnOk result (self.new ≡ with_nodes self.old nodes.items (innermost self.old)) }
-        ensures err { OnErr result (self.new ≡ self.old) }
-        ensures takes { OnErr result (nodes.items ≢ []) }
-    {
-        if nodes.is_empty() {
-            return Ok(());
-        }
-        let Some(innermost) = innermost_of(&mut self.lists) else {
-            return Ok(());
-        };
-        innermost.list.extend(nodes)
     }
 
     /// Puts a rule at the end of the innermost list, whose previous depth is then ignored.
@@ -450,6 +423,20 @@ impl Nest {
             return None;
         };
         innermost.pack(alloc, params)
+    }
+
+    /// Takes the items of the innermost list, in the vector that it kept; the list is then empty. It takes no memory.
+    #[tactic(auto, using(crate::proofs::ShortLists::innermost_short))]
+    pub fn take_items(&mut self) -> Vec<Node>
+        ensures items { result.items ≡ nodes_of (items_in (innermost self.old)) }
+        ensures emptied { self.new ≡ emptied_nest self.old (innermost self.old) }
+        ensures short { length result.items ≤ MAX_ITEMS }
+    {
+        let alloc = *self.lists.allocator();
+        let Some(innermost) = innermost_of(&mut self.lists) else {
+            return Vec::new(alloc);
+        };
+        replace(&mut innermost.list, NodeList::new(alloc)).into_vec()
     }
 
     /// Gives the innermost list these items.

@@ -15,9 +15,6 @@ ghost use Rattle.nest_core.specs.Answers.{sizes_of, shaped_answer};
 ghost use Rattle.nest_core.specs.Effects.{with_items, with_used, with_unboxed, with_home};
 ghost use Rattle.nest_core.specs.Machine.{reply_by, reply_to, state_by, state_after};
 ghost use Rattle.nest_core.specs.Runs.{early_checks, LeavesRest};
-ghost use Rattle.shape_core.specs.Texts.{text_items, text_missing};
-ghost use Rattle.shape_core.specs.Spaces.{space_glue};
-ghost use Rattle.tfm_core.specs.Fonts.{glyph_of, step_of};
 
 use command_core::{
     Answer, BoxUse, Characters, Counting, FontLoad, Opening, Parameter, Refusal, Register, Reply,
@@ -26,12 +23,12 @@ use command_core::{
 use dvi_layout::{Fonts, LoadedFont, Offsets};
 use nest_core::fonts::read_font;
 use nest_core::nest::{ListPurpose, Nest};
+use nest_core::texts::{append_character, append_text};
 use node_core::limits::{COUNTS, MAX_DEPTH, MAX_ITEMS, MAX_OPEN_LISTS, MAX_SPECIAL_TEXT};
-use node_core::{BoxNode, Kind, Node, Params, Rule, RuleSize, SpecialText};
+use node_core::{BoxNode, Kind, Node, NodeList, Params, Rule, RuleSize, SpecialText};
 use pack_core::Packed;
 use register_core::registers::{Registers, sizes_of};
 use scaled_core::Dimen;
-use shape_core::{Missing, shape_character, shape_text};
 use std::alloc::{AllocError, Global};
 use std::marker::Model;
 use tfm_core::{FontFile, file_named};
@@ -68,25 +65,6 @@ fn copies(alloc: Global, files: &[FontFile]) -> Result<Vec<FontFile>, AllocError
         copies.push(file.copy(alloc)?)?;
     }
     Ok(copies)
-}
-
-/// What a text comes to in the font of a slot: its items, and how many of its characters are missing. Only characters take memory.
-fn text_items(
-    alloc: Global,
-    loaded: &LoadedFont,
-    slot: u8,
-    text: &[u8],
-) -> Result<(Vec<Node>, Missing), AllocError>
-    ensures items { IfOk result (λ shaped. shaped.0.items ≡ text_items slot (glyph_of loaded.now.font) (step_of loaded.now.font) (space_glue loaded.now.font.space) text.now) }
-    ensures missing { IfOk result (λ shaped. shaped.1.characters ≡ text_missing (glyph_of loaded.now.font) (step_of loaded.now.font) text.now) }
-    ensures takes { OnErr result (text.now ≢ []) }
-{
-    let mut items = Vec::new(alloc);
-    if text.is_empty() {
-        return Ok((items, Missing { characters: 0 }));
-    }
-    let missing = shape_text(&loaded.font, slot, text, &mut items)?;
-    Ok((items, missing))
 }
 
 impl Kept {
@@ -158,25 +136,6 @@ impl Kept {
         Ok(Answer::Done)
     }
 
-    /// Appends the items that characters come to, where the innermost list has room for them; only then, and only for items, memory is wanted.
-    fn append_shaped(&mut self, items: Vec<Node>, missing: Missing) -> Result<Reply, AllocError>
-        ensures reply { IfOk result (λ reply. reply ≡ reply_by (first_of (length_checks (unshipped self.old) items.items)) (shaped_answer (record { items = items.items; missing = missing.characters }))) }
-        ensures state { OnOk result (unshipped self.new ≡ state_by (first_of (length_checks (unshipped self.old) items.items)) (unshipped self.old) (with_items (unshipped self.old) items.items)) }
-        ensures err { OnErr result (self.new ≡ self.old) }
-        ensures fits { OnErr result (first_of (length_checks (unshipped self.old) items.items) ≡ None) }
-        ensures takes { OnErr result (items.items ≢ []) }
-    {
-        if self.nest.item_count().saturating_add(items.len()) > MAX_ITEMS {
-            return Ok(Err(Refusal::ListTooLong));
-        }
-        let count = items.len();
-        self.nest.extend(items)?;
-        Ok(Ok(Answer::Shaped {
-            items: count,
-            missing: missing.characters,
-        }))
-    }
-
     /// The current font and its slot, where characters may be appended; or why they may not.
     fn font_for_characters(&self) -> Result<(u8, &LoadedFont), Refusal>
         ensures slot { IfOk result (λ font. self.now.current ≡ Some font.0) }
@@ -207,12 +166,17 @@ impl Kept {
         ensures early { OnErr result (first_of (early_checks (unshipped self.old) (commands.Text text.now)) ≡ None) }
         ensures takes { OnErr result (text.now ≢ []) }
     {
-        let (slot, loaded) = match self.font_for_characters() {
-            Ok(font) => font,
+        let slot = match self.font_for_characters() {
+            Ok((slot, _)) => slot,
             Err(refusal) => return Ok(Err(refusal)),
         };
-        let (items, missing) = text_items(*self.files.allocator(), loaded, slot, text.codes())?;
-        self.append_shaped(items, missing)
+        let mut items = self.nest.take_items();
+        let Some(loaded) = self.fonts.get(slot) else {
+            unreachable!()
+        };
+        let reply = append_text(loaded, slot, text.codes(), &mut items);
+        self.nest.refill(NodeList::from_vec(items));
+        reply
     }
 
     /// Appends a character of the current font.
@@ -222,13 +186,17 @@ impl Kept {
         ensures err { OnErr result (self.new ≡ self.old) }
         ensures early { OnErr result (first_of (early_checks (unshipped self.old) (commands.Character code)) ≡ None) }
     {
-        let (slot, loaded) = match self.font_for_characters() {
-            Ok(font) => font,
+        let slot = match self.font_for_characters() {
+            Ok((slot, _)) => slot,
             Err(refusal) => return Ok(Err(refusal)),
         };
-        let mut items = Vec::new(*self.files.allocator());
-        let missing = shape_character(&loaded.font, slot, code, &mut items)?;
-        self.append_shaped(items, missing)
+        let mut items = self.nest.take_items();
+        let Some(loaded) = self.fonts.get(slot) else {
+            unreachable!()
+        };
+        let reply = append_character(loaded, slot, code, &mut items);
+        self.nest.refill(NodeList::from_vec(items));
+        reply
     }
 
     /// Opens a list.
