@@ -76,7 +76,7 @@ pub fn print_same_pages<W: Write>(alloc: Global, output: &mut W) -> Result<()> {
         v: Dimen::ZERO,
     };
     let counts = [[0; 10], [7; 10]];
-    let memory = same_pages(alloc, &shown, at, &counts, &fonts)?;
+    let memory = same_pages(alloc, &shown, &at, &counts, &fonts)?;
     writeln!(output, "== same_pages")?;
     writeln!(output, "{} bytes", memory.bytes().len())?;
     Ok(())

@@ -10,7 +10,7 @@ use std::alloc::Global;
 pub fn same_pages(
     alloc: Global,
     shown: &BoxNode,
-    at: Offsets,
+    at: &Offsets,
     all_counts: &[[i32; 10]],
     fonts: &Fonts,
 ) -> Result<Memory, WriteFault>
@@ -18,7 +18,8 @@ pub fn same_pages(
 {
     let mut writer = DviWriter::new(Memory::new(alloc));
     for counts in all_counts {
-        writer.page(alloc, shown, at, counts, fonts)?; // sent
+        let offsets = Offsets { h: at.h, v: at.v };
+        writer.page(alloc, shown, offsets, counts, fonts)?; // sent
     }
     writer.finish(alloc, fonts)?; // WrittenFile { pages, bytes }
     Ok(writer.into_device())
