@@ -144,3 +144,38 @@ def metric_file():
     parts[7] = [fixed(-20000 + kern) for kern in range(length - 6 - sum(map(len, parts)))]
     sizes = (length, len(header), 0, 255) + tuple(map(len, parts[2:]))
     return struct.pack(">12H", *sizes) + b"".join(sum(parts, []))
+
+
+def font_name(number):
+    """The name of one of many fonts."""
+    return "face%03d" % number
+
+
+def small_metric_file(number):
+    """A metric file in which each of the characters 32 to 126 has one width, which differs from file to file; no kerns and no ligatures."""
+    fixed = lambda parts: struct.pack(">i", parts << 15)
+    characters = [bytes([1, 0x11, 0, 0])] * 95
+    widths, heights, depths, italics = [fixed(0), fixed(10 + number % 23)], [fixed(0), fixed(22)], [fixed(0), fixed(6)], [fixed(0)]
+    header, parameters = [struct.pack(">I", 1 + number), struct.pack(">i", 10 << 20)], [fixed(it) for it in (0, 16, 8, 5, 14, 32, 0)]
+    parts = [header, characters, widths, heights, depths, italics, [], [], [], parameters]
+    sizes = (6 + sum(map(len, parts)), len(header), 32, 126) + tuple(map(len, parts[2:]))
+    return struct.pack(">12H", *sizes) + b"".join(sum(parts, []))
+
+
+def pages_of_fonts(pages, loaded):
+    """So many pages of one line, each in two of the loaded fonts."""
+    prose = Prose(5)
+    box = ["font %d %s\n" % (slot, font_name(slot)) for slot in range(loaded)]
+    tex = [r"\batchmode \frenchspacing \maxdepth16383pt \hbadness10000 \hfuzz16383pt" + "\n"]
+    tex += ["\\expandafter\\font\\csname f%d\\endcsname=%s\n" % (slot, font_name(slot)) for slot in range(loaded)]
+    for page in range(pages):
+        box.append("hbox into 0\n")
+        tex.append("\\setbox0\\hbox{")
+        for slot in (page * 7 % loaded, (page * 7 + 3) % loaded):
+            words = " ".join(prose.paragraph(8))
+            box.append("use %d\ntext %s\n" % (slot, words))
+            tex.append("\\csname f%d\\endcsname %s%%\n" % (slot, words))
+        box.append("end\nship 0\n")
+        tex.append("}\\shipout\\box0\n")
+    tex.append("\\end\n")
+    return "".join(box), "".join(tex)

@@ -1,7 +1,8 @@
-"""Runs programs one at a time, and tells their least time of processor and their peak memory."""
+"""Runs programs one at a time: their least time of processor, their peak memory, and their instructions."""
 
 import ctypes
 import os
+import re
 import shlex
 import subprocess
 import sys
@@ -19,28 +20,42 @@ class Cost:
         self.seconds, self.memory = seconds, memory
 
 
-def run_once(words, stdin, folder, statuses):
+def run_once(words, stdin, folder):
     """One run of a program on one core; its output goes to files of the folder."""
     command = "exec taskset -c %d %s < %s > out.txt 2> err.txt & echo $!" % (CORE, shlex.join(words), shlex.quote(stdin))
     shell = subprocess.run(["/bin/sh", "-c", command], cwd=folder, stdout=subprocess.PIPE, check=True)
     _, status, used = os.wait4(int(shell.stdout), 0)
-    if os.waitstatus_to_exitcode(status) not in statuses:
+    if os.waitstatus_to_exitcode(status) != 0:
         tail = open(os.path.join(folder, "err.txt")).read()[-500:] + open(os.path.join(folder, "out.txt"), errors="replace").read()[-500:]
         sys.exit("%s: status %s\n%s" % (shlex.join(words), os.waitstatus_to_exitcode(status), tail))
     return Cost(used.ru_utime + used.ru_stime, used.ru_maxrss * 1024)
 
 
-def least(words, folder, stdin="/dev/null", runs=RUNS, statuses=(0,)):
-    """The least of some runs."""
-    costs = [run_once(words, stdin, folder, statuses) for _ in range(runs)]
-    return Cost(min(cost.seconds for cost in costs), min(cost.memory for cost in costs))
+def in_turn(runs, folder, turns=RUNS):
+    """Programs in turn, so many times each, and the least of each. A run is the words of a program and its standard input."""
+    costs = [[] for _ in runs]
+    for _ in range(turns):
+        for (words, stdin), found in zip(runs, costs):
+            found.append(run_once(words, stdin, folder))
+    return [Cost(min(it.seconds for it in found), min(it.memory for it in found)) for found in costs]
 
 
-def in_turn(ours, theirs, folder, stdin, statuses=(0,)):
-    """Two programs in turn, five times each."""
-    a, b = [], []
-    for _ in range(RUNS):
-        a.append(least(ours, folder, stdin, 1))
-        b.append(least(theirs, folder, "/dev/null", 1, statuses))
-    pick = lambda costs: Cost(min(cost.seconds for cost in costs), min(cost.memory for cost in costs))
-    return pick(a), pick(b)
+class Counted:
+    """The instructions of a run, and what it printed."""
+
+    def __init__(self, instructions, status, answers):
+        self.instructions, self.status, self.answers = instructions, status, answers
+
+
+def count(words, stdin, folder):
+    """A run under callgrind, which counts the same number each time."""
+    counts = os.path.join(folder, "callgrind.out")
+    if os.path.exists(counts):
+        os.remove(counts)
+    command = ["valgrind", "--tool=callgrind", "--callgrind-out-file=" + counts, *words]
+    with open(stdin, "rb") as file:
+        done = subprocess.run(command, cwd=folder, stdin=file, stdout=subprocess.PIPE, stderr=subprocess.PIPE)
+    found = os.path.exists(counts) and re.search(r"^(?:summary|totals): (\d+)", open(counts).read(), re.M)
+    if not found:
+        sys.exit(done.stderr.decode(errors="replace")[-1000:])
+    return Counted(int(found[1]), done.returncode, done.stdout)

@@ -3,7 +3,7 @@
 A body is a list of moves, of bytes and of groups:
 
   right(AMOUNT), down(AMOUNT)   a movement
-  bytes                         an instruction: set_rule(..), put_rule(..), set_char(..), select(..)
+  bytes                         an instruction: set_rule(..), put_rule(..), set_char(..), special(..), select(..)
   a list                        a group: push, the body in it, pop"""
 from collections import Counter
 from dataclasses import dataclass
@@ -94,6 +94,16 @@ def put_rule(height, width):
 def set_char(code):
     """set_char or set1: a glyph."""
     return bytes([code]) if code < 128 else bytes([128, code])
+
+
+def xxx(text, size):
+    """xxx1 to xxx4: a special, whose length takes `size` bytes."""
+    return bytes([238 + size]) + number(len(text), size) + text
+
+
+def special(text):
+    """A special as the product writes it: xxx1 for up to 255 bytes, xxx4 for more."""
+    return xxx(text, 1 if len(text) < 256 else 4)
 
 
 def select(font):

@@ -1,6 +1,6 @@
 """DVI files at the edges of their numbers. Each is made by arithmetic from docs/FORMATS.md, section 7, which also says what must be answered."""
-from steps.dvi_writer import Font, Page, definition, down, dvi_file, number, put_rule, right, select, set_char
-from steps.large_inputs import PT, TINY, ZERO_COUNTS, listed, rule_mark
+from steps.dvi_writer import Font, Page, definition, down, dvi_file, number, put_rule, right, select, set_char, xxx
+from steps.large_inputs import PT, TINY, ZERO_COUNTS, listed, rule_mark, special_mark
 from steps.long_runs import Run, Work
 from steps.sizes import call_of
 
@@ -29,16 +29,6 @@ def accepted(data, marks):
     return data, listed([(ZERO_COUNTS, marks)])
 
 
-def special(text, size):
-    """xxx1 to xxx4: a special, whose length takes `size` bytes."""
-    return bytes([238 + size]) + number(len(text), size) + text
-
-
-def special_mark(h, v, text):
-    """The line of a special: what is not printable, and a backslash, in two hexadecimal digits after a backslash."""
-    return f"special {h} {v} " + "".join(chr(it) if 32 <= it < 127 and it != 92 else f"\\{it:02x}" for it in text)
-
-
 def work(*files):
     """Lists files with the metric file `tiny`. Each comes with what must be printed."""
     names = {f"{at}.dvi": it for at, it in enumerate(files, 1)}
@@ -51,7 +41,7 @@ def each_special():
     was worked out by hand."""
     lengths = {1: (0, 1, 255), 2: (0, 1, 255, 256), 3: (0, 1, 255, 256, 70000), 4: (0, 1, 255, 256, 70000)}
     texts = [(bytes(it % 256 for it in range(length)), size) for size, all_lengths in lengths.items() for length in all_lengths]
-    files = [accepted(dvi_file([Page([special(text, size), put_rule(1, 1)])], 0, 0).data, [special_mark(0, 0, text), rule_mark(0, 0, 1, 1)]) for text, size in texts]
+    files = [accepted(dvi_file([Page([xxx(text, size), put_rule(1, 1)])], 0, 0).data, [special_mark(0, 0, text), rule_mark(0, 0, 1, 1)]) for text, size in texts]
     by_hand = dvi_file([Page([bytes.fromhex("ef03615c00")])], 0, 0)
     assert by_hand.data[BOP] == 0x8b and by_hand.data[BODY:BODY + 6] == bytes.fromhex("ef03615c008c")
     return work(accepted(by_hand.data, ["special 0 0 a\\5c\\00"]), *files)
@@ -59,9 +49,9 @@ def each_special():
 
 def specials_in_groups():
     """A special after movements to the right and down, in a group; one after the group, whose place is that of the push; and two on another page."""
-    first = [right(7), [down(3), special(b"a\\b", 1), right(-9), special(b" ", 2)], special(b"", 1)]
+    first = [right(7), [down(3), xxx(b"a\\b", 1), right(-9), xxx(b" ", 2)], xxx(b"", 1)]
     marks = ["special 7 3 a\\5cb", "special -2 3  ", "special 7 0 "]
-    second = [special(bytes([10, 13, 32, 126, 127, 255]), 1), special(b"z", 4)]
+    second = [xxx(bytes([10, 13, 32, 126, 127, 255]), 1), xxx(b"z", 4)]
     file = dvi_file([Page(first), Page(second)], 0, 0)
     return work((file.data, listed([(ZERO_COUNTS, marks), (ZERO_COUNTS, ["special 0 0 \\0a\\0d ~\\7f\\ff", "special 0 0 z"])])))
 
@@ -71,13 +61,13 @@ def specials_between_pages():
     file = dvi_file([Page([]), Page([], new_fonts=(TINY_10PT,))], 0, 0)
     place = file.page_ends[0]
     assert file.data[place:place + DEFINITION] == definition(TINY_10PT) and DEFINITION == 20
-    return work(refused(changed(file.data, place, special(bytes(18), 1)), place, "Opcode"))
+    return work(refused(changed(file.data, place, xxx(bytes(18), 1)), place, "Opcode"))
 
 
 def painted_specials():
     """A page of a rule that is one pixel, and the same page with specials: one bitmap."""
     rule = put_rule(1, 1)
-    pages = [[rule], [special(b"black", 1), rule, right(PT), special(bytes(70000), 3), [down(PT), special(b"", 1)]]]
+    pages = [[rule], [xxx(b"black", 1), rule, right(PT), xxx(bytes(70000), 3), [down(PT), xxx(b"", 1)]]]
     files = {f"{at}.dvi": dvi_file([Page(body)], 0, 0).data for at, body in enumerate(pages, 1)}
     words = ("paint", "--page", "1", "--dpi", "72", "--width", "3", "--height", "2")
     return Work(files, [Run((*words, name), stdout=(b"P1\n3 2\n100\n000\n",)) for name in files])

@@ -2,7 +2,8 @@
 
   n   `refused 1 OutOfMemory` alone, and no file: for the words, what is read, the commands, the slots, the registers or the room for the replies; of a
       run on a device in memory, whose bytes are printed, also for the texts at the end
-  w   all as always: room that is asked for beforehand is made up for by a later growth
+  w   all as always: room that is asked for beforehand is made up for by a later growth, or a `ship` is refused HugePage, which is found without memory
+      where a growth was refused
   c   a command answers OutOfMemory; all other answers, the status and the bytes are those of the script without this command
   d   the growth was one of the device in memory, so it failed in a `ship`: Device, JobOver from then on, and only the pages before it are out
   e   `end: refused 1 OutOfMemory`: all pages are out, and no end
@@ -14,13 +15,14 @@ from dataclasses import dataclass
 ALONE = b"refused 1 OutOfMemory\n"
 WANTS_MEMORY, FAILED, OVER = "refused 1 OutOfMemory", "refused 18 Device", "refused 19 JobOver"
 MAY_TAKE_MEMORY = {
-    "font", "hbox", "vbox", "vtop", "par", "end", "text", "char", "rule", "kern", "glue", "penalty", "ship", "box", "copy",
+    "font", "hbox", "vbox", "vtop", "par", "end", "text", "char", "rule", "kern", "glue", "penalty", "special", "ship", "box", "copy",
     "unhbox", "unhcopy", "unvbox", "unvcopy", "vsplit",
 }
 NOTHING, WHOLE, COMMAND, DEVICE, END, END_DEVICE, TEXTS = "nwcdeft"
 # Made up for is at most the room for the words (where there are any), the commands and their numbers. The device grows only where its room is used up.
-ORDER_IN_MEMORY = re.compile("n+w{0,2}n+[cd]*c[cd]*d[cd]*e+f?n+")
-ORDER_TO_A_FILE = re.compile("n+w?n+w{0,2}n+c+e+t+")
+# In the scripts here at most one `ship` of a huge page grows before it is refused.
+ORDER_IN_MEMORY = re.compile("n+w{0,2}n+[cd]*w?[cd]*c[cd]*d[cd]*e+f?n+")
+ORDER_TO_A_FILE = re.compile("n+w?n+w{0,2}n+c*w?c+e+t+")
 ORDER_OF_A_READING = re.compile("n+w?n+")
 
 

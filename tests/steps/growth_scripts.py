@@ -4,7 +4,7 @@ NAME.box is the script. NAME.answers are the answers, written by hand. The pages
 bytes are made by the writer of the tests."""
 from dataclasses import dataclass
 
-from steps.dvi_writer import Font, Page, down, dvi_file, put_rule, right, select, set_char, set_rule
+from steps.dvi_writer import Font, Page, down, dvi_file, put_rule, right, select, set_char, set_rule, special
 from steps.large_inputs import TINY
 
 PT = 65536
@@ -13,6 +13,9 @@ A, B, C, D, E = (set_char(code) for code in range(97, 102))
 AT_10PT, AT_20PT = Font(0, b"tiny"), Font(1, b"tiny", 20 * PT)
 ONE_RULE = [down(PT), RULE]
 NESTED_BOXES = [down(10 * PT), select(0), C, [select(1), B], right(10 * PT), C]
+
+
+SPECIALS = [down(PT), special(b"a"), RULE, [special(b"bb")], special(b"")]
 
 
 def line_of(height, *parts):
@@ -44,6 +47,11 @@ PAGES = {
     "splits": ([Page(column(*it)) for it in (
         ((5, 5), (7, 5)), ((10, 5),), ((5, 5), (6, 5)), ((10, 5),), ((30, 30),), ((30, 30),),
     )], 30, 10),
+    "specials": ([
+        Page([SPECIALS, right(PT), *SPECIALS, special(b"c")]),
+        Page([special(b"d"), SPECIALS, down(PT), special(b"e")]),
+        Page([special(b"f"), down(10 * PT), put_rule(PT, PT)]),
+    ], 10, 2),
 }
 FONTS = ("tiny=tiny.tfm",)
 WITH_FONTS = ("lig_and_kern_words", "fonts_in_nested_boxes")
@@ -63,7 +71,7 @@ READINGS = {
     "paint_fonts_in_nested_boxes": ((*PAINT, *FONTS), NESTED_BOXES_FILE, BLANK),
 }
 # Commands of many growths, by script and line: copies that run out halfway. Each must have met more than one refused growth.
-HALFWAY = {"fonts_in_nested_boxes": {14: "copy 0", 15: "unhcopy 0"}}
+HALFWAY = {"fonts_in_nested_boxes": {14: "copy 0", 15: "unhcopy 0"}, "specials": {10: "copy 0", 11: "unhcopy 0"}}
 
 
 @dataclass(frozen=True)

@@ -78,6 +78,11 @@ def rule_mark(h, v, height, width):
     return f"rule {h} {v} {height} {width}"
 
 
+def special_mark(h, v, text):
+    """The line of a special: what is not printable, and a backslash, in two hexadecimal digits after a backslash."""
+    return f"special {h} {v} " + "".join(chr(it) if 32 <= it < 127 and it != 92 else f"\\{it:02x}" for it in text)
+
+
 def typeset_and_list(file, runs_answers, lines, marks, fonts=()):
     """The runs of a script of one page: its file is typeset and listed."""
     return [

@@ -30,3 +30,15 @@ kern_and_glue = rule 40 ∷ nodes.Kern (points 5) ∷ space ∷ rule 40 ∷ para
 -- Two rules, and between them glue with a penalty before and behind it that breaks a line.
 abbrev pub glue_among_penalties : List Node
 glue_among_penalties = rule 40 ∷ nodes.Penalty (negsuc 9999) ∷ space ∷ nodes.Penalty (negsuc 9999) ∷ rule 10 ∷ paragraph_end
+
+-- A special whose text is one byte.
+abbrev pub special : Node
+special = nodes.Special (0x61 ∷ [])
+
+-- Two rules with a special between them, and glue before and after it.
+abbrev pub special_between_glue : List Node
+special_between_glue = rule 40 ∷ space ∷ special ∷ space ∷ rule 40 ∷ paragraph_end
+
+-- A special alone.
+abbrev pub special_alone : List Node
+special_alone = special ∷ paragraph_end

@@ -1,17 +1,21 @@
 -- The table of a paragraph as it is filled, place by place (own; no public clause speaks of it).
-use Rattle.std.specs.Prelude.{◌≡◌, ◌<◌, ◌≤◌, ◌+◌, ◌^◌, ℕ, ℤ, Bool, List, slice_get, Option, Some, None, if◌then◌else◌}
+use Rattle.std.specs.Prelude.{◌≡◌, ◌<◌, ◌≤◌, ◌+◌, ◌^◌, ◌<ℤ◌, ℕ, ℤ, pos, Bool, List, length, slice_get, Option, Some, None, if◌then◌else◌}
 use Rattle.node_core.specs.declared.params.Params.{Params}
 use Rattle.break_table.specs.declared.group.Group.{Group}
 use Rattle.break_table.specs.declared.state.State.{State}
 use Rattle.break_table.specs.Problems.{Problem}
 use Rattle.break_table.specs.Ways.{since}
-use Rattle.break_table.specs.Tables.{Entry, IsRow}
+use Rattle.break_table.specs.Orders.{NotAfter}
+use Rattle.break_table.specs.Tables.{Entry, most_places, slots, extended, short, IsRow}
+use Rattle.break_table.specs.declared.state.Line.{Line}
 use Rattle.break_table.specs.declared.answer.Least.{Least}
 use Rattle.break_table.specs.Chosen.{AdmitsNone, IsAnswer}
 use Rattle.break_core.specs.declared.broken.Pass.{Pass}
 use Rattle.break_cost.specs.declared.sizes.Judgement.{Judgement}
 use Rattle.break_cost.specs.declared.cost.Bound.{Bound}
-use Rattle.break_cost.specs.Costs.{line_of}
+use Rattle.break_cost.specs.Costs.{line_of, line_after}
+use Rattle.break_cost.specs.Small.{IsSmallSums}
+use Rattle.break_core.specs.declared.filling.Tried.{Tried}
 use Rattle.break_cost.specs.Sizes.{judged_after}
 use Rattle.line_meter.specs.Facts.{Facts}
 use Rattle.break_core.specs.Passes.{problem_of, bound_of, IsBefore}
@@ -41,6 +45,39 @@ IsOfferingUnless left table params bound group place penalty line old new =
     (p : Problem) → p.cut ≡ params.first_lines → since p place ≤ group.place
     → ((s : State) → s.place ≡ group.place
     → p.line s place ≡ (if left then None else line_of params bound penalty s.class (judged_after params.first_lines s.lines line)))
+    → IsRow p table place group.start old → IsRow p table place group.end new
+
+-- The entries of a group may be offered by a line that was tried.
+pub record CanOffer (first_lines : ℕ) (row : List (Option Entry)) (table : List Entry) (group : Group) (tried : Tried) : Type 0 where
+  pub wide : length row ≡ slots first_lines
+  pub rises : group.start ≤ group.end
+  pub within : group.end ≤ length table
+  pub earlier : group.place < tried.place
+  pub places : tried.place ≤ most_places
+  pub entries : IsOf first_lines table group
+  pub penalty : tried.penalty <ℤ pos 10000
+  pub small : IsSmallSums tried.sums
+
+-- What an entry offers for a place by a line, where no line is counted: the line is that without what the class of the line before it adds.
+abbrev pub offer_from : Params → Entry → (index place : ℕ) → (alone : Line) → Entry
+offer_from params e index place alone = extended 0 e index place (line_after params e.end.class alone)
+
+-- The least of what the entries from one number up to another offer so.
+pub record IsBestOffer (table : List Entry) (params : Params) (place : ℕ) (alone : Line) (from to : ℕ) (best : Entry) : Type 0 where
+  pub by : ℕ
+  pub low : from ≤ by
+  pub high : by < to
+  pub entry : Entry
+  pub stands : slice_get table by ≡ Some entry
+  pub is : best ≡ offer_from params entry by place alone
+  pub least :
+      (k : ℕ) (e : Entry) → from ≤ k → k < to → slice_get table k ≡ Some e → NotAfter (short best) (short (offer_from params e k place alone))
+
+-- Between two rows the entries of a group were offered by such a line, where no line is counted.
+abbrev pub IsOfferingBest : (table : List Entry) → Params → Group → (place : ℕ) → (alone : Line) → (old new : List (Option Entry)) → Type 0
+IsOfferingBest table params group place alone old new =
+    (p : Problem) → p.cut ≡ 0 → since p place ≤ group.place
+    → ((s : State) → s.place ≡ group.place → p.line s place ≡ Some (line_after params s.class alone))
     → IsRow p table place group.start old → IsRow p table place group.end new
 
 -- Each count has grown by at most n.

@@ -1,16 +1,17 @@
 //! The table of a paragraph in a pass, filled place by place.
 
-ghost use Rattle.std.specs.Prelude.{◌≡◌, ◌+◌, ◌<◌, ◌≤◌, ◌++◌, ◌<ℤ◌, ℕ, pos, true, false, ◌&&◌, [], ◌∷◌, length, replicate, None, if◌then◌else◌, OnOk, IfOk};
-ghost use Rattle.break_table.specs.Tables.{most_places, slots, IsTable, IsRow};
-ghost use Rattle.break_cost.specs.Sizes.{IsSmallJudgement};
+ghost use Rattle.std.specs.Prelude.{◌≡◌, ◌+◌, ◌<◌, ◌≤◌, ◌++◌, ℕ, true, false, ◌&&◌, [], ◌∷◌, length, replicate, slice_get, Some, None, if◌then◌else◌, OnOk, IfOk};
+ghost use Rattle.break_table.specs.Tables.{Entry, most_places, slots, IsTable, IsRow, IsKept};
+ghost use Rattle.break_cost.specs.Sizes.{judgement, IsSmallJudgement};
+ghost use Rattle.break_cost.specs.Small.{IsSmallAlone};
 ghost use Rattle.line_meter.specs.Legal.{is_forced};
-ghost use Rattle.break_core.specs.Filling.{IsOf, IsOffering, IsOfferingUnless, AreFew};
+ghost use Rattle.break_core.specs.Filling.{IsOf, CanOffer, IsOffering, IsOfferingUnless, offer_from, IsBestOffer, IsOfferingBest, AreFew};
 ghost use Rattle.break_core.specs.Leaving.{is_more, kept_over};
 ghost use Rattle.break_core.specs.Active.{ends, stops, leaves, pruned, groups_of, with_live, MayEnd, AreOver, IsActive, IsFilled, IsSwept, IsCounted, AreKept, WereTried};
 
-use break_cost::{Bound, Judgement, judge_both};
-use break_table::{Best, Group, empty_row, improve, keep};
-use line_meter::Meter;
+use break_cost::{Bound, Judgement, judge, judge_both, line_after, line_alone};
+use break_table::{Best, Group, Line, empty_row, improve, keep, put};
+use line_meter::{Meter, Sums};
 use node_core::Params;
 use std::alloc::{AllocError, Global};
 use std::mem::swap;
@@ -32,12 +33,12 @@ pub(crate) struct Rules<'a> {
     pub(crate) ending: Ending,
 }
 
-/// A line that was tried: the place to which it goes, the penalty of a break there, and how it is set.
+/// A line that was tried: the place to which it goes, the penalty of a break there, and the sums over its items.
 #[derive(Drop)]
-struct Tried {
+pub(crate) struct Tried {
     place: usize,
     penalty: i32,
-    line: Judgement,
+    sums: Sums,
 }
 
 /// A group of entries from which lines are tried, and how wide the line from there is to the first place to which it was overfull, shrunk as far as it goes.
@@ -99,26 +100,21 @@ fn kept_over(over: Option<i64>, overfull: bool, width: i64) -> Option<i64>
     }
 }
 
-/// Offers the entries of a group for a place, by a line that was tried from there. What is the same for all of them is found once.
-fn offer_group(
+/// Offers the entries of a group for a place, by a line that was tried from there and is set so. What is the same for all of them is found once.
+fn offer_each(
     row: &mut Vec<Option<Best>>,
     table: &[Best],
     group: Group,
     rules: &Rules,
     tried: &Tried,
+    line: &Judgement,
 )
-    requires wide { length row.old.items ≡ slots rules.now.params.now.first_lines }
-    requires rises { group.start ≤ group.end }
-    requires within { group.end ≤ length table.now }
-    requires earlier { group.place < tried.now.place }
-    requires places { tried.now.place ≤ most_places }
-    requires entries { IsOf rules.now.params.now.first_lines table.now group }
-    requires penalty { tried.now.penalty <ℤ pos 10000 }
-    requires small { IsSmallJudgement tried.now.line }
-    ensures row { IsOffering table.now rules.now.params.now rules.now.bound group tried.now.place tried.now.penalty tried.now.line group.start group.end row.old.items row.new.items }
+    requires can { CanOffer rules.now.params.now.first_lines row.old.items table.now group tried.now }
+    requires small { IsSmallJudgement line.now }
+    ensures row { IsOffering table.now rules.now.params.now rules.now.bound group tried.now.place tried.now.penalty line.now group.start group.end row.old.items row.new.items }
     ensures wide { length row.new.items ≡ slots rules.now.params.now.first_lines }
 {
-    let costs = tried.line.alone(rules.params, &rules.bound, tried.penalty);
+    let costs = line.alone(rules.params, &rules.bound, tried.penalty);
     if costs.is_none() {
         return;
     }
@@ -131,33 +127,128 @@ fn offer_group(
     }
 }
 
-/// Offers the entries of a group for a place, by a line that was tried from there, unless the line is left out.
-fn offer_unless(
+/// Offers the entries of a group for a place, by a line that was tried from there, unless it is left out. Returns whether it is overfull after any number of
+/// lines.
+#[cold]
+#[inline(never)]
+fn offer_counted(
     left: bool,
     row: &mut Vec<Option<Best>>,
     table: &[Best],
     group: Group,
     rules: &Rules,
     tried: &Tried,
-)
-    requires wide { length row.old.items ≡ slots rules.now.params.now.first_lines }
-    requires rises { group.start ≤ group.end }
-    requires within { group.end ≤ length table.now }
-    requires earlier { group.place < tried.now.place }
-    requires places { tried.now.place ≤ most_places }
-    requires entries { IsOf rules.now.params.now.first_lines table.now group }
-    requires penalty { tried.now.penalty <ℤ pos 10000 }
-    requires small { IsSmallJudgement tried.now.line }
-    ensures row { IsOfferingUnless left table.now rules.now.params.now rules.now.bound group tried.now.place tried.now.penalty tried.now.line row.old.items row.new.items }
+) -> bool
+    requires can { CanOffer rules.now.params.now.first_lines row.old.items table.now group tried.now }
+    ensures row { IsOfferingUnless left table.now rules.now.params.now rules.now.bound group tried.now.place tried.now.penalty (judgement rules.now.params.now tried.now.sums) row.old.items row.new.items }
     ensures wide { length row.new.items ≡ slots rules.now.params.now.first_lines }
+    ensures overfull { result ≡ ((judgement rules.now.params.now tried.now.sums).first.overfull && (judgement rules.now.params.now tried.now.sums).rest.overfull) }
 {
+    let line = judge_both(&tried.sums, rules.params);
     if left {
-        return;
+        return line.is_overfull();
     }
-    offer_group(row, table, group, rules, tried);
+    offer_each(row, table, group, rules, tried, &line);
+    line.is_overfull()
 }
 
-/// Puts a group behind others, unless trying lines from it has ended.
+/// What an entry of a table offers for a place by a line, where no line is counted.
+fn offer_from(table: &[Best], index: usize, params: &Params, place: usize, alone: &Line) -> Best
+    requires within { index < length table.now }
+    requires uncounted { (e : Entry) → slice_get table.now index ≡ Some e → e.end.lines ≤ 0 }
+    requires later { (e : Entry) → slice_get table.now index ≡ Some e → e.end.place < place }
+    requires places { place ≤ most_places }
+    requires small { IsSmallAlone alone.now }
+    ensures { (e : Entry) → slice_get table.now index ≡ Some e → result ≡ offer_from params.now e index place alone.now }
+{
+    let entry = table[index];
+    let line = line_after(params, entry.end().class, alone);
+    entry.extended(index, place, line, 0)
+}
+
+/// The lesser of two offers.
+fn lesser(best: Best, offered: Best) -> Best
+    ensures { IsKept (Some best) offered result }
+{
+    if best.is_not_after(offered) {
+        return best;
+    }
+    offered
+}
+
+/// The least of what the entries of a group offer for a place by a line, where no line is counted.
+fn best_offer(table: &[Best], group: Group, params: &Params, place: usize, alone: &Line) -> Best
+    requires some { group.start < group.end }
+    requires within { group.end ≤ length table.now }
+    requires earlier { group.place < place }
+    requires entries { IsOf 0 table.now group }
+    requires places { place ≤ most_places }
+    requires small { IsSmallAlone alone.now }
+    ensures { IsBestOffer table.now params.now place alone.now group.start group.end result }
+{
+    let mut best = offer_from(table, group.start, params, place, alone);
+    for index in group.start + 1..group.end {
+        let offered = offer_from(table, index, params, place, alone);
+        best = lesser(best, offered);
+    }
+    best
+}
+
+/// Offers the entries of a group for a place by a line, where no line is counted: all of them are for one state, so the least of them decides.
+fn offer_best(
+    row: &mut Vec<Option<Best>>,
+    table: &[Best],
+    group: Group,
+    params: &Params,
+    place: usize,
+    alone: &Line,
+)
+    requires wide { length row.old.items ≡ slots 0 }
+    requires rises { group.start ≤ group.end }
+    requires within { group.end ≤ length table.now }
+    requires earlier { group.place < place }
+    requires entries { IsOf 0 table.now group }
+    requires places { place ≤ most_places }
+    requires small { IsSmallAlone alone.now }
+    ensures row { IsOfferingBest table.now params.now group place alone.now row.old.items row.new.items }
+    ensures wide { length row.new.items ≡ slots 0 }
+{
+    if group.start == group.end {
+        return;
+    }
+    put(row, best_offer(table, group, params, place, alone), 0);
+}
+
+/// The same of a line that was tried, unless it is left out. Where no line is counted, it is judged once.
+#[inline(always)]
+fn offer_line(
+    left: bool,
+    row: &mut Vec<Option<Best>>,
+    table: &[Best],
+    group: Group,
+    rules: &Rules,
+    tried: &Tried,
+) -> bool
+    requires can { CanOffer rules.now.params.now.first_lines row.old.items table.now group tried.now }
+    ensures row { IsOfferingUnless left table.now rules.now.params.now rules.now.bound group tried.now.place tried.now.penalty (judgement rules.now.params.now tried.now.sums) row.old.items row.new.items }
+    ensures wide { length row.new.items ≡ slots rules.now.params.now.first_lines }
+    ensures overfull { result ≡ ((judgement rules.now.params.now tried.now.sums).first.overfull && (judgement rules.now.params.now tried.now.sums).rest.overfull) }
+{
+    if rules.params.first_lines.get() > 0 {
+        return offer_counted(left, row, table, group, rules, tried);
+    }
+    let line = judge(&tried.sums, rules.params.hsize);
+    if left {
+        return line.overfull;
+    }
+    let Some(alone) = line_alone(rules.params, &rules.bound, tried.penalty, &line) else {
+        return line.overfull;
+    };
+    offer_best(row, table, group, rules.params, tried.place, &alone);
+    line.overfull
+}
+
+/// Puts a group after others, unless trying lines from it has ended.
 fn keep_group(lives: &mut Vec<Live>, ended: bool, live: Live) -> Result<(), AllocError>
     ensures { OnOk result (lives.new.items ≡ (if ended then lives.old.items else (lives.old.items ++ live ∷ []))) }
 {
@@ -167,7 +258,7 @@ fn keep_group(lives: &mut Vec<Live>, ended: bool, live: Live) -> Result<(), Allo
     Ok(())
 }
 
-/// Puts the group of a place behind those of earlier places, unless it has no entries; those of earlier places stay, unless a line must end here.
+/// Puts the group of a place after those of earlier places, unless it has no entries; those of earlier places stay, unless a line must end here.
 fn add_group(lives: &mut Vec<Live>, forced: bool, group: Group) -> Result<(), AllocError>
     ensures { OnOk result (lives.new.items ≡ with_live (if forced then [] else lives.old.items) (record { group = group; over = None })) }
 {
@@ -207,17 +298,15 @@ fn try_lines<M: Meter>(
     offers.next.clear();
     for live in lives {
         let sums = meter.try_line(live.group.place, place);
-        let line = judge_both(&sums, rules.params);
         let width = sums.least_width();
-        let overfull = line.is_overfull();
         let long = is_more(live.over, width);
         let tried = Tried {
             place,
             penalty: at.penalty,
-            line,
+            sums,
         };
         let left = rules.ending.ends(false, long);
-        offer_unless(left, &mut offers.row, table, live.group, rules, &tried);
+        let overfull = offer_line(left, &mut offers.row, table, live.group, rules, &tried);
         let over = kept_over(live.over, overfull, width);
         let ended = rules.ending.ends(overfull, long);
         let kept = Live {
@@ -282,8 +371,10 @@ pub(crate) fn fill<M: Meter>(
     ensures kept { AreKept (M.trials meter.old) (M.trials meter.new) }
     ensures tried { OnOk result (M.trials meter.old 0 < M.trials meter.new 0) }
 {
+    // Most places have an entry, or more.
+    let table = Vec::with_capacity(alloc, meter.places() + 1)?;
     let mut reached = Reached {
-        table: Vec::new(alloc),
+        table,
         live: Vec::new(alloc),
     };
     reached.table.push(Best::first())?;

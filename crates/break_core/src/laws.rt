@@ -19,7 +19,7 @@ ghost use Rattle.break_core.specs.declared.broken.Pass.{Pass};
 ghost use Rattle.break_core.specs.declared.broken.Breaks.{Breaks};
 ghost use Rattle.break_core.specs.Passes.{problem_of, bound_of, IsBroken};
 ghost use Rattle.break_core.specs.Trials.{is_overfull, is_bounded, places_up_to, AreBounded, AreSame, IsLong, MayLeave};
-ghost use Rattle.break_core.specs.Examples.{rule, space, five_rules, kern_and_glue, glue_among_penalties};
+ghost use Rattle.break_core.specs.Examples.{rule, space, special, five_rules, kern_and_glue, glue_among_penalties, special_between_glue, special_alone};
 
 /// The sums over what a line keeps are a difference of sums over the first items of the list: those in front of its end, less those in front of its first
 /// item that is not dropped.
@@ -47,7 +47,7 @@ pub fn lines_of_five_rules()
     ensures last_sums { sums_of (kept five_rules (Some 7) 11) ≡ sums_of_points 30 0 1 }
 {}
 
-/// A kern before glue is a legal place, and the glue behind it is none. The kern stays there without its width.
+/// A kern before glue is a legal place, and the glue after it is none. The kern stays there without its width.
 pub fn break_at_a_kern()
     ensures places { legal_places kern_and_glue ≡ 1 ∷ 6 ∷ [] }
     ensures first { kept kern_and_glue None 1 ≡ rule 40 ∷ Kern (pos 0) ∷ [] }
@@ -58,6 +58,15 @@ pub fn line_of_dropped_items()
     ensures places { legal_places glue_among_penalties ≡ 1 ∷ 3 ∷ 7 ∷ [] }
     ensures kept { kept glue_among_penalties (Some 1) 3 ≡ Penalty (negsuc 9999) ∷ [] }
     ensures sums { sums_of (kept glue_among_penalties (Some 1) 3) ≡ sums_of_points 0 0 0 }
+{}
+
+/// Glue after a special is a legal place, and the line that begins with the special keeps it. A paragraph of a special alone has one line.
+pub fn line_of_a_special()
+    ensures places { legal_places special_between_glue ≡ 1 ∷ 3 ∷ 7 ∷ [] }
+    ensures kept { kept special_between_glue (Some 1) 3 ≡ special ∷ [] }
+    ensures sums { sums_of (kept special_between_glue (Some 1) 3) ≡ sums_of_points 0 0 0 }
+    ensures alone { legal_places special_alone ≡ 3 ∷ [] }
+    ensures whole { take 1 (kept special_alone None 3) ≡ special ∷ [] }
 {}
 
 /// Without first lines no line is counted, and each one is measured against hsize.

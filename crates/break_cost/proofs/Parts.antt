@@ -9,15 +9,10 @@ use Rattle.break_table.specs.declared.state.Line.{Line}
 use Rattle.break_cost.specs.declared.cost.Judged.{Judged}
 use Rattle.break_cost.specs.declared.cost.Bound.{Bound}
 use Rattle.break_cost.specs.declared.sizes.Judgement.{Judgement}
-use Rattle.break_cost.specs.Costs.{base_demerits, penalty_demerits, adjacent_demerits, demerits_of, admits, line_of, line_alone, after_class}
+use Rattle.break_cost.specs.Costs.{base_demerits, penalty_demerits, demerits_of, admits, line_of, line_alone, line_after, after_class}
 use Rattle.break_cost.specs.Sizes.{judged_after}
 
--- What a class adds.
-abbrev added : Params → Class → Line → Line
-added params before line =
-    record { class = line.class; overhang = line.overhang; demerits = line.demerits +ℤ adjacent_demerits params before line.class }
-
-after_some : (params : Params) (before : Class) (t : Bool) (line : Line) → after_class params before (cond t (Some line) None) ≡ cond t (Some (added params before line)) None
+after_some : (params : Params) (before : Class) (t : Bool) (line : Line) → after_class params before (cond t (Some line) None) ≡ cond t (Some (line_after params before line)) None
 unfolding after_class
 after_some params before true line = refl
 after_some params before false line = refl

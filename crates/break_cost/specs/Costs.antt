@@ -101,8 +101,12 @@ line_alone params bound penalty line =
     then Some (record { class = line.class; overhang = line.overhang; demerits = base_demerits params line.badness +ℤ penalty_demerits penalty })
     else None
 
--- A line behind one of a class, by the line without what that class adds.
+-- A line after one of a class, by the line without what that class adds.
+abbrev pub line_after : Params → (before : Class) → Line → Line
+line_after params before line =
+    record { class = line.class; overhang = line.overhang; demerits = line.demerits +ℤ adjacent_demerits params before line.class }
+
+-- The same, if it is admitted.
 unfoldable pub after_class : Params → (before : Class) → Option Line → Option Line
 after_class params before None = None
-after_class params before (Some line) =
-    Some (record { class = line.class; overhang = line.overhang; demerits = line.demerits +ℤ adjacent_demerits params before line.class })
+after_class params before (Some line) = Some (line_after params before line)

@@ -3,7 +3,7 @@
 ghost use Rattle.std.specs.Prelude.{◌≡◌, ◌≤◌, ◌<ℤ◌, ◌≤ℤ◌, ◌*ℤ◌, ◌+ℤ◌, ◌+◌, ◌^◌, pos, IfSome};
 ghost use Rattle.scaled_core.specs.Dimensions.{Within};
 ghost use Rattle.break_table.specs.Tables.{IsSmallLine};
-ghost use Rattle.break_cost.specs.Costs.{stretched_class, shrunk_class, stretches_forever, judged_short, judged_long, judged, base_demerits, penalty_demerits, is_apart, adjacent_demerits, admits, line_alone, after_class};
+ghost use Rattle.break_cost.specs.Costs.{stretched_class, shrunk_class, stretches_forever, judged_short, judged_long, judged, base_demerits, penalty_demerits, is_apart, adjacent_demerits, admits, line_alone, line_after, after_class};
 ghost use Rattle.break_cost.specs.Small.{IsSmallSums, IsSmallJudged, IsSmallAlone};
 
 use crate::sums::Sums;
@@ -122,6 +122,7 @@ fn judged_long(sums: &Sums, amount: i64) -> Judged
 
 /// How a line of that size is set whose items have these sums.
 #[tactic(auto, unfolding(crate::specs::Costs::judged))]
+#[inline(always)]
 pub fn judge(sums: &Sums, size: Dimen) -> Judged
     requires small { IsSmallSums sums.now }
     ensures value { result ≡ judged sums.now size }
@@ -221,12 +222,7 @@ fn alone_demerits(params: &Params, penalty: i32, badness: u32) -> i64
 
 /// The line to a break of a penalty, if the bound admits it, without what the class of the line before it adds.
 #[tactic(auto, unfolding(crate::specs::Costs::line_alone))]
-pub(crate) fn line_alone(
-    params: &Params,
-    bound: &Bound,
-    penalty: i32,
-    line: &Judged,
-) -> Option<Line>
+pub fn line_alone(params: &Params, bound: &Bound, penalty: i32, line: &Judged) -> Option<Line>
     requires penalty { penalty <ℤ pos 10000 }
     requires small { IsSmallJudged line.now }
     ensures value { result ≡ line_alone params.now bound.now penalty line.now }
@@ -242,7 +238,20 @@ pub(crate) fn line_alone(
     })
 }
 
-/// The line behind one of a class.
+/// The line after one of a class, by the line without what that class adds.
+pub fn line_after(params: &Params, before: Class, alone: &Line) -> Line
+    requires { IsSmallAlone alone.now }
+    ensures value { result ≡ line_after params.now before alone.now }
+    ensures small { IsSmallLine result }
+{
+    Line {
+        class: alone.class,
+        overhang: alone.overhang,
+        demerits: alone.demerits + adjacent_demerits(params, before, alone.class),
+    }
+}
+
+/// The line after one of a class, if it is admitted.
 #[tactic(auto, unfolding(crate::specs::Costs::after_class))]
 pub(crate) fn after_class(params: &Params, before: Class, line: Option<Line>) -> Option<Line>
     requires small { IfSome line IsSmallAlone }
@@ -252,9 +261,5 @@ pub(crate) fn after_class(params: &Params, before: Class, line: Option<Line>) ->
     let Some(alone) = line else {
         return None;
     };
-    Some(Line {
-        class: alone.class,
-        overhang: alone.overhang,
-        demerits: alone.demerits + adjacent_demerits(params, before, alone.class),
-    })
+    Some(line_after(params, before, &alone))
 }

@@ -9,7 +9,8 @@ use Rattle.break_table.specs.declared.state.State.{State}
 use Rattle.break_table.specs.Problems.{Problem}
 use Rattle.break_table.specs.Tables.{Entry, short, slot, slots, offer, IsOffered, IsHeld, IsMet, IsRow, IsKept, held_in}
 use Rattle.break_table.specs.Live.{IsSilent}
-use Rattle.break_table.proofs.Dictionary.{state_same, rank_few, rank_apart, not_after_trans}
+use Rattle.break_table.specs.Orders.{NotAfter}
+use Rattle.break_table.proofs.Dictionary.{state_same, rank_few, rank_apart, not_after_refl, not_after_trans}
 use Rattle.break_table.proofs.Reached.{extended_is}
 use Rattle.break_table.proofs.Entries.{get-set_same, get-set_other, get-replicate, set-get_same}
 
@@ -79,79 +80,94 @@ row_none p table b n e row stands none is =
         let some : offer p e n b ≡ Some o = ap (λ x. offer p x n b) (sym one) ∙ ap (λ x. offer p offered.by x b) (sym same) ∙ offered.offers in
         absurd (cc)
 
--- An offer that is put into its slot, or what the slot held, whichever is before the other.
-pub row_step :
-    (p : Problem) (table : List Entry) (b n : ℕ) (e o r : Entry) (old : Option Entry) (row : List (Option Entry))
-    → slice_get table n ≡ Some e → offer p e n b ≡ Some o → slice_get row (slot o.end) ≡ Some old → IsKept old o r
-    → IsRow p table b n row → IsRow p table b (n + 1) (set row (slot o.end) (Some r))
-row_step p table b n e o r old row stands offers was kept is =
+-- The least of the offers of some entries is put into its slot, where they are all for one state.
+pub row_best :
+    (p : Problem) (table : List Entry) (b n m by : ℕ) (o r : Entry) (old : Option Entry) (row : List (Option Entry))
+    → n ≤ by → by < m → IsOffered p table b by o → slice_get row (slot o.end) ≡ Some old → IsKept old o r
+    → ((k : ℕ) (f : Entry) → n ≤ k → k < m → IsOffered p table b k f → (f.end ≡ o.end) × NotAfter (short o) (short f))
+    → IsRow p table b n row → IsRow p table b m (set row (slot o.end) (Some r))
+row_best p table b n m by o r old row low high offered_o was kept least is =
     record {
       wide = length-set row (slot o.end) (Some r) ∙ is.wide;
       held = λ s f at. held s f at (cases_eq s (slot o.end));
       met = λ k f below offered. met k f below offered (cases_lt k n);
     }
   where
-    offered_o : IsOffered p table b n o
-    offered_o = record { by = e; stands = stands; offers = offers }
-
     written : slice_get (set row (slot o.end) (Some r)) (slot o.end) ≡ Some (Some r)
     written = get-set_same row (slot o.end) (Some r) old was
 
     -- What the slot holds now.
-    now : (r ≡ o) ⊎ (old ≡ Some r) → IsHeld p table b (n + 1) (slot o.end) r
-    now (inl same) = subst (λ x. IsHeld p table b (n + 1) (slot o.end) x) (sym same) (record { k = n; below = omega arith; offered = offered_o; here = refl })
-    now (inr same) = held_more p table b n (n + 1) (slot o.end) r (omega arith) (is.held (slot o.end) r (was ∙ ap Some same))
+    now : (r ≡ o) ⊎ (old ≡ Some r) → IsHeld p table b m (slot o.end) r
+    now (inl same) = subst (λ x. IsHeld p table b m (slot o.end) x) (sym same) (record { k = by; below = high; offered = offered_o; here = refl })
+    now (inr same) = held_more p table b n m (slot o.end) r (omega arith) (is.held (slot o.end) r (was ∙ ap Some same))
 
     held :
         (s : ℕ) (f : Entry) → slice_get (set row (slot o.end) (Some r)) s ≡ Some (Some f) → (s ≡ slot o.end) ⊎ (s ≡ slot o.end → ⊥)
-        → IsHeld p table b (n + 1) s f
+        → IsHeld p table b m s f
     held s f at (inl same) =
         let there : slice_get (set row (slot o.end) (Some r)) (slot o.end) ≡ Some (Some f) =
         ap (slice_get (set row (slot o.end) (Some r))) (sym same) ∙ at in
         let one : r ≡ f = cc (written, there) in
-        subst (λ x. IsHeld p table b (n + 1) x f) (sym same) (subst (λ x. IsHeld p table b (n + 1) (slot o.end) x) one (now kept.is))
+        subst (λ x. IsHeld p table b m x f) (sym same) (subst (λ x. IsHeld p table b m (slot o.end) x) one (now kept.is))
     held s f at (inr other) =
-        held_more p table b n (n + 1) s f (omega arith) (is.held s f (sym (get-set_other row (slot o.end) s (Some r) other) ∙ at))
+        held_more p table b n m s f (omega arith) (is.held s f (sym (get-set_other row (slot o.end) s (Some r) other) ∙ at))
 
     end_of_r : r.end ≡ o.end
     end_of_r =
         let h = now kept.is in
         let place : r.end.place ≡ b = (offered_at p table b h.k r h.offered).0 in
-        let place_o : o.end.place ≡ b = (offered_at p table b n o offered_o).0 in
+        let place_o : o.end.place ≡ b = (offered_at p table b by o offered_o).0 in
         slot_apart r.end o.end (place ∙ sym place_o) h.here
 
     -- An offer in another slot is met by what stood there, one in this slot by what stands there now.
     spread : (f : Entry) → f.end.place ≡ b → IsMet row f → (slot f.end ≡ slot o.end) ⊎ (slot f.end ≡ slot o.end → ⊥) → IsMet (set row (slot o.end) (Some r)) f
-    spread f at m (inl same) =
-        let there : slice_get row (slot o.end) ≡ Some (Some m.held) = ap (slice_get row) (sym same) ∙ m.stands in
-        let was_held : old ≡ Some m.held = cc (was, there) in
-        let place_o : o.end.place ≡ b = (offered_at p table b n o offered_o).0 in
+    spread f at m_f (inl same) =
+        let there : slice_get row (slot o.end) ≡ Some (Some m_f.held) = ap (slice_get row) (sym same) ∙ m_f.stands in
+        let was_held : old ≡ Some m_f.held = cc (was, there) in
+        let place_o : o.end.place ≡ b = (offered_at p table b by o offered_o).0 in
         let one : f.end ≡ o.end = slot_apart f.end o.end (at ∙ sym place_o) same in
         record {
           held = r;
           stands = ap (slice_get (set row (slot o.end) (Some r))) same ∙ written;
           same = end_of_r ∙ sym one;
-          before = not_after_trans (short r) (short m.held) (short f) (kept.older m.held was_held) m.before;
+          before = not_after_trans (short r) (short m_f.held) (short f) (kept.older m_f.held was_held) m_f.before;
         }
-    spread f at m (inr other) =
+    spread f at m_f (inr other) =
         record {
-          held = m.held;
-          stands = get-set_other row (slot o.end) (slot f.end) (Some r) other ∙ m.stands;
-          same = m.same;
-          before = m.before;
+          held = m_f.held;
+          stands = get-set_other row (slot o.end) (slot f.end) (Some r) other ∙ m_f.stands;
+          same = m_f.same;
+          before = m_f.before;
         }
 
-    met : (k : ℕ) (f : Entry) → k < n + 1 → IsOffered p table b k f → (k < n) ⊎ (n ≤ k) → IsMet (set row (slot o.end) (Some r)) f
+    met : (k : ℕ) (f : Entry) → k < m → IsOffered p table b k f → (k < n) ⊎ (n ≤ k) → IsMet (set row (slot o.end) (Some r)) f
     met k f below offered (inl before) =
         spread f (offered_at p table b k f offered).0 (is.met k f before offered) (cases_eq (slot f.end) (slot o.end))
     met k f below offered (inr behind) =
+        let no_less = least k f behind below offered in
+        record {
+          held = r;
+          stands = ap (λ s. slice_get (set row (slot o.end) (Some r)) (slot s)) no_less.0 ∙ written;
+          same = end_of_r ∙ sym no_less.0;
+          before = not_after_trans (short r) (short o) (short f) kept.offered no_less.1;
+        }
+
+-- An offer that is put into its slot, or what the slot held, whichever is before the other.
+pub row_step :
+    (p : Problem) (table : List Entry) (b n : ℕ) (e o r : Entry) (old : Option Entry) (row : List (Option Entry))
+    → slice_get table n ≡ Some e → offer p e n b ≡ Some o → slice_get row (slot o.end) ≡ Some old → IsKept old o r
+    → IsRow p table b n row → IsRow p table b (n + 1) (set row (slot o.end) (Some r))
+row_step p table b n e o r old row stands offers was kept is =
+    row_best p table b n (n + 1) n o r old row (omega arith) (omega arith) (record { by = e; stands = stands; offers = offers }) was kept alone is
+  where
+    alone : (k : ℕ) (f : Entry) → n ≤ k → k < n + 1 → IsOffered p table b k f → (f.end ≡ o.end) × NotAfter (short o) (short f)
+    alone k f low high offered =
         let same : k ≡ n = omega arith in
         let there : slice_get table n ≡ Some offered.by = ap (slice_get table) (sym same) ∙ offered.stands in
         let one : offered.by ≡ e = same_Some offered.by e (sym there ∙ stands) in
         let some : offer p e n b ≡ Some f = ap (λ x. offer p x n b) (sym one) ∙ ap (λ x. offer p offered.by x b) (sym same) ∙ offered.offers in
         let is_o : o ≡ f = same_Some o f (sym offers ∙ some) in
-        subst (λ x. IsMet (set row (slot o.end) (Some r)) x) is_o
-        (record { held = r; stands = written; same = end_of_r; before = kept.offered })
+        (ap (λ x. x.end) (sym is_o), subst (λ x. NotAfter (short o) (short x)) is_o (not_after_refl (short o)))
 
 -- What a row holds stands behind each other, and nothing else does.
 pub held_has : (row : List (Option Entry)) (s : ℕ) (e : Entry) → slice_get row s ≡ Some (Some e) → (j : ℕ) × (slice_get (held_in row) j ≡ Some e)
@@ -171,15 +187,6 @@ held-append : (front row : List (Option Entry)) → held_in (front ++ row) ≡ h
 held-append [] row = refl
 held-append (None ∷ front) row = held-append front row
 held-append (Some e ∷ front) row = ap (λ xs. e ∷ xs) (held-append front row)
-
--- An offer that is not before what its slot held: the row stays.
-pub row_kept :
-    (p : Problem) (table : List Entry) (b n : ℕ) (e o r : Entry) (old : Option Entry) (row : List (Option Entry))
-    → slice_get table n ≡ Some e → offer p e n b ≡ Some o → slice_get row (slot o.end) ≡ Some old → old ≡ Some r → IsKept old o r
-    → IsRow p table b n row → IsRow p table b (n + 1) row
-row_kept p table b n e o r old row stands offers was there kept is =
-    subst (λ l. IsRow p table b (n + 1) l) (set-get_same row (slot o.end) (Some r) (was ∙ ap Some there))
-    (row_step p table b n e o r old row stands offers was kept is)
 
 -- A row whose first slots were emptied has, in the next one, what it had there.
 emptied_next :

@@ -1,5 +1,5 @@
 -- The table of the best ways so far, one to each state that can be reached (own; no public clause of the crates above speaks of it).
-use Rattle.std.specs.Prelude.{◌≡◌, ◌<◌, ◌≤◌, ◌⊎◌, ◌+◌, ◌*◌, ◌^◌, ◌+ℤ◌, ◌++◌, ℕ, ℤ, pos, nat_le, if◌then◌else◌, List, [], ◌∷◌, length, slice_get, Option, Some, None}
+use Rattle.std.specs.Prelude.{◌≡◌, ◌<◌, ◌≤◌, ◌⊎◌, ◌+◌, ◌*◌, ◌^◌, ◌+ℤ◌, ◌++◌, ℕ, ℤ, pos, nat_le, if◌then◌else◌, List, [], ◌∷◌, length, slice_get, set, Option, Some, None}
 use Rattle.scaled_core.specs.Dimensions.{Within}
 use Rattle.break_table.specs.declared.state.State.{State}
 use Rattle.break_table.specs.declared.state.Line.{Line}
@@ -139,6 +139,14 @@ pub record IsKept (old : Option Entry) (o r : Entry) : Type 0 where
   pub is : (r ≡ o) ⊎ (old ≡ Some r)
   pub offered : NotAfter (short r) (short o)
   pub older : (h : Entry) → old ≡ Some h → NotAfter (short r) (short h)
+
+-- Between two rows an offer was put into its slot, unless what the slot held is not after it.
+pub record IsPut (o : Entry) (old new : List (Option Entry)) : Type 0 where
+  pub held : Option Entry
+  pub stood : slice_get old (slot o.end) ≡ Some held
+  pub kept : Entry
+  pub is_kept : IsKept held o kept
+  pub is : new ≡ set old (slot o.end) (Some kept)
 
 -- What a row holds, in the order of its slots.
 abbrev pub held_in : List (Option Entry) → List Entry

@@ -16,5 +16,5 @@ pub mod state;
 pub use answer::{Least, chosen_list};
 pub use entry::Best;
 pub use group::Group;
-pub use row::{empty_row, improve, keep};
+pub use row::{empty_row, improve, keep, put};
 pub use state::{Class, Line, State};

@@ -1,7 +1,7 @@
 //! The row of a place: to each state the best offer so far.
 
 ghost use Rattle.std.specs.Prelude.{◌≡◌, ◌<◌, ◌≤◌, ◌++◌, length, take, replicate, None, IfSome, IfOk, OnOk, OnErr};
-ghost use Rattle.break_table.specs.Tables.{most_places, slots, held_in, IsSmallLine, IsImproved};
+ghost use Rattle.break_table.specs.Tables.{most_places, slots, held_in, IsSmallLine, IsPut, IsImproved};
 
 use crate::entry::{Best, replaces};
 use crate::state::Line;
@@ -17,6 +17,21 @@ pub fn empty_row(alloc: Global, cut: usize) -> Result<Vec<Option<Best>>, AllocEr
         row.push(None)?;
     }
     Ok(row)
+}
+
+/// Puts an offer into its slot, unless what the slot holds is not after it.
+#[inline(always)]
+pub fn put(row: &mut Vec<Option<Best>>, offered: Best, cut: usize)
+    requires few { cut < 1000 }
+    requires wide { length row.old.items ≡ slots cut }
+    requires counted { offered.end.lines ≤ cut }
+    ensures put { IsPut offered row.old.items row.new.items }
+    ensures wide { length row.new.items ≡ slots cut }
+{
+    let slot = offered.end().slot(cut);
+    if replaces(&row[slot], offered) {
+        row[slot] = Some(offered);
+    }
 }
 
 /// Offers an entry, number `index` of its table, for a place, by its line to there, if there is one.
@@ -40,11 +55,7 @@ pub fn improve(
     let Some(line) = line else {
         return;
     };
-    let offered = entry.extended(index, place, line, cut);
-    let slot = offered.end().slot(cut);
-    if replaces(&row[slot], offered) {
-        row[slot] = Some(offered);
-    }
+    put(row, entry.extended(index, place, line, cut), cut);
 }
 
 /// Appends what a row holds to a table, and takes it out of the row.

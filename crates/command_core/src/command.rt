@@ -4,7 +4,7 @@ ghost use Rattle.std.specs.Prelude.{◌≡◌, ◌<◌};
 ghost use Rattle.std.specs.Option.{SomeIff};
 ghost use Rattle.command_core.specs.BoxForms.{kind_of};
 
-use crate::limits::{COUNTS, REGISTERS};
+use node_core::limits::{COUNTS, REGISTERS};
 use node_core::{FirstLines, Glue, Kind, Number, Rule};
 use pack_core::Target;
 use scaled_core::Dimen;
@@ -12,7 +12,7 @@ use std::marker::Model;
 use tfm_core::{FontName, FontSize, TfmCause};
 use thiserror::Error;
 
-/// The number of a box register: 0 to 255.
+/// The number of a box register: 0 to 32767.
 #[derive(Clone, Copy, Debug, PartialEq, Eq)]
 pub struct Register {
     number: u16,
@@ -20,7 +20,7 @@ pub struct Register {
 
 impl Model for Register {
     ghost use Rattle.std.specs.Prelude.{ℕ, ◌<◌};
-    ghost use Rattle.command_core.specs.declared.limits.TheConstants.{REGISTERS};
+    ghost use Rattle.node_core.specs.declared.limits.TheConstants.{REGISTERS};
 
     ghost Value = { ℕ };
 
@@ -65,7 +65,7 @@ pub struct CountNumber {
 
 impl Model for CountNumber {
     ghost use Rattle.std.specs.Prelude.{ℕ, ◌<◌};
-    ghost use Rattle.command_core.specs.declared.limits.TheConstants.{COUNTS};
+    ghost use Rattle.node_core.specs.declared.limits.TheConstants.{COUNTS};
 
     ghost Value = { ℕ };
 
@@ -99,7 +99,7 @@ impl CountNumber {
     }
 }
 
-/// The characters of a text, as codes of a font.
+/// The bytes of a text: the codes of its characters in a font, or what a special says.
 #[derive(Debug, Drop)]
 pub struct Characters {
     codes: Vec<u8>,
@@ -241,11 +241,11 @@ pub enum Parameter {
     LinePenalty(Number),
     /// What a line costs that does not go with the line before: adjdemerits.
     AdjDemerits(Number),
-    /// The penalty behind the first line of a paragraph: clubpenalty.
+    /// The penalty after the first line of a paragraph: clubpenalty.
     ClubPenalty(Number),
-    /// The penalty behind the last line but one: widowpenalty.
+    /// The penalty after the last line but one: widowpenalty.
     WidowPenalty(Number),
-    /// The penalty behind each line but the last: interlinepenalty.
+    /// The penalty after each line but the last: interlinepenalty.
     InterlinePenalty(Number),
     /// How far pages are moved to the right, in scaled points: hoffset.
     Hoffset(Dimen),
@@ -264,8 +264,8 @@ pub enum Command {
     Open(Opening),
     /// Opens a paragraph inside a vertical list.
     Paragraph,
-    /// Packs the innermost open list and puts the box into its register or behind the enclosing list; or breaks a paragraph into lines, which go behind
-    /// the enclosing list.
+    /// Packs the innermost open list and puts the box into its register or at the end of the enclosing list; or breaks a paragraph into lines, which go
+    /// to the end of the enclosing list.
     End,
     /// Appends a text in the current font to the innermost open list: words with their kerns and ligatures, and a glue for each run of
     /// spaces.
@@ -296,6 +296,8 @@ pub enum Command {
     Set(Parameter),
     /// Gives a count of the pages that follow a value.
     Count(Counting),
+    /// Appends a special to the innermost open list: a text for the reader of the file, which is shown nowhere.
+    Special(Characters),
     /// Makes a page of the box in a register, which becomes void.
     Ship(Register),
 }
@@ -379,6 +381,8 @@ pub enum Refusal {
     TooManyPages,
     #[error("more than 16777216 nodes would be shipped in the job")]
     TooMuchShipped,
+    #[error("a text of a special has more than 65535 bytes, or more than 1048576 bytes of special texts would be shipped in the job")]
+    TooMuchSpecial,
     #[error("the job is to be finished while a list is open")]
     ListsOpen,
     #[error("the device failed during this call")]
@@ -392,7 +396,7 @@ pub enum Refusal {
 /// What a job answers to a command.
 pub type Reply = Result<Answer, Refusal>;
 
-/// What a finished job tells: how many pages it shipped, and how many bytes the device took.
+/// What the end of a job reports: how many pages it shipped, and how many bytes the device took.
 #[derive(Clone, Copy, Debug, PartialEq, Eq)]
 pub struct Summary {
     pub pages: u32,

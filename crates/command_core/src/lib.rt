@@ -3,7 +3,6 @@
 
 pub mod command;
 pub mod laws;
-pub mod limits;
 
 pub use command::{
     Answer, BoxForm, BoxUse, Characters, Command, CountNumber, Counting, FontLoad, Opening,

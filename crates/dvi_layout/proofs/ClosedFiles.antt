@@ -16,7 +16,7 @@ use Rattle.dvi_ops.proofs.Layouts.{says-wrote, definitions-define, instructions-
 use Rattle.dvi_ops.proofs.WholeFile.{frame_of, padding_low, padding_fills, size_of_front}
 use Rattle.ship_core.specs.Marks.{Page}
 use Rattle.ship_core.specs.Pages.{reach_down, reach_right}
-use Rattle.dvi_layout.specs.declared.progress.TheConstants.{MOST_DEEP}
+use Rattle.node_core.specs.declared.limits.TheConstants.{MAX_DEPTH}
 use Rattle.dvi_layout.specs.Fonts.{Slots, AreDefinable}
 use Rattle.dvi_layout.specs.Sheets.{written_body, definitions_of, fresh_slots, in_rising_order, sheet_of}
 use Rattle.dvi_layout.specs.Layout.{slots_after, slots_behind, sheets_of, greatest, closing_of, ended, front, whole}
@@ -120,12 +120,12 @@ pages_writable fonts definable slots s (page ∷ pages) (here, all) fit small =
     all_append IsWritable (sheet_from s.last sheet) (sheets_from next (sheets_of fonts later pages))
     (all_append IsWritable (define sheet.fresh) (Bop page.counts s.last ∷ (flat sheet.body ++ Eop ∷ [])) (all_defined (table_of fonts) sheet.fresh
     (each_of (IsTabled (table_of fonts)) fonts (fresh_slots fonts slots (flat (written_body page))) (λ s l among has. tabled fonts definable s l has)))
-    ((tt, (here.ten, here.counts_fit, fit)), all_append IsWritable (flat sheet.body) (Eop ∷ []) (writable_written (slot_widths fonts) page here.small here.sound.glyphs) ((tt, tt), tt)))
+    ((tt, (here.ten, here.counts_fit, fit)), all_append IsWritable (flat sheet.body) (Eop ∷ []) (writable_written (slot_widths fonts) page here.small here.sound.glyphs (omega (arith, here.text))) ((tt, tt), tt)))
     (pages_writable fonts definable later next pages all (place_fits fonts slots s page pages small) small)
 
 -- Few pushes are open at once in the pages.
-few_pushes : (fonts : Slots) (slots : List ℕ) (s : Written) (pages : List Page) → AllByRecursion (IsRightPage fonts) pages → s.depth ≤ MOST_DEEP
-    → (after_all s (sheets_of fonts slots pages)).depth ≤ MOST_DEEP
+few_pushes : (fonts : Slots) (slots : List ℕ) (s : Written) (pages : List Page) → AllByRecursion (IsRightPage fonts) pages → s.depth ≤ MAX_DEPTH
+    → (after_all s (sheets_of fonts slots pages)).depth ≤ MAX_DEPTH
 few_pushes fonts slots s [] all few = few
 few_pushes fonts slots s (page ∷ pages) (here, all) few =
     few_pushes fonts (slots_after fonts slots page) (after s (sheet_of fonts slots page)) pages all (omega (arith, few, nests_written page, here.sound.depth))

@@ -7,7 +7,7 @@ use Rattle.std.proofs.lemmas.Int.{ints, clamps}
 use Rattle.scaled_core.specs.Dimensions.{Within}
 use Rattle.scaled_core.proofs.Fitting.{fits_within}
 use Rattle.tfm_core.specs.FileWidths.{width_at}
-use Rattle.node_core.specs.Items.{Leaf, Items, glyph, font_kern, kern, glue, penalty, rule, EachLeaf}
+use Rattle.node_core.specs.Items.{Leaf, Items, glyph, font_kern, kern, glue, penalty, rule, special, EachLeaf}
 use Rattle.dvi_ops.specs.Forest.{flat}
 use Rattle.dvi_ops.specs.Instruction.{Definition}
 use Rattle.dvi_ops.specs.Fonts.{Metrics, selections, defined, known_after, font_in as font_by, width_in}
@@ -72,6 +72,7 @@ has_font fonts (font_kern width) sized = tt
 has_font fonts (kern width) sized = tt
 has_font fonts (glue g) sized = tt
 has_font fonts (penalty p) sized = tt
+has_font fonts (special text) sized = tt
 has_font fonts (rule sizes) sized = tt
 
 -- Each font that a page selects is in its slot.
@@ -100,6 +101,7 @@ module _ (metrics : Metrics) (fonts : Slots) (gives : GivesFonts metrics fonts) 
   has_width (kern width) sized = tt
   has_width (glue g) sized = tt
   has_width (penalty p) sized = tt
+  has_width (special text) sized = tt
   has_width (rule sizes) sized = tt
 
   have_widths : (items : Items) → EachLeaf (HasWidth (slot_widths fonts)) items → EachLeaf (HasWidth (table_widths metrics (table_of fonts))) items
@@ -117,7 +119,7 @@ module _ (metrics : Metrics) (fonts : Slots) (gives : GivesFonts metrics fonts) 
           ten = right.ten;
           counts_fit = right.counts_fit;
           fresh = each_of (IsTabled (table_of fonts)) fonts (fresh_slots fonts slots is) (λ s l among has. tabled fonts definable s l has);
-          writable = writable_written (table_widths metrics (table_of fonts)) page right.small widths;
+          writable = writable_written (table_widths metrics (table_of fonts)) page right.small widths (omega (arith, right.text));
           plain = definitions-written page;
           chosen =
               each_selected (IsSlot fonts) (λ f. IsSome (defined f (known_after known (define (definitions_of fonts (fresh_slots fonts slots is)))))) is

@@ -3,7 +3,7 @@ use Rattle.std.proofs.Common.{◌≡◌, ℕ, List, [], ◌∷◌, ◌++◌, len
 use Rattle.std.specs.Prelude.{ℤ, pos, Option, Some, None}
 use Rattle.std.specs.List.{AllByRecursion}
 use Rattle.node_core.specs.declared.tree.BoxNode.{BoxNode}
-use Rattle.node_core.specs.Items.{Leaf, glyph, font_kern, kern, glue, penalty, rule}
+use Rattle.node_core.specs.Items.{Leaf, glyph, font_kern, kern, glue, penalty, rule, special}
 use Rattle.dvi_ops.specs.Forest.{flat}
 use Rattle.dvi_ops.specs.Instruction.{Definition}
 use Rattle.dvi_ops.specs.Layout.{Sheet, at_first, after_all, front_of}
@@ -16,7 +16,7 @@ use Rattle.dvi_layout.specs.declared.fonts.LoadedFont.{LoadedFont}
 use Rattle.dvi_layout.specs.Fonts.{Slots, font_in}
 use Rattle.dvi_layout.specs.MoreFonts.{Extends}
 use Rattle.dvi_layout.specs.Sheets.{written_body, definitions_of, fresh_slots, sheet_of}
-use Rattle.dvi_layout.specs.Layout.{slots_after, slots_behind, sheets_of, greatest, nodes_on, front}
+use Rattle.dvi_layout.specs.Layout.{slots_after, slots_behind, sheets_of, greatest, load_on, front}
 use Rattle.dvi_layout.specs.Shippable.{widths_by, slot_widths, IsShippable, IsRightPage}
 use Rattle.dvi_layout.specs.SoFar.{SoFar, so_far_of}
 use Rattle.dvi_layout.proofs.DefinedFonts.{fresh_parts, among_fresh, fresh_same, definitions_same}
@@ -34,6 +34,7 @@ module _ (fonts more : Slots) (extends : Extends fonts more) where
   leaf_kept (kern width) has = tt
   leaf_kept (glue g) has = tt
   leaf_kept (penalty p) has = tt
+  leaf_kept (special text) has = tt
   leaf_kept (rule sizes) has = tt
 
   -- A box that may be shipped may be shipped with more fonts.
@@ -42,7 +43,7 @@ module _ (fonts more : Slots) (extends : Extends fonts more) where
       record { glyphs = each_leaf (HasWidth (slot_widths fonts)) (HasWidth (slot_widths more)) leaf_kept b.list sound.glyphs; depth = sound.depth }
 
   right_more : (page : Page) → IsRightPage fonts page → IsRightPage more page
-  right_more page right = record { ten = right.ten; counts_fit = right.counts_fit; small = right.small; sound = shippable_more page.box_node right.sound }
+  right_more page right = record { ten = right.ten; counts_fit = right.counts_fit; small = right.small; text = right.text; sound = shippable_more page.box_node right.sound }
 
   pub pages_more : (pages : List Page) → AllByRecursion (IsRightPage fonts) pages → AllByRecursion (IsRightPage more) pages
   pages_more pages all = all_weaker (IsRightPage fonts) (IsRightPage more) pages right_more all
@@ -89,7 +90,7 @@ module _ (fonts more : Slots) (extends : Extends fonts more) where
         wide = greatest reach_right pages;
         deep = (after_all at_first sheets).depth;
         pages = length pages;
-        nodes = nodes_on pages;
+        load = load_on pages;
       } in
       ap (λ sheets. made sheets (front fonts pages) (slots_behind fonts [] pages)) (sheets_more [] pages all)
       ∙ ap₂ (λ bytes slots. made (sheets_of more [] pages) bytes slots) (front_more pages all) (slots_more [] pages all)

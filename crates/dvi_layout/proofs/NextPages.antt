@@ -9,12 +9,13 @@ use Rattle.dvi_ops.specs.Layout.{Sheet, Written, at_first, after, after_all, byt
 use Rattle.dvi_ops.specs.Spelling.{spelling, operand}
 use Rattle.dvi_ops.proofs.Layouts.{length-bytes_of-append}
 use Rattle.dvi_ops.proofs.WholeFile.{front_more, after_all-append, size_of_front}
-use Rattle.node_core.specs.Nodes.{box_count}
+use Rattle.node_core.specs.declared.tree.BoxNode.{BoxNode}
+use Rattle.node_core.specs.Loads.{Load, heavier}
 use Rattle.ship_core.specs.Marks.{Page}
 use Rattle.ship_core.specs.Pages.{reach_down, reach_right}
 use Rattle.dvi_layout.specs.Fonts.{Slots}
 use Rattle.dvi_layout.specs.Sheets.{sheet_of}
-use Rattle.dvi_layout.specs.Layout.{slots_after, slots_behind, sheets_of, greatest, nodes_on, closing_of, ended, front, whole}
+use Rattle.dvi_layout.specs.Layout.{slots_after, slots_behind, sheets_of, greatest, load_on, closing_of, ended, front, whole}
 use Rattle.dvi_layout.specs.SoFar.{SoFar, so_far_of, opening, bytes_before, next_bytes, with_next, closing_so_far, last_bytes}
 
 -- The preamble stands before the first page alone.
@@ -48,9 +49,16 @@ greatest-append : (size : Page → ℤ) (pages : List Page) (page : Page) → gr
 greatest-append size [] page = omega (arith, ints, clamps)
 greatest-append size (p ∷ pages) page = omega (arith, ints, clamps, greatest-append size pages page)
 
-nodes_on-append : (pages : List Page) (page : Page) → nodes_on (pages ++ page ∷ []) ≡ nodes_on pages + box_count page.box_node
-nodes_on-append [] page = omega arith
-nodes_on-append (p ∷ pages) page = omega (arith, nodes_on-append pages page)
+abbrev loaded : ℕ → ℕ → Load
+loaded nodes text = record { nodes = nodes; text = text }
+
+heavier-turned : (load : Load) (a b : BoxNode) → heavier (heavier load a) b ≡ heavier (heavier load b) a
+heavier-turned load a b = ap₂ loaded (omega arith) (omega arith)
+
+load_on-append : (pages : List Page) (page : Page) → load_on (pages ++ page ∷ []) ≡ heavier (load_on pages) page.box_node
+load_on-append [] page = refl
+load_on-append (p ∷ pages) page =
+    ap (λ (load : Load). heavier load p.box_node) (load_on-append pages page) ∙ heavier-turned (load_on pages) page.box_node p.box_node
 
 pub length-sheets : (fonts : Slots) (defined : List ℕ) (pages : List Page) → length (sheets_of fonts defined pages) ≡ length pages
 length-sheets fonts defined [] = refl
@@ -90,15 +98,15 @@ bop_place fonts [] page =
 bop_place fonts (p ∷ pages) page =
     omega (arith, size_of_front (sheets_of fonts [] (p ∷ pages)))
 
-abbrev made : ℤ → ℕ → List ℕ → ℤ → ℤ → ℕ → ℕ → ℕ → SoFar
-made a c e g i k m o = record { last = a; size = c; defined = e; tall = g; wide = i; deep = k; pages = m; nodes = o }
+abbrev made : ℤ → ℕ → List ℕ → ℤ → ℤ → ℕ → ℕ → Load → SoFar
+made a c e g i k m o = record { last = a; size = c; defined = e; tall = g; wide = i; deep = k; pages = m; load = o }
 
-same_parts : {a b : ℤ} {c d : ℕ} {e f : List ℕ} {g h i j : ℤ} {k l m n o p : ℕ} → a ≡ b → c ≡ d → e ≡ f → g ≡ h → i ≡ j → k ≡ l → m ≡ n → o ≡ p
+same_parts : {a b : ℤ} {c d : ℕ} {e f : List ℕ} {g h i j : ℤ} {k l m n : ℕ} {o p : Load} → a ≡ b → c ≡ d → e ≡ f → g ≡ h → i ≡ j → k ≡ l → m ≡ n → o ≡ p
     → made a c e g i k m o ≡ made b d f h j l n p
 same_parts {b = b} {d = d} {e = e} {f = f} {g = g} {h = h} {i = i} {j = j} {k = k} {l = l} {m = m} {o = o} p1 p2 p3 p4 p5 p6 p7 p8 =
     ap₂ (λ (x : ℤ) (y : ℕ). made x y e g i k m o) p1 p2
     ∙ (ap₂ (λ (x : List ℕ) (y : ℤ). made b d x y i k m o) p3 p4
-    ∙ (ap₂ (λ (x : ℤ) (y : ℕ). made b d f h x y m o) p5 p6 ∙ ap₂ (λ (x y : ℕ). made b d f h j l x y) p7 p8))
+    ∙ (ap₂ (λ (x : ℤ) (y : ℕ). made b d f h x y m o) p5 p6 ∙ ap₂ (λ (x : ℕ) (y : Load). made b d f h j l x y) p7 p8))
 
 -- What is kept of one page more.
 pub so_far-append : (fonts : Slots) (pages : List Page) (page : Page) → so_far_of fonts (pages ++ page ∷ []) ≡ with_next fonts (so_far_of fonts pages) page
@@ -115,7 +123,7 @@ so_far-append fonts pages page =
     (greatest-append reach_right pages page)
     (ap (λ (w : Written). w.depth) behind)
     (length-append pages (page ∷ []))
-    (nodes_on-append pages page)
+    (load_on-append pages page)
 
 -- The bytes from post on, in the layout's words.
 last_bytes-is : (fonts : Slots) (pages : List Page) → pages ≢ []

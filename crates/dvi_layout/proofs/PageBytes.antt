@@ -6,7 +6,7 @@ use Rattle.std.proofs.lemmas.List.{map-append}
 use Rattle.std.specs.List.{flat_map}
 use Rattle.node_core.specs.declared.tree.BoxNode.{BoxNode}
 use Rattle.node_core.specs.Items.{EachLeaf}
-use Rattle.node_core.specs.Nodes.{box_count}
+use Rattle.node_core.specs.Nodes.{box_count, box_text}
 use Rattle.dvi_ops.specs.Instruction.{Definition, FontDef, Instruction, Do, Bop, Eop}
 use Rattle.dvi_ops.specs.Body.{Widths}
 use Rattle.dvi_ops.specs.Forest.{flat}
@@ -88,7 +88,7 @@ definition_bytes fonts (s ∷ slots) short =
 pub sheet_bytes : (widths : Widths) (fonts : Slots) (slots : List ℕ) (page : Page) (last : ℤ) → HasShortNames fonts → length page.counts ≡ 10
     → EachLeaf (HasWidth widths) page.box_node.list
     → length (bytes_of (sheet_from last (sheet_of fonts slots page)))
-    ≤ 46 + 19 * box_count page.box_node + 271 * length (fresh_slots fonts slots (flat (written_body page)))
+    ≤ 46 + 19 * box_count page.box_node + box_text page.box_node + 271 * length (fresh_slots fonts slots (flat (written_body page)))
 sheet_bytes widths fonts slots page last short ten sized =
     let bop = Bop page.counts last in
     let fresh = fresh_slots fonts slots (flat (written_body page)) in
@@ -106,5 +106,5 @@ sheet_bytes widths fonts slots page last short ten sized =
     )
 
 pub page_bytes : (widths : Widths) (fonts : Slots) (slots : List ℕ) (b : BoxNode) (last : ℤ) → HasShortNames fonts → EachLeaf (HasWidth widths) b.list
-    → length (bytes_of (sheet_from last (sheet_of fonts slots (page_of b)))) ≤ 46 + 19 * box_count b + 271 * length (fresh_slots fonts slots (flat (written_body (page_of b))))
+    → length (bytes_of (sheet_from last (sheet_of fonts slots (page_of b)))) ≤ 46 + 19 * box_count b + box_text b + 271 * length (fresh_slots fonts slots (flat (written_body (page_of b))))
 page_bytes widths fonts slots b last short sized = sheet_bytes widths fonts slots (page_of b) last short refl sized

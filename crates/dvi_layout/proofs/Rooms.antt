@@ -7,10 +7,11 @@ use Rattle.std.specs.Prelude.{Bool, true, false, Some, None, nat_le, nat_lt, if�
 use Rattle.std.proofs.lemmas.Bool.{leb-false, ltb-false}
 use Rattle.dvi_ops.specs.Spelling.{spelling, operand}
 use Rattle.dvi_ops.proofs.Layouts.{length-bytes_of-append}
-use Rattle.node_core.specs.Nodes.{box_count}
+use Rattle.node_core.specs.Items.{items_text}
+use Rattle.node_core.specs.Nodes.{box_count, box_text}
 use Rattle.ship_core.specs.Marks.{Page, is_huge}
-use Rattle.dvi_layout.specs.declared.progress.WriteFault.TheVariants.{TooManyPages, TooMuchShipped, HugePage}
-use Rattle.dvi_layout.specs.declared.progress.TheConstants.{MOST_PAGES, MOST_SHIPPED}
+use Rattle.dvi_layout.specs.declared.progress.WriteFault.TheVariants.{TooManyPages, TooMuchShipped, TooMuchSpecial, HugePage}
+use Rattle.node_core.specs.declared.limits.TheConstants.{MAX_PAGES, MAX_SHIPPED_NODES, MAX_SHIPPED_TEXT}
 use Rattle.dvi_layout.specs.declared.fonts.LoadedFont.{LoadedFont}
 use Rattle.dvi_layout.specs.Fonts.{Slots, font_in, IsDefinable, AreDefinable}
 use Rattle.dvi_layout.specs.Shippable.{IsShippable, slot_widths}
@@ -23,10 +24,10 @@ use Rattle.dvi_layout.proofs.PageBytes.{HasShortNames, sheet_bytes}
 use Rattle.dvi_layout.proofs.WrittenBodies.{nests_written}
 
 pub small : (s : SoFar) → HasRoom s → s.size < 2 ^ 31
-small s room = omega (arith, room.nodes, room.pages, room.size, few_defined s.defined room.defined)
+small s room = omega (arith, room.nodes, room.text, room.pages, room.size, few_defined s.defined room.defined)
 
 pub first_room : HasRoom nothing_so_far
-first_room = record { nodes = omega arith; pages = omega arith; deep = omega arith; defined = none_rising; size = omega arith; empty = λ none. refl }
+first_room = record { nodes = omega arith; text = omega arith; pages = omega arith; deep = omega arith; defined = none_rising; size = omega arith; empty = λ none. refl }
 
 -- The bytes of the next page, with its definitions among what stands before its bop.
 pub next-is : (fonts : Slots) (s : SoFar) (page : Page) (bytes slots : List ℕ) (is : List Instruction)
@@ -45,6 +46,11 @@ unfolding with_next
 next_small fonts s page bytes slots is room fresh body same =
     omega (arith, small (with_next fonts s page) room, ap length (next-is fonts s page bytes slots is fresh body same))
 
+-- The texts of the specials of the page can be spelled.
+pub next_short : (fonts : Slots) (s : SoFar) (page : Page) → HasRoom (with_next fonts s page) → items_text page.box_node.list < 2 ^ 32
+unfolding with_next
+next_short fonts s page room = omega (arith, room.text)
+
 pub next_few : (fonts : Slots) (s : SoFar) (page : Page) (slots : List ℕ) → HasRoom (with_next fonts s page) → slots ≡ fresh_slots fonts s.defined (flat (written_body page))
     → length s.defined + length slots ≤ 256
 unfolding with_next
@@ -59,48 +65,61 @@ definable_in fonts slot loaded all is =
 pub short_names : (fonts : Slots) → AreDefinable fonts → HasShortNames fonts
 short_names fonts all s l has = let of = definable_in fonts s l all has in (of.1, of.0.name.few)
 
--- What holds where no limit is met.
+-- What holds where no limit is met, whether the page is huge or not.
 pub record Admits (s : SoFar) (page : Page) : Type 0 where
-  pub pages : nat_le MOST_PAGES s.pages ≡ false
-  pub nodes : nat_lt MOST_SHIPPED (s.nodes + box_count page.box_node) ≡ false
-  pub small : is_huge page ≡ false
+  pub pages : nat_le MAX_PAGES s.pages ≡ false
+  pub nodes : nat_lt MAX_SHIPPED_NODES (s.load.nodes + box_count page.box_node) ≡ false
+  pub text : nat_lt MAX_SHIPPED_TEXT (s.load.text + box_text page.box_node) ≡ false
 
-pub admitted : (s : SoFar) (page : Page) → limit_of s page ≡ None → Admits s page
-admitted s page none = by_tests (nat_le MOST_PAGES s.pages) (nat_lt MOST_SHIPPED (s.nodes + box_count page.box_node)) (is_huge page) refl refl refl none
+pub admitted : (s : SoFar) (page : Page) → limit_of s page ≡ (if is_huge page then Some HugePage else None) → Admits s page
+admitted s page none =
+    by_tests (nat_le MAX_PAGES s.pages) (nat_lt MAX_SHIPPED_NODES (s.load.nodes + box_count page.box_node)) (nat_lt MAX_SHIPPED_TEXT (s.load.text + box_text page.box_node)) (is_huge page) refl refl refl none
   where
-    by_tests : (a b c : Bool) → nat_le MOST_PAGES s.pages ≡ a → nat_lt MOST_SHIPPED (s.nodes + box_count page.box_node) ≡ b → is_huge page ≡ c
-        → (if a then Some TooManyPages else if b then Some TooMuchShipped else if c then Some HugePage else None) ≡ None → Admits s page
-    by_tests true b c first second third none = cc
-    by_tests false true c first second third none = cc
-    by_tests false false true first second third none = cc
-    by_tests false false false first second third none = record { pages = first; nodes = second; small = third }
+    by_tests : (a b t c : Bool) → nat_le MAX_PAGES s.pages ≡ a → nat_lt MAX_SHIPPED_NODES (s.load.nodes + box_count page.box_node) ≡ b
+        → nat_lt MAX_SHIPPED_TEXT (s.load.text + box_text page.box_node) ≡ t
+        → (if a then Some TooManyPages else if b then Some TooMuchShipped else if t then Some TooMuchSpecial else if c then Some HugePage else None)
+        ≡ (if c then Some HugePage else None) → Admits s page
+    by_tests true b t true first second third none = cc
+    by_tests true b t false first second third none = cc
+    by_tests false true t true first second third none = cc
+    by_tests false true t false first second third none = cc
+    by_tests false false true true first second third none = cc
+    by_tests false false true false first second third none = cc
+    by_tests false false false c first second third none = record { pages = first; nodes = second; text = third }
+
+-- The texts of the specials of the page are within the limit of a job.
+pub few_text : (s : SoFar) (page : Page) → limit_of s page ≡ (if is_huge page then Some HugePage else None) → box_text page.box_node ≤ MAX_SHIPPED_TEXT
+few_text s page none = omega (arith, ltb-false MAX_SHIPPED_TEXT (s.load.text + box_text page.box_node) (admitted s page none).text)
 
 -- Nothing was sent before the preamble.
-opening_fills : (n size nodes fonts : ℕ) → size ≤ 15 + 46 * n + 19 * nodes + 271 * fonts → (n ≡ 0 → size ≡ 0)
-    → size + length (bytes_of (opening n)) ≤ 15 + 46 * n + 19 * nodes + 271 * fonts
+opening_fills : (n size nodes text fonts : ℕ) → size ≤ 15 + 46 * n + 19 * nodes + text + 271 * fonts → (n ≡ 0 → size ≡ 0)
+    → size + length (bytes_of (opening n)) ≤ 15 + 46 * n + 19 * nodes + text + 271 * fonts
 unfolding spelling operand
-opening_fills zero size nodes fonts fits none = omega (arith, none refl)
-opening_fills (suc n) size nodes fonts fits none = omega (arith, fits)
+opening_fills zero size nodes text fonts fits none = omega (arith, none refl)
+opening_fills (suc n) size nodes text fonts fits none = omega (arith, fits)
 
 -- There is room with one page more.
-pub room_next : (fonts : Slots) (s : SoFar) (page : Page) → AreDefinable fonts → IsShippable fonts page.box_node → length page.counts ≡ 10 → limit_of s page ≡ None
+pub room_next : (fonts : Slots) (s : SoFar) (page : Page) → AreDefinable fonts → IsShippable fonts page.box_node → length page.counts ≡ 10
+    → limit_of s page ≡ (if is_huge page then Some HugePage else None)
     → HasRoom s → HasRoom (with_next fonts s page)
 unfolding with_next next_bytes
 room_next fonts s page definable sound ten none room =
     let admits = admitted s page none in
-    let nodes = ltb-false MOST_SHIPPED (s.nodes + box_count page.box_node) admits.nodes in
-    let pages = leb-false MOST_PAGES s.pages admits.pages in
+    let nodes = ltb-false MAX_SHIPPED_NODES (s.load.nodes + box_count page.box_node) admits.nodes in
+    let text = ltb-false MAX_SHIPPED_TEXT (s.load.text + box_text page.box_node) admits.text in
+    let pages = leb-false MAX_PAGES s.pages admits.pages in
     let fresh = fresh_slots fonts s.defined (flat (written_body page)) in
     let sheet = sheet_from s.last (sheet_of fonts s.defined page) in
     record {
       nodes = omega (arith, nodes);
+      text = omega (arith, text);
       pages = omega (arith, pages);
       deep = omega (arith, room.deep, nests_written page, sound.depth);
       defined = defined_once fonts s.defined (flat (written_body page)) room.defined;
       size =
           omega (
             arith,
-            opening_fills s.pages s.size s.nodes (length s.defined) room.size room.empty,
+            opening_fills s.pages s.size s.load.nodes s.load.text (length s.defined) room.size room.empty,
             length-bytes_of-append (opening s.pages) sheet,
             length-append s.defined fresh,
             sheet_bytes (slot_widths fonts) fonts s.defined page s.last (short_names fonts definable) ten sound.glyphs,

@@ -1,9 +1,9 @@
 -- What is known of the drawn body of a page holds of its body as it is written.
-use Rattle.std.proofs.Common.{◌≡◌, ◌≤◌, ◌*◌, [], ◌∷◌, List, Some, length, refl, sym, ◌∙◌, subst, arith}
+use Rattle.std.proofs.Common.{◌≡◌, ◌≤◌, ◌<◌, ◌+◌, ◌^◌, ◌*◌, [], ◌∷◌, List, Some, length, refl, sym, ◌∙◌, subst, arith}
 use Rattle.std.specs.Prelude.{ℤ, false}
 use Rattle.std.specs.List.{AllByRecursion}
 use Rattle.std.proofs.lemmas.Grind.{flat_map-append}
-use Rattle.node_core.specs.Items.{EachLeaf, items_count, items_depth}
+use Rattle.node_core.specs.Items.{EachLeaf, items_count, items_depth, items_text}
 use Rattle.dvi_ops.specs.Instruction.{Leaf, Move, Instruction, Do, Pop}
 use Rattle.dvi_ops.specs.Body.{State, Widths, acts, kept, start}
 use Rattle.dvi_ops.specs.Forest.{Forest, Empty, Then, Group, flat, meaning, nests}
@@ -33,13 +33,13 @@ nests_written page = omega (arith, reused_nests (body_of page), nests_page page)
 
 -- It takes no more bytes than what is drawn.
 pub written_bytes : (widths : Widths) (page : Page) → EachLeaf (HasWidth widths) page.box_node.list
-    → length (bytes_of (flat (written_body page))) ≤ 19 * items_count page.box_node.list
+    → length (bytes_of (flat (written_body page))) ≤ 19 * items_count page.box_node.list + items_text page.box_node.list
 written_bytes widths page sized = omega (arith, reused_length (body_of page), body_bytes widths page sized)
 
 -- It can be written.
-pub writable_written : (widths : Widths) (page : Page) → is_huge page ≡ false → EachLeaf (HasWidth widths) page.box_node.list
+pub writable_written : (widths : Widths) (page : Page) → is_huge page ≡ false → EachLeaf (HasWidth widths) page.box_node.list → items_text page.box_node.list < 2 ^ 32
     → AllByRecursion IsWritable (flat (written_body page))
-writable_written widths page small sized = reused_fits (body_of page) (writable_page widths page small sized)
+writable_written widths page small sized few = reused_fits (body_of page) (writable_page widths page small sized few)
 
 -- It defines no font, and selects those that are selected in what is drawn.
 pub definitions-written : (page : Page) → definitions (flat (written_body page)) ≡ []
@@ -78,7 +78,7 @@ spelled_still (Group inner rest) all =
     )
 
 -- Each of its instructions can be spelled, whether the page is huge or not.
-pub spelled_written : (page : Page) → AllByRecursion HasSpelling (flat (written_body page))
-spelled_written page =
+pub spelled_written : (page : Page) → items_text page.box_node.list < 2 ^ 32 → AllByRecursion HasSpelling (flat (written_body page))
+spelled_written page few =
     spelled_still (reused (body_of page))
-    (subst (AllByRecursion IsSpelled) (sym (reused_order (body_of page))) (still_spelled (flat (body_of page)) (spelled_page page)))
+    (subst (AllByRecursion IsSpelled) (sym (reused_order (body_of page))) (still_spelled (flat (body_of page)) (spelled_page page few)))

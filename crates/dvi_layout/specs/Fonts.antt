@@ -4,7 +4,7 @@ use Rattle.std.specs.List.{AllByRecursion}
 use Rattle.tfm_core.specs.NamedBytes.{IsFontName}
 use Rattle.tfm_core.specs.Fonts.{HasNumbers}
 use Rattle.dvi_layout.specs.declared.fonts.LoadedFont.{LoadedFont}
-use Rattle.dvi_layout.specs.declared.fonts.TheConstants.{FONT_SLOTS}
+use Rattle.node_core.specs.declared.limits.TheConstants.{FONT_SLOTS}
 
 -- The fonts of the slots, from slot 0 on.
 abbrev pub Slots : Type 0

@@ -5,7 +5,7 @@ use Rattle.std.specs.Int.{int_max}
 use Rattle.dvi_ops.specs.Forest.{flat}
 use Rattle.dvi_ops.specs.Instruction.{Definition}
 use Rattle.dvi_ops.specs.Layout.{Sheet, front_of, whole_of, padding_after}
-use Rattle.node_core.specs.Nodes.{box_count}
+use Rattle.node_core.specs.Loads.{Load, heavier}
 use Rattle.ship_core.specs.Marks.{Page}
 use Rattle.ship_core.specs.Pages.{reach_down, reach_right}
 use Rattle.dvi_layout.specs.Fonts.{Slots}
@@ -30,10 +30,10 @@ abbrev pub greatest : (Page → ℤ) → List Page → ℤ
 greatest size [] = pos 0
 greatest size (page ∷ pages) = int_max (size page) (greatest size pages)
 
--- How many nodes the boxes of pages have.
-abbrev pub nodes_on : List Page → ℕ
-nodes_on [] = 0
-nodes_on (page ∷ pages) = box_count page.box_node + nodes_on pages
+-- How many nodes the boxes of pages have, and how many bytes the texts of their specials.
+abbrev pub load_on : List Page → Load
+load_on [] = record { nodes = 0; text = 0 }
+load_on (page ∷ pages) = heavier (load_on pages) page.box_node
 
 -- The definitions of the postamble: those of all fonts that the pages define, in rising order of the slots.
 abbrev pub closing_of : Slots → List Page → List Definition

@@ -4,7 +4,7 @@ use Rattle.std.specs.List.{AllByRecursion}
 use Rattle.tfm_core.specs.FileWidths.{width_at}
 use Rattle.node_core.specs.declared.tree.BoxNode.{BoxNode}
 use Rattle.node_core.specs.Items.{EachLeaf}
-use Rattle.node_core.specs.Nodes.{box_depth}
+use Rattle.node_core.specs.Nodes.{box_depth, box_text}
 use Rattle.dvi_ops.specs.Body.{Widths}
 use Rattle.dvi_ops.specs.Fonts.{Metrics, width_in}
 use Rattle.dvi_ops.specs.File.{MarkedPage, IsFile}
@@ -14,7 +14,7 @@ use Rattle.ship_core.specs.Pages.{page_at}
 use Rattle.ship_core.specs.Shown.{HasWidth}
 use Rattle.dvi_layout.specs.declared.fonts.LoadedFont.{LoadedFont}
 use Rattle.dvi_layout.specs.declared.progress.Offsets.{Offsets}
-use Rattle.dvi_layout.specs.declared.progress.TheConstants.{MOST_DEEP}
+use Rattle.node_core.specs.declared.limits.TheConstants.{MAX_DEPTH, MAX_SHIPPED_TEXT}
 use Rattle.dvi_layout.specs.Fonts.{Slots, font_in}
 
 -- The widths of a font's characters, if there is a font.
@@ -27,10 +27,10 @@ abbrev pub slot_widths : Slots → Widths
 slot_widths fonts (pos slot) c = width_in (widths_by (font_in fonts slot)) c
 slot_widths fonts (negsuc n) c = None
 
--- A box is at most `MOST_DEEP` deep, and each glyph in it, in its inner boxes too, has the width of its character in the font of its slot.
+-- A box is at most `MAX_DEPTH` deep, and each glyph in it, in its inner boxes too, has the width of its character in the font of its slot.
 pub record IsShippable (fonts : Slots) (b : BoxNode) : Type 0 where
   pub glyphs : EachLeaf (HasWidth (slot_widths fonts)) b.list
-  pub depth : box_depth b ≤ MOST_DEEP
+  pub depth : box_depth b ≤ MAX_DEPTH
 
 -- The page of a box with these counts: its reference point is `offsets.h` to the right of the origin, and its height and `offsets.v` below it
 -- (TeX: The Program, part 32, §640 and §641).
@@ -42,6 +42,7 @@ pub record IsRightPage (fonts : Slots) (page : Page) : Type 0 where
   pub ten : length page.counts ≡ 10
   pub counts_fit : AllByRecursion NumberFits page.counts
   pub small : is_huge page ≡ false
+  pub text : box_text page.box_node ≤ MAX_SHIPPED_TEXT
   pub sound : IsShippable fonts page.box_node
 
 -- Metrics that give the widths of these fonts, each by its name and its size.

@@ -5,15 +5,16 @@ use Rattle.dvi_ops.specs.declared.opcodes.TheConstants.{FORMAT, PADDING}
 use Rattle.dvi_ops.specs.Forest.{nests}
 use Rattle.dvi_ops.specs.Instruction.{Instruction, Post, PostPost, Postamble}
 use Rattle.dvi_ops.specs.Layout.{at_first, after_all, bytes_of, define, preamble, scaled_points, sheet_from, padding_after}
-use Rattle.node_core.specs.Nodes.{box_count}
+use Rattle.node_core.specs.Loads.{Load, heavier}
 use Rattle.ship_core.specs.Marks.{Page}
 use Rattle.ship_core.specs.Pages.{reach_down, reach_right}
 use Rattle.dvi_layout.specs.Fonts.{Slots}
 use Rattle.dvi_layout.specs.Sheets.{written_body, definitions_of, in_rising_order, sheet_of}
-use Rattle.dvi_layout.specs.Layout.{slots_after, slots_behind, sheets_of, greatest, nodes_on, front}
+use Rattle.dvi_layout.specs.Layout.{slots_after, slots_behind, sheets_of, greatest, load_on, front}
 
 -- The place of the last bop, or -1; how many bytes there are up to the last eop; the slots of the fonts that they define, in order; the greatest
--- reaches of the pages, at least 0; the most pushes that are open at once in a page; and how many pages and nodes there are.
+-- reaches of the pages, at least 0; the most pushes that are open at once in a page; how many pages there are; and what
+-- they hold together.
 pub record SoFar : Type 0 where
   pub last : ℤ
   pub size : ℕ
@@ -22,11 +23,11 @@ pub record SoFar : Type 0 where
   pub wide : ℤ
   pub deep : ℕ
   pub pages : ℕ
-  pub nodes : ℕ
+  pub load : Load
 
 -- What is kept of no page.
 abbrev pub nothing_so_far : SoFar
-nothing_so_far = record { last = negsuc 0; size = 0; defined = []; tall = pos 0; wide = pos 0; deep = 0; pages = 0; nodes = 0 }
+nothing_so_far = record { last = negsuc 0; size = 0; defined = []; tall = pos 0; wide = pos 0; deep = 0; pages = 0; load = record { nodes = 0; text = 0 } }
 
 -- What is kept of these pages: the numbers of their layout.
 abbrev pub so_far_of : Slots → List Page → SoFar
@@ -39,7 +40,7 @@ so_far_of fonts pages =
       wide = greatest reach_right pages;
       deep = (after_all at_first (sheets_of fonts [] pages)).depth;
       pages = length pages;
-      nodes = nodes_on pages;
+      load = load_on pages;
     }
 
 -- What stands before a page and its definitions, when there are that many pages: the preamble before the first.
@@ -66,7 +67,7 @@ with_next fonts s page =
       wide = int_max s.wide (reach_right page);
       deep = max s.deep (nests (written_body page));
       pages = s.pages + 1;
-      nodes = s.nodes + box_count page.box_node;
+      load = heavier s.load page.box_node;
     }
 
 -- What post says (TeX: The Program, part 32, §642).

@@ -2,7 +2,7 @@
 
 ghost use Rattle.std.specs.Prelude.{◌≡◌, ◌<◌, ◌≤◌, ◌+◌, ◌++◌, [], ◌∷◌, length};
 
-use crate::fonts::FONT_SLOTS;
+use node_core::limits::FONT_SLOTS;
 use std::marker::Model;
 
 /// The slots of the fonts that are defined, in the order of their definitions: as many as there are slots at most. They take no memory.
@@ -14,7 +14,7 @@ pub struct DefinedSlots {
 
 impl Model for DefinedSlots {
     ghost use Rattle.std.specs.Prelude.{◌≤◌, ℕ, List, take};
-    ghost use Rattle.dvi_layout.specs.declared.fonts.TheConstants.{FONT_SLOTS};
+    ghost use Rattle.node_core.specs.declared.limits.TheConstants.{FONT_SLOTS};
 
     ghost Value = { List ℕ };
 

@@ -3,12 +3,10 @@
 ghost use Rattle.std.specs.Prelude.{◌≡◌, List, Option, Some, None, IfOk, OnOk, option_copied, replicate, slice_set};
 ghost use Rattle.dvi_layout.specs.Fonts.{font_in, IsDefinable, AreDefinable};
 
+use node_core::limits::FONT_SLOTS;
 use std::alloc::{AllocError, Global};
 use std::marker::Model;
 use tfm_core::{Font, FontName};
-
-/// How many slots there are for fonts.
-pub const FONT_SLOTS: usize = 256;
 
 /// A font that was read, with the name of its file.
 #[derive(Debug, Drop)]

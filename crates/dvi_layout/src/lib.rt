@@ -8,6 +8,4 @@ mod layout;
 pub mod progress;
 
 pub use fonts::{Fonts, LoadedFont};
-pub use progress::{
-    MOST_DEEP, MOST_PAGES, MOST_SHIPPED, NextPage, Offsets, Progress, WriteFault, limits_of_a_file,
-};
+pub use progress::{NextPage, Offsets, PageLoad, Progress, WriteFault};

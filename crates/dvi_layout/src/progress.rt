@@ -1,6 +1,6 @@
 //! What the writer keeps of the pages that it has sent, and the bytes that it sends next (DVItype, 13 to 20).
 
-ghost use Rattle.std.specs.Prelude.{◌≡◌, ◌<◌, ◌≤◌, ◌+◌, ◌^◌, ◌++◌, ◌+ℤ◌, [], ◌∷◌, ℤ, List, None, Some, true, false, max, pos, length, map, OnOk, OnErr, IfOk, IfErr};
+ghost use Rattle.std.specs.Prelude.{◌≡◌, ◌<◌, ◌≤◌, ◌+◌, ◌^◌, ◌++◌, ◌+ℤ◌, [], ◌∷◌, ℤ, List, None, Some, true, false, max, pos, length, map, if◌then◌else◌, OnOk, OnErr, IfOk, IfErr};
 ghost use Rattle.std.specs.Int.{int_max};
 ghost use Rattle.std.specs.List.{AllByRecursion};
 ghost use Rattle.dvi_ops.specs.Instruction.{Bop, Eop, Post};
@@ -9,46 +9,32 @@ ghost use Rattle.dvi_ops.specs.Forest.{Forest, flat, nests};
 ghost use Rattle.dvi_ops.specs.Layout.{bytes_of, define};
 ghost use Rattle.dvi_ops.specs.Spelling.{HasSpelling};
 ghost use Rattle.dvi_ops.specs.View.{view};
-ghost use Rattle.node_core.specs.Nodes.{box_count};
+ghost use Rattle.node_core.specs.Nodes.{box_count, box_text};
 ghost use Rattle.scaled_core.specs.Dimensions.{fits};
 ghost use Rattle.ship_core.specs.Marks.{is_huge};
 ghost use Rattle.ship_core.specs.Pages.{page_at, reach_down, reach_right};
 ghost use Rattle.dvi_layout.specs.Sheets.{definitions_of, written_body};
 ghost use Rattle.dvi_layout.specs.SoFar.{closing_so_far, last_bytes, next_bytes, nothing_so_far, opening, stop_so_far, with_next};
 ghost use Rattle.dvi_layout.specs.Limits.{HasRoom, limit_of};
-ghost use Rattle.dvi_layout.specs.declared.fonts.TheConstants.{FONT_SLOTS};
 
 use crate::defined::DefinedSlots;
 use crate::fonts::Fonts;
 use crate::layout::{
-    SCALED_POINTS, append_all, append_both, append_definitions, append_padding, fresh_slots,
-    in_rising_order, page_ops,
+    SCALED_POINTS, append_all, append_definitions, append_padding, append_page, fresh_slots,
+    in_rising_order,
 };
 use dvi_ops::{Op, Postamble, opcodes};
 use move_core::reuse;
 use node_core::BoxNode;
+use node_core::limits::{MAX_PAGES, MAX_SHIPPED_NODES, MAX_SHIPPED_TEXT};
 use scaled_core::Dimen;
-use ship_core::{PagePoint, draw_page, is_huge, push_depth};
+use ship_core::{PagePoint, ShipFault, plan_with_room, push_depth};
 use std::alloc::{AllocError, Global};
 use std::marker::Model;
 use thiserror::Error;
 
-/// How many pages a file may have.
-pub const MOST_PAGES: u32 = 65_535;
-
-/// How many nodes the boxes of all pages may have together.
-pub const MOST_SHIPPED: u64 = 16_777_216;
-
-/// How deep boxes may nest in the box of a page, that box counted.
-pub const MOST_DEEP: u64 = 200;
-
-/// The limits of a file are these numbers. The definitions take them from the constants.
-pub fn limits_of_a_file()
-    ensures pages { MOST_PAGES ≡ 65535 }
-    ensures shipped { MOST_SHIPPED ≡ 16777216 }
-    ensures deep { MOST_DEEP ≡ 200 }
-    ensures slots { FONT_SLOTS ≡ 256 }
-{}
+/// For how many instructions of a page there is room from the start, at most; a page of a book has fewer.
+const MAX_ROOM: u64 = 16_384;
 
 /// Why a page was not taken, or a file not ended.
 #[derive(Clone, Copy, Debug, PartialEq, Eq, Error)]
@@ -62,6 +48,9 @@ pub enum WriteFault {
     /// The boxes of all pages would have more than 16,777,216 nodes.
     #[error("too much is shipped")]
     TooMuchShipped,
+    /// More than 1,048,576 bytes of special texts would be shipped in the job.
+    #[error("too much special text is shipped")]
+    TooMuchSpecial,
     /// A place or a size on the page is more than 2^30 - 1 sp or less than -(2^30 - 1) sp.
     #[error("a place or size of the page does not fit")]
     HugePage,
@@ -71,6 +60,16 @@ pub enum WriteFault {
     /// The device failed during the call.
     #[error("the device did not take the bytes")]
     Device,
+}
+
+impl From<AllocError> for WriteFault {
+    ghost use Rattle.dvi_layout.specs.declared.progress.WriteFault.TheVariants.{OutOfMemory};
+
+    ghost from_gives = { λ _ fault. fault ≡ OutOfMemory };
+
+    fn from(_error: AllocError) -> WriteFault {
+        WriteFault::OutOfMemory
+    }
 }
 
 /// How far a page is moved to the right and down (TeX: The Program, part 32, §617: hoffset and voffset).
@@ -103,6 +102,7 @@ pub struct Progress {
     deep: usize,
     pages: u32,
     nodes: u64,
+    text: u64,
 }
 
 impl Model for Progress {
@@ -110,7 +110,14 @@ impl Model for Progress {
 
     ghost Value = { SoFar };
 
-    ghost view = { λ p. record { last = p.last; size = p.size; defined = p.defined; tall = p.tall; wide = p.wide; deep = p.deep; pages = p.pages; nodes = p.nodes } };
+    ghost view = { λ p. record { last = p.last; size = p.size; defined = p.defined; tall = p.tall; wide = p.wide; deep = p.deep; pages = p.pages; load = record { nodes = p.nodes; text = p.text } } };
+}
+
+/// How many nodes the box of a page has, and how many bytes the texts of its specials.
+#[derive(Clone, Copy, Debug, PartialEq, Eq)]
+pub struct PageLoad {
+    pub nodes: u64,
+    pub text: u64,
 }
 
 /// The bytes of a page with what stands before it, and what is kept once they are sent.
@@ -120,20 +127,26 @@ pub struct NextPage {
     pub behind: Progress,
 }
 
-/// The instructions of the body of a page as it is written.
-#[tactic(auto, unfolding(ship_core::specs::Marks::is_huge))]
-fn written_body(
+/// The instructions of the body of a page as it is written, with room for that many from the start. HugePage exactly where the page is huge, else
+/// OutOfMemory.
+fn written_body<'a>(
     alloc: Global,
-    box_node: &BoxNode,
+    box_node: &'a BoxNode,
     at: PagePoint,
     counts: &[i32; 10],
-) -> Result<Vec<Op<'static>>, AllocError>
-    requires { is_huge (page_at counts.now at.h at.v box_node.now) ≡ false }
-    ensures { IfOk result (λ ops. map view ops.items ≡ flat (written_body (page_at counts.now at.h at.v box_node.now))) }
+    room: usize,
+) -> Result<Vec<Op<'a>>, WriteFault>
+    ensures ok { IfOk result (λ ops. map view ops.items ≡ flat (written_body (page_at counts.now at.h at.v box_node.now))) }
+    ensures fits { OnOk result (is_huge (page_at counts.now at.h at.v box_node.now) ≡ false) }
+    ensures err { IfErr result (λ fault. fault
+        ≡ (if is_huge (page_at counts.now at.h at.v box_node.now) then WriteFault.HugePage else WriteFault.OutOfMemory)) }
 {
     let _counts = *counts;
-    let drawn = draw_page(alloc, box_node, at)?;
-    reuse(drawn)
+    match plan_with_room(alloc, box_node, at, room) {
+        Ok(drawn) => Ok(reuse(drawn)?),
+        Err(ShipFault::HugePage) => Err(WriteFault::HugePage),
+        Err(ShipFault::OutOfMemory) => Err(WriteFault::OutOfMemory),
+    }
 }
 
 /// What stands before a page and its definitions, when there are that many pages: the preamble before the first.
@@ -190,6 +203,7 @@ impl Progress {
             deep: 0,
             pages: 0,
             nodes: 0,
+            text: 0,
         }
     }
 
@@ -217,23 +231,26 @@ impl Progress {
         }
     }
 
-    /// How many nodes the page of a box has that may be sent next, or why it may not.
-    pub fn admit(&self, box_node: &BoxNode, at: PagePoint) -> Result<u64, WriteFault>
-        ensures nodes { IfOk result (λ nodes. nodes ≡ box_count box_node.now) }
-        ensures ok { OnOk result ((counts : List ℤ) → limit_of self.now (page_at counts at.h at.v box_node.now) ≡ None) }
-        ensures err { IfErr result (λ fault. (counts : List ℤ) → limit_of self.now (page_at counts at.h at.v box_node.now) ≡ Some fault) }
+    /// What the page of a box has that may be sent next unless it is huge, or why it may not.
+    pub fn admit(&self, box_node: &BoxNode) -> Result<PageLoad, WriteFault>
+        ensures nodes { IfOk result (λ load. load.nodes ≡ box_count box_node.now) }
+        ensures text { IfOk result (λ load. load.text ≡ box_text box_node.now) }
+        ensures ok { OnOk result ((counts : List ℤ) (h v : ℤ) → limit_of self.now (page_at counts h v box_node.now)
+            ≡ (if is_huge (page_at counts h v box_node.now) then Some WriteFault.HugePage else None)) }
+        ensures err { IfErr result (λ fault. (counts : List ℤ) (h v : ℤ) → limit_of self.now (page_at counts h v box_node.now) ≡ Some fault) }
     {
-        if self.pages >= MOST_PAGES {
+        if self.pages >= MAX_PAGES {
             return Err(WriteFault::TooManyPages);
         }
         let nodes = box_node.count();
-        if self.nodes.saturating_add(nodes) > MOST_SHIPPED {
+        if self.nodes.saturating_add(nodes) > MAX_SHIPPED_NODES {
             return Err(WriteFault::TooMuchShipped);
         }
-        if is_huge(box_node, at) {
-            return Err(WriteFault::HugePage);
+        let text = box_node.text_size();
+        if self.text.saturating_add(text) > MAX_SHIPPED_TEXT {
+            return Err(WriteFault::TooMuchSpecial);
         }
-        Ok(nodes)
+        Ok(PageLoad { nodes, text })
     }
 
     /// The bytes of a page with this body, behind the definitions of the fonts in these slots, and the place of its bop among them.
@@ -243,7 +260,7 @@ impl Progress {
         fonts: &Fonts,
         slots: &[u8],
         counts: &[i32; 10],
-        body: &[Op<'static>],
+        body: &[Op<'_>],
     ) -> Result<(Vec<u8>, usize), AllocError>
         requires { AllByRecursion HasSpelling (map view body.now) }
         ensures bytes { IfOk result (λ page. page.0.items ≡ bytes_of ((opening self.now.pages ++ define (definitions_of fonts.now slots.now)) ++ (Bop counts.now self.now.last ∷ (map view body.now ++ Eop ∷ [])))) }
@@ -251,26 +268,29 @@ impl Progress {
     {
         let mut before = opening(alloc, self.pages)?;
         append_definitions(fonts, slots, &mut before)?;
-        let page = page_ops(alloc, counts, body, self.last)?;
         let mut bytes = Vec::new(alloc);
-        let bop = append_both(&mut bytes, &before, &page)?;
+        append_all(&mut bytes, &before)?;
+        let bop = bytes.len();
+        append_page(&mut bytes, counts, body, self.last)?;
         Ok((bytes, bop))
     }
 
     /// Keeps the slots whose fonts a page defines, where its bop stands among its bytes, and how many bytes and nodes it has.
-    fn keep_size(&mut self, slots: &[u8], bop: usize, size: usize, nodes: u64)
+    fn keep_size(&mut self, slots: &[u8], bop: usize, size: usize, load: PageLoad)
         requires few { length self.old.defined + length slots.now ≤ 256 }
         requires within { bop ≤ size }
         requires room { self.old.size + size < 2 ^ 31 }
-        requires pages { self.old.pages < MOST_PAGES }
-        requires nodes { self.old.nodes + nodes ≤ MOST_SHIPPED }
-        ensures { self.new ≡ record self.old { last = pos (self.old.size + bop); size = self.old.size + size; defined = self.old.defined ++ slots.now; pages = self.old.pages + 1; nodes = self.old.nodes + nodes } }
+        requires pages { self.old.pages < MAX_PAGES }
+        requires nodes { self.old.load.nodes + load.nodes ≤ MAX_SHIPPED_NODES }
+        requires text { self.old.load.text + load.text ≤ MAX_SHIPPED_TEXT }
+        ensures { self.new ≡ record self.old { last = pos (self.old.size + bop); size = self.old.size + size; defined = self.old.defined ++ slots.now; pages = self.old.pages + 1; load = record { nodes = self.old.load.nodes + load.nodes; text = self.old.load.text + load.text } } }
     {
         self.defined.append(slots);
         self.last = (self.size + bop) as i32;
         self.size += size;
         self.pages += 1;
-        self.nodes += nodes;
+        self.nodes += load.nodes;
+        self.text += load.text;
     }
 
     /// Keeps how far a page reaches.
@@ -284,13 +304,13 @@ impl Progress {
     }
 
     /// Keeps how many pushes are open at once in a page with this body, where no page before it has more.
-    fn keep_depth(&mut self, body: &[Op<'static>])
+    fn keep_depth(&mut self, body: &[Op<'_>])
         ensures { (forest : Forest) → map view body.now ≡ flat forest → self.new ≡ record self.old { deep = max self.old.deep (nests forest) } }
     {
         self.deep = self.deep.max(push_depth(body));
     }
 
-    /// The page of a box that goes out next.
+    /// The page of a box that goes out next. HugePage exactly where it is huge, also where memory is refused as well; else OutOfMemory.
     #[tactic(auto, unfolding(crate::specs::SoFar::with_next, crate::specs::SoFar::next_bytes))]
     pub fn next_page(
         &self,
@@ -299,19 +319,28 @@ impl Progress {
         at: PagePoint,
         counts: &[i32; 10],
         fonts: &Fonts,
-        nodes: u64,
-    ) -> Result<NextPage, AllocError>
-        requires huge { is_huge (page_at counts.now at.h at.v box_node.now) ≡ false }
-        requires nodes { nodes ≡ box_count box_node.now }
+        load: PageLoad,
+    ) -> Result<NextPage, WriteFault>
+        requires nodes { load.nodes ≡ box_count box_node.now }
+        requires text { load.text ≡ box_text box_node.now }
         requires room { HasRoom (with_next fonts.now self.now (page_at counts.now at.h at.v box_node.now)) }
         ensures bytes { IfOk result (λ next. next.bytes.items ≡ next_bytes fonts.now self.now (page_at counts.now at.h at.v box_node.now)) }
         ensures behind { IfOk result (λ next. next.behind ≡ with_next fonts.now self.now (page_at counts.now at.h at.v box_node.now)) }
+        ensures fits { OnOk result (is_huge (page_at counts.now at.h at.v box_node.now) ≡ false) }
+        ensures err { IfErr result (λ fault. fault
+            ≡ (if is_huge (page_at counts.now at.h at.v box_node.now) then WriteFault.HugePage else WriteFault.OutOfMemory)) }
     {
-        let body = written_body(alloc, box_node, at, counts)?;
+        let body = written_body(
+            alloc,
+            box_node,
+            at,
+            counts,
+            load.nodes.min(MAX_ROOM) as usize,
+        )?;
         let fresh = fresh_slots(alloc, fonts, self.defined.as_slice(), &body)?;
         let (bytes, bop) = self.lay_out(alloc, fonts, &fresh, counts, &body)?;
         let mut behind = self.copied();
-        behind.keep_size(&fresh, bop, bytes.len(), nodes);
+        behind.keep_size(&fresh, bop, bytes.len(), load);
         behind.keep_reach(box_node, at, counts);
         behind.keep_depth(&body);
         Ok(NextPage { bytes, behind })

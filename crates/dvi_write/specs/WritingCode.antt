@@ -5,13 +5,13 @@ use Rattle.device_core.specs.Beginnings.{Beginning}
 use Rattle.dvi_layout.specs.SoFar.{SoFar}
 use Rattle.dvi_write.specs.Writing.{Writing}
 
--- How what is kept is stored: the place of the last bop, the length and the slots; the reaches and the depth; the numbers of pages and nodes.
+-- How what is kept is stored: the place of the last bop, the length and the slots; the reaches and the depth; the number of pages, and what they hold.
 abbrev pub coded_so_far : Coded SoFar
 coded_so_far =
-    code_by (((ℤ × ℕ) × List ℕ) × (((ℤ × ℤ) × ℕ) × (ℕ × ℕ)))
-    (coded× (coded× (coded× coded_ℤ coded_ℕ) (coded_list coded_ℕ)) (coded× (coded× (coded× coded_ℤ coded_ℤ) coded_ℕ) (coded× coded_ℕ coded_ℕ)))
-    (λ s. (((s.last, s.size), s.defined), (((s.tall, s.wide), s.deep), (s.pages, s.nodes))))
-    (λ p. record { last = p.0.0.0; size = p.0.0.1; defined = p.0.1; tall = p.1.0.0.0; wide = p.1.0.0.1; deep = p.1.0.1; pages = p.1.1.0; nodes = p.1.1.1 }) (λ _. refl)
+    code_by (((ℤ × ℕ) × List ℕ) × (((ℤ × ℤ) × ℕ) × (ℕ × (ℕ × ℕ))))
+    (coded× (coded× (coded× coded_ℤ coded_ℕ) (coded_list coded_ℕ)) (coded× (coded× (coded× coded_ℤ coded_ℤ) coded_ℕ) (coded× coded_ℕ (coded× coded_ℕ coded_ℕ))))
+    (λ s. (((s.last, s.size), s.defined), (((s.tall, s.wide), s.deep), (s.pages, (s.load.nodes, s.load.text)))))
+    (λ p. record { last = p.0.0.0; size = p.0.0.1; defined = p.0.1; tall = p.1.0.0.0; wide = p.1.0.0.1; deep = p.1.0.1; pages = p.1.1.0; load = record { nodes = p.1.1.1.0; text = p.1.1.1.1 } }) (λ _. refl)
 
 -- How what was sent before is stored: the bytes, what the device that took them told, and how often it had failed.
 abbrev pub coded_beginning : Coded Beginning

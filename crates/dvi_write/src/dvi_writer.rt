@@ -138,23 +138,23 @@ impl<D: Device> DviWriter<D> {
             return Err(WriteFault::JobOver);
         }
         let at = offsets.point_of(box_node);
-        let nodes = self.progress.admit(box_node, at)?;
+        let load = self.progress.admit(box_node)?;
         ten_fit(counts);
         fonts.can_be_defined();
         match self
             .progress
-            .next_page(alloc, box_node, at, counts, fonts, nodes)
+            .next_page(alloc, box_node, at, counts, fonts, load)
         {
             Ok(next) => Ok(next),
-            Err(_) => Err(WriteFault::OutOfMemory),
+            Err(fault) => Err(fault),
         }
     }
 
     /// Sends the page of a box under these counts: the preamble before the first page, the definitions of the fonts that no page before it uses,
     /// and the page. All memory is taken before the device is called. A page counts once all of it was sent.
     ///
-    /// Refused with JobOver, TooManyPages, TooMuchShipped, HugePage (the first of them that holds) or OutOfMemory, it has sent nothing and changed
-    /// nothing. With Device, the device has failed and the file is over.
+    /// Refused with JobOver, TooManyPages, TooMuchShipped, TooMuchSpecial, HugePage (the first of them that holds) or OutOfMemory, it has sent
+    /// nothing and changed nothing. With Device, the device has failed and the file is over.
     pub fn page(
         &mut self,
         alloc: Global,

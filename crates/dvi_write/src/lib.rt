@@ -5,5 +5,6 @@ mod dvi_writer;
 pub mod laws;
 
 pub use device_core::{Device, DeviceFault, Fuse, Memory, Rest};
-pub use dvi_layout::{Fonts, LoadedFont, MOST_DEEP, MOST_PAGES, MOST_SHIPPED, Offsets, WriteFault};
+pub use dvi_layout::{Fonts, LoadedFont, Offsets, WriteFault};
 pub use dvi_writer::{DviWriter, WrittenFile};
+pub use node_core::limits::{MAX_DEPTH, MAX_PAGES, MAX_SHIPPED_NODES};

@@ -89,6 +89,7 @@ nothing f kern penalty (Some (nodes.Glyph g)) = refl
 nothing f kern penalty (Some (nodes.FontKern width)) = refl
 nothing f kern penalty (Some (nodes.Glue g)) = refl
 nothing f kern penalty (Some (nodes.Rule sizes)) = refl
+nothing f kern penalty (Some (nodes.Special text)) = refl
 nothing f kern penalty (Some (nodes.Box shift b)) = refl
 
 -- The sums over what a line keeps are a difference of sums over first items.

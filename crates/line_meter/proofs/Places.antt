@@ -167,6 +167,7 @@ break_penalty before (Some (nodes.Penalty penalty)) behind is = test_says penalt
 break_penalty before (Some (nodes.Glyph glyph)) behind is = omega (arith, ints)
 break_penalty before (Some (nodes.FontKern width)) behind is = omega (arith, ints)
 break_penalty before (Some (nodes.Rule rule)) behind is = omega (arith, ints)
+break_penalty before (Some (nodes.Special text)) behind is = omega (arith, ints)
 break_penalty before (Some (nodes.Box shift b)) behind is = omega (arith, ints)
 
 pub place_penalty : (list : List Node) (n : ℕ) → 0 < n → n ≤ length (legal_places list) → penalty_of (slice_get list (position_of list n)) <ℤ pos 10000

@@ -63,6 +63,7 @@ no_break before behind (nodes.Kern width) kept = absurd (cc)
 no_break before behind (nodes.Glue glue) kept = absurd (cc)
 no_break before behind (nodes.Penalty penalty) kept = absurd (cc)
 no_break before behind (nodes.Rule rule) kept = refl
+no_break before behind (nodes.Special text) kept = refl
 no_break before behind (nodes.Box shift b) kept = refl
 
 pub kept_finite : (x : Node) → is_dropped x ≡ false → shrinks_infinitely x ≡ false
@@ -73,6 +74,7 @@ kept_finite (nodes.Kern width) kept = absurd (cc)
 kept_finite (nodes.Glue glue) kept = absurd (cc)
 kept_finite (nodes.Penalty penalty) kept = absurd (cc)
 kept_finite (nodes.Rule rule) kept = refl
+kept_finite (nodes.Special text) kept = refl
 kept_finite (nodes.Box shift b) kept = refl
 
 get_some : (list : List Node) (i : ℕ) (x : Node) → i < length list → x ≡ get_or list i x → slice_get list i ≡ Some x

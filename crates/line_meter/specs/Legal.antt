@@ -30,6 +30,7 @@ is_break before (Some (nodes.Penalty penalty)) behind = int_lt penalty (pos 1000
 is_break before (Some (nodes.Glyph glyph)) behind = false
 is_break before (Some (nodes.FontKern width)) behind = false
 is_break before (Some (nodes.Rule rule)) behind = false
+is_break before (Some (nodes.Special text)) behind = false
 is_break before (Some (nodes.Box shift b)) behind = false
 
 -- The item in front of a place.

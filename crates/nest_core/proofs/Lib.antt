@@ -1,4 +1,5 @@
 pub mod Nests
 pub mod PackedItems
 pub mod ParagraphEnds
+pub mod ShapedTexts
 pub mod ShortLists

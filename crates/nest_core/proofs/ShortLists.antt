@@ -6,7 +6,7 @@ use Rattle.std.proofs.lemmas.Bool.{ltb-false}
 use Rattle.std.proofs.lemmas.List.{length-take}
 use Rattle.command_core.specs.declared.command.Refusal.{Refusal}
 use Rattle.command_core.specs.declared.command.Refusal.TheVariants.{DimensionTooLarge, ListTooLong}
-use Rattle.command_core.specs.declared.limits.TheConstants.{MOST_ITEMS, MOST_OPEN}
+use Rattle.node_core.specs.declared.limits.TheConstants.{MAX_ITEMS, MAX_OPEN_LISTS}
 use Rattle.dvi_layout.proofs.EachOf.{each_at, each_set, each_taken}
 use Rattle.node_core.proofs.NodeLemmas.{nodes_of-items_of}
 use Rattle.node_core.specs.Items.{Items}
@@ -24,37 +24,37 @@ use Rattle.nest_core.specs.ShortLists.{IsShort, AreShort}
 use Rattle.nest_core.specs.State.{innermost, items_in}
 
 -- The innermost of short lists is short.
-pub innermost_short : (nest : List OpenList) → AreShort nest → length (nodes_of (items_in (innermost nest))) ≤ MOST_ITEMS
+pub innermost_short : (nest : List OpenList) → AreShort nest → length (nodes_of (items_in (innermost nest))) ≤ MAX_ITEMS
 innermost_short nest short = found (innermost nest) refl
   where
-    found : (l : Option OpenList) → innermost nest ≡ l → length (nodes_of (items_in l)) ≤ MOST_ITEMS
+    found : (l : Option OpenList) → innermost nest ≡ l → length (nodes_of (items_in l)) ≤ MAX_ITEMS
     found None is = omega arith
     found (Some l) is = each_at IsShort nest (length nest - 1) l short is
 
 -- A few short lists stay so when one of them becomes another short one.
-pub one_changed : (nest : List OpenList) (i : ℕ) (l : OpenList) → length nest ≤ MOST_OPEN → AreShort nest → IsShort l
-    → (length (set nest i l) ≤ MOST_OPEN) × AreShort (set nest i l)
+pub one_changed : (nest : List OpenList) (i : ℕ) (l : OpenList) → length nest ≤ MAX_OPEN_LISTS → AreShort nest → IsShort l
+    → (length (set nest i l) ≤ MAX_OPEN_LISTS) × AreShort (set nest i l)
 one_changed nest i l few short own = (omega (arith, few, length-set nest i l), each_set IsShort nest i l short own)
 
 -- They stay so when the last ones are taken away.
-pub innermost_taken : (nest : List OpenList) (n : ℕ) → length nest ≤ MOST_OPEN → AreShort nest → (length (take n nest) ≤ MOST_OPEN) × AreShort (take n nest)
+pub innermost_taken : (nest : List OpenList) (n : ℕ) → length nest ≤ MAX_OPEN_LISTS → AreShort nest → (length (take n nest) ≤ MAX_OPEN_LISTS) × AreShort (take n nest)
 innermost_taken nest n few short = (omega (arith, few, length-take n nest), each_taken IsShort n nest short)
 
 -- They stay so when one of them becomes another short one, and the innermost one is then taken away.
-pub changed_and_taken : (nest : List OpenList) (i n : ℕ) (l : OpenList) (after : List OpenList) → length nest ≤ MOST_OPEN → AreShort nest → IsShort l
-    → after ≡ take n (set nest i l) → (length after ≤ MOST_OPEN) × AreShort after
+pub changed_and_taken : (nest : List OpenList) (i n : ℕ) (l : OpenList) (after : List OpenList) → length nest ≤ MAX_OPEN_LISTS → AreShort nest → IsShort l
+    → after ≡ take n (set nest i l) → (length after ≤ MAX_OPEN_LISTS) × AreShort after
 changed_and_taken nest i n l after few short own left =
     let changed = one_changed nest i l few short own in
-    subst (λ (lists : List OpenList). (length lists ≤ MOST_OPEN) × AreShort lists) (sym left) (innermost_taken (set nest i l) n changed.0 changed.1)
+    subst (λ (lists : List OpenList). (length lists ≤ MAX_OPEN_LISTS) × AreShort lists) (sym left) (innermost_taken (set nest i l) n changed.0 changed.1)
 
 -- A list is short with more nodes for which it has room.
-pub short_with_nodes : (nodes more : List Node) → length nodes + length more ≤ MOST_ITEMS → length (nodes_of (items_of (nodes ++ more))) ≤ MOST_ITEMS
+pub short_with_nodes : (nodes more : List Node) → length nodes + length more ≤ MAX_ITEMS → length (nodes_of (items_of (nodes ++ more))) ≤ MAX_ITEMS
 short_with_nodes nodes more room = omega (arith, room, length-append nodes more, ap length (nodes_of-items_of (nodes ++ more)))
 
-pub more_fit : {E : Type 0} (result : Result (Unit {0}) E) (old new : Items) (more : List Node) → length (nodes_of old) + length more ≤ MOST_ITEMS
-    → OnOk result (new ≡ items_of (nodes_of old ++ more)) → OnErr result (new ≡ old) → length (nodes_of new) ≤ MOST_ITEMS
-more_fit (Ok u) old new more room ok err = subst (λ (items : Items). length (nodes_of items) ≤ MOST_ITEMS) (sym ok) (short_with_nodes (nodes_of old) more room)
-more_fit (Err e) old new more room ok err = subst (λ (items : Items). length (nodes_of items) ≤ MOST_ITEMS) (sym err) (omega (arith, room))
+pub more_fit : {E : Type 0} (result : Result (Unit {0}) E) (old new : Items) (more : List Node) → length (nodes_of old) + length more ≤ MAX_ITEMS
+    → OnOk result (new ≡ items_of (nodes_of old ++ more)) → OnErr result (new ≡ old) → length (nodes_of new) ≤ MAX_ITEMS
+more_fit (Ok u) old new more room ok err = subst (λ (items : Items). length (nodes_of items) ≤ MAX_ITEMS) (sym ok) (short_with_nodes (nodes_of old) more room)
+more_fit (Err e) old new more room ok err = subst (λ (items : Items). length (nodes_of items) ≤ MAX_ITEMS) (sym err) (omega (arith, room))
 
 second_fails : (a b : Bool) (p q : Refusal) → first_of ((a, p) ∷ (b, q) ∷ []) ≡ None → b ≡ false
 second_fails true b p q none = cc
@@ -69,8 +69,8 @@ same_count (Some glue) shift b = refl
 pub short_with_box : (params : Params) (shift : ℤ) (b : BoxNode) (l : OpenList) → first_of (box_checks params (Some l) b) ≡ None → IsShort (list_with_box params shift b l)
 short_with_box params shift b l none =
     let count = length (nodes_of l.list) + length (box_items params l (pos 0) b) in
-    let room = ltb-false MOST_ITEMS count
-    (second_fails (not (is_ok (glue_in params l b.height))) (nat_lt MOST_ITEMS count) DimensionTooLarge ListTooLong none) in
+    let room = ltb-false MAX_ITEMS count
+    (second_fails (not (is_ok (glue_in params l b.height))) (nat_lt MAX_ITEMS count) DimensionTooLarge ListTooLong none) in
     short_with_nodes (nodes_of l.list) (box_items params l shift b)
     (omega (arith, room, same_count (glue_of (glue_in params l b.height)) shift b))
 

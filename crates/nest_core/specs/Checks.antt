@@ -15,10 +15,10 @@ use Rattle.nest_core.specs.declared.nest.OpenList.{OpenList}
 use Rattle.nest_core.specs.declared.nest.ListPurpose.{ListPurpose}
 use Rattle.nest_core.specs.declared.nest.ListPurpose.TheVariants as purposes
 use Rattle.command_core.specs.declared.command.Command.{Command}
-use Rattle.command_core.specs.declared.command.Command.TheVariants.{LoadFont, UseFont, Open, Paragraph, End, Text, Character, Rule, Kern, Glue, Penalty, Append, Unbox, LastBox, Split, Measure, Void, Set, Count, Ship}
+use Rattle.command_core.specs.declared.command.Command.TheVariants.{LoadFont, UseFont, Open, Paragraph, End, Text, Character, Rule, Kern, Glue, Penalty, Append, Unbox, LastBox, Split, Measure, Void, Set, Count, Special, Ship}
 use Rattle.command_core.specs.declared.command.Refusal.{Refusal}
-use Rattle.command_core.specs.declared.command.Refusal.TheVariants.{DimensionTooLarge, NoFont, SlotTaken, NoOpenList, WrongMode, WrongKind, ListTooLong, TooDeep, InfiniteShrink, HugePage, TooManyPages, TooMuchShipped, JobOver, VoidBox}
-use Rattle.command_core.specs.declared.limits.TheConstants.{MOST_OPEN, MOST_ITEMS, MOST_DEEP, MOST_PAGES, MOST_SHIPPED}
+use Rattle.command_core.specs.declared.command.Refusal.TheVariants.{DimensionTooLarge, NoFont, SlotTaken, NoOpenList, WrongMode, WrongKind, ListTooLong, TooDeep, InfiniteShrink, HugePage, TooManyPages, TooMuchShipped, TooMuchSpecial, JobOver, VoidBox}
+use Rattle.node_core.specs.declared.limits.TheConstants.{MAX_OPEN_LISTS, MAX_ITEMS, MAX_DEPTH, MAX_PAGES, MAX_SHIPPED_NODES, MAX_SPECIAL_TEXT, MAX_SHIPPED_TEXT}
 use Rattle.pack_core.specs.declared.pack.Packed as packs
 use Rattle.scaled_core.specs.Dimensions.{fits}
 use Rattle.node_core.specs.Classes.{shrinks_infinitely}
@@ -26,7 +26,7 @@ use Rattle.split_core.specs.Split.{split_numbers}
 use Rattle.tfm_core.specs.Fonts.{SizedFont}
 use Rattle.dvi_layout.specs.Fonts.{font_in}
 use Rattle.nest_core.specs.FontSlots.{current_font, CharacterItems, text_shaped, character_shaped}
-use Rattle.nest_core.specs.State.{State, innermost, outer, items_in, open_count, held_in, count_in, font_for}
+use Rattle.nest_core.specs.State.{State, innermost, outer, items_in, open_count, held_in, shipped_with, font_for}
 use Rattle.nest_core.specs.NextPages.{is_huge_in}
 use Rattle.nest_core.specs.OpenLists.{kind_in, is_vertical, glue_in, box_items, packed_list}
 use Rattle.nest_core.specs.Paragraphs.{paragraph_checks}
@@ -36,13 +36,17 @@ abbrev pub first_of : List (Bool × Refusal) → Option Refusal
 first_of [] = None
 first_of ((holds, refusal) ∷ rest) = if holds then Some refusal else first_of rest
 
+-- The refusal of items that are too many for a list that has so many already.
+abbrev pub room_checks : (count : ℕ) → List Node → List (Bool × Refusal)
+room_checks count items = (nat_lt MAX_ITEMS (count + length items), ListTooLong) ∷ []
+
 -- The refusal of items that are too many for the innermost list.
 abbrev pub length_checks : State → List Node → List (Bool × Refusal)
-length_checks m items = (nat_lt MOST_ITEMS (open_count m + length items), ListTooLong) ∷ []
+length_checks m items = room_checks (open_count m) items
 
 -- The refusals of one more item.
 abbrev pub item_checks : State → List (Bool × Refusal)
-item_checks m = (length m.nest == 0, NoOpenList) ∷ (nat_le MOST_ITEMS (open_count m), ListTooLong) ∷ []
+item_checks m = (length m.nest == 0, NoOpenList) ∷ (nat_le MAX_ITEMS (open_count m), ListTooLong) ∷ []
 
 -- The refusals of characters, whatever they come to: they belong in a horizontal list.
 abbrev pub character_checks : State → List (Bool × Refusal)
@@ -60,19 +64,19 @@ refusal_in (Err refusal) = (true, refusal) ∷ []
 
 -- The refusals of a list that is opened: a box without a register goes into the enclosing list.
 abbrev pub open_checks : List OpenList → Option ℕ → List (Bool × Refusal)
-open_checks nest into = (is_none into && (length nest == 0), NoOpenList) ∷ (nat_le MOST_OPEN (length nest), TooDeep) ∷ []
+open_checks nest into = (is_none into && (length nest == 0), NoOpenList) ∷ (nat_le MAX_OPEN_LISTS (length nest), TooDeep) ∷ []
 
 -- The refusals of a paragraph that is opened: it goes into a vertical list.
 abbrev pub par_checks : List OpenList → List (Bool × Refusal)
 par_checks nest =
-    (length nest == 0, NoOpenList) ∷ (not (is_vertical (kind_in (innermost nest))), WrongMode) ∷ (nat_le MOST_OPEN (length nest), TooDeep) ∷ []
+    (length nest == 0, NoOpenList) ∷ (not (is_vertical (kind_in (innermost nest))), WrongMode) ∷ (nat_le MAX_OPEN_LISTS (length nest), TooDeep) ∷ []
 
 -- The refusals of a box at the end of an open list: the glue in front of it does not fit, or the list would be too long.
 abbrev pub box_checks : Params → Option OpenList → BoxNode → List (Bool × Refusal)
 box_checks params None b = (true, NoOpenList) ∷ []
 box_checks params (Some open_list) b =
     (not (is_ok (glue_in params open_list b.height)), DimensionTooLarge)
-    ∷ (nat_lt MOST_ITEMS (length (nodes_of open_list.list) + length (box_items params open_list (pos 0) b)), ListTooLong) ∷ []
+    ∷ (nat_lt MAX_ITEMS (length (nodes_of open_list.list) + length (box_items params open_list (pos 0) b)), ListTooLong) ∷ []
 
 -- The refusals of the place where the box of a closed list goes: a register takes any box.
 abbrev pub home_checks : Params → (around : List OpenList) → (into : Option ℕ) → BoxNode → List (Bool × Refusal)
@@ -81,7 +85,7 @@ home_checks params around (Some r) b = []
 
 -- The refusals of the box of a closed list: that it is too deep, and then those of the place where it goes.
 abbrev pub place_checks : Params → (around : List OpenList) → (into : Option ℕ) → BoxNode → List (Bool × Refusal)
-place_checks params around into b = (nat_lt MOST_DEEP (box_depth b), TooDeep) ∷ home_checks params around into b
+place_checks params around into b = (nat_lt MAX_DEPTH (box_depth b), TooDeep) ∷ home_checks params around into b
 
 -- The refusals of what an open list was packed to: that a size does not fit where there is no box, else those of the box.
 abbrev pub packed_checks : Params → (around : List OpenList) → (into : Option ℕ) → Option packs.Packed → List (Bool × Refusal)
@@ -122,7 +126,7 @@ is_other Vertical Horizontal = true
 abbrev pub items_checks : Kind → (count : ℕ) → Option BoxNode → List (Bool × Refusal)
 items_checks kind count None = []
 items_checks kind count (Some b) =
-    (is_other kind b.kind, WrongKind) ∷ (nat_lt MOST_ITEMS (count + length (nodes_of b.list)), ListTooLong) ∷ []
+    (is_other kind b.kind, WrongKind) ∷ (nat_lt MAX_ITEMS (count + length (nodes_of b.list)), ListTooLong) ∷ []
 
 -- The refusals of the items of the box of a register at the end of an open list: that the list is not of the kind of the command, and then
 -- those of the items.
@@ -163,7 +167,7 @@ own_checks m Paragraph = par_checks m.nest
 own_checks m End = end_checks m.params m.nest
 own_checks m (Rule rule) =
     (length m.nest == 0, NoOpenList) ∷ (is_misplaced (kind_in (innermost m.nest)) rule, WrongMode)
-    ∷ (nat_le MOST_ITEMS (open_count m), ListTooLong) ∷ []
+    ∷ (nat_le MAX_ITEMS (open_count m), ListTooLong) ∷ []
 own_checks m (Kern width) = item_checks m
 own_checks m (Glue glue) = item_checks m
 own_checks m (Penalty n) = item_checks m
@@ -175,9 +179,12 @@ own_checks m (Measure r) = []
 own_checks m (Void r) = []
 own_checks m (Set parameter) = []
 own_checks m (Count counting) = []
+own_checks m (Special text) =
+    (length m.nest == 0, NoOpenList) ∷ (nat_lt MAX_SPECIAL_TEXT (length text), TooMuchSpecial) ∷ (nat_le MAX_ITEMS (open_count m), ListTooLong) ∷ []
 own_checks m (Ship r) =
-    (is_none (held_in m.registers r), VoidBox) ∷ (nat_le MOST_PAGES m.pages, TooManyPages)
-    ∷ (nat_lt MOST_SHIPPED (m.shipped + count_in (held_in m.registers r)), TooMuchShipped)
+    (is_none (held_in m.registers r), VoidBox) ∷ (nat_le MAX_PAGES m.pages, TooManyPages)
+    ∷ (nat_lt MAX_SHIPPED_NODES (shipped_with m.shipped (held_in m.registers r)).nodes, TooMuchShipped)
+    ∷ (nat_lt MAX_SHIPPED_TEXT (shipped_with m.shipped (held_in m.registers r)).text, TooMuchSpecial)
     ∷ (is_huge_in m (held_in m.registers r), HugePage) ∷ []
 
 -- A job that is over refuses each command for that.

@@ -18,7 +18,7 @@ use Rattle.command_core.specs.declared.command.Answer.{Answer}
 use Rattle.command_core.specs.declared.command.Answer.TheVariants as answers
 use Rattle.command_core.specs.declared.command.Refusal.{Refusal}
 use Rattle.command_core.specs.declared.command.Refusal.TheVariants.{NoOpenList, InfiniteShrink, TooManyBreaks, DimensionTooLarge, TooDeep, ListTooLong}
-use Rattle.command_core.specs.declared.limits.TheConstants.{MOST_ITEMS, MOST_DEEP}
+use Rattle.node_core.specs.declared.limits.TheConstants.{MAX_ITEMS, MAX_DEPTH}
 use Rattle.nest_core.specs.declared.nest.OpenList.{OpenList}
 use Rattle.nest_core.specs.State.{innermost, with_innermost, items_in}
 
@@ -57,7 +57,7 @@ refused_by (Some refusal) = (true, refusal) ∷ []
 
 -- The refusals of what a paragraph brings to a list that has so many items: that a line of it is too deep, and that the list would be too long.
 abbrev pub lines_checks : (count : ℕ) → Items → List (Bool × Refusal)
-lines_checks count items = (nat_lt MOST_DEEP (items_depth items), TooDeep) ∷ (nat_lt MOST_ITEMS (count + length (nodes_of items)), ListTooLong) ∷ []
+lines_checks count items = (nat_lt MAX_DEPTH (items_depth items), TooDeep) ∷ (nat_lt MAX_ITEMS (count + length (nodes_of items)), ListTooLong) ∷ []
 
 -- The refusals of a paragraph for a list that has so many items: why it is not set, else those of what it brings.
 abbrev pub set_checks : (count : ℕ) → Result SetParagraph ParagraphFault → List (Bool × Refusal)

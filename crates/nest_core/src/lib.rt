@@ -5,3 +5,4 @@
 pub mod fonts;
 pub mod nest;
 mod paragraphs;
+pub mod texts;

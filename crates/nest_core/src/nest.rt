@@ -15,8 +15,8 @@ ghost use Rattle.paragraph_core.specs.Paragraphs.{unbroken};
 ghost use Rattle.paragraph_core.specs.Setting.{setting};
 ghost use Rattle.std.specs.Borrow.{sem};
 
-use command_core::limits::{MOST_ITEMS, MOST_OPEN};
 use command_core::{BoxForm, Opening, Refusal};
+use node_core::limits::{MAX_ITEMS, MAX_OPEN_LISTS};
 use node_core::{BoxNode, Glue, Kind, Node, NodeList, Params, Rule};
 use pack_core::{Packed, Target, TooLarge, hpack, vpack, vtop};
 use paragraph_core::{CountedParagraph, ParagraphFault, SetParagraph, set_paragraph};
@@ -145,7 +145,7 @@ impl OpenList {
             Ok(None) => 1,
             Ok(Some(_)) => 2,
         };
-        if self.list.len() + count > MOST_ITEMS {
+        if self.list.len() + count > MAX_ITEMS {
             return Err(Refusal::ListTooLong);
         }
         Ok(count)
@@ -157,7 +157,7 @@ impl OpenList {
         ensures ok { OnOk result (first_of (inner_checks kind (Some self.now) (option_copied held.entry)) ≡ None) }
         ensures count { IfOk result (λ count. count ≡ length (nodes_in (option_copied held.entry))) }
         ensures err { IfErr result (λ refusal. first_of (inner_checks kind (Some self.now) (option_copied held.entry)) ≡ Some refusal) }
-        ensures short { IfOk result (λ count. length (nodes_of self.now.list) + count ≤ max MOST_ITEMS (length (nodes_of self.now.list))) }
+        ensures short { IfOk result (λ count. length (nodes_of self.now.list) + count ≤ max MAX_ITEMS (length (nodes_of self.now.list))) }
     {
         let length = self.list.len();
         if is_other(kind, self.purpose.kind()) {
@@ -170,7 +170,7 @@ impl OpenList {
             return Err(Refusal::WrongKind);
         }
         let items = box_node.list.len();
-        if length + items > MOST_ITEMS {
+        if length + items > MAX_ITEMS {
             return Err(Refusal::ListTooLong);
         }
         Ok(items)
@@ -253,7 +253,7 @@ fn innermost_of(lists: &mut SmallVec<OpenList, 4>) -> Option<&mut OpenList>
     lists.get_mut(last)
 }
 
-/// The open lists, the outermost first: at most `MOST_OPEN`, and in each at most `MOST_ITEMS` items.
+/// The open lists, the outermost first: at most `MAX_OPEN_LISTS`, and in each at most `MAX_ITEMS` items.
 #[derive(Debug, Drop)]
 pub struct Nest {
     lists: SmallVec<OpenList, 4>,
@@ -264,7 +264,7 @@ impl Model for Nest {
     ghost use Rattle.std.specs.Coded.{coded_list};
     ghost use Rattle.nest_core.specs.declared.nest.OpenList.{OpenList};
     ghost use Rattle.nest_core.specs.contracts.nest.OpenList as open_list;
-    ghost use Rattle.command_core.specs.declared.limits.TheConstants.{MOST_OPEN};
+    ghost use Rattle.node_core.specs.declared.limits.TheConstants.{MAX_OPEN_LISTS};
     ghost use Rattle.nest_core.specs.ShortLists.{AreShort};
 
     ghost Value = { List OpenList };
@@ -273,7 +273,7 @@ impl Model for Nest {
 
     ghost view = { λ nest. nest.lists.items };
 
-    ghost invariant = { λ nest. (length nest.lists.items ≤ MOST_OPEN) × AreShort nest.lists.items };
+    ghost invariant = { λ nest. (length nest.lists.items ≤ MAX_OPEN_LISTS) × AreShort nest.lists.items };
 }
 
 impl Nest {
@@ -289,7 +289,7 @@ impl Nest {
     /// How many lists are open.
     pub fn len(&self) -> usize
         ensures value { result ≡ length self.now }
-        ensures few { length self.now ≤ MOST_OPEN }
+        ensures few { length self.now ≤ MAX_OPEN_LISTS }
     {
         self.lists.len()
     }
@@ -301,27 +301,17 @@ impl Nest {
         self.lists.last()
     }
 
-    /// How many items the innermost open list has: 0 where none is open.
-    pub fn item_count(&self) -> usize
-        ensures { result ≡ length (nodes_of (items_in (innermost self.now))) }
-    {
-        match self.lists.last() {
-            Some(innermost) => innermost.list.len(),
-            None => 0,
-        }
-    }
-
-    /// The innermost list has at most `MOST_ITEMS` items. It does nothing.
+    /// The innermost list has at most `MAX_ITEMS` items. It does nothing.
     #[tactic(auto, using(crate::proofs::ShortLists::innermost_short))]
     pub fn innermost_is_short(&self)
-        ensures { length (nodes_of (items_in (innermost self.now))) ≤ MOST_ITEMS }
+        ensures { length (nodes_of (items_in (innermost self.now))) ≤ MAX_ITEMS }
     {
         let _lists = &self.lists;
     }
 
     /// Opens a list without nodes inside the others.
     pub fn begin(&mut self, purpose: ListPurpose) -> Result<(), AllocError>
-        requires { length self.old < MOST_OPEN }
+        requires { length self.old < MAX_OPEN_LISTS }
         ensures ok { OnOk result (self.new ≡ self.old ++ opened_list purpose ∷ []) }
         ensures err { OnErr result (self.new ≡ self.old) }
     {
@@ -337,7 +327,7 @@ impl Nest {
     /// Puts a node at the end of the innermost list.
     #[tactic(auto, using(crate::proofs::Nests::same_innermost))]
     pub fn append(&mut self, node: Node) -> Result<(), AllocError>
-        requires { length (nodes_of (items_in (innermost self.old))) < MOST_ITEMS }
+        requires { length (nodes_of (items_in (innermost self.old))) < MAX_ITEMS }
         ensures ok { OnOk result (self.new ≡ with_nodes self.old (node ∷ []) (innermost self.old)) }
         ensures err { OnErr result (self.new ≡ self.old) }
     {
@@ -350,27 +340,10 @@ impl Nest {
         }
     }
 
-    /// Puts nodes at the end of the innermost list, in order. No nodes take no memory.
-    #[tactic(auto, using(crate::proofs::Nests::same_innermost, crate::proofs::Nests::none_added, crate::proofs::Nests::some_nodes))]
-    pub fn extend(&mut self, nodes: Vec<Node>) -> Result<(), AllocError>
-        requires { length (nodes_of (items_in (innermost self.old))) + length nodes.items ≤ MOST_ITEMS }
-        ensures ok { OnOk result (self.new ≡ with_nodes self.old nodes.items (innermost self.old)) }
-        ensures err { OnErr result (self.new ≡ self.old) }
-        ensures takes { OnErr result (nodes.items ≢ []) }
-    {
-        if nodes.is_empty() {
-            return Ok(());
-        }
-        let Some(innermost) = innermost_of(&mut self.lists) else {
-            return Ok(());
-        };
-        innermost.list.extend(nodes)
-    }
-
     /// Puts a rule at the end of the innermost list, whose previous depth is then ignored.
     #[tactic(auto, using(crate::proofs::Nests::same_innermost))]
     pub fn append_rule(&mut self, rule: Rule) -> Result<(), AllocError>
-        requires { length (nodes_of (items_in (innermost self.old))) < MOST_ITEMS }
+        requires { length (nodes_of (items_in (innermost self.old))) < MAX_ITEMS }
         ensures ok { OnOk result (self.new ≡ with_rule self.old rule (innermost self.old)) }
         ensures err { OnErr result (self.new ≡ self.old) }
     {
@@ -390,7 +363,7 @@ impl Nest {
     /// they were; a list without nodes takes none.
     #[tactic(auto, using(crate::proofs::Nests::same_innermost, crate::proofs::Nests::none_added, crate::proofs::Nests::some_nodes))]
     pub fn append_list(&mut self, list: &mut NodeList) -> Result<(), AllocError>
-        requires { length (nodes_of (items_in (innermost self.old))) + length (nodes_of list.old) ≤ MOST_ITEMS }
+        requires { length (nodes_of (items_in (innermost self.old))) + length (nodes_of list.old) ≤ MAX_ITEMS }
         ensures ok { OnOk result (self.new ≡ with_nodes self.old (nodes_of list.old) (innermost self.old)) }
         ensures err { OnErr result (self.new ≡ self.old) }
         ensures back { OnErr result (list.new ≡ list.old) }
@@ -443,7 +416,7 @@ impl Nest {
         ensures some { IfSome result (λ packed. self.new ≡ emptied_nest self.old (innermost self.old)) }
         ensures none { result ≡ None → self.new ≡ self.old }
         ensures list { IfSome result (λ packed. packed.box_node.list ≡ items_in (innermost self.old)) }
-        ensures short { IfSome result (λ packed. length (nodes_of packed.box_node.list) ≤ MOST_ITEMS) }
+        ensures short { IfSome result (λ packed. length (nodes_of packed.box_node.list) ≤ MAX_ITEMS) }
     {
         let alloc = *self.lists.allocator();
         let Some(innermost) = innermost_of(&mut self.lists) else {
@@ -452,9 +425,23 @@ impl Nest {
         innermost.pack(alloc, params)
     }
 
+    /// Takes the items of the innermost list, in the vector that it kept; the list is then empty. It takes no memory.
+    #[tactic(auto, using(crate::proofs::ShortLists::innermost_short))]
+    pub fn take_items(&mut self) -> Vec<Node>
+        ensures items { result.items ≡ nodes_of (items_in (innermost self.old)) }
+        ensures emptied { self.new ≡ emptied_nest self.old (innermost self.old) }
+        ensures short { length result.items ≤ MAX_ITEMS }
+    {
+        let alloc = *self.lists.allocator();
+        let Some(innermost) = innermost_of(&mut self.lists) else {
+            return Vec::new(alloc);
+        };
+        replace(&mut innermost.list, NodeList::new(alloc)).into_vec()
+    }
+
     /// Gives the innermost list these items.
     pub fn refill(&mut self, list: NodeList)
-        requires { length (nodes_of list) ≤ MOST_ITEMS }
+        requires { length (nodes_of list) ≤ MAX_ITEMS }
         ensures { self.new ≡ refilled_nest self.old list (innermost self.old) }
     {
         let Some(innermost) = innermost_of(&mut self.lists) else {
@@ -527,7 +514,7 @@ impl Nest {
     #[tactic(auto, using(crate::proofs::ShortLists::short_with_nodes))]
     pub(crate) fn close_paragraph(&mut self, set: SetParagraph) -> Result<(), AllocError>
         requires open { IsSome (innermost (outer self.old)) }
-        requires room { length (nodes_of (items_in (innermost (outer self.old)))) + length (nodes_of set.items) ≤ MOST_ITEMS }
+        requires room { length (nodes_of (items_in (innermost (outer self.old)))) + length (nodes_of set.items) ≤ MAX_ITEMS }
         ensures ok { OnOk result (self.new ≡ with_lines (outer self.old) (innermost (outer self.old)) (Ok set)) }
         ensures err { OnErr result (self.new ≡ self.old) }
     {

@@ -9,8 +9,8 @@ ghost use Rattle.nest_core.specs.Paragraphs.{pass_number, refusal_for, lines_che
 
 use crate::nest::{ListPurpose, Nest};
 use break_core::Pass;
-use command_core::limits::{MOST_DEEP, MOST_ITEMS, MOST_OPEN};
 use command_core::{Answer, Refusal, Reply};
+use node_core::limits::{MAX_DEPTH, MAX_ITEMS, MAX_OPEN_LISTS};
 use node_core::{Kind, NodeList, Params};
 use paragraph_core::{ParagraphFault, SetParagraph};
 use std::alloc::AllocError;
@@ -56,10 +56,10 @@ fn refusal_of_lines(count: usize, items: &NodeList) -> Option<Refusal>
     ensures { result ≡ first_of (lines_checks count items.now) }
 {
     let length = items.len();
-    if items.depth() > MOST_DEEP {
+    if items.depth() > MAX_DEPTH {
         return Some(Refusal::TooDeep);
     }
-    if count.saturating_add(length) > MOST_ITEMS {
+    if count.saturating_add(length) > MAX_ITEMS {
         return Some(Refusal::ListTooLong);
     }
     None
@@ -79,7 +79,7 @@ impl Nest {
         if innermost.purpose.kind() == Kind::Horizontal {
             return Ok(Err(Refusal::WrongMode));
         }
-        if self.len() >= MOST_OPEN {
+        if self.len() >= MAX_OPEN_LISTS {
             return Ok(Err(Refusal::TooDeep));
         }
         self.begin(ListPurpose::Paragraph)?;

@@ -3,9 +3,9 @@ use Rattle.std.proofs.Common.{◌≡◌, ◌≢◌, ◌∙◌, ℕ, ℤ, ◌+◌
 use Rattle.std.specs.Prelude.{OnOk, OnErr}
 use Rattle.std.proofs.lemmas.List.{take_more}
 use Rattle.node_core.specs.declared.tree.Node.{Node}
-use Rattle.node_core.specs.declared.tree.Node.TheVariants.{Glyph, FontKern, Kern, Glue, Penalty, Rule, Box}
+use Rattle.node_core.specs.declared.tree.Node.TheVariants.{Glyph, FontKern, Kern, Glue, Penalty, Rule, Special, Box}
 use Rattle.node_core.specs.declared.tree.BoxNode.{BoxNode}
-use Rattle.node_core.specs.Items.{Leaf, glyph, font_kern, kern, glue, penalty, rule, Items, none, leaf, box, items_count, items_depth}
+use Rattle.node_core.specs.Items.{Leaf, glyph, font_kern, kern, glue, penalty, rule, special, Items, none, leaf, box, items_count, items_depth, items_text}
 use Rattle.node_core.specs.Nodes.{most_nodes, items_of, node_of, nodes_of}
 
 -- A list of nodes is the nodes of its items.
@@ -17,6 +17,7 @@ nodes_of-items_of ((Kern width) ∷ rest) = ap (λ nodes. Kern width ∷ nodes) 
 nodes_of-items_of ((Glue g) ∷ rest) = ap (λ nodes. Glue g ∷ nodes) (nodes_of-items_of rest)
 nodes_of-items_of ((Penalty p) ∷ rest) = ap (λ nodes. Penalty p ∷ nodes) (nodes_of-items_of rest)
 nodes_of-items_of ((Rule sizes) ∷ rest) = ap (λ nodes. Rule sizes ∷ nodes) (nodes_of-items_of rest)
+nodes_of-items_of ((Special text) ∷ rest) = ap (λ nodes. Special text ∷ nodes) (nodes_of-items_of rest)
 nodes_of-items_of ((Box shift b) ∷ rest) = ap (λ nodes. Box shift b ∷ nodes) (nodes_of-items_of rest)
 
 -- A node before others is its leaf before their items.
@@ -27,6 +28,7 @@ items_of-node_of (kern width) rest = refl
 items_of-node_of (glue g) rest = refl
 items_of-node_of (penalty p) rest = refl
 items_of-node_of (rule sizes) rest = refl
+items_of-node_of (special text) rest = refl
 
 -- Items are the items of their nodes.
 pub items_of-nodes_of : (items : Items) → items_of (nodes_of items) ≡ items
@@ -60,7 +62,22 @@ items_count-append ((Kern width) ∷ rest) x = omega (arith, items_count-append 
 items_count-append ((Glue g) ∷ rest) x = omega (arith, items_count-append rest x)
 items_count-append ((Penalty p) ∷ rest) x = omega (arith, items_count-append rest x)
 items_count-append ((Rule sizes) ∷ rest) x = omega (arith, items_count-append rest x)
+items_count-append ((Special text) ∷ rest) x = omega (arith, items_count-append rest x)
 items_count-append ((Box shift b) ∷ rest) x = omega (arith, items_count-append rest x)
+
+abbrev pub node_text : Node → ℕ
+node_text x = items_text (items_of (x ∷ []))
+
+pub items_text-append : (front : List Node) → (x : Node) → items_text (items_of (front ++ x ∷ [])) ≡ items_text (items_of front) + node_text x
+items_text-append [] x = omega arith
+items_text-append ((Glyph g) ∷ rest) x = omega (arith, items_text-append rest x)
+items_text-append ((FontKern width) ∷ rest) x = omega (arith, items_text-append rest x)
+items_text-append ((Kern width) ∷ rest) x = omega (arith, items_text-append rest x)
+items_text-append ((Glue g) ∷ rest) x = omega (arith, items_text-append rest x)
+items_text-append ((Penalty p) ∷ rest) x = omega (arith, items_text-append rest x)
+items_text-append ((Rule sizes) ∷ rest) x = omega (arith, items_text-append rest x)
+items_text-append ((Special text) ∷ rest) x = omega (arith, items_text-append rest x)
+items_text-append ((Box shift b) ∷ rest) x = omega (arith, items_text-append rest x)
 
 pub items_depth-append : (front : List Node) → (x : Node) → items_depth (items_of (front ++ x ∷ [])) ≡ max (items_depth (items_of front)) (node_depth x)
 items_depth-append [] x = omega arith
@@ -70,6 +87,7 @@ items_depth-append ((Kern width) ∷ rest) x = omega (arith, items_depth-append 
 items_depth-append ((Glue g) ∷ rest) x = omega (arith, items_depth-append rest x)
 items_depth-append ((Penalty p) ∷ rest) x = omega (arith, items_depth-append rest x)
 items_depth-append ((Rule sizes) ∷ rest) x = omega (arith, items_depth-append rest x)
+items_depth-append ((Special text) ∷ rest) x = omega (arith, items_depth-append rest x)
 items_depth-append ((Box shift b) ∷ rest) x = omega (arith, items_depth-append rest x)
 
 -- The same of one more node of a list that is passed.
@@ -93,6 +111,7 @@ leaf_count (Kern width) other = refl
 leaf_count (Glue g) other = refl
 leaf_count (Penalty p) other = refl
 leaf_count (Rule sizes) other = refl
+leaf_count (Special text) other = refl
 leaf_count (Box shift b) other = absurd (other shift b refl)
 
 pub leaf_depth : (x : Node) → ((shift : ℤ) (b : BoxNode) → x ≢ Box shift b) → node_depth x ≡ 0
@@ -102,4 +121,22 @@ leaf_depth (Kern width) other = refl
 leaf_depth (Glue g) other = refl
 leaf_depth (Penalty p) other = refl
 leaf_depth (Rule sizes) other = refl
+leaf_depth (Special text) other = refl
 leaf_depth (Box shift b) other = absurd (other shift b refl)
+
+pub items_text_more : (nodes : List Node) → (i : ℕ) → (x : Node) → i < length nodes → x ≡ get_or nodes i x →
+    items_text (items_of (take (i + 1) nodes)) ≡ items_text (items_of (take i nodes)) + node_text x
+items_text_more nodes i x below is =
+    ap (λ front. items_text (items_of front)) (take_more nodes i x below) ∙ items_text-append (take i nodes) (get_or nodes i x)
+    ∙ ap (λ y. items_text (items_of (take i nodes)) + node_text y) (sym is)
+
+-- What is neither a box nor a special has no text.
+pub leaf_text : (x : Node) → ((shift : ℤ) (b : BoxNode) → x ≢ Box shift b) → ((text : List ℕ) → x ≢ Special text) → node_text x ≡ 0
+leaf_text (Glyph g) no_box other = refl
+leaf_text (FontKern width) no_box other = refl
+leaf_text (Kern width) no_box other = refl
+leaf_text (Glue g) no_box other = refl
+leaf_text (Penalty p) no_box other = refl
+leaf_text (Rule sizes) no_box other = refl
+leaf_text (Special text) no_box other = absurd (other text refl)
+leaf_text (Box shift b) no_box other = absurd (no_box shift b refl)

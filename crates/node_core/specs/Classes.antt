@@ -8,7 +8,7 @@ use Rattle.node_core.specs.declared.tree.Node.TheVariants as nodes
 use Rattle.node_core.specs.declared.tree.Order.{Order}
 use Rattle.node_core.specs.declared.tree.Order.TheVariants.{Normal, Fil, Fill, Filll}
 use Rattle.node_core.specs.declared.class.ItemClass.{ItemClass}
-use Rattle.node_core.specs.declared.class.ItemClass.TheVariants.{BoxOrRule, GlyphOrFontKern, Glue, Kern, Penalty}
+use Rattle.node_core.specs.declared.class.ItemClass.TheVariants.{BoxOrRule, GlyphOrFontKern, Glue, Kern, Penalty, Special}
 
 -- The class of an item.
 abbrev pub class_of : Node → ItemClass
@@ -18,6 +18,7 @@ class_of (nodes.Kern width) = Kern
 class_of (nodes.Glue glue) = Glue
 class_of (nodes.Penalty penalty) = Penalty
 class_of (nodes.Rule rule) = BoxOrRule
+class_of (nodes.Special text) = Special
 class_of (nodes.Box shift b) = BoxOrRule
 
 -- Items that are dropped at the start of a line and at the top of a page: glue, explicit kerns and penalties.
@@ -27,8 +28,9 @@ is_discardable GlyphOrFontKern = false
 is_discardable Glue = true
 is_discardable Kern = true
 is_discardable Penalty = true
+is_discardable Special = false
 
--- Items behind which glue is a legal break: a box or a rule; in a horizontal list a character or a kern of a font too.
+-- Items after which glue is a legal break: a box, a rule or a special; in a horizontal list a character or a kern of a font too.
 abbrev pub precedes_break : Kind → ItemClass → Bool
 precedes_break kind BoxOrRule = true
 precedes_break Horizontal GlyphOrFontKern = true
@@ -36,6 +38,7 @@ precedes_break Vertical GlyphOrFontKern = false
 precedes_break kind Glue = false
 precedes_break kind Kern = false
 precedes_break kind Penalty = false
+precedes_break kind Special = true
 
 -- Whether an item is a box or a rule.
 abbrev pub is_box_or_rule : ItemClass → Bool
@@ -44,14 +47,16 @@ is_box_or_rule GlyphOrFontKern = false
 is_box_or_rule Glue = false
 is_box_or_rule Kern = false
 is_box_or_rule Penalty = false
+is_box_or_rule Special = false
 
--- Whether an item is a penalty.
-abbrev pub is_penalty : ItemClass → Bool
-is_penalty BoxOrRule = false
-is_penalty GlyphOrFontKern = false
-is_penalty Glue = false
-is_penalty Kern = false
-is_penalty Penalty = true
+-- Whether items of the class have no size and leave the depth of what is before them pending: penalties and specials.
+abbrev pub is_sizeless : ItemClass → Bool
+is_sizeless BoxOrRule = false
+is_sizeless GlyphOrFontKern = false
+is_sizeless Glue = false
+is_sizeless Kern = false
+is_sizeless Penalty = true
+is_sizeless Special = true
 
 -- Whether a number is 0 (own).
 abbrev pub is_zero : ℤ → Bool
@@ -74,4 +79,5 @@ shrinks_infinitely (nodes.FontKern width) = false
 shrinks_infinitely (nodes.Kern width) = false
 shrinks_infinitely (nodes.Penalty penalty) = false
 shrinks_infinitely (nodes.Rule rule) = false
+shrinks_infinitely (nodes.Special text) = false
 shrinks_infinitely (nodes.Box shift b) = false

@@ -1,6 +1,6 @@
 -- How the logic stores the items of a list (own; the model of `NodeList` alone, no public clause speaks of it).
-use Rattle.std.proofs.Common.{◌≡◌, ◌≢◌, ◌⊎◌, ℕ, ℤ, refl, inl, inr, ap, arith}
-use Rattle.std.specs.Coded.{Coded, code_by, coded⊎, coded×, coded_ℤ}
+use Rattle.std.proofs.Common.{◌≡◌, ◌≢◌, ◌⊎◌, ℕ, ℤ, List, refl, inl, inr, ap, arith}
+use Rattle.std.specs.Coded.{Coded, code_by, coded⊎, coded×, coded_ℕ, coded_ℤ, coded_list}
 use base.Stored.{Gv, gnil, gnum, gcons}
 use Rattle.node_core.specs.declared.tree.Glue.{Glue}
 use Rattle.node_core.specs.declared.tree.Glyph.{Glyph}
@@ -12,11 +12,11 @@ use Rattle.node_core.specs.contracts.tree.Glyph as a_glyph
 use Rattle.node_core.specs.contracts.tree.Kind as a_kind
 use Rattle.node_core.specs.contracts.tree.Rule as a_rule
 use Rattle.node_core.specs.contracts.tree.Setting as a_setting
-use Rattle.node_core.specs.Items.{Leaf, glyph, font_kern, kern, glue, penalty, rule, Frame, Items, none, leaf, box}
+use Rattle.node_core.specs.Items.{Leaf, glyph, font_kern, kern, glue, penalty, rule, special, Frame, Items, none, leaf, box}
 
--- What a leaf is stored as: a number (of a kern of either kind, or of a penalty), or a glyph, glue or a rule (own).
+-- What a leaf is stored as: a number (of a kern of either kind, or of a penalty), or a glyph, glue, a rule, or the text of a special (own).
 abbrev pub Cases : Type 0
-Cases = (ℤ ⊎ (ℤ ⊎ ℤ)) ⊎ (Glyph ⊎ (Glue ⊎ Rule))
+Cases = (ℤ ⊎ (ℤ ⊎ ℤ)) ⊎ (Glyph ⊎ (Glue ⊎ (Rule ⊎ List ℕ)))
 
 -- The case that a leaf is stored as (own).
 abbrev pub cases_of : Leaf → Cases
@@ -25,7 +25,8 @@ cases_of (font_kern width) = inl (inl width)
 cases_of (kern width) = inl (inr (inl width))
 cases_of (penalty p) = inl (inr (inr p))
 cases_of (glue g) = inr (inr (inl g))
-cases_of (rule sizes) = inr (inr (inr sizes))
+cases_of (rule sizes) = inr (inr (inr (inl sizes)))
+cases_of (special text) = inr (inr (inr (inr text)))
 
 -- The leaf that is stored as a case (own).
 abbrev pub leaf_of : Cases → Leaf
@@ -34,7 +35,8 @@ leaf_of (inl (inr (inl width))) = kern width
 leaf_of (inl (inr (inr p))) = penalty p
 leaf_of (inr (inl g)) = glyph g
 leaf_of (inr (inr (inl g))) = glue g
-leaf_of (inr (inr (inr sizes))) = rule sizes
+leaf_of (inr (inr (inr (inl sizes)))) = rule sizes
+leaf_of (inr (inr (inr (inr text)))) = special text
 
 -- The leaf that is stored as the case of a leaf is this leaf (own).
 pub leaf_of-cases_of : (x : Leaf) → leaf_of (cases_of x) ≡ x
@@ -44,11 +46,12 @@ leaf_of-cases_of (kern width) = refl
 leaf_of-cases_of (glue g) = refl
 leaf_of-cases_of (penalty p) = refl
 leaf_of-cases_of (rule sizes) = refl
+leaf_of-cases_of (special text) = refl
 
 -- How a leaf is stored (own).
 abbrev pub coded_leaf : Coded Leaf
 coded_leaf =
-    code_by Cases (coded⊎ (coded⊎ coded_ℤ (coded⊎ coded_ℤ coded_ℤ)) (coded⊎ a_glyph.the_row.coded (coded⊎ a_glue.the_row.coded a_rule.the_row.coded)))
+    code_by Cases (coded⊎ (coded⊎ coded_ℤ (coded⊎ coded_ℤ coded_ℤ)) (coded⊎ a_glyph.the_row.coded (coded⊎ a_glue.the_row.coded (coded⊎ a_rule.the_row.coded (coded_list coded_ℕ)))))
     cases_of leaf_of leaf_of-cases_of
 
 -- How a frame is stored (own).

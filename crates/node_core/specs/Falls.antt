@@ -3,7 +3,7 @@ use Rattle.std.specs.Prelude.{◌≤◌, max, List, [], ◌∷◌}
 use Rattle.std.proofs.Common.{arith}
 use denote.Param.Weighed.{most}
 use Rattle.node_core.specs.declared.tree.Node.{Node}
-use Rattle.node_core.specs.declared.tree.Node.TheVariants.{Glyph, FontKern, Kern, Glue, Penalty, Rule, Box}
+use Rattle.node_core.specs.declared.tree.Node.TheVariants.{Glyph, FontKern, Kern, Glue, Penalty, Rule, Special, Box}
 use Rattle.node_core.specs.declared.tree.NodeList.TheDeep.{deep-Node}
 use Rattle.node_core.specs.Items.{items_depth}
 use Rattle.node_core.specs.Nodes.{items_of}
@@ -17,4 +17,5 @@ most_le-items_depth ((Kern width) ∷ rest) = omega (arith, most_le-items_depth 
 most_le-items_depth ((Glue g) ∷ rest) = omega (arith, most_le-items_depth rest)
 most_le-items_depth ((Penalty p) ∷ rest) = omega (arith, most_le-items_depth rest)
 most_le-items_depth ((Rule sizes) ∷ rest) = omega (arith, most_le-items_depth rest)
+most_le-items_depth ((Special text) ∷ rest) = omega (arith, most_le-items_depth rest)
 most_le-items_depth ((Box shift b) ∷ rest) = omega (arith, most_le-items_depth rest)

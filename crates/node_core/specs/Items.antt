@@ -1,12 +1,13 @@
 -- The items of a list as a tree, and its numbers (TeX: The Program, part 10).
-use Rattle.std.specs.Prelude.{ℕ, ℤ, ◌+◌, max}
+use Rattle.std.specs.Prelude.{ℕ, ℤ, List, length, ◌+◌, max}
 use Rattle.node_core.specs.declared.tree.Glue.{Glue}
 use Rattle.node_core.specs.declared.tree.Glyph.{Glyph}
 use Rattle.node_core.specs.declared.tree.Kind.{Kind}
 use Rattle.node_core.specs.declared.tree.Rule.{Rule}
 use Rattle.node_core.specs.declared.tree.Setting.{Setting}
 
--- An item that has no items of its own: a character of a font, a kern of a font, an explicit kern, glue, a penalty, or a rule (TeX: The Program, part 10).
+-- An item that has no items of its own: a character of a font, a kern of a font, an explicit kern, glue, a penalty, a rule, or a special, which is
+-- its text (TeX: The Program, parts 10 and 53).
 pub data Leaf : Type 0 where
   glyph : Glyph → Leaf
   font_kern : ℤ → Leaf
@@ -14,6 +15,7 @@ pub data Leaf : Type 0 where
   glue : Glue → Leaf
   penalty : ℤ → Leaf
   rule : Rule → Leaf
+  special : (text : List ℕ) → Leaf
 
 -- A box without its list: its kind, its sizes, and how its glue is set (TeX: The Program, part 10).
 pub record Frame : Type 0 where
@@ -41,6 +43,22 @@ items_count none = 0
 items_count (leaf x rest) = items_count rest + 1
 items_count (box shift frame inner rest) = items_count inner + 1 + items_count rest
 
+-- How many bytes the text of an item has, if it is a special (own).
+abbrev pub text_in : Leaf → ℕ
+text_in (glyph g) = 0
+text_in (font_kern width) = 0
+text_in (kern width) = 0
+text_in (glue g) = 0
+text_in (penalty p) = 0
+text_in (rule sizes) = 0
+text_in (special text) = length text
+
+-- How many bytes the texts of the specials in a list have, those of its boxes included (own).
+abbrev pub items_text : Items → ℕ
+items_text none = 0
+items_text (leaf x rest) = items_text rest + text_in x
+items_text (box shift frame inner rest) = items_text inner + items_text rest
+
 -- Each leaf of a list has a property, those of its boxes too (own).
 abbrev pub EachLeaf : (Leaf → Type 0) → Items → Type 0
 EachLeaf P none = Unit {0}
@@ -55,6 +73,7 @@ IfGlyph P (kern width) = Unit {0}
 IfGlyph P (glue g) = Unit {0}
 IfGlyph P (penalty p) = Unit {0}
 IfGlyph P (rule sizes) = Unit {0}
+IfGlyph P (special text) = Unit {0}
 
 -- Each glyph of a list has a property, those of its boxes too (own).
 abbrev pub EachGlyph : (Glyph → Type 0) → Items → Type 0

@@ -2,6 +2,7 @@
 pub mod Items
 pub mod Codes
 pub mod Nodes
+pub mod Loads
 pub mod Falls
 pub mod Classes
 pub mod Parameters

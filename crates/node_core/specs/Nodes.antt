@@ -1,9 +1,9 @@
 -- A list of nodes and the items that it is seen as (own).
 use Rattle.std.specs.Prelude.{ℕ, ◌+◌, ◌-◌, List, [], ◌∷◌, length, take, slice_get, Option, None, Some}
 use Rattle.node_core.specs.declared.tree.Node.{Node}
-use Rattle.node_core.specs.declared.tree.Node.TheVariants.{Glyph, FontKern, Kern, Glue, Penalty, Rule, Box}
+use Rattle.node_core.specs.declared.tree.Node.TheVariants.{Glyph, FontKern, Kern, Glue, Penalty, Rule, Special, Box}
 use Rattle.node_core.specs.declared.tree.BoxNode.{BoxNode}
-use Rattle.node_core.specs.Items.{Leaf, glyph, font_kern, kern, glue, penalty, rule, Frame, Items, none, leaf, box, items_depth, items_count}
+use Rattle.node_core.specs.Items.{Leaf, glyph, font_kern, kern, glue, penalty, rule, special, Frame, Items, none, leaf, box, items_depth, items_count, items_text}
 
 -- A list has at most so many nodes (own).
 abbrev pub most_nodes : ℕ
@@ -27,6 +27,7 @@ items_of ((Kern width) ∷ rest) = leaf (kern width) (items_of rest)
 items_of ((Glue g) ∷ rest) = leaf (glue g) (items_of rest)
 items_of ((Penalty p) ∷ rest) = leaf (penalty p) (items_of rest)
 items_of ((Rule sizes) ∷ rest) = leaf (rule sizes) (items_of rest)
+items_of ((Special text) ∷ rest) = leaf (special text) (items_of rest)
 items_of ((Box shift b) ∷ rest) = box shift (frame_of b) b.list (items_of rest)
 
 -- The node that a leaf is (own).
@@ -37,6 +38,7 @@ node_of (kern width) = Kern width
 node_of (glue g) = Glue g
 node_of (penalty p) = Penalty p
 node_of (rule sizes) = Rule sizes
+node_of (special text) = Special text
 
 -- The nodes that items are (own).
 abbrev pub nodes_of : Items → List Node
@@ -52,6 +54,10 @@ box_depth b = items_depth b.list + 1
 abbrev pub box_count : BoxNode → ℕ
 box_count b = items_count b.list + 1
 
+-- How many bytes the texts of the specials in a box have (own).
+abbrev pub box_text : BoxNode → ℕ
+box_text b = items_text b.list
+
 -- The box that a node is, if it is one (own).
 abbrev pub box_in : Node → Option BoxNode
 box_in (Glyph g) = None
@@ -60,6 +66,7 @@ box_in (Kern width) = None
 box_in (Glue g) = None
 box_in (Penalty p) = None
 box_in (Rule sizes) = None
+box_in (Special text) = None
 box_in (Box shift b) = Some b
 
 -- The box that a node is, if there is a node and it is a box (own).

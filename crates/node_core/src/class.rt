@@ -1,7 +1,7 @@
 //! What an item is to the breaking and the packing of lists.
 
 ghost use Rattle.std.specs.Prelude.{◌≡◌};
-ghost use Rattle.node_core.specs.Classes.{class_of, is_discardable, precedes_break, is_box_or_rule, is_penalty, shrinks_infinitely};
+ghost use Rattle.node_core.specs.Classes.{class_of, is_discardable, precedes_break, is_box_or_rule, is_sizeless, shrinks_infinitely};
 
 use crate::tree::{Kind, Node, Order};
 
@@ -18,6 +18,8 @@ pub enum ItemClass {
     Kern,
     /// A penalty.
     Penalty,
+    /// A special.
+    Special,
 }
 
 impl ItemClass {
@@ -26,17 +28,17 @@ impl ItemClass {
         ensures { result ≡ is_discardable self }
     {
         match self {
-            ItemClass::BoxOrRule | ItemClass::GlyphOrFontKern => false,
+            ItemClass::BoxOrRule | ItemClass::GlyphOrFontKern | ItemClass::Special => false,
             ItemClass::Glue | ItemClass::Kern | ItemClass::Penalty => true,
         }
     }
 
-    /// Whether glue behind an item of the class is a legal break, in a list of that kind.
+    /// Whether glue after an item of the class is a legal break, in a list of that kind.
     pub fn precedes_break(self, kind: Kind) -> bool
         ensures { result ≡ precedes_break kind self }
     {
         match self {
-            ItemClass::BoxOrRule => true,
+            ItemClass::BoxOrRule | ItemClass::Special => true,
             ItemClass::GlyphOrFontKern => kind == Kind::Horizontal,
             ItemClass::Glue | ItemClass::Kern | ItemClass::Penalty => false,
         }
@@ -52,12 +54,12 @@ impl ItemClass {
         }
     }
 
-    /// Whether items of the class are penalties.
-    pub fn is_penalty(self) -> bool
-        ensures { result ≡ is_penalty self }
+    /// Whether items of the class have no size and leave the depth of what is before them pending: penalties and specials.
+    pub fn is_sizeless(self) -> bool
+        ensures { result ≡ is_sizeless self }
     {
         match self {
-            ItemClass::Penalty => true,
+            ItemClass::Penalty | ItemClass::Special => true,
             _ => false,
         }
     }
@@ -74,6 +76,7 @@ impl Node {
             Node::Glue(_) => ItemClass::Glue,
             Node::Penalty(_) => ItemClass::Penalty,
             Node::Rule(_) | Node::Box(..) => ItemClass::BoxOrRule,
+            Node::Special(_) => ItemClass::Special,
         }
     }
 

@@ -4,11 +4,14 @@
 #![tactic(auto)]
 
 pub mod class;
+pub mod limits;
 pub mod params;
+pub mod special;
 pub mod tree;
 
 pub use class::ItemClass;
 pub use params::{FirstLines, Number, Params, SplitParams};
+pub use special::SpecialText;
 pub use tree::{
     BoxNode, Glue, Glyph, Kind, Node, NodeList, Order, Rule, RuleSize, Setting, push_box,
 };

@@ -4,9 +4,10 @@
 //! the same tree. `nodes_of` gives the nodes of a list in order.
 
 ghost use Rattle.std.specs.Prelude.{◌≡◌, ◌==◌, ◌<◌, ◌≤◌, ◌+◌, [], ◌∷◌, ◌++◌, length, take, OnOk, OnErr, IfOk, IfErr, min, max};
-ghost use Rattle.node_core.specs.Items.{Items, none, items_depth, items_count};
-ghost use Rattle.node_core.specs.Nodes.{most_nodes, items_of, nodes_of, box_depth, box_count, last_box, without};
+ghost use Rattle.node_core.specs.Items.{Items, none, items_depth, items_count, items_text};
+ghost use Rattle.node_core.specs.Nodes.{most_nodes, items_of, nodes_of, box_depth, box_count, box_text, last_box, without};
 
+use crate::special::SpecialText;
 use scaled_core::{Dimen, Ratio};
 use std::alloc::{AllocError, AllocFailed, Global};
 use std::marker::Model;
@@ -27,6 +28,8 @@ pub enum Node {
     Penalty(i32),
     /// A rule: a filled rectangle.
     Rule(Rule),
+    /// A special: a text for whoever reads the page, without a size.
+    Special(SpecialText),
     /// A box, and how far it is shifted: down in a horizontal list, to the right in a vertical one.
     Box(Dimen, BoxNode),
 }
@@ -306,14 +309,29 @@ impl NodeList {
     pub fn count(&self) -> u64
         ensures { result ≡ min (items_count self.now) u64.MAX }
     {
-        let mut count: u64 = 0;
+        let mut count = self.nodes.len() as u64;
         for node in &self.nodes {
-            count = count.saturating_add(1);
             if let Node::Box(_, inner) = node {
                 count = count.saturating_add(inner.list.count());
             }
         }
         count
+    }
+
+    /// How many bytes the texts of the specials have, those in inner boxes included; cut at the greatest number. It takes no memory.
+    #[tactic(auto, using(crate::proofs::NodeLemmas::nodes))]
+    pub fn text_size(&self) -> u64
+        ensures { result ≡ min (items_text self.now) u64.MAX }
+    {
+        let mut size: u64 = 0;
+        for node in &self.nodes {
+            match node {
+                Node::Box(_, inner) => size = size.saturating_add(inner.list.text_size()),
+                Node::Special(text) => size = size.saturating_add(text.as_bytes().len() as u64),
+                _ => {}
+            }
+        }
+        size
     }
 }
 
@@ -352,6 +370,7 @@ impl Node {
             Node::Glue(glue) => Node::Glue(*glue),
             Node::Penalty(penalty) => Node::Penalty(*penalty),
             Node::Rule(rule) => Node::Rule(*rule),
+            Node::Special(text) => Node::Special(text.copy(alloc)?),
             Node::Box(shift, box_node) => Node::Box(*shift, box_node.copy(alloc)?),
         })
     }
@@ -386,5 +405,12 @@ impl BoxNode {
         ensures { result ≡ min (box_count self.now) u64.MAX }
     {
         self.list.count().saturating_add(1)
+    }
+
+    /// How many bytes the texts of the specials in it have, those in its inner boxes included; cut at the greatest number. It takes no memory.
+    pub fn text_size(&self) -> u64
+        ensures { result ≡ min (box_text self.now) u64.MAX }
+    {
+        self.list.text_size()
     }
 }

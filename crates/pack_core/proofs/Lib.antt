@@ -1,9 +1,11 @@
 -- Lemmas on sums, greatest sizes and the setting of glue.
 pub mod Sums
 pub mod Passing
+pub mod Measured
 pub mod Topped
 pub mod Steps
 pub mod Walks
+pub mod Front
 pub mod Edge
 pub mod Highest
 pub mod Packing

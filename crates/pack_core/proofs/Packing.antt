@@ -18,9 +18,9 @@ use Rattle.pack_core.specs.Items.{advance}
 use Rattle.scaled_core.specs.Dimensions.{fits}
 use Rattle.pack_core.specs.Totals.{total, first_height}
 use Rattle.pack_core.specs.Glue.{setting_of, setting_badness}
-use Rattle.pack_core.specs.Boxes.{hbox, hbox_excess, hbox_badness, hbox_numbers, hpacked, vbox, vbox_excess, vbox_badness, vbox_numbers, vpacked, vtop_box, vtop_numbers, vtopped}
+use Rattle.pack_core.specs.Boxes.{hbox, hbox_excess, hbox_badness, hbox_numbers, hpacked, vbox, vbox_excess, vbox_badness, vbox_numbers, vpacked, vtop_box, vtop_numbers, vtopped, some_if, vbox_shell, packed_of}
 use Rattle.pack_core.specs.Places.{place, place_in}
-use Rattle.pack_core.specs.Steps.{some_if, glue_set, hbox_shell, vbox_shell, vtop_shell, packed_of, boxed_list}
+use Rattle.pack_core.specs.Steps.{hbox_shell, vtop_shell, boxed_list}
 use Rattle.pack_core.proofs.Edge.{fills}
 
 boxed-given : (fit : Bool) (items : Items) (shell : Shell) → boxed_list items (some_if fit shell) ≡ (if fit then Ok (packed_of items shell) else Err (record { list = items }))
@@ -29,22 +29,29 @@ boxed-given true items shell = refl
 boxed-given false items shell = refl
 
 pub boxed-hbox : (target : Target) (items : Items) → boxed_list items (some_if (list_all fits (hbox_numbers target (nodes_of items))) (hbox_shell target (nodes_of items))) ≡ hpacked target items
-unfolding hpacked hbox hbox_shell packed_of glue_set
+unfolding hpacked hbox hbox_shell packed_of
 boxed-hbox target items = boxed-given (list_all fits (hbox_numbers target (nodes_of items))) items (hbox_shell target (nodes_of items))
 
 pub boxed-vbox :
     (target : Target) (limit : ℤ) (items : Items)
     → boxed_list items (some_if (list_all fits (vbox_numbers target limit (nodes_of items))) (vbox_shell target limit (nodes_of items))) ≡ vpacked target limit items
-unfolding vpacked vbox vbox_shell packed_of glue_set
+unfolding vpacked vbox vbox_shell packed_of
 boxed-vbox target limit items = boxed-given (list_all fits (vbox_numbers target limit (nodes_of items))) items (vbox_shell target limit (nodes_of items))
 
 pub boxed-vtop :
     (target : Target) (limit : ℤ) (items : Items)
     → boxed_list items (some_if (list_all fits (vtop_numbers target limit (nodes_of items))) (vtop_shell (vbox_shell target limit (nodes_of items)) (first_height (nodes_of items))))
     ≡ vtopped target limit items
-unfolding vtopped vtop_box vbox vbox_shell vtop_shell packed_of glue_set
+unfolding vtopped vtop_box vbox vbox_shell vtop_shell packed_of
 boxed-vtop target limit items =
     boxed-given (list_all fits (vtop_numbers target limit (nodes_of items))) items (vtop_shell (vbox_shell target limit (nodes_of items)) (first_height (nodes_of items)))
+
+-- A list in the shell of its vbox is its vbox.
+pub packed-vbox :
+    (target : Target) (limit : ℤ) (items : Items)
+    → packed_of items (vbox_shell target limit (nodes_of items)) ≡ record { box_node = vbox target limit items; badness = vbox_badness target limit (nodes_of items) }
+unfolding vbox vbox_shell packed_of
+packed-vbox target limit items = refl
 
 -- A fact of the packed box holds wherever the list is packed; and the list is packed exactly where all its numbers fit.
 packed-ok :

@@ -14,7 +14,7 @@ use Rattle.pack_core.specs.Totals.{total, pending_depth}
 use Rattle.pack_core.specs.Glue.{stretch_totals, shrink_totals}
 use Rattle.pack_core.specs.Orders.{order_amounts, plus, AreWithin}
 use Rattle.pack_core.specs.declared.orders.OrderAmounts.{OrderAmounts}
-use Rattle.pack_core.specs.ListTotals.{totals_of, with_item}
+use Rattle.pack_core.specs.ListTotals.{ListTotals, totals_of, with_item, pending_behind}
 use Rattle.pack_core.proofs.Sums.{total-append, pending-append}
 
 total-one : (size : Node → ℤ) (xs : List Node) (x : Node) → total size xs +ℤ size x ≡ total size (xs ++ x ∷ [])
@@ -69,6 +69,7 @@ no_stretch (nodes.Glyph glyph) other order = refl
 no_stretch (nodes.FontKern width) other order = refl
 no_stretch (nodes.Kern width) other order = refl
 no_stretch (nodes.Penalty penalty) other order = refl
+no_stretch (nodes.Special text) other order = refl
 no_stretch (nodes.Rule rule) other order = refl
 no_stretch (nodes.Box shift b) other order = refl
 
@@ -78,6 +79,7 @@ no_shrink (nodes.Glyph glyph) other order = refl
 no_shrink (nodes.FontKern width) other order = refl
 no_shrink (nodes.Kern width) other order = refl
 no_shrink (nodes.Penalty penalty) other order = refl
+no_shrink (nodes.Special text) other order = refl
 no_shrink (nodes.Rule rule) other order = refl
 no_shrink (nodes.Box shift b) other order = refl
 
@@ -89,6 +91,23 @@ plus-nothing amounts more none =
     let fill : amounts.fill ≡ amounts.fill +ℤ more Fill = omega (arith, ints, none Fill) in
     let filll : amounts.filll ≡ amounts.filll +ℤ more Filll = omega (arith, ints, none Filll) in
     rw (← normal, ← fil, ← fill, ← filll) refl
+
+-- What is no glue leaves the amounts as they are.
+pub with_item-no_glue :
+    (totals : ListTotals) (node : Node) → IsNoGlue node
+    → record totals { advance = totals.advance +ℤ advance totals.kind node; pending_depth = pending_behind totals.pending_depth node; passed = totals.passed + 1 }
+    ≡ with_item totals node
+with_item-no_glue totals node other =
+    let stretch = plus-nothing totals.stretch (λ order. stretch_in order node) (no_stretch node other) in
+    let shrink = plus-nothing totals.shrink (λ order. shrink_in order node) (no_shrink node other) in
+    λ i. record {
+      kind = totals.kind;
+      advance = totals.advance +ℤ advance totals.kind node;
+      stretch = stretch i;
+      shrink = shrink i;
+      pending_depth = pending_behind totals.pending_depth node;
+      passed = totals.passed + 1;
+    }
 
 -- Each total of a list.
 pub totals-kind : (kind : Kind) (nodes : List Node) → (totals_of kind nodes).kind ≡ kind

@@ -1,8 +1,8 @@
 -- The steps from the totals of a list to its box fit together.
-use Rattle.std.proofs.Common.{◌≡◌, ◌∙◌, ℕ, ◌==◌, length, List, [], ◌∷◌, Bool, true, false, refl, sym, ap, arith}
+use Rattle.std.proofs.Common.{◌≡◌, ◌∙◌, ℕ, ◌==◌, ◌&&◌, length, List, [], ◌∷◌, Bool, true, false, refl, sym, ap, arith}
 use Rattle.std.specs.Prelude.{◌-ℤ◌, ℤ, pos, negsuc, zero, suc, Option, Some, None, if◌then◌else◌}
 use Rattle.std.specs.List.{list_all}
-use Rattle.std.specs.Option.{is_some}
+use Rattle.std.specs.Option.{is_some, IfSome}
 use Rattle.std.proofs.Math.Path.{fun_ext}
 use Rattle.std.proofs.lemmas.Bool.Decides.{nat_tests}
 use Rattle.node_core.specs.declared.tree.Kind.TheVariants.{Horizontal, Vertical}
@@ -17,15 +17,15 @@ use Rattle.pack_core.specs.Items.{advance, across, above, below, downward, bread
 use Rattle.scaled_core.specs.Dimensions.{fits, Within, dimension_of}
 use Rattle.pack_core.specs.Totals.{total, greatest, first_height}
 use Rattle.pack_core.specs.Glue.{highest, stretched, shrunk, setting_of, setting_badness, stretch_totals, shrink_totals, stretch_badness, shrink_badness}
-use Rattle.pack_core.specs.Boxes.{wanted, glue_totals, hbox_width, hbox_excess, hbox_numbers, natural_height, vbox_depth, vbox_height, vbox_excess, vbox_numbers, vtop_depth, vtop_numbers}
+use Rattle.pack_core.specs.Boxes.{wanted, glue_totals, hbox_width, hbox_excess, hbox_badness, hbox_numbers, natural_height, vbox_depth, vbox_height, vbox_excess, vbox_badness, vbox_numbers, vtop_depth, vtop_numbers, some_if, vbox_shell}
 use Rattle.pack_core.specs.declared.setting.GlueSet.{GlueSet}
 use Rattle.pack_core.specs.declared.pack.Target.{Target}
 use Rattle.pack_core.specs.declared.pack.Shell.{Shell}
 use Rattle.std.proofs.Math.Bool.{and-true, and-false}
 use Rattle.scaled_core.proofs.Fitting.{dimension_fits, dimension_found, dimension_missing}
 use Rattle.std.proofs.lemmas.List.Folds.{list_all-append}
-use Rattle.pack_core.specs.Orders.{by_order, order_dimens, order_amounts, amounts_listed, each_order}
-use Rattle.pack_core.specs.Steps.{some_if, dimens_of, shrink_ratio, shrink_setting, stretch_setting, set_to, stretching_badness, shrinking_badness, excess_badness, list_badness, glue_set, hbox_shell, vbox_shell, vtop_shell}
+use Rattle.pack_core.specs.Orders.{by_order, order_dimens, order_amounts, each_order}
+use Rattle.pack_core.specs.Steps.{dimens_of, shrink_ratio, shrink_setting, stretch_setting, set_to, stretching_badness, shrinking_badness, excess_badness, list_badness, glue_set, hbox_shell, vtop_shell}
 
 -- A value where a test holds: it is there exactly where the test holds.
 pub some_if-true : {A : Type 0} (x : A) → some_if true x ≡ Some x
@@ -51,18 +51,10 @@ unfolding some_if
 some_if-is_some true x = refl
 some_if-is_some false x = refl
 
--- A dimension is there exactly where its number fits.
-pub dimension-is_some : (z : ℤ) → is_some (dimension_of z) ≡ fits z
-unfolding dimension_of
-dimension-is_some z = here (fits z)
-  where
-    here : (fit : Bool) → is_some (if fit then Some z else None) ≡ fit
-    here true = refl
-    here false = refl
-
-pub dimens-is_some : (amounts : OrderAmounts) → is_some (dimens_of amounts) ≡ list_all fits (amounts_listed amounts)
-unfolding dimens_of
-dimens-is_some amounts = some_if-is_some _ _
+pub some_if-value : {A : Type 0} (b : Bool) (x : A) → IfSome (some_if b x) (λ y. y ≡ x)
+unfolding some_if
+some_if-value true x = refl
+some_if-value false x = tt
 
 -- The advances of a horizontal and of a vertical list.
 pub total-across : (nodes : List Node) → total (advance Horizontal) nodes ≡ total across nodes
@@ -184,6 +176,28 @@ glue-refused-shrink excess nodes refused =
     list_all-append fits (each_order (stretch_totals nodes)) (each_order (shrink_totals nodes)) ∙ rw some (and-false (list_all fits (each_order (stretch_totals nodes)))) in
     rw all (sym (some_if-false _))
 
+-- Where one of some numbers does not fit, not all do.
+unfit-first : (a b : Bool) → a ≡ false → (a && b) ≡ false
+unfit-first a b unfit = ap (λ (x : Bool). x && b) unfit
+
+false-second : (a b : Bool) → (a && (b && false)) ≡ false
+false-second a b = ap (λ (x : Bool). a && x) (and-false b) ∙ and-false a
+
+false-third : (a b c : Bool) → (a && (b && (c && false))) ≡ false
+false-third a b c = ap (λ (x : Bool). a && (b && x)) (and-false c) ∙ false-second a b
+
+false-fourth : (a b c d : Bool) → (a && (b && (c && (d && false)))) ≡ false
+false-fourth a b c d = ap (λ (x : Bool). a && (b && (c && x))) (and-false d) ∙ false-third a b c
+
+unfit-third : (a b c d : Bool) → c ≡ false → (a && (b && (c && d))) ≡ false
+unfit-third a b c d unfit = ap (λ (x : Bool). a && (b && (x && d))) unfit ∙ false-second a b
+
+unfit-fourth : (a b c d e : Bool) → d ≡ false → (a && (b && (c && (d && e)))) ≡ false
+unfit-fourth a b c d e unfit = ap (λ (x : Bool). a && (b && (c && (x && e)))) unfit ∙ false-third a b c
+
+unfit-last : (a b c d e : Bool) → e ≡ false → (a && (b && (c && (d && e)))) ≡ false
+unfit-last a b c d e unfit = ap (λ (x : Bool). a && (b && (c && (d && x)))) unfit ∙ false-fourth a b c d
+
 some_if-all : {A : Type 0} (b : Bool) (x : A) → b ≡ true → Some x ≡ some_if b x
 some_if-all b x e = rw e (sym (some_if-true x))
 
@@ -194,9 +208,9 @@ pub hbox-given :
     → dimension_of (greatest above nodes) ≡ Some height
     → dimension_of (greatest below nodes) ≡ Some depth
     → some_if (list_all fits (glue_totals nodes)) (glue_set (width -ℤ natural) nodes) ≡ Some set
-    → Some (record { kind = Horizontal; width = width; height = height; depth = depth; set = set })
+    → Some (record { kind = Horizontal; width = width; height = height; depth = depth; setting = set.setting; badness = set.badness })
     ≡ some_if (list_all fits (hbox_numbers target nodes)) (hbox_shell target nodes)
-unfolding hbox_shell
+unfolding hbox_shell glue_set
 hbox-given target nodes natural width height depth set n w h d s =
     let n' = dimension_found (total across nodes) natural n in
     let w' = dimension_found (wanted target natural) width w in
@@ -207,7 +221,43 @@ hbox-given target nodes natural width height depth set n w h d s =
     let width-is : hbox_width target nodes ≡ width = rw n'.1 w'.1 in
     let set-is : glue_set (hbox_excess target nodes) nodes ≡ set = rw (width-is, n'.1) s'.1 in
     let all : list_all fits (hbox_numbers target nodes) ≡ true = rw (n'.0, width-fits, h'.0, d'.0) s'.0 in
-    rw (← h'.1, ← d'.1, ← width-is, ← set-is) (some_if-all _ _ all)
+    let setting-is : setting_of (hbox_excess target nodes) nodes ≡ set.setting = ap (λ (g : GlueSet). g.setting) set-is in
+    let badness-is : hbox_badness target nodes ≡ set.badness = ap (λ (g : GlueSet). g.badness) set-is in
+    rw (← h'.1, ← d'.1, ← width-is, ← setting-is, ← badness-is) (some_if-all _ _ all)
+
+-- Where one of its numbers does not fit, there is no box.
+some_if-none-of : {A : Type 0} (b : Bool) (x : A) → b ≡ false → None ≡ some_if b x
+some_if-none-of b x unfit = rw unfit (sym (some_if-false x))
+
+pub hbox-unfit-width :
+    (target : Target) (nodes : List Node)
+    → dimension_of (total across nodes) ≡ None
+    → None ≡ some_if (list_all fits (hbox_numbers target nodes)) (hbox_shell target nodes)
+hbox-unfit-width target nodes n = some_if-none-of _ _ (unfit-first _ _ (dimension_missing (total across nodes) n))
+
+pub hbox-unfit-height :
+    (target : Target) (nodes : List Node)
+    → dimension_of (greatest above nodes) ≡ None
+    → None ≡ some_if (list_all fits (hbox_numbers target nodes)) (hbox_shell target nodes)
+hbox-unfit-height target nodes h = some_if-none-of _ _ (unfit-third _ _ _ _ (dimension_missing (greatest above nodes) h))
+
+pub hbox-unfit-depth :
+    (target : Target) (nodes : List Node)
+    → dimension_of (greatest below nodes) ≡ None
+    → None ≡ some_if (list_all fits (hbox_numbers target nodes)) (hbox_shell target nodes)
+hbox-unfit-depth target nodes d =
+    let unfit = unfit-fourth (fits (total across nodes)) (fits (hbox_width target nodes)) (fits (greatest above nodes)) (fits (greatest below nodes)) (list_all fits (glue_totals nodes))
+    (dimension_missing (greatest below nodes) d) in
+    some_if-none-of (list_all fits (hbox_numbers target nodes)) (hbox_shell target nodes) unfit
+
+pub hbox-unfit-glue :
+    (target : Target) (nodes : List Node) (set : GlueSet)
+    → some_if (list_all fits (glue_totals nodes)) set ≡ None
+    → None ≡ some_if (list_all fits (hbox_numbers target nodes)) (hbox_shell target nodes)
+hbox-unfit-glue target nodes set s =
+    let unfit = unfit-last (fits (total across nodes)) (fits (hbox_width target nodes)) (fits (greatest above nodes)) (fits (greatest below nodes)) (list_all fits (glue_totals nodes))
+    (some_if-none _ set s) in
+    some_if-none-of (list_all fits (hbox_numbers target nodes)) (hbox_shell target nodes) unfit
 
 pub hbox-refused :
     (target : Target) (nodes : List Node) (natural : ℤ)
@@ -228,9 +278,9 @@ pub vbox-given :
     → dimension_of (greatest breadth nodes) ≡ Some width
     → some_if (list_all fits (glue_totals nodes)) (glue_set (height -ℤ natural) nodes) ≡ Some set
     → Within 1073741823 depth
-    → Some (record { kind = Vertical; width = width; height = height; depth = depth; set = set })
+    → Some (record { kind = Vertical; width = width; height = height; depth = depth; setting = set.setting; badness = set.badness })
     ≡ some_if (list_all fits (vbox_numbers target limit nodes)) (vbox_shell target limit nodes)
-unfolding vbox_shell
+unfolding vbox_shell glue_set
 vbox-given target limit nodes natural width height depth set d n h w s deep =
     let n' = dimension_found (total downward nodes -ℤ depth) natural n in
     let h' = dimension_found (wanted target natural) height h in
@@ -243,7 +293,36 @@ vbox-given target limit nodes natural width height depth set d n h w s deep =
     let set-is : glue_set (vbox_excess target limit nodes) nodes ≡ set = rw (height-is, natural-is) s'.1 in
     let deep-fits : fits (vbox_depth limit nodes) ≡ true = rw (← d) (dimension_fits depth deep) in
     let all : list_all fits (vbox_numbers target limit nodes) ≡ true = rw (natural-fits, height-fits, deep-fits, w'.0) s'.0 in
-    rw (← w'.1, d, ← height-is, ← set-is) (some_if-all _ _ all)
+    let setting-is : setting_of (vbox_excess target limit nodes) nodes ≡ set.setting = ap (λ (g : GlueSet). g.setting) set-is in
+    let badness-is : vbox_badness target limit nodes ≡ set.badness = ap (λ (g : GlueSet). g.badness) set-is in
+    rw (← w'.1, d, ← height-is, ← setting-is, ← badness-is) (some_if-all _ _ all)
+
+pub vbox-unfit-natural :
+    (target : Target) (limit : ℤ) (nodes : List Node) (depth : ℤ)
+    → depth ≡ vbox_depth limit nodes
+    → dimension_of (total downward nodes -ℤ depth) ≡ None
+    → None ≡ some_if (list_all fits (vbox_numbers target limit nodes)) (vbox_shell target limit nodes)
+vbox-unfit-natural target limit nodes depth d n =
+    let unfit : fits (natural_height limit nodes) ≡ false = ap (λ (z : ℤ). fits (total downward nodes -ℤ z)) (sym d) ∙ dimension_missing _ n in
+    some_if-none-of _ _ (unfit-first _ _ unfit)
+
+pub vbox-unfit-width :
+    (target : Target) (limit : ℤ) (nodes : List Node)
+    → dimension_of (greatest breadth nodes) ≡ None
+    → None ≡ some_if (list_all fits (vbox_numbers target limit nodes)) (vbox_shell target limit nodes)
+vbox-unfit-width target limit nodes w =
+    let unfit = unfit-fourth (fits (natural_height limit nodes)) (fits (vbox_height target limit nodes)) (fits (vbox_depth limit nodes)) (fits (greatest breadth nodes)) (list_all fits (glue_totals nodes))
+    (dimension_missing (greatest breadth nodes) w) in
+    some_if-none-of (list_all fits (vbox_numbers target limit nodes)) (vbox_shell target limit nodes) unfit
+
+pub vbox-unfit-glue :
+    (target : Target) (limit : ℤ) (nodes : List Node) (set : GlueSet)
+    → some_if (list_all fits (glue_totals nodes)) set ≡ None
+    → None ≡ some_if (list_all fits (vbox_numbers target limit nodes)) (vbox_shell target limit nodes)
+vbox-unfit-glue target limit nodes set s =
+    let unfit = unfit-last (fits (natural_height limit nodes)) (fits (vbox_height target limit nodes)) (fits (vbox_depth limit nodes)) (fits (greatest breadth nodes)) (list_all fits (glue_totals nodes))
+    (some_if-none _ set s) in
+    some_if-none-of (list_all fits (vbox_numbers target limit nodes)) (vbox_shell target limit nodes) unfit
 
 pub some_if-refused : {A : Type 0} (z : ℤ) (y : A) → dimension_of z ≡ None → None ≡ some_if (fits z) y
 some_if-refused z y e = rw (dimension_missing z e) (sym (some_if-false y))
@@ -265,7 +344,7 @@ vbox-refused target limit nodes natural depth d n h =
 pub vtop-given :
     (shell : Shell) (height depth : ℤ)
     → dimension_of ((vtop_shell shell height).depth) ≡ Some depth
-    → Some (record { kind = shell.kind; width = shell.width; height = height; depth = depth; set = shell.set })
+    → Some (record { kind = shell.kind; width = shell.width; height = height; depth = depth; setting = shell.setting; badness = shell.badness })
     ≡ some_if (fits ((vtop_shell shell height).depth)) (vtop_shell shell height)
 unfolding vtop_shell
 vtop-given shell height depth d =

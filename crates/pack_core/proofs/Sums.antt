@@ -6,7 +6,7 @@ use Rattle.std.proofs.lemmas.Int.{ints, clamps}
 use Rattle.std.proofs.lemmas.List.{take_more}
 use Rattle.std.proofs.lemmas.List.Folds.{list_all-append}
 use Rattle.std.specs.List.{list_all}
-use Rattle.pack_core.specs.Items.{is_penalty, last_below}
+use Rattle.pack_core.specs.Items.{is_sizeless, last_below}
 use Rattle.pack_core.specs.ListTotals.{pending_behind}
 use Rattle.node_core.specs.declared.tree.Node.{Node}
 use Rattle.node_core.specs.declared.tree.Node.TheVariants as nodes
@@ -45,8 +45,8 @@ greatest_more size xs i x within is =
     omega (arith, ints, clamps, all, parts, same, low)
 
 -- Penalties and one more item.
-penalties-append : (xs : List Node) (x : Node) → list_all is_penalty (xs ++ x ∷ []) ≡ (list_all is_penalty xs && is_penalty x)
-penalties-append xs x = list_all-append is_penalty xs (x ∷ []) ∙ ap (λ b. list_all is_penalty xs && b) (and-true (is_penalty x))
+penalties-append : (xs : List Node) (x : Node) → list_all is_sizeless (xs ++ x ∷ []) ≡ (list_all is_sizeless xs && is_sizeless x)
+penalties-append xs x = list_all-append is_sizeless xs (x ∷ []) ∙ ap (λ b. list_all is_sizeless xs && b) (and-true (is_sizeless x))
 
 choice : (a b : Bool) (p q r : ℤ) → (if (a && b) then p else (if b then q else r)) ≡ (if b then (if a then p else q) else r)
 choice true true p q r = refl
@@ -60,23 +60,25 @@ pending-append [] (nodes.FontKern width) = refl
 pending-append [] (nodes.Kern width) = refl
 pending-append [] (nodes.Glue g) = refl
 pending-append [] (nodes.Penalty p) = refl
+pending-append [] (nodes.Special text) = refl
 pending-append [] (nodes.Rule sizes) = refl
 pending-append [] (nodes.Box shift b) = refl
 pending-append (y ∷ ys) x =
-    rw (penalties-append ys x, pending-append ys x) (choice (list_all is_penalty ys) (is_penalty x) (last_below y) (pending_depth ys) (last_below x))
+    rw (penalties-append ys x, pending-append ys x) (choice (list_all is_sizeless ys) (is_sizeless x) (last_below y) (pending_depth ys) (last_below x))
 
 -- Behind an item that is no penalty stand penalties alone.
 pub pending-last :
     (front : List Node) (item : Node) (penalties : List Node)
-    → is_penalty item ≡ false → list_all is_penalty penalties ≡ true → pending_depth (front ++ item ∷ penalties) ≡ last_below item
+    → is_sizeless item ≡ false → list_all is_sizeless penalties ≡ true → pending_depth (front ++ item ∷ penalties) ≡ last_below item
 pending-last [] item penalties last all = rw all refl
 pending-last (y ∷ ys) item penalties last all =
-    let some : list_all is_penalty (ys ++ item ∷ penalties) ≡ false = list_all-append is_penalty ys (item ∷ penalties) ∙ rw last (and-false (list_all is_penalty ys)) in
+    let some : list_all is_sizeless (ys ++ item ∷ penalties) ≡ false = list_all-append is_sizeless ys (item ∷ penalties) ∙ rw last (and-false (list_all is_sizeless ys)) in
     rw some (pending-last ys item penalties last all)
 
-pub pending-none : (penalties : List Node) → list_all is_penalty penalties ≡ true → pending_depth penalties ≡ pos 0
+pub pending-none : (penalties : List Node) → list_all is_sizeless penalties ≡ true → pending_depth penalties ≡ pos 0
 pending-none [] all = refl
 pending-none ((nodes.Penalty p) ∷ xs) all = rw all refl
+pending-none ((nodes.Special text) ∷ xs) all = rw all refl
 pending-none ((nodes.Glyph g) ∷ xs) all = absurd (cc)
 pending-none ((nodes.FontKern width) ∷ xs) all = absurd (cc)
 pending-none ((nodes.Kern width) ∷ xs) all = absurd (cc)

@@ -1,16 +1,18 @@
 -- A walk over the items of a box, one by one.
 use Rattle.std.proofs.Common.{◌≡◌, ◌∙◌, ℕ, ◌+◌, ◌<◌, List, [], ◌∷◌, ◌++◌, length, take, get_or, length-append, refl, ap, arith, sym}
-use Rattle.std.specs.Prelude.{ℤ, ◌+ℤ◌}
+use Rattle.std.specs.Prelude.{ℤ, pos, neg_ℤ, ◌+ℤ◌}
 use Rattle.std.proofs.lemmas.Int.{ints}
 use Rattle.std.proofs.lemmas.List.{take_more}
 use Rattle.node_core.specs.declared.tree.Kind.{Kind}
 use Rattle.node_core.specs.declared.tree.Node.{Node}
 use Rattle.node_core.specs.declared.tree.Setting.{Setting}
+use Rattle.node_core.specs.declared.tree.Setting.TheVariants.{Natural, Stretch, Shrink}
 use Rattle.pack_core.specs.Items.{advance}
 use Rattle.pack_core.specs.Totals.{total}
 use Rattle.pack_core.specs.Places.{share, place}
-use Rattle.pack_core.specs.Cursors.{reached, one_more, place_at}
+use Rattle.pack_core.specs.Cursors.{reached, one_more, moved_on, place_at}
 use Rattle.pack_core.proofs.Sums.{total-append}
+use Rattle.pack_core.proofs.Passing.{IsNoGlue, no_stretch, no_shrink}
 
 total-one : (size : Node → ℤ) (xs : List Node) (x : Node) → total size xs +ℤ size x ≡ total size (xs ++ x ∷ [])
 total-one size xs x = omega (arith, ints, total-append size xs (x ∷ []))
@@ -23,6 +25,22 @@ unfolding reached
 one_more-reached kind setting before node =
     let n : length before + 1 ≡ length (before ++ node ∷ []) = omega (arith, length-append before (node ∷ [])) in
     rw (total-one (advance kind) before node, total-one (share setting) before node, n) refl
+
+-- An item that takes no part in the setting moves a walk by what it advances.
+pub moved_on-reached :
+    (kind : Kind) (setting : Setting) (before : List Node) (node : Node) (distance : ℤ)
+    → distance ≡ advance kind node → share setting node ≡ pos 0
+    → moved_on (reached kind setting before) distance ≡ reached kind setting (before ++ node ∷ [])
+moved_on-reached kind setting before node distance moves none =
+    let from = reached kind setting before in
+    let shares : from.shares ≡ from.shares +ℤ share setting node = omega (arith, ints, none) in
+    rw (moves, ← shares) refl ∙ one_more-reached kind setting before node
+
+-- What is no glue takes no part in a setting.
+pub no_share : (node : Node) → IsNoGlue node → (setting : Setting) → share setting node ≡ pos 0
+no_share node other Natural = refl
+no_share node other (Stretch order ratio) = no_stretch node other order
+no_share node other (Shrink order ratio) = ap neg_ℤ (no_shrink node other order)
 
 pub reached-more :
     (kind : Kind) (setting : Setting) (nodes : List Node) (i : ℕ) (node : Node) → i < length nodes → node ≡ get_or nodes i node

@@ -1,5 +1,5 @@
 -- The packed boxes (TeX: The Program, part 33, §649 to §678; a vtop: part 47, §1087). Which numbers have to fit is own: TeX looks at none.
-use Rattle.std.specs.Prelude.{◌+ℤ◌, ◌-ℤ◌, ◌++◌, ℕ, ℤ, if◌then◌else◌, List, [], ◌∷◌, Result, Ok, Err}
+use Rattle.std.specs.Prelude.{◌+ℤ◌, ◌-ℤ◌, ◌++◌, ℕ, ℤ, if◌then◌else◌, Bool, true, false, List, [], ◌∷◌, Option, Some, None, Result, Ok, Err}
 use Rattle.std.specs.List.{list_all}
 use Rattle.std.specs.Int.{int_min}
 use Rattle.node_core.specs.declared.tree.Kind.TheVariants.{Horizontal, Vertical}
@@ -11,6 +11,7 @@ use Rattle.node_core.specs.Nodes.{box_of, nodes_of}
 use Rattle.pack_core.specs.declared.pack.Target.{Target}
 use Rattle.pack_core.specs.declared.pack.Target.TheVariants.{Natural, To, Spread}
 use Rattle.pack_core.specs.declared.pack.Packed.{Packed}
+use Rattle.pack_core.specs.declared.pack.Shell.{Shell}
 use Rattle.pack_core.specs.declared.pack.TooLarge.{TooLarge}
 use Rattle.pack_core.specs.Items.{across, above, below, downward, breadth}
 use Rattle.scaled_core.specs.Dimensions.{fits}
@@ -129,6 +130,39 @@ vbox_packing target limit nodes =
 -- What a vertical list is packed to as a vbox: its box and its badness; or the list comes back, where one of its numbers does not fit (own).
 unfoldable pub vpacked : Target → (limit : ℤ) → Items → Result Packed TooLarge
 vpacked target limit items = packed_by (vbox_packing target limit (nodes_of items)) items
+
+-- A value where a test holds, else none (own).
+unfoldable pub some_if : {A : Type 0} → Bool → A → Option A
+some_if true x = Some x
+some_if false x = None
+
+-- What a vertical list is packed to as a vbox, but for the list: the sizes of its box, how its glue is set, and how bad that is (own).
+unfoldable pub vbox_shell : Target → (limit : ℤ) → List Node → Shell
+vbox_shell target limit nodes =
+    let frame = vbox_frame target limit nodes in
+    record {
+      kind = frame.kind;
+      width = frame.width;
+      height = frame.height;
+      depth = frame.depth;
+      setting = frame.setting;
+      badness = vbox_badness target limit nodes;
+    }
+
+-- A list in a box that was without one, and how bad the box is (own).
+unfoldable pub packed_of : Items → Shell → Packed
+packed_of items shell =
+    record {
+      box_node = record {
+        kind = shell.kind;
+        width = shell.width;
+        height = shell.height;
+        depth = shell.depth;
+        setting = shell.setting;
+        list = items;
+      };
+      badness = shell.badness;
+    }
 
 -- The depth of a vtop: its height and its depth are together those of the vbox (TeX: The Program, part 47, §1087).
 abbrev pub vtop_depth : Target → (limit : ℤ) → List Node → ℤ

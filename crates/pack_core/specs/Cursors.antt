@@ -30,6 +30,10 @@ abbrev pub one_more : Kind → Setting → Reached → Node → Reached
 one_more kind setting from node =
     record { natural = from.natural +ℤ advance kind node; shares = from.shares +ℤ share setting node; passed = from.passed + 1 }
 
+-- What a walk has reached after an item that advances by that much and takes no part in the setting.
+abbrev pub moved_on : Reached → (distance : ℤ) → Reached
+moved_on from distance = record { natural = from.natural +ℤ distance; shares = from.shares; passed = from.passed + 1 }
+
 -- The place behind the items passed, from the beginning of the list.
 abbrev pub place_at : Setting → Reached → ℤ
 place_at setting at = at.natural +ℤ set_by setting at.shares

@@ -23,6 +23,7 @@ across (nodes.FontKern width) = width
 across (nodes.Kern width) = width
 across (nodes.Glue glue) = glue.width
 across (nodes.Penalty penalty) = pos 0
+across (nodes.Special text) = pos 0
 across (nodes.Rule rule) = own_size rule.width
 across (nodes.Box shift b) = b.width
 
@@ -33,6 +34,7 @@ above (nodes.FontKern width) = pos 0
 above (nodes.Kern width) = pos 0
 above (nodes.Glue glue) = pos 0
 above (nodes.Penalty penalty) = pos 0
+above (nodes.Special text) = pos 0
 above (nodes.Rule rule) = own_size rule.height
 above (nodes.Box shift b) = b.height -ℤ shift
 
@@ -43,6 +45,7 @@ below (nodes.FontKern width) = pos 0
 below (nodes.Kern width) = pos 0
 below (nodes.Glue glue) = pos 0
 below (nodes.Penalty penalty) = pos 0
+below (nodes.Special text) = pos 0
 below (nodes.Rule rule) = own_size rule.depth
 below (nodes.Box shift b) = b.depth +ℤ shift
 
@@ -53,6 +56,7 @@ downward (nodes.FontKern width) = width
 downward (nodes.Kern width) = width
 downward (nodes.Glue glue) = glue.width
 downward (nodes.Penalty penalty) = pos 0
+downward (nodes.Special text) = pos 0
 downward (nodes.Rule rule) = own_size rule.height +ℤ own_size rule.depth
 downward (nodes.Box shift b) = b.height +ℤ b.depth
 
@@ -63,6 +67,7 @@ breadth (nodes.FontKern width) = pos 0
 breadth (nodes.Kern width) = pos 0
 breadth (nodes.Glue glue) = pos 0
 breadth (nodes.Penalty penalty) = pos 0
+breadth (nodes.Special text) = pos 0
 breadth (nodes.Rule rule) = own_size rule.width
 breadth (nodes.Box shift b) = b.width +ℤ shift
 
@@ -86,6 +91,7 @@ stretch_in order (nodes.Glyph glyph) = pos 0
 stretch_in order (nodes.FontKern width) = pos 0
 stretch_in order (nodes.Kern width) = pos 0
 stretch_in order (nodes.Penalty penalty) = pos 0
+stretch_in order (nodes.Special text) = pos 0
 stretch_in order (nodes.Rule rule) = pos 0
 stretch_in order (nodes.Box shift b) = pos 0
 
@@ -96,12 +102,13 @@ shrink_in order (nodes.Glyph glyph) = pos 0
 shrink_in order (nodes.FontKern width) = pos 0
 shrink_in order (nodes.Kern width) = pos 0
 shrink_in order (nodes.Penalty penalty) = pos 0
+shrink_in order (nodes.Special text) = pos 0
 shrink_in order (nodes.Rule rule) = pos 0
 shrink_in order (nodes.Box shift b) = pos 0
 
--- Whether an item is a penalty (own).
-abbrev pub is_penalty : Node → Bool
-is_penalty node = classes.is_penalty (class_of node)
+-- Whether an item is a penalty or a special, which have no size (own).
+abbrev pub is_sizeless : Node → Bool
+is_sizeless node = classes.is_sizeless (class_of node)
 
 -- How high an item is by itself, not shifted.
 abbrev pub item_height : Node → ℤ
@@ -110,6 +117,7 @@ item_height (nodes.FontKern width) = pos 0
 item_height (nodes.Kern width) = pos 0
 item_height (nodes.Glue glue) = pos 0
 item_height (nodes.Penalty penalty) = pos 0
+item_height (nodes.Special text) = pos 0
 item_height (nodes.Rule rule) = own_size rule.height
 item_height (nodes.Box shift b) = b.height
 
@@ -120,6 +128,7 @@ item_depth (nodes.FontKern width) = pos 0
 item_depth (nodes.Kern width) = pos 0
 item_depth (nodes.Glue glue) = pos 0
 item_depth (nodes.Penalty penalty) = pos 0
+item_depth (nodes.Special text) = pos 0
 item_depth (nodes.Rule rule) = own_size rule.depth
 item_depth (nodes.Box shift b) = b.depth
 

@@ -3,7 +3,7 @@ use Rattle.std.specs.Prelude.{◌+ℤ◌, ◌+◌, ◌*◌, ◌^◌, ◌<◌, �
 use Rattle.node_core.specs.declared.tree.Kind.{Kind}
 use Rattle.node_core.specs.declared.tree.Node.{Node}
 use Rattle.scaled_core.specs.Dimensions.{Within}
-use Rattle.pack_core.specs.Items.{advance, stretch_in, shrink_in, is_penalty, last_below}
+use Rattle.pack_core.specs.Items.{advance, stretch_in, shrink_in, is_sizeless, last_below}
 use Rattle.pack_core.specs.Totals.{total, pending_depth}
 use Rattle.pack_core.specs.Glue.{stretch_totals, shrink_totals}
 use Rattle.pack_core.specs.Orders.{order_amounts, plus, AreWithin}
@@ -33,7 +33,7 @@ totals_of kind nodes =
 
 -- The depth that is pending behind one more item: a penalty leaves it, every other item has one of its own.
 abbrev pub pending_behind : ℤ → Node → ℤ
-pending_behind before node = if is_penalty node then before else last_below node
+pending_behind before node = if is_sizeless node then before else last_below node
 
 -- The totals with one more item: each is more by what the item has.
 abbrev pub with_item : ListTotals → Node → ListTotals

@@ -1,12 +1,15 @@
--- What is measured of the items of a list before it is packed (own; private calls alone, no public clause speaks of it).
-use Rattle.std.specs.Prelude.{ℤ}
-use Rattle.node_core.specs.declared.tree.Node.{Node}
-use Rattle.pack_core.specs.declared.extents.Extent.{Extent}
-use Rattle.pack_core.specs.declared.extents.Extent.TheVariants.{Above, Below, Breadth}
-use Rattle.pack_core.specs.Items.{above, below, breadth}
+-- What a walk over a horizontal list has measured stays small (own; private calls alone, no public clause speaks of it).
+use Rattle.std.specs.Prelude.{◌*◌, ◌^◌, ◌≤ℤ◌, ℕ, pos}
+use Rattle.scaled_core.specs.Dimensions.{Within}
+use Rattle.pack_core.specs.declared.across.Across.{Across}
+use Rattle.pack_core.specs.Orders.{AreWithin}
 
--- How far an item goes that way: above the baseline, below it, or to the right.
-abbrev pub extent_in : Extent → Node → ℤ
-extent_in Above node = above node
-extent_in Below node = below node
-extent_in Breadth node = breadth node
+-- After n items the sums and the greatest sizes are small.
+pub record HasPassed (n : ℕ) (across : Across) : Type 0 where
+  pub width : Within (2 ^ 31 * n) across.width
+  pub high : pos 0 ≤ℤ across.height
+  pub height : Within (2 ^ 31) across.height
+  pub deep : pos 0 ≤ℤ across.depth
+  pub depth : Within (2 ^ 31) across.depth
+  pub stretch : AreWithin (2 ^ 31 * n) across.stretch
+  pub shrink : AreWithin (2 ^ 31 * n) across.shrink

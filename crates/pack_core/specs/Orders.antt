@@ -25,10 +25,6 @@ order_amounts amounts = record { normal = amounts Normal; fil = amounts Fil; fil
 abbrev pub each_order : (Order → ℤ) → List ℤ
 each_order amounts = amounts Normal ∷ amounts Fil ∷ amounts Fill ∷ amounts Filll ∷ []
 
--- Amounts of the four orders as a list, from order normal on.
-abbrev pub amounts_listed : OrderAmounts → List ℤ
-amounts_listed amounts = amounts.normal ∷ amounts.fil ∷ amounts.fill ∷ amounts.filll ∷ []
-
 -- Each amount is more by another of its order.
 abbrev pub plus : OrderAmounts → (Order → ℤ) → OrderAmounts
 plus amounts more =

@@ -2,7 +2,7 @@
 use Rattle.std.specs.Prelude.{◌+ℤ◌, ◌-ℤ◌, ℕ, ℤ, pos, negsuc, zero, suc, Bool, true, false, if◌then◌else◌, List, [], ◌∷◌}
 use Rattle.std.specs.Prelude.{Option, Some, None, Result, Ok, Err}
 use Rattle.std.specs.List.{list_all}
-use Rattle.node_core.specs.declared.tree.Kind.TheVariants.{Horizontal, Vertical}
+use Rattle.node_core.specs.declared.tree.Kind.TheVariants.{Horizontal}
 use Rattle.node_core.specs.declared.tree.Order.{Order}
 use Rattle.node_core.specs.declared.tree.Order.TheVariants.{Normal, Fil, Fill, Filll}
 use Rattle.node_core.specs.declared.tree.Node.{Node}
@@ -18,17 +18,12 @@ use Rattle.pack_core.specs.declared.orders.OrderAmounts.{OrderAmounts}
 use Rattle.pack_core.specs.declared.orders.OrderDimens.{OrderDimens}
 use Rattle.pack_core.specs.declared.setting.GlueSet.{GlueSet}
 use Rattle.scaled_core.specs.Dimensions.{fits}
-use Rattle.pack_core.specs.Items.{above, below, breadth}
+use Rattle.pack_core.specs.Items.{above, below}
 use Rattle.pack_core.specs.Orders.{by_order}
 use Rattle.pack_core.specs.Totals.{greatest}
 use Rattle.pack_core.specs.Glue.{highest, stretched, shrunk, fraction, is_short}
 use Rattle.pack_core.specs.Glue.{setting_of, setting_badness, stretch_badness, shrink_badness}
-use Rattle.pack_core.specs.Boxes.{hbox_width, hbox_excess, vbox_depth, vbox_height, vbox_excess}
-
--- A value where a test holds, else none.
-unfoldable pub some_if : {A : Type 0} → Bool → A → Option A
-some_if true x = Some x
-some_if false x = None
+use Rattle.pack_core.specs.Boxes.{some_if, hbox_width, hbox_excess, hbox_badness, packed_of}
 
 -- Totals as dimensions, where all four fit.
 unfoldable pub dimens_of : OrderAmounts → Option OrderDimens
@@ -88,38 +83,13 @@ hbox_shell target nodes =
       width = hbox_width target nodes;
       height = greatest above nodes;
       depth = greatest below nodes;
-      set = glue_set (hbox_excess target nodes) nodes;
-    }
-
--- The vbox of a list, no deeper than the limit, without the list.
-unfoldable pub vbox_shell : Target → (limit : ℤ) → List Node → Shell
-vbox_shell target limit nodes =
-    record {
-      kind = Vertical;
-      width = greatest breadth nodes;
-      height = vbox_height target limit nodes;
-      depth = vbox_depth limit nodes;
-      set = glue_set (vbox_excess target limit nodes) nodes;
+      setting = setting_of (hbox_excess target nodes) nodes;
+      badness = hbox_badness target nodes;
     }
 
 -- A box without its list, with that height in the place of its own: height and depth are together what they were.
 unfoldable pub vtop_shell : Shell → (height : ℤ) → Shell
 vtop_shell shell height = record shell { height = height; depth = (shell.depth +ℤ shell.height) -ℤ height }
-
--- A list in a box that was without one, and how bad the box is.
-unfoldable pub packed_of : Items → Shell → Packed
-packed_of items shell =
-    record {
-      box_node = record {
-        kind = shell.kind;
-        width = shell.width;
-        height = shell.height;
-        depth = shell.depth;
-        setting = shell.set.setting;
-        list = items;
-      };
-      badness = shell.set.badness;
-    }
 
 -- A list in its box, or back where there is no box for it.
 unfoldable pub boxed_list : Items → Option Shell → Result Packed TooLarge

@@ -3,7 +3,7 @@ use Rattle.std.specs.Prelude.{◌+ℤ◌, ℤ, pos, if◌then◌else◌, List, [
 use Rattle.std.specs.List.{list_all}
 use Rattle.std.specs.Int.{int_max}
 use Rattle.node_core.specs.declared.tree.Node.{Node}
-use Rattle.pack_core.specs.Items.{is_penalty, first_above, last_below}
+use Rattle.pack_core.specs.Items.{is_sizeless, first_above, last_below}
 
 -- The sum of a size over a list.
 abbrev pub total : (Node → ℤ) → List Node → ℤ
@@ -19,7 +19,7 @@ greatest size (x ∷ xs) = int_max (size x) (greatest size xs)
 -- (TeX: The Program, part 33, §669 to §671).
 abbrev pub pending_depth : List Node → ℤ
 pending_depth [] = pos 0
-pending_depth (x ∷ xs) = if list_all is_penalty xs then last_below x else pending_depth xs
+pending_depth (x ∷ xs) = if list_all is_sizeless xs then last_below x else pending_depth xs
 
 -- The height of the first item if that is a rule or a box, else 0 (TeX: The Program, part 47, §1087).
 abbrev pub first_height : List Node → ℤ

@@ -1,20 +1,15 @@
-//! Whether a vertical list below some glue can be packed, without a list that holds both.
+//! The vbox of a vertical list below some glue, without a list that holds both.
 
-ghost use Rattle.std.specs.Prelude.{◌≡◌, ◌-ℤ◌, ◌≤◌, ◌∷◌, [], length};
+ghost use Rattle.std.specs.Prelude.{◌≡◌, ◌≤◌, ◌∷◌, [], is_some, length};
 ghost use Rattle.std.specs.List.{list_all};
-ghost use Rattle.std.specs.Int.{int_min};
-ghost use Rattle.scaled_core.specs.Dimensions.{Fits, fits};
+ghost use Rattle.std.specs.Option.{IfSome};
+ghost use Rattle.scaled_core.specs.Dimensions.{fits};
 ghost use Rattle.node_core.specs.Nodes.{most_nodes};
-ghost use Rattle.pack_core.specs.Items.{breadth};
-ghost use Rattle.pack_core.specs.Totals.{greatest};
 ghost use Rattle.pack_core.specs.ListTotals.{totals_of};
-ghost use Rattle.pack_core.specs.Orders.{amounts_listed};
-ghost use Rattle.pack_core.specs.Boxes.{vbox_numbers};
+ghost use Rattle.pack_core.specs.Boxes.{some_if, vbox_numbers, vbox_shell};
 
-use crate::extents::{Extent, greatest_of};
-use crate::orders::OrderAmounts;
-use crate::pack::{Target, at_most, height_above};
-use crate::setting::dimens_of;
+use crate::extents::greatest_breadth;
+use crate::pack::{Shell, Target, vertical_shell};
 use crate::totals::Totals;
 use node_core::{Glue, Kind, Node};
 use scaled_core::Dimen;
@@ -41,30 +36,17 @@ fn totals_below(glue: &Glue, nodes: &[Node]) -> Totals
     totals
 }
 
-/// Whether the natural height of a vertical list with these totals fits, in a vbox that is no deeper than the limit.
-#[tactic(auto, using(crate::proofs::Steps::steps))]
-fn height_fits(limit: Dimen, totals: &Totals) -> bool
-    ensures height { result ≡ fits (totals.now.advance -ℤ int_min totals.now.pending_depth limit) }
-    ensures depth { Fits (int_min totals.now.pending_depth limit) }
+/// The box to which `vpack` packs some glue and these nodes below it, at their natural height, without the list; none exactly where one of
+/// their numbers does not fit. It takes no memory.
+pub fn vbox_below(depth_limit: Dimen, glue: &Glue, nodes: &[Node]) -> Option<Shell>
+    requires { length nodes.now ≤ most_nodes }
+    ensures value { result ≡ some_if (list_all fits (vbox_numbers Target.Natural depth_limit (Node.Glue glue.now ∷ nodes.now))) (vbox_shell Target.Natural depth_limit (Node.Glue glue.now ∷ nodes.now)) }
+    ensures fits { is_some result ≡ list_all fits (vbox_numbers Target.Natural depth_limit (Node.Glue glue.now ∷ nodes.now)) }
+    ensures shell { IfSome result (λ shell. shell ≡ vbox_shell Target.Natural depth_limit (Node.Glue glue.now ∷ nodes.now)) }
 {
-    let depth = at_most(totals.pending_depth(), limit);
-    height_above(depth, totals).is_some()
-}
-
-/// Whether the width of a vertical list fits.
-#[tactic(auto, using(crate::proofs::Steps::steps))]
-fn width_fits(nodes: &[Node]) -> bool
-    ensures { result ≡ fits (greatest breadth nodes.now) }
-{
-    Dimen::try_new(greatest_of(Extent::Breadth, nodes)).is_some()
-}
-
-/// Whether the amounts of all orders fit.
-#[tactic(auto, using(crate::proofs::Steps::steps))]
-fn amounts_fit(amounts: OrderAmounts) -> bool
-    ensures { result ≡ list_all fits (amounts_listed amounts) }
-{
-    dimens_of(amounts).is_some()
+    let totals = totals_below(glue, nodes);
+    let width = greatest_breadth(nodes);
+    vertical_shell(Target::Natural, depth_limit, width, false, &totals)
 }
 
 /// Whether `vpack` packs some glue and these nodes below it to their natural height: whether each of their numbers fits.
@@ -72,15 +54,5 @@ pub fn vbox_fits_below(depth_limit: Dimen, glue: &Glue, nodes: &[Node]) -> bool
     requires { length nodes.now ≤ most_nodes }
     ensures { result ≡ list_all fits (vbox_numbers Target.Natural depth_limit (Node.Glue glue.now ∷ nodes.now)) }
 {
-    let totals = totals_below(glue, nodes);
-    if !height_fits(depth_limit, &totals) {
-        return false;
-    }
-    if !width_fits(nodes) {
-        return false;
-    }
-    if !amounts_fit(totals.stretch()) {
-        return false;
-    }
-    amounts_fit(totals.shrink())
+    vbox_below(depth_limit, glue, nodes).is_some()
 }

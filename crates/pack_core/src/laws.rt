@@ -11,10 +11,10 @@ ghost use Rattle.node_core.specs.declared.tree.Order.{Order};
 ghost use Rattle.node_core.specs.declared.tree.Setting.TheVariants.{Natural};
 ghost use Rattle.pack_core.specs.declared.pack.Target.{Target};
 ghost use Rattle.pack_core.specs.declared.pack.Target.TheVariants as targets;
-ghost use Rattle.pack_core.specs.Items.{advance, is_penalty, last_below};
+ghost use Rattle.pack_core.specs.Items.{advance, is_sizeless, last_below};
 ghost use Rattle.pack_core.specs.Totals.{total, pending_depth};
 ghost use Rattle.pack_core.specs.Glue.{highest, IsHighest, setting_of, setting_badness};
-ghost use Rattle.pack_core.specs.Boxes.{hbox, hbox_badness, vbox, vtop_box};
+ghost use Rattle.pack_core.specs.Boxes.{hbox, hbox_badness, vbox, vbox_frame, vbox_badness, vbox_numbers, vbox_shell, packed_of, vtop_box};
 ghost use Rattle.pack_core.specs.Places.{place, place_in};
 ghost use Rattle.pack_core.specs.Laws.{three_stretching, two_shrinking, kern_and_fil};
 
@@ -30,11 +30,11 @@ pub fn highest_order_is_set()
     ensures none { (totals : Order → ℤ) → ((highest totals ≡ None) ↔ ((order : Order) → totals order ≡ pos 0)) }
 {}
 
-/// The depth that is pending at the end of a list is that of the last item that is no penalty, where it is a rule or a box, and else 0.
+/// The depth that is pending at the end of a list is that of the last item that is no penalty and no special, where it is a rule or a box, and else 0.
 pub fn depth_of_the_last_rule()
-    ensures last { (front : List Node) → (item : Node) → (penalties : List Node) → is_penalty item ≡ false → IsTrue (list_all is_penalty penalties) →
+    ensures last { (front : List Node) → (item : Node) → (penalties : List Node) → is_sizeless item ≡ false → IsTrue (list_all is_sizeless penalties) →
         pending_depth (front ++ item ∷ penalties) ≡ last_below item }
-    ensures none { (penalties : List Node) → IsTrue (list_all is_penalty penalties) → pending_depth penalties ≡ pos 0 }
+    ensures none { (penalties : List Node) → IsTrue (list_all is_sizeless penalties) → pending_depth penalties ≡ pos 0 }
 {}
 
 /// A box in front of a horizontal list adds its width, and its shift moves it down: it stands so much less above the baseline, and so
@@ -54,6 +54,26 @@ pub fn box_in_a_vbox()
         (vbox target limit (box shift frame inner rest)).width ≡ int_max (frame.width +ℤ shift) (vbox target limit rest).width }
     ensures baseline { (target : Target) → (limit shift : ℤ) → (frame : Frame) → (inner rest : Items) →
         (vtop_box target limit (box shift frame inner rest)).height ≡ frame.height }
+{}
+
+/// Penalties and specials in front of a vertical list change neither the numbers that have to fit nor the frame of its vbox. They do not change how bad
+/// the vbox is where another item follows them, and a vbox of its natural height is never bad.
+pub fn sizeless_items_in_front()
+    ensures numbers { (target : Target) → (limit : ℤ) → (front rest : List Node) → IsTrue (list_all is_sizeless front) →
+        vbox_numbers target limit (front ++ rest) ≡ vbox_numbers target limit rest }
+    ensures frame { (target : Target) → (limit : ℤ) → (front rest : List Node) → IsTrue (list_all is_sizeless front) →
+        vbox_frame target limit (front ++ rest) ≡ vbox_frame target limit rest }
+    ensures badness { (target : Target) → (limit : ℤ) → (front : List Node) → (item : Node) → (rest : List Node) → IsTrue (list_all is_sizeless front) →
+        vbox_badness target limit (front ++ item ∷ rest) ≡ vbox_badness target limit (item ∷ rest) }
+    ensures natural { (limit : ℤ) → (nodes : List Node) → vbox_badness targets.Natural limit nodes ≡ 0 }
+{}
+
+/// A list in a vbox that was found without it is in its vbox.
+pub fn list_in_its_vbox()
+    ensures box_node { (target : Target) → (limit : ℤ) → (items : Items) →
+        (packed_of items (vbox_shell target limit (nodes_of items))).box_node ≡ vbox target limit items }
+    ensures badness { (target : Target) → (limit : ℤ) → (items : Items) →
+        (packed_of items (vbox_shell target limit (nodes_of items))).badness ≡ vbox_badness target limit (nodes_of items) }
 {}
 
 /// Ten scaled points are shared by three equal glues as 3, 4 and 3.

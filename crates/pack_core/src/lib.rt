@@ -4,6 +4,7 @@
 //! fraction, and the places of the items are rounded once each, so that a box is filled exactly.
 #![tactic(auto)]
 
+mod across;
 mod below;
 mod extents;
 pub mod laws;
@@ -14,9 +15,11 @@ mod setting;
 mod sizes;
 mod totals;
 
-pub use below::vbox_fits_below;
+pub use below::{vbox_below, vbox_fits_below};
 pub use orders::{OrderAmounts, OrderDimens};
-pub use pack::{Packed, Target, TooLarge, hpack, vbox_fits, vpack, vtop};
+pub use pack::{
+    Packed, Shell, Target, TooLarge, hpack, packed_of, vbox_fits, vbox_shell, vpack, vtop,
+};
 pub use places::{Cursor, offset};
 pub use sizes::{advance_of, first_height_of, own_size, share_of, shrink_of, stretch_of};
 pub use totals::Totals;

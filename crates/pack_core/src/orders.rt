@@ -2,10 +2,10 @@
 
 ghost use Rattle.std.specs.Prelude.{◌≡◌, ◌+◌, ◌+ℤ◌, ◌^◌, ℕ, pos, if◌then◌else◌};
 ghost use Rattle.scaled_core.specs.Dimensions.{Fits, Within};
-ghost use Rattle.pack_core.specs.Items.{is_order, stretch_in, shrink_in};
+ghost use Rattle.pack_core.specs.Items.{is_order};
 ghost use Rattle.pack_core.specs.Orders.{by_order, order_dimens, order_amounts, plus, AreWithin};
 
-use node_core::{Node, Order};
+use node_core::Order;
 use scaled_core::Dimen;
 
 /// An amount of each order, in scaled points: an exact sum, which may be no dimension.
@@ -62,7 +62,7 @@ pub fn plus(amounts: &OrderAmounts, more: &OrderDimens) -> OrderAmounts
 }
 
 /// A dimension in an order, and none in the others.
-fn in_one_order(order: Order, amount: Dimen) -> OrderDimens
+pub fn in_one_order(order: Order, amount: Dimen) -> OrderDimens
     ensures { result ≡ order_dimens (λ other. if is_order other order then amount else pos 0) }
 {
     let none = OrderDimens {
@@ -88,29 +88,5 @@ fn in_one_order(order: Order, amount: Dimen) -> OrderDimens
             filll: amount,
             ..none
         },
-    }
-}
-
-/// Each amount, more by how much an item can stretch in its order. What is no glue leaves the amounts as they are.
-pub fn plus_stretch(amounts: &OrderAmounts, node: &Node) -> OrderAmounts
-    requires { AreWithin (2 ^ 100) amounts.now }
-    ensures value { result ≡ plus amounts.now (λ order. stretch_in order node.now) }
-    ensures bound { (n : ℕ) → AreWithin n amounts.now → AreWithin (n + 2 ^ 31) result }
-{
-    match node {
-        Node::Glue(glue) => plus(amounts, &in_one_order(glue.stretch_order, glue.stretch)),
-        _ => *amounts,
-    }
-}
-
-/// Each amount, more by how much an item can shrink in its order. What is no glue leaves the amounts as they are.
-pub fn plus_shrink(amounts: &OrderAmounts, node: &Node) -> OrderAmounts
-    requires { AreWithin (2 ^ 100) amounts.now }
-    ensures value { result ≡ plus amounts.now (λ order. shrink_in order node.now) }
-    ensures bound { (n : ℕ) → AreWithin n amounts.now → AreWithin (n + 2 ^ 31) result }
-{
-    match node {
-        Node::Glue(glue) => plus(amounts, &in_one_order(glue.shrink_order, glue.shrink)),
-        _ => *amounts,
     }
 }

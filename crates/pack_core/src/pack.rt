@@ -1,21 +1,25 @@
 //! Packed boxes (TeX: The Program, part 33, §649 to §678).
 
-ghost use Rattle.std.specs.Prelude.{◌≡◌, ◌≢◌, ◌+ℤ◌, ◌-ℤ◌, IfOk, IfErr, length};
+ghost use Rattle.std.specs.Prelude.{◌≡◌, ◌≢◌, ◌+ℤ◌, ◌-ℤ◌, ◌≤◌, ◌==◌, IfOk, IfErr, List, is_some, length};
+ghost use Rattle.std.specs.Option.{IfSome};
 ghost use Rattle.std.specs.Result.{is_ok};
 ghost use Rattle.std.specs.List.{list_all};
 ghost use Rattle.std.specs.Int.{int_min};
 ghost use Rattle.scaled_core.specs.Dimensions.{Fits, fits, dimension_of};
-ghost use Rattle.node_core.specs.Nodes.{nodes_of};
-ghost use Rattle.pack_core.specs.Items.{across, downward};
-ghost use Rattle.pack_core.specs.Totals.{total, greatest, first_height};
-ghost use Rattle.pack_core.specs.Measures.{extent_in};
+ghost use Rattle.node_core.specs.Nodes.{most_nodes, nodes_of};
+ghost use Rattle.node_core.specs.declared.tree.Node.{Node};
+ghost use Rattle.pack_core.specs.Items.{breadth};
+ghost use Rattle.pack_core.specs.Totals.{greatest, first_height};
+ghost use Rattle.pack_core.specs.ListTotals.{totals_of};
 ghost use Rattle.pack_core.specs.Boxes.{wanted, hbox, hbox_badness, hbox_numbers, hpacked};
 ghost use Rattle.pack_core.specs.Boxes.{vbox, vbox_badness, vbox_numbers, vpacked, vtop_box, vtop_numbers, vtopped};
+ghost use Rattle.pack_core.specs.Boxes.{some_if, vbox_shell, packed_of};
 ghost use Rattle.pack_core.specs.Places.{place_in};
-ghost use Rattle.pack_core.specs.Steps.{some_if, hbox_shell, vbox_shell, vtop_shell, packed_of, boxed_list};
+ghost use Rattle.pack_core.specs.Steps.{hbox_shell, vtop_shell, boxed_list};
 
-use crate::extents::{Extent, first_height, greatest_of};
-use crate::setting::{GlueSet, set_glue};
+use crate::across::Across;
+use crate::extents::{first_height, greatest_breadth};
+use crate::setting::set_glue;
 use crate::totals::Totals;
 use node_core::{BoxNode, Kind, Node, NodeList, Setting};
 use scaled_core::Dimen;
@@ -100,14 +104,15 @@ pub fn vtop(list: NodeList, target: Target, depth_limit: Dimen) -> Result<Packed
     boxed_list(list, shell)
 }
 
-/// A box without its list.
+/// A box without its list, and how bad it is.
 #[derive(Clone, Copy, Debug, PartialEq, Eq)]
-struct Shell {
-    kind: Kind,
-    width: Dimen,
-    height: Dimen,
-    depth: Dimen,
-    set: GlueSet,
+pub struct Shell {
+    pub kind: Kind,
+    pub width: Dimen,
+    pub height: Dimen,
+    pub depth: Dimen,
+    pub setting: Setting,
+    pub badness: u32,
 }
 
 /// The size that is wanted of a list of that natural size, where it fits.
@@ -122,15 +127,8 @@ fn wanted_size(target: Target, natural: Dimen) -> Option<Dimen>
     }
 }
 
-/// The natural width of a horizontal list with these totals, where it fits.
-fn natural_width(totals: &Totals) -> Option<Dimen>
-    ensures { result ≡ dimension_of totals.now.advance }
-{
-    Dimen::from_wide(totals.advance())
-}
-
 /// The depth of a vbox: no more than the limit.
-pub fn at_most(depth: Dimen, limit: Dimen) -> Dimen
+fn at_most(depth: Dimen, limit: Dimen) -> Dimen
     ensures value { result ≡ int_min depth limit }
     ensures fits { Fits result }
 {
@@ -138,58 +136,72 @@ pub fn at_most(depth: Dimen, limit: Dimen) -> Dimen
 }
 
 /// The natural height of a vertical list whose box is that deep, where it fits.
-pub fn height_above(depth: Dimen, totals: &Totals) -> Option<Dimen>
+fn height_above(depth: Dimen, totals: &Totals) -> Option<Dimen>
     ensures { result ≡ dimension_of (totals.now.advance -ℤ depth) }
 {
     Dimen::from_wide(totals.advance() - i128::from(depth.get()))
 }
 
-/// The greatest size of the items of a list that way, where it fits.
-#[tactic(auto, using(crate::proofs::Steps::steps))]
-fn extent(way: Extent, nodes: &[Node]) -> Option<Dimen>
-    ensures { result ≡ dimension_of (greatest (extent_in way) nodes.now) }
-{
-    Dimen::try_new(greatest_of(way, nodes))
-}
-
 /// The hbox of a list, without the list, where its numbers fit.
 #[tactic(auto, using(crate::proofs::Steps::steps))]
 fn hbox_shell(target: Target, nodes: &[Node]) -> Option<Shell>
+    requires { length nodes.now ≤ most_nodes }
     ensures { result ≡ some_if (list_all fits (hbox_numbers target nodes.now)) (hbox_shell target nodes.now) }
 {
-    let totals = Totals::of(Kind::Horizontal, nodes);
-    let natural = natural_width(&totals)?;
+    let across = Across::of(nodes);
+    let natural = Dimen::try_new(across.width)?;
     let width = wanted_size(target, natural)?;
-    let height = extent(Extent::Above, nodes)?;
-    let depth = extent(Extent::Below, nodes)?;
-    let set = set_glue(width, natural, nodes, &totals)?;
+    let height = Dimen::try_new(across.height)?;
+    let depth = Dimen::try_new(across.depth)?;
+    let empty = nodes.is_empty();
+    let set = set_glue(width, natural, empty, across.stretch, across.shrink)?;
     Some(Shell {
         kind: Kind::Horizontal,
         width,
         height,
         depth,
-        set,
+        setting: set.setting,
+        badness: set.badness,
     })
 }
 
-/// The vbox of a list, without the list, where its numbers fit.
+/// The vbox of a list of these totals and of that width, without the list, where the numbers of the list fit.
 #[tactic(auto, using(crate::proofs::Steps::steps))]
-fn vbox_shell(target: Target, limit: Dimen, nodes: &[Node]) -> Option<Shell>
-    ensures { result ≡ some_if (list_all fits (vbox_numbers target limit nodes.now)) (vbox_shell target limit nodes.now) }
+pub fn vertical_shell(
+    target: Target,
+    limit: Dimen,
+    width: i64,
+    empty: bool,
+    totals: &Totals,
+) -> Option<Shell>
+    ensures { (nodes : List Node) → totals.now ≡ totals_of Kind.Vertical nodes → width ≡ greatest breadth nodes → empty ≡ (length nodes == 0) →
+        result ≡ some_if (list_all fits (vbox_numbers target limit nodes)) (vbox_shell target limit nodes) }
 {
-    let totals = Totals::of(Kind::Vertical, nodes);
     let depth = at_most(totals.pending_depth(), limit);
-    let natural = height_above(depth, &totals)?;
+    let natural = height_above(depth, totals)?;
     let height = wanted_size(target, natural)?;
-    let width = extent(Extent::Breadth, nodes)?;
-    let set = set_glue(height, natural, nodes, &totals)?;
+    let width = Dimen::try_new(width)?;
+    let set = set_glue(height, natural, empty, totals.stretch(), totals.shrink())?;
     Some(Shell {
         kind: Kind::Vertical,
         width,
         height,
         depth,
-        set,
+        setting: set.setting,
+        badness: set.badness,
     })
+}
+
+/// The box to which `vpack` packs these nodes, without the list; none exactly where one of their numbers does not fit. It takes no memory.
+#[tactic(auto, using(crate::proofs::Steps::steps))]
+pub fn vbox_shell(target: Target, depth_limit: Dimen, nodes: &[Node]) -> Option<Shell>
+    ensures value { result ≡ some_if (list_all fits (vbox_numbers target depth_limit nodes.now)) (vbox_shell target depth_limit nodes.now) }
+    ensures fits { is_some result ≡ list_all fits (vbox_numbers target depth_limit nodes.now) }
+    ensures shell { IfSome result (λ shell. shell ≡ vbox_shell target depth_limit nodes.now) }
+{
+    let totals = Totals::of(Kind::Vertical, nodes);
+    let width = greatest_breadth(nodes);
+    vertical_shell(target, depth_limit, width, nodes.is_empty(), &totals)
 }
 
 /// A box without its list, with that height in the place of its own, where its depth then fits.
@@ -205,7 +217,8 @@ fn with_height(shell: &Shell, height: Dimen) -> Option<Shell>
         width: shell.width,
         height,
         depth,
-        set: shell.set,
+        setting: shell.setting,
+        badness: shell.badness,
     })
 }
 
@@ -232,9 +245,9 @@ fn boxed_list(list: NodeList, shell: Option<Shell>) -> Result<Packed, TooLarge>
     }
 }
 
-/// A list in a box that was without one, and how bad the box is.
-#[tactic(auto, unfolding(crate::specs::Steps::packed_of))]
-fn packed_of(list: NodeList, shell: &Shell) -> Packed
+/// A list in a box that was without one, and how bad the box is. It takes no memory.
+#[tactic(auto, unfolding(crate::specs::Boxes::packed_of))]
+pub fn packed_of(list: NodeList, shell: &Shell) -> Packed
     ensures { result ≡ packed_of list shell.now }
 {
     let box_node = BoxNode {
@@ -242,11 +255,11 @@ fn packed_of(list: NodeList, shell: &Shell) -> Packed
         width: shell.width,
         height: shell.height,
         depth: shell.depth,
-        setting: shell.set.setting,
+        setting: shell.setting,
         list,
     };
     Packed {
         box_node,
-        badness: shell.set.badness,
+        badness: shell.badness,
     }
 }

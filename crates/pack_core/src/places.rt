@@ -6,8 +6,9 @@ ghost use Rattle.node_core.specs.Nodes.{most_nodes, nodes_of};
 ghost use Rattle.node_core.specs.declared.tree.Kind.{Kind};
 ghost use Rattle.node_core.specs.declared.tree.Node.{Node};
 ghost use Rattle.node_core.specs.declared.tree.Setting.{Setting};
-ghost use Rattle.pack_core.specs.Places.{place, place_in, set_by};
-ghost use Rattle.pack_core.specs.Cursors.{reached, one_more, place_at};
+ghost use Rattle.pack_core.specs.Items.{advance};
+ghost use Rattle.pack_core.specs.Places.{place, place_in, share, set_by};
+ghost use Rattle.pack_core.specs.Cursors.{reached, one_more, moved_on, place_at};
 
 use crate::sizes::{advance_of, share_of};
 use node_core::{BoxNode, Kind, Node, Setting};
@@ -57,6 +58,19 @@ impl Cursor {
     {
         self.natural += advance_of(kind, node);
         self.shares += share_of(setting, node);
+        self.passed += 1;
+    }
+
+    /// Passes an item that advances by that much and takes no part in the setting of the list, as each item that is no glue; no more than the
+    /// 131,072 of a list.
+    pub fn move_on(&mut self, distance: i64)
+        requires few { self.old.passed < most_nodes }
+        requires small { Within (2 ^ 31) distance }
+        ensures value { self.new ≡ moved_on self.old distance }
+        ensures reached { (kind : Kind) → (setting : Setting) → (before : List Node) → (node : Node) → distance ≡ advance kind node → share setting node ≡ pos 0 →
+            self.old ≡ reached kind setting before → self.new ≡ reached kind setting (before ++ node ∷ []) }
+    {
+        self.natural += distance;
         self.passed += 1;
     }
 

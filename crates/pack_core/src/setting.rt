@@ -1,19 +1,18 @@
 //! How the glue of a list is set (TeX: The Program, part 33, §657 to §667 and §672 to §678).
 
-ghost use Rattle.std.specs.Prelude.{◌≡◌, ◌≢◌, ◌-ℤ◌, ◌≤ℤ◌, ◌^◌, pos};
+ghost use Rattle.std.specs.Prelude.{◌≡◌, ◌≢◌, ◌-ℤ◌, ◌≤ℤ◌, ◌==◌, ◌^◌, pos, List, length};
 ghost use Rattle.std.specs.Option.{IfSome};
 ghost use Rattle.std.specs.List.{list_all};
 ghost use Rattle.scaled_core.specs.Dimensions.{Within, fits};
-ghost use Rattle.pack_core.specs.Glue.{is_zero, highest, fraction, is_finite};
-ghost use Rattle.pack_core.specs.Boxes.{glue_totals};
-ghost use Rattle.pack_core.specs.Orders.{by_order};
-ghost use Rattle.pack_core.specs.ListTotals.{totals_of};
-ghost use Rattle.pack_core.specs.Steps.{some_if, dimens_of, glue_set};
+ghost use Rattle.node_core.specs.declared.tree.Node.{Node};
+ghost use Rattle.pack_core.specs.Glue.{is_zero, highest, fraction, is_finite, stretch_totals, shrink_totals};
+ghost use Rattle.pack_core.specs.Boxes.{glue_totals, some_if};
+ghost use Rattle.pack_core.specs.Orders.{by_order, order_amounts};
+ghost use Rattle.pack_core.specs.Steps.{dimens_of, glue_set};
 ghost use Rattle.pack_core.specs.Steps.{shrink_ratio, stretch_setting, shrink_setting, set_to, stretching_badness, shrinking_badness, excess_badness, list_badness};
 
 use crate::orders::{OrderAmounts, OrderDimens};
-use crate::totals::Totals;
-use node_core::{Node, Order, Setting};
+use node_core::{Order, Setting};
 use scaled_core::{Dimen, Ratio, badness};
 
 /// How glue is set, and how bad that is.
@@ -226,17 +225,23 @@ fn list_badness(empty: bool, excess: i64, stretch: &OrderDimens, shrink: &OrderD
     excess_badness(excess, stretch, shrink)
 }
 
-/// The setting of a list with these totals and that natural size for that size, where the totals of its glue fit.
+/// How glue that can stretch and shrink by these amounts is set for that size of a list of that natural size, where all the amounts fit.
 #[tactic(auto, using(crate::proofs::Steps::steps))]
-pub fn set_glue(size: Dimen, natural: Dimen, nodes: &[Node], totals: &Totals) -> Option<GlueSet>
-    requires { totals.now ≡ totals_of totals.now.kind nodes.now }
-    ensures { result ≡ some_if (list_all fits (glue_totals nodes.now)) (glue_set (size -ℤ natural) nodes.now) }
+pub fn set_glue(
+    size: Dimen,
+    natural: Dimen,
+    empty: bool,
+    stretch: OrderAmounts,
+    shrink: OrderAmounts,
+) -> Option<GlueSet>
+    ensures { (nodes : List Node) → empty ≡ (length nodes == 0) → stretch ≡ order_amounts (stretch_totals nodes) → shrink ≡ order_amounts (shrink_totals nodes) →
+        result ≡ some_if (list_all fits (glue_totals nodes)) (glue_set (size -ℤ natural) nodes) }
 {
-    let stretch = dimens_of(totals.stretch())?;
-    let shrink = dimens_of(totals.shrink())?;
+    let stretch = dimens_of(stretch)?;
+    let shrink = dimens_of(shrink)?;
     let excess = size.exact_sub(natural);
     Some(GlueSet {
         setting: set_to(excess, &stretch, &shrink),
-        badness: list_badness(nodes.is_empty(), excess, &stretch, &shrink),
+        badness: list_badness(empty, excess, &stretch, &shrink),
     })
 }

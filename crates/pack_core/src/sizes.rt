@@ -28,7 +28,7 @@ pub fn width_of(node: &Node) -> Dimen
         Node::FontKern(width) => *width,
         Node::Kern(width) => *width,
         Node::Glue(glue) => glue.width,
-        Node::Penalty(_) => Dimen::ZERO,
+        Node::Penalty(_) | Node::Special(_) => Dimen::ZERO,
         Node::Rule(rule) => own_size(rule.width),
         Node::Box(_, inner) => inner.width,
     }
@@ -107,7 +107,7 @@ pub fn first_height_of(node: &Node) -> Dimen
 }
 
 /// How far an item of a horizontal list moves what follows it.
-fn across_of(node: &Node) -> i64
+pub fn across_of(node: &Node) -> i64
     ensures value { result ≡ across node.now }
     ensures small { Within (2 ^ 31) result }
 {
@@ -124,7 +124,7 @@ fn downward_of(node: &Node) -> i64
         Node::FontKern(width) => i64::from(width.get()),
         Node::Kern(width) => i64::from(width.get()),
         Node::Glue(glue) => i64::from(glue.width.get()),
-        Node::Penalty(_) => 0,
+        Node::Penalty(_) | Node::Special(_) => 0,
         Node::Rule(rule) => own_size(rule.height).exact_add(own_size(rule.depth)),
         Node::Box(_, inner) => inner.height.exact_add(inner.depth),
     }

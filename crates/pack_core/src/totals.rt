@@ -9,7 +9,7 @@ ghost use Rattle.pack_core.specs.Glue.{stretch_totals, shrink_totals};
 ghost use Rattle.pack_core.specs.Orders.{order_amounts, AreWithin};
 ghost use Rattle.pack_core.specs.ListTotals.{totals_of, with_item, pending_behind};
 
-use crate::orders::{OrderAmounts, no_amounts, plus_shrink, plus_stretch};
+use crate::orders::{OrderAmounts, in_one_order, no_amounts, plus};
 use crate::sizes::{advance_of, depth_by_itself};
 use node_core::{ItemClass, Kind, Node};
 use scaled_core::Dimen;
@@ -62,10 +62,16 @@ impl Totals {
         ensures totals { (before : List Node) → self.old ≡ totals_of self.old.kind before → self.new ≡ totals_of self.old.kind (before ++ node.now ∷ []) }
     {
         self.advance += i128::from(advance_of(self.kind, node));
-        self.stretch = plus_stretch(&self.stretch, node);
-        self.shrink = plus_shrink(&self.shrink, node);
         self.pending_depth = pending_behind(self.pending_depth, node);
         self.passed += 1;
+        // What is no glue leaves the amounts of the orders as they are: most items of a list are none.
+        let Node::Glue(glue) = node else {
+            return;
+        };
+        let stretch = in_one_order(glue.stretch_order, glue.stretch);
+        let shrink = in_one_order(glue.shrink_order, glue.shrink);
+        self.stretch = plus(&self.stretch, &stretch);
+        self.shrink = plus(&self.shrink, &shrink);
     }
 
     /// The totals of these items, in a list of that kind.
@@ -125,7 +131,7 @@ fn pending_behind(before: Dimen, node: &Node) -> Dimen
     ensures { result ≡ pending_behind before node.now }
 {
     match node.class() {
-        ItemClass::Penalty => before,
+        ItemClass::Penalty | ItemClass::Special => before,
         ItemClass::BoxOrRule => depth_by_itself(node),
         _ => Dimen::ZERO,
     }

@@ -73,6 +73,7 @@ none_at_break (Some (nodes.Kern width)) = refl
 none_at_break (Some (nodes.Glue g)) = refl
 none_at_break (Some (nodes.Penalty p)) = refl
 none_at_break (Some (nodes.Rule sizes)) = refl
+none_at_break (Some (nodes.Special text)) = refl
 none_at_break (Some (nodes.Box shift b)) = refl
 
 none_kept : (list : List Node) (begin : Option ℕ) (end : ℕ) → list_any shrinks_infinitely list ≡ false → list_any shrinks_infinitely (kept list begin end) ≡ false
@@ -124,6 +125,7 @@ item_shrinks_not order (nodes.Kern width) far is = refl
 item_shrinks_not order (nodes.Glue g) far is = no_shrink order g.width g.stretch g.stretch_order g.shrink g.shrink_order far is
 item_shrinks_not order (nodes.Penalty p) far is = refl
 item_shrinks_not order (nodes.Rule sizes) far is = refl
+item_shrinks_not order (nodes.Special text) far is = refl
 item_shrinks_not order (nodes.Box shift b) far is = refl
 
 shrinks_not : (order : Order) (items : List Node) → IsInfinite order → list_any shrinks_infinitely items ≡ false → total (shrink_in order) items ≡ pos 0

@@ -24,6 +24,7 @@ is_glue (Some (nodes.Kern x)) g is = absurd (cc)
 is_glue (Some (nodes.Glue x)) g is = ap (λ y. Some (nodes.Glue y)) (same_Some x g is)
 is_glue (Some (nodes.Penalty x)) g is = absurd (cc)
 is_glue (Some (nodes.Rule x)) g is = absurd (cc)
+is_glue (Some (nodes.Special text)) g is = absurd (cc)
 is_glue (Some (nodes.Box s x)) g is = absurd (cc)
 
 -- A list that ends with glue, and its length.

@@ -20,6 +20,7 @@ dropped_class (nodes.Kern width) = refl
 dropped_class (nodes.Glue g) = refl
 dropped_class (nodes.Penalty p) = refl
 dropped_class (nodes.Rule sizes) = refl
+dropped_class (nodes.Special text) = refl
 dropped_class (nodes.Box shift b) = refl
 
 from_item : (list : List Node) (i : ℕ) (x : Node) → i < length list → x ≡ get_or list i x → drop i list ≡ x ∷ drop (i + 1) list
@@ -61,6 +62,7 @@ at_break_one (nodes.Kern width) = omega arith
 at_break_one (nodes.Glue g) = omega arith
 at_break_one (nodes.Penalty p) = omega arith
 at_break_one (nodes.Rule sizes) = omega arith
+at_break_one (nodes.Special text) = omega arith
 at_break_one (nodes.Box shift b) = omega arith
 
 -- A line keeps no more items than the list has.

@@ -48,6 +48,7 @@ break_by_glue before (Some (nodes.Kern width)) a b same = same
 break_by_glue before (Some (nodes.Glue glue)) a b same = refl
 break_by_glue before (Some (nodes.Penalty penalty)) a b same = refl
 break_by_glue before (Some (nodes.Rule rule)) a b same = refl
+break_by_glue before (Some (nodes.Special text)) a b same = refl
 break_by_glue before (Some (nodes.Box shift b)) x y same = refl
 
 before_left : (front rest : List Node) (i : ℕ) → i < length front → node_before (front ++ rest) i ≡ node_before front i

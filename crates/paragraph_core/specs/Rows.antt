@@ -49,6 +49,15 @@ abbrev pub two_short_lines : BrokenParagraph
 two_short_lines =
     record { nodes = finished negative_kern narrow.par_fill_skip; places = 4 ∷ 8 ∷ []; params = narrow; previous_depth = ignored_depth }
 
+-- A special whose text is one byte.
+abbrev pub special : Node
+special = nodes.Special (0x61 ∷ [])
+
+-- A special alone, in one line.
+abbrev pub special_line : BrokenParagraph
+special_line =
+    record { nodes = finished (special ∷ []) narrow.par_fill_skip; places = 3 ∷ []; params = narrow; previous_depth = ignored_depth }
+
 -- The sizes of a box, the width of glue, and the number of a penalty.
 abbrev pub numbers_in : Node → List ℤ
 numbers_in (nodes.Box shift b) = b.width ∷ b.height ∷ b.depth ∷ []

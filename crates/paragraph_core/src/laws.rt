@@ -3,6 +3,7 @@
 ghost use Rattle.std.specs.Prelude.{◌≡◌, ◌≢◌, ◌+ℤ◌, ◌++◌, ℕ, ℤ, pos, false, List, [], ◌∷◌, flat_map, length, None, Ok, Err};
 ghost use Rattle.node_core.specs.declared.params.Params.{Params};
 ghost use Rattle.node_core.specs.declared.tree.Node.{Node};
+ghost use Rattle.node_core.specs.declared.tree.Node.TheVariants.{Glue, Penalty};
 ghost use Rattle.node_core.specs.Parameters.{first_params};
 ghost use Rattle.vert_core.specs.Interline.{interline, glue_of, appended};
 ghost use Rattle.paragraph_core.specs.Lines.{line_box, penalty_nodes, vertical_items, last_depth};
@@ -20,10 +21,10 @@ ghost use Rattle.paragraph_core.specs.declared.paragraph.ParagraphFault.TheVaria
 ghost use Rattle.paragraph_core.specs.Finished.{finished};
 ghost use Rattle.paragraph_core.specs.Paragraphs.{unbroken, IsSetParagraph, IsUnset};
 ghost use Rattle.paragraph_core.specs.Setting.{setting};
-ghost use Rattle.paragraph_core.specs.Rows.{penalties_of, with_penalties, greatest_penalties, in_two, two_short_lines, numbers_in};
+ghost use Rattle.paragraph_core.specs.Rows.{penalties_of, with_penalties, greatest_penalties, in_two, two_short_lines, narrow, special, special_line, numbers_in};
 
-/// Behind a line of two stand all three penalties, added; of more lines clubpenalty behind the first one and widowpenalty behind the last but one.
-/// Nothing stands behind the last line, nor where the sum is 0.
+/// After a line of two stand all three penalties, added; of more lines clubpenalty after the first one and widowpenalty after the last but one.
+/// Nothing stands after the last line, nor where the sum is 0.
 pub fn penalties_between_lines()
     ensures one { penalties_of with_penalties 1 ≡ [] }
     ensures two { penalties_of with_penalties 2 ≡ pos 111 ∷ [] }
@@ -33,7 +34,7 @@ pub fn penalties_between_lines()
     ensures greatest { penalties_of greatest_penalties 2 ≡ pos 1500000000 ∷ [] }
 {}
 
-/// Two lines: each box stands behind glue by the depth in front of it, the first one by that of the list around, and the penalty stands between.
+/// Two lines: each box stands after glue by the depth in front of it, the first one by that of the list around, and the penalty stands between.
 #[tactic(auto, unfolding(crate::specs::Lines::vertical_items, crate::specs::Lines::brought_by, crate::specs::Lines::last_depth))]
 pub fn two_lines()
     ensures items { (list : List Node) → (first last : ℕ) → (params : Params) → (previous : ℤ) →
@@ -54,6 +55,13 @@ pub fn two_lines_of_rules()
         pos 2621440 ∷ pos 65536 ∷ pos 0 ∷ pos 300 ∷ pos 720896 ∷ pos 2621440 ∷ pos 65536 ∷ pos 0 ∷ [] }
     ensures depth { last_depth two_short_lines ≡ pos 0 }
     ensures finished { length two_short_lines.nodes ≡ 8 }
+{}
+
+/// A special at the end of a paragraph stays there, and a paragraph of a special alone is a line: a box of the line's width without a height.
+#[tactic(auto, unfolding(crate::specs::Lines::line_box, crate::specs::Lines::boxed_line, pack_core::specs::Boxes::hbox))]
+pub fn line_of_a_special()
+    ensures finished { finished (special ∷ []) narrow.par_fill_skip ≡ special ∷ Penalty (pos 10000) ∷ Glue narrow.par_fill_skip ∷ [] }
+    ensures items { flat_map numbers_in (vertical_items special_line) ≡ pos 2621440 ∷ pos 0 ∷ pos 0 ∷ [] }
 {}
 
 /// A paragraph is set in one way, if it is set, or there is one cause why it is not; but a growth may be refused where it may be broken.

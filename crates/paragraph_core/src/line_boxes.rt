@@ -1,6 +1,6 @@
 //! The boxes of the lines of a paragraph.
 
-ghost use Rattle.std.specs.Prelude.{◌≡◌, ◌≤◌, ◌+◌, ◌++◌, [], true, false, length, drop, slice_get, IfOk, IfErr, OnOk};
+ghost use Rattle.std.specs.Prelude.{◌≡◌, ◌≤◌, ◌+◌, ◌++◌, ◌∷◌, [], true, false, length, drop, slice_get, IfOk, IfErr, OnOk};
 ghost use Rattle.std.specs.List.{cons_option};
 ghost use Rattle.std.specs.Result.{is_ok};
 ghost use Rattle.node_core.specs.Nodes.{most_nodes, items_of, nodes_of};
@@ -36,7 +36,7 @@ fn without_first(nodes: &[Node]) -> &[Node]
     &[]
 }
 
-/// The items behind a place.
+/// The items after a place.
 fn behind(nodes: &[Node], place: usize) -> &[Node]
     ensures { result.now ≡ drop (place + 1) nodes.now }
 {
@@ -68,18 +68,31 @@ fn kept_at(nodes: &[Node], end: usize) -> Option<Node>
     }
 }
 
+/// Puts an equal node, in memory of its own, after others. The items of which a line has most are copied here, without a call.
+fn push_copy(alloc: Global, nodes: &mut Vec<Node>, node: &Node) -> Result<(), AllocError>
+    ensures { OnOk result (nodes.new.items ≡ nodes.old.items ++ node.now ∷ []) }
+{
+    match node {
+        Node::Glyph(glyph) => nodes.push(Node::Glyph(*glyph))?,
+        Node::FontKern(width) => nodes.push(Node::FontKern(*width))?,
+        Node::Glue(glue) => nodes.push(Node::Glue(*glue))?,
+        _ => nodes.push(node.copy(alloc)?)?,
+    }
+    Ok(())
+}
+
 /// Equal nodes in memory of their own.
 fn copies(alloc: Global, nodes: &[Node]) -> Result<Vec<Node>, AllocError>
     ensures { IfOk result (λ copies. copies.items ≡ nodes.now) }
 {
     let mut copies = Vec::with_capacity(alloc, nodes.len())?;
     for node in nodes {
-        copies.push(node.copy(alloc)?)?;
+        push_copy(alloc, &mut copies, node)?;
     }
     Ok(copies)
 }
 
-/// Puts a node behind others, if there is one.
+/// Puts a node after others, if there is one.
 fn push_some(nodes: &mut Vec<Node>, node: Option<Node>) -> Result<(), AllocError>
     ensures { OnOk result (nodes.new.items ≡ nodes.old.items ++ cons_option node []) }
 {

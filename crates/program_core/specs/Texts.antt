@@ -9,7 +9,7 @@ use Rattle.command_core.specs.declared.command.Sizes.{Sizes}
 use Rattle.command_core.specs.declared.command.Answer.{Answer}
 use Rattle.command_core.specs.declared.command.Answer.TheVariants.{Done, Packed, Measured, MeasuredVoid, Shaped, Added, Paragraph, Split, SplitVoid, Shipped}
 use Rattle.command_core.specs.declared.command.Refusal.{Refusal}
-use Rattle.command_core.specs.declared.command.Refusal.TheVariants.{OutOfMemory, DimensionTooLarge, NoFont, BadTfm, SlotTaken, NoOpenList, WrongMode, WrongKind, ListTooLong, TooDeep, InfiniteShrink, TooManyBreaks, HugePage, TooManyPages, TooMuchShipped, ListsOpen, Device, JobOver, VoidBox}
+use Rattle.command_core.specs.declared.command.Refusal.TheVariants.{OutOfMemory, DimensionTooLarge, NoFont, BadTfm, SlotTaken, NoOpenList, WrongMode, WrongKind, ListTooLong, TooDeep, InfiniteShrink, TooManyBreaks, HugePage, TooManyPages, TooMuchShipped, TooMuchSpecial, ListsOpen, Device, JobOver, VoidBox}
 use Rattle.command_core.specs.declared.command.Summary.{Summary}
 use Rattle.tfm_core.specs.declared.fault.TfmCause.{TfmCause}
 use Rattle.tfm_core.specs.declared.fault.TfmCause.TheVariants.{TooShort, Counts, DesignSize, CharInfo, FixWord, LigKern}
@@ -47,6 +47,7 @@ refusal_row ListsOpen = (17, codes "ListsOpen")
 refusal_row Device = (18, codes "Device")
 refusal_row JobOver = (19, codes "JobOver")
 refusal_row VoidBox = (21, codes "VoidBox")
+refusal_row TooMuchSpecial = (22, codes "TooMuchSpecial")
 
 -- the name of a cause why a script is bad
 abbrev pub cause_name : Cause → List ℕ

@@ -14,7 +14,7 @@ pub fn one_rule_answers()
     ensures { OneRuleAnswers }
 {}
 
-/// Answers and refusals of fonts and texts are written so.
+/// Answers and refusals of fonts, texts and specials are written so.
 pub fn text_answers()
     ensures { TextAnswers }
 {}

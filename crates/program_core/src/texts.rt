@@ -50,6 +50,7 @@ fn refusal_row(refusal: Refusal) -> (u32, &'static str)
         Refusal::Device => (18, "Device"),
         Refusal::JobOver => (19, "JobOver"),
         Refusal::VoidBox => (21, "VoidBox"),
+        Refusal::TooMuchSpecial => (22, "TooMuchSpecial"),
     }
 }
 

@@ -9,8 +9,8 @@ ghost use Rattle.nest_core.specs.Machine.{reply_by, state_by};
 ghost use Rattle.nest_core.specs.Runs.{LeavesRest};
 
 use crate::splits::split_box;
-use command_core::limits::REGISTERS;
 use command_core::{Answer, Register, Reply, Sizes, Splitting};
+use node_core::limits::REGISTERS;
 use node_core::{BoxNode, SplitParams};
 use std::alloc::{AllocError, Global};
 use std::marker::Model;
@@ -27,7 +27,7 @@ impl Model for Registers {
     ghost use Rattle.std.specs.Coded.{coded_list, coded_option};
     ghost use Rattle.node_core.specs.declared.tree.BoxNode.{BoxNode};
     ghost use Rattle.node_core.specs.contracts.tree.BoxNode as box_node;
-    ghost use Rattle.command_core.specs.declared.limits.TheConstants.{REGISTERS};
+    ghost use Rattle.node_core.specs.declared.limits.TheConstants.{REGISTERS};
 
     ghost Value = { List (Option BoxNode) };
 

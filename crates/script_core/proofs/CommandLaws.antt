@@ -1,5 +1,5 @@
 -- The function that reads a command gives the commands of the grammar.
-use Rattle.std.proofs.Common.{◌≡◌, ℕ, ℤ, Bool, true, false, if◌then◌else◌, List, [], ◌∷◌, ◌++◌, Option, Some, None, Result, Ok, Err, codes, refl, ap, sym, ◌∙◌, subst}
+use Rattle.std.proofs.Common.{◌≡◌, ℕ, ℤ, Bool, true, false, if◌then◌else◌, List, [], ◌∷◌, ◌++◌, Option, Some, None, Ok, Err, codes, refl, ap, sym, ◌∙◌, subst}
 use Rattle.std.specs.Str.{bytes_eq}
 use Rattle.node_core.specs.declared.tree.Glue as glues
 use Rattle.pack_core.specs.declared.pack.Target.{Target}
@@ -10,7 +10,6 @@ use Rattle.command_core.specs.declared.command.Parameter.{Parameter}
 use Rattle.command_core.specs.declared.command.Parameter.TheVariants.{FirstLines}
 use Rattle.command_core.specs.declared.command.Command.{Command}
 use Rattle.command_core.specs.declared.command.Command.TheVariants.{UseFont, Paragraph, End, Character, Kern, Glue, Penalty, LastBox, Measure, Void, Set, Ship}
-use Rattle.script_core.specs.declared.cause.Cause.{Cause}
 use Rattle.script_core.specs.declared.cause.Cause.TheVariants.{Word, Number}
 use Rattle.script_core.specs.declared.name.Name.{Name}
 use Rattle.script_core.specs.declared.name.Name.TheVariants as names

@@ -8,7 +8,7 @@ use Rattle.command_core.specs.declared.command.BoxForm.{BoxForm}
 use Rattle.command_core.specs.declared.command.Taking.{Taking}
 use Rattle.command_core.specs.declared.command.Parameter.TheVariants.{BoxMaxDepth, BaselineSkip, LineSkip, LineSkipLimit, SplitMaxDepth, SplitTopSkip, Hsize, FirstLines, FirstSize, ParFillSkip, Pretolerance, Tolerance, LinePenalty, AdjDemerits, ClubPenalty, WidowPenalty, InterlinePenalty, Hoffset, Voffset}
 use Rattle.command_core.specs.declared.command.Command.{Command}
-use Rattle.command_core.specs.declared.command.Command.TheVariants.{LoadFont, UseFont, Open, Paragraph, End, Text, Character, Rule, Kern, Glue, Penalty, Append, Unbox, LastBox, Split, Measure, Void, Set, Count, Ship}
+use Rattle.command_core.specs.declared.command.Command.TheVariants.{LoadFont, UseFont, Open, Paragraph, End, Text, Character, Rule, Kern, Glue, Penalty, Append, Unbox, LastBox, Split, Measure, Void, Set, Count, Special, Ship}
 use Rattle.script_core.specs.declared.name.Name.TheVariants as names
 use Rattle.script_core.specs.declared.amounts.Amount.{Amount}
 use Rattle.script_core.specs.Grammar.{register_count, slot_count, character_count, count_count, first_lines_count, IsFirstLines, IsCountNumber, IsCount, IsNumberAmong, IsRegister, IsChosenSize, IsTarget, IsDestination, IsShift, IsDimension, IsAmount, IsPart, IsGlue, Says}
@@ -109,6 +109,7 @@ complete fields (Open opened) (size, more, e, target, into) =
 complete fields Paragraph e = rw e (named names.Paragraph [])
 complete fields End e = rw e (named names.End [])
 complete fields (Text text) h = absurd h
+complete fields (Special text) h = absurd h
 complete fields (Character n) (c, e, h) = rw e (named names.Character (c ∷ []) ∙ number_alone character_count Character c n h)
 complete fields (Rule sizes) (w, h, d, e, width, height, depth) =
     rw e (named names.Rule (w ∷ h ∷ d ∷ []) ∙ (rw (size_given w sizes.width width, size_given h sizes.height height, size_given d sizes.depth depth) refl))

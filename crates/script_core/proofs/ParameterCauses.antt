@@ -14,7 +14,7 @@ use Rattle.script_core.specs.declared.parameter.NumberParameter.{NumberParameter
 use Rattle.script_core.specs.Grammar.{first_lines_count}
 use Rattle.script_core.specs.Causes.{IsWord, IsFieldCause}
 use Rattle.script_core.specs.ParameterNames.{size_name, skip_name, number_name, names_first_lines, with_size, with_skip, with_number}
-use Rattle.script_core.specs.Reading.{dimension_first, last_dimension, last_number, last_penalty, map_ok, no_amount, glue, parts_of, glue_of, parameter_by, parameter_of, command_named, command_of}
+use Rattle.script_core.specs.Reading.{dimension_first, last_dimension, last_number, last_penalty, map_ok, no_amount, glue, parts_of, glue_of, parameter_of, command_named, command_of}
 use Rattle.script_core.proofs.NameLaws.{named}
 use Rattle.script_core.proofs.ParameterNameLaws.{size_text, skip_text, number_text, size_written, skip_written, number_written, size_read, skip_read, number_read, skip_no_size, number_no_size, number_no_skip, first_lines_text, first_lines_written, first_lines_no_size, first_lines_no_skip, first_lines_no_number, first_lines_read}
 use Rattle.script_core.proofs.CauseForms.{missing, has_bad_elsewhere, as_cause, not_made, twice, zero_dimension, depth_is_word, letter, dimension_cause, penalty_cause}

@@ -1,5 +1,5 @@
 -- The names of parameters, as they are written.
-use Rattle.std.proofs.Common.{◌≡◌, ℕ, Bool, true, false, if◌then◌else◌, List, ◌∷◌, Option, Some, None, codes, refl, ap, ◌∙◌}
+use Rattle.std.proofs.Common.{◌≡◌, ℕ, Bool, true, false, if◌then◌else◌, List, Option, Some, None, codes, refl, ap, ◌∙◌}
 use Rattle.std.specs.Str.{bytes_eq}
 use Rattle.script_core.specs.declared.parameter.SizeParameter.{SizeParameter}
 use Rattle.script_core.specs.declared.parameter.SizeParameter.TheVariants as sizes

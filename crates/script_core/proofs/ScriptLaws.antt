@@ -1,58 +1,80 @@
 -- The function that reads lines gives the lines of the script.
-use Rattle.std.proofs.Common.{◌≡◌, inl, inr, ⊎_elim, ℕ, ◌+◌, Bool, true, false, List, [], ◌∷◌, ◌++◌, Option, Some, None, codes, length, Result, Ok, Err, refl, ap, sym, ◌∙◌, subst, arith}
+use Rattle.std.proofs.Common.{◌≡◌, inl, inr, ⊎_elim, ℕ, ◌+◌, Bool, true, false, List, [], ◌∷◌, ◌++◌, codes, length, Result, Ok, Err, refl, ap, sym, ◌∙◌, subst, arith}
 use Rattle.std.specs.List.{list_all, AllByRecursion}
+use Rattle.std.specs.Str.{bytes_eq}
 use Rattle.std.specs.Str.Lines.{lines}
 use Rattle.std.proofs.lemmas.List.{append-nil}
 use Rattle.command_core.specs.declared.command.Command.{Command}
-use Rattle.command_core.specs.declared.command.Command.TheVariants.{Text}
+use Rattle.command_core.specs.declared.command.Command.TheVariants.{Text, Special}
 use Rattle.script_core.specs.declared.cause.Cause.{Cause}
 use Rattle.script_core.specs.declared.cause.Cause.TheVariants.{Byte, Word}
 use Rattle.script_core.specs.declared.script.Line.{Line}
 use Rattle.script_core.specs.declared.script.ScriptFault.{ScriptFault}
 use Rattle.script_core.specs.declared.script.ScriptFault.TheVariants.{OutOfMemory, BadScript}
-use Rattle.script_core.specs.ScriptLines.{is_passed_over, is_printable, fields_of, IsTextLine}
+use Rattle.script_core.specs.ScriptLines.{is_passed_over, is_printable, fields_of, IsTextLine, IsSpecialLine, HasText}
 use Rattle.script_core.specs.Names.{box_name, register_name, item_name, name_of}
 use Rattle.script_core.specs.Grammar.{Says}
 use Rattle.script_core.specs.Causes.{IsPrintable, IsFieldCause, IsCause}
 use Rattle.script_core.specs.Script.{IsPassedOver, Gives, SaysLine, SayFrom, IsScript, IsRightLine, IsFirstBad, Explains}
-use Rattle.script_core.specs.Reading.{command_of, text_of, given_by, line_of, Found, lines_then, reads_by, reads}
+use Rattle.script_core.specs.Reading.{front_field, behind_field, command_of, kept_text, given, line_of, Found, lines_then, reads_by, reads}
 use Rattle.script_core.proofs.GivenCommands.{complete}
 use Rattle.script_core.proofs.CommandLaws.{sound}
+use Rattle.script_core.proofs.FieldLaws.{same_bytes, bytes_same}
 use Rattle.script_core.proofs.CauseLaws.{cause_holds}
-use Rattle.script_core.proofs.TextLines.{text_said, text_read, text_first}
+use Rattle.script_core.proofs.TextLines.{word_said, text_read, special_read, first_is}
 
--- what the fields say is given, but for a text
+-- what the fields say is given, but for a text or a special
 gives : (line : List ℕ) (command : Command) → Says (fields_of line) command → Gives line command
 gives line (Text text) h = absurd h
+gives line (Special text) h = absurd h
 gives line command h = h
 
-given_in : (line : List ℕ) (command : Command) (o : Option (List ℕ)) → text_of line ≡ o → given_by o line ≡ Ok command → Gives line command
-given_in line command None e h = gives line command (sound (fields_of line) command h)
-given_in line command (Some text) e h =
-    let is : Text text ≡ command = cc in
-    let P : Command → Type 0 = λ c. Gives line c in
-    subst P is (text_said line text e)
+-- what is given of a line whose first field is neither `text` nor `special`, or is one of them
+given_in : (line : List ℕ) (command : Command) (b c : Bool) → bytes_eq (front_field line) (codes "text") ≡ b → bytes_eq (front_field line) (codes "special") ≡ c → given line ≡ Ok command → Gives line command
+unfolding given
+given_in line command true c e f h =
+    let s : Ok (Text (kept_text line)) ≡ Ok command = rw e at h in
+    let is : Text (kept_text line) ≡ command = cc in
+    let P : Command → Type 0 = λ x. Gives line x in
+    subst P is (word_said (codes "text") line (same_bytes (front_field line) (codes "text") e))
+given_in line command false true e f h =
+    let s : Ok (Special (kept_text line)) ≡ Ok command = rw (e, f) at h in
+    let is : Special (kept_text line) ≡ command = cc in
+    let P : Command → Type 0 = λ x. Gives line x in
+    subst P is (word_said (codes "special") line (same_bytes (front_field line) (codes "special") f))
+given_in line command false false e f h = gives line command (sound (fields_of line) command (rw (e, f) at h))
 
-no_command : (more : List (List ℕ)) → command_of (codes "text" ∷ more) ≡ Err Word
+no_text : (more : List (List ℕ)) → command_of (codes "text" ∷ more) ≡ Err Word
 unfolding command_of name_of box_name register_name item_name
-no_command more = refl
+no_text more = refl
 
-fields_by : (line : List ℕ) (command : Command) (o : Option (List ℕ)) → text_of line ≡ o → Says (fields_of line) command → given_by o line ≡ Ok command
-fields_by line command None e h = complete (fields_of line) command h
-fields_by line command (Some text) e h =
-    let first = text_first line text (text_said line text e) in
-    let other : Err Word ≡ Ok command = sym (no_command first.0) ∙ ap command_of (sym first.1) ∙ complete (fields_of line) command h in
+no_special : (more : List (List ℕ)) → command_of (codes "special" ∷ more) ≡ Err Word
+unfolding command_of name_of box_name register_name item_name
+no_special more = refl
+
+fields_by : (line : List ℕ) (command : Command) (b c : Bool) → bytes_eq (front_field line) (codes "text") ≡ b → bytes_eq (front_field line) (codes "special") ≡ c → Says (fields_of line) command → given line ≡ Ok command
+unfolding given
+fields_by line command true c e f h =
+    let first = first_is 116 (codes "ext") line (same_bytes (front_field line) (codes "text") e) in
+    let other : Err Word ≡ Ok command = sym (no_text (fields_of (behind_field line))) ∙ ap command_of (sym first) ∙ complete (fields_of line) command h in
     absurd (cc)
+fields_by line command false true e f h =
+    let first = first_is 115 (codes "pecial") line (same_bytes (front_field line) (codes "special") f) in
+    let other : Err Word ≡ Ok command = sym (no_special (fields_of (behind_field line))) ∙ ap command_of (sym first) ∙ complete (fields_of line) command h in
+    absurd (cc)
+fields_by line command false false e f h = rw (e, f) (complete (fields_of line) command h)
 
 -- what is given is read
-given_read : (line : List ℕ) (command : Command) → Gives line command → given_by (text_of line) line ≡ Ok command
-given_read line (Text text) h = rw (text_read line text h) refl
-given_read line command h = fields_by line command (text_of line) refl h
+given_read : (line : List ℕ) (command : Command) → Gives line command → given line ≡ Ok command
+unfolding given
+given_read line (Text text) h = let read = text_read line text h in rw (read.front, read.kept) refl
+given_read line (Special text) h = let read = special_read line text h in rw (read.front, read.kept) refl
+given_read line command h = fields_by line command _ _ refl refl h
 
 -- what is read of a line
 line_by : (line : List ℕ) (command : Command) (b : Bool) → list_all is_printable line ≡ b → line_of line ≡ Ok command → IsPrintable line × Gives line command
 unfolding line_of
-line_by line command true e h = (e, given_in line command (text_of line) refl (rw e at h))
+line_by line command true e h = (e, given_in line command _ _ refl refl (rw e at h))
 line_by line command false e h = let s : Err Byte ≡ Ok command = rw e at h in absurd (cc)
 
 line_said : (line : List ℕ) (command : Command) → is_passed_over line ≡ false → line_of line ≡ Ok command → SaysLine line command
@@ -64,14 +86,22 @@ line_read : (line : List ℕ) (command : Command) → SaysLine line command → 
 unfolding line_of
 line_read line command h = rw h.printable (given_read line command h.says)
 
-given_fault : (line : List ℕ) (cause : Cause) (o : Option (List ℕ)) → text_of line ≡ o → given_by o line ≡ Err cause → ((text : List ℕ) → IsTextLine line text → ⊥) × IsFieldCause cause (fields_of line)
-given_fault line cause None e h = (λ text said. let read = text_read line text said in cc, cause_holds (fields_of line) cause h)
-given_fault line cause (Some text) e h = absurd (cc)
+no_text_line : (line text : List ℕ) → bytes_eq (front_field line) (codes "text") ≡ false → bytes_eq (front_field line) (codes "special") ≡ false → HasText line text → ⊥
+no_text_line line text e f said = ⊎_elim
+    (λ (is : IsTextLine line text). let same : true ≡ false = sym (rw (text_read line text is).front (bytes_same (codes "text"))) ∙ e in cc)
+    (λ (is : IsSpecialLine line text). let same : true ≡ false = sym (rw (special_read line text is).front (bytes_same (codes "special"))) ∙ f in cc)
+    said
+
+given_fault : (line : List ℕ) (cause : Cause) (b c : Bool) → bytes_eq (front_field line) (codes "text") ≡ b → bytes_eq (front_field line) (codes "special") ≡ c → given line ≡ Err cause → ((text : List ℕ) → HasText line text → ⊥) × IsFieldCause cause (fields_of line)
+unfolding given
+given_fault line cause true c e f h = let s : Ok (Text (kept_text line)) ≡ Err cause = rw e at h in absurd (cc)
+given_fault line cause false true e f h = let s : Ok (Special (kept_text line)) ≡ Err cause = rw (e, f) at h in absurd (cc)
+given_fault line cause false false e f h = (λ text said. no_text_line line text e f said, cause_holds (fields_of line) cause (rw (e, f) at h))
 
 line_fault : (line : List ℕ) (cause : Cause) (b : Bool) → list_all is_printable line ≡ b → line_of line ≡ Err cause → IsCause cause line
 unfolding line_of
 line_fault line cause true e h =
-    let fault = given_fault line cause (text_of line) refl (rw e at h) in
+    let fault = given_fault line cause _ _ refl refl (rw e at h) in
     inr (e, fault.0, fault.1)
 line_fault line cause false e h = let s : Err Byte ≡ Err cause = rw e at h in inl (cc, e)
 

@@ -1,15 +1,15 @@
--- Lines of text.
-use Rattle.std.proofs.Common.{◌≡◌, inl, inr, ⊎_elim, ℕ, zero, suc, Bool, true, false, List, [], ◌∷◌, ◌++◌, if◌then◌else◌, Some, None, codes, take, drop, refl, ap, sym, subst, ◌∙◌, arith}
+-- Lines of `text` and of `special`, whose text stands as it is.
+use Rattle.std.proofs.Common.{◌≡◌, inl, inr, ⊎_elim, ℕ, ◌+◌, ◌<◌, ◌≤◌, zero, suc, Bool, true, false, List, [], ◌∷◌, ◌++◌, length, codes, take, drop, get_or, refl, ap, sym, subst, ◌∙◌, arith}
 use Rattle.std.specs.Prelude.{replicate}
 use Rattle.std.proofs.Math.Numerals.{one-add}
+use Rattle.std.proofs.Math.Seq.{take-append_seam, drop-append_seam}
 use Rattle.std.specs.List.{prefix_len}
-use Rattle.std.specs.Str.{bytes_eq}
-use Rattle.std.proofs.lemmas.Bool.{eqb-true}
-use Rattle.std.proofs.lemmas.List.{take-append-drop}
-use Rattle.script_core.specs.ScriptLines.{is_space, fields_of, IsTextLine}
-use Rattle.script_core.specs.Reading.{without_spaces, text_behind, text_of}
-use Rattle.script_core.proofs.FieldLaws.{same_bytes}
-use Rattle.script_core.proofs.FieldLemmas.{fields-space, fields_then}
+use Rattle.std.proofs.lemmas.Bool.{eqb-true, cases_lt}
+use Rattle.std.proofs.lemmas.List.{take-append-drop, drop_more, take_all, drop_all, append-nil}
+use Rattle.std.proofs.lemmas.List.Sums.{passes_at_first}
+use Rattle.script_core.specs.ScriptLines.{is_space, fields_of, IsLineOf, IsTextLine, IsSpecialLine}
+use Rattle.script_core.specs.Reading.{in_field, without_spaces, front_field, behind_field, kept_text}
+use Rattle.script_core.proofs.FieldLemmas.{fields_first}
 
 spaced_one : (byte : ℕ) (line : List ℕ) (b : Bool) → is_space byte ≡ b → line ≡ replicate (prefix_len is_space line) 32 ++ without_spaces line → byte ∷ line ≡ replicate (prefix_len is_space (byte ∷ line)) 32 ++ without_spaces (byte ∷ line)
 spaced_one byte line true e more =
@@ -22,58 +22,66 @@ spaced : (line : List ℕ) → line ≡ replicate (prefix_len is_space line) 32 
 spaced [] = refl
 spaced (byte ∷ line) = spaced_one byte line (is_space byte) refl (spaced line)
 
--- the spaces in front of a letter
-unspaced : (n : ℕ) (rest : List ℕ) → without_spaces (replicate n 32 ++ 116 ∷ rest) ≡ 116 ∷ rest
-unspaced zero rest = refl
-unspaced (suc n) rest = rw one-add (unspaced n rest)
+after_one_space : (xs : List ℕ) (byte : ℕ) (rest : List ℕ) → is_space byte ≡ true → xs ≡ byte ∷ rest → xs ≡ 32 ∷ drop 1 xs
+after_one_space xs byte rest space e = rw (e, eqb-true byte 32 space) refl
 
-five_and_rest : (rest : List ℕ) → rest ≡ take 5 rest ++ drop 5 rest
-five_and_rest rest = sym (take-append-drop 5 rest)
+-- the text after a field that is this word: nothing, where the word ends the line, or all after one space
+said_from : (word t : List ℕ) (k n : ℕ) → n ≡ prefix_len in_field t → take n t ≡ word → IsLineOf word (replicate k 32 ++ t) (drop 1 (drop n t))
+said_from word t k n e front = ⊎_elim
+    (λ (inside : n < length t).
+    let space : is_space (get_or t n 0) ≡ true = rw e (passes_at_first is_space t 0 (rw (← e) inside)) in
+    let text = after_one_space (drop n t) (get_or t n 0) (drop (n + 1) t) space (drop_more t n 0 inside) in
+    let all : t ≡ word ++ 32 ∷ drop 1 (drop n t) = sym (take-append-drop n t) ∙ ap (λ (xs : List ℕ). xs ++ drop n t) front ∙ ap (λ (xs : List ℕ). word ++ xs) text in
+    (k, inr (ap (λ (xs : List ℕ). replicate k 32 ++ xs) all)))
+    (λ (past : length t ≤ n).
+    let nothing : drop n t ≡ [] = drop_all n t past in
+    let all : t ≡ word = sym (take-append-drop n t) ∙ (rw (front, nothing) (append-nil word)) in
+    (k, inl (ap (λ (xs : List ℕ). replicate k 32 ++ xs) all, ap (drop 1) nothing)))
+    (cases_lt n (length t))
 
-some_is : (x y : List ℕ) → Some x ≡ Some y → y ≡ x
-some_is x y h = cc
+-- a line whose first field is this word is a line of the word and of the text that is kept
+pub word_said : (word line : List ℕ) → front_field line ≡ word → IsLineOf word line (kept_text line)
+unfolding front_field behind_field
+word_said word line h =
+    let P : List ℕ → Type 0 = λ x. IsLineOf word x (drop 1 (drop (prefix_len in_field (without_spaces line)) (without_spaces line))) in
+    subst P (sym (spaced line)) (said_from word (without_spaces line) (prefix_len is_space line) (prefix_len in_field (without_spaces line)) refl h)
 
-by_space : (n : ℕ) (rest text : List ℕ) (b : Bool) → bytes_eq (take 5 rest) (codes "text ") ≡ b → (if b then Some (drop 5 rest) else None) ≡ Some text → IsTextLine (replicate n 32 ++ rest) text
-by_space n rest text true e h =
-    let all : rest ≡ codes "text " ++ text = five_and_rest rest ∙ (rw (same_bytes (take 5 rest) (codes "text ") e, some_is (drop 5 rest) text h) refl) in
-    (n, inr (ap (λ (xs : List ℕ). replicate n 32 ++ xs) all))
-by_space n rest text false e h = absurd (cc)
+-- the spaces in front of a byte that is none
+unspaced : (n byte : ℕ) (rest : List ℕ) → is_space byte ≡ false → without_spaces (replicate n 32 ++ byte ∷ rest) ≡ byte ∷ rest
+unspaced zero byte rest e = rw e refl
+unspaced (suc n) byte rest e = rw one-add (unspaced n byte rest e)
 
-by_end : (n : ℕ) (rest text : List ℕ) (b : Bool) → bytes_eq rest (codes "text") ≡ b → text_behind rest ≡ Some text → IsTextLine (replicate n 32 ++ rest) text
-by_end n rest text true e h =
-    let s : Some [] ≡ Some text = rw e at h in
-    (n, inl (ap (λ (xs : List ℕ). replicate n 32 ++ xs) (same_bytes rest (codes "text") e), some_is [] text s))
-by_end n rest text false e h = by_space n rest text _ refl (rw e at h)
+-- what is read of a line: its first field and the text that is kept
+pub record IsRead (line word text : List ℕ) : Type 0 where
+  pub front : front_field line ≡ word
+  pub kept : kept_text line ≡ text
 
--- the text that is read is that of the line
-pub text_said : (line text : List ℕ) → text_of line ≡ Some text → IsTextLine line text
-unfolding text_of
-text_said line text h =
-    let P : List ℕ → Type 0 = λ x. IsTextLine x text in
-    subst P (sym (spaced line)) (by_end (prefix_len is_space line) (without_spaces line) text _ refl h)
+-- a word that a line may begin with, by its first byte and the others: its bytes are no spaces
+pub record IsFirstWord (byte : ℕ) (more : List ℕ) : Type 0 where
+  pub starts : is_space byte ≡ false
+  pub alone : prefix_len in_field (byte ∷ more) ≡ length (byte ∷ more)
+  pub followed : (text : List ℕ) → prefix_len in_field (byte ∷ more ++ 32 ∷ text) ≡ length (byte ∷ more)
 
--- and that of a line is read
-pub text_read : (line text : List ℕ) → IsTextLine line text → text_of line ≡ Some text
-unfolding text_of
-text_read line text (n, said) = ⊎_elim
-    (λ (alone : (line ≡ replicate n 32 ++ codes "text") × (text ≡ [])). rw (alone.0, alone.1, unspaced n (codes "ext")) refl)
-    (λ (more : line ≡ replicate n 32 ++ (codes "text " ++ text)). rw (more, unspaced n (codes "ext " ++ text)) refl)
+-- a line of a word and a text is read as such
+word_read : (byte : ℕ) (more line text : List ℕ) → IsFirstWord byte more → IsLineOf (byte ∷ more) line text → IsRead line (byte ∷ more) text
+unfolding front_field behind_field
+word_read byte more line text is (n, said) = ⊎_elim
+    (λ (alone : (line ≡ replicate n 32 ++ byte ∷ more) × (text ≡ [])). record {
+      front = rw (alone.0, unspaced n byte more is.starts, is.alone) (take_all (length (byte ∷ more)) (byte ∷ more) (omega arith));
+      kept = rw (alone.0, alone.1, unspaced n byte more is.starts, is.alone) (ap (drop 1) (drop_all (length (byte ∷ more)) (byte ∷ more) (omega arith)));
+    })
+    (λ (followed : line ≡ replicate n 32 ++ (byte ∷ more ++ 32 ∷ text)). record {
+      front = rw (followed, unspaced n byte (more ++ 32 ∷ text) is.starts, is.followed text) (take-append_seam (byte ∷ more) (32 ∷ text));
+      kept = rw (followed, unspaced n byte (more ++ 32 ∷ text) is.starts, is.followed text) (ap (drop 1) (drop-append_seam (byte ∷ more) (32 ∷ text)));
+    })
     said
 
-unspaced_fields : (n : ℕ) (rest : List ℕ) → fields_of (replicate n 32 ++ rest) ≡ fields_of rest
-unspaced_fields zero rest = refl
-unspaced_fields (suc n) rest = fields-space 32 (replicate n 32 ++ rest) refl ∙ unspaced_fields n rest
+pub text_read : (line text : List ℕ) → IsTextLine line text → IsRead line (codes "text") text
+text_read line text said = word_read 116 (codes "ext") line text (record { starts = refl; alone = refl; followed = λ text. refl }) said
 
-word_alone : fields_of (codes "text") ≡ codes "text" ∷ []
-unfolding fields_of
-word_alone = refl
+pub special_read : (line text : List ℕ) → IsSpecialLine line text → IsRead line (codes "special") text
+special_read line text said = word_read 115 (codes "pecial") line text (record { starts = refl; alone = refl; followed = λ text. refl }) said
 
-word_and_more : (text : List ℕ) → fields_of (codes "text " ++ text) ≡ codes "text" ∷ fields_of (32 ∷ text)
-word_and_more text = fields_then (codes "text " ++ text) 4 refl (omega arith) (omega arith)
-
--- the first field of a line of text is the word `text`
-pub text_first : (line text : List ℕ) → IsTextLine line text → (more : List (List ℕ)) × (fields_of line ≡ codes "text" ∷ more)
-text_first line text (n, said) = ⊎_elim
-    (λ (alone : (line ≡ replicate n 32 ++ codes "text") × (text ≡ [])). ([], ap fields_of alone.0 ∙ unspaced_fields n (codes "text") ∙ word_alone))
-    (λ (more : line ≡ replicate n 32 ++ (codes "text " ++ text)). (fields_of (32 ∷ text), ap fields_of more ∙ unspaced_fields n (codes "text " ++ text) ∙ word_and_more text))
-    said
+-- the fields of a line whose first one is not empty
+pub first_is : (byte : ℕ) (word line : List ℕ) → front_field line ≡ byte ∷ word → fields_of line ≡ (byte ∷ word) ∷ fields_of (behind_field line)
+first_is byte word line h = fields_first line (rw h (omega arith)) ∙ (rw h refl)

@@ -6,7 +6,7 @@ use Rattle.command_core.specs.declared.command.Command.{Command}
 use Rattle.script_core.specs.declared.cause.Cause.{Cause}
 use Rattle.script_core.specs.declared.cause.Cause.TheVariants as causes
 use Rattle.script_core.specs.declared.cause.Cause.TheVariants.{Byte, Word, Missing, Extra, Number, Dimension}
-use Rattle.script_core.specs.ScriptLines.{is_printable, fields_of, IsTextLine}
+use Rattle.script_core.specs.ScriptLines.{is_printable, fields_of, HasText}
 use Rattle.script_core.specs.Grammar.{IsRegister, IsSlot, IsCharacterCode, IsDimension, IsSize, IsName, IsSizeOfFont, Says}
 
 -- the fields say some command
@@ -25,7 +25,7 @@ IsInnerWord field =
     ∷ codes "hsize" ∷ codes "firstlines" ∷ codes "firstsize" ∷ codes "parfillskip" ∷ codes "pretolerance" ∷ codes "tolerance" ∷ codes "linepenalty" ∷ codes "adjdemerits" ∷ codes "clubpenalty"
     ∷ codes "widowpenalty" ∷ codes "interlinepenalty" ∷ codes "hoffset" ∷ codes "voffset" ∷ []) field
 
--- one of the words of the grammar of fields, to which `text` does not belong: it begins a command, or stands behind others
+-- one of the words of the grammar of fields, to which `text` and `special` do not belong: it begins a command, or stands behind others
 abbrev pub IsWord : List ℕ → Type 0
 IsWord field = Begins (field ∷ []) ⊎ IsInnerWord field
 
@@ -95,8 +95,8 @@ IsFieldCause causes.Name fields = (bad : HasBad IsName fields) × TakesNames bad
 abbrev pub IsPrintable : List ℕ → Type 0
 IsPrintable line = list_all is_printable line ≡ true
 
--- the cause holds of the line: a byte is not printable; or all are, and it is no line of text, and the cause holds of the fields
+-- the cause holds of the line: a byte is not printable; or all are, and it is no line of `text` or of `special`, and the cause holds of the fields
 abbrev pub IsCause : Cause → List ℕ → Type 0
 IsCause cause line =
     ((cause ≡ Byte) × (list_all is_printable line ≡ false))
-    ⊎ (IsPrintable line × ((text : List ℕ) → IsTextLine line text → ⊥) × IsFieldCause cause (fields_of line))
+    ⊎ (IsPrintable line × ((text : List ℕ) → HasText line text → ⊥) × IsFieldCause cause (fields_of line))

@@ -6,6 +6,7 @@ use Rattle.std.specs.Str.Parse.{IsNumeral, without_leading_sign, signed_digits_v
 use Rattle.scaled_core.specs.Dimensions.{Fits, Within}
 use Rattle.scaled_core.specs.DimensionTexts.{IsDimensionText}
 use Rattle.tfm_core.specs.Scaling.{IsFontSize}
+use Rattle.node_core.specs.declared.limits.TheConstants.{REGISTERS, FONT_SLOTS, COUNTS}
 use Rattle.node_core.specs.declared.tree.Kind.{Kind}
 use Rattle.node_core.specs.declared.tree.Kind.TheVariants.{Horizontal, Vertical}
 use Rattle.node_core.specs.declared.tree.Glue as glues
@@ -21,7 +22,7 @@ use Rattle.command_core.specs.declared.command.Taking.{Taking}
 use Rattle.command_core.specs.declared.command.Taking.TheVariants.{Moved, Copied}
 use Rattle.command_core.specs.declared.command.Parameter.TheVariants.{BoxMaxDepth, BaselineSkip, LineSkip, LineSkipLimit, SplitMaxDepth, SplitTopSkip, Hsize, FirstLines, FirstSize, ParFillSkip, Pretolerance, Tolerance, LinePenalty, AdjDemerits, ClubPenalty, WidowPenalty, InterlinePenalty, Hoffset, Voffset}
 use Rattle.command_core.specs.declared.command.Command.{Command}
-use Rattle.command_core.specs.declared.command.Command.TheVariants.{LoadFont, UseFont, Open, Paragraph, End, Text, Character, Rule, Kern, Glue, Penalty, Append, Unbox, LastBox, Split, Measure, Void, Set, Count, Ship}
+use Rattle.command_core.specs.declared.command.Command.TheVariants.{LoadFont, UseFont, Open, Paragraph, End, Text, Character, Rule, Kern, Glue, Penalty, Append, Unbox, LastBox, Split, Measure, Void, Set, Count, Special, Ship}
 
 -- a field that writes this whole number by an optional sign and digits
 pub record IsInteger (field : List ℕ) (z : ℤ) : Type 0 where
@@ -30,11 +31,11 @@ pub record IsInteger (field : List ℕ) (z : ℤ) : Type 0 where
 
 -- how many box registers there are, by their numbers from 0 (own)
 abbrev pub register_count : ℕ
-register_count = 256
+register_count = REGISTERS
 
 -- how many slots for fonts there are, by their numbers from 0 (own)
 abbrev pub slot_count : ℕ
-slot_count = 256
+slot_count = FONT_SLOTS
 
 -- how many characters a font may have, by their codes from 0 (TFtoPL, 11)
 abbrev pub character_count : ℕ
@@ -42,7 +43,7 @@ character_count = 256
 
 -- how many counts a page has, by their numbers from 0 (DVItype, 15)
 abbrev pub count_count : ℕ
-count_count = 10
+count_count = COUNTS
 
 -- a field that writes this whole number, which is one of so many from 0
 pub record IsNumberAmong (count : ℕ) (field : List ℕ) (n : ℕ) : Type 0 where
@@ -175,7 +176,7 @@ IsGlue fields glue =
     × IsDimension d glue.width × IsPart (codes "plus") plus glue.stretch_order glue.stretch
     × IsPart (codes "minus") minus glue.shrink_order glue.shrink
 
--- the fields of a line say this command; those of a line of text are not looked at
+-- the fields of a line say this command; those of a line of `text` or of `special` are not looked at
 abbrev pub Says : List (List ℕ) → Command → Type 0
 Says fields (LoadFont load) =
     (s : List ℕ) × (more : List (List ℕ)) × (fields ≡ codes "font" ∷ s ∷ load.name ∷ more)
@@ -224,4 +225,5 @@ Says fields (Set (Hoffset z)) = (d : List ℕ) × (fields ≡ codes "set" ∷ co
 Says fields (Set (Voffset z)) = (d : List ℕ) × (fields ≡ codes "set" ∷ codes "voffset" ∷ d ∷ []) × IsDimension d z
 Says fields (Count counting) =
     (i : List ℕ) × (n : List ℕ) × (fields ≡ codes "count" ∷ i ∷ n ∷ []) × IsCountNumber i counting.count × IsCount n counting.value
+Says fields (Special text) = ⊥
 Says fields (Ship n) = (r : List ℕ) × (fields ≡ codes "ship" ∷ r ∷ []) × IsRegister r n

@@ -19,7 +19,7 @@ use Rattle.command_core.specs.declared.command.Taking.{Taking}
 use Rattle.command_core.specs.declared.command.Parameter.{Parameter}
 use Rattle.command_core.specs.declared.command.Parameter.TheVariants.{FirstLines}
 use Rattle.command_core.specs.declared.command.Command.{Command}
-use Rattle.command_core.specs.declared.command.Command.TheVariants.{LoadFont, UseFont, Open, Paragraph, End, Text, Character, Rule, Kern, Glue, Penalty, Append, Unbox, LastBox, Split, Measure, Void, Set, Count, Ship}
+use Rattle.command_core.specs.declared.command.Command.TheVariants.{LoadFont, UseFont, Open, Paragraph, End, Text, Character, Rule, Kern, Glue, Penalty, Append, Unbox, LastBox, Split, Measure, Void, Set, Count, Special, Ship}
 use Rattle.script_core.specs.declared.cause.Cause.{Cause}
 use Rattle.script_core.specs.declared.cause.Cause.TheVariants as causes
 use Rattle.script_core.specs.declared.cause.Cause.TheVariants.{Byte, Word, Missing, Extra, Number, Dimension}
@@ -454,22 +454,19 @@ command_by (Ok word) fields = named_by (name_of word) fields
 unfoldable pub command_of : List (List ℕ) → Result Command Cause
 command_of fields = command_by (first_of fields) (rest_of fields)
 
--- what stands behind the word `text` at the front of a line without spaces in front: nothing, or one space and a text
-abbrev pub text_behind : List ℕ → Option (List ℕ)
-text_behind line = if bytes_eq line (codes "text") then Some [] else (if bytes_eq (take 5 line) (codes "text ") then Some (drop 5 line) else None)
+-- the text after the first field of a line: all that follows one space, as it stands
+abbrev pub kept_text : List ℕ → List ℕ
+kept_text line = drop 1 (behind_field line)
 
--- the text of a line of text
-unfoldable pub text_of : List ℕ → Option (List ℕ)
-text_of line = text_behind (without_spaces line)
-
--- the command of a line: the text, where it is a line of text, else what its fields say
-abbrev pub given_by : Option (List ℕ) → List ℕ → Result Command Cause
-given_by None line = command_of (fields_of line)
-given_by (Some text) line = Ok (Text text)
+-- the command of a line: a text or a special with its text, by its first field, else what its fields say
+unfoldable pub given : List ℕ → Result Command Cause
+given line =
+    if bytes_eq (front_field line) (codes "text") then Ok (Text (kept_text line))
+    else (if bytes_eq (front_field line) (codes "special") then Ok (Special (kept_text line)) else command_of (fields_of line))
 
 -- the command that a line says, or why it says none
 unfoldable pub line_of : List ℕ → Result Command Cause
-line_of line = if list_all is_printable line then given_by (text_of line) line else Err Byte
+line_of line = if list_all is_printable line then given line else Err Byte
 
 -- what is found in lines: the lines that say commands, or why the script was not read
 abbrev pub Found : Type 0

@@ -5,7 +5,7 @@ use Rattle.node_core.specs.declared.tree.Order.TheVariants.{Normal, Fil}
 use Rattle.pack_core.specs.declared.pack.Target.TheVariants.{Natural, To}
 use Rattle.command_core.specs.declared.command.BoxForm.TheVariants.{Hbox, Vbox}
 use Rattle.command_core.specs.declared.command.Parameter.TheVariants.{BoxMaxDepth}
-use Rattle.command_core.specs.declared.command.Command.TheVariants.{LoadFont, UseFont, Open, End, Text, Character, Rule, Glue, Penalty, Set, Ship}
+use Rattle.command_core.specs.declared.command.Command.TheVariants.{LoadFont, UseFont, Open, End, Text, Character, Rule, Glue, Penalty, Measure, Set, Special, Ship}
 use Rattle.script_core.specs.declared.cause.Cause.TheVariants as causes
 use Rattle.script_core.specs.declared.cause.Cause.TheVariants.{Missing, Extra, Number, Dimension}
 use Rattle.script_core.specs.declared.script.Line.{Line}
@@ -40,6 +40,22 @@ text_lines =
 -- the script with a font, a comment line, a text with spaces around it and a character says those lines
 abbrev pub TextScript : Type 0
 TextScript = IsScript (codes "font 0 tiny at 10pt\nuse +0\n% text\n  text  a \nchar 99\n") text_lines
+
+-- the lines of a script of two specials and of the last register
+abbrev pub special_lines : List Line
+special_lines =
+    record { number = 1; command = Special (codes " a ") }
+    ∷ record { number = 2; command = Special [] }
+    ∷ record { number = 3; command = Measure 32767 }
+    ∷ []
+
+-- the script with a special that has spaces around it, one without a text, and the last register says those lines
+abbrev pub SpecialScript : Type 0
+SpecialScript = IsScript (codes "  special  a \nspecial\nmeasure 32767\n") special_lines
+
+-- a register after the last one is bad for its number
+abbrev pub NoSuchRegisterRow : Type 0
+NoSuchRegisterRow = IsFirstBad (codes "special\nmeasure 32768\n") 2 Number
 
 -- a font of no size is bad for its number
 abbrev pub NoSizeRow : Type 0

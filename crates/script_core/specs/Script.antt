@@ -3,12 +3,12 @@ use Rattle.std.specs.Prelude.{◌≡◌, ◌⊎◌, ℕ, ◌+◌, true, false, L
 use Rattle.std.specs.List.{AllByRecursion}
 use Rattle.std.specs.Str.Lines.{lines}
 use Rattle.command_core.specs.declared.command.Command.{Command}
-use Rattle.command_core.specs.declared.command.Command.TheVariants.{Text}
+use Rattle.command_core.specs.declared.command.Command.TheVariants.{Text, Special}
 use Rattle.script_core.specs.declared.cause.Cause.{Cause}
 use Rattle.script_core.specs.declared.script.Line.{Line}
 use Rattle.script_core.specs.declared.script.ScriptFault.{ScriptFault}
 use Rattle.script_core.specs.declared.script.ScriptFault.TheVariants.{OutOfMemory, BadScript}
-use Rattle.script_core.specs.ScriptLines.{is_passed_over, fields_of, IsTextLine}
+use Rattle.script_core.specs.ScriptLines.{is_passed_over, fields_of, IsTextLine, IsSpecialLine}
 use Rattle.script_core.specs.Grammar.{Says}
 use Rattle.script_core.specs.Causes.{IsPrintable, IsCause}
 
@@ -16,9 +16,10 @@ use Rattle.script_core.specs.Causes.{IsPrintable, IsCause}
 abbrev pub IsPassedOver : List ℕ → Type 0
 IsPassedOver line = is_passed_over line ≡ true
 
--- a line gives this command: a text as it stands, and every other command by the fields
+-- a line gives this command: a text and a special as they stand, and every other command by the fields
 abbrev pub Gives : List ℕ → Command → Type 0
 Gives line (Text text) = IsTextLine line text
+Gives line (Special text) = IsSpecialLine line text
 Gives line command = Says (fields_of line) command
 
 -- a line says this command

@@ -24,7 +24,19 @@ is_space byte = byte == 32
 unfoldable pub fields_of : List ℕ → List (List ℕ)
 fields_of line = filter is_filled (slice_split is_space line)
 
--- a line of this text: spaces, and the word `text` with nothing behind it for the empty text, or with one space and the text as it stands
+-- a line of this word and this text: spaces, and the word with nothing after it for the empty text, or with one space and the text as it stands
+abbrev pub IsLineOf : List ℕ → List ℕ → List ℕ → Type 0
+IsLineOf word line text =
+    (spaces : ℕ) × (((line ≡ replicate spaces 32 ++ word) × (text ≡ [])) ⊎ (line ≡ replicate spaces 32 ++ (word ++ 32 ∷ text)))
+
+-- a line of `text` with this text
 abbrev pub IsTextLine : List ℕ → List ℕ → Type 0
-IsTextLine line text =
-    (spaces : ℕ) × (((line ≡ replicate spaces 32 ++ codes "text") × (text ≡ [])) ⊎ (line ≡ replicate spaces 32 ++ (codes "text " ++ text)))
+IsTextLine = IsLineOf (codes "text")
+
+-- a line of `special` with this text
+abbrev pub IsSpecialLine : List ℕ → List ℕ → Type 0
+IsSpecialLine = IsLineOf (codes "special")
+
+-- a line with this text, which stands as it is: the line is not cut into fields
+abbrev pub HasText : List ℕ → List ℕ → Type 0
+HasText line text = IsTextLine line text ⊎ IsSpecialLine line text

@@ -4,7 +4,7 @@ ghost use Rattle.std.specs.Prelude.{◌≡◌, ℕ, List};
 ghost use Rattle.script_core.specs.declared.cause.Cause.{Cause};
 ghost use Rattle.script_core.specs.declared.cause.Cause.TheVariants as causes;
 ghost use Rattle.script_core.specs.Causes.{IsFieldCause};
-ghost use Rattle.script_core.specs.Rows.{OneRuleScript, UnitlessRow, TextScript, NoSizeRow, StrokeInNameRow, TallBoxScript, NoRegisterRow, LateStretchRow};
+ghost use Rattle.script_core.specs.Rows.{OneRuleScript, UnitlessRow, TextScript, SpecialScript, NoSuchRegisterRow, NoSizeRow, StrokeInNameRow, TallBoxScript, NoRegisterRow, LateStretchRow};
 
 /// The script of the one-rule page says its four commands.
 pub fn one_rule_script()
@@ -19,6 +19,17 @@ pub fn dimension_without_unit()
 /// A script with a font at a size, a comment, a text with spaces at its front and its end, and a character says its four commands.
 pub fn text_script()
     ensures { TextScript }
+{}
+
+/// A script of a special with a text with spaces at its front and its end, of one without a text, and of the last register says its three
+/// commands.
+pub fn special_script()
+    ensures { SpecialScript }
+{}
+
+/// After a special, a register that there is not is bad for its number.
+pub fn register_that_is_refused()
+    ensures { NoSuchRegisterRow }
 {}
 
 /// A font of no size is bad for its number, and a name with another byte for its name.

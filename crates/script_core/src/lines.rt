@@ -1,10 +1,10 @@
 //! Lines of a text and fields of a line.
 
-ghost use Rattle.std.specs.Prelude.{◌≡◌, ◌∷◌, ◌<◌, ◌≤◌, length, option_copied};
+ghost use Rattle.std.specs.Prelude.{◌≡◌, ◌∷◌, ◌<◌, ◌≤◌, length};
 ghost use Rattle.std.specs.List.{list_all, prefix_len};
 ghost use Rattle.std.specs.Str.Lines.{lines, strip_carriage_return};
 ghost use Rattle.script_core.specs.ScriptLines.{is_passed_over, is_printable, is_space};
-ghost use Rattle.script_core.specs.Reading.{in_line, in_field, front_field, behind_field, text_of};
+ghost use Rattle.script_core.specs.Reading.{in_line, in_field, front_field, behind_field, kept_text};
 
 /// The first line of a text that is not empty, without its end, and the text behind it. A line ends with a line feed, which
 /// the last one may lack; one carriage return right before the line feed is not of the line.
@@ -66,16 +66,16 @@ pub fn first_field(line: &[u8]) -> (&[u8], &[u8])
     line.split_at(field_size(line))
 }
 
-/// The text of a line of text, or None where it is none: behind the spaces at its front stands the word `text`, and then nothing, for
-/// the empty text, or one space and the text as it stands.
-#[tactic(auto, unfolding(crate::specs::Reading::text_of))]
-pub fn text_of(line: &[u8]) -> Option<&[u8]>
-    ensures { option_copied result ≡ text_of line.now }
+/// The first field of a line, and the text after it: all that follows the field and one space, as it stands; no text where the field
+/// ends the line.
+pub fn field_and_text(line: &[u8]) -> (&[u8], &[u8])
+    ensures field { result.0.now ≡ front_field line.now }
+    ensures text { result.1.now ≡ kept_text line.now }
 {
-    match &line[space_count(line)..] {
-        b"text" => Some(&[]),
-        [b't', b'e', b'x', b't', b' ', text @ ..] => Some(text),
-        _ => None,
+    let (field, rest) = first_field(line);
+    match rest {
+        [] => (field, rest),
+        [_space, text @ ..] => (field, text),
     }
 }
 

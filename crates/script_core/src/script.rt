@@ -6,7 +6,7 @@ ghost use Rattle.script_core.specs.Reading.{line_of, ReadsOn, StopsAt};
 
 use crate::cause::Cause;
 use crate::fields::Fields;
-use crate::lines::{first_line, is_passed_over, is_printable, text_of};
+use crate::lines::{field_and_text, first_line, is_passed_over, is_printable};
 use command_core::{Characters, Command};
 use std::alloc::{AllocError, Global};
 use thiserror::Error;
@@ -78,15 +78,19 @@ fn read_line(
 }
 
 /// The command that a line says, or why it says none.
-#[tactic(auto, unfolding(crate::specs::Reading::line_of))]
+#[tactic(auto, unfolding(crate::specs::Reading::line_of, crate::specs::Reading::given))]
 fn command_of(alloc: Global, line: &[u8]) -> Result<Result<Command, Cause>, AllocError>
     ensures { IfOk result (λ read. read ≡ line_of line.now) }
 {
     if !is_printable(line) {
         return Ok(Err(Cause::Byte));
     }
-    match text_of(line) {
-        Some(text) => Ok(Ok(Command::Text(Characters::new(text.to_vec(alloc)?)))),
-        None => Fields::new(line).command(alloc),
+    let (word, text) = field_and_text(line);
+    if word == b"text".as_slice() {
+        return Ok(Ok(Command::Text(Characters::new(text.to_vec(alloc)?))));
     }
+    if word == b"special".as_slice() {
+        return Ok(Ok(Command::Special(Characters::new(text.to_vec(alloc)?))));
+    }
+    Fields::new(line).command(alloc)
 }

@@ -1,9 +1,10 @@
 -- Shaping, the relation and the function.
-use Rattle.std.proofs.Common.{◌≡◌, ◌↔◌, ℕ, ℤ, ◌+◌, ◌++◌, ◌<◌, List, [], ◌∷◌, Option, Some, None, Result, Ok, Err, length, drop, get_or, refl, ap, sym, ◌∙◌, subst, arith, append-nil, append_assoc}
+use Rattle.std.proofs.Common.{◌≡◌, ◌↔◌, ℕ, ℤ, ◌+◌, ◌++◌, ◌<◌, ◌≤◌, List, [], ◌∷◌, Option, Some, None, Result, Ok, Err, length, drop, get_or, refl, ap, sym, ◌∙◌, subst, arith, append-nil, append_assoc}
 use Rattle.std.specs.List.{slice_get}
 use Rattle.std.specs.Result.{IfOk, OnOk}
 use Rattle.shape_core.specs.declared.word.Missing.{Missing}
 use Rattle.std.proofs.lemmas.List.{drop_more}
+use Rattle.std.proofs.Math.ListN.{drop_of_length-le}
 use Rattle.node_core.specs.declared.tree.Node.{Node}
 use Rattle.node_core.specs.declared.tree.Node.TheVariants.{FontKern}
 use Rattle.shape_core.specs.declared.word.Outcome.{Outcome}
@@ -23,14 +24,26 @@ items_from-turn slot sizes steps c word i h =
 pub missing_from-turn : (sizes : ℕ → Option GlyphSize) (steps : ℕ → ℕ → Option Step) (c : ℕ) (word : List ℕ) (i : ℕ) → i < length word → missing_from sizes steps c (drop i word) ≡ outcome_missing (outcome_at sizes steps c (Some (get_or word i 0))) + missing_from sizes steps (outcome_next (get_or word i 0) (outcome_at sizes steps c (Some (get_or word i 0)))) (drop (i + 1) word)
 missing_from-turn sizes steps c word i h = ap (missing_from sizes steps c) (drop_more word i 0 h)
 
-pub ruleset turns = (items_from-turn, missing_from-turn)
-
 pub turn-items : (slot : ℕ) (sizes : ℕ → Option GlyphSize) (steps : ℕ → ℕ → Option Step) (c : ℕ) (word : List ℕ) (i : ℕ) (all held new : List Node) (o : Outcome) (n : ℕ) → i < length word → all ≡ held ++ items_from slot sizes steps c (drop i word) → o ≡ outcome_at sizes steps c (Some (get_or word i 0)) → new ≡ held ++ outcome_items slot c o → n ≡ outcome_next (get_or word i 0) o → all ≡ new ++ items_from slot sizes steps n (drop (i + 1) word)
 turn-items slot sizes steps c word i all held new o n h e eo en em =
     rw (en, em, eo) (e ∙ ap (λ xs. held ++ xs) (items_from-turn slot sizes steps c word i h) ∙ sym (append_assoc held _ _))
 
 pub turn-missing : (sizes : ℕ → Option GlyphSize) (steps : ℕ → ℕ → Option Step) (c : ℕ) (word : List ℕ) (i all held m n : ℕ) (o : Outcome) → i < length word → all ≡ held + missing_from sizes steps c (drop i word) → o ≡ outcome_at sizes steps c (Some (get_or word i 0)) → m ≡ outcome_missing o → n ≡ outcome_next (get_or word i 0) o → all ≡ held + m + missing_from sizes steps n (drop (i + 1) word)
 turn-missing sizes steps c word i all held m n o h e eo em en = rw (em, en, eo) (omega (arith, e, missing_from-turn sizes steps c word i h))
+
+-- what becomes of the last character
+pub last-outcome : (sizes : ℕ → Option GlyphSize) (steps : ℕ → ℕ → Option Step) (c : ℕ) (size : Option GlyphSize) (o : Outcome) → size ≡ sizes c → o ≡ outcome_of size None → o ≡ outcome_at sizes steps c None
+unfolding outcome_at
+last-outcome sizes steps c size o at is = is ∙ ap (λ (s : Option GlyphSize). outcome_of s None) at
+
+-- the end of the word
+pub end-items : (slot : ℕ) (sizes : ℕ → Option GlyphSize) (steps : ℕ → ℕ → Option Step) (c : ℕ) (word : List ℕ) (i : ℕ) (all held new : List Node) (o : Outcome) → length word ≤ i → all ≡ held ++ items_from slot sizes steps c (drop i word) → o ≡ outcome_at sizes steps c None → new ≡ held ++ outcome_items slot c o → new ≡ all
+end-items slot sizes steps c word i all held new o past e eo en =
+    en ∙ (ap (λ o. held ++ outcome_items slot c o) eo ∙ (sym (ap (λ xs. held ++ items_from slot sizes steps c xs) (drop_of_length-le word past)) ∙ sym e))
+
+pub end-missing : (sizes : ℕ → Option GlyphSize) (steps : ℕ → ℕ → Option Step) (c : ℕ) (word : List ℕ) (i all held m : ℕ) (o : Outcome) → length word ≤ i → all ≡ held + missing_from sizes steps c (drop i word) → o ≡ outcome_at sizes steps c None → m ≡ outcome_missing o → held + m ≡ all
+end-missing sizes steps c word i all held m o past e eo em =
+    ap (λ n. held + n) (em ∙ ap outcome_missing eo) ∙ (sym (ap (λ xs. held + missing_from sizes steps c xs) (drop_of_length-le word past)) ∙ sym e)
 
 -- what becomes of a character, by the cases of its shaping
 Shaping-case : (slot : ℕ) (sizes : ℕ → Option GlyphSize) (steps : ℕ → ℕ → Option Step) (c d : ℕ) (word : List ℕ) (size : Option GlyphSize) (step : Option Step) → sizes c ≡ size → step_to sizes steps c (Some d) ≡ step → ((e : ℕ) → Shaping slot sizes steps (e ∷ word) (items_from slot sizes steps e word) (missing_from sizes steps e word)) → Shaping slot sizes steps (c ∷ d ∷ word) (outcome_items slot c (outcome_of size step) ++ items_from slot sizes steps (outcome_next d (outcome_of size step)) word) (outcome_missing (outcome_of size step) + missing_from sizes steps (outcome_next d (outcome_of size step)) word)

@@ -104,4 +104,5 @@ IsGlyphOf slot sizes (nodes.Kern width) = Unit {0}
 IsGlyphOf slot sizes (nodes.Glue g) = Unit {0}
 IsGlyphOf slot sizes (nodes.Penalty penalty) = Unit {0}
 IsGlyphOf slot sizes (nodes.Rule rule) = Unit {0}
+IsGlyphOf slot sizes (nodes.Special text) = ⊥
 IsGlyphOf slot sizes (nodes.Box shift b) = ⊥

@@ -1,8 +1,8 @@
 //! Shaping of words.
 
-ghost use Rattle.std.specs.Prelude.{◌≡◌, ◌≤◌, ◌+◌, ◌++◌, ◌∷◌, [], List, Some, length, take, OnOk, OnErr, IfOk};
+ghost use Rattle.std.specs.Prelude.{◌≡◌, ◌≤◌, ◌+◌, ◌++◌, ◌∷◌, [], ℕ, List, None, Some, is_some, length, take, OnOk, OnErr, IfOk};
 ghost use Rattle.node_core.specs.declared.tree.Node.{Node};
-ghost use Rattle.shape_core.specs.Shaping.{Shaping, glyph_node, items_from, missing_from, outcome_at, outcome_items, outcome_missing, outcome_next, outcome_of, shaped_items, shaped_missing, step_to};
+ghost use Rattle.shape_core.specs.Shaping.{Shaping, glyph_node, items_from, missing_from, outcome_at, outcome_items, outcome_missing, outcome_next, outcome_of, shaped_items, shaped_missing};
 
 use crate::metrics::Metrics;
 use node_core::{Glyph, Node, Rule, RuleSize};
@@ -42,17 +42,6 @@ fn glyph_node(slot: u8, code: u8, size: GlyphSize) -> Node
     })
 }
 
-/// What stands between a character and the one that follows it, where that one is in the font.
-fn step_to<M: Metrics>(metrics: &M, code: u8, following: Option<u8>) -> Option<Step>
-    ensures { result ≡ step_to (M.sizes metrics.now) (M.steps metrics.now) code following }
-{
-    let following = following?;
-    if metrics.glyph(following).is_none() {
-        return None;
-    }
-    metrics.step(code, following)
-}
-
 /// What becomes of a character that is in the font.
 fn outcome_of(size: GlyphSize, step: Option<Step>) -> Outcome
     ensures { result ≡ outcome_of (Some size) step }
@@ -66,15 +55,37 @@ fn outcome_of(size: GlyphSize, step: Option<Step>) -> Outcome
     }
 }
 
-/// What becomes of a character.
+/// What becomes of a character of these sizes before the one that follows, of which is known whether it is in the font.
 #[tactic(auto, unfolding(crate::specs::Shaping::outcome_at))]
-fn outcome_at<M: Metrics>(metrics: &M, code: u8, following: Option<u8>) -> Outcome
-    ensures { result ≡ outcome_at (M.sizes metrics.now) (M.steps metrics.now) code following }
+fn outcome_before<M: Metrics>(
+    metrics: &M,
+    size: Option<GlyphSize>,
+    code: u8,
+    following: u8,
+    is_there: bool,
+) -> Outcome
+    requires size { size ≡ M.sizes metrics.now code }
+    requires following { is_there ≡ is_some (M.sizes metrics.now following) }
+    ensures { result ≡ outcome_at (M.sizes metrics.now) (M.steps metrics.now) code (Some following) }
 {
-    let Some(size) = metrics.glyph(code) else {
+    let Some(size) = size else {
         return Outcome::Dropped;
     };
-    outcome_of(size, step_to(metrics, code, following))
+    if !is_there {
+        return Outcome::Alone(size);
+    }
+    outcome_of(size, metrics.step(code, following))
+}
+
+/// What becomes of a character of these sizes at the end of a word.
+#[tactic(auto, unfolding(crate::specs::Shaping::outcome_at))]
+fn last_outcome(size: Option<GlyphSize>) -> Outcome
+    ensures { result ≡ outcome_of size None }
+{
+    match size {
+        Some(size) => Outcome::Alone(size),
+        None => Outcome::Dropped,
+    }
 }
 
 /// Puts an item behind the others.
@@ -115,6 +126,18 @@ impl Outcome {
         }
     }
 
+    /// The sizes of the character that the rest is shaped with, where those of the following one are known.
+    fn next_size<M: Metrics>(&self, metrics: &M, ahead: Option<GlyphSize>) -> Option<GlyphSize>
+        ensures { (following : ℕ) → ahead ≡ M.sizes metrics.now following → result ≡ M.sizes metrics.now (outcome_next following self.now) }
+    {
+        match self {
+            Outcome::Dropped => ahead,
+            Outcome::Alone(_) => ahead,
+            Outcome::Kerned(_, _) => ahead,
+            Outcome::Joined(character) => metrics.glyph(*character),
+        }
+    }
+
     /// Appends the items that a character gives, or a front of them.
     fn append(&self, slot: u8, code: u8, nodes: &mut Vec<Node>) -> Result<(), AllocError>
         ensures ok { OnOk result (nodes.new.items ≡ nodes.old.items ++ outcome_items slot code self.now) }
@@ -133,7 +156,6 @@ impl Outcome {
 }
 
 /// Appends the items of a character and the word behind it, or a front of them.
-#[tactic(auto, using(crate::proofs::ShapingLemmas::turns))]
 fn shape_from<M: Metrics>(
     metrics: &M,
     slot: u8,
@@ -147,13 +169,16 @@ fn shape_from<M: Metrics>(
     ensures front { take (length nodes.old.items) nodes.new.items ≡ nodes.old.items }
 {
     let mut characters = 0;
+    let mut size = metrics.glyph(code);
     for following in word {
-        let outcome = outcome_at(metrics, code, Some(*following));
+        let ahead = metrics.glyph(*following);
+        let outcome = outcome_before(metrics, size, code, *following, ahead.is_some());
         outcome.append(slot, code, nodes)?;
         characters += outcome.missing();
         code = outcome.next(*following);
+        size = outcome.next_size(metrics, ahead);
     }
-    let outcome = outcome_at(metrics, code, None);
+    let outcome = last_outcome(size);
     outcome.append(slot, code, nodes)?;
     Ok(Missing {
         characters: characters + outcome.missing(),

@@ -4,8 +4,7 @@ use Rattle.std.specs.Prelude.{ℤ, pos, negsuc, ◌+ℤ◌, ◌-ℤ◌, Bool, tr
 use Rattle.std.specs.Option.{option_map}
 use Rattle.std.specs.Ordering.{int_eq}
 use Rattle.std.proofs.lemmas.List.{append-nil}
-use Rattle.std.proofs.lemmas.Bool.{eqb-true}
-use Rattle.dvi_ops.specs.Instruction.{Axis, Across, Downward, SetChar, FontNum, Instruction, Do, Push, Pop}
+use Rattle.dvi_ops.specs.Instruction.{Axis, Across, Downward, SetChar, FontNum, Xxx, Instruction, Do, Push, Pop}
 use Rattle.dvi_ops.specs.View.{view}
 use Rattle.node_core.specs.Items.{Items, none, leaf, box}
 use Rattle.node_core.specs.Nodes.{nodes_of}
@@ -17,6 +16,7 @@ use Rattle.ship_core.specs.declared.placing.Ink.{Ink}
 use Rattle.ship_core.specs.declared.placing.Ink.TheVariants as ink
 use Rattle.ship_core.specs.declared.drawing.Drawing.{Drawing}
 use Rattle.ship_core.specs.Placing.{mark_with, movement, selection, inked, behind, makes, leaves}
+use Rattle.ship_core.proofs.Places.{no_items}
 
 pub flat-moved_by : (axis : Axis) (z : ℤ) (rest : Forest) → flat (moved_by axis z rest) ≡ movement axis z ++ flat rest
 flat-moved_by axis (pos zero) rest = refl
@@ -50,7 +50,23 @@ flat-drawn_glyph kind h v current font code x y by rest =
     flat-moved_by Across (x -ℤ h) _
     ∙ ap (λ is. movement Across (x -ℤ h) ++ is) (flat-moved_by Downward (y -ℤ v) _ ∙ ap (λ is. movement Downward (y -ℤ v) ++ is) (flat-selected current font _))
 
-pub ruleset movements = (flat-drawn_rule, flat-drawn_glyph, append_assoc)
+-- A special is drawn by a movement right, one down, and the special.
+pub flat-drawn_special :
+    (kind : Kind) (h v : ℤ) (current : Option ℤ) (x y : ℤ) (text : List ℕ) (by : ℤ) (rest : Picture)
+    → flat (drawn kind h v current (stroke (body.Special x y text) by rest))
+    ≡ movement Across (x -ℤ h) ++ (movement Downward (y -ℤ v) ++ (Do (Xxx text) ∷ flat (drawn kind x y current rest)))
+flat-drawn_special kind h v current x y text by rest =
+    flat-moved_by Across (x -ℤ h) _ ∙ ap (λ is. movement Across (x -ℤ h) ++ is) (flat-moved_by Downward (y -ℤ v) _)
+
+pub ruleset movements = (flat-drawn_rule, flat-drawn_glyph, flat-drawn_special, append_assoc)
+
+-- What stands when a special was drawn makes the same as before, for the strokes that follow.
+pub noted_mark :
+    (kind : Kind) (before after : List Instruction) (h v : ℤ) (current left : Option ℤ) (x y : ℤ) (text : List ℕ) (end down : ℤ) (rest : Picture)
+    → after ≡ ((before ++ movement Across (x -ℤ h)) ++ movement Downward (y -ℤ v)) ++ Do (Xxx text) ∷ [] → end ≡ x → down ≡ y → left ≡ current
+    → before ++ flat (drawn kind h v current (stroke (body.Special x y text) (pos 0) rest)) ≡ after ++ flat (drawn kind end down left rest)
+noted_mark kind before after h v current left x y text end down rest is edge below font =
+    rw (is, edge, below, font) (rw (flat-drawn_special kind h v current x y text (pos 0) rest) (simp append_assoc))
 
 -- The selection that ink needs, and the font that it leaves.
 abbrev pub chosen : Option ℤ → Ink → List Instruction
@@ -115,16 +131,7 @@ same_drawing kind d e p is = (sym (ap (λ (x : Drawing). makes kind x p) is), sy
 
 -- A box without items is no group, and one with items is one.
 pub grouped-none : (items : Items) (kind : Kind) (inner rest : Picture) → (length (nodes_of items) == 0) ≡ true → grouped items kind inner rest ≡ rest
-grouped-none none kind inner rest empty = refl
-grouped-none (leaf x items) kind inner rest empty = absurd (more (length (nodes_of items)) (eqb-true (length (nodes_of (leaf x items))) 0 empty))
-  where
-    more : (n : ℕ) → suc n ≡ 0 → ⊥
-    more n is = omega (arith, is)
-grouped-none (box shift frame some items) kind inner rest empty =
-    absurd (more (length (nodes_of items)) (eqb-true (length (nodes_of (box shift frame some items))) 0 empty))
-  where
-    more : (n : ℕ) → suc n ≡ 0 → ⊥
-    more n is = omega (arith, is)
+grouped-none items kind inner rest empty = ap (λ items. grouped items kind inner rest) (no_items items empty)
 
 pub grouped-some : (items : Items) (kind : Kind) (inner rest : Picture) → (length (nodes_of items) == 0) ≡ false → grouped items kind inner rest ≡ group kind inner rest
 grouped-some none kind inner rest full = absurd (cc)

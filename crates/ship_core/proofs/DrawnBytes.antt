@@ -7,7 +7,7 @@ use Rattle.std.proofs.lemmas.Bool.{lt-ltb}
 use Rattle.node_core.specs.declared.tree.Kind.{Kind}
 use Rattle.node_core.specs.declared.tree.Kind.TheVariants.{Horizontal, Vertical}
 use Rattle.node_core.specs.declared.tree.BoxNode.{BoxNode}
-use Rattle.node_core.specs.Items.{Leaf, glyph, font_kern, kern, glue, penalty, rule, EachLeaf, items_count}
+use Rattle.node_core.specs.Items.{Leaf, glyph, font_kern, kern, glue, penalty, rule, special, EachLeaf, items_count, items_text}
 use Rattle.dvi_ops.specs.Instruction.{Axis, Across, Downward, By, Move, SetChar, SetRule, PutRule, FontNum, Xxx, Do, Push, Pop}
 use Rattle.dvi_ops.specs.Body as body
 use Rattle.dvi_ops.specs.Body.{Mark, Widths}
@@ -21,7 +21,7 @@ use Rattle.ship_core.specs.Marks.{Page, rule_below, rule_tall, rule_wide, mark_o
 use Rattle.ship_core.specs.Drawing.{Picture, blank, stroke, group, width_in, moved_by, selected, ruled, after_rule, font_after, drawn, picture_of_page, body_of}
 use Rattle.ship_core.specs.Shown.{HasWidth}
 use Rattle.ship_core.proofs.DrawnMarks.{EachStroke, IsByte}
-use Rattle.ship_core.proofs.Pictures.{parts, texts, each_rule, each_glyph, each_behind, few_parts, no_texts}
+use Rattle.ship_core.proofs.Pictures.{parts, texts, each_rule, each_glyph, each_behind, few_parts, few_texts}
 
 moved_bytes : (axis : Axis) (z : ℤ) (rest : Forest) → length (bytes_of (flat (moved_by axis z rest))) ≤ 5 + length (bytes_of (flat rest))
 moved_bytes axis (pos zero) rest = omega arith
@@ -132,13 +132,14 @@ leaf_bytes widths b h v (font_kern width) wide = tt
 leaf_bytes widths b h v (kern width) wide = tt
 leaf_bytes widths b h v (glue g) wide = tt
 leaf_bytes widths b h v (penalty p) wide = tt
+leaf_bytes widths b h v (special text) wide = (tt, tt)
 leaf_bytes widths b h v (rule r) wide =
     each_rule (λ mark. IsOfBytes b.kind mark (rule_wide b.kind b r)) h (v +ℤ rule_below b.kind b r) (rule_tall b.kind b r) (rule_wide b.kind b r) tt
 
--- The body of a page takes at most 19 bytes for each item of its box, those of inner boxes included.
+-- The body of a page takes at most 19 bytes for each item of its box, those of inner boxes included, beside the texts of its specials.
 pub body_bytes :
     (widths : Widths) (page : Page) → EachLeaf (HasWidth widths) page.box_node.list
-    → length (bytes_of (flat (body_of page))) ≤ 19 * items_count page.box_node.list
+    → length (bytes_of (flat (body_of page))) ≤ 19 * items_count page.box_node.list + items_text page.box_node.list
 unfolding body_of
 body_bytes widths page all =
     let b = page.box_node in
@@ -146,5 +147,5 @@ body_bytes widths page all =
       arith,
       drawing_bytes b.kind (pos 0) (pos 0) None (picture_of_page page) (each_behind IsOfBytes (HasWidth widths) (leaf_bytes widths) b page.h (page_v page) [] b.list all),
       few_parts b page.h (page_v page) [] b.list,
-      no_texts b page.h (page_v page) [] b.list,
+      few_texts b page.h (page_v page) [] b.list,
     )

@@ -32,6 +32,11 @@ EachStroke P kind blank = Unit {0}
 EachStroke P kind (stroke mark by rest) = P kind mark by × EachStroke P kind rest
 EachStroke P kind (group own inner rest) = EachStroke P own inner × EachStroke P kind rest
 
+pub every_stroke : (P : Kind → Mark → (by : ℤ) → Type 0) → ((kind : Kind) (mark : Mark) (by : ℤ) → P kind mark by) → (kind : Kind) (p : Picture) → EachStroke P kind p
+every_stroke P holds kind blank = tt
+every_stroke P holds kind (stroke mark by rest) = (holds kind mark by, every_stroke P holds kind rest)
+every_stroke P holds kind (group own inner rest) = (every_stroke P holds own inner, every_stroke P holds kind rest)
+
 pub stroke_map :
     (P Q : Kind → Mark → (by : ℤ) → Type 0) → ((kind : Kind) (mark : Mark) (by : ℤ) → P kind mark by → Q kind mark by) → (kind : Kind) (p : Picture)
     → EachStroke P kind p → EachStroke Q kind p
@@ -104,16 +109,15 @@ pub record IsLettered (widths : Widths) (font code x y by : ℤ) : Type 0 where
   pub font_byte : IsByte font
   pub code_byte : IsByte code
 
--- A special that can be drawn: its place fits, and its text can be spelled.
-pub record IsNoted (x y : ℤ) (text : List ℕ) : Type 0 where
+-- A special that can be drawn: its place fits.
+pub record IsNoted (x y : ℤ) : Type 0 where
   pub h : Within 1073741823 x
   pub v : Within 1073741823 y
-  pub short : length text < 2 ^ 32
 
 abbrev pub IsDrawn : Widths → Kind → Mark → (by : ℤ) → Type 0
 IsDrawn widths kind (body.Rule x y height width) by = IsSeen kind x y height width
 IsDrawn widths kind (body.Glyph font code x y) by = IsLettered widths font code x y by
-IsDrawn widths kind (body.Special x y text) by = IsNoted x y text
+IsDrawn widths kind (body.Special x y text) by = IsNoted x y
 
 ahead_none : (m : Meaning) → ahead [] m ≡ m
 ahead_none None = refl
@@ -176,7 +180,7 @@ module _ (widths : Widths) (held : Registers) where
   lettered font code h v by rest can = rw (can.wide, point_within (h +ℤ by) can.end, point_within v can.v) refl
 
   noted :
-      (h v : ℤ) (text : List ℕ) (font : Option ℤ) (rest : Forest) → IsNoted h v text
+      (h v : ℤ) (text : List ℕ) (font : Option ℤ) (rest : Forest) → IsNoted h v
       → shown (Then (Xxx text) rest) h v font ≡ ahead (body.Special h v text ∷ []) (shown rest h v font)
   unfolding shown
   noted h v text font rest can = rw (point_within h can.h, point_within v can.v) refl
@@ -254,27 +258,27 @@ writable_rule Vertical height width tall wide = (tt, (tall, wide))
 
 pub drawn_writable :
     (widths : Widths) (kind : Kind) (h v : ℤ) (current : Option ℤ) (p : Picture) → Within 1073741823 h → Within 1073741823 v
-    → EachStroke (IsDrawn widths) kind p → AllByRecursion IsWritable (flat (drawn kind h v current p))
-drawn_writable widths kind h v current blank right low all = tt
-drawn_writable widths kind h v current (stroke (body.Rule x y height width) by rest) right low (seen, all) =
+    → EachStroke (IsDrawn widths) kind p → EachStroke IsShort kind p → AllByRecursion IsWritable (flat (drawn kind h v current p))
+drawn_writable widths kind h v current blank right low all short = tt
+drawn_writable widths kind h v current (stroke (body.Rule x y height width) by rest) right low (seen, all) (own, short) =
     writable_movement Across (x -ℤ h) _ (difference_fits x h seen.h right)
     (writable_movement Downward (y -ℤ v) _ (difference_fits y v seen.v low) (
       writable_rule kind height width (number_within height seen.tall) (number_within width seen.wide),
-      drawn_writable widths kind (after_rule kind x width) y current rest seen.end seen.v all,
+      drawn_writable widths kind (after_rule kind x width) y current rest seen.end seen.v all short,
     ))
-drawn_writable widths kind h v current (stroke (body.Glyph font code x y) by rest) right low (can, all) =
+drawn_writable widths kind h v current (stroke (body.Glyph font code x y) by rest) right low (can, all) (own, short) =
     writable_movement Across (x -ℤ h) _ (difference_fits x h can.h right)
     (writable_movement Downward (y -ℤ v) _ (difference_fits y v can.v low)
     (writable_selection current font _ (byte_fits font can.font_byte)
-    ((tt, byte_fits code can.code_byte), drawn_writable widths kind (x +ℤ by) y (Some font) rest can.end can.v all)))
-drawn_writable widths kind h v current (stroke (body.Special x y text) by rest) right low (can, all) =
+    ((tt, byte_fits code can.code_byte), drawn_writable widths kind (x +ℤ by) y (Some font) rest can.end can.v all short)))
+drawn_writable widths kind h v current (stroke (body.Special x y text) by rest) right low (can, all) (own, short) =
     writable_movement Across (x -ℤ h) _ (difference_fits x h can.h right)
-    (writable_movement Downward (y -ℤ v) _ (difference_fits y v can.v low) ((can.short, tt), drawn_writable widths kind x y current rest can.h can.v all))
-drawn_writable widths kind h v current (group own inner rest) right low (within, all) = (
+    (writable_movement Downward (y -ℤ v) _ (difference_fits y v can.v low) ((own, tt), drawn_writable widths kind x y current rest can.h can.v all short))
+drawn_writable widths kind h v current (group own inner rest) right low (within, all) (inside, short) = (
   (tt, tt),
   all_append IsWritable (flat (drawn own h v current inner)) (Pop ∷ flat (drawn kind h v (font_after current inner) rest))
-      (drawn_writable widths own h v current inner right low within)
-      ((tt, tt), drawn_writable widths kind h v (font_after current inner) rest right low all),
+      (drawn_writable widths own h v current inner right low within inside)
+      ((tt, tt), drawn_writable widths kind h v (font_after current inner) rest right low all short),
 )
 
 -- What holds of movements, pushes and pops, and of what is made for each stroke, holds of each instruction that draws a picture.

@@ -1,5 +1,5 @@
 -- The body of a page that is not huge shows its marks, and can be written.
-use Rattle.std.proofs.Common.{◌≡◌, ◌≤◌, List, [], ◌∷◌, refl, ap, ◌∙◌, arith}
+use Rattle.std.proofs.Common.{◌≡◌, ◌≤◌, ◌<◌, ◌^◌, List, [], ◌∷◌, refl, ap, ◌∙◌, arith}
 use Rattle.std.specs.Prelude.{ℤ, pos, ◌+ℤ◌, true, false, Some, None}
 use Rattle.std.specs.List.{list_all, AllByRecursion}
 use Rattle.std.proofs.lemmas.Int.{ints}
@@ -7,10 +7,10 @@ use Rattle.scaled_core.specs.Dimensions.{Within, fits}
 use Rattle.node_core.specs.declared.tree.Kind.{Kind}
 use Rattle.node_core.specs.declared.tree.Kind.TheVariants.{Horizontal, Vertical}
 use Rattle.node_core.specs.declared.tree.BoxNode.{BoxNode}
-use Rattle.node_core.specs.Items.{Leaf, glyph, font_kern, kern, glue, penalty, rule, Items, none, leaf, box, EachLeaf, items_depth}
+use Rattle.node_core.specs.Items.{Leaf, glyph, font_kern, kern, glue, penalty, rule, special, Items, none, leaf, box, EachLeaf, items_depth, text_in, items_text}
 use Rattle.dvi_ops.specs.Instruction.{Instruction}
 use Rattle.dvi_ops.specs.Body as body
-use Rattle.dvi_ops.specs.Body.{State, Registers, Widths, acts, kept}
+use Rattle.dvi_ops.specs.Body.{Mark, State, Registers, Widths, acts, kept}
 use Rattle.dvi_ops.specs.Forest.{flat, meaning, nests}
 use Rattle.dvi_ops.specs.Fonts.{definition_of, definitions, selection_of, selections}
 use Rattle.dvi_ops.specs.Spelling.{HasSpelling}
@@ -21,7 +21,7 @@ use Rattle.ship_core.specs.Drawing.{width_in, picture_of_page, body_of}
 use Rattle.dvi_ops.specs.Plain.{NamesNoRegister}
 use Rattle.ship_core.specs.Shown.{HasWidth, at}
 use Rattle.ship_core.proofs.Places.{first_of_three, second_of_three, items_fit}
-use Rattle.ship_core.proofs.DrawnMarks.{EachStroke, IsDrawn, IsInked, IsShort, HoldsOfAll, all_within, drawn_marks, drawn_writable, each_drawn, all_drawn, nests-drawn}
+use Rattle.ship_core.proofs.DrawnMarks.{EachStroke, IsDrawn, IsInked, IsShort, HoldsBetween, HoldsOfAll, every_stroke, all_within, drawn_marks, drawn_writable, each_drawn, all_drawn, nests-drawn}
 use Rattle.ship_core.proofs.Pictures.{marks-picture, each_rule, each_glyph, each_behind, strokes_drawn, few_groups}
 
 -- How far a page that is not huge reaches down and to the right fits.
@@ -58,54 +58,67 @@ drawn_page widths held page small wide =
 zero_within : Within 1073741823 (pos 0)
 zero_within = record { low = omega (arith, ints); high = omega (arith, ints) }
 
--- It can be written.
-pub writable_page :
-    (widths : Widths) (page : Page) → is_huge page ≡ false → EachLeaf (HasWidth widths) page.box_node.list
-    → AllByRecursion IsWritable (flat (body_of page))
-unfolding body_of
-writable_page widths page small wide =
-    drawn_writable widths page.box_node.kind (pos 0) (pos 0) None (picture_of_page page) zero_within zero_within (page_drawn widths page small wide)
+-- The text of a leaf can be spelled, if it is a special.
+HasShort : Leaf → Type 0
+HasShort x = text_in x < 2 ^ 32
 
--- No item of a list is a special.
-every_leaf : (items : Items) → EachLeaf (λ x. Unit {0}) items
-every_leaf none = tt
-every_leaf (leaf x rest) = (tt, every_leaf rest)
-every_leaf (box shift frame inner rest) = (every_leaf inner, every_leaf rest)
+each_short : (items : Items) → items_text items < 2 ^ 32 → EachLeaf HasShort items
+unfolding HasShort
+each_short none few = tt
+each_short (leaf x rest) few = (omega (arith, few), each_short rest (omega (arith, few)))
+each_short (box shift frame inner rest) few = (each_short inner (omega (arith, few)), each_short rest (omega (arith, few)))
 
-leaf_short : (b : BoxNode) (h v : ℤ) (x : Leaf) → Unit {0} → AllByRecursion (λ mark. IsShort b.kind mark (width_in b x)) (mark_of b h v x)
-leaf_short b h v (glyph g) u = each_glyph (λ mark. IsShort b.kind mark g.width) b.kind h v g tt
-leaf_short b h v (font_kern width) u = tt
-leaf_short b h v (kern width) u = tt
-leaf_short b h v (glue g) u = tt
-leaf_short b h v (penalty p) u = tt
-leaf_short b h v (rule r) u =
+leaf_short : (b : BoxNode) (h v : ℤ) (x : Leaf) → HasShort x → AllByRecursion (λ mark. IsShort b.kind mark (width_in b x)) (mark_of b h v x)
+unfolding HasShort
+leaf_short b h v (glyph g) short = each_glyph (λ mark. IsShort b.kind mark g.width) b.kind h v g tt
+leaf_short b h v (font_kern width) short = tt
+leaf_short b h v (kern width) short = tt
+leaf_short b h v (glue g) short = tt
+leaf_short b h v (penalty p) short = tt
+leaf_short b h v (special text) short = (short, tt)
+leaf_short b h v (rule r) short =
     each_rule (λ mark. IsShort b.kind mark (rule_wide b.kind b r)) h (v +ℤ rule_below b.kind b r) (rule_tall b.kind b r) (rule_wide b.kind b r) tt
 
-short_page : (page : Page) → EachStroke IsShort page.box_node.kind (picture_of_page page)
-short_page page = each_behind IsShort (λ x. Unit {0}) leaf_short page.box_node page.h (page_v page) [] page.box_node.list (every_leaf page.box_node.list)
+short_page : (page : Page) → items_text page.box_node.list < 2 ^ 32 → EachStroke IsShort page.box_node.kind (picture_of_page page)
+short_page page few =
+    each_behind IsShort HasShort leaf_short page.box_node page.h (page_v page) [] page.box_node.list (each_short page.box_node.list few)
 
--- What holds of all that is made for pages holds of each instruction of a body.
-pub each_page : (P : Instruction → Type 0) → HoldsOfAll P → (page : Page) → AllByRecursion P (flat (body_of page))
+-- It can be written.
+pub writable_page :
+    (widths : Widths) (page : Page) → is_huge page ≡ false → EachLeaf (HasWidth widths) page.box_node.list → items_text page.box_node.list < 2 ^ 32
+    → AllByRecursion IsWritable (flat (body_of page))
 unfolding body_of
-each_page P holds page = all_drawn P holds page.box_node.kind (pos 0) (pos 0) None (picture_of_page page) (short_page page)
+writable_page widths page small wide few =
+    drawn_writable widths page.box_node.kind (pos 0) (pos 0) None (picture_of_page page) zero_within zero_within (page_drawn widths page small wide)
+    (short_page page few)
+
+-- What holds of all that is made for pages holds of each instruction of a body, where the texts of its specials can be spelled.
+pub each_page : (P : Instruction → Type 0) → HoldsOfAll P → (page : Page) → items_text page.box_node.list < 2 ^ 32 → AllByRecursion P (flat (body_of page))
+unfolding body_of
+each_page P holds page few = all_drawn P holds page.box_node.kind (pos 0) (pos 0) None (picture_of_page page) (short_page page few)
+
+-- What holds of all that is made for pages, whatever the texts of specials, holds of each instruction of a body.
+pub whole_page :
+    (P : Instruction → Type 0) → HoldsBetween P → ((kind : Kind) (mark : Mark) (by : ℤ) → IsInked P kind mark by) → (page : Page) → AllByRecursion P (flat (body_of page))
+unfolding body_of
+whole_page P between all page =
+    each_drawn P between page.box_node.kind (pos 0) (pos 0) None (picture_of_page page)
+    (every_stroke (IsInked P) all page.box_node.kind (picture_of_page page))
 
 -- None names w, x, y or z.
 pub no_register_page : (page : Page) → AllByRecursion NamesNoRegister (flat (body_of page))
 no_register_page page =
-    each_page NamesNoRegister (
-    record {
-      between = record { moves = λ axis z. tt; push = tt; pop = tt };
-      fonts = λ font. tt;
-      chars = λ code. tt;
-      set_rules = λ height width. tt;
-      put_rules = λ height width. tt;
-      specials = λ text short. tt;
-    }
-    ) page
+    whole_page NamesNoRegister (record { moves = λ axis z. tt; push = tt; pop = tt }) plain page
+  where
+    plain : (kind : Kind) (mark : Mark) (by : ℤ) → IsInked NamesNoRegister kind mark by
+    plain Horizontal (body.Rule x y height width) by = tt
+    plain Vertical (body.Rule x y height width) by = tt
+    plain kind (body.Glyph font code x y) by = (tt, tt)
+    plain kind (body.Special x y text) by = tt
 
--- Each can be spelled, whether the page is huge or not.
-pub spelled_page : (page : Page) → AllByRecursion HasSpelling (flat (body_of page))
-spelled_page page =
+-- Each can be spelled, whether the page is huge or not, where the texts of specials can be.
+pub spelled_page : (page : Page) → items_text page.box_node.list < 2 ^ 32 → AllByRecursion HasSpelling (flat (body_of page))
+spelled_page page few =
     each_page HasSpelling (
     record {
       between = record { moves = λ axis z. tt; push = tt; pop = tt };
@@ -115,7 +128,7 @@ spelled_page page =
       put_rules = λ height width. tt;
       specials = λ text short. short;
     }
-    ) page
+    ) page few
 
 -- The body of a page defines no font.
 none_defined : (is : List Instruction) → AllByRecursion (λ i. definition_of i ≡ []) is → definitions is ≡ []
@@ -125,17 +138,14 @@ none_defined (i ∷ is) (here, all) = rw (here) (none_defined is all)
 pub definitions-page : (page : Page) → definitions (flat (body_of page)) ≡ []
 definitions-page page =
     none_defined (flat (body_of page)) (
-    each_page (λ i. definition_of i ≡ []) (
-    record {
-      between = record { moves = λ axis z. refl; push = refl; pop = refl };
-      fonts = λ font. refl;
-      chars = λ code. refl;
-      set_rules = λ height width. refl;
-      put_rules = λ height width. refl;
-      specials = λ text short. refl;
-    }
-    ) page
+    whole_page (λ i. definition_of i ≡ []) (record { moves = λ axis z. refl; push = refl; pop = refl }) undefined page
     )
+  where
+    undefined : (kind : Kind) (mark : Mark) (by : ℤ) → IsInked (λ i. definition_of i ≡ []) kind mark by
+    undefined Horizontal (body.Rule x y height width) by = refl
+    undefined Vertical (body.Rule x y height width) by = refl
+    undefined kind (body.Glyph font code x y) by = (refl, refl)
+    undefined kind (body.Special x y text) by = refl
 
 -- Its groups nest less deep than the box.
 pub nests_page : (page : Page) → nests (body_of page) ≤ items_depth page.box_node.list
@@ -154,6 +164,7 @@ HasFont P (font_kern width) = Unit {0}
 HasFont P (kern width) = Unit {0}
 HasFont P (glue g) = Unit {0}
 HasFont P (penalty p) = Unit {0}
+HasFont P (special text) = Unit {0}
 HasFont P (rule sizes) = Unit {0}
 
 -- A property of the fonts that an instruction selects.
@@ -174,6 +185,7 @@ leaf_selects P b h v (font_kern width) here = tt
 leaf_selects P b h v (kern width) here = tt
 leaf_selects P b h v (glue g) here = tt
 leaf_selects P b h v (penalty p) here = tt
+leaf_selects P b h v (special text) here = (tt, tt)
 leaf_selects P b h v (rule r) here =
     each_rule (λ mark. IsInked (Selects P) b.kind mark (rule_wide b.kind b r)) h (v +ℤ rule_below b.kind b r) (rule_tall b.kind b r) (rule_wide b.kind b r)
     (rule_selects P b.kind h (v +ℤ rule_below b.kind b r) (rule_tall b.kind b r) (rule_wide b.kind b r) (rule_wide b.kind b r))

@@ -11,7 +11,7 @@ use Rattle.node_core.specs.declared.tree.Node.{Node}
 use Rattle.node_core.specs.declared.tree.Node.TheVariants as nodes
 use Rattle.node_core.specs.declared.tree.Node.TheVariants.{Box}
 use Rattle.node_core.specs.declared.tree.BoxNode.{BoxNode}
-use Rattle.node_core.specs.Items.{Leaf, glyph, font_kern, kern, glue, penalty, rule, Items, none, leaf, box, EachLeaf, items_count, items_depth}
+use Rattle.node_core.specs.Items.{Leaf, glyph, font_kern, kern, glue, penalty, rule, special, Items, none, leaf, box, EachLeaf, items_count, items_depth, text_in, items_text}
 use Rattle.node_core.specs.Nodes.{node_of, box_of}
 use Rattle.dvi_ops.specs.Body as body
 use Rattle.dvi_ops.specs.Body.{Mark, Widths}
@@ -126,6 +126,7 @@ leaf_drawn widths b h v before (font_kern width) wide fit = tt
 leaf_drawn widths b h v before (kern width) wide fit = tt
 leaf_drawn widths b h v before (glue g) wide fit = tt
 leaf_drawn widths b h v before (penalty p) wide fit = tt
+leaf_drawn widths b h v before (special text) wide (left, (low, fit)) = (record { h = left; v = low }, tt)
 leaf_drawn widths b h v before (rule r) wide (left, (low, (right, (next, fit)))) =
     rule_drawn widths b.kind (item_h b h before) (item_v b v before +ℤ rule_below b.kind b r) (item_h b h (before ++ nodes.Rule r ∷ [])) (rule_tall b.kind b r)
     (rule_wide b.kind b r) (rule_end b.kind b (item_h b h before) (item_h b h (before ++ nodes.Rule r ∷ [])) r (reach b h before (nodes.Rule r))) left right fit
@@ -175,32 +176,38 @@ texts-in_glyph : (kind : Kind) (h v : ℤ) (g : Glyph) (by : ℤ) (rest : Pictur
 texts-in_glyph Horizontal h v g by rest = refl
 texts-in_glyph Vertical h v g by rest = refl
 
-texts-in_leaf : (b : BoxNode) (h v : ℤ) (x : Leaf) (rest : Picture) → texts (in_front (mark_of b h v x) (width_in b x) rest) ≡ texts rest
-texts-in_leaf b h v (glyph g) rest = texts-in_glyph b.kind h v g g.width rest
-texts-in_leaf b h v (font_kern width) rest = refl
-texts-in_leaf b h v (kern width) rest = refl
-texts-in_leaf b h v (glue g) rest = refl
-texts-in_leaf b h v (penalty p) rest = refl
-texts-in_leaf b h v (rule r) rest = texts-in_rule h (v +ℤ rule_below b.kind b r) (rule_tall b.kind b r) (rule_wide b.kind b r) (rule_wide b.kind b r) rest
+texts-in_leaf : (b : BoxNode) (h v : ℤ) (x : Leaf) (rest : Picture) → texts (in_front (mark_of b h v x) (width_in b x) rest) ≡ text_in x + texts rest
+texts-in_leaf b h v (glyph g) rest = omega (arith, texts-in_glyph b.kind h v g g.width rest)
+texts-in_leaf b h v (font_kern width) rest = omega arith
+texts-in_leaf b h v (kern width) rest = omega arith
+texts-in_leaf b h v (glue g) rest = omega arith
+texts-in_leaf b h v (penalty p) rest = omega arith
+texts-in_leaf b h v (special text) rest = refl
+texts-in_leaf b h v (rule r) rest =
+    omega (arith, texts-in_rule h (v +ℤ rule_below b.kind b r) (rule_tall b.kind b r) (rule_wide b.kind b r) (rule_wide b.kind b r) rest)
 
 texts-grouped : (items : Items) (own : Kind) (inner rest : Picture) → texts (grouped items own inner rest) ≤ texts inner + texts rest
 texts-grouped none own inner rest = omega arith
 texts-grouped (leaf x items) own inner rest = omega arith
 texts-grouped (box shift frame more items) own inner rest = omega arith
 
--- No item of a list is a special.
-pub no_texts : (b : BoxNode) (h v : ℤ) (before : List Node) (after : Items) → texts (picture_after b h v before after) ≡ 0
-no_texts b h v before none = refl
-no_texts b h v before (leaf x after) =
-    texts-in_leaf b (item_h b h before) (item_v b v before) x (picture_after b h v (before ++ node_of x ∷ []) after) ∙ no_texts b h v (before ++ node_of x ∷ []) after
-no_texts b h v before (box shift frame inner after) =
+-- The texts in the picture of a list are at most those of its specials.
+pub few_texts : (b : BoxNode) (h v : ℤ) (before : List Node) (after : Items) → texts (picture_after b h v before after) ≤ items_text after
+few_texts b h v before none = omega arith
+few_texts b h v before (leaf x after) =
+    omega (
+      arith,
+      texts-in_leaf b (item_h b h before) (item_v b v before) x (picture_after b h v (before ++ node_of x ∷ []) after),
+      few_texts b h v (before ++ node_of x ∷ []) after,
+    )
+few_texts b h v before (box shift frame inner after) =
     let x = box_h b.kind (item_h b h before) shift in
     let y = list_v frame.kind frame.height (box_v b.kind (item_v b v before) shift frame.height) in
     omega (
       arith,
       texts-grouped inner frame.kind (picture_after (box_of frame inner) x y [] inner) (picture_after b h v (before ++ Box shift (box_of frame inner) ∷ []) after),
-      no_texts (box_of frame inner) x y [] inner,
-      no_texts b h v (before ++ Box shift (box_of frame inner) ∷ []) after,
+      few_texts (box_of frame inner) x y [] inner,
+      few_texts b h v (before ++ Box shift (box_of frame inner) ∷ []) after,
     )
 
 -- An item has at most one mark.
@@ -221,6 +228,7 @@ one_mark b h v (font_kern width) = omega arith
 one_mark b h v (kern width) = omega arith
 one_mark b h v (glue g) = omega arith
 one_mark b h v (penalty p) = omega arith
+one_mark b h v (special text) = omega arith
 one_mark b h v (rule r) = one_rule h (v +ℤ rule_below b.kind b r) (rule_tall b.kind b r) (rule_wide b.kind b r)
 
 parts-in_front : (marks : List Mark) (by : ℤ) (rest : Picture) → parts (in_front marks by rest) ≡ length marks + parts rest

@@ -1,5 +1,5 @@
 -- The items of a box between two places of its list.
-use Rattle.std.proofs.Common.{◌≡◌, ◌∙◌, List, [], ◌∷◌, refl, ap, sym, arith}
+use Rattle.std.proofs.Common.{◌≡◌, ◌∙◌, ◌+◌, ℕ, List, [], ◌∷◌, refl, ap, ap₂, sym, arith}
 use Rattle.std.specs.Prelude.{ℤ, pos, ◌+ℤ◌, Bool, true, false, ◌&&◌, if◌then◌else◌, Option, Some, None}
 use Rattle.std.specs.List.{list_all}
 use Rattle.std.proofs.lemmas.Int.{ints}
@@ -15,7 +15,7 @@ use Rattle.node_core.specs.declared.tree.Setting.TheVariants as settings
 use Rattle.pack_core.specs.Items.{advance, own_size}
 use Rattle.scaled_core.specs.Dimensions.{fits}
 use Rattle.pack_core.specs.Places.{share, set_by}
-use Rattle.pack_core.specs.Cursors.{Reached, one_more, place_at}
+use Rattle.pack_core.specs.Cursors.{Reached, one_more, moved_on, place_at}
 use Rattle.ship_core.specs.declared.placing.Position.{Position}
 use Rattle.ship_core.specs.Marks.{right_at, down_at, rule_below, rule_tall, rule_wide, box_h, box_v, numbers_of}
 use Rattle.ship_core.specs.Drawing.{Picture}
@@ -71,6 +71,7 @@ between-none b h v place next x is = by_node x
     by_node (nodes.Kern w) = third_fits x0 y0 x1 y1 [] (no_point x1 y1 is)
     by_node (nodes.Glue g) = third_fits x0 y0 x1 y1 [] (no_point x1 y1 is)
     by_node (nodes.Penalty p) = third_fits x0 y0 x1 y1 [] (no_point x1 y1 is)
+    by_node (nodes.Special text) = third_fits x0 y0 x1 y1 [] (no_point x1 y1 is)
     by_node (nodes.Rule r) = third_fits x0 y0 x1 y1 ((y0 +ℤ rule_below b.kind b r) ∷ rule_tall b.kind b r ∷ rule_wide b.kind b r ∷ []) (no_point x1 y1 is)
     by_node (nodes.Box shift inner) = third_fits x0 y0 x1 y1 (box_h b.kind x0 shift ∷ box_v b.kind y0 shift inner.height ∷ []) (no_point x1 y1 is)
 
@@ -122,6 +123,7 @@ reach_by kind setting from h at behind (nodes.FontKern w) first next = tt
 reach_by kind setting from h at behind (nodes.Kern w) first next = tt
 reach_by kind setting from h at behind (nodes.Glue g) first next = tt
 reach_by kind setting from h at behind (nodes.Penalty n) first next = tt
+reach_by kind setting from h at behind (nodes.Special text) first next = tt
 reach_by Horizontal setting from h at behind (nodes.Rule r) first next = right_by setting from h (own_size r.width) (share setting (nodes.Rule r)) (share_rule setting r) at behind first next
 reach_by Vertical setting from h at behind (nodes.Rule r) first next = next ∙ sym first
 reach_by kind setting from h at behind (nodes.Box shift inner) first next = tt
@@ -142,20 +144,33 @@ share_rigid settings.Natural (nodes.Glyph g) is = refl
 share_rigid settings.Natural (nodes.FontKern w) is = refl
 share_rigid settings.Natural (nodes.Kern w) is = refl
 share_rigid settings.Natural (nodes.Penalty n) is = refl
+share_rigid settings.Natural (nodes.Special text) is = refl
 share_rigid settings.Natural (nodes.Rule r) is = refl
 share_rigid settings.Natural (nodes.Box shift b) is = refl
 share_rigid (settings.Stretch order ratio) (nodes.Glyph g) is = refl
 share_rigid (settings.Stretch order ratio) (nodes.FontKern w) is = refl
 share_rigid (settings.Stretch order ratio) (nodes.Kern w) is = refl
 share_rigid (settings.Stretch order ratio) (nodes.Penalty n) is = refl
+share_rigid (settings.Stretch order ratio) (nodes.Special text) is = refl
 share_rigid (settings.Stretch order ratio) (nodes.Rule r) is = refl
 share_rigid (settings.Stretch order ratio) (nodes.Box shift b) is = refl
 share_rigid (settings.Shrink order ratio) (nodes.Glyph g) is = refl
 share_rigid (settings.Shrink order ratio) (nodes.FontKern w) is = refl
 share_rigid (settings.Shrink order ratio) (nodes.Kern w) is = refl
 share_rigid (settings.Shrink order ratio) (nodes.Penalty n) is = refl
+share_rigid (settings.Shrink order ratio) (nodes.Special text) is = refl
 share_rigid (settings.Shrink order ratio) (nodes.Rule r) is = refl
 share_rigid (settings.Shrink order ratio) (nodes.Box shift b) is = refl
+
+abbrev reaching : (natural shares : ℤ) (passed : ℕ) → Reached
+reaching natural shares passed = record { natural = natural; shares = shares; passed = passed }
+
+-- So past such an item only the distance that was gone counts, and how many items were passed.
+pub rigid_more :
+    (kind : Kind) (setting : Setting) (from : Reached) (x : Node) (distance : ℤ) → is_rigid x ≡ true → distance ≡ advance kind x
+    → moved_on from distance ≡ one_more kind setting from x
+rigid_more kind setting from x distance rigid same =
+    ap₂ (λ (natural shares : ℤ). reaching natural shares (from.passed + 1)) (ap (λ (n : ℤ). from.natural +ℤ n) same) (omega (arith, ints, share_rigid setting x rigid))
 
 behind_by :
     (kind : Kind) (setting : Setting) (from : Reached) (h v x y by part : ℤ) → part ≡ pos 0

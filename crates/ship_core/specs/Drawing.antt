@@ -6,7 +6,7 @@ use Rattle.node_core.specs.declared.tree.Kind.TheVariants.{Horizontal, Vertical}
 use Rattle.node_core.specs.declared.tree.Node.{Node}
 use Rattle.node_core.specs.declared.tree.Node.TheVariants.{Box}
 use Rattle.node_core.specs.declared.tree.BoxNode.{BoxNode}
-use Rattle.node_core.specs.Items.{Leaf, glyph, font_kern, kern, glue, penalty, rule, Items, none, leaf, box}
+use Rattle.node_core.specs.Items.{Leaf, glyph, font_kern, kern, glue, penalty, rule, special, Items, none, leaf, box}
 use Rattle.node_core.specs.Nodes.{node_of, box_of}
 use Rattle.dvi_ops.specs.Instruction as instructions
 use Rattle.dvi_ops.specs.Instruction.{Axis, Across, Downward, By, Move, SetChar, SetRule, PutRule, FontNum, Xxx}
@@ -21,6 +21,7 @@ width_in b (font_kern width) = pos 0
 width_in b (kern width) = pos 0
 width_in b (glue g) = pos 0
 width_in b (penalty p) = pos 0
+width_in b (special text) = pos 0
 width_in b (rule sizes) = rule_wide b.kind b sizes
 
 -- What is seen of a list: strokes, each a mark and its width, and the pictures of boxes, each with the kind of its list.

@@ -11,7 +11,7 @@ use Rattle.node_core.specs.declared.tree.Rule.{Rule}
 use Rattle.node_core.specs.declared.tree.RuleSize.{RuleSize}
 use Rattle.node_core.specs.declared.tree.RuleSize.TheVariants.{Running, Fixed}
 use Rattle.node_core.specs.declared.tree.BoxNode.{BoxNode}
-use Rattle.node_core.specs.Items.{Leaf, glyph, font_kern, kern, glue, penalty, rule, Items, none, leaf, box}
+use Rattle.node_core.specs.Items.{Leaf, glyph, font_kern, kern, glue, penalty, rule, special, Items, none, leaf, box}
 use Rattle.node_core.specs.Nodes.{node_of, box_of}
 use Rattle.dvi_ops.specs.Body as marks
 use Rattle.dvi_ops.specs.Body.{Mark}
@@ -73,6 +73,7 @@ mark_of b h v (font_kern width) = []
 mark_of b h v (kern width) = []
 mark_of b h v (glue g) = []
 mark_of b h v (penalty p) = []
+mark_of b h v (special text) = marks.Special h v text ∷ []
 mark_of b h v (rule sizes) = rule_mark h (v +ℤ rule_below b.kind b sizes) (rule_tall b.kind b sizes) (rule_wide b.kind b sizes)
 
 -- How far to the right an item stands that has the items `before` in front of it, in a list that begins at h.

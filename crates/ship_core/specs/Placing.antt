@@ -52,6 +52,7 @@ Reaches kind h next_h (nodes.FontKern width) = Unit {0}
 Reaches kind h next_h (nodes.Kern width) = Unit {0}
 Reaches kind h next_h (nodes.Glue glue) = Unit {0}
 Reaches kind h next_h (nodes.Penalty penalty) = Unit {0}
+Reaches kind h next_h (nodes.Special text) = Unit {0}
 Reaches kind h next_h (nodes.Rule rule) = next_h ≡ right_at kind h (own_size rule.width)
 Reaches kind h next_h (nodes.Box shift b) = Unit {0}
 
@@ -62,6 +63,7 @@ is_rigid (nodes.Glyph glyph) = true
 is_rigid (nodes.FontKern width) = true
 is_rigid (nodes.Kern width) = true
 is_rigid (nodes.Penalty penalty) = true
+is_rigid (nodes.Special text) = true
 is_rigid (nodes.Rule rule) = true
 is_rigid (nodes.Box shift b) = true
 
@@ -93,7 +95,7 @@ makes kind d rest = map view d.ops.items ++ flat (drawn kind d.h d.v (option_map
 abbrev pub leaves : Drawing → Picture → Option ℤ
 leaves d rest = font_after (option_map pos d.font) rest
 
--- The marks of an item that stands at (h, v), in front of a picture; those of its own items do not count.
+-- The marks of an item that stands at (h, v), in front of a picture; specials and the items of a box do not count.
 abbrev pub strokes_of : BoxNode → (h v : ℤ) → Node → Picture → Picture
 strokes_of b h v (nodes.Glyph g) rest = in_front (mark_of b h v (items.glyph g)) (width_in b (items.glyph g)) rest
 strokes_of b h v (nodes.Rule sizes) rest = in_front (mark_of b h v (items.rule sizes)) (width_in b (items.rule sizes)) rest

@@ -1,7 +1,7 @@
 -- What the plan of a page shows, by the meaning of DVI instructions alone (own, over `meaning`, `acts` and `kept` of dvi_ops: DVItype, 13 to 20).
-use Rattle.std.specs.Prelude.{◌≡◌, ◌<◌, ◌≤◌, ℤ, pos, false, Option, Some, None}
+use Rattle.std.specs.Prelude.{◌≡◌, ◌<◌, ◌≤◌, ◌^◌, ℤ, pos, false, Option, Some, None}
 use Rattle.std.specs.List.{AllByRecursion}
-use Rattle.node_core.specs.Items.{Leaf, glyph, font_kern, kern, glue, penalty, rule, EachLeaf, items_depth}
+use Rattle.node_core.specs.Items.{Leaf, glyph, font_kern, kern, glue, penalty, rule, special, EachLeaf, items_depth, items_text}
 use Rattle.dvi_ops.specs.Body.{State, Registers, Widths, acts, kept}
 use Rattle.dvi_ops.specs.Forest.{flat, meaning, nests}
 use Rattle.dvi_ops.specs.Layout.{IsWritable}
@@ -17,6 +17,7 @@ HasWidth widths (kern width) = Unit {0}
 HasWidth widths (glue g) = Unit {0}
 HasWidth widths (penalty p) = Unit {0}
 HasWidth widths (rule sizes) = Unit {0}
+HasWidth widths (special text) = Unit {0}
 
 -- A place with what the registers hold, and a font.
 abbrev pub at : (h v : ℤ) → Registers → Option ℤ → State
@@ -29,9 +30,11 @@ ShowsItsMarks =
     (widths : Widths) (held : Registers) (page : Page) → is_huge page ≡ false → EachLeaf (HasWidth widths) page.box_node.list
     → (last : State) × (meaning (kept (acts widths)) (body_of page) (at (pos 0) (pos 0) held None) ≡ Some (marks_of_page page, last))
 
--- Each instruction of the body of a page can be written.
+-- Each instruction of the body of a page can be written, where the texts of its specials have fewer than 2^32 bytes together.
 abbrev pub CanBeWritten : Type 0
-CanBeWritten = (widths : Widths) (page : Page) → is_huge page ≡ false → EachLeaf (HasWidth widths) page.box_node.list → AllByRecursion IsWritable (flat (body_of page))
+CanBeWritten =
+    (widths : Widths) (page : Page) → is_huge page ≡ false → EachLeaf (HasWidth widths) page.box_node.list → items_text page.box_node.list < 2 ^ 32
+    → AllByRecursion IsWritable (flat (body_of page))
 
 -- None of them names w, x, y or z, whatever the page.
 abbrev pub IsDrawnPlainly : Type 0

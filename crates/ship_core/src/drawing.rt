@@ -6,7 +6,8 @@ ghost use Rattle.node_core.specs.declared.tree.Kind.{Kind};
 ghost use Rattle.dvi_ops.specs.Forest.{flat};
 ghost use Rattle.dvi_ops.specs.Instruction.{Across, Downward, Do, Push, Pop};
 ghost use Rattle.dvi_ops.specs.View.{view};
-ghost use Rattle.ship_core.specs.Drawing.{Picture, ruled, drawn};
+ghost use Rattle.dvi_ops.specs.Body.{Special};
+ghost use Rattle.ship_core.specs.Drawing.{Picture, stroke, ruled, drawn};
 ghost use Rattle.ship_core.specs.Placing.{Ends, strokes_in, inked, makes, leaves, movement, selection};
 
 use crate::placing::{Ink, MarkAt, Position};
@@ -17,15 +18,15 @@ use std::alloc::{AllocError, Global};
 
 /// The instructions so far, where they leave h and v, and the slot of the font that they leave.
 #[derive(Debug, Drop)]
-pub struct Drawing {
-    pub ops: Vec<Op<'static>>,
+pub struct Drawing<'a> {
+    pub ops: Vec<Op<'a>>,
     pub h: Dimen,
     pub v: Dimen,
     pub font: Option<u8>,
 }
 
 /// Appends a movement to the right, unless it is none.
-fn append_right(ops: &mut Vec<Op<'static>>, from: Dimen, to: Dimen) -> Result<(), AllocError>
+fn append_right(ops: &mut Vec<Op<'_>>, from: Dimen, to: Dimen) -> Result<(), AllocError>
     ensures { OnOk result (map view ops.new.items ≡ map view ops.old.items ++ movement Across (to -ℤ from)) }
 {
     let amount = to.get() - from.get();
@@ -37,7 +38,7 @@ fn append_right(ops: &mut Vec<Op<'static>>, from: Dimen, to: Dimen) -> Result<()
 }
 
 /// Appends a movement down, unless it is none.
-fn append_down(ops: &mut Vec<Op<'static>>, from: Dimen, to: Dimen) -> Result<(), AllocError>
+fn append_down(ops: &mut Vec<Op<'_>>, from: Dimen, to: Dimen) -> Result<(), AllocError>
     ensures { OnOk result (map view ops.new.items ≡ map view ops.old.items ++ movement Downward (to -ℤ from)) }
 {
     let amount = to.get() - from.get();
@@ -69,29 +70,24 @@ fn rule_op(kind: Kind, height: i32, width: i32) -> Op<'static>
 }
 
 /// Appends a rule or a character of a list of that kind.
-fn append_ink(
-    ops: &mut Vec<Op<'static>>,
-    kind: Kind,
-    width: Dimen,
-    ink: Ink,
-) -> Result<(), AllocError>
+fn append_ink(ops: &mut Vec<Op<'_>>, kind: Kind, width: Dimen, ink: Ink) -> Result<(), AllocError>
     ensures { OnOk result (map view ops.new.items ≡ map view ops.old.items ++ inked kind width ink) }
 {
     ops.push(op_for(kind, width, ink))?;
     Ok(())
 }
 
-impl Drawing {
-    /// No instruction yet, where h and v are 0 and no font is chosen.
-    pub fn new(alloc: Global) -> Drawing
-        ensures { (kind : Kind) → (rest : Picture) → makes kind result rest ≡ flat (drawn kind (pos 0) (pos 0) None rest) }
+impl<'a> Drawing<'a> {
+    /// No instruction yet, with room for that many, where h and v are 0 and no font is chosen.
+    pub fn new(alloc: Global, room: usize) -> Result<Drawing<'a>, AllocError>
+        ensures { IfOk result (λ drawing. (kind : Kind) (rest : Picture) → makes kind drawing rest ≡ flat (drawn kind (pos 0) (pos 0) None rest)) }
     {
-        Drawing {
-            ops: Vec::new(alloc),
+        Ok(Drawing {
+            ops: Vec::with_capacity(alloc, room)?,
             h: Dimen::ZERO,
             v: Dimen::ZERO,
             font: None,
-        }
+        })
     }
 
     /// Moves to a place, right and then down.
@@ -151,6 +147,17 @@ impl Drawing {
             None => Ok(()),
             Some(mark) => self.draw_mark(kind, mark),
         }
+    }
+
+    /// Draws a special at a place.
+    #[tactic(auto, using(crate::proofs::Drawings::movements))]
+    pub fn draw_special(&mut self, at: Position, text: &'a [u8]) -> Result<(), AllocError>
+        ensures ops { OnOk result ((kind : Kind) (rest : Picture) → makes kind self.old (stroke (Special at.h at.v text.now) (pos 0) rest) ≡ makes kind self.new rest) }
+        ensures font { OnOk result ((rest : Picture) → leaves self.old (stroke (Special at.h at.v text.now) (pos 0) rest) ≡ leaves self.new rest) }
+    {
+        self.move_to(at.h, at.v)?;
+        self.ops.push(Op::Xxx(text))?;
+        Ok(())
     }
 
     /// Begins a group, and gives the place in front of it.

@@ -8,7 +8,7 @@ ghost use Rattle.ship_core.specs.Pushes.{most_pushed, pushed_after};
 use dvi_ops::Op;
 
 /// How many pushes are open behind an instruction; a pop where none is open changes nothing.
-fn pushed_after(pushed: usize, op: &Op<'static>) -> usize
+fn pushed_after(pushed: usize, op: &Op<'_>) -> usize
     requires { pushed < usize.MAX }
     ensures { result ≡ pushed_after pushed (view op.now) }
 {
@@ -20,7 +20,7 @@ fn pushed_after(pushed: usize, op: &Op<'static>) -> usize
 }
 
 /// The most pushes that are open at once among instructions: in a body, how deep its groups nest.
-pub fn push_depth(ops: &[Op<'static>]) -> usize
+pub fn push_depth(ops: &[Op<'_>]) -> usize
     ensures counted { result ≡ most_pushed 0 (map view ops.now) }
     ensures value { (body : Forest) → map view ops.now ≡ flat body → result ≡ nests body }
 {

@@ -2,5 +2,6 @@
 pub mod Walks
 pub mod Openings
 pub mod Search
+pub mod Specials
 pub mod Rests
 pub mod Choices

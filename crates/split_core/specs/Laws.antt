@@ -63,7 +63,7 @@ deep depth = nodes.Rule (record { width = Fixed (points 10); height = Fixed (poi
 abbrev pub hanging : List Node
 hanging = deep (points 3) ∷ space (pos 0) ∷ rule (points 5) ∷ []
 
--- Glue and kerns in front of, between and behind rules, and penalties.
+-- Glue and kerns before, between and after rules, and penalties.
 abbrev pub mixed : List Node
 mixed =
     space (pos 0) ∷ rule (points 5) ∷ nodes.Kern (pos 0) ∷ rule (points 5) ∷ nodes.Kern (pos 0) ∷ space (pos 0) ∷ space (pos 0)
@@ -81,3 +81,20 @@ stretching_top width =
 -- The items of the rest of a split, if there is a rest.
 abbrev pub rest_nodes : SplitParams → (goal : ℤ) → List Node → Option (List Node)
 rest_nodes params goal items = option_map (λ (p : Packed). nodes_of p.box_node.list) (rest_of params goal items)
+
+-- A special whose text is that byte.
+abbrev pub special : (byte : ℕ) → Node
+special byte = nodes.Special (byte ∷ [])
+
+-- Two rules, 5pt high, a penalty that forces a split between them, and specials and glue after it.
+abbrev pub marked : List Node
+marked =
+    rule (points 5) ∷ nodes.Penalty (negsuc 9999) ∷ special 97 ∷ space (points 2) ∷ special 98 ∷ nodes.Penalty (pos 0) ∷ rule (points 5) ∷ special 99 ∷ []
+
+-- A rule, 5pt high, a penalty that forces a split, and a special between glue.
+abbrev pub marked_end : List Node
+marked_end = rule (points 5) ∷ nodes.Penalty (negsuc 9999) ∷ space (points 2) ∷ special 97 ∷ space (points 2) ∷ []
+
+-- Width, height and depth of the rest of a split, if there is a rest.
+abbrev pub rest_sizes : SplitParams → (goal : ℤ) → List Node → Option (List ℤ)
+rest_sizes params goal items = option_map (λ (p : Packed). p.box_node.width ∷ p.box_node.height ∷ p.box_node.depth ∷ []) (rest_of params goal items)

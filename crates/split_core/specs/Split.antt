@@ -1,5 +1,5 @@
 -- A vertical list is split: its front fills a height, and its rest is left (TeX: The Program, part 44, §968 and §970 to §979, vert_break and vsplit).
-use Rattle.std.specs.Prelude.{◌-ℤ◌, ◌+◌, ◌++◌, ℕ, ℤ, pos, Bool, int_lt, if◌then◌else◌}
+use Rattle.std.specs.Prelude.{◌-ℤ◌, ◌+◌, ◌++◌, ℕ, ℤ, pos, Bool, true, false, int_lt, if◌then◌else◌}
 use Rattle.std.specs.Prelude.{List, [], ◌∷◌, length, take, drop, Option, Some, None}
 use Rattle.std.specs.Int.{int_max}
 use Rattle.std.specs.List.{list_all, list_any, filter_map, range_with_len}
@@ -22,7 +22,7 @@ use Rattle.split_core.specs.declared.parts.SplitFault.TheVariants.{InfiniteShrin
 use Rattle.split_core.specs.Places.{is_box_or_rule, penalty_at}
 use Rattle.split_core.specs.Costs.{cost, front_badness, is_last}
 
--- The trial of the place in front of item i, where a split is allowed there: its penalty, and the badness of the items before it.
+-- The trial of the place before item i, where a split is allowed there: its penalty, and the badness of the items before it.
 abbrev pub trial_at : SplitParams → (goal : ℤ) → List Node → ℕ → Option Trial
 trial_at params goal items i =
     option_map (λ (penalty : ℤ). record { place = i; penalty = penalty; badness = front_badness params goal (take i items) }) (penalty_at items i)
@@ -40,7 +40,7 @@ up_to_last (t ∷ ts) = if is_last t then t ∷ [] else t ∷ up_to_last ts
 abbrev pub is_cheaper : Trial → Trial → Bool
 is_cheaper t other = int_lt (cost t) (cost other)
 
--- The last of the trials that cost least: the first that is cheaper than each one behind it.
+-- The last of the trials that cost least: the first that is cheaper than each later one.
 abbrev pub last_cheapest : List Trial → Option Trial
 last_cheapest [] = None
 last_cheapest (t ∷ ts) = if list_all (is_cheaper t) ts then Some t else last_cheapest ts
@@ -58,14 +58,27 @@ split_place params goal items = place_of (last_cheapest (up_to_last (trials para
 abbrev pub front_items : SplitParams → (goal : ℤ) → List Node → List Node
 front_items params goal items = take (split_place params goal items) items
 
--- The items from the first box or rule on; glue, kerns and penalties before it are dropped (TeX: The Program, part 44, §968, prune_page_top).
+-- The items from the first box or rule on (TeX: The Program, part 44, §968, prune_page_top).
 abbrev pub from_box_or_rule : List Node → List Node
 from_box_or_rule [] = []
 from_box_or_rule (x ∷ xs) = if is_box_or_rule x then x ∷ xs else from_box_or_rule xs
 
--- The items that are left behind the place of the split.
-abbrev pub rest_items : SplitParams → (goal : ℤ) → List Node → List Node
-rest_items params goal items = from_box_or_rule (drop (split_place params goal items) items)
+-- Whether an item is a special.
+abbrev pub is_special : Node → Bool
+is_special (nodes.Special text) = true
+is_special (nodes.Glyph glyph) = false
+is_special (nodes.FontKern width) = false
+is_special (nodes.Kern width) = false
+is_special (nodes.Glue glue) = false
+is_special (nodes.Penalty penalty) = false
+is_special (nodes.Rule rule) = false
+is_special (nodes.Box shift b) = false
+
+-- The specials above the first box or rule, which stay; glue, kerns and penalties there are dropped (TeX: The Program, part 44, §968,
+-- prune_page_top: a whatsit stays).
+abbrev pub specials_above : List Node → List Node
+specials_above [] = []
+specials_above (x ∷ xs) = if is_box_or_rule x then [] else (if is_special x then x ∷ specials_above xs else specials_above xs)
 
 -- The width of the glue above a box or a rule of that height: that of splittopskip less the height, and not below 0
 -- (TeX: The Program, part 44, §969).
@@ -76,10 +89,18 @@ top_width params height = int_max (pos 0) (params.split_top_skip.width -ℤ heig
 abbrev pub top_glue : SplitParams → (height : ℤ) → Glue
 top_glue params height = record params.split_top_skip { width = top_width params height }
 
--- What is left with the glue above its first item, if there is one.
+-- The items from the first box or rule on, below the glue; none where there is no box and no rule.
 abbrev pub topped : SplitParams → List Node → List Node
 topped params [] = []
 topped params (x ∷ xs) = nodes.Glue (top_glue params (first_above x)) ∷ x ∷ xs
+
+-- What is left of the items after a place: the specials, and then the glue and what is below it.
+abbrev pub left_of : SplitParams → (after : List Node) → List Node
+left_of params after = specials_above after ++ topped params (from_box_or_rule after)
+
+-- The items after the place of the split.
+abbrev pub items_after : SplitParams → (goal : ℤ) → List Node → List Node
+items_after params goal items = drop (split_place params goal items) items
 
 -- A vertical list in its vbox, and how bad that is: what `vpack` packs where all numbers fit.
 abbrev pub packed_as : Target → (limit : ℤ) → List Node → Packed
@@ -89,29 +110,33 @@ packed_as target limit items = record { box_node = vbox target limit (items_of i
 abbrev pub no_limit : ℤ
 no_limit = pos 1073741823
 
--- The front of a split: what stands before the place, in a vbox of just that height, no deeper than splitmaxdepth
+-- The front of a split: what is before the place, in a vbox of just that height, no deeper than splitmaxdepth
 -- (TeX: The Program, part 44, §977, vsplit).
 unfoldable pub front_of : SplitParams → (goal : ℤ) → List Node → Packed
 front_of params goal items = packed_as (To goal) params.split_max_depth (front_items params goal items)
 
--- What is left, below its glue, in a vbox of its natural height; none where nothing is left.
+-- What is left, in a vbox of its natural height; none where nothing is left.
 abbrev pub packed_rest : List Node → Option Packed
 packed_rest [] = None
 packed_rest (x ∷ xs) = Some (packed_as Natural no_limit (x ∷ xs))
 
 -- The rest of a split (TeX: The Program, part 44, §977, vsplit).
 unfoldable pub rest_of : SplitParams → (goal : ℤ) → List Node → Option Packed
-rest_of params goal items = packed_rest (topped params (rest_items params goal items))
+rest_of params goal items = packed_rest (left_of params (items_after params goal items))
 
--- The numbers of what is left that have to fit: the width of the glue above it, and those of its vbox (own: TeX looks at none).
-abbrev pub rest_numbers : SplitParams → List Node → List ℤ
-rest_numbers params [] = []
-rest_numbers params (x ∷ xs) = top_width params (first_above x) ∷ vbox_numbers Natural no_limit (topped params (x ∷ xs))
+-- The width of the glue above the first box or rule, as a number that has to fit (own).
+abbrev pub top_widths : SplitParams → List Node → List ℤ
+top_widths params [] = []
+top_widths params (x ∷ xs) = top_width params (first_above x) ∷ []
+
+-- The numbers of what is left that have to fit: the width of the glue in it, and those of its vbox (own: TeX looks at none).
+abbrev pub rest_numbers : SplitParams → (after : List Node) → List ℤ
+rest_numbers params after = top_widths params (from_box_or_rule after) ++ vbox_numbers Natural no_limit (left_of params after)
 
 -- The numbers of a split that have to fit: those of the front and those of the rest (own).
 unfoldable pub split_numbers : SplitParams → (goal : ℤ) → List Node → List ℤ
 split_numbers params goal items =
-    vbox_numbers (To goal) params.split_max_depth (front_items params goal items) ++ rest_numbers params (rest_items params goal items)
+    vbox_numbers (To goal) params.split_max_depth (front_items params goal items) ++ rest_numbers params (items_after params goal items)
 
 -- Why a list is not split, if so. Glue anywhere in the list that shrinks in an infinite order, glue by glue and no total: what else shrinks or
 -- stretches does not make up for it (TeX: The Program, part 44, §976; own: TeX looks no further than the split). Else a number that does not fit (own).

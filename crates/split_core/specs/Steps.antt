@@ -1,20 +1,21 @@
 -- The steps of a split, one word for each call (own; private calls alone, no public clause speaks of it).
-use Rattle.std.specs.Prelude.{◌≡◌, ◌<◌, ◌≤◌, ◌+◌, ◌-◌, ℕ, ℤ, false, if◌then◌else◌, List, [], ◌∷◌, length, drop, take, Option, Some, None, IsTrue}
-use Rattle.std.specs.List.{list_all, filter_map, range_with_len, slice_get}
+use Rattle.std.specs.Prelude.{◌≡◌, ◌<◌, ◌≤◌, ◌+◌, ◌-◌, ◌++◌, ℕ, ℤ, false, if◌then◌else◌, List, [], ◌∷◌, length, drop, take, Option, Some, None}
+use Rattle.std.specs.List.{filter, filter_map, range_with_len, slice_get}
 use Rattle.std.specs.Option.{IfSome}
 use Rattle.node_core.specs.declared.params.SplitParams.{SplitParams}
+use Rattle.node_core.specs.declared.tree.Glue.{Glue}
 use Rattle.node_core.specs.declared.tree.Node.{Node}
 use Rattle.node_core.specs.declared.tree.Node.TheVariants as nodes
-use Rattle.scaled_core.specs.Dimensions.{fits}
-use Rattle.pack_core.specs.declared.pack.Target.TheVariants.{Natural, To}
-use Rattle.pack_core.specs.Boxes.{vbox_numbers}
+use Rattle.node_core.specs.Nodes.{items_of}
+use Rattle.pack_core.specs.declared.pack.Packed.{Packed}
+use Rattle.pack_core.specs.Boxes.{packed_of}
 use Rattle.split_core.specs.declared.trials.Trial.{Trial}
-use Rattle.split_core.specs.declared.plan.Top.{Top}
+use Rattle.split_core.specs.declared.plan.Rest.{Rest}
 use Rattle.split_core.specs.declared.plan.Plan.{Plan}
-use Rattle.split_core.specs.Places.{is_some_box_or_rule}
-use Rattle.split_core.specs.Split.{trial_at, is_cheaper, no_limit}
+use Rattle.split_core.specs.Places.{is_some_before_break}
+use Rattle.split_core.specs.Split.{trial_at, is_cheaper, is_special}
 
--- Of the best trial so far and one behind it, that which is kept: the later one, unless the earlier one is cheaper.
+-- Of the best trial so far and a later one, that which is kept: the later one, unless the earlier one is cheaper.
 abbrev pub cheaper : Option Trial → Trial → Trial
 cheaper None t = t
 cheaper (Some best) t = if is_cheaper best t then best else t
@@ -28,20 +29,39 @@ listed (Some t) = t ∷ []
 unfoldable pub trials_from : SplitParams → (goal : ℤ) → List Node → ℕ → List Trial
 trials_from params goal items i = filter_map (trial_at params goal items) (range_with_len i (length items + 1 - i))
 
--- A place of the list in front of which no box or rule stands: a split there drops the item behind it, if there is one.
+-- A place of the list before an item that is dropped, or at its end.
 pub record IsOpen (items : List Node) (i : ℕ) : Type 0 where
   pub within : i ≤ length items
-  pub dropped : is_some_box_or_rule (slice_get items i) ≡ false
+  pub dropped : is_some_before_break (slice_get items i) ≡ false
 
--- What is left of a list, below its glue.
-abbrev pub top_items : Option Top → List Node → List Node
-top_items None items = []
-top_items (Some top) items = nodes.Glue top.glue ∷ drop top.start items
+-- Items below glue, if there is some.
+abbrev pub glued : Option Glue → List Node → List Node
+glued None items = items
+glued (Some glue) items = nodes.Glue glue ∷ items
+
+-- The items of the rest: the specials among those from `first` on and before `start`, and those from `start` on, below the glue.
+abbrev pub rest_list : Rest → List Node → List Node
+rest_list rest items = filter is_special (take (rest.start - rest.first) (drop rest.first items)) ++ glued rest.glue (drop rest.start items)
+
+-- The items of the rest, if there is one.
+abbrev pub left_items : Option Rest → List Node → List Node
+left_items None items = []
+left_items (Some rest) items = rest_list rest items
+
+-- The rest in the box that was found for it.
+abbrev pub packed_left : Option Rest → List Node → Option Packed
+packed_left None items = None
+packed_left (Some rest) items = Some (packed_of (items_of (rest_list rest items)) rest.shell)
+
+-- The rest can be taken from the list: it has an item, and the item of the list before its first one is free for the glue.
+pub record IsInside (rest : Rest) (items : List Node) : Type 0 where
+  pub free : 0 < rest.first
+  pub ordered : rest.first ≤ rest.start
+  pub within : rest.start ≤ length items
+  pub some : 0 < length (rest_list rest items)
 
 -- The plan fits the list: it can be carried out.
-pub record IsSound (params : SplitParams) (goal : ℤ) (items : List Node) (plan : Plan) : Type 0 where
+pub record IsSound (items : List Node) (plan : Plan) : Type 0 where
   pub within : plan.place ≤ length items
-  pub behind : IfSome plan.top (λ top. plan.place < top.start)
-  pub inside : IfSome plan.top (λ top. top.start ≤ length items)
-  pub front_fits : IsTrue (list_all fits (vbox_numbers (To goal) params.split_max_depth (take plan.place items)))
-  pub rest_fits : IfSome plan.top (λ top. IsTrue (list_all fits (vbox_numbers Natural no_limit (nodes.Glue top.glue ∷ drop top.start items))))
+  pub after : IfSome plan.rest (λ rest. plan.place < rest.first)
+  pub inside : IfSome plan.rest (λ rest. IsInside rest items)

@@ -13,7 +13,7 @@ ghost use Rattle.split_core.specs.declared.parts.SplitFault.TheVariants.{Infinit
 ghost use Rattle.split_core.specs.Split.{split_place, front_of, refusal, packed_as};
 ghost use Rattle.split_core.specs.Chosen.{IsSplitPlace};
 ghost use Rattle.split_core.specs.Laws.{points, rule, space, shrinking, front_height, badness_of_front, rest_height, rest_nodes};
-ghost use Rattle.split_core.specs.Laws.{forced, spaced, high, sunken, hanging, mixed, places, stretching_top};
+ghost use Rattle.split_core.specs.Laws.{forced, spaced, high, sunken, hanging, mixed, places, stretching_top, special, marked, marked_end, rest_sizes};
 
 /// A penalty of -10000 is where the list is split, however bad the front is there. Above the rest, a rule 5pt high, stand 5pt.
 pub fn forced_place()
@@ -43,9 +43,9 @@ pub fn nothing_is_left()
     ensures glue { rest_height first_split_params (points 5) (rule (points 5) ∷ space (points 2) ∷ []) ≡ None }
 {}
 
-/// Glue that shrinks in an infinite order refuses the split, also behind the place, and also where other glue shrinks by as much less.
+/// Glue that shrinks in an infinite order refuses the split, also after the place, and also where other glue shrinks by as much less.
 pub fn infinite_shrink_refuses()
-    ensures behind { refusal first_split_params (points 20) (forced ++ shrinking (pos 1) ∷ []) ≡ Some InfiniteShrink }
+    ensures after { refusal first_split_params (points 20) (forced ++ shrinking (pos 1) ∷ []) ≡ Some InfiniteShrink }
     ensures no_total { refusal first_split_params (points 20) (shrinking (pos 1) ∷ shrinking (negsuc 0) ∷ []) ≡ Some InfiniteShrink }
     ensures none { refusal first_split_params (points 20) (shrinking (pos 0) ∷ []) ≡ None }
 {}
@@ -56,10 +56,27 @@ pub fn too_large_a_top_skip()
     ensures refused { refusal first_split_params (points 5) sunken ≡ Some DimensionTooLarge }
 {}
 
-/// A split is allowed in front of glue behind a box or a rule, in front of a kern that glue follows, in front of a penalty below 10000, and
-/// at the end.
+/// A split is allowed before glue that is after a box or a rule, before a kern that glue follows, before a penalty below 10000, and at the
+/// end.
 pub fn allowed_places()
     ensures { places mixed ≡ 4 ∷ 8 ∷ 10 ∷ 11 ∷ [] }
+{}
+
+/// A split is allowed before glue that is after a special.
+pub fn place_after_a_special()
+    ensures { places (rule (points 5) ∷ special 97 ∷ space (points 2) ∷ special 98 ∷ []) ≡ 2 ∷ 4 ∷ [] }
+{}
+
+/// The specials among the items that are dropped stay, above the glue of the rest.
+pub fn specials_stay()
+    ensures { rest_nodes first_split_params (points 20) marked ≡
+        Some (special 97 ∷ special 98 ∷ space (points 5) ∷ rule (points 5) ∷ special 99 ∷ []) }
+{}
+
+/// Where specials alone are left, the rest has no glue and no size.
+pub fn specials_alone_are_left()
+    ensures nodes { rest_nodes first_split_params (points 20) marked_end ≡ Some (special 97 ∷ []) }
+    ensures sizes { rest_sizes first_split_params (points 20) marked_end ≡ Some (pos 0 ∷ pos 0 ∷ pos 0 ∷ []) }
 {}
 
 /// What the last rule is deeper than splitmaxdepth counts as height.
@@ -75,7 +92,7 @@ pub fn top_skip_stretches()
         Some (Node.Glue (stretching_top (points 5)).split_top_skip ∷ rule (points 5) ∷ []) }
 {}
 
-/// The place of a split is the one that is chosen: of the places tried none costs less, and each that is tried behind it costs more.
+/// The place of a split is the one that is chosen: of the places tried none costs less, and each that is tried later costs more.
 pub fn chosen_place()
     ensures { (params : SplitParams) → (goal : ℤ) → (items : List Node) → (place : ℕ) →
         ((split_place params goal items ≡ place) ↔ IsSplitPlace params goal items place) }

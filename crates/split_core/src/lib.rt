@@ -7,6 +7,7 @@ mod cut;
 pub mod laws;
 mod parts;
 mod plan;
+mod rest;
 mod sums;
 mod trials;
 

@@ -1,35 +1,53 @@
 //! How a vertical list is going to be split, found before anything of it is moved.
 
-ghost use Rattle.std.specs.Prelude.{◌≡◌, ◌≤◌, ◌<◌, Some, None, IfOk, IfErr, OnOk, if◌then◌else◌, pos, is_ok, length, drop};
-ghost use Rattle.std.specs.List.{list_all, list_any};
+ghost use Rattle.std.specs.Prelude.{◌≡◌, ◌≤◌, ◌<◌, ◌++◌, Some, None, IfOk, IfErr, OnOk, if◌then◌else◌, pos, true, false, is_ok, length, take, drop};
+ghost use Rattle.std.specs.List.{list_all, list_any, slice_get};
 ghost use Rattle.std.specs.Int.{int_max};
 ghost use Rattle.std.specs.Option.{IfSome};
 ghost use Rattle.scaled_core.specs.Dimensions.{fits};
 ghost use Rattle.node_core.specs.Nodes.{most_nodes};
 ghost use Rattle.node_core.specs.Classes.{shrinks_infinitely};
-ghost use Rattle.split_core.specs.Split.{from_box_or_rule, topped, rest_numbers, rest_items, split_place, refusal, top_width, top_glue};
-ghost use Rattle.split_core.specs.Steps.{top_items, IsSound};
+ghost use Rattle.pack_core.specs.Boxes.{vbox_numbers, vbox_shell};
+ghost use Rattle.split_core.specs.Places.{is_some_before_break};
+ghost use Rattle.split_core.specs.Split.{from_box_or_rule, specials_above, topped, left_of, items_after, top_widths, rest_numbers};
+ghost use Rattle.split_core.specs.Split.{split_place, refusal, top_width, top_glue, no_limit};
+ghost use Rattle.split_core.specs.Steps.{glued, rest_list, left_items, IsInside, IsSound};
 
 use crate::parts::SplitFault;
-use crate::trials::{is_box_or_rule, split_place};
+use crate::trials::{is_box_or_rule, precedes_break, split_place};
 use node_core::{Glue, Node, SplitParams};
-use pack_core::{Target, first_height_of, vbox_fits, vbox_fits_below};
+use pack_core::{Shell, Target, first_height_of, vbox_below, vbox_shell};
 use scaled_core::Dimen;
 
 /// How a list is split.
 #[derive(Clone, Copy, Debug, PartialEq, Eq)]
 pub struct Plan {
-    /// In front of which item; the number of items at the end.
+    /// Before which item; the number of items at the end.
     pub place: usize,
+    /// The box of the items before it.
+    pub front: Shell,
     /// What is left, if something is.
-    pub top: Option<Top>,
+    pub rest: Option<Rest>,
 }
 
-/// What is left of a list: the items from `start` on, below the glue.
+/// What is left of a list.
 #[derive(Clone, Copy, Debug, PartialEq, Eq)]
-pub struct Top {
+pub struct Rest {
+    /// The first item that stays: a special, a box or a rule.
+    pub first: usize,
+    /// The first box or rule, before which specials alone stay; the number of items where there is none.
     pub start: usize,
-    pub glue: Glue,
+    /// The glue above the first box or rule, if there is one.
+    pub glue: Option<Glue>,
+    /// The box of what is left.
+    pub shell: Shell,
+}
+
+/// The glue above items, if there are some, and the vbox of both.
+#[derive(Clone, Copy, Debug, PartialEq, Eq)]
+struct Top {
+    glue: Option<Glue>,
+    shell: Shell,
 }
 
 /// Whether some glue of a list shrinks in an infinite order.
@@ -39,11 +57,28 @@ fn has_infinite_shrink(nodes: &[Node]) -> bool
     nodes.iter().any(|node| node.shrinks_infinitely())
 }
 
-/// Where the first box or rule stands from a place on; the number of items where none does.
+/// The first item that stays, from a place on; the number of items where none does.
+fn first_kept(nodes: &[Node], place: usize) -> usize
+    requires { place ≤ length nodes.now }
+    ensures specials { specials_above (drop result nodes.now) ≡ specials_above (drop place nodes.now) }
+    ensures solid { from_box_or_rule (drop result nodes.now) ≡ from_box_or_rule (drop place nodes.now) }
+    ensures kept { result < length nodes.now → is_some_before_break (slice_get nodes.now result) ≡ true }
+    ensures after { place ≤ result }
+    ensures within { result ≤ length nodes.now }
+{
+    for first in place..nodes.len() {
+        if precedes_break(&nodes[first]) {
+            return first;
+        }
+    }
+    nodes.len()
+}
+
+/// Where the first box or rule is, from a place on; the number of items where there is none.
 fn rest_start(nodes: &[Node], place: usize) -> usize
     requires { place ≤ length nodes.now }
     ensures value { drop result nodes.now ≡ from_box_or_rule (drop place nodes.now) }
-    ensures behind { place ≤ result }
+    ensures after { place ≤ result }
     ensures within { result ≤ length nodes.now }
 {
     for start in place..nodes.len() {
@@ -74,37 +109,67 @@ fn positive(value: i64) -> i64
     if value < 0 { 0 } else { value }
 }
 
-/// What is left of a list from an item on, which is the first box or rule there, where its numbers fit.
-fn top_from(nodes: &[Node], start: usize, params: &SplitParams) -> Result<Option<Top>, SplitFault>
-    requires short { length nodes.now ≤ most_nodes }
-    requires within { start ≤ length nodes.now }
-    ensures ok { IfOk result (λ top. top_items top nodes.now ≡ topped params.now (drop start nodes.now)) }
-    ensures start { IfOk result (λ top. IfSome top (λ t. (t.start ≡ start) × (start < length nodes.now))) }
-    ensures fits { is_ok result ≡ list_all fits (rest_numbers params.now (drop start nodes.now)) }
+/// What comes of items that are left, the first of which is a box or a rule, with the glue above them, where the numbers of both fit. With no item
+/// there is no glue, and the vbox is empty.
+fn top_of(left: &[Node], params: &SplitParams) -> Result<Top, SplitFault>
+    requires { length left.now ≤ most_nodes }
+    ensures glue { IfOk result (λ top. glued top.glue left.now ≡ topped params.now left.now) }
+    ensures shell { IfOk result (λ top. top.shell ≡ vbox_shell Target.Natural no_limit (topped params.now left.now)) }
+    ensures fits { is_ok result ≡ list_all fits (top_widths params.now left.now ++ vbox_numbers Target.Natural no_limit (topped params.now left.now)) }
     ensures fault { IfErr result (λ e. e ≡ SplitFault.DimensionTooLarge) }
 {
-    let rest = &nodes[start..];
-    match rest {
-        [] => Ok(None),
-        [first, ..] => match top_glue(first_height_of(first), params) {
+    let [first, ..] = left else {
+        return match vbox_shell(Target::Natural, Dimen::MAX, left) {
             None => Err(SplitFault::DimensionTooLarge),
-            Some(glue) => {
-                if vbox_fits_below(Dimen::MAX, &glue, rest) {
-                    Ok(Some(Top { start, glue }))
-                } else {
-                    Err(SplitFault::DimensionTooLarge)
-                }
-            }
-        },
+            Some(shell) => Ok(Top { glue: None, shell }),
+        };
+    };
+    let Some(glue) = top_glue(first_height_of(first), params) else {
+        return Err(SplitFault::DimensionTooLarge);
+    };
+    match vbox_below(Dimen::MAX, &glue, left) {
+        None => Err(SplitFault::DimensionTooLarge),
+        Some(shell) => Ok(Top {
+            glue: Some(glue),
+            shell,
+        }),
     }
+}
+
+/// What is left of a list after a place, where its numbers fit. Specials above the glue change nothing of its box.
+fn plan_rest(nodes: &[Node], place: usize, params: &SplitParams) -> Result<Option<Rest>, SplitFault>
+    requires short { length nodes.now ≤ most_nodes }
+    requires within { place ≤ length nodes.now }
+    requires dropped { is_some_before_break (slice_get nodes.now place) ≡ false }
+    ensures ok { IfOk result (λ rest. left_items rest nodes.now ≡ left_of params.now (drop place nodes.now)) }
+    ensures after { IfOk result (λ rest. IfSome rest (λ r. place < r.first)) }
+    ensures inside { IfOk result (λ rest. IfSome rest (λ r. IsInside r nodes.now)) }
+    ensures shell { IfOk result (λ rest. IfSome rest (λ r. r.shell ≡ vbox_shell Target.Natural no_limit (rest_list r nodes.now))) }
+    ensures fits { is_ok result ≡ list_all fits (rest_numbers params.now (drop place nodes.now)) }
+    ensures fault { IfErr result (λ e. e ≡ SplitFault.DimensionTooLarge) }
+{
+    let first = first_kept(nodes, place);
+    if first == nodes.len() {
+        return Ok(None);
+    }
+    let start = rest_start(nodes, first);
+    let top = top_of(&nodes[start..], params)?;
+    Ok(Some(Rest {
+        first,
+        start,
+        glue: top.glue,
+        shell: top.shell,
+    }))
 }
 
 /// How a list is split to that height. It is refused exactly as the split is, and takes no memory.
 pub fn plan_split(nodes: &[Node], height: Dimen, params: &SplitParams) -> Result<Plan, SplitFault>
     requires short { length nodes.now ≤ most_nodes }
     ensures place { IfOk result (λ p. p.place ≡ split_place params.now height nodes.now) }
-    ensures rest { IfOk result (λ p. top_items p.top nodes.now ≡ topped params.now (rest_items params.now height nodes.now)) }
-    ensures sound { IfOk result (λ p. IsSound params.now height nodes.now p) }
+    ensures rest { IfOk result (λ p. left_items p.rest nodes.now ≡ left_of params.now (items_after params.now height nodes.now)) }
+    ensures front { IfOk result (λ p. p.front ≡ vbox_shell (Target.To height) params.now.split_max_depth (take p.place nodes.now)) }
+    ensures shell { IfOk result (λ p. IfSome p.rest (λ r. r.shell ≡ vbox_shell Target.Natural no_limit (rest_list r nodes.now))) }
+    ensures sound { IfOk result (λ p. IsSound nodes.now p) }
     ensures ok { OnOk result (refusal params.now height nodes.now ≡ None) }
     ensures err { IfErr result (λ e. refusal params.now height nodes.now ≡ Some e) }
 {
@@ -112,11 +177,10 @@ pub fn plan_split(nodes: &[Node], height: Dimen, params: &SplitParams) -> Result
         return Err(SplitFault::InfiniteShrink);
     }
     let place = split_place(nodes, height, params);
-    if !vbox_fits(Target::To(height), params.split_max_depth, &nodes[..place]) {
+    let before = &nodes[..place];
+    let Some(front) = vbox_shell(Target::To(height), params.split_max_depth, before) else {
         return Err(SplitFault::DimensionTooLarge);
-    }
-    match top_from(nodes, rest_start(nodes, place), params) {
-        Err(fault) => Err(fault),
-        Ok(top) => Ok(Plan { place, top }),
-    }
+    };
+    let rest = plan_rest(nodes, place, params)?;
+    Ok(Plan { place, front, rest })
 }

@@ -4,7 +4,7 @@ ghost use Rattle.std.specs.Prelude.{◌≡◌, ◌≤◌, false, length, take};
 ghost use Rattle.std.specs.List.{slice_get};
 ghost use Rattle.std.specs.Option.{IfSome};
 ghost use Rattle.node_core.specs.Nodes.{most_nodes};
-ghost use Rattle.split_core.specs.Places.{ends_in_box_or_rule, is_box_or_rule, is_some_box_or_rule, place_penalty};
+ghost use Rattle.split_core.specs.Places.{ends_before_break, is_box_or_rule, is_some_before_break, place_penalty, precedes_break};
 ghost use Rattle.split_core.specs.Costs.{cost, is_last};
 ghost use Rattle.split_core.specs.Split.{trial_at, split_place};
 ghost use Rattle.split_core.specs.Steps.{cheaper, IsOpen};
@@ -21,7 +21,7 @@ const EJECT: i32 = -10_000;
 /// A place where a list may be split.
 #[derive(Clone, Copy, Debug, PartialEq, Eq)]
 pub struct Trial {
-    /// In front of which item it is; the number of items at the end.
+    /// Before which item it is; the number of items at the end.
     pub place: usize,
     pub penalty: i32,
     /// How badly the items before it fill the height.
@@ -46,7 +46,7 @@ impl Trial {
         100_000
     }
 
-    /// Whether no place behind this one is tried.
+    /// Whether no later place is tried.
     #[tactic(auto, unfolding(crate::specs::Costs::is_last))]
     fn is_last(&self) -> bool
         ensures { result ≡ is_last self.now }
@@ -62,12 +62,19 @@ pub fn is_box_or_rule(node: &Node) -> bool
     node.class().is_box_or_rule()
 }
 
-/// Whether the last item is a box or a rule.
-fn ends_in_box_or_rule(nodes: &[Node]) -> bool
-    ensures { result ≡ ends_in_box_or_rule nodes.now }
+/// Whether glue after an item is a place where a split is allowed. Such items stay at the top of a rest.
+pub fn precedes_break(node: &Node) -> bool
+    ensures { result ≡ precedes_break node.now }
+{
+    node.class().precedes_break(Kind::Vertical)
+}
+
+/// Whether the last item precedes a break.
+fn ends_before_break(nodes: &[Node]) -> bool
+    ensures { result ≡ ends_before_break nodes.now }
 {
     match nodes.last() {
-        Some(node) => is_box_or_rule(node),
+        Some(node) => precedes_break(node),
         None => false,
     }
 }
@@ -79,14 +86,14 @@ fn place_penalty(before: &[Node], after: &[Node]) -> Option<i32>
 {
     match after {
         [] => Some(EJECT),
-        [Node::Glue(_), ..] if ends_in_box_or_rule(before) => Some(0),
+        [Node::Glue(_), ..] if ends_before_break(before) => Some(0),
         [Node::Kern(_), Node::Glue(_), ..] => Some(0),
         [Node::Penalty(penalty), ..] if *penalty < 10_000 => Some(*penalty),
         _ => None,
     }
 }
 
-/// The trial of the place in front of item `place`, where a split is allowed there; the items before it have these totals.
+/// The trial of the place before item `place`, where a split is allowed there; the items before it have these totals.
 fn trial_at(
     nodes: &[Node],
     place: usize,
@@ -110,7 +117,7 @@ fn trial_at(
     }
 }
 
-/// Of the best trial so far and one behind it, that which is kept: the later one, unless the earlier one is cheaper.
+/// Of the best trial so far and a later one, that which is kept: the later one, unless the earlier one is cheaper.
 fn cheaper(best: Option<Trial>, trial: Trial) -> Trial
     ensures { result ≡ cheaper best trial }
 {
@@ -120,14 +127,14 @@ fn cheaper(best: Option<Trial>, trial: Trial) -> Trial
     }
 }
 
-/// The place where a vertical list is split to that height: in front of which item, or the number of items. One walk over the list; it takes
+/// The place where a vertical list is split to that height: before which item, or the number of items. One walk over the list; it takes
 /// no memory.
 pub fn split_place(nodes: &[Node], height: Dimen, params: &SplitParams) -> usize
     requires short { length nodes.now ≤ most_nodes }
     ensures value { result ≡ split_place params.now height nodes.now }
     ensures within { result ≤ length nodes.now }
-    // What stands behind the place is dropped.
-    ensures dropped { is_some_box_or_rule (slice_get nodes.now result) ≡ false }
+    // The item after the place, if there is one, is dropped.
+    ensures dropped { is_some_before_break (slice_get nodes.now result) ≡ false }
 {
     let mut totals = Totals::new(Kind::Vertical);
     let mut best = None;

@@ -1,45 +1,25 @@
 -- What the commands on characters answer and change, by what their characters come to.
-use Rattle.std.proofs.Common.{◌≡◌, ◌≢◌, ◌==◌, ◌∙◌, ℕ, Bool, true, false, List, [], ◌∷◌, ◌++◌, length, Option, Some, None, Result, Ok, Err, OnErr, refl, ap, arith, sym}
-use Rattle.std.proofs.lemmas.Bool.{eqb-true}
-use Rattle.command_core.specs.Reply.{Reply}
-use Rattle.node_core.specs.declared.tree.Node.{Node}
-use Rattle.tfm_core.specs.Fonts.{glyph_of, step_of}
-use Rattle.shape_core.specs.Shaping.{shaped_items, shaped_missing}
-use Rattle.shape_core.specs.Texts.{text_items, text_missing}
-use Rattle.shape_core.specs.Spaces.{space_glue}
-use Rattle.dvi_layout.specs.declared.fonts.LoadedFont.{LoadedFont}
-use Rattle.dvi_layout.specs.Fonts.{font_in}
-use Rattle.command_core.specs.declared.command.Command.{Command}
+use Rattle.std.proofs.Common.{◌≡◌, ◌∙◌, ◌++◌, ◌∷◌, ℕ, Bool, true, false, List, [], Option, Some, None, Result, Ok, Err, OnOk, OnErr, refl, ap, sym}
 use Rattle.command_core.specs.declared.command.Command.TheVariants.{Text, Character}
 use Rattle.command_core.specs.declared.command.Refusal.{Refusal}
 use Rattle.command_core.specs.declared.command.Refusal.TheVariants.{JobOver}
-use Rattle.nest_core.specs.FontSlots.{CharacterItems, text_shaped, character_shaped}
-use Rattle.nest_core.specs.State.{State}
-use Rattle.nest_core.specs.Checks.{character_checks, length_checks, shape_checks, first_of}
-use Rattle.nest_core.specs.Answers.{shaped_answer}
-use Rattle.nest_core.specs.Effects.{with_items}
-use Rattle.nest_core.specs.Machine.{reply_by, reply_to, state_by, state_after}
+use Rattle.dvi_layout.specs.declared.fonts.LoadedFont.{LoadedFont}
+use Rattle.dvi_layout.specs.Fonts.{font_in}
+use Rattle.nest_core.specs.declared.nest.OpenList.{OpenList}
+use Rattle.nest_core.specs.FontSlots.{CharacterItems, text_in, character_in, text_shaped, character_shaped}
+use Rattle.nest_core.specs.State.{State, innermost, open_count}
+use Rattle.nest_core.specs.Checks.{character_checks, room_checks, length_checks, shape_checks, first_of}
+use Rattle.nest_core.specs.Effects.{with_nodes, with_items}
+use Rattle.nest_core.specs.Machine.{state_by, state_after}
 
--- A text without characters comes to nothing.
-pub no_items : (slot : ℕ) (loaded : LoadedFont) (text : List ℕ) → (length text == 0) ≡ true
-    → [] ≡ text_items slot (glyph_of loaded.font) (step_of loaded.font) (space_glue loaded.font.space) text
-unfolding text_items
-no_items slot loaded [] empty = refl
-no_items slot loaded (c ∷ text) empty = absurd (omega (arith, eqb-true (length (c ∷ text)) 0 empty))
+module _ {A E P Q : Type 0} where
+  pub on_ok : (r : Result A E) → (P → Q) → OnOk r P → OnOk r Q
+  on_ok (Ok x) f p = f p
+  on_ok (Err e) f p = tt
 
-pub none_missing : (loaded : LoadedFont) (text : List ℕ) → (length text == 0) ≡ true → 0 ≡ text_missing (glyph_of loaded.font) (step_of loaded.font) text
-unfolding text_missing
-none_missing loaded [] empty = refl
-none_missing loaded (c ∷ text) empty = absurd (omega (arith, eqb-true (length (c ∷ text)) 0 empty))
-
--- So a text that comes to items has characters.
-pub some_text : {E : Type 0} (result : Result Reply E) (slot : ℕ) (loaded : LoadedFont) (text : List ℕ) (items : List Node)
-    → items ≡ text_items slot (glyph_of loaded.font) (step_of loaded.font) (space_glue loaded.font.space) text → OnErr result (items ≢ []) → OnErr result (text ≢ [])
-some_text (Ok reply) slot loaded text items are takes = tt
-some_text (Err e) slot loaded text items are takes =
-    λ none.
-    takes
-    (are ∙ (ap (text_items slot (glyph_of loaded.font) (step_of loaded.font) (space_glue loaded.font.space)) none ∙ sym (no_items slot loaded [] refl)))
+  pub on_err : (r : Result A E) → (P → Q) → OnErr r P → OnErr r Q
+  on_err (Ok x) f p = tt
+  on_err (Err e) f p = f p
 
 -- Where nothing speaks against any characters, only their number counts.
 none_before : (own more : List (Bool × Refusal)) → first_of own ≡ None → first_of (own ++ more) ≡ first_of more
@@ -51,35 +31,38 @@ by_number : (s : State) (shaped : CharacterItems) → s.over ≡ false → first
     → first_of (length_checks s shaped.items) ≡ first_of ((s.over, JobOver) ∷ shape_checks s shaped)
 by_number s shaped running free = rw running (sym (none_before (character_checks s) (length_checks s shaped.items) free))
 
--- The answer and the state of characters that come to these items are those of a command.
-pub record AnswersAs (s : State) (items : List Node) (missing : ℕ) (command : Command) : Type 0 where
-  pub reply : reply_by (first_of (length_checks s items)) (shaped_answer (record { items = items; missing = missing })) ≡ reply_to s command
-  pub state : state_by (first_of (length_checks s items)) s (with_items s items) ≡ state_after s command
+-- The state with the items that characters come to, where the innermost list has room for them.
+module _ (s : State) (shaped : CharacterItems) (running : s.over ≡ false) (free : first_of (character_checks s) ≡ None) where
+  shaped_state : (now : List OpenList) (found : CharacterItems) (count : ℕ) → found ≡ shaped → count ≡ open_count s
+      → now ≡ state_by (first_of (room_checks count found.items)) s.nest (with_nodes s.nest found.items (innermost s.nest))
+      → record s { nest = now } ≡ state_by (first_of ((s.over, JobOver) ∷ shape_checks s shaped)) s (with_items s shaped.items)
+  shaped_state now found count same many is =
+      ap (λ (nest : List OpenList). record s { nest = nest })
+      (is ∙ (ap (λ (x : CharacterItems). state_by (first_of (room_checks count x.items)) s.nest (with_nodes s.nest x.items (innermost s.nest))) same
+      ∙ ap (λ (n : ℕ). state_by (first_of (room_checks n shaped.items)) s.nest (with_nodes s.nest shaped.items (innermost s.nest))) many))
+      ∙ (by (first_of (length_checks s shaped.items)) ∙ ap (λ (o : Option Refusal). state_by o s (with_items s shaped.items)) (by_number s shaped running free))
+    where
+      by : (o : Option Refusal) → record s { nest = state_by o s.nest (with_nodes s.nest shaped.items (innermost s.nest)) } ≡ state_by o s (with_items s shaped.items)
+      by None = refl
+      by (Some r) = refl
 
+-- The same of a text, and of one character, in the current font.
 module _ (s : State) (slot : ℕ) (loaded : LoadedFont) (running : s.over ≡ false) (current : s.current ≡ Some slot) (font : font_in s.fonts slot ≡ Some loaded)
     (free : first_of (character_checks s) ≡ None) where
-  pub text_answers : (text : List ℕ) (items : List Node) (missing : ℕ) → items ≡ text_items slot (glyph_of loaded.font) (step_of loaded.font) (space_glue loaded.font.space) text
-      → missing ≡ text_missing (glyph_of loaded.font) (step_of loaded.font) text → AnswersAs s items missing (Text text)
-  text_answers text items missing are number =
-      let shaped : CharacterItems = record { items = items; missing = missing } in
-      let same : shaped ≡ text_shaped s.fonts s.current text = rw (current, font, are, number) refl in
-      let checked = by_number s (text_shaped s.fonts s.current text) running free in
-      record {
-        reply = ap (λ (x : CharacterItems). reply_by (first_of (length_checks s x.items)) (shaped_answer x)) same
-            ∙ ap (λ (o : Option Refusal). reply_by o (shaped_answer (text_shaped s.fonts s.current text))) checked;
-        state = ap (λ (x : CharacterItems). state_by (first_of (length_checks s x.items)) s (with_items s x.items)) same
-            ∙ ap (λ (o : Option Refusal). state_by o s (with_items s (text_shaped s.fonts s.current text).items)) checked;
-      }
+  text_same : (text : List ℕ) → text_in (Some loaded) slot text ≡ text_shaped s.fonts s.current text
+  text_same text = rw (current, font) refl
 
-  pub character_answers : (code : ℕ) (items : List Node) (missing : ℕ) → items ≡ shaped_items slot (glyph_of loaded.font) (step_of loaded.font) (code ∷ [])
-      → missing ≡ shaped_missing (glyph_of loaded.font) (step_of loaded.font) (code ∷ []) → AnswersAs s items missing (Character code)
-  character_answers code items missing are number =
-      let shaped : CharacterItems = record { items = items; missing = missing } in
-      let same : shaped ≡ character_shaped s.fonts s.current code = rw (current, font, are, number) refl in
-      let checked = by_number s (character_shaped s.fonts s.current code) running free in
-      record {
-        reply = ap (λ (x : CharacterItems). reply_by (first_of (length_checks s x.items)) (shaped_answer x)) same
-            ∙ ap (λ (o : Option Refusal). reply_by o (shaped_answer (character_shaped s.fonts s.current code))) checked;
-        state = ap (λ (x : CharacterItems). state_by (first_of (length_checks s x.items)) s (with_items s x.items)) same
-            ∙ ap (λ (o : Option Refusal). state_by o s (with_items s (character_shaped s.fonts s.current code).items)) checked;
-      }
+  character_same : (code : ℕ) → character_in (Some loaded) slot code ≡ character_shaped s.fonts s.current code
+  character_same code = rw (current, font) refl
+
+  pub text_state : (now : List OpenList) (text codes : List ℕ) (count : ℕ) → codes ≡ text → count ≡ open_count s
+      → now ≡ state_by (first_of (room_checks count (text_in (Some loaded) slot codes).items)) s.nest (with_nodes s.nest (text_in (Some loaded) slot codes).items (innermost s.nest))
+      → record s { nest = now } ≡ state_after s (Text text)
+  text_state now text codes count are many is =
+      shaped_state s (text_shaped s.fonts s.current text) running free now (text_in (Some loaded) slot codes) count (ap (text_in (Some loaded) slot) are ∙ text_same text) many is
+
+  pub character_state : (now : List OpenList) (code : ℕ) (count : ℕ) → count ≡ open_count s
+      → now ≡ state_by (first_of (room_checks count (character_in (Some loaded) slot code).items)) s.nest (with_nodes s.nest (character_in (Some loaded) slot code).items (innermost s.nest))
+      → record s { nest = now } ≡ state_after s (Character code)
+  character_state now code count many is =
+      shaped_state s (character_shaped s.fonts s.current code) running free now (character_in (Some loaded) slot code) count (character_same code) many is

@@ -26,7 +26,7 @@ use Rattle.pack_core.specs.declared.pack.TooLarge.{TooLarge}
 use Rattle.nest_core.specs.declared.nest.OpenList.{OpenList}
 use Rattle.dvi_layout.specs.declared.fonts.LoadedFont.{LoadedFont}
 use Rattle.command_core.specs.declared.command.Command.{Command}
-use Rattle.command_core.specs.declared.command.Command.TheVariants.{LoadFont, UseFont, Open, Paragraph, End, Text, Character, Rule, Kern, Glue, Penalty, Append, Unbox, LastBox, Split, Measure, Void, Set, Count, Ship}
+use Rattle.command_core.specs.declared.command.Command.TheVariants.{LoadFont, UseFont, Open, Paragraph, End, Text, Character, Rule, Kern, Glue, Penalty, Append, Unbox, LastBox, Split, Measure, Void, Set, Count, Special, Ship}
 use Rattle.command_core.specs.declared.command.FontLoad.{FontLoad}
 use Rattle.command_core.specs.declared.command.Refusal.{Refusal}
 use Rattle.command_core.specs.declared.command.Refusal.TheVariants.{SlotTaken, NoOpenList, TooDeep, ListTooLong, JobOver}
@@ -47,7 +47,7 @@ use Rattle.nest_core.specs.declared.nest.ListPurpose.TheVariants as purposes
 use Rattle.command_core.specs.declared.command.Splitting.{Splitting}
 use Rattle.command_core.specs.declared.command.Taking.{Taking}
 use Rattle.command_core.specs.declared.command.Taking.TheVariants.{Moved, Copied}
-use Rattle.command_core.specs.declared.limits.TheConstants.{REGISTERS, MOST_DEEP, MOST_ITEMS}
+use Rattle.node_core.specs.declared.limits.TheConstants.{REGISTERS, MAX_DEPTH, MAX_ITEMS}
 use Rattle.nest_core.specs.State.{State, first_state, innermost, outer, items_in, held_in, font_for}
 use Rattle.nest_core.specs.OpenLists.{glue_in, box_items, if_packed, packed_by}
 use Rattle.nest_core.specs.Checks.{home_checks, packed_checks, purpose_checks, close_checks, checks, first_of, refusal_in}
@@ -73,8 +73,8 @@ second_fails true second r t rest may = cc
 second_fails false true r t rest may = cc
 second_fails false false r t rest may = refl
 
-not_deeper : (depth : ℕ) → nat_lt MOST_DEEP depth ≡ false → depth ≤ MOST_DEEP
-not_deeper depth is = ltb-false MOST_DEEP depth is
+not_deeper : (depth : ℕ) → nat_lt MAX_DEPTH depth ≡ false → depth ≤ MAX_DEPTH
+not_deeper depth is = ltb-false MAX_DEPTH depth is
 
 none_by : {A : Type 0} (o : Option A) → is_some o ≡ false → o ≡ None
 none_by None h = refl
@@ -110,6 +110,7 @@ stays_loaded s (Measure r) may slot loaded is = is
 stays_loaded s (Void r) may slot loaded is = is
 stays_loaded s (Set parameter) may slot loaded is = is
 stays_loaded s (Count counting) may slot loaded is = is
+stays_loaded s (Special text) may slot loaded is = is
 stays_loaded s (Ship r) may slot loaded is = is
 
 -- What is sized stays so where each slot that has a font keeps it.
@@ -130,6 +131,7 @@ leaf_kept old new keeps (leaves.kern width) is = tt
 leaf_kept old new keeps (leaves.glue g) is = tt
 leaf_kept old new keeps (leaves.penalty p) is = tt
 leaf_kept old new keeps (leaves.rule sizes) is = tt
+leaf_kept old new keeps (leaves.special text) is = tt
 
 box_kept : (old new : Slots) → ((slot : ℕ) (loaded : LoadedFont) → font_in old slot ≡ Some loaded → font_in new slot ≡ Some loaded)
     → (b : BoxNode) → IsSoundBox old b → IsSoundBox new b
@@ -143,6 +145,7 @@ node_kept old new keeps (nodes.Kern width) is = tt
 node_kept old new keeps (nodes.Glue g) is = tt
 node_kept old new keeps (nodes.Penalty p) is = tt
 node_kept old new keeps (nodes.Rule sizes) is = tt
+node_kept old new keeps (nodes.Special text) is = tt
 node_kept old new keeps (nodes.Box shift b) is = box_kept old new keeps b is
 
 pub stays_sized : (s : State) (command : Command) → first_of (checks s command) ≡ None → (b : BoxNode) → IsSoundBox s.fonts b → IsSoundBox (after s command).fonts b
@@ -156,6 +159,7 @@ leaf_sized fonts (leaves.kern width) is = tt
 leaf_sized fonts (leaves.glue g) is = tt
 leaf_sized fonts (leaves.penalty p) is = tt
 leaf_sized fonts (leaves.rule sizes) is = tt
+leaf_sized fonts (leaves.special text) is = tt
 
 sized_leaf : (fonts : Slots) (x : Leaf) → IsSizedLeaf fonts x → IsSized fonts (node_of x)
 sized_leaf fonts (leaves.glyph g) is = is
@@ -164,13 +168,14 @@ sized_leaf fonts (leaves.kern width) is = tt
 sized_leaf fonts (leaves.glue g) is = tt
 sized_leaf fonts (leaves.penalty p) is = tt
 sized_leaf fonts (leaves.rule sizes) is = tt
+sized_leaf fonts (leaves.special text) is = tt
 
 sized_leaves : (fonts : Slots) (items : Items) → AreSized fonts (nodes_of items) → EachLeaf (IsSizedLeaf fonts) items
 sized_leaves fonts leaves.none all = tt
 sized_leaves fonts (leaves.leaf x rest) all = (leaf_sized fonts x all.0, sized_leaves fonts rest all.1)
 sized_leaves fonts (leaves.box shift frame inner rest) all = (all.0.glyphs, sized_leaves fonts rest all.1)
 
-sized_nodes : (fonts : Slots) (items : Items) → EachLeaf (IsSizedLeaf fonts) items → items_depth items ≤ MOST_DEEP → AreSized fonts (nodes_of items)
+sized_nodes : (fonts : Slots) (items : Items) → EachLeaf (IsSizedLeaf fonts) items → items_depth items ≤ MAX_DEPTH → AreSized fonts (nodes_of items)
 sized_nodes fonts leaves.none all shallow = tt
 sized_nodes fonts (leaves.leaf x rest) all shallow = (sized_leaf fonts x all.0, sized_nodes fonts rest all.1 shallow)
 sized_nodes fonts (leaves.box shift frame inner rest) all shallow =
@@ -184,6 +189,7 @@ glyph_sized fonts slot loaded at (nodes.Kern width) is = tt
 glyph_sized fonts slot loaded at (nodes.Glue g) is = tt
 glyph_sized fonts slot loaded at (nodes.Penalty penalty) is = tt
 glyph_sized fonts slot loaded at (nodes.Rule rule) is = tt
+glyph_sized fonts slot loaded at (nodes.Special text) is = absurd is
 glyph_sized fonts slot loaded at (nodes.Box shift b) is = absurd is
 
 text_sized : (fonts : Slots) (slot : ℕ) (held : Option LoadedFont) (text : List ℕ) → font_in fonts slot ≡ held → AreSized fonts (text_in held slot text).items
@@ -271,6 +277,7 @@ box_in_sized fonts (nodes.Kern width) is = tt
 box_in_sized fonts (nodes.Glue g) is = tt
 box_in_sized fonts (nodes.Penalty p) is = tt
 box_in_sized fonts (nodes.Rule sizes) is = tt
+box_in_sized fonts (nodes.Special text) is = tt
 box_in_sized fonts (nodes.Box shift b) is = is
 
 last_sized : (fonts : Slots) (xs : List Node) → AreSized fonts xs → IsSizedHeld fonts (last_box xs)
@@ -330,7 +337,7 @@ packed_sized s l into (Err large) own may sized list = sized
 packed_sized s l into (Ok q) own may sized list =
     let glyphs = subst (EachLeaf (IsSizedLeaf s.fonts)) (own q refl) (sized_leaves s.fonts l.list list) in
     let shallow =
-    second_fails s.over (nat_lt MOST_DEEP (box_depth q.box_node)) JobOver TooDeep (home_checks s.params (outer s.nest) into q.box_node) may in
+    second_fails s.over (nat_lt MAX_DEPTH (box_depth q.box_node)) JobOver TooDeep (home_checks s.params (outer s.nest) into q.box_node) may in
     home_sized s into q.box_node sized (record { glyphs = glyphs; depth = not_deeper (box_depth q.box_node) shallow })
 
 -- The lines of a paragraph.
@@ -348,7 +355,7 @@ lines_sized fonts around None result over nowhere count is glyphs may all = all
 lines_sized fonts around (Some l) (Err fault) over nowhere count is glyphs may all = all
 lines_sized fonts around (Some l) (Ok set) over nowhere count is glyphs may all =
     let shallow =
-    third_fails over nowhere (nat_lt MOST_DEEP (items_depth set.items)) JobOver NoOpenList TooDeep ((nat_lt MOST_ITEMS (count + length (nodes_of set.items)), ListTooLong) ∷ []) may in
+    third_fails over nowhere (nat_lt MAX_DEPTH (items_depth set.items)) JobOver NoOpenList TooDeep ((nat_lt MAX_ITEMS (count + length (nodes_of set.items)), ListTooLong) ∷ []) may in
     let here = sized_nodes fonts set.items (glyphs set refl) (not_deeper (items_depth set.items) shallow) in
     each_set (IsSizedList fonts) around (length around - 1) _ all
     (nodes_sized fonts (nodes_of l.list) (nodes_of set.items) (each_at (IsSizedList fonts) around (length around - 1) l all is) here)
@@ -423,4 +430,5 @@ sized_after s (Measure r) may sized = sized
 sized_after s (Void r) may sized = record { nest = sized.nest; registers = each_set (IsSizedHeld s.fonts) s.registers r None sized.registers tt }
 sized_after s (Set parameter) may sized = record { nest = sized.nest; registers = sized.registers }
 sized_after s (Count counting) may sized = record { nest = sized.nest; registers = sized.registers }
+sized_after s (Special text) may sized = items_sized s (nodes.Special text ∷ []) (tt, tt) sized
 sized_after s (Ship r) may sized = record { nest = sized.nest; registers = each_set (IsSizedHeld s.fonts) s.registers r None sized.registers tt }

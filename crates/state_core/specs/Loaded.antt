@@ -8,7 +8,7 @@ use Rattle.command_core.specs.declared.command.FontLoad.{FontLoad}
 use Rattle.command_core.specs.declared.command.Command.{Command}
 use Rattle.command_core.specs.declared.command.Command.TheVariants.{LoadFont}
 use Rattle.dvi_layout.specs.Fonts.{Slots}
-use Rattle.dvi_layout.specs.declared.fonts.TheConstants.{FONT_SLOTS}
+use Rattle.node_core.specs.declared.limits.TheConstants.{FONT_SLOTS}
 use Rattle.nest_core.specs.FontSlots.{font_of}
 use Rattle.nest_core.specs.State.{State, font_for}
 

@@ -3,14 +3,14 @@ use Rattle.std.specs.Prelude.{◌≡◌, ◌≤◌, List, Option, Some, None}
 use Rattle.std.specs.List.{AllByRecursion}
 use Rattle.node_core.specs.declared.tree.Glyph as glyphs
 use Rattle.node_core.specs.declared.tree.Node.{Node}
-use Rattle.node_core.specs.declared.tree.Node.TheVariants.{Glyph, FontKern, Kern, Glue, Penalty, Rule, Box}
+use Rattle.node_core.specs.declared.tree.Node.TheVariants.{Glyph, FontKern, Kern, Glue, Penalty, Rule, Special, Box}
 use Rattle.node_core.specs.declared.tree.BoxNode.{BoxNode}
 use Rattle.node_core.specs.Items.{Leaf, IfGlyph, EachLeaf}
 use Rattle.node_core.specs.Nodes.{nodes_of, box_depth}
 use Rattle.nest_core.specs.declared.nest.OpenList.{OpenList}
 use Rattle.dvi_layout.specs.Fonts.{Slots, font_in}
 use Rattle.nest_core.specs.FontSlots.{glyph_by}
-use Rattle.command_core.specs.declared.limits.TheConstants.{MOST_DEEP}
+use Rattle.node_core.specs.declared.limits.TheConstants.{MAX_DEPTH}
 use Rattle.nest_core.specs.State.{State}
 
 -- A glyph has the sizes of its character in the font of its slot.
@@ -21,10 +21,10 @@ HasSizes fonts g = glyph_by (font_in fonts g.slot) g.code ≡ Some (record { wid
 abbrev pub IsSizedLeaf : Slots → Leaf → Type 0
 IsSizedLeaf fonts x = IfGlyph (HasSizes fonts) x
 
--- The glyphs of a box have the sizes that their fonts give, in its inner boxes too, and it is at most `MOST_DEEP` deep.
+-- The glyphs of a box have the sizes that their fonts give, in its inner boxes too, and it is at most `MAX_DEPTH` deep.
 pub record IsSoundBox (fonts : Slots) (b : BoxNode) : Type 0 where
   pub glyphs : EachLeaf (IsSizedLeaf fonts) b.list
-  pub depth : box_depth b ≤ MOST_DEEP
+  pub depth : box_depth b ≤ MAX_DEPTH
 
 -- A glyph among the items of a list has the sizes that its font gives, and a box among them is sound: `IsSoundBox`.
 abbrev pub IsSized : Slots → Node → Type 0
@@ -34,6 +34,7 @@ IsSized fonts (Kern width) = Unit {0}
 IsSized fonts (Glue g) = Unit {0}
 IsSized fonts (Penalty p) = Unit {0}
 IsSized fonts (Rule sizes) = Unit {0}
+IsSized fonts (Special text) = Unit {0}
 IsSized fonts (Box shift b) = IsSoundBox fonts b
 
 -- Each glyph among these items has the sizes that its font gives, and each box among them is sound.

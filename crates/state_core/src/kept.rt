@@ -15,11 +15,7 @@ ghost use Rattle.nest_core.specs.Answers.{sizes_of, shaped_answer};
 ghost use Rattle.nest_core.specs.Effects.{with_items, with_used, with_unboxed, with_home};
 ghost use Rattle.nest_core.specs.Machine.{reply_by, reply_to, state_by, state_after};
 ghost use Rattle.nest_core.specs.Runs.{early_checks, LeavesRest};
-ghost use Rattle.shape_core.specs.Texts.{text_items, text_missing};
-ghost use Rattle.shape_core.specs.Spaces.{space_glue};
-ghost use Rattle.tfm_core.specs.Fonts.{glyph_of, step_of};
 
-use command_core::limits::{COUNTS, MOST_DEEP, MOST_ITEMS, MOST_OPEN};
 use command_core::{
     Answer, BoxUse, Characters, Counting, FontLoad, Opening, Parameter, Refusal, Register, Reply,
     Splitting, Taking, Unboxing,
@@ -27,11 +23,12 @@ use command_core::{
 use dvi_layout::{Fonts, LoadedFont, Offsets};
 use nest_core::fonts::read_font;
 use nest_core::nest::{ListPurpose, Nest};
-use node_core::{BoxNode, Kind, Node, Params, Rule, RuleSize};
+use nest_core::texts::{append_character, append_text};
+use node_core::limits::{COUNTS, MAX_DEPTH, MAX_ITEMS, MAX_OPEN_LISTS, MAX_SPECIAL_TEXT};
+use node_core::{BoxNode, Kind, Node, NodeList, Params, Rule, RuleSize, SpecialText};
 use pack_core::Packed;
 use register_core::registers::{Registers, sizes_of};
 use scaled_core::Dimen;
-use shape_core::{Missing, shape_character, shape_text};
 use std::alloc::{AllocError, Global};
 use std::marker::Model;
 use tfm_core::{FontFile, file_named};
@@ -68,25 +65,6 @@ fn copies(alloc: Global, files: &[FontFile]) -> Result<Vec<FontFile>, AllocError
         copies.push(file.copy(alloc)?)?;
     }
     Ok(copies)
-}
-
-/// What a text comes to in the font of a slot: its items, and how many of its characters are missing. Only characters take memory.
-fn text_items(
-    alloc: Global,
-    loaded: &LoadedFont,
-    slot: u8,
-    text: &[u8],
-) -> Result<(Vec<Node>, Missing), AllocError>
-    ensures items { IfOk result (λ shaped. shaped.0.items ≡ text_items slot (glyph_of loaded.now.font) (step_of loaded.now.font) (space_glue loaded.now.font.space) text.now) }
-    ensures missing { IfOk result (λ shaped. shaped.1.characters ≡ text_missing (glyph_of loaded.now.font) (step_of loaded.now.font) text.now) }
-    ensures takes { OnErr result (text.now ≢ []) }
-{
-    let mut items = Vec::new(alloc);
-    if text.is_empty() {
-        return Ok((items, Missing { characters: 0 }));
-    }
-    let missing = shape_text(&loaded.font, slot, text, &mut items)?;
-    Ok((items, missing))
 }
 
 impl Kept {
@@ -158,25 +136,6 @@ impl Kept {
         Ok(Answer::Done)
     }
 
-    /// Appends the items that characters come to, where the innermost list has room for them; only then, and only for items, memory is wanted.
-    fn append_shaped(&mut self, items: Vec<Node>, missing: Missing) -> Result<Reply, AllocError>
-        ensures reply { IfOk result (λ reply. reply ≡ reply_by (first_of (length_checks (unshipped self.old) items.items)) (shaped_answer (record { items = items.items; missing = missing.characters }))) }
-        ensures state { OnOk result (unshipped self.new ≡ state_by (first_of (length_checks (unshipped self.old) items.items)) (unshipped self.old) (with_items (unshipped self.old) items.items)) }
-        ensures err { OnErr result (self.new ≡ self.old) }
-        ensures fits { OnErr result (first_of (length_checks (unshipped self.old) items.items) ≡ None) }
-        ensures takes { OnErr result (items.items ≢ []) }
-    {
-        if self.nest.item_count().saturating_add(items.len()) > MOST_ITEMS {
-            return Ok(Err(Refusal::ListTooLong));
-        }
-        let count = items.len();
-        self.nest.extend(items)?;
-        Ok(Ok(Answer::Shaped {
-            items: count,
-            missing: missing.characters,
-        }))
-    }
-
     /// The current font and its slot, where characters may be appended; or why they may not.
     fn font_for_characters(&self) -> Result<(u8, &LoadedFont), Refusal>
         ensures slot { IfOk result (λ font. self.now.current ≡ Some font.0) }
@@ -207,12 +166,17 @@ impl Kept {
         ensures early { OnErr result (first_of (early_checks (unshipped self.old) (commands.Text text.now)) ≡ None) }
         ensures takes { OnErr result (text.now ≢ []) }
     {
-        let (slot, loaded) = match self.font_for_characters() {
-            Ok(font) => font,
+        let slot = match self.font_for_characters() {
+            Ok((slot, _)) => slot,
             Err(refusal) => return Ok(Err(refusal)),
         };
-        let (items, missing) = text_items(*self.files.allocator(), loaded, slot, text.codes())?;
-        self.append_shaped(items, missing)
+        let mut items = self.nest.take_items();
+        let Some(loaded) = self.fonts.get(slot) else {
+            unreachable!()
+        };
+        let reply = append_text(loaded, slot, text.codes(), &mut items);
+        self.nest.refill(NodeList::from_vec(items));
+        reply
     }
 
     /// Appends a character of the current font.
@@ -222,13 +186,17 @@ impl Kept {
         ensures err { OnErr result (self.new ≡ self.old) }
         ensures early { OnErr result (first_of (early_checks (unshipped self.old) (commands.Character code)) ≡ None) }
     {
-        let (slot, loaded) = match self.font_for_characters() {
-            Ok(font) => font,
+        let slot = match self.font_for_characters() {
+            Ok((slot, _)) => slot,
             Err(refusal) => return Ok(Err(refusal)),
         };
-        let mut items = Vec::new(*self.files.allocator());
-        let missing = shape_character(&loaded.font, slot, code, &mut items)?;
-        self.append_shaped(items, missing)
+        let mut items = self.nest.take_items();
+        let Some(loaded) = self.fonts.get(slot) else {
+            unreachable!()
+        };
+        let reply = append_character(loaded, slot, code, &mut items);
+        self.nest.refill(NodeList::from_vec(items));
+        reply
     }
 
     /// Opens a list.
@@ -242,7 +210,7 @@ impl Kept {
         if opening.into.is_none() && count == 0 {
             return Ok(Err(Refusal::NoOpenList));
         }
-        if count >= MOST_OPEN {
+        if count >= MAX_OPEN_LISTS {
             return Ok(Err(Refusal::TooDeep));
         }
         self.nest.begin(ListPurpose::Box(opening))?;
@@ -269,7 +237,7 @@ impl Kept {
         let Some(innermost) = self.nest.innermost() else {
             return Ok(Err(Refusal::NoOpenList));
         };
-        if innermost.list.len() >= MOST_ITEMS {
+        if innermost.list.len() >= MAX_ITEMS {
             return Ok(Err(Refusal::ListTooLong));
         }
         self.nest.append(item)?;
@@ -289,10 +257,33 @@ impl Kept {
         if is_misplaced(innermost.purpose.kind(), &rule) {
             return Ok(Err(Refusal::WrongMode));
         }
-        if innermost.list.len() >= MOST_ITEMS {
+        if innermost.list.len() >= MAX_ITEMS {
             return Ok(Err(Refusal::ListTooLong));
         }
         self.nest.append_rule(rule)?;
+        Ok(Ok(Answer::Done))
+    }
+
+    /// Appends a special. Its text is copied only where nothing refuses it.
+    pub fn append_special(&mut self, text: &Characters) -> Result<Reply, AllocError>
+        ensures reply { IfOk result (λ reply. reply ≡ reply_to (unshipped self.old) (commands.Special text.now)) }
+        ensures state { OnOk result (unshipped self.new ≡ state_after (unshipped self.old) (commands.Special text.now)) }
+        ensures err { OnErr result (self.new ≡ self.old) }
+        ensures admitted { OnErr result (first_of (checks (unshipped self.old) (commands.Special text.now)) ≡ None) }
+    {
+        let Some(innermost) = self.nest.innermost() else {
+            return Ok(Err(Refusal::NoOpenList));
+        };
+        let bytes = text.codes();
+        if bytes.len() > MAX_SPECIAL_TEXT {
+            return Ok(Err(Refusal::TooMuchSpecial));
+        }
+        if innermost.list.len() >= MAX_ITEMS {
+            return Ok(Err(Refusal::ListTooLong));
+        }
+        let copy = bytes.to_vec(*self.files.allocator())?;
+        let special = Node::Special(SpecialText::from_vec(copy));
+        self.nest.append(special)?;
         Ok(Ok(Answer::Done))
     }
 
@@ -381,7 +372,7 @@ impl Kept {
 
     /// Moves the items of the box of a register to the end of the innermost list, where they have room.
     fn move_items(&mut self, register: Register) -> Result<(), AllocError>
-        requires { length (nodes_of (items_in (innermost self.old.nest))) + length (nodes_in (held_in self.old.registers register)) ≤ MOST_ITEMS }
+        requires { length (nodes_of (items_in (innermost self.old.nest))) + length (nodes_in (held_in self.old.registers register)) ≤ MAX_ITEMS }
         ensures ok { OnOk result (unshipped self.new ≡ with_unboxed (unshipped self.old) Taking.Moved register (held_in self.old.registers register)) }
         ensures err { OnErr result (self.new ≡ self.old) }
         ensures takes { OnErr result (nodes_in (held_in self.old.registers register) ≢ []) }
@@ -400,7 +391,7 @@ impl Kept {
 
     /// Puts copies of the items of the box of a register at the end of the innermost list, where they have room.
     fn copy_items(&mut self, register: Register) -> Result<(), AllocError>
-        requires { length (nodes_of (items_in (innermost self.old.nest))) + length (nodes_in (held_in self.old.registers register)) ≤ MOST_ITEMS }
+        requires { length (nodes_of (items_in (innermost self.old.nest))) + length (nodes_in (held_in self.old.registers register)) ≤ MAX_ITEMS }
         ensures ok { OnOk result (unshipped self.new ≡ with_unboxed (unshipped self.old) Taking.Copied register (held_in self.old.registers register)) }
         ensures err { OnErr result (self.new ≡ self.old) }
         ensures takes { OnErr result (nodes_in (held_in self.old.registers register) ≢ []) }
@@ -471,7 +462,7 @@ impl Kept {
     fn refusal_of(&self, into: &Option<Register>, box_node: &BoxNode) -> Option<Refusal>
         ensures { result ≡ first_of (place_checks self.now.params (outer self.now.nest) into.now box_node.now) }
     {
-        if box_node.depth() > MOST_DEEP {
+        if box_node.depth() > MAX_DEPTH {
             return Some(Refusal::TooDeep);
         }
         if into.is_some() {
@@ -491,7 +482,7 @@ impl Kept {
         box_node: BoxNode,
     ) -> Result<(), AllocError>
         requires free { first_of (home_checks self.old.params (outer self.old.nest) into box_node) ≡ None }
-        requires short { length (nodes_of box_node.list) ≤ MOST_ITEMS }
+        requires short { length (nodes_of box_node.list) ≤ MAX_ITEMS }
         ensures ok { OnOk result (unshipped self.new ≡ with_home (unshipped self.old) (outer self.old.nest) into box_node) }
         ensures err { OnErr result (self.new ≡ record self.old { nest = refilled_nest self.old.nest box_node.list (innermost self.old.nest) }) }
         ensures takes { OnErr result (into ≡ None) }

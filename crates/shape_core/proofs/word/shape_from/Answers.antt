@@ -1,13 +1,28 @@
-use Rattle.std.proofs.Common.{rules, arith, ◌≡◌}
-use Rattle.shape_core.proofs.ShapingLemmas.{turns, turn-items, turn-missing}
+use Rattle.std.proofs.Common.{◌∙◌, ap, sym, arith}
+use Rattle.shape_core.proofs.ShapingLemmas.{turn-items, turn-missing, last-outcome, end-items, end-missing}
 use Rattle.scaled_core.proofs.Appending.{front_kept}
 use Rattle.shape_core.proofs.word.shape_from.Goals as goal
 
 -- src/word.rt:150:5
 pub loop-following-preserved : goal.loop-following-preserved
 loop-following-preserved g c = (
-  turn-items c.args.slot (g.M.Metrics.sizes c.args.metrics.now) (g.M.Metrics.steps c.args.metrics.now) c.loop-following.code c.args.word.now c.loop-following.following-index _ _ _ _ _ c.loop-following-test.true c.loop-following.invariant.0 c.outcome_at-outcome.ensures c.in_ok-append.ensures.ok c.next-code.ensures,
-  turn-missing (g.M.Metrics.sizes c.args.metrics.now) (g.M.Metrics.steps c.args.metrics.now) c.loop-following.code c.args.word.now c.loop-following.following-index _ _ _ _ _ c.loop-following-test.true c.loop-following.invariant.1 c.outcome_at-outcome.ensures c.missing-characters.ensures.value c.next-code.ensures,
+  turn-items c.args.slot (g.M.Metrics.sizes c.args.metrics.now) (g.M.Metrics.steps c.args.metrics.now) c.loop-following.code c.args.word.now c.loop-following.following-index _ _ _ _ _ c.loop-following-test.true c.loop-following.invariant.0 c.outcome_before-outcome.ensures c.in_ok-append.ensures.ok c.next-code.ensures,
+  turn-missing (g.M.Metrics.sizes c.args.metrics.now) (g.M.Metrics.steps c.args.metrics.now) c.loop-following.code c.args.word.now c.loop-following.following-index _ _ _ _ _ c.loop-following-test.true c.loop-following.invariant.1 c.outcome_before-outcome.ensures c.missing-characters.ensures.value c.next-code.ensures,
   front_kept _ _ _ _ c.loop-following.invariant.2 c.in_ok-append.ensures.ok,
   omega (arith, c.loop-following.invariant.3, c.missing-characters.ensures.small),
+  c.next_size-size.ensures _ c.glyph-ahead.ensures ∙ ap (g.M.Metrics.sizes c.args.metrics.now) (sym c.next-code.ensures),
 )
+
+pub returns-clause-ok : goal.returns-clause-ok
+returns-clause-ok g c =
+    let sizes = g.M.Metrics.sizes c.args.metrics.now in
+    let steps = g.M.Metrics.steps c.args.metrics.now in
+    end-items c.args.slot sizes steps c.loop-following.code c.args.word.now c.loop-following.following-index _ _ _ _ (omega (arith, c.loop-following-test.false)) c.loop-following.invariant.0
+    (last-outcome sizes steps c.loop-following.code c.loop-following.size _ c.loop-following.invariant.4 c.last_outcome-outcome.ensures) c.in_ok-append-2.ensures.ok
+
+pub returns-clause-number : goal.returns-clause-number
+returns-clause-number g c =
+    let sizes = g.M.Metrics.sizes c.args.metrics.now in
+    let steps = g.M.Metrics.steps c.args.metrics.now in
+    end-missing sizes steps c.loop-following.code c.args.word.now c.loop-following.following-index _ _ _ _ (omega (arith, c.loop-following-test.false)) c.loop-following.invariant.1
+    (last-outcome sizes steps c.loop-following.code c.loop-following.size _ c.loop-following.invariant.4 c.last_outcome-outcome.ensures) c.missing.ensures.value

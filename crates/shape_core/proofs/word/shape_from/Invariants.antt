@@ -2,10 +2,11 @@ use Rattle.std.proofs.Common.{◌≡◌, ◌+◌, ◌++◌, ◌≤◌, drop, len
 use Rattle.shape_core.specs.Shaping.{items_from, missing_from}
 use Rattle.shape_core.proofs.word.shape_from.Given as goal
 
--- what is appended and what is left make the items; none is missing that was not passed; what was there stands in front
+-- what is appended and what is left make the items; none is missing that was not passed; what was there stands in front; the sizes are those of the character
 abbrev pub invariant-loop-following : goal.invariant-loop-following
 invariant-loop-following g l =
     (l.initial.nodes.items ++ items_from l.slot (g.M.Metrics.sizes l.metrics) (g.M.Metrics.steps l.metrics) l.initial.code l.word ≡ l.nodes.items ++ items_from l.slot (g.M.Metrics.sizes l.metrics) (g.M.Metrics.steps l.metrics) l.code (drop l.following-index l.word))
     × (missing_from (g.M.Metrics.sizes l.metrics) (g.M.Metrics.steps l.metrics) l.initial.code l.word ≡ l.characters + missing_from (g.M.Metrics.sizes l.metrics) (g.M.Metrics.steps l.metrics) l.code (drop l.following-index l.word))
     × (take (length l.initial.nodes.items) l.nodes.items ≡ l.initial.nodes.items)
     × (l.characters ≤ l.following-index)
+    × (l.size ≡ g.M.Metrics.sizes l.metrics l.code)

@@ -10,4 +10,4 @@ use Rattle.split_core.proofs.laws.infinite_shrink_refuses.Goals as goal
 
 pub returns : goal.returns
 unfolding split_place place_penalty front_badness badness_to stretching_badness shrinking_badness cost is_last front_of rest_of refusal split_numbers vbox setting_of setting_badness highest badness_of badness_ratio ratio_badness nearest
-returns c = record { behind = refl; no_total = refl; none = refl }
+returns c = record { after = refl; no_total = refl; none = refl }

@@ -5,5 +5,5 @@ use Rattle.split_core.proofs.plan.rest_start.Given as goal
 abbrev pub invariant-loop-start : goal.invariant-loop-start
 invariant-loop-start l = record {
   rest : from_box_or_rule (drop l.start l.nodes) ≡ from_box_or_rule (drop l.place l.nodes);
-  behind : l.place ≤ l.start;
+  after : l.place ≤ l.start;
 }

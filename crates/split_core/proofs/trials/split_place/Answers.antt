@@ -2,7 +2,7 @@ use Rattle.std.proofs.Common.{◌≡◌, ◌∙◌, ◌+◌, length, take, ap, a
 use Rattle.std.specs.Prelude.{List}
 use Rattle.std.specs.List.{slice_get}
 use Rattle.std.proofs.lemmas.List.{length-take, take_all}
-use Rattle.split_core.specs.Places.{is_some_box_or_rule}
+use Rattle.split_core.specs.Places.{is_some_before_break}
 use Rattle.split_core.proofs.Openings.{open-end}
 use Rattle.split_core.specs.declared.trials.Trial.{Trial}
 use Rattle.split_core.specs.Split.{up_to_last, last_cheapest}
@@ -76,4 +76,4 @@ returns-clause-value c =
 pub returns-clause-dropped : goal.returns-clause-dropped
 returns-clause-dropped c =
     let end = kept-open c.args.nodes.now c.loop-place.best _ c.loop-place.invariant.kept (open-end c.args.nodes.now) in
-    ap (λ (t : Trial). is_some_box_or_rule (slice_get c.args.nodes.now t.place)) c.cheaper.ensures ∙ end.dropped
+    ap (λ (t : Trial). is_some_before_break (slice_get c.args.nodes.now t.place)) c.cheaper.ensures ∙ end.dropped

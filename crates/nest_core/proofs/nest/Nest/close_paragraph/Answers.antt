@@ -1,5 +1,5 @@
 use Rattle.std.proofs.Common.{◌≤◌, ◌+◌, ◌-◌, List, length, set, Option, ap, arith, subst, sym}
-use Rattle.command_core.specs.declared.limits.TheConstants.{MOST_ITEMS}
+use Rattle.node_core.specs.declared.limits.TheConstants.{MAX_ITEMS}
 use Rattle.node_core.specs.Nodes.{nodes_of}
 use Rattle.nest_core.specs.declared.nest.OpenList.{OpenList}
 use Rattle.nest_core.specs.ShortLists.{IsShort}
@@ -21,7 +21,7 @@ invariant_of-self-2 c =
     let around : OpenList = c.in-Some.around.now in
     let changed : OpenList = c.append_lines.new.self in
     let found = around_found nest around count c.len-count.ensures.value (omega (arith, c.if-count-lt2.false, c.len-count.ensures.value)) c.in-Some.ensures.value in
-    let room : length (nodes_of around.list) + length (nodes_of c.args.set.items) ≤ MOST_ITEMS =
+    let room : length (nodes_of around.list) + length (nodes_of c.args.set.items) ≤ MAX_ITEMS =
     omega (arith, c.requires.room, ap (λ (lists : List OpenList). length (nodes_of (items_in (innermost (outer lists))))) c.self.view_is, ap (λ (l : Option OpenList). length (nodes_of (items_in l))) found) in
     changed_and_taken nest (count - 2) (length (set nest (count - 2) changed) - 1) changed c.pop.new.self.items c.self.invariant.0 c.self.invariant.1
     (subst IsShort (sym c.in_ok-append_lines.ensures.ok) (short_with_nodes (nodes_of around.list) (nodes_of c.args.set.items) room)) c.pop.ensures.rest

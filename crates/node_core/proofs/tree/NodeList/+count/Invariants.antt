@@ -1,5 +1,5 @@
--- The loop of count: the count of the nodes passed, cut at the greatest number.
-use Rattle.std.proofs.Common.{◌≡◌, min, take}
+-- The loop of count: the count of the nodes passed and one for each node to come, cut at the greatest number.
+use Rattle.std.proofs.Common.{◌≡◌, ◌+◌, ◌-◌, length, min, take}
 use Rattle.node_core.specs.Items.{items_count}
 use Rattle.node_core.specs.Nodes.{items_of}
 use Rattle.node_core.proofs.tree.NodeList.+count.Given as goal
@@ -8,4 +8,5 @@ abbrev pub decreases-count : goal.decreases-count
 decreases-count l = goal.size-count l
 
 abbrev pub invariant-loop-node : goal.invariant-loop-node
-invariant-loop-node l = l.count ≡ min (items_count (items_of (take l.node-index l.node-items))) 18446744073709551615
+invariant-loop-node l =
+    l.count ≡ min (items_count (items_of (take l.node-index l.node-items)) + (length l.node-items - l.node-index)) 18446744073709551615

@@ -1,17 +1,24 @@
-use Rattle.std.proofs.Common.{◌≡◌, ◌∙◌, refl, ap, sym, subst}
-use Rattle.std.specs.Prelude.{IfOk, OnOk}
+use Rattle.std.proofs.Common.{◌≡◌, ◌∙◌, List, length, ap, sym, refl}
+use Rattle.std.specs.Option.{option_copied}
 use Rattle.command_core.specs.declared.command.Command.TheVariants.{Text}
 use Rattle.command_core.specs.declared.command.Refusal.TheVariants.{JobOver}
-use Rattle.nest_core.specs.FontSlots.{text_shaped}
-use Rattle.nest_core.specs.Checks.{character_checks, length_checks}
+use Rattle.dvi_layout.specs.Fonts.{font_in}
+use Rattle.node_core.specs.Items.{Items}
+use Rattle.node_core.specs.Nodes.{nodes_of}
+use Rattle.nest_core.specs.declared.nest.OpenList.{OpenList}
+use Rattle.nest_core.specs.FontSlots.{text_in, text_shaped}
+use Rattle.nest_core.specs.State.{innermost, items_in}
+use Rattle.nest_core.specs.Checks.{character_checks, length_checks, room_checks, first_of}
 use Rattle.nest_core.specs.Answers.{answer_of}
-use Rattle.nest_core.specs.Effects.{after}
+use Rattle.nest_core.specs.Effects.{with_nodes, after}
+use Rattle.nest_core.specs.EmptiedNest.{refilled_nest}
 use Rattle.nest_core.specs.Machine.{reply_by, state_by}
 use Rattle.nest_core.proofs.Nests.{first_refused}
-use Rattle.command_core.specs.Reply.{Reply}
-use Rattle.nest_core.specs.State.{State}
-use Rattle.state_core.proofs.ShapedItems.{text_answers, some_text}
-use Rattle.state_core.specs.Keeping.{unshipped}
+use Rattle.nest_core.proofs.ShapedTexts.{put_more, put_back_all}
+use Rattle.std.specs.Prelude.{Some}
+use Rattle.state_core.specs.contracts.kept.Kept as a_kept
+use Rattle.state_core.specs.Keeping.{Keeping, unshipped}
+use Rattle.state_core.proofs.ShapedItems.{on_ok, on_err, text_state}
 use Rattle.state_core.proofs.kept.Kept.append_text.Goals as goal
 
 pub returns-in-Err-clause-reply : goal.returns-in-Err-clause-reply
@@ -26,18 +33,37 @@ returns-in-Err-clause-state c =
     sym (ap (λ found. state_by found s (after s (Text c.args.text.now)))
     (first_refused s.over (character_checks s) (length_checks s (text_shaped s.fonts s.current c.args.text.now).items) JobOver c.in-Err.refusal refl c.in-Err.ensures.err))
 
-pub returns-clause-reply : goal.returns-clause-reply
-returns-clause-reply c =
-    let s = unshipped c.args.self.now in
-    let right = text_answers s c.in-Ok.font.0 c.in-Ok.font.1.now refl c.in-Ok.ensures.slot c.in-Ok.ensures.font c.in-Ok.ensures.ok c.args.text.now _ _ (c.in_ok-items.ensures.items ∙ rw c.codes.ensures refl) (c.in_ok-items.ensures.missing ∙ rw c.codes.ensures refl) in
-    subst (λ (r : Reply). IfOk c.append_shaped.result (λ reply. reply ≡ r)) right.reply c.append_shaped.ensures.reply
-
 pub returns-clause-state : goal.returns-clause-state
 returns-clause-state c =
     let s = unshipped c.args.self.now in
-    let right = text_answers s c.in-Ok.font.0 c.in-Ok.font.1.now refl c.in-Ok.ensures.slot c.in-Ok.ensures.font c.in-Ok.ensures.ok c.args.text.now _ _ (c.in_ok-items.ensures.items ∙ rw c.codes.ensures refl) (c.in_ok-items.ensures.missing ∙ rw c.codes.ensures refl) in
-    subst (λ (t : State). OnOk c.append_shaped.result (unshipped c.append_shaped.new.self ≡ t)) right.state c.append_shaped.ensures.state
+    let slot = c.in-Ok.slot in
+    let loaded = c.in-Some.loaded.now in
+    let nest : List OpenList = c.self.inside.nest in
+    let bare : List OpenList = c.take_items-items.new.self in
+    let taken = c.take_items-items.result.items in
+    let found = text_in (Some loaded) slot c.codes.result.now in
+    let same : nest ≡ s.nest = ap (λ (t : Keeping). t.nest) c.self.view_is in
+    let font : font_in s.fonts slot ≡ Some loaded =
+    ap (λ (t : Keeping). font_in t.fonts slot) (sym c.self.view_is) ∙ (sym c.get.ensures ∙ ap option_copied c.in-Some.is) in
+    let count : length taken ≡ length (nodes_of (items_in (innermost s.nest))) =
+    ap length c.take_items-items.ensures.items ∙ ap (λ (n : List OpenList). length (nodes_of (items_in (innermost n)))) same in
+    on_ok c.append_text-reply.result
+    (λ are.
+    ap (λ (t : Keeping). record (unshipped t) { nest = c.refill.new.self }) c.self.view_is
+    ∙ text_state s slot loaded refl c.in-Ok.ensures.slot font c.in-Ok.ensures.ok c.refill.new.self c.args.text.now c.codes.result.now (length taken) c.codes.ensures count
+    (put_more nest bare c.refill.new.self taken c.append_text-reply.new.items.items found.items (first_of (room_checks (length taken) found.items)) c.take_items-items.ensures.emptied
+    c.take_items-items.ensures.items are (c.refill.ensures ∙ ap (λ (i : Items). refilled_nest bare i (innermost bare)) c.from_vec.ensures.items)
+    ∙ ap (λ (n : List OpenList). state_by (first_of (room_checks (length taken) found.items)) n (with_nodes n found.items (innermost n))) same))
+    c.append_text-reply.ensures.items
 
-pub returns-clause-takes : goal.returns-clause-takes
-returns-clause-takes c =
-    some_text c.append_shaped.result c.in-Ok.font.0 c.in-Ok.font.1.now c.args.text.now _ (c.in_ok-items.ensures.items ∙ rw c.codes.ensures refl) c.append_shaped.ensures.takes
+pub returns-clause-err : goal.returns-clause-err
+returns-clause-err c =
+    let nest : List OpenList = c.self.inside.nest in
+    let bare : List OpenList = c.take_items-items.new.self in
+    on_err c.append_text-reply.result
+    (λ are.
+    ap (λ (lists : List OpenList). a_kept.the_view (record (c.self.inside) { nest = lists }))
+    (put_back_all nest bare c.refill.new.self c.take_items-items.result.items c.append_text-reply.new.items.items c.take_items-items.ensures.emptied c.take_items-items.ensures.items are
+    (c.refill.ensures ∙ ap (λ (i : Items). refilled_nest bare i (innermost bare)) c.from_vec.ensures.items))
+    ∙ c.self.view_is)
+    c.append_text-reply.ensures.err

@@ -1,7 +1,7 @@
 use Rattle.std.proofs.Common.{◌≡◌, ◌==◌, ◌++◌, ◌∷◌, [], ℕ, Bool, true, false, Option, Some, None, List, length, ◌∙◌, ap, sym, refl, arith}
 use Rattle.std.specs.Prelude.{◌&&◌, not, is_none, is_some, nat_le}
 use Rattle.std.proofs.lemmas.Bool.{ne_eqb, lt-leb}
-use Rattle.command_core.specs.declared.limits.TheConstants.{MOST_OPEN}
+use Rattle.node_core.specs.declared.limits.TheConstants.{MAX_OPEN_LISTS}
 use Rattle.command_core.specs.declared.command.Opening.{Opening}
 use Rattle.command_core.specs.declared.command.Command.TheVariants as commands
 use Rattle.nest_core.specs.declared.nest.OpenList.{OpenList}
@@ -15,7 +15,7 @@ use Rattle.state_core.proofs.kept.Kept.open_list.Goals as goal
 use Rattle.state_core.proofs.kept.Kept.open_list.Goals.{else-is_none-via-then-is_none+else-count-eq0, else-is_none-via-else-is_none}
 
 -- Nothing speaks against a list that is opened.
-opened_free : (nest : List OpenList) (into : Option ℕ) (count : ℕ) → count ≡ length nest → (is_none into && (count == 0)) ≡ false → nat_le MOST_OPEN count ≡ false
+opened_free : (nest : List OpenList) (into : Option ℕ) (count : ℕ) → count ≡ length nest → (is_none into && (count == 0)) ≡ false → nat_le MAX_OPEN_LISTS count ≡ false
     → first_of (open_checks nest into) ≡ None
 opened_free nest into count is here few = rw (sym is, here, few) refl
 
@@ -39,7 +39,7 @@ returns-clause-state c =
     let none : first_of (open_checks s.nest c.args.opening.into) ≡ None =
     opened_free s.nest c.args.opening.into c.len-count.result (c.len-count.ensures.value ∙ ap length nest)
     (elim c.else-is_none.branch [ else-is_none-via-then-is_none+else-count-eq0 w ↦ none_and_some c.args.opening.into c.len-count.result (ne_eqb c.len-count.result 0 w.if-count-eq0.false) | else-is_none-via-else-is_none w ↦ some_into c.args.opening.into c.len-count.result c.is_none.result c.is_none.ensures w.if-is_none.false ])
-    (lt-leb MOST_OPEN c.len-count.result (omega (arith, c.if-count-ge-MOST_OPEN.false))) in
+    (lt-leb MAX_OPEN_LISTS c.len-count.result (omega (arith, c.if-count-ge-MAX_OPEN_LISTS.false))) in
     ap (λ (t : Keeping). record (unshipped t) { nest = c.begin.new.self }) c.self.view_is
     ∙ opened s c.args.opening c.begin.new.self refl none
     (c.in_ok-begin.ensures.ok ∙ ap (λ (lists : List OpenList). lists ++ opened_list (Box c.args.opening) ∷ []) nest)

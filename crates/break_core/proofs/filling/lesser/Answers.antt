@@ -1,0 +1,23 @@
+use Rattle.std.proofs.Common.{◌≡◌, Some, refl, sym, subst}
+use Rattle.std.proofs.Math.Logic.{inl, inr}
+use Rattle.std.proofs.lemmas.Option.{same_Some}
+use Rattle.break_table.specs.Orders.{NotAfter}
+use Rattle.break_table.specs.Tables.{short}
+use Rattle.break_table.proofs.Dictionary.{not_after_refl}
+use Rattle.break_core.proofs.filling.lesser.Goals as goal
+
+pub returns-then-is_not_after : goal.returns-then-is_not_after
+returns-then-is_not_after c =
+    record {
+      is = inr refl;
+      offered = c.is_not_after.ensures.not_after c.if-is_not_after.true;
+      older = λ h same. subst (λ x. NotAfter (short c.args.best) (short x)) (same_Some c.args.best h same) (not_after_refl (short c.args.best));
+    }
+
+pub returns : goal.returns
+returns c =
+    record {
+      is = inl refl;
+      offered = not_after_refl (short c.args.offered);
+      older = λ h same. subst (λ x. NotAfter (short c.args.offered) (short x)) (same_Some c.args.best h same) (c.is_not_after.ensures.after c.if-is_not_after.false);
+    }

@@ -1,0 +1,81 @@
+use Rattle.std.proofs.Common.{◌≡◌, ◌∙◌, ◌≤◌, to_z, of_z, w32, length, refl, ap, sym, subst, arith}
+use Rattle.std.specs.Prelude.{nat_lt, if◌then◌else◌}
+use Rattle.std.proofs.lemmas.Int.{ints}
+use Rattle.std.proofs.lemmas.Option.{slice_get_read}
+use Rattle.break_table.specs.Ways.{since}
+use Rattle.break_table.specs.Tables.{slots}
+use Rattle.break_cost.specs.Costs.{line_of, after_class}
+use Rattle.break_cost.proofs.Parts.{alone_is}
+use Rattle.break_cost.specs.Sizes.{judged_after}
+use Rattle.break_core.specs.Filling.{IsOffering}
+use Rattle.break_core.proofs.Filled.{none_offered}
+use Rattle.break_core.proofs.filling.offer_each.Goals as goal
+
+pub loop-index-init : goal.loop-index-init
+loop-index-init c = record { low = omega arith; wide = c.requires.can.wide; row = λ p cut late judged is. is }
+
+pub improve-requires-clause-wide : goal.improve-requires-clause-wide
+improve-requires-clause-wide c = c.loop-index.invariant.wide ∙ ap slots (sym c.get-cut.ensures.value)
+
+pub improve-requires-clause-counted : goal.improve-requires-clause-counted
+improve-requires-clause-counted c =
+    let table = c.args.table.now in
+    let e = c.index-table-index.result in
+    let stands = slice_get_read table (length table) c.loop-index.index e refl (omega (arith, c.requires.can.within)) c.index-table-index.is in
+    subst (λ n. e.end.lines ≤ n) (sym c.get-cut.ensures.value)
+    (c.requires.can.entries c.loop-index.index e c.loop-index.invariant.low c.loop-index-test.true stands).1
+
+pub improve-requires-clause-later : goal.improve-requires-clause-later
+improve-requires-clause-later c =
+    let table = c.args.table.now in
+    let e = c.index-table-index.result in
+    let stands = slice_get_read table (length table) c.loop-index.index e refl (omega (arith, c.requires.can.within)) c.index-table-index.is in
+    omega (arith, (c.requires.can.entries c.loop-index.index e c.loop-index.invariant.low c.loop-index-test.true stands).0, c.requires.can.earlier)
+
+pub loop-index-preserved : goal.loop-index-preserved
+loop-index-preserved c =
+    let table = c.args.table.now in
+    let e = c.index-table-index.result in
+    let stands = slice_get_read table (length table) c.loop-index.index e refl (omega (arith, c.requires.can.within)) c.index-table-index.is in
+    let place = (c.requires.can.entries c.loop-index.index e c.loop-index.invariant.low c.loop-index-test.true stands).0 in
+    let penalty : to_z w32 (of_z w32 c.args.tried.now.penalty) ≡ c.args.tried.now.penalty = omega (arith, ints) in
+    let p = to_z w32 (of_z w32 c.args.tried.now.penalty) in
+    let rules = c.args.rules.now in
+    let costs = c.alone-costs.result in
+    let line = c.after-offered.ensures.value
+    ∙ ap (λ s. after_class rules.params.now s.class (if nat_lt s.lines rules.params.now.first_lines then costs.first else costs.rest)) c.end-end.ensures.end
+    ∙ alone_is rules.params.now rules.bound p c.args.line.now costs.first costs.rest e.end.lines e.end.class c.alone-costs.ensures.first c.alone-costs.ensures.rest
+    ∙ ap (λ x. line_of rules.params.now rules.bound x e.end.class (judged_after rules.params.now.first_lines e.end.lines c.args.line.now)) penalty in
+    record {
+      low = omega (arith, c.loop-index.invariant.low);
+      wide = c.improve.ensures.wide ∙ ap slots c.get-cut.ensures.value;
+      row = λ p cut late judged is.
+          c.improve.ensures.row p table (cut ∙ sym c.get-cut.ensures.value) stands (subst (λ x. since p c.args.tried.now.place ≤ x) (sym place) late) (judged e.end place ∙ sym line)
+          (c.loop-index.invariant.row p cut late judged is);
+    }
+
+pub returns-clause-row : goal.returns-clause-row
+returns-clause-row c =
+    let end : c.loop-index.index ≡ c.args.group.end = omega (arith, c.loop-index-test.false, c.requires.can.rises, c.loop-index.auto) in
+    subst (λ n. IsOffering c.args.table.now c.args.rules.now.params.now c.args.rules.now.bound c.args.group c.args.tried.now.place c.args.tried.now.penalty c.args.line.now c.args.group.start n c.args.row.now.items c.loop-index.row.items)
+    end c.loop-index.invariant.row
+
+pub returns-clause-wide : goal.returns-clause-wide
+returns-clause-wide c = c.loop-index.invariant.wide
+
+pub returns-then-is_none-clause-row : goal.returns-then-is_none-clause-row
+returns-then-is_none-clause-row c =
+    let rules = c.args.rules.now in
+    let penalty : to_z w32 (of_z w32 c.args.tried.now.penalty) ≡ c.args.tried.now.penalty = omega (arith, ints) in
+    let none = c.is_none.ensures c.if-is_none.true in
+    subst (λ x. IsOffering c.args.table.now rules.params.now rules.bound c.args.group c.args.tried.now.place x c.args.line.now c.args.group.start c.args.group.end c.args.row.now.items c.args.row.now.items)
+    penalty
+    (none_offered c.args.table.now rules.params.now rules.bound c.args.group c.args.tried.now.place (to_z w32 (of_z w32 c.args.tried.now.penalty))
+    c.args.line.now c.alone-costs.result.first c.alone-costs.result.rest c.args.row.now.items c.requires.can.rises c.requires.can.entries
+    c.alone-costs.ensures.first c.alone-costs.ensures.rest none.0 none.1)
+
+pub alone-costs-requires-clause-penalty : goal.alone-costs-requires-clause-penalty
+alone-costs-requires-clause-penalty c = omega (arith, ints, c.requires.can.penalty)
+
+pub improve-requires-clause-places : goal.improve-requires-clause-places
+improve-requires-clause-places c = c.requires.can.places

@@ -1,0 +1,98 @@
+//! What a horizontal list measures, found in one walk.
+
+ghost use Rattle.std.specs.Prelude.{◌≡◌, ◌≤◌, ◌+◌, ◌+ℤ◌, ℕ, pos, length};
+ghost use Rattle.std.specs.Int.{int_max};
+ghost use Rattle.node_core.specs.Nodes.{most_nodes};
+ghost use Rattle.pack_core.specs.Items.{across, above, below, stretch_in, shrink_in};
+ghost use Rattle.pack_core.specs.Totals.{total, greatest};
+ghost use Rattle.pack_core.specs.Glue.{stretch_totals, shrink_totals};
+ghost use Rattle.pack_core.specs.Orders.{order_amounts, plus};
+ghost use Rattle.pack_core.specs.Measures.{HasPassed};
+
+use crate::orders::{OrderAmounts, in_one_order, no_amounts, plus};
+use crate::sizes::{across_of, depth_of, height_of};
+use node_core::Node;
+
+/// What the items passed of a horizontal list measure.
+#[derive(Clone, Copy, Debug, PartialEq, Eq)]
+pub struct Across {
+    /// How wide they are together.
+    pub width: i64,
+    /// How far the highest reaches above the baseline, at least 0.
+    pub height: i64,
+    /// How far the deepest reaches below the baseline, at least 0.
+    pub depth: i64,
+    /// How much their glue can stretch, in each order.
+    pub stretch: OrderAmounts,
+    /// How much their glue can shrink, in each order.
+    pub shrink: OrderAmounts,
+}
+
+impl Across {
+    /// What no items measure.
+    fn new() -> Across
+        ensures width { result.width ≡ pos 0 }
+        ensures height { result.height ≡ pos 0 }
+        ensures depth { result.depth ≡ pos 0 }
+        ensures stretch { result.stretch ≡ order_amounts (λ _. pos 0) }
+        ensures shrink { result.shrink ≡ order_amounts (λ _. pos 0) }
+    {
+        Across {
+            width: 0,
+            height: 0,
+            depth: 0,
+            stretch: no_amounts(),
+            shrink: no_amounts(),
+        }
+    }
+
+    /// Passes one more item. Characters, glue and kerns have arms of their own, since nearly all items of a line are of these kinds.
+    fn pass(&mut self, node: &Node)
+        requires { HasPassed most_nodes self.old }
+        ensures width { self.new.width ≡ self.old.width +ℤ across node.now }
+        ensures height { self.new.height ≡ int_max self.old.height (above node.now) }
+        ensures depth { self.new.depth ≡ int_max self.old.depth (below node.now) }
+        ensures stretch { self.new.stretch ≡ plus self.old.stretch (λ order. stretch_in order node.now) }
+        ensures shrink { self.new.shrink ≡ plus self.old.shrink (λ order. shrink_in order node.now) }
+        ensures bound { (n : ℕ) → HasPassed n self.old → HasPassed (n + 1) self.new }
+    {
+        match node {
+            Node::Glyph(glyph) => {
+                self.width += i64::from(glyph.width.get());
+                self.height = self.height.max(i64::from(glyph.height.get()));
+                self.depth = self.depth.max(i64::from(glyph.depth.get()));
+            }
+            Node::Glue(glue) => {
+                self.width += i64::from(glue.width.get());
+                let stretch = in_one_order(glue.stretch_order, glue.stretch);
+                let shrink = in_one_order(glue.shrink_order, glue.shrink);
+                self.stretch = plus(&self.stretch, &stretch);
+                self.shrink = plus(&self.shrink, &shrink);
+            }
+            Node::FontKern(width) => self.width += i64::from(width.get()),
+            Node::Kern(width) => self.width += i64::from(width.get()),
+            _ => {
+                self.width += across_of(node);
+                self.height = self.height.max(height_of(node));
+                self.depth = self.depth.max(depth_of(node));
+            }
+        }
+    }
+
+    /// What the items of a list measure.
+    pub fn of(nodes: &[Node]) -> Across
+        requires { length nodes.now ≤ most_nodes }
+        ensures width { result.width ≡ total across nodes.now }
+        ensures height { result.height ≡ greatest above nodes.now }
+        ensures depth { result.depth ≡ greatest below nodes.now }
+        ensures stretch { result.stretch ≡ order_amounts (stretch_totals nodes.now) }
+        ensures shrink { result.shrink ≡ order_amounts (shrink_totals nodes.now) }
+        ensures small { HasPassed most_nodes result }
+    {
+        let mut across = Across::new();
+        for node in nodes {
+            across.pass(node);
+        }
+        across
+    }
+}
