@@ -257,11 +257,14 @@ fn innermost_of(lists: &mut SmallVec<OpenList, 4>) -> Option<&mut OpenList>
 #[derive(Debug, Drop)]
 pub struct Nest {
     lists: SmallVec<OpenList, 4>,
+    /// An empty list with the room of the last paragraph that was closed, for the next one.
+    spare: NodeList,
 }
 
 impl Model for Nest {
-    ghost use Rattle.std.specs.Prelude.{List, ◌≤◌, length};
+    ghost use Rattle.std.specs.Prelude.{List, ◌≡◌, ◌≤◌, length};
     ghost use Rattle.std.specs.Coded.{coded_list};
+    ghost use Rattle.node_core.specs.Items.{none};
     ghost use Rattle.nest_core.specs.declared.nest.OpenList.{OpenList};
     ghost use Rattle.nest_core.specs.contracts.nest.OpenList as open_list;
     ghost use Rattle.node_core.specs.declared.limits.TheConstants.{MAX_OPEN_LISTS};
@@ -273,7 +276,7 @@ impl Model for Nest {
 
     ghost view = { λ nest. nest.lists.items };
 
-    ghost invariant = { λ nest. (length nest.lists.items ≤ MAX_OPEN_LISTS) × AreShort nest.lists.items };
+    ghost invariant = { λ nest. (length nest.lists.items ≤ MAX_OPEN_LISTS) × AreShort nest.lists.items × (nest.spare ≡ none) };
 }
 
 impl Nest {
@@ -283,6 +286,7 @@ impl Nest {
     {
         Nest {
             lists: SmallVec::new(alloc),
+            spare: NodeList::new(alloc),
         }
     }
 
@@ -315,7 +319,10 @@ impl Nest {
         ensures ok { OnOk result (self.new ≡ self.old ++ opened_list purpose ∷ []) }
         ensures err { OnErr result (self.new ≡ self.old) }
     {
-        let list = NodeList::new(*self.lists.allocator());
+        let mut list = NodeList::new(*self.lists.allocator());
+        if purpose == ListPurpose::Paragraph {
+            list = replace(&mut self.spare, list);
+        }
         self.lists.push(OpenList {
             purpose,
             list,
@@ -457,6 +464,16 @@ impl Nest {
         let _ = self.lists.pop();
     }
 
+    /// Takes the innermost list away, and keeps its room for the next paragraph.
+    fn leave_paragraph(&mut self)
+        ensures { self.new ≡ outer self.old }
+    {
+        if let Some(closed) = self.lists.pop() {
+            self.spare = closed.list;
+            self.spare.truncate(0);
+        }
+    }
+
     /// The list around the innermost one.
     pub fn around(&self) -> Option<&OpenList>
         ensures { option_copied result ≡ innermost (outer self.now) }
@@ -526,7 +543,7 @@ impl Nest {
             unreachable!()
         };
         around.append_lines(set)?;
-        let _ = self.lists.pop();
+        self.leave_paragraph();
         Ok(())
     }
 }

@@ -15,9 +15,11 @@ invariant_of-self c =
     let found : innermost nest ≡ Some l = c.in-Some.ensures.some in
     let free : first_of (box_checks c.args.params.now (Some l) c.args.box_node) ≡ None =
     ap (λ (o : Option OpenList). first_of (box_checks c.args.params.now o c.args.box_node)) (sym found ∙ ap innermost c.self.view_is) ∙ c.requires in
+    let lists =
     one_changed nest (length nest - 1) c.append_with_glue.new.self c.self.invariant.0 c.self.invariant.1
     (box_fits c.append_with_glue.result c.args.params.now c.args.shift c.args.box_node l c.append_with_glue.new.self free
-    (each_at IsShort nest (length nest - 1) l c.self.invariant.1 found) c.append_with_glue.ensures.ok c.append_with_glue.ensures.err)
+    (each_at IsShort nest (length nest - 1) l c.self.invariant.1 found) c.append_with_glue.ensures.ok c.append_with_glue.ensures.err) in
+    (lists.0, lists.1, c.self.invariant.2)
 
 pub unreachable-requires : goal.unreachable-requires
 unreachable-requires c =

@@ -29,8 +29,10 @@ invariant_of-self-2 c =
     let free : first_of (box_checks c.args.params.now (Some c.in-Some.around.now) c.args.box_node) ≡ None =
     sym (ap (λ (l : Option OpenList). first_of (box_checks c.args.params.now l c.args.box_node)) found)
     ∙ (ap (λ (lists : List OpenList). first_of (box_checks c.args.params.now (innermost (outer lists)) c.args.box_node)) c.self.view_is ∙ c.requires) in
+    let lists =
     changed_and_taken nest (count - 2) (length (set nest (count - 2) changed) - 1) changed c.pop.new.self.items c.self.invariant.0 c.self.invariant.1
-    (subst IsShort (sym c.in_ok-append_with_glue.ensures.ok) (short_with_box c.args.params.now (pos 0) c.args.box_node c.in-Some.around.now free)) c.pop.ensures.rest
+    (subst IsShort (sym c.in_ok-append_with_glue.ensures.ok) (short_with_box c.args.params.now (pos 0) c.args.box_node c.in-Some.around.now free)) c.pop.ensures.rest in
+    (lists.0, lists.1, c.self.invariant.2)
 
 pub unreachable-requires : goal.unreachable-requires
 unreachable-requires c =

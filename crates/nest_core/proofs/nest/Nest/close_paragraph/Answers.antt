@@ -6,13 +6,13 @@ use Rattle.nest_core.specs.ShortLists.{IsShort}
 use Rattle.nest_core.specs.State.{innermost, outer, items_in}
 use Rattle.std.specs.Prelude.{IsSome}
 use Rattle.nest_core.proofs.Nests.{around_found, lines_left, no_list, none_around}
-use Rattle.nest_core.proofs.ShortLists.{changed_and_taken, short_with_nodes}
+use Rattle.nest_core.proofs.ShortLists.{one_changed, short_with_nodes}
 use Rattle.nest_core.proofs.nest.Nest.close_paragraph.Goals as goal
 
 pub returns-clause-ok : goal.returns-clause-ok
 returns-clause-ok c =
-    rw (sym c.self.view_is) (lines_left c.self.inside.lists.items c.args.set c.in-Some.around.now c.append_lines.new.self c.len-count.result c.pop.new.self.items
-    c.len-count.ensures.value (omega (arith, c.if-count-lt2.false, c.len-count.ensures.value)) c.in-Some.ensures.value c.in_ok-append_lines.ensures.ok c.pop.ensures.rest)
+    rw (sym c.self.view_is) (lines_left c.self.inside.lists.items c.args.set c.in-Some.around.now c.append_lines.new.self c.len-count.result c.leave_paragraph.new.self
+    c.len-count.ensures.value (omega (arith, c.if-count-lt2.false, c.len-count.ensures.value)) c.in-Some.ensures.value c.in_ok-append_lines.ensures.ok c.leave_paragraph.ensures)
 
 pub invariant_of-self-2 : goal.invariant_of-self-2
 invariant_of-self-2 c =
@@ -23,8 +23,10 @@ invariant_of-self-2 c =
     let found = around_found nest around count c.len-count.ensures.value (omega (arith, c.if-count-lt2.false, c.len-count.ensures.value)) c.in-Some.ensures.value in
     let room : length (nodes_of around.list) + length (nodes_of c.args.set.items) ≤ MAX_ITEMS =
     omega (arith, c.requires.room, ap (λ (lists : List OpenList). length (nodes_of (items_in (innermost (outer lists))))) c.self.view_is, ap (λ (l : Option OpenList). length (nodes_of (items_in l))) found) in
-    changed_and_taken nest (count - 2) (length (set nest (count - 2) changed) - 1) changed c.pop.new.self.items c.self.invariant.0 c.self.invariant.1
-    (subst IsShort (sym c.in_ok-append_lines.ensures.ok) (short_with_nodes (nodes_of around.list) (nodes_of c.args.set.items) room)) c.pop.ensures.rest
+    let lists =
+    one_changed nest (count - 2) changed c.self.invariant.0 c.self.invariant.1
+    (subst IsShort (sym c.in_ok-append_lines.ensures.ok) (short_with_nodes (nodes_of around.list) (nodes_of c.args.set.items) room)) in
+    (lists.0, lists.1, c.self.invariant.2)
 
 pub unreachable-requires : goal.unreachable-requires
 unreachable-requires c =
