@@ -1,5 +1,5 @@
 -- A job that runs the commands of a script and is finished.
-use Rattle.std.proofs.Common.{◌≡◌, ◌+◌, inl, inr, ℕ, Bool, true, false, List, [], ◌++◌, length, take, Option, Some, None, IfSome, Result, Ok, Err, IfOk, OnOk, OnErr, is_err, refl, sym, ◌∙◌, ap, subst, ⊎_elim}
+use Rattle.std.proofs.Common.{◌≡◌, ◌+◌, ◌&&◌, ◌∷◌, inl, inr, ℕ, Bool, true, false, List, [], ◌++◌, length, take, Option, Some, None, IfSome, Result, Ok, Err, IfOk, OnOk, OnErr, is_err, is_ok, refl, sym, append_assoc, arith, ◌∙◌, ap, subst, ⊎_elim}
 use Rattle.command_core.specs.declared.command.Command.{Command}
 use Rattle.command_core.specs.declared.command.Refusal.{Refusal}
 use Rattle.command_core.specs.declared.command.Refusal.TheVariants as refusals
@@ -21,8 +21,12 @@ use Rattle.job_core.proofs.NewJobs.{front_none}
 use Rattle.job_core.proofs.RestsOfFiles.{beginning, completed}
 use Rattle.std.specs.Io.KnownBytes.{Keeps}
 use Rattle.std.proofs.lemmas.List.{append-nil}
-use Rattle.program_core.specs.Texts.{hexadecimal_text}
-use Rattle.program_core.specs.Runs.{commands_of, IsPart, WasRun, IsUntouched, IsAnswered, RanScript, RefusedScript, IsAnsweredInMemory, LacksMemory, CompletesFile, IsResumed}
+use Rattle.std.proofs.Math.Bool.{and-true}
+use Rattle.std.proofs.lemmas.List.Folds.{list_all-append}
+use Rattle.std.specs.List.{list_all}
+use Rattle.script_core.specs.declared.script.Line.{Line}
+use Rattle.program_core.specs.Texts.{hexadecimal_text, answer_line, answer_lines, answers_text, end_line}
+use Rattle.program_core.specs.Runs.{commands_of, numbers_of, IsPart, WasRun, IsUntouched, IsAnswered, RanScript, RefusedScript, IsAnsweredInMemory, LacksMemory, CompletesFile, IsResumed}
 
 pub on_err : {A E : Type 0} {P : Type 0} (r : Result A E) → is_err r ≡ true → OnErr r P → P
 on_err (Ok x) e h = absurd (cc)
@@ -183,3 +187,24 @@ pub silent_run : (files : List NamedBytes) (n k : ℕ) (commands : List Command)
     (run : WasRun files n commands replies end k told) → run.middle.pages ≡ [] → OnOk end (IfSome told (λ bytes. bytes ≡ []))
 silent_run files n k commands replies end told run none =
     subst (λ (all : List ℕ). OnOk end (IfSome told (λ bytes. bytes ≡ all))) (no_whole run.middle none) run.file
+
+pub commands_more : (front : List Line) (line : Line) → commands_of (front ++ line ∷ []) ≡ commands_of front ++ line.command ∷ []
+commands_more [] line = refl
+commands_more (first ∷ front) line = ap (λ (rest : List Command). first.command ∷ rest) (commands_more front line)
+
+pub numbers_more : (front : List Line) (line : Line) → numbers_of (front ++ line ∷ []) ≡ numbers_of front ++ line.number ∷ []
+numbers_more [] line = refl
+numbers_more (first ∷ front) line = ap (λ (rest : List ℕ). first.number ∷ rest) (numbers_more front line)
+
+-- The text of one answer more.
+pub answers_more : (lines : List Line) (replies : List Reply) (line : Line) (reply : Reply) → length replies ≡ length lines
+    → answer_lines (numbers_of (lines ++ line ∷ [])) (replies ++ reply ∷ []) ≡ answer_lines (numbers_of lines) replies ++ answer_line line.number reply
+answers_more [] [] line reply h = append-nil (answer_line line.number reply)
+answers_more [] (first ∷ replies) line reply h = absurd (omega arith)
+answers_more (front ∷ lines) [] line reply h = absurd (omega arith)
+answers_more (front ∷ lines) (first ∷ replies) line reply h =
+    ap (λ (rest : List ℕ). answer_line front.number first ++ rest) (answers_more lines replies line reply (omega (arith, h)))
+    ∙ sym (append_assoc (answer_line front.number first) (answer_lines (numbers_of lines) replies) (answer_line line.number reply))
+
+pub all_more : (replies : List Reply) (reply : Reply) → list_all is_ok (replies ++ reply ∷ []) ≡ (list_all is_ok replies && is_ok reply)
+all_more replies reply = list_all-append is_ok replies (reply ∷ []) ∙ ap (λ (b : Bool). list_all is_ok replies && b) (and-true (is_ok reply))

@@ -1,15 +1,20 @@
 //! Running a script.
 
-ghost use Rattle.std.specs.Prelude.{◌≡◌, ◌<◌, ◌+◌, ◌^◌, ◌⊎◌, ℕ, List, [], Some, is_ok, IfOk, IfErr, IfSome};
+ghost use Rattle.std.specs.Prelude.{◌≡◌, ◌<◌, ◌+◌, ◌^◌, ◌⊎◌, ℕ, List, [], length, Some, Result, is_ok, IfOk, IfErr, IfSome};
 ghost use Rattle.std.specs.List.{list_all};
 ghost use Rattle.std.specs.Io.KnownBytes.{Appends};
+ghost use Rattle.command_core.specs.declared.command.Refusal.{Refusal};
+ghost use Rattle.command_core.specs.declared.command.Summary.{Summary};
+ghost use Rattle.command_core.specs.Reply.{Reply};
+ghost use Rattle.job_core.specs.Jobs.{RunsTo};
+ghost use Rattle.program_core.specs.Texts.{answer_lines, answers_text};
 ghost use Rattle.program_core.specs.Runs.{commands_of, numbers_of, is_accepted, device_of, WasRun, IsAnswered, IsUntouched, WasRunWhole, IsLeft, IsResumed};
 
-use crate::texts::{answers_text, script_refusal_text};
+use crate::texts::{script_refusal_text, with_answer, with_end};
 use crate::writing::{Unwritten, write_text};
-use job_core::{Command, Device, FontFile, Job, Refusal, Reply, Rest, Summary};
+use job_core::{Device, FontFile, Job, Rest};
 use script_core::{Cause, Line, ScriptFault, read_script};
-use std::alloc::{AllocError, Global};
+use std::alloc::Global;
 use std::io::Write;
 use thiserror::Error;
 
@@ -62,17 +67,18 @@ pub fn answer_script<D: Device>(
             };
         }
     };
-    let Ok((numbers, commands)) = numbers_and_commands(alloc, lines) else {
-        return Err(device);
-    };
-    let (replies, end, device) = run_commands(alloc, &commands, files, device)?;
-    match answers_text(alloc, &numbers, &replies, &end) {
-        Ok(text) => Ok(Answered {
+    let Ran {
+        text,
+        accepted,
+        device,
+    } = run_whole(alloc, &lines, files, device)?;
+    match text {
+        Some(text) => Ok(Answered {
             text,
-            accepted: is_accepted(&replies, &end),
+            accepted,
             device,
         }),
-        Err(_) => Err(device),
+        None => Err(device),
     }
 }
 
@@ -130,52 +136,53 @@ pub fn run_rest<D: Device, W: Write>(
     }
 }
 
-/// Runs commands on a new job, and finishes it. Where memory is refused nothing was run, and the device comes back.
-fn run_commands<D: Device>(
+/// A run that was finished: what its answers are, but for texts for which memory was refused, and the device.
+#[derive(Drop)]
+struct Ran<D> {
+    text: Option<Vec<u8>>,
+    accepted: bool,
+    device: D,
+}
+
+/// Runs the lines of a script on a new job, and finishes it. Where memory is refused for the job nothing was run, and the device comes back; where it is refused
+/// for a text, the run goes on without texts.
+fn run_whole<D: Device>(
     alloc: Global,
-    commands: &[Command],
+    lines: &[Line],
     files: &[FontFile],
     device: D,
-) -> Result<(Vec<Reply>, Result<Summary, Refusal>, D), D>
+) -> Result<Ran<D>, D>
     requires countable { D.failed device + 1 < 2 ^ 64 }
     requires fresh { IfSome (D.told device) (λ bytes. bytes ≡ []) }
-    ensures ran { IfOk result (λ ran. WasRun files.now (D.failed device) commands.now ran.0.items ran.1 (D.failed ran.2) (D.told ran.2)) }
+    ensures ran { IfOk result (λ ran. (replies : List Reply) × (end : Result Summary Refusal)
+        × WasRun files.now (D.failed device) (commands_of lines.now) replies end (D.failed ran.device) (D.told ran.device)
+        × IfSome ran.text (λ text. text.items ≡ answers_text (numbers_of lines.now) replies end) × (ran.accepted ≡ is_accepted replies end)) }
     ensures none { IfErr result (λ back. IsUntouched (D.failed device) (D.failed back) (D.told back)) }
-    ensures began { IfOk result (λ ran. D.began ran.2 ≡ D.began device) }
+    ensures began { IfOk result (λ ran. D.began ran.device ≡ D.began device) }
     ensures kept { IfErr result (λ back. D.began back ≡ D.began device) }
 {
     let mut job = Job::new(alloc, device, files)?;
-    let mut replies = Vec::new(alloc);
-    if job.run(commands, &mut replies).is_err() {
-        return Err(job.into_device());
-    }
+    let (text, accepted) = run_lines(alloc, &mut job, lines);
     let end = job.finish();
-    Ok((replies, end, job.into_device()))
+    Ok(Ran {
+        text: with_end(text, &end),
+        accepted: accepted && end.is_ok(),
+        device: job.into_device(),
+    })
 }
 
-/// The numbers and the commands of some lines.
-fn numbers_and_commands(
-    alloc: Global,
-    lines: Vec<Line>,
-) -> Result<(Vec<usize>, Vec<Command>), AllocError>
-    ensures numbers { IfOk result (λ parts. parts.0.items ≡ numbers_of lines.items) }
-    ensures commands { IfOk result (λ parts. parts.1.items ≡ commands_of lines.items) }
+/// Does what the lines say, one after the other, and answers each at once, so that no command waits for its text. The truth value says that none was refused.
+fn run_lines<D: Device>(alloc: Global, job: &mut Job<D>, lines: &[Line]) -> (Option<Vec<u8>>, bool)
+    ensures ran { (replies : List Reply) × RunsTo job.old (commands_of lines.now) replies job.new × (length replies ≡ length lines.now)
+        × IfSome result.0 (λ text. text.items ≡ answer_lines (numbers_of lines.now) replies) × (result.1 ≡ list_all is_ok replies) }
+    ensures began { job.new.began ≡ job.old.began }
 {
-    let numbers = lines.iter().map(|line| line.number).collect(alloc)?;
-    let commands = lines.into_iter().map(|line| line.command).collect(alloc)?;
-    Ok((numbers, commands))
-}
-
-/// Whether no command was refused.
-fn all_accepted(replies: &[Reply]) -> bool
-    ensures { result ≡ list_all is_ok replies.now }
-{
-    replies.iter().all(|reply| reply.is_ok())
-}
-
-/// Whether nothing was refused: no command, and not the end.
-fn is_accepted(replies: &[Reply], end: &Result<Summary, Refusal>) -> bool
-    ensures { result ≡ is_accepted replies.now end.now }
-{
-    all_accepted(replies) && end.is_ok()
+    let mut text = Some(Vec::new(alloc));
+    let mut accepted = true;
+    for line in lines {
+        let reply = job.step(&line.command);
+        accepted = accepted && reply.is_ok();
+        text = with_answer(text, line.number, &reply);
+    }
+    (text, accepted)
 }

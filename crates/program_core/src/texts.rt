@@ -1,8 +1,8 @@
 //! The texts of answers.
 
-ghost use Rattle.std.specs.Prelude.{◌≡◌, ◌++◌, ◌+◌, ◌*◌, ◌<◌, decimal, OnOk, OnErr, IfOk};
+ghost use Rattle.std.specs.Prelude.{◌≡◌, ◌++◌, ◌+◌, ◌*◌, ◌<◌, ℕ, List, decimal, OnOk, OnErr, IfOk, IfSome};
 ghost use Rattle.std.specs.Fmt.{signed_decimal};
-ghost use Rattle.program_core.specs.Texts.{refusal_row, metric_refusal_name, cause_name, kind_name, points_text, sizes_text, rest_text, lines_text, costs_text, refusal_text, answer_text, reply_text, answer_line, summary_text, end_line, answer_lines, answers_text, script_refusal_text};
+ghost use Rattle.program_core.specs.Texts.{refusal_row, metric_refusal_name, cause_name, kind_name, points_text, sizes_text, rest_text, lines_text, costs_text, refusal_text, answer_text, reply_text, answer_line, summary_text, end_line, script_refusal_text};
 
 use itoa::Buffer;
 use job_core::{Answer, Refusal, Reply, Sizes, Summary, TfmCause};
@@ -328,34 +328,22 @@ fn push_end_line(end: &Result<Summary, Refusal>, out: &mut Vec<u8>) -> Result<()
     push_text("\n", out)
 }
 
-/// Appends the lines that answer the lines of a script with these numbers.
-fn push_answer_lines(
-    numbers: &[usize],
-    replies: &[Reply],
-    out: &mut Vec<u8>,
-) -> Result<(), AllocError>
-    ensures { OnOk result (out.new.items ≡ out.old.items ++ answer_lines numbers.now replies.now) }
+/// The text of some answers with the line of one more, or None where memory is refused or was before.
+pub fn with_answer(text: Option<Vec<u8>>, number: usize, reply: &Reply) -> Option<Vec<u8>>
+    ensures { (front : List ℕ) → IfSome text (λ old. old.items ≡ front) → IfSome result (λ new. new.items ≡ front ++ answer_line number reply.now) }
 {
-    for (number, reply) in numbers.iter().zip(replies) {
-        push_answer_line(*number, reply, out)?;
-    }
-    Ok(())
+    let mut text = text?;
+    push_answer_line(number, reply, &mut text).ok()?;
+    Some(text)
 }
 
-/// The texts of a script that was run: an answer for each line that says a command, by its number, and the end.
-#[tactic(auto, unfolding(crate::specs::Texts::answers_text))]
-pub fn answers_text(
-    alloc: Global,
-    numbers: &[usize],
-    replies: &[Reply],
-    end: &Result<Summary, Refusal>,
-) -> Result<Vec<u8>, AllocError>
-    ensures { IfOk result (λ text. text.items ≡ answers_text numbers.now replies.now end.now) }
+/// The text of all answers with the last line, or None where memory is refused or was before.
+pub fn with_end(text: Option<Vec<u8>>, end: &Result<Summary, Refusal>) -> Option<Vec<u8>>
+    ensures { (front : List ℕ) → IfSome text (λ old. old.items ≡ front) → IfSome result (λ new. new.items ≡ front ++ end_line end.now) }
 {
-    let mut text = Vec::new(alloc);
-    push_answer_lines(numbers, replies, &mut text)?;
-    push_end_line(end, &mut text)?;
-    Ok(text)
+    let mut text = text?;
+    push_end_line(end, &mut text).ok()?;
+    Some(text)
 }
 
 /// The text for a bad script: the number of its first bad line, and the cause.
