@@ -121,7 +121,7 @@ losing old new may running some goes fails part m holds = (
 -- A job whose writer has ended is stopped.
 pub stopped : (kept : Keeping) (w now : Writing) → now.so_far ≡ w.so_far → now.over ≡ true → (seen_by kept now).state ≡ record ((seen_by kept w).state) { over = true }
 stopped kept w now same over =
-    ap (λ (x : SoFar). state_of kept x.nodes x.pages now.over) same ∙ ap (λ over. state_of kept w.so_far.nodes w.so_far.pages over) over
+    ap (λ (x : SoFar). state_of kept x.load x.pages now.over) same ∙ ap (λ over. state_of kept w.so_far.load w.so_far.pages over) over
 
 -- What a device tells that told nothing before.
 pub said : (told new : Option (List ℕ)) (bytes : List ℕ) (P : List ℕ → Type 0) → new ≡ grown (untold told) bytes → P bytes → IfSome new P

@@ -9,11 +9,11 @@ use Rattle.tfm_core.specs.FileWidths.{width_at}
 use Rattle.tfm_core.specs.declared.font.GlyphSize.{GlyphSize}
 use Rattle.node_core.specs.declared.tree.Glyph as glyph_type
 use Rattle.node_core.specs.declared.tree.BoxNode.{BoxNode}
-use Rattle.node_core.specs.Items.{Leaf, glyph, font_kern, kern, glue, penalty, rule}
+use Rattle.node_core.specs.Items.{Leaf, glyph, font_kern, kern, glue, penalty, rule, special}
 use Rattle.dvi_ops.proofs.Appends.{all_append, all_weaker}
 use Rattle.dvi_layout.specs.declared.fonts.LoadedFont.{LoadedFont}
 use Rattle.command_core.specs.declared.command.Command.{Command}
-use Rattle.command_core.specs.declared.command.Command.TheVariants.{LoadFont, UseFont, Open, Paragraph, End, Text, Character, Rule, Kern, Glue, Penalty, Append, Unbox, LastBox, Split, Measure, Void, Set, Count, Ship}
+use Rattle.command_core.specs.declared.command.Command.TheVariants.{LoadFont, UseFont, Open, Paragraph, End, Text, Character, Rule, Kern, Glue, Penalty, Append, Unbox, LastBox, Split, Measure, Void, Set, Count, Special, Ship}
 use Rattle.command_core.specs.declared.command.Refusal.{Refusal}
 use Rattle.command_core.specs.Reply.{Reply}
 use Rattle.dvi_layout.specs.Fonts.{Slots, font_in}
@@ -77,6 +77,7 @@ read_after s (Measure r) all = all
 read_after s (Void r) all = all
 read_after s (Set parameter) all = all
 read_after s (Count counting) all = all
+read_after s (Special text) all = all
 read_after s (Ship r) all = all
 
 abbrev IsSizedPage : Slots → Page → Type 0
@@ -106,6 +107,7 @@ new_sized s (Measure r) sized = tt
 new_sized s (Void r) sized = tt
 new_sized s (Set parameter) sized = tt
 new_sized s (Count counting) sized = tt
+new_sized s (Special text) sized = tt
 new_sized s (Ship r) sized = sized_page s r (held_in s.registers r) refl sized
 
 known_step : (m : Machine) (command : Command) (refused : Option Refusal) → first_of (checks m.state command) ≡ refused → IsKnown m
@@ -156,6 +158,7 @@ measured s all (kern width) sized = tt
 measured s all (glue g) sized = tt
 measured s all (penalty p) sized = tt
 measured s all (rule sizes) sized = tt
+measured s all (special text) sized = tt
 
 pub measured_pages : (files : List NamedBytes) (n : ℕ) (commands : List Command) (replies : List Reply) (m : Machine) (k : ℕ) → Run (first_machine files) n commands replies m k
     → AllByRecursion (IsMeasuredPage m.state) m.pages

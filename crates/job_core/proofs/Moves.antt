@@ -3,18 +3,18 @@ use Rattle.std.proofs.Common.{◌≡◌, ℕ, ◌+◌, Bool, true, false, List, 
 use Rattle.std.specs.Prelude.{◌≢◌, Ok, is_none, if◌then◌else◌, IfOk, IfErr, nat_le, nat_lt}
 use Rattle.node_core.specs.declared.tree.BoxNode.{BoxNode}
 use Rattle.command_core.specs.declared.command.Command.{Command}
-use Rattle.command_core.specs.declared.command.Command.TheVariants.{LoadFont, UseFont, Open, Paragraph, End, Text, Character, Rule, Kern, Glue, Penalty, Append, Unbox, LastBox, Split, Measure, Void, Set, Count, Ship}
+use Rattle.command_core.specs.declared.command.Command.TheVariants.{LoadFont, UseFont, Open, Paragraph, End, Text, Character, Rule, Kern, Glue, Penalty, Append, Unbox, LastBox, Split, Measure, Void, Set, Count, Special, Ship}
 use Rattle.command_core.specs.declared.command.Refusal.{Refusal}
-use Rattle.command_core.specs.declared.command.Refusal.TheVariants.{OutOfMemory, Device, JobOver, VoidBox, TooManyPages, TooMuchShipped, HugePage}
+use Rattle.command_core.specs.declared.command.Refusal.TheVariants.{OutOfMemory, Device, JobOver, VoidBox, TooManyPages, TooMuchShipped, TooMuchSpecial, HugePage}
 use Rattle.command_core.specs.Reply.{Reply}
-use Rattle.node_core.specs.declared.limits.TheConstants.{MAX_PAGES, MAX_SHIPPED_NODES}
+use Rattle.node_core.specs.declared.limits.TheConstants.{MAX_PAGES, MAX_SHIPPED_NODES, MAX_SHIPPED_TEXT}
 use Rattle.ship_core.specs.Marks.{Page}
 use Rattle.dvi_layout.specs.Fonts.{Slots}
 use Rattle.device_core.specs.Told.{grown, GrowsByFront}
 use Rattle.dvi_layout.specs.Layout.{front}
 use Rattle.dvi_write.specs.Writing.{Writing, HasWritten}
 use Rattle.dvi_write.proofs.Writings.{written_with_more}
-use Rattle.nest_core.specs.State.{State, held_in, count_in}
+use Rattle.nest_core.specs.State.{State, held_in, shipped_with}
 use Rattle.nest_core.specs.Checks.{checks, own_checks, first_of}
 use Rattle.nest_core.specs.NextPages.{is_huge_in, pages_of}
 use Rattle.nest_core.specs.Answers.{answer_of}
@@ -40,8 +40,8 @@ second_fails false false p q rest none = refl
 box_is_held : (s : State) (r : ℕ) → first_of (checks s (Ship r)) ≡ None → is_none (held_in s.registers r) ≡ false
 box_is_held s r none =
     second_fails s.over (is_none (held_in s.registers r)) JobOver VoidBox
-    ((nat_le MAX_PAGES s.pages, TooManyPages) ∷ (nat_lt MAX_SHIPPED_NODES (s.shipped + count_in (held_in s.registers r)), TooMuchShipped)
-    ∷ (is_huge_in s (held_in s.registers r), HugePage) ∷ [])
+    ((nat_le MAX_PAGES s.pages, TooManyPages) ∷ (nat_lt MAX_SHIPPED_NODES (shipped_with s.shipped (held_in s.registers r)).nodes, TooMuchShipped)
+    ∷ (nat_lt MAX_SHIPPED_TEXT (shipped_with s.shipped (held_in s.registers r)).text, TooMuchSpecial) ∷ (is_huge_in s (held_in s.registers r), HugePage) ∷ [])
     none
 
 -- A command counts the pages that it adds.
@@ -70,6 +70,7 @@ after-pages s (Measure r) none = omega arith
 after-pages s (Void r) none = omega arith
 after-pages s (Set parameter) none = omega arith
 after-pages s (Count counting) none = omega arith
+after-pages s (Special text) none = omega arith
 
 -- After a step there are as many pages as the state counts.
 pub counted :
@@ -225,7 +226,7 @@ goes_on_without old new command other goes keeps tells fails before pages writte
     })
   where
     kept_pages : (refused : Option Refusal) → pages ≡ state_by refused pages (pages ++ new_pages old.state command)
-    kept_pages None = sym (append-nil pages) ∙ ap (λ more. pages ++ more) (sym (apart old.state 0 0 command other).none)
+    kept_pages None = sym (append-nil pages) ∙ ap (λ more. pages ++ more) (sym (apart old.state old.state.shipped 0 command other).none)
     kept_pages (Some refusal) = refl
 
 -- A command that is accepted asks for no font but one that can be defined in a file of pages.
@@ -247,27 +248,27 @@ sound_after s command reply says numbers sound = sound_by s command (first_of (c
 -- What a command does that ships nothing is the same under the numbers of any writer whose file is not over.
 module _ (kept : Keeping) (w : Writing) (command : Command) (other : IsShip command → ⊥) (running : w.over ≡ false) where
   abbrev s : State
-  s = state_of kept w.so_far.nodes w.so_far.pages false
+  s = state_of kept w.so_far.load w.so_far.pages false
 
   runs : s ≡ (seen_by kept w).state
-  runs = ap (λ over. state_of kept w.so_far.nodes w.so_far.pages over) (sym running)
+  runs = ap (λ over. state_of kept w.so_far.load w.so_far.pages over) (sym running)
 
   pub seen_reply : (reply : Reply) → reply ≡ reply_to (unshipped kept) command → reply ≡ reply_to (seen_by kept w).state command
   seen_reply reply says =
-      says ∙ (sym (reply_apart (unshipped kept) w.so_far.nodes w.so_far.pages command other) ∙ ap (λ s. reply_to s command) runs)
+      says ∙ (sym (reply_apart (unshipped kept) w.so_far.load w.so_far.pages command other) ∙ ap (λ s. reply_to s command) runs)
 
   pub seen_state : (now : Keeping) → unshipped now ≡ state_after (unshipped kept) command → (seen_by now w).state ≡ state_after (seen_by kept w).state command
   seen_state now goes =
-      ap (λ over. state_of now w.so_far.nodes w.so_far.pages over) running
-      ∙ (ap (λ t. numbered t w.so_far.nodes w.so_far.pages) goes
-      ∙ (sym (state_apart (unshipped kept) w.so_far.nodes w.so_far.pages command other) ∙ ap (λ s. state_after s command) runs))
+      ap (λ over. state_of now w.so_far.load w.so_far.pages over) running
+      ∙ (ap (λ t. numbered t w.so_far.load w.so_far.pages) goes
+      ∙ (sym (state_apart (unshipped kept) w.so_far.load w.so_far.pages command other) ∙ ap (λ s. state_after s command) runs))
 
   pub seen_early : first_of (early_checks (unshipped kept) command) ≡ None → first_of (early_checks (seen_by kept w).state command) ≡ None
   seen_early none =
-      ap (λ s. first_of (early_checks s command)) (sym runs) ∙ ((apart (unshipped kept) w.so_far.nodes w.so_far.pages command other).early ∙ none)
+      ap (λ s. first_of (early_checks s command)) (sym runs) ∙ ((apart (unshipped kept) w.so_far.load w.so_far.pages command other).early ∙ none)
 
   pub seen_memory : TakesMemory (unshipped kept) command → TakesMemory (seen_by kept w).state command
-  seen_memory takes = subst (λ (s : State). TakesMemory s command) runs ((apart (unshipped kept) w.so_far.nodes w.so_far.pages command other).memory takes)
+  seen_memory takes = subst (λ (s : State). TakesMemory s command) runs ((apart (unshipped kept) w.so_far.load w.so_far.pages command other).memory takes)
 
   -- A job that replies so keeps to the machine.
   pub obeyed : (now : Keeping) (reply : Reply) → reply ≡ reply_to (unshipped kept) command → unshipped now ≡ state_after (unshipped kept) command

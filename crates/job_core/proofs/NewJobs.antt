@@ -39,7 +39,7 @@ new_holds files device kept w fresh is written =
     let fonts = (first_state files).fonts in
     let before : device ≡ untold w.told = fresh_untold device fresh ∙ ap untold (sym (new_told fonts device w written)) in
     record {
-      state = ap (λ (x : SoFar). state_of kept x.nodes x.pages w.over) written.so_far ∙ (ap (λ over. state_of kept 0 0 over) written.running ∙ is);
+      state = ap (λ (x : SoFar). state_of kept x.load x.pages w.over) written.so_far ∙ (ap (λ over. record (unshipped kept) { over = over }) written.running ∙ is);
       count = refl;
       written = λ running. subst (λ before. HasWritten fonts before w []) before written;
       none = λ running. refl;

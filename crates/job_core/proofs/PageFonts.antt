@@ -5,7 +5,7 @@ use Rattle.std.specs.Option.{option_map}
 use Rattle.tfm_core.specs.declared.font.GlyphSize.{GlyphSize}
 use Rattle.tfm_core.specs.NamedBytes.{NamedBytes}
 use Rattle.node_core.specs.declared.tree.BoxNode.{BoxNode}
-use Rattle.node_core.specs.Items.{Leaf, glyph, font_kern, kern, glue, penalty, rule}
+use Rattle.node_core.specs.Items.{Leaf, glyph, font_kern, kern, glue, penalty, rule, special}
 use Rattle.ship_core.specs.Shown.{HasWidth}
 use Rattle.dvi_layout.specs.declared.fonts.LoadedFont.{LoadedFont}
 use Rattle.dvi_layout.specs.Fonts.{Slots, font_in}
@@ -31,6 +31,7 @@ module _ (files : List NamedBytes) (fonts : Slots) (loaded : AreLoaded files fon
   has_width (glue g) sized = tt
   has_width (penalty p) sized = tt
   has_width (rule sizes) sized = tt
+  has_width (special text) sized = tt
 
   -- A sound box may be shipped.
   pub shippable : (b : BoxNode) → IsSoundBox fonts b → IsShippable fonts b

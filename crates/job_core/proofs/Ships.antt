@@ -3,12 +3,13 @@ use Rattle.std.proofs.Common.{◌≡◌, ℕ, ◌+◌, Bool, true, false, inl, i
 use Rattle.std.specs.Prelude.{◌≢◌, ◌⊎◌, ℤ, if◌then◌else◌, is_none, nat_le, nat_lt, slice_set}
 use Rattle.std.specs.Option.{option_map}
 use Rattle.node_core.specs.declared.tree.BoxNode.{BoxNode}
-use Rattle.node_core.specs.Nodes.{box_count}
+use Rattle.node_core.specs.Loads.{Load, heavier}
+use Rattle.node_core.specs.Nodes.{box_count, box_text}
 use Rattle.command_core.specs.declared.command.Answer.TheVariants.{Shipped}
 use Rattle.command_core.specs.declared.command.Command.TheVariants.{Ship}
 use Rattle.command_core.specs.declared.command.Refusal.{Refusal}
-use Rattle.command_core.specs.declared.command.Refusal.TheVariants.{JobOver, VoidBox, TooManyPages, TooMuchShipped, HugePage, Device}
-use Rattle.node_core.specs.declared.limits.TheConstants.{MAX_PAGES, MAX_SHIPPED_NODES}
+use Rattle.command_core.specs.declared.command.Refusal.TheVariants.{JobOver, VoidBox, TooManyPages, TooMuchShipped, TooMuchSpecial, HugePage, Device}
+use Rattle.node_core.specs.declared.limits.TheConstants.{MAX_PAGES, MAX_SHIPPED_NODES, MAX_SHIPPED_TEXT}
 use Rattle.command_core.specs.Reply.{Reply}
 use Rattle.device_core.specs.Told.{GrowsByFront}
 use Rattle.ship_core.specs.Marks.{Page, is_huge}
@@ -20,7 +21,7 @@ use Rattle.dvi_layout.specs.Layout.{front}
 use Rattle.dvi_layout.specs.SoFar.{SoFar, with_next}
 use Rattle.dvi_layout.specs.Shippable.{IsShippable, page_with}
 use Rattle.dvi_write.specs.Writing.{Writing, HasWritten, EndsWith, refusal_of}
-use Rattle.nest_core.specs.State.{State, held_in, count_in}
+use Rattle.nest_core.specs.State.{State, held_in, shipped_with}
 use Rattle.nest_core.specs.Checks.{checks, first_of}
 use Rattle.nest_core.specs.NextPages.{offsets_of, page_in, pages_of, is_huge_in}
 use Rattle.nest_core.specs.Effects.{after, new_pages}
@@ -41,43 +42,49 @@ page_is s counts offsets b counted moved = ap (λ counts. page_with counts offse
 pub may_ship : (s : State) (r : ℕ) (b : BoxNode) → IsSound s → held_in s.registers r ≡ Some b → IsShippable s.fonts b
 may_ship s r b sound is = shippable s.files s.fonts sound.fonts b (sized_held s r b sound.glyphs is)
 
--- The writer counts the page and its nodes.
+-- The writer counts the page, its nodes and its texts.
 next_pages : (fonts : Slots) (s : SoFar) (page : Page) → (with_next fonts s page).pages ≡ s.pages + 1
 unfolding with_next
 next_pages fonts s page = refl
 
-next_nodes : (fonts : Slots) (s : SoFar) (page : Page) → (with_next fonts s page).nodes ≡ s.nodes + box_count page.box_node
+next_load : (fonts : Slots) (s : SoFar) (page : Page) → (with_next fonts s page).load ≡ heavier s.load page.box_node
 unfolding with_next
-next_nodes fonts s page = refl
+next_load fonts s page = refl
 
 -- The refusals of the writer are those of the machine, in the same order.
-by_tests : (over pages nodes huge : Bool)
-    → first_of ((over, JobOver) ∷ (false, VoidBox) ∷ (pages, TooManyPages) ∷ (nodes, TooMuchShipped) ∷ (huge, HugePage) ∷ [])
+by_tests : (over pages nodes text huge : Bool)
+    → first_of ((over, JobOver) ∷ (false, VoidBox) ∷ (pages, TooManyPages) ∷ (nodes, TooMuchShipped) ∷ (text, TooMuchSpecial) ∷ (huge, HugePage) ∷ [])
     ≡ option_map refusal_for
-    (if over then Some faults.JobOver else if pages then Some faults.TooManyPages else if nodes then Some faults.TooMuchShipped else if huge then Some faults.HugePage else None)
-by_tests true pages nodes huge = refl
-by_tests false true nodes huge = refl
-by_tests false false true huge = refl
-by_tests false false false true = refl
-by_tests false false false false = refl
+    (if over then Some faults.JobOver else if pages then Some faults.TooManyPages else if nodes then Some faults.TooMuchShipped else if text then Some faults.TooMuchSpecial
+    else if huge then Some faults.HugePage else None)
+by_tests true pages nodes text huge = refl
+by_tests false true nodes text huge = refl
+by_tests false false true text huge = refl
+by_tests false false false true huge = refl
+by_tests false false false false true = refl
+by_tests false false false false false = refl
 
 -- None of them is that memory was refused or that the device failed.
-never_by : (over pages nodes huge : Bool) (fault : WriteFault) → (fault ≡ faults.OutOfMemory) ⊎ (fault ≡ faults.Device)
-    → (if over then Some faults.JobOver else if pages then Some faults.TooManyPages else if nodes then Some faults.TooMuchShipped else if huge then Some faults.HugePage else None) ≡ Some fault → ⊥
-never_by true pages nodes huge fault (inl e) is = cc
-never_by true pages nodes huge fault (inr e) is = cc
-never_by false true nodes huge fault (inl e) is = cc
-never_by false true nodes huge fault (inr e) is = cc
-never_by false false true huge fault (inl e) is = cc
-never_by false false true huge fault (inr e) is = cc
-never_by false false false true fault (inl e) is = cc
-never_by false false false true fault (inr e) is = cc
-never_by false false false false fault (inl e) is = cc
-never_by false false false false fault (inr e) is = cc
+never_by : (over pages nodes text huge : Bool) (fault : WriteFault) → (fault ≡ faults.OutOfMemory) ⊎ (fault ≡ faults.Device)
+    → (if over then Some faults.JobOver else if pages then Some faults.TooManyPages else if nodes then Some faults.TooMuchShipped else if text then Some faults.TooMuchSpecial
+    else if huge then Some faults.HugePage else None) ≡ Some fault → ⊥
+never_by true pages nodes text huge fault (inl e) is = cc
+never_by true pages nodes text huge fault (inr e) is = cc
+never_by false true nodes text huge fault (inl e) is = cc
+never_by false true nodes text huge fault (inr e) is = cc
+never_by false false true text huge fault (inl e) is = cc
+never_by false false true text huge fault (inr e) is = cc
+never_by false false false true huge fault (inl e) is = cc
+never_by false false false true huge fault (inr e) is = cc
+never_by false false false false true fault (inl e) is = cc
+never_by false false false false true fault (inr e) is = cc
+never_by false false false false false fault (inl e) is = cc
+never_by false false false false false fault (inr e) is = cc
 
 never_lost : (w : Writing) (page : Page) → refusal_of w page ≡ Some faults.Device → ⊥
 never_lost w page is =
-    never_by w.over (nat_le MAX_PAGES w.so_far.pages) (nat_lt MAX_SHIPPED_NODES (w.so_far.nodes + box_count page.box_node)) (is_huge page) faults.Device (inr refl) is
+    never_by w.over (nat_le MAX_PAGES w.so_far.pages) (nat_lt MAX_SHIPPED_NODES (w.so_far.load.nodes + box_count page.box_node))
+    (nat_lt MAX_SHIPPED_TEXT (w.so_far.load.text + box_text page.box_node)) (is_huge page) faults.Device (inr refl) is
 
 -- A void register is refused.
 pub void_refused : (kept : Keeping) (w : Writing) (r : ℕ) → w.over ≡ false → held_in kept.registers r ≡ None → KeepsTo (seen_by kept w) (Ship r) (Err VoidBox) (seen_by kept w)
@@ -91,8 +98,10 @@ module _ (kept : Keeping) (w : Writing) (r : ℕ) (b : BoxNode) (page : Page) (i
   checked : first_of (checks s (Ship r)) ≡ option_map refusal_for (refusal_of w page)
   checked =
       ap (λ held. first_of ((w.over, JobOver) ∷ (is_none held, VoidBox) ∷ (nat_le MAX_PAGES w.so_far.pages, TooManyPages)
-      ∷ (nat_lt MAX_SHIPPED_NODES (w.so_far.nodes + count_in held), TooMuchShipped) ∷ (is_huge_in s held, HugePage) ∷ [])) is
-      ∙ (by_tests w.over (nat_le MAX_PAGES w.so_far.pages) (nat_lt MAX_SHIPPED_NODES (w.so_far.nodes + box_count b)) (is_huge (page_in (unshipped kept) b))
+      ∷ (nat_lt MAX_SHIPPED_NODES (shipped_with w.so_far.load held).nodes, TooMuchShipped) ∷ (nat_lt MAX_SHIPPED_TEXT (shipped_with w.so_far.load held).text, TooMuchSpecial)
+      ∷ (is_huge_in s held, HugePage) ∷ [])) is
+      ∙ (by_tests w.over (nat_le MAX_PAGES w.so_far.pages) (nat_lt MAX_SHIPPED_NODES (w.so_far.load.nodes + box_count b)) (nat_lt MAX_SHIPPED_TEXT (w.so_far.load.text + box_text b))
+      (is_huge (page_in (unshipped kept) b))
       ∙ ap (λ (p : Page). option_map refusal_for (refusal_of w p)) (sym same))
 
   accepted : refusal_of w page ≡ None → first_of (checks s (Ship r)) ≡ None
@@ -104,20 +113,21 @@ module _ (kept : Keeping) (w : Writing) (r : ℕ) (b : BoxNode) (page : Page) (i
   -- The state when the page went out and the register is void.
   module _ (now : Keeping) (new : Writing) (fonts : Slots) (emptied : now ≡ record kept { registers = slice_set kept.registers r None }) (next : new.so_far ≡ with_next fonts w.so_far page)
       (old_runs : w.over ≡ false) (new_runs : new.over ≡ false) (none : refusal_of w page ≡ None) where
-    nodes : new.so_far.nodes ≡ w.so_far.nodes + count_in (held_in kept.registers r)
-    nodes =
-        ap (λ (x : SoFar). x.nodes) next
-        ∙ (next_nodes fonts w.so_far page ∙ (ap (λ (p : Page). w.so_far.nodes + box_count p.box_node) same ∙ ap (λ held. w.so_far.nodes + count_in held) (sym is)))
+    load : new.so_far.load ≡ shipped_with w.so_far.load (held_in kept.registers r)
+    load =
+        ap (λ (x : SoFar). x.load) next
+        ∙ (next_load fonts w.so_far page ∙ (ap (λ (p : Page). heavier w.so_far.load p.box_node) same ∙ ap (shipped_with w.so_far.load) (sym is)))
 
     pages : new.so_far.pages ≡ w.so_far.pages + 1
     pages = ap (λ (x : SoFar). x.pages) next ∙ next_pages fonts w.so_far page
 
     behind : (seen_by now new).state ≡ after s (Ship r)
     behind =
-        ap (λ kept. state_of kept new.so_far.nodes new.so_far.pages new.over) emptied
-        ∙ (ap (λ n. state_of (record kept { registers = slice_set kept.registers r None }) n new.so_far.pages new.over) nodes
-        ∙ (ap (λ n. state_of (record kept { registers = slice_set kept.registers r None }) (w.so_far.nodes + count_in (held_in kept.registers r)) n new.over) pages
-        ∙ ap (λ over. state_of (record kept { registers = slice_set kept.registers r None }) (w.so_far.nodes + count_in (held_in kept.registers r)) (w.so_far.pages + 1) over) (new_runs ∙ sym old_runs)))
+        ap (λ kept. state_of kept new.so_far.load new.so_far.pages new.over) emptied
+        ∙ (ap (λ (n : Load). state_of (record kept { registers = slice_set kept.registers r None }) n new.so_far.pages new.over) load
+        ∙ (ap (λ n. state_of (record kept { registers = slice_set kept.registers r None }) (shipped_with w.so_far.load (held_in kept.registers r)) n new.over) pages
+        ∙ ap (λ over. state_of (record kept { registers = slice_set kept.registers r None }) (shipped_with w.so_far.load (held_in kept.registers r)) (w.so_far.pages + 1) over)
+        (new_runs ∙ sym old_runs)))
 
     goes_on : ((before : Option (List ℕ)) (pages : List Page) → HasWritten kept.fonts before w pages → HasWritten kept.fonts before new (pages ++ page ∷ [])) → GoesOn s (Ship r) w new
     goes_on on before pages written =
@@ -165,6 +175,7 @@ pub is_lost : (fault : WriteFault) (reply : Reply) → reply ≡ Err (refusal_fo
 is_lost faults.JobOver reply is told = cc
 is_lost faults.TooManyPages reply is told = cc
 is_lost faults.TooMuchShipped reply is told = cc
+is_lost faults.TooMuchSpecial reply is told = cc
 is_lost faults.HugePage reply is told = cc
 is_lost faults.OutOfMemory reply is told = cc
 is_lost faults.Device reply is told = refl

@@ -35,6 +35,7 @@ fn refusal_for(fault: WriteFault) -> Refusal
         WriteFault::JobOver => Refusal::JobOver,
         WriteFault::TooManyPages => Refusal::TooManyPages,
         WriteFault::TooMuchShipped => Refusal::TooMuchShipped,
+        WriteFault::TooMuchSpecial => Refusal::TooMuchSpecial,
         WriteFault::HugePage => Refusal::HugePage,
         WriteFault::OutOfMemory => Refusal::OutOfMemory,
         WriteFault::Device => Refusal::Device,
@@ -99,6 +100,7 @@ fn obey(kept: &mut Kept, command: &Command) -> Result<Reply, AllocError>
         Command::Void(register) => Ok(kept.void(*register)),
         Command::Set(parameter) => Ok(kept.set(*parameter)),
         Command::Count(counting) => Ok(kept.count(*counting)),
+        Command::Special(text) => kept.append_special(text),
         Command::Ship(_) => unreachable!(),
     }
 }

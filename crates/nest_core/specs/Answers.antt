@@ -10,7 +10,7 @@ use Rattle.nest_core.specs.declared.nest.ListPurpose.{ListPurpose}
 use Rattle.nest_core.specs.declared.nest.ListPurpose.TheVariants as purposes
 use Rattle.command_core.specs.declared.command.Sizes.{Sizes}
 use Rattle.command_core.specs.declared.command.Command.{Command}
-use Rattle.command_core.specs.declared.command.Command.TheVariants.{LoadFont, UseFont, Open, Paragraph, End, Text, Character, Rule, Kern, Glue, Penalty, Append, Unbox, LastBox, Split, Measure, Void, Set, Count, Ship}
+use Rattle.command_core.specs.declared.command.Command.TheVariants.{LoadFont, UseFont, Open, Paragraph, End, Text, Character, Rule, Kern, Glue, Penalty, Append, Unbox, LastBox, Split, Measure, Void, Set, Count, Special, Ship}
 use Rattle.command_core.specs.declared.command.Answer.{Answer}
 use Rattle.command_core.specs.declared.command.Answer.TheVariants as answers
 use Rattle.command_core.specs.declared.command.Answer.TheVariants.{Done, Packed, Measured, MeasuredVoid, Shaped, Added, SplitVoid, Shipped}
@@ -85,4 +85,5 @@ answer_of m (Measure r) = measured_answer (held_in m.registers r)
 answer_of m (Void r) = Done
 answer_of m (Set parameter) = Done
 answer_of m (Count counting) = Done
+answer_of m (Special text) = Done
 answer_of m (Ship r) = Shipped (m.pages + 1)

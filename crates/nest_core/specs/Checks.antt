@@ -15,10 +15,10 @@ use Rattle.nest_core.specs.declared.nest.OpenList.{OpenList}
 use Rattle.nest_core.specs.declared.nest.ListPurpose.{ListPurpose}
 use Rattle.nest_core.specs.declared.nest.ListPurpose.TheVariants as purposes
 use Rattle.command_core.specs.declared.command.Command.{Command}
-use Rattle.command_core.specs.declared.command.Command.TheVariants.{LoadFont, UseFont, Open, Paragraph, End, Text, Character, Rule, Kern, Glue, Penalty, Append, Unbox, LastBox, Split, Measure, Void, Set, Count, Ship}
+use Rattle.command_core.specs.declared.command.Command.TheVariants.{LoadFont, UseFont, Open, Paragraph, End, Text, Character, Rule, Kern, Glue, Penalty, Append, Unbox, LastBox, Split, Measure, Void, Set, Count, Special, Ship}
 use Rattle.command_core.specs.declared.command.Refusal.{Refusal}
-use Rattle.command_core.specs.declared.command.Refusal.TheVariants.{DimensionTooLarge, NoFont, SlotTaken, NoOpenList, WrongMode, WrongKind, ListTooLong, TooDeep, InfiniteShrink, HugePage, TooManyPages, TooMuchShipped, JobOver, VoidBox}
-use Rattle.node_core.specs.declared.limits.TheConstants.{MAX_OPEN_LISTS, MAX_ITEMS, MAX_DEPTH, MAX_PAGES, MAX_SHIPPED_NODES}
+use Rattle.command_core.specs.declared.command.Refusal.TheVariants.{DimensionTooLarge, NoFont, SlotTaken, NoOpenList, WrongMode, WrongKind, ListTooLong, TooDeep, InfiniteShrink, HugePage, TooManyPages, TooMuchShipped, TooMuchSpecial, JobOver, VoidBox}
+use Rattle.node_core.specs.declared.limits.TheConstants.{MAX_OPEN_LISTS, MAX_ITEMS, MAX_DEPTH, MAX_PAGES, MAX_SHIPPED_NODES, MAX_SPECIAL_TEXT, MAX_SHIPPED_TEXT}
 use Rattle.pack_core.specs.declared.pack.Packed as packs
 use Rattle.scaled_core.specs.Dimensions.{fits}
 use Rattle.node_core.specs.Classes.{shrinks_infinitely}
@@ -26,7 +26,7 @@ use Rattle.split_core.specs.Split.{split_numbers}
 use Rattle.tfm_core.specs.Fonts.{SizedFont}
 use Rattle.dvi_layout.specs.Fonts.{font_in}
 use Rattle.nest_core.specs.FontSlots.{current_font, CharacterItems, text_shaped, character_shaped}
-use Rattle.nest_core.specs.State.{State, innermost, outer, items_in, open_count, held_in, count_in, font_for}
+use Rattle.nest_core.specs.State.{State, innermost, outer, items_in, open_count, held_in, shipped_with, font_for}
 use Rattle.nest_core.specs.NextPages.{is_huge_in}
 use Rattle.nest_core.specs.OpenLists.{kind_in, is_vertical, glue_in, box_items, packed_list}
 use Rattle.nest_core.specs.Paragraphs.{paragraph_checks}
@@ -175,9 +175,12 @@ own_checks m (Measure r) = []
 own_checks m (Void r) = []
 own_checks m (Set parameter) = []
 own_checks m (Count counting) = []
+own_checks m (Special text) =
+    (length m.nest == 0, NoOpenList) ∷ (nat_lt MAX_SPECIAL_TEXT (length text), TooMuchSpecial) ∷ (nat_le MAX_ITEMS (open_count m), ListTooLong) ∷ []
 own_checks m (Ship r) =
     (is_none (held_in m.registers r), VoidBox) ∷ (nat_le MAX_PAGES m.pages, TooManyPages)
-    ∷ (nat_lt MAX_SHIPPED_NODES (m.shipped + count_in (held_in m.registers r)), TooMuchShipped)
+    ∷ (nat_lt MAX_SHIPPED_NODES (shipped_with m.shipped (held_in m.registers r)).nodes, TooMuchShipped)
+    ∷ (nat_lt MAX_SHIPPED_TEXT (shipped_with m.shipped (held_in m.registers r)).text, TooMuchSpecial)
     ∷ (is_huge_in m (held_in m.registers r), HugePage) ∷ []
 
 -- A job that is over refuses each command for that.

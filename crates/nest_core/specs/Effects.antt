@@ -18,12 +18,12 @@ use Rattle.command_core.specs.declared.command.Splitting.{Splitting}
 use Rattle.command_core.specs.declared.command.Taking.{Taking}
 use Rattle.command_core.specs.declared.command.Taking.TheVariants.{Moved, Copied}
 use Rattle.command_core.specs.declared.command.Command.{Command}
-use Rattle.command_core.specs.declared.command.Command.TheVariants.{LoadFont, UseFont, Open, Paragraph, End, Text, Character, Rule, Kern, Glue, Penalty, Append, Unbox, LastBox, Split, Measure, Void, Set, Count, Ship}
+use Rattle.command_core.specs.declared.command.Command.TheVariants.{LoadFont, UseFont, Open, Paragraph, End, Text, Character, Rule, Kern, Glue, Penalty, Append, Unbox, LastBox, Split, Measure, Void, Set, Count, Special, Ship}
 use Rattle.pack_core.specs.declared.pack.Packed as packs
 use Rattle.split_core.specs.Split.{front_of, rest_of}
 use Rattle.ship_core.specs.Marks.{Page}
 use Rattle.nest_core.specs.FontSlots.{with_font, text_shaped, character_shaped}
-use Rattle.nest_core.specs.State.{State, innermost, outer, with_innermost, items_in, held_in, count_in, font_for}
+use Rattle.nest_core.specs.State.{State, innermost, outer, with_innermost, items_in, held_in, shipped_with, font_for}
 use Rattle.nest_core.specs.NextPages.{pages_of}
 use Rattle.nest_core.specs.OpenLists.{opened_list, box_items, packed_list}
 use Rattle.nest_core.specs.Paragraphs.{with_paragraph}
@@ -158,10 +158,11 @@ after m (Measure r) = m
 after m (Void r) = record m { registers = slice_set m.registers r None }
 after m (Set parameter) = record m { params = with_parameter m.params parameter }
 after m (Count counting) = record m { counts = slice_set m.counts counting.count counting.value }
+after m (Special text) = with_items m (nodes.Special text ∷ [])
 after m (Ship r) =
     record m {
       registers = slice_set m.registers r None;
-      shipped = m.shipped + count_in (held_in m.registers r);
+      shipped = shipped_with m.shipped (held_in m.registers r);
       pages = m.pages + 1;
     }
 

@@ -1,7 +1,7 @@
 -- Runs of the machine, with what it does not choose: want of memory and a device that fails (own).
 use Rattle.std.specs.Prelude.{◌≡◌, ◌≢◌, ◌+◌, ◌==◌, [], ◌∷◌, ℕ, ℤ, Bool, true, not, List, length, Option, Some, None, is_none, is_some, IsSome, Result, Ok, Err}
 use Rattle.command_core.specs.declared.command.Command.{Command}
-use Rattle.command_core.specs.declared.command.Command.TheVariants.{LoadFont, UseFont, Open, Paragraph, End, Text, Character, Rule, Kern, Glue, Penalty, Append, Unbox, LastBox, Split, Measure, Void, Set, Count, Ship}
+use Rattle.command_core.specs.declared.command.Command.TheVariants.{LoadFont, UseFont, Open, Paragraph, End, Text, Character, Rule, Kern, Glue, Penalty, Append, Unbox, LastBox, Split, Measure, Void, Set, Count, Special, Ship}
 use Rattle.command_core.specs.declared.command.Refusal.{Refusal}
 use Rattle.command_core.specs.declared.command.Refusal.TheVariants.{OutOfMemory, NoFont, SlotTaken, NoOpenList, Device, ListsOpen, JobOver}
 use Rattle.command_core.specs.declared.command.Summary.{Summary}
@@ -49,6 +49,7 @@ TakesMemory m (Measure r) = ⊥
 TakesMemory m (Void r) = ⊥
 TakesMemory m (Set parameter) = ⊥
 TakesMemory m (Count counting) = ⊥
+TakesMemory m (Special text) = Unit {0}
 TakesMemory m (Ship r) = Unit {0}
 
 -- The refusals of the end of a list that was opened for that and has these lists around, as far as no refused growth hides them.

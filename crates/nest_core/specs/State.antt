@@ -4,7 +4,8 @@ use Rattle.node_core.specs.declared.tree.Node.{Node}
 use Rattle.node_core.specs.declared.tree.BoxNode.{BoxNode}
 use Rattle.node_core.specs.declared.params.Params.{Params}
 use Rattle.node_core.specs.Items.{Items, none}
-use Rattle.node_core.specs.Nodes.{nodes_of, box_count}
+use Rattle.node_core.specs.Nodes.{nodes_of}
+use Rattle.node_core.specs.Loads.{Load, heavier}
 use Rattle.node_core.specs.Parameters.{first_params}
 use Rattle.nest_core.specs.declared.nest.OpenList.{OpenList}
 use Rattle.command_core.specs.declared.command.FontLoad.{FontLoad}
@@ -17,7 +18,8 @@ use Rattle.node_core.specs.declared.limits.TheConstants.{FONT_SLOTS}
 use Rattle.nest_core.specs.FontSlots.{font_of}
 
 -- What commands read and change: the font files; the fonts by slot, and the slot of the current one; the parameters; the open lists, the
--- outermost first; the registers by number; the counts of the pages that follow; how many nodes and pages were shipped; and whether the job is over.
+-- outermost first; the registers by number; the counts of the pages that follow; how many nodes and bytes of special texts were shipped, and how many
+-- pages; and whether the job is over.
 pub record State : Type 0 where
   pub files : List NamedBytes
   pub fonts : Slots
@@ -26,7 +28,7 @@ pub record State : Type 0 where
   pub nest : List OpenList
   pub registers : List (Option BoxNode)
   pub counts : List ℤ
-  pub shipped : ℕ
+  pub shipped : Load
   pub pages : ℕ
   pub over : Bool
 
@@ -41,7 +43,7 @@ first_state files =
       nest = [];
       registers = replicate REGISTERS None;
       counts = replicate COUNTS (pos 0);
-      shipped = 0;
+      shipped = record { nodes = 0; text = 0 };
       pages = 0;
       over = false;
     }
@@ -76,10 +78,10 @@ abbrev pub nodes_in : Option BoxNode → List Node
 nodes_in None = []
 nodes_in (Some b) = nodes_of b.list
 
--- How many nodes a register holds: those of its box, of the boxes in it too.
-abbrev pub count_in : Option BoxNode → ℕ
-count_in None = 0
-count_in (Some b) = box_count b
+-- What was shipped when the box of a register is shipped too.
+abbrev pub shipped_with : Load → (held : Option BoxNode) → Load
+shipped_with load None = load
+shipped_with load (Some b) = heavier load b
 
 -- The font that a command asks for, or why there is none.
 abbrev pub font_for : State → FontLoad → Result SizedFont Refusal

@@ -16,7 +16,7 @@ use Rattle.command_core.specs.declared.command.BoxUse.{BoxUse}
 use Rattle.command_core.specs.declared.command.Unboxing.{Unboxing}
 use Rattle.command_core.specs.declared.command.Refusal.{Refusal}
 use Rattle.command_core.specs.declared.command.Command.{Command}
-use Rattle.command_core.specs.declared.command.Command.TheVariants.{LoadFont, UseFont, Open, Paragraph, End, Text, Character, Rule, Kern, Glue, Penalty, Append, Unbox, LastBox, Split, Measure, Void, Set, Count, Ship}
+use Rattle.command_core.specs.declared.command.Command.TheVariants.{LoadFont, UseFont, Open, Paragraph, End, Text, Character, Rule, Kern, Glue, Penalty, Append, Unbox, LastBox, Split, Measure, Void, Set, Count, Special, Ship}
 
 pub record KeepsRest (s t : State) : Type 0 where
   pub files : t.files ≡ s.files
@@ -87,6 +87,7 @@ after_kept s (Measure r) = record { files = refl; over = refl }
 after_kept s (Void r) = record { files = refl; over = refl }
 after_kept s (Set parameter) = record { files = refl; over = refl }
 after_kept s (Count counting) = record { files = refl; over = refl }
+after_kept s (Special text) = record { files = refl; over = refl }
 after_kept s (Ship r) = record { files = refl; over = refl }
 
 pub job_kept : (s : State) (command : Command) → KeepsJob s (state_after s command)

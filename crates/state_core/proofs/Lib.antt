@@ -1,3 +1,4 @@
+pub mod AppendedSpecials
 pub mod KeptRest
 pub mod Refusals
 pub mod SplitParts

@@ -13,7 +13,7 @@ use Rattle.tfm_core.specs.FileWidths.{file_widths, widths_of_file, widths_by, wi
 use Rattle.tfm_core.proofs.ByteLemmas.{byte-glyph_of}
 use Rattle.dvi_layout.specs.declared.fonts.LoadedFont.{LoadedFont}
 use Rattle.command_core.specs.declared.command.Command.{Command}
-use Rattle.command_core.specs.declared.command.Command.TheVariants.{LoadFont, UseFont, Open, Paragraph, End, Text, Character, Rule, Kern, Glue, Penalty, Append, Unbox, LastBox, Split, Measure, Void, Set, Count, Ship}
+use Rattle.command_core.specs.declared.command.Command.TheVariants.{LoadFont, UseFont, Open, Paragraph, End, Text, Character, Rule, Kern, Glue, Penalty, Append, Unbox, LastBox, Split, Measure, Void, Set, Count, Special, Ship}
 use Rattle.command_core.specs.declared.command.Refusal.{Refusal}
 use Rattle.command_core.specs.declared.command.Refusal.TheVariants.{DimensionTooLarge}
 use Rattle.dvi_layout.specs.Fonts.{Slots, font_in}
@@ -83,6 +83,7 @@ loaded_after s (Measure r) may gives loaded = loaded
 loaded_after s (Void r) may gives loaded = loaded
 loaded_after s (Set parameter) may gives loaded = loaded
 loaded_after s (Count counting) may gives loaded = loaded
+loaded_after s (Special text) may gives loaded = loaded
 loaded_after s (Ship r) may gives loaded = loaded
 
 -- A font in a slot is one of them, and its slot is below 256.

@@ -1,12 +1,13 @@
--- No command but a ship reads or changes how many nodes and pages were shipped.
+-- No command but a ship reads or changes how many nodes, bytes of texts and pages were shipped.
 use Rattle.std.proofs.Common.{◌≡◌, ℕ, List, [], Option, Some, None, refl, ap, ◌∙◌}
 use Rattle.std.specs.Prelude.{ℤ}
 use Rattle.node_core.specs.declared.tree.BoxNode.{BoxNode}
+use Rattle.node_core.specs.Loads.{Load}
 use Rattle.pack_core.specs.declared.pack.Packed as packs
 use Rattle.command_core.specs.declared.command.Taking.{Taking}
 use Rattle.command_core.specs.declared.command.Refusal.{Refusal}
 use Rattle.command_core.specs.declared.command.Command.{Command}
-use Rattle.command_core.specs.declared.command.Command.TheVariants.{LoadFont, UseFont, Open, Paragraph, End, Text, Character, Rule, Kern, Glue, Penalty, Append, Unbox, LastBox, Split, Measure, Void, Set, Count, Ship}
+use Rattle.command_core.specs.declared.command.Command.TheVariants.{LoadFont, UseFont, Open, Paragraph, End, Text, Character, Rule, Kern, Glue, Penalty, Append, Unbox, LastBox, Split, Measure, Void, Set, Count, Special, Ship}
 use Rattle.nest_core.specs.declared.nest.OpenList.{OpenList}
 use Rattle.nest_core.specs.declared.nest.ListPurpose.{ListPurpose}
 use Rattle.nest_core.specs.declared.nest.ListPurpose.TheVariants as purposes
@@ -18,11 +19,11 @@ use Rattle.nest_core.specs.Effects.{with_home, with_closed, with_purpose, with_e
 use Rattle.nest_core.specs.Machine.{reply_by, reply_to, state_by, state_after}
 use Rattle.nest_core.specs.Runs.{IsShip, TakesMemory, early_checks}
 
--- The state with these numbers of nodes and pages.
-abbrev pub numbered : State → (shipped pages : ℕ) → State
+-- The state with these numbers of what was shipped and of pages.
+abbrev pub numbered : State → (shipped : Load) → (pages : ℕ) → State
 numbered s shipped pages = record s { shipped = shipped; pages = pages }
 
-module _ (s : State) (n p : ℕ) where
+module _ (s : State) (n : Load) (p : ℕ) where
   home_numbered : (around : List OpenList) (into : Option ℕ) (b : BoxNode) → with_home (numbered s n p) around into b ≡ numbered (with_home s around into b) n p
   home_numbered around None b = refl
   home_numbered around (Some r) b = refl
@@ -48,7 +49,7 @@ module _ (s : State) (n p : ℕ) where
   unboxed_numbered taking r (Some b) = refl
 
 -- What a command does is the same whatever was shipped, and it adds no page.
-pub record IsApart (s : State) (n p : ℕ) (command : Command) : Type 0 where
+pub record IsApart (s : State) (n : Load) (p : ℕ) (command : Command) : Type 0 where
   pub checked : first_of (checks (numbered s n p) command) ≡ first_of (checks s command)
   pub early : first_of (early_checks (numbered s n p) command) ≡ first_of (early_checks s command)
   pub answer : answer_of (numbered s n p) command ≡ answer_of s command
@@ -56,7 +57,7 @@ pub record IsApart (s : State) (n p : ℕ) (command : Command) : Type 0 where
   pub memory : TakesMemory s command → TakesMemory (numbered s n p) command
   pub none : new_pages s command ≡ []
 
-pub apart : (s : State) (n p : ℕ) (command : Command) → (IsShip command → ⊥) → IsApart s n p command
+pub apart : (s : State) (n : Load) (p : ℕ) (command : Command) → (IsShip command → ⊥) → IsApart s n p command
 apart s n p (LoadFont load) other = record { checked = refl; early = refl; answer = refl; state = refl; memory = λ takes. takes; none = refl }
 apart s n p (UseFont slot) other = record { checked = refl; early = refl; answer = refl; state = refl; memory = λ takes. takes; none = refl }
 apart s n p (Open opening) other = record { checked = refl; early = refl; answer = refl; state = refl; memory = λ takes. takes; none = refl }
@@ -93,10 +94,11 @@ apart s n p (Measure r) other = record { checked = refl; early = refl; answer = 
 apart s n p (Void r) other = record { checked = refl; early = refl; answer = refl; state = refl; memory = λ takes. takes; none = refl }
 apart s n p (Set parameter) other = record { checked = refl; early = refl; answer = refl; state = refl; memory = λ takes. takes; none = refl }
 apart s n p (Count counting) other = record { checked = refl; early = refl; answer = refl; state = refl; memory = λ takes. takes; none = refl }
+apart s n p (Special text) other = record { checked = refl; early = refl; answer = refl; state = refl; memory = λ takes. takes; none = refl }
 apart s n p (Ship r) other = absurd (other tt)
 
 -- So are its reply and the state behind it.
-module _ (s : State) (n p : ℕ) (command : Command) (other : IsShip command → ⊥) where
+module _ (s : State) (n : Load) (p : ℕ) (command : Command) (other : IsShip command → ⊥) where
   pub reply_apart : reply_to (numbered s n p) command ≡ reply_to s command
   reply_apart =
       let same = apart s n p command other in

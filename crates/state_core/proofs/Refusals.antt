@@ -8,7 +8,7 @@ use Rattle.tfm_core.specs.Rules.{metric_file}
 use Rattle.tfm_core.specs.Fonts.{SizedFont, chosen_size, fits_at, font_at}
 use Rattle.nest_core.specs.FontSlots.{font_of, sized_font}
 use Rattle.command_core.specs.declared.command.Command.{Command}
-use Rattle.command_core.specs.declared.command.Command.TheVariants.{LoadFont, UseFont, Open, Paragraph, End, Text, Character, Rule, Kern, Glue, Penalty, Append, Unbox, LastBox, Split, Measure, Void, Set, Count, Ship}
+use Rattle.command_core.specs.declared.command.Command.TheVariants.{LoadFont, UseFont, Open, Paragraph, End, Text, Character, Rule, Kern, Glue, Penalty, Append, Unbox, LastBox, Split, Measure, Void, Set, Count, Special, Ship}
 use Rattle.command_core.specs.declared.command.Answer.{Answer}
 use Rattle.command_core.specs.declared.command.Refusal.{Refusal}
 use Rattle.command_core.specs.declared.command.Refusal.TheVariants.{OutOfMemory, DimensionTooLarge, Device, JobOver}
@@ -125,7 +125,8 @@ all_chosen s (Measure r) = (tt, tt)
 all_chosen s (Void r) = (tt, tt)
 all_chosen s (Set parameter) = (tt, tt)
 all_chosen s (Count counting) = (tt, tt)
-all_chosen s (Ship r) = (tt, (tt, (tt, (tt, (tt, tt)))))
+all_chosen s (Special text) = (tt, (tt, (tt, (tt, tt))))
+all_chosen s (Ship r) = (tt, (tt, (tt, (tt, (tt, (tt, tt))))))
 
 -- A reply that refuses comes from a check that holds.
 refused_by : (refused : Option Refusal) (answer : Answer) (r : Refusal) → Err r ≡ reply_by refused answer → refused ≡ Some r
@@ -183,6 +184,7 @@ over_early s (Measure r) over = rw over refl
 over_early s (Void r) over = rw over refl
 over_early s (Set parameter) over = rw over refl
 over_early s (Count counting) over = rw over refl
+over_early s (Special text) over = rw over refl
 over_early s (Ship r) over = rw over refl
 
 over_step : (m next : Machine) (n k : ℕ) (command : Command) (reply : Reply) → m.state.over ≡ true → Steps m n command reply next k

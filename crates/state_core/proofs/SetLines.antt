@@ -37,6 +37,7 @@ HasGlyphs fonts (nodes.Kern width) = Unit {0}
 HasGlyphs fonts (nodes.Glue g) = Unit {0}
 HasGlyphs fonts (nodes.Penalty p) = Unit {0}
 HasGlyphs fonts (nodes.Rule sizes) = Unit {0}
+HasGlyphs fonts (nodes.Special text) = Unit {0}
 HasGlyphs fonts (nodes.Box shift b) = EachLeaf (IsSizedLeaf fonts) b.list
 
 -- A paragraph that is set.
@@ -53,6 +54,7 @@ sized_has fonts (nodes.Kern width) is = tt
 sized_has fonts (nodes.Glue g) is = tt
 sized_has fonts (nodes.Penalty p) is = tt
 sized_has fonts (nodes.Rule sizes) is = tt
+sized_has fonts (nodes.Special text) is = tt
 sized_has fonts (nodes.Box shift b) is = is.glyphs
 
 leaves_have : (fonts : Slots) (items : List Node) → HaveGlyphs fonts items → EachLeaf (IsSizedLeaf fonts) (items_of items)
@@ -63,6 +65,7 @@ leaves_have fonts ((nodes.Kern width) ∷ rest) all = (tt, leaves_have fonts res
 leaves_have fonts ((nodes.Glue g) ∷ rest) all = (tt, leaves_have fonts rest all.1)
 leaves_have fonts ((nodes.Penalty p) ∷ rest) all = (tt, leaves_have fonts rest all.1)
 leaves_have fonts ((nodes.Rule sizes) ∷ rest) all = (tt, leaves_have fonts rest all.1)
+leaves_have fonts ((nodes.Special text) ∷ rest) all = (tt, leaves_have fonts rest all.1)
 leaves_have fonts ((nodes.Box shift b) ∷ rest) all = (all.0, leaves_have fonts rest all.1)
 
 module _ (fonts : Slots) where
@@ -83,6 +86,7 @@ module _ (fonts : Slots) where
   at_break_have (Some (nodes.Glue g)) = tt
   at_break_have (Some (nodes.Penalty p)) = (tt, tt)
   at_break_have (Some (nodes.Rule sizes)) = tt
+  at_break_have (Some (nodes.Special text)) = tt
   at_break_have (Some (nodes.Box shift b)) = tt
 
   first_by : (x : Node) (rest : List Node) (dropped : Bool) → is_dropped x ≡ dropped → HaveGlyphs fonts (x ∷ rest) → HaveGlyphs fonts (without_first rest)

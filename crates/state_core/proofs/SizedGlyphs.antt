@@ -26,7 +26,7 @@ use Rattle.pack_core.specs.declared.pack.TooLarge.{TooLarge}
 use Rattle.nest_core.specs.declared.nest.OpenList.{OpenList}
 use Rattle.dvi_layout.specs.declared.fonts.LoadedFont.{LoadedFont}
 use Rattle.command_core.specs.declared.command.Command.{Command}
-use Rattle.command_core.specs.declared.command.Command.TheVariants.{LoadFont, UseFont, Open, Paragraph, End, Text, Character, Rule, Kern, Glue, Penalty, Append, Unbox, LastBox, Split, Measure, Void, Set, Count, Ship}
+use Rattle.command_core.specs.declared.command.Command.TheVariants.{LoadFont, UseFont, Open, Paragraph, End, Text, Character, Rule, Kern, Glue, Penalty, Append, Unbox, LastBox, Split, Measure, Void, Set, Count, Special, Ship}
 use Rattle.command_core.specs.declared.command.FontLoad.{FontLoad}
 use Rattle.command_core.specs.declared.command.Refusal.{Refusal}
 use Rattle.command_core.specs.declared.command.Refusal.TheVariants.{SlotTaken, NoOpenList, TooDeep, ListTooLong, JobOver}
@@ -110,6 +110,7 @@ stays_loaded s (Measure r) may slot loaded is = is
 stays_loaded s (Void r) may slot loaded is = is
 stays_loaded s (Set parameter) may slot loaded is = is
 stays_loaded s (Count counting) may slot loaded is = is
+stays_loaded s (Special text) may slot loaded is = is
 stays_loaded s (Ship r) may slot loaded is = is
 
 -- What is sized stays so where each slot that has a font keeps it.
@@ -130,6 +131,7 @@ leaf_kept old new keeps (leaves.kern width) is = tt
 leaf_kept old new keeps (leaves.glue g) is = tt
 leaf_kept old new keeps (leaves.penalty p) is = tt
 leaf_kept old new keeps (leaves.rule sizes) is = tt
+leaf_kept old new keeps (leaves.special text) is = tt
 
 box_kept : (old new : Slots) → ((slot : ℕ) (loaded : LoadedFont) → font_in old slot ≡ Some loaded → font_in new slot ≡ Some loaded)
     → (b : BoxNode) → IsSoundBox old b → IsSoundBox new b
@@ -143,6 +145,7 @@ node_kept old new keeps (nodes.Kern width) is = tt
 node_kept old new keeps (nodes.Glue g) is = tt
 node_kept old new keeps (nodes.Penalty p) is = tt
 node_kept old new keeps (nodes.Rule sizes) is = tt
+node_kept old new keeps (nodes.Special text) is = tt
 node_kept old new keeps (nodes.Box shift b) is = box_kept old new keeps b is
 
 pub stays_sized : (s : State) (command : Command) → first_of (checks s command) ≡ None → (b : BoxNode) → IsSoundBox s.fonts b → IsSoundBox (after s command).fonts b
@@ -156,6 +159,7 @@ leaf_sized fonts (leaves.kern width) is = tt
 leaf_sized fonts (leaves.glue g) is = tt
 leaf_sized fonts (leaves.penalty p) is = tt
 leaf_sized fonts (leaves.rule sizes) is = tt
+leaf_sized fonts (leaves.special text) is = tt
 
 sized_leaf : (fonts : Slots) (x : Leaf) → IsSizedLeaf fonts x → IsSized fonts (node_of x)
 sized_leaf fonts (leaves.glyph g) is = is
@@ -164,6 +168,7 @@ sized_leaf fonts (leaves.kern width) is = tt
 sized_leaf fonts (leaves.glue g) is = tt
 sized_leaf fonts (leaves.penalty p) is = tt
 sized_leaf fonts (leaves.rule sizes) is = tt
+sized_leaf fonts (leaves.special text) is = tt
 
 sized_leaves : (fonts : Slots) (items : Items) → AreSized fonts (nodes_of items) → EachLeaf (IsSizedLeaf fonts) items
 sized_leaves fonts leaves.none all = tt
@@ -184,6 +189,7 @@ glyph_sized fonts slot loaded at (nodes.Kern width) is = tt
 glyph_sized fonts slot loaded at (nodes.Glue g) is = tt
 glyph_sized fonts slot loaded at (nodes.Penalty penalty) is = tt
 glyph_sized fonts slot loaded at (nodes.Rule rule) is = tt
+glyph_sized fonts slot loaded at (nodes.Special text) is = absurd is
 glyph_sized fonts slot loaded at (nodes.Box shift b) is = absurd is
 
 text_sized : (fonts : Slots) (slot : ℕ) (held : Option LoadedFont) (text : List ℕ) → font_in fonts slot ≡ held → AreSized fonts (text_in held slot text).items
@@ -271,6 +277,7 @@ box_in_sized fonts (nodes.Kern width) is = tt
 box_in_sized fonts (nodes.Glue g) is = tt
 box_in_sized fonts (nodes.Penalty p) is = tt
 box_in_sized fonts (nodes.Rule sizes) is = tt
+box_in_sized fonts (nodes.Special text) is = tt
 box_in_sized fonts (nodes.Box shift b) is = is
 
 last_sized : (fonts : Slots) (xs : List Node) → AreSized fonts xs → IsSizedHeld fonts (last_box xs)
@@ -423,4 +430,5 @@ sized_after s (Measure r) may sized = sized
 sized_after s (Void r) may sized = record { nest = sized.nest; registers = each_set (IsSizedHeld s.fonts) s.registers r None sized.registers tt }
 sized_after s (Set parameter) may sized = record { nest = sized.nest; registers = sized.registers }
 sized_after s (Count counting) may sized = record { nest = sized.nest; registers = sized.registers }
+sized_after s (Special text) may sized = items_sized s (nodes.Special text ∷ []) (tt, tt) sized
 sized_after s (Ship r) may sized = record { nest = sized.nest; registers = each_set (IsSizedHeld s.fonts) s.registers r None sized.registers tt }

@@ -12,8 +12,9 @@ use Rattle.node_core.specs.Nodes.{items_of, node_of, nodes_of, box_depth}
 use Rattle.pack_core.specs.declared.pack.Packed as packs
 use Rattle.pack_core.specs.Boxes.{vbox}
 use Rattle.split_core.specs.Places.{is_box_or_rule}
-use Rattle.split_core.specs.Split.{from_box_or_rule, rest_items, split_place, topped, packed_rest, front_of, rest_of}
+use Rattle.split_core.specs.Split.{from_box_or_rule, is_special, specials_above, split_place, topped, left_of, items_after, packed_rest, front_of, rest_of}
 use Rattle.node_core.specs.declared.limits.TheConstants.{MAX_DEPTH}
+use Rattle.dvi_ops.proofs.Appends.{all_append}
 use Rattle.dvi_layout.specs.Fonts.{Slots}
 use Rattle.dvi_layout.proofs.EachOf.{each_taken}
 use Rattle.state_core.specs.Sized.{HasSizes, IsSizedLeaf, IsSoundBox, IsSizedHeld}
@@ -32,6 +33,7 @@ IsInner fonts (nodes.Kern width) = Unit {0}
 IsInner fonts (nodes.Glue g) = Unit {0}
 IsInner fonts (nodes.Penalty p) = Unit {0}
 IsInner fonts (nodes.Rule sizes) = Unit {0}
+IsInner fonts (nodes.Special text) = Unit {0}
 IsInner fonts (nodes.Box shift b) = EachLeaf (IsSizedLeaf fonts) b.list × (box_depth b + 1 ≤ MAX_DEPTH)
 
 abbrev pub AreInner : Slots → List Node → Type 0
@@ -44,6 +46,7 @@ inner_leaf fonts (leaves.kern width) is = tt
 inner_leaf fonts (leaves.glue g) is = tt
 inner_leaf fonts (leaves.penalty p) is = tt
 inner_leaf fonts (leaves.rule sizes) is = tt
+inner_leaf fonts (leaves.special text) is = tt
 
 inner_items : (fonts : Slots) (items : Items) → EachLeaf (IsSizedLeaf fonts) items → items_depth items + 1 ≤ MAX_DEPTH → AreInner fonts (nodes_of items)
 inner_items fonts leaves.none all shallow = tt
@@ -80,6 +83,9 @@ sound_list fonts ((nodes.Penalty p) ∷ rest) all =
 sound_list fonts ((nodes.Rule sizes) ∷ rest) all =
     let more = sound_list fonts rest all.1 in
     record { glyphs = (tt, more.glyphs); depth = more.depth }
+sound_list fonts ((nodes.Special text) ∷ rest) all =
+    let more = sound_list fonts rest all.1 in
+    record { glyphs = (tt, more.glyphs); depth = more.depth }
 sound_list fonts ((nodes.Box shift b) ∷ rest) all =
     let more = sound_list fonts rest all.1 in
     record { glyphs = (all.0.0, more.glyphs); depth = omega (arith, all.0.1, more.depth) }
@@ -104,6 +110,21 @@ topped_inner : (fonts : Slots) (params : SplitParams) (items : List Node) → Ar
 topped_inner fonts params [] all = tt
 topped_inner fonts params (x ∷ xs) all = (tt, all)
 
+above_by : (fonts : Slots) (x : Node) (xs : List Node) (first special : Bool) → is_box_or_rule x ≡ first → is_special x ≡ special → IsInner fonts x
+    → AreInner fonts (specials_above xs) → AreInner fonts (specials_above (x ∷ xs))
+above_by fonts x xs true special e f here more = rw e tt
+above_by fonts x xs false true e f here more = rw (e, f) (here, more)
+above_by fonts x xs false false e f here more = rw (e, f) more
+
+specials_inner : (fonts : Slots) (items : List Node) → AreInner fonts items → AreInner fonts (specials_above items)
+specials_inner fonts [] all = tt
+specials_inner fonts (x ∷ xs) all = above_by fonts x xs (is_box_or_rule x) (is_special x) refl refl all.0 (specials_inner fonts xs all.1)
+
+left_inner : (fonts : Slots) (params : SplitParams) (after : List Node) → AreInner fonts after → AreInner fonts (left_of params after)
+left_inner fonts params after all =
+    all_append (IsInner fonts) (specials_above after) (topped params (from_box_or_rule after)) (specials_inner fonts after all)
+    (topped_inner fonts params (from_box_or_rule after) (from_inner fonts after all))
+
 packed_sound : (fonts : Slots) (items : List Node) → AreInner fonts items → IsSizedHeld fonts (option_map (λ (p : packs.Packed). p.box_node) (packed_rest items))
 unfolding vbox
 packed_sound fonts [] all = tt
@@ -116,5 +137,5 @@ pub rest_sound : (fonts : Slots) (params : SplitParams) (height : ℤ) (items : 
     → IsSizedHeld fonts (option_map (λ (p : packs.Packed). p.box_node) (rest_of params height items))
 unfolding rest_of
 rest_sound fonts params height items all =
-    packed_sound fonts (topped params (rest_items params height items))
-    (topped_inner fonts params (rest_items params height items) (from_inner fonts _ (each_dropped (IsInner fonts) (split_place params height items) items all)))
+    packed_sound fonts (left_of params (items_after params height items))
+    (left_inner fonts params (items_after params height items) (each_dropped (IsInner fonts) (split_place params height items) items all))

@@ -1,5 +1,6 @@
 -- What a job keeps beside the writer of its file, and the state that it stands for (own).
 use Rattle.std.specs.Prelude.{ℕ, ℤ, Bool, false, List, Option}
+use Rattle.node_core.specs.Loads.{Load}
 use Rattle.node_core.specs.declared.tree.BoxNode.{BoxNode}
 use Rattle.node_core.specs.declared.params.Params.{Params}
 use Rattle.nest_core.specs.declared.nest.OpenList.{OpenList}
@@ -18,8 +19,8 @@ pub record Keeping : Type 0 where
   pub registers : List (Option BoxNode)
   pub counts : List ℤ
 
--- The state of a job that keeps this: so many nodes and pages were shipped, and it is over or not.
-abbrev pub state_of : Keeping → (shipped pages : ℕ) → (over : Bool) → State
+-- The state of a job that keeps this, has shipped these nodes and texts on that many pages, and is over or not.
+abbrev pub state_of : Keeping → (shipped : Load) → (pages : ℕ) → (over : Bool) → State
 state_of kept shipped pages over =
     record {
       files = kept.files;
@@ -36,4 +37,4 @@ state_of kept shipped pages over =
 
 -- The state of a job that keeps this and has shipped nothing yet.
 abbrev pub unshipped : Keeping → State
-unshipped kept = state_of kept 0 0 false
+unshipped kept = state_of kept (record { nodes = 0; text = 0 }) 0 false

@@ -3,7 +3,7 @@ use Rattle.std.specs.Prelude.{◌≡◌, ◌≤◌, List, Option, Some, None}
 use Rattle.std.specs.List.{AllByRecursion}
 use Rattle.node_core.specs.declared.tree.Glyph as glyphs
 use Rattle.node_core.specs.declared.tree.Node.{Node}
-use Rattle.node_core.specs.declared.tree.Node.TheVariants.{Glyph, FontKern, Kern, Glue, Penalty, Rule, Box}
+use Rattle.node_core.specs.declared.tree.Node.TheVariants.{Glyph, FontKern, Kern, Glue, Penalty, Rule, Special, Box}
 use Rattle.node_core.specs.declared.tree.BoxNode.{BoxNode}
 use Rattle.node_core.specs.Items.{Leaf, IfGlyph, EachLeaf}
 use Rattle.node_core.specs.Nodes.{nodes_of, box_depth}
@@ -34,6 +34,7 @@ IsSized fonts (Kern width) = Unit {0}
 IsSized fonts (Glue g) = Unit {0}
 IsSized fonts (Penalty p) = Unit {0}
 IsSized fonts (Rule sizes) = Unit {0}
+IsSized fonts (Special text) = Unit {0}
 IsSized fonts (Box shift b) = IsSoundBox fonts b
 
 -- Each glyph among these items has the sizes that its font gives, and each box among them is sound.

@@ -3,6 +3,7 @@ use Rattle.std.specs.Prelude.{ℕ, ℤ, Bool, List, Option, refl}
 use Rattle.std.specs.Coded.{Coded, code_by, coded×, coded_ℕ, coded_ℤ, coded_bool, coded_list, coded_option}
 use Rattle.node_core.specs.declared.tree.BoxNode.{BoxNode}
 use Rattle.node_core.specs.contracts.tree.BoxNode as box_node
+use Rattle.node_core.specs.Loads.{Load}
 use Rattle.node_core.specs.declared.params.Params.{Params}
 use Rattle.node_core.specs.contracts.params.Params as params_code
 use Rattle.nest_core.specs.declared.nest.OpenList.{OpenList}
@@ -38,9 +39,13 @@ coded_keeping =
     code_by Parts coded_parts (λ k. (((k.files, (k.fonts, k.current)), (k.params, k.nest)), (k.registers, k.counts)))
     (λ p. record { files = p.0.0.0; fonts = p.0.0.1.0; current = p.0.0.1.1; params = p.0.1.0; nest = p.0.1.1; registers = p.1.0; counts = p.1.1 }) (λ _. refl)
 
--- How a state is stored: by what a job keeps, the numbers of nodes and pages, and whether it is over.
+-- How the numbers of what was shipped are stored.
+abbrev pub coded_load : Coded Load
+coded_load = code_by (ℕ × ℕ) (coded× coded_ℕ coded_ℕ) (λ l. (l.nodes, l.text)) (λ p. record { nodes = p.0; text = p.1 }) (λ _. refl)
+
+-- How a state is stored: by what a job keeps, the numbers of what was shipped and of pages, and whether it is over.
 abbrev pub coded_state : Coded State
 coded_state =
-    code_by (Keeping × ((ℕ × ℕ) × Bool)) (coded× coded_keeping (coded× (coded× coded_ℕ coded_ℕ) coded_bool))
+    code_by (Keeping × ((Load × ℕ) × Bool)) (coded× coded_keeping (coded× (coded× coded_load coded_ℕ) coded_bool))
     (λ s. (record { files = s.files; fonts = s.fonts; current = s.current; params = s.params; nest = s.nest; registers = s.registers; counts = s.counts }, ((s.shipped, s.pages), s.over)))
     (λ p. state_of p.0 p.1.0.0 p.1.0.1 p.1.1) (λ _. refl)

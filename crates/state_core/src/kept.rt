@@ -26,8 +26,8 @@ use command_core::{
 use dvi_layout::{Fonts, LoadedFont, Offsets};
 use nest_core::fonts::read_font;
 use nest_core::nest::{ListPurpose, Nest};
-use node_core::limits::{COUNTS, MAX_DEPTH, MAX_ITEMS, MAX_OPEN_LISTS};
-use node_core::{BoxNode, Kind, Node, Params, Rule, RuleSize};
+use node_core::limits::{COUNTS, MAX_DEPTH, MAX_ITEMS, MAX_OPEN_LISTS, MAX_SPECIAL_TEXT};
+use node_core::{BoxNode, Kind, Node, Params, Rule, RuleSize, SpecialText};
 use pack_core::Packed;
 use register_core::registers::{Registers, sizes_of};
 use scaled_core::Dimen;
@@ -293,6 +293,29 @@ impl Kept {
             return Ok(Err(Refusal::ListTooLong));
         }
         self.nest.append_rule(rule)?;
+        Ok(Ok(Answer::Done))
+    }
+
+    /// Appends a special. Its text is copied only where nothing refuses it.
+    pub fn append_special(&mut self, text: &Characters) -> Result<Reply, AllocError>
+        ensures reply { IfOk result (λ reply. reply ≡ reply_to (unshipped self.old) (commands.Special text.now)) }
+        ensures state { OnOk result (unshipped self.new ≡ state_after (unshipped self.old) (commands.Special text.now)) }
+        ensures err { OnErr result (self.new ≡ self.old) }
+        ensures admitted { OnErr result (first_of (checks (unshipped self.old) (commands.Special text.now)) ≡ None) }
+    {
+        let Some(innermost) = self.nest.innermost() else {
+            return Ok(Err(Refusal::NoOpenList));
+        };
+        let bytes = text.codes();
+        if bytes.len() > MAX_SPECIAL_TEXT {
+            return Ok(Err(Refusal::TooMuchSpecial));
+        }
+        if innermost.list.len() >= MAX_ITEMS {
+            return Ok(Err(Refusal::ListTooLong));
+        }
+        let copy = bytes.to_vec(*self.files.allocator())?;
+        let special = Node::Special(SpecialText::from_vec(copy));
+        self.nest.append(special)?;
         Ok(Ok(Answer::Done))
     }
 

@@ -3,4 +3,5 @@
 #![tactic(auto)]
 
 pub mod kept;
+pub mod specials;
 pub mod totality;
