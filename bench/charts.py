@@ -144,6 +144,7 @@ def draw_items(figures, out):
         x = left + mark / most * wide
         svg.line(x, top - 8, x, bottom)
         svg.text(x, bottom + 16, "%g" % mark, "middle", FAINT, 11)
+    svg.line(left + wide / most, top - 8, left + wide / most, bottom, INK, 1.5)
     for place, (case, label) in enumerate(rows):
         y = top + place * each
         svg.text(left - 10, y + 24, label, "end")
@@ -153,7 +154,6 @@ def draw_items(figures, out):
                 long = min(value, most) / most * wide
                 svg.bar(left, y + turn * 14, long, 11, COLOURS[name])
                 svg.text(left + long + 5, y + turn * 14 + 10, "%.2f" % value, colour=FAINT, size=10)
-    svg.line(left + wide / most, top - 8, left + wide / most, bottom, INK, 1.5)
     svg.text(20, height - 10, figures.notes[0] if figures.notes else "", colour=FAINT, size=10)
     svg.write(os.path.join(out, "speed_items.svg"))
 

@@ -24,8 +24,9 @@ What the driver asks of a part:
   work has many cases of seconds rather than one case of minutes.
 - Only the standard library, and what a Debian system without TeX has.
 
-The name of a part is the name of its module. Two more constants may stand beside its TITLE: PROGRAM is "script_rows" where `programs` are
-builds of that program (--rows), and a part with a larger WEIGHT (0 where absent) begins earlier. A module with `parts(root)` in place of
+The name of a part is the name of its module. Three more constants may stand beside its TITLE: PROGRAM is "script_rows" where `programs` are
+builds of that program (--rows), a part with a larger WEIGHT (0 where absent) begins earlier, and TRIES is False where the part builds nothing by `rt try`. A module with `parts(root)` in place of
 `cases` gives several parts: `Part` objects (part.py).
 
-Without --program, a part that does not need one has one run of `rt try` that gives the results of all its cases; its first case waits for it."""
+Without --program, a part that does not need one has one run of `rt try` that gives the results of all its cases; its first case waits for it.
+Where TRIES is False its cases need no program at all."""

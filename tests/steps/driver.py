@@ -61,13 +61,13 @@ def attempt(call):
         return f"{type(error).__name__}: {error}"
 
 
-def run_cases(part, pairs, is_built, progress):
-    """Runs the cases of a part in turn. Where nothing is built yet one run of `rt try` gives the results of all."""
+def run_cases(part, pairs, one_by_one, progress):
+    """Runs the cases of a part in turn, or where nothing is built yet in one run of `rt try` that gives the results of all."""
     result = Result(0, [], [])
     for done, (name, call) in enumerate(pairs):
         if progress.ended.is_set():
             break
-        progress.step(part.name, f"{done} of {len(pairs)}: {name}" if is_built else f"rt try, for {len(pairs)} cases")
+        progress.step(part.name, f"{done} of {len(pairs)}: {name}" if one_by_one else f"rt try, for {len(pairs)} cases")
         found = attempt(call)
         if found is None:
             result.passed += 1
@@ -99,7 +99,7 @@ def run_part(part, built, root, progress):
         reason = "it needs a built program: --" + ("program" if part.program == "boxglue" else "rows")
         result = Result(0, [], [(name, reason) for name, _ in pairs])
     else:
-        result = run_cases(part, pairs, bool(programs), progress)
+        result = run_cases(part, pairs, bool(programs) or not part.tries, progress)
     progress.end(part.name)
     for line in lines_of(part, len(pairs), result, time.monotonic() - began):
         progress.say(line)

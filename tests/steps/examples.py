@@ -1,5 +1,6 @@
 """The scripts of examples/, each with a metric file of plain width for its fonts. What is wanted follows from the script's own text: each
-command is accepted and answered once, each `ship` is a page, and the pages that are listed show the characters of its texts and its specials."""
+command is accepted and answered once, each `ship` is a page, and the pages that are listed show the characters of its texts and its specials.
+README.md there has a line for each script, with a picture of each page."""
 import glob
 import os
 import re
@@ -12,6 +13,8 @@ from steps.plain_font import metric_file
 TITLE = "the scripts of examples/: typeset, list and paint"
 NEEDS_PROGRAM = True
 LIMIT = 60
+# The most bytes of a picture.
+PICTURE = 20_000
 # What may show a character or a special twice, or not at all.
 COPIES = {"copy", "unhcopy", "unvcopy", "lastbox", "void"}
 
@@ -118,7 +121,29 @@ def outcome(programs, path):
     return None if len({*files.values()}) == 1 else f"the files of {' and '.join(files)} differ"
 
 
+def pictures_of(path):
+    """The pictures of a script: one for each page."""
+    with open(path, encoding="ascii") as it:
+        pages = sum(words[0] == "ship" for words in commands(it.read()).values())
+    return [f"pictures/{os.path.basename(path).removesuffix('.box')}-{page}.png" for page in range(1, pages + 1)]
+
+
+def check_table(folder, paths):
+    """What is wrong with README.md, or with the pictures that it shows."""
+    with open(f"{folder}/README.md", encoding="ascii") as it:
+        text = it.read()
+    rows = re.findall(r"^\| \[(\S+)\]\(\1\) \|", text, re.M)
+    shown = re.findall(r"\]\((pictures/\S+)\)", text)
+    wanted = [picture for path in paths for picture in pictures_of(path)]
+    if sorted(rows) != [*map(os.path.basename, paths)] or sorted(shown) != wanted:
+        return f"its scripts or pictures are not those of examples/: {set(map(os.path.basename, paths)) ^ {*rows} or set(wanted) ^ {*shown}}"
+    large = [it for it in wanted if not 0 < os.path.getsize(f"{folder}/{it}") < PICTURE]
+    return f"{large[0]} is empty, or has {PICTURE} bytes or more" if large else None
+
+
 def cases(programs, root):
-    """The scripts, by the order of their names."""
-    for path in sorted(glob.glob(f"{root}/examples/*.box")):
+    """The scripts, by the order of their names, and the table of them."""
+    paths = sorted(glob.glob(f"{root}/examples/*.box"))
+    for path in paths:
         yield os.path.basename(path), partial(outcome, programs, path)
+    yield "README.md", partial(check_table, f"{root}/examples", paths)

@@ -1,5 +1,5 @@
 """The DVI writer of the tests, on the files and bodies that docs/FORMATS.md, section 8, writes out byte by byte. It runs no program."""
-from steps.dvi_writer import Font, Page, Registers, down, dvi_file, pruned, put_rule, right, select, set_char, set_rule, spelled
+from steps.dvi_writer import Font, Page, Registers, down, dvi_file, pruned, put_rule, right, select, set_char, set_rule, special, spelled
 
 TITLE = "the tests' own DVI writer, on the files that docs/FORMATS.md writes out"
 
@@ -37,6 +37,10 @@ FILES = {
     "an_offset": ([Page([right(2 * PT), down(4 * PT), RULE])], 4 * PT, 3 * PT, {
         60: "91020000 9f040000 840001000000010000 8c", 95: "00040000 00030000",
     }, 78, 120),
+    "a_special_and_a_rule": ([Page([down(PT), special(b"hi"), RULE])], PT, PT, {
+        60: "9f010000 ef02 6869 840001000000010000 8c f8 0000000f", 103: "0000 0001 f9 0000004e 02 dfdfdfdfdfdfdf",
+    }, 78, 120),
+    "specials_of_255_and_256_bytes": ([Page([special(bytes(255)), special(bytes(256))])], 0, 0, {60: "efff", 60 + 2 + 255: "f2 00000100"}, 60 + 257 + 261 + 1, 620),
     "shifted_boxes": ([Page([[down(3 * PT), RULE], [], right(4 * PT), down(PT), RULE])], 3 * PT, 5 * PT, {
         60: "8d 9f030000 840001000000010000 8e 91040000 9f010000 840001000000010000 8c",
     }, 93, 132),

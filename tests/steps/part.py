@@ -19,6 +19,8 @@ class Part:
     needs_program: bool = False
     # parts with a larger one are begun first
     weight: int = 0
+    # whether one run of `rt try` gives the results of all its cases where no program is built
+    tries: bool = True
 
 
 def parts_of(name, root):
@@ -28,7 +30,7 @@ def parts_of(name, root):
         return []
     if hasattr(module, "parts"):
         return module.parts(root)
-    said = {field: getattr(module, field.upper()) for field in ("program", "needs_program", "weight") if hasattr(module, field.upper())}
+    said = {field: getattr(module, field.upper()) for field in ("program", "needs_program", "weight", "tries") if hasattr(module, field.upper())}
     return [Part(name, module.TITLE, module.cases, **said)]
 
 

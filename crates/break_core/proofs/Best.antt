@@ -23,7 +23,7 @@ use Rattle.break_cost.specs.Costs.{judged, line_of, line_alone, line_after, afte
 use Rattle.break_cost.specs.Sizes.{judgement, judged_after}
 use Rattle.break_cost.proofs.Parts.{parts}
 use Rattle.break_cost.proofs.Widths.{both_overfull, greatest_none}
-use Rattle.break_core.specs.Filling.{IsOf, IsOfferingUnless, offer_behind, IsBestOffer, IsOfferingBest}
+use Rattle.break_core.specs.Filling.{IsOf, IsOfferingUnless, offer_from, IsBestOffer, IsOfferingBest}
 use Rattle.break_core.proofs.Active.{row_passed}
 use Rattle.break_core.proofs.Overfull.{no_offer}
 
@@ -31,81 +31,81 @@ use Rattle.break_core.proofs.Overfull.{no_offer}
 offers :
     (p : Problem) (params : Params) (group : Group) (place : ℕ) (alone : Line) (e : Entry) (k : ℕ)
     → p.cut ≡ 0 → since p place ≤ group.place → ((s : State) → s.place ≡ group.place → p.line s place ≡ Some (line_after params s.class alone))
-    → e.end.place ≡ group.place → offer p e k place ≡ Some (offer_behind params e k place alone)
-offers p params group place alone e k cut late behind at =
-    offer_is p e k place (Some (line_after params e.end.class alone)) (subst (λ n. since p place ≤ n) (sym at) late) (behind e.end at)
+    → e.end.place ≡ group.place → offer p e k place ≡ Some (offer_from params e k place alone)
+offers p params group place alone e k cut late follow at =
+    offer_is p e k place (Some (line_after params e.end.class alone)) (subst (λ n. since p place ≤ n) (sym at) late) (follow e.end at)
     ∙ ap Some (ap (λ n. extended n e k place (line_after params e.end.class alone)) cut)
 
 -- All offers of a group are for one state.
 one_end :
     (params : Params) (place : ℕ) (alone : Line) (e f : Entry) (k j : ℕ)
-    → (offer_behind params e k place alone).end ≡ (offer_behind params f j place alone).end
+    → (offer_from params e k place alone).end ≡ (offer_from params f j place alone).end
 one_end params place alone e f k j =
     let lines : min (e.end.lines + 1) 0 ≡ min (f.end.lines + 1) 0 = omega arith in
-    state_same (offer_behind params e k place alone).end (offer_behind params f j place alone).end refl lines refl
+    state_same (offer_from params e k place alone).end (offer_from params f j place alone).end refl lines refl
 
 -- The first entry alone.
 pub best_first :
     (table : List Entry) (params : Params) (place : ℕ) (alone : Line) (start next : ℕ) (e best : Entry)
-    → slice_get table start ≡ Some e → next ≡ start + 1 → best ≡ offer_behind params e start place alone
+    → slice_get table start ≡ Some e → next ≡ start + 1 → best ≡ offer_from params e start place alone
     → IsBestOffer table params place alone start next best
 best_first table params place alone start next e best stands is_next is =
     record { by = start; low = omega arith; high = omega (arith, is_next); entry = e; stands = stands; is = is; least = least }
   where
-    least : (k : ℕ) (f : Entry) → start ≤ k → k < next → slice_get table k ≡ Some f → NotAfter (short best) (short (offer_behind params f k place alone))
+    least : (k : ℕ) (f : Entry) → start ≤ k → k < next → slice_get table k ≡ Some f → NotAfter (short best) (short (offer_from params f k place alone))
     least k f low high at =
         let same : start ≡ k = omega (arith, is_next) in
         let one : e ≡ f = same_Some e f (sym stands ∙ ap (slice_get table) same ∙ at) in
         subst (λ x. NotAfter (short best) (short x))
-        (is ∙ ap (λ n. offer_behind params e n place alone) same ∙ ap (λ x. offer_behind params x k place alone) one)
+        (is ∙ ap (λ n. offer_from params e n place alone) same ∙ ap (λ x. offer_from params x k place alone) one)
         (not_after_refl (short best))
 
 -- One more entry: what it offers is the least, or is not before it.
 best_taken :
     (table : List Entry) (params : Params) (place : ℕ) (alone : Line) (from to : ℕ) (e best offered : Entry)
-    → IsBestOffer table params place alone from to best → from ≤ to → slice_get table to ≡ Some e → offered ≡ offer_behind params e to place alone
+    → IsBestOffer table params place alone from to best → from ≤ to → slice_get table to ≡ Some e → offered ≡ offer_from params e to place alone
     → NotAfter (short offered) (short best) → IsBestOffer table params place alone from (to + 1) offered
 best_taken table params place alone from to e best offered is rises stands made before =
     record { by = to; low = rises; high = omega arith; entry = e; stands = stands; is = made; least = least }
   where
-    least : (k : ℕ) (f : Entry) → from ≤ k → k < to + 1 → slice_get table k ≡ Some f → NotAfter (short offered) (short (offer_behind params f k place alone))
+    least : (k : ℕ) (f : Entry) → from ≤ k → k < to + 1 → slice_get table k ≡ Some f → NotAfter (short offered) (short (offer_from params f k place alone))
     least k f low high at = which (cases_Bool (nat_lt k to))
       where
-        which : (nat_lt k to ≡ true) ⊎ (nat_lt k to ≡ false) → NotAfter (short offered) (short (offer_behind params f k place alone))
+        which : (nat_lt k to ≡ true) ⊎ (nat_lt k to ≡ false) → NotAfter (short offered) (short (offer_from params f k place alone))
         which (inl h) =
             let less : k < to = grind arith in
-            not_after_trans (short offered) (short best) (short (offer_behind params f k place alone)) before (is.least k f low less at)
+            not_after_trans (short offered) (short best) (short (offer_from params f k place alone)) before (is.least k f low less at)
         which (inr h) =
             let most : to ≤ k = grind arith in
             let same : to ≡ k = omega (arith, most) in
             let one : e ≡ f = same_Some e f (sym stands ∙ ap (slice_get table) same ∙ at) in
             subst (λ x. NotAfter (short offered) (short x))
-            (made ∙ ap (λ n. offer_behind params e n place alone) same ∙ ap (λ x. offer_behind params x k place alone) one)
+            (made ∙ ap (λ n. offer_from params e n place alone) same ∙ ap (λ x. offer_from params x k place alone) one)
             (not_after_refl (short offered))
 
 best_stays :
     (table : List Entry) (params : Params) (place : ℕ) (alone : Line) (from to : ℕ) (e best offered : Entry)
-    → IsBestOffer table params place alone from to best → slice_get table to ≡ Some e → offered ≡ offer_behind params e to place alone
+    → IsBestOffer table params place alone from to best → slice_get table to ≡ Some e → offered ≡ offer_from params e to place alone
     → NotAfter (short best) (short offered) → IsBestOffer table params place alone from (to + 1) best
 best_stays table params place alone from to e best offered is stands made before =
     record { by = is.by; low = is.low; high = omega (arith, is.high); entry = is.entry; stands = is.stands; is = is.is; least = least }
   where
-    least : (k : ℕ) (f : Entry) → from ≤ k → k < to + 1 → slice_get table k ≡ Some f → NotAfter (short best) (short (offer_behind params f k place alone))
+    least : (k : ℕ) (f : Entry) → from ≤ k → k < to + 1 → slice_get table k ≡ Some f → NotAfter (short best) (short (offer_from params f k place alone))
     least k f low high at = which (cases_Bool (nat_lt k to))
       where
-        which : (nat_lt k to ≡ true) ⊎ (nat_lt k to ≡ false) → NotAfter (short best) (short (offer_behind params f k place alone))
+        which : (nat_lt k to ≡ true) ⊎ (nat_lt k to ≡ false) → NotAfter (short best) (short (offer_from params f k place alone))
         which (inl h) = let less : k < to = grind arith in is.least k f low less at
         which (inr h) =
             let most : to ≤ k = grind arith in
             let same : to ≡ k = omega (arith, most) in
             let one : e ≡ f = same_Some e f (sym stands ∙ ap (slice_get table) same ∙ at) in
             subst (λ x. NotAfter (short best) (short x))
-            (made ∙ ap (λ n. offer_behind params e n place alone) same ∙ ap (λ x. offer_behind params x k place alone) one) before
+            (made ∙ ap (λ n. offer_from params e n place alone) same ∙ ap (λ x. offer_from params x k place alone) one) before
 
 -- The lesser of both is kept.
 pub best_more :
     (table : List Entry) (params : Params) (place : ℕ) (alone : Line) (from to : ℕ) (e best offered kept : Entry)
-    → IsBestOffer table params place alone from to best → from ≤ to → slice_get table to ≡ Some e → offered ≡ offer_behind params e to place alone
+    → IsBestOffer table params place alone from to best → from ≤ to → slice_get table to ≡ Some e → offered ≡ offer_from params e to place alone
     → IsKept (Some best) offered kept → IsBestOffer table params place alone from (to + 1) kept
 best_more table params place alone from to e best offered kept is rises stands made is_kept = which is_kept.is
   where
@@ -123,7 +123,7 @@ pub best_offered :
     (table : List Entry) (params : Params) (group : Group) (place : ℕ) (alone : Line) (best : Entry) (old new : List (Option Entry))
     → IsOf 0 table group → IsBestOffer table params place alone group.start group.end best → IsPut best old new
     → IsOfferingBest table params group place alone old new
-best_offered table params group place alone best old new of is put p cut late behind before =
+best_offered table params group place alone best old new of is put p cut late follow before =
     subst (IsRow p table place group.end) (sym put.is)
     (row_best p table place group.start group.end is.by best put.kept put.held old is.low is.high offered put.stood put.is_kept least before)
   where
@@ -132,14 +132,14 @@ best_offered table params group place alone best old new of is put p cut late be
         record {
           by = is.entry;
           stands = is.stands;
-          offers = offers p params group place alone is.entry is.by cut late behind (of is.by is.entry is.low is.high is.stands).0 ∙ ap Some (sym is.is);
+          offers = offers p params group place alone is.entry is.by cut late follow (of is.by is.entry is.low is.high is.stands).0 ∙ ap Some (sym is.is);
         }
 
     least : (k : ℕ) (f : Entry) → group.start ≤ k → k < group.end → IsOffered p table place k f → (f.end ≡ best.end) × NotAfter (short best) (short f)
     least k f low high o =
-        let made : offer_behind params o.by k place alone ≡ f =
-        same_Some (offer_behind params o.by k place alone) f
-        (sym (offers p params group place alone o.by k cut late behind (of k o.by low high o.stands).0) ∙ o.offers) in (
+        let made : offer_from params o.by k place alone ≡ f =
+        same_Some (offer_from params o.by k place alone) f
+        (sym (offers p params group place alone o.by k cut late follow (of k o.by low high o.stands).0) ∙ o.offers) in (
           ap (λ x. x.end) (sym made) ∙ one_end params place alone o.by is.entry k is.by ∙ ap (λ x. x.end) (sym is.is),
           subst (λ x. NotAfter (short best) (short x)) made (is.least k o.by low high o.stands),
         )

@@ -1,20 +1,22 @@
 -- Groups, and what is kept beside them.
-use Rattle.std.proofs.Common.{◌≡◌, ◌∙◌, ℕ, zero, suc, ◌+◌, Bool, true, false, cond, List, [], ◌∷◌, ◌++◌, length, ap, sym, subst, Some, None}
-use Rattle.std.specs.Prelude.{slice_get, ◌==◌}
+use Rattle.std.proofs.Common.{◌≡◌, ◌∙◌, ℕ, zero, suc, ◌+◌, ◌<◌, drop, Bool, true, false, cond, List, [], ◌∷◌, ◌++◌, length, ap, sym, subst, Some, None}
+use Rattle.std.specs.Prelude.{slice_get, slice_index_or, ◌==◌}
 use Rattle.std.specs.Option.{option_map}
 use Rattle.std.proofs.Math.Logic.{◌⊎◌, inl, inr}
 use Rattle.std.proofs.lemmas.List.{map-append}
-use Rattle.std.proofs.lemmas.Option.{same_Some, slice_get-map}
+use Rattle.std.proofs.lemmas.Option.{same_Some, slice_get-map, slice_get-get_or}
 use Rattle.node_core.specs.declared.params.Params.{Params}
 use Rattle.break_table.specs.declared.group.Group.{Group}
 use Rattle.break_table.specs.Problems.{Problem}
 use Rattle.break_table.specs.Tables.{Entry, first_entry}
 use Rattle.break_table.proofs.Entries.{get_cases}
 use Rattle.line_meter.specs.Facts.{Facts}
+use Rattle.break_core.specs.declared.filling.Ending.{Ending}
 use Rattle.break_core.specs.declared.filling.Live.{Live}
+use Rattle.break_cost.specs.declared.cost.Bound.{Bound}
 use Rattle.break_core.specs.Leaving.{over_before}
-use Rattle.break_core.specs.Active.{groups_of, with_group, with_live, AreOver, IsFilled}
-use Rattle.break_core.proofs.Active.{filled_first}
+use Rattle.break_core.specs.Active.{stops, pruned, groups_of, with_group, with_live, AreOver, IsNext, IsActive, IsFilled}
+use Rattle.break_core.proofs.Active.{next_active, filled_first}
 use Rattle.break_core.proofs.Long.{over_start}
 
 -- The group of an element.
@@ -78,3 +80,21 @@ pub filled_start :
 filled_start p stop table lives live is_table is_lives place start end =
     subst (λ t. IsFilled p stop 1 t (groups_of lives)) (sym is_table)
     (subst (λ xs. IsFilled p stop 1 (first_entry ∷ []) (groups_of xs)) (sym is_lives) (filled_first p stop live.group place start end))
+
+-- The group number i of a list, and what is kept beside it.
+abbrev pub live_at : List Live → (i : ℕ) → Live
+live_at lives i = slice_index_or lives i (record { group = record { place = 0; start = 0; end = 0 }; over = None })
+
+pub live_here : (lives : List Live) (i : ℕ) → i < length lives → slice_get lives i ≡ Some (live_at lives i)
+live_here lives i within = slice_get-get_or lives i (record { group = record { place = 0; start = 0; end = 0 }; over = None }) within
+
+-- The next group from which a line is tried, and those behind it.
+pub next_live :
+    (f : Facts) (params : Params) (bound : Bound) (ending : Ending) (table : List Entry) (b at low : ℕ) (lives : List Live) (i : ℕ)
+    → i < length lives → IsActive (pruned f params bound ending) (stops f params ending) table b b at low (drop i (groups_of lives))
+    → IsNext (pruned f params bound ending) (stops f params ending) table b at low (live_at lives i).group
+    × IsActive (pruned f params bound ending) (stops f params ending) table b b (live_at lives i).group.end ((live_at lives i).group.place + 1)
+    (drop (i + 1) (groups_of lives))
+next_live f params bound ending table b at low lives i within is =
+    next_active (pruned f params bound ending) (stops f params ending) table b b at low i (groups_of lives) (live_at lives i).group
+    (group_at lives i (live_at lives i) (live_here lives i within)) is

@@ -59,8 +59,8 @@ pub record CanOffer (first_lines : ℕ) (row : List (Option Entry)) (table : Lis
   pub small : IsSmallSums tried.sums
 
 -- What an entry offers for a place by a line, where no line is counted: the line is that without what the class of the line before it adds.
-abbrev pub offer_behind : Params → Entry → (index place : ℕ) → (alone : Line) → Entry
-offer_behind params e index place alone = extended 0 e index place (line_after params e.end.class alone)
+abbrev pub offer_from : Params → Entry → (index place : ℕ) → (alone : Line) → Entry
+offer_from params e index place alone = extended 0 e index place (line_after params e.end.class alone)
 
 -- The least of what the entries from one number up to another offer so.
 pub record IsBestOffer (table : List Entry) (params : Params) (place : ℕ) (alone : Line) (from to : ℕ) (best : Entry) : Type 0 where
@@ -69,9 +69,9 @@ pub record IsBestOffer (table : List Entry) (params : Params) (place : ℕ) (alo
   pub high : by < to
   pub entry : Entry
   pub stands : slice_get table by ≡ Some entry
-  pub is : best ≡ offer_behind params entry by place alone
+  pub is : best ≡ offer_from params entry by place alone
   pub least :
-      (k : ℕ) (e : Entry) → from ≤ k → k < to → slice_get table k ≡ Some e → NotAfter (short best) (short (offer_behind params e k place alone))
+      (k : ℕ) (e : Entry) → from ≤ k → k < to → slice_get table k ≡ Some e → NotAfter (short best) (short (offer_from params e k place alone))
 
 -- Between two rows the entries of a group were offered by such a line, where no line is counted.
 abbrev pub IsOfferingBest : (table : List Entry) → Params → Group → (place : ℕ) → (alone : Line) → (old new : List (Option Entry)) → Type 0

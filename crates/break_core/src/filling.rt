@@ -5,7 +5,7 @@ ghost use Rattle.break_table.specs.Tables.{Entry, most_places, slots, IsTable, I
 ghost use Rattle.break_cost.specs.Sizes.{judgement, IsSmallJudgement};
 ghost use Rattle.break_cost.specs.Small.{IsSmallAlone};
 ghost use Rattle.line_meter.specs.Legal.{is_forced};
-ghost use Rattle.break_core.specs.Filling.{IsOf, CanOffer, IsOffering, IsOfferingUnless, offer_behind, IsBestOffer, IsOfferingBest, AreFew};
+ghost use Rattle.break_core.specs.Filling.{IsOf, CanOffer, IsOffering, IsOfferingUnless, offer_from, IsBestOffer, IsOfferingBest, AreFew};
 ghost use Rattle.break_core.specs.Leaving.{is_more, kept_over};
 ghost use Rattle.break_core.specs.Active.{ends, stops, leaves, pruned, groups_of, with_live, MayEnd, AreOver, IsActive, IsFilled, IsSwept, IsCounted, AreKept, WereTried};
 
@@ -129,6 +129,8 @@ fn offer_each(
 
 /// Offers the entries of a group for a place, by a line that was tried from there, unless it is left out. Returns whether it is overfull after any number of
 /// lines.
+#[cold]
+#[inline(never)]
 fn offer_counted(
     left: bool,
     row: &mut Vec<Option<Best>>,
@@ -151,13 +153,13 @@ fn offer_counted(
 }
 
 /// What an entry of a table offers for a place by a line, where no line is counted.
-fn offer_behind(table: &[Best], index: usize, params: &Params, place: usize, alone: &Line) -> Best
+fn offer_from(table: &[Best], index: usize, params: &Params, place: usize, alone: &Line) -> Best
     requires within { index < length table.now }
     requires uncounted { (e : Entry) → slice_get table.now index ≡ Some e → e.end.lines ≤ 0 }
     requires later { (e : Entry) → slice_get table.now index ≡ Some e → e.end.place < place }
     requires places { place ≤ most_places }
     requires small { IsSmallAlone alone.now }
-    ensures { (e : Entry) → slice_get table.now index ≡ Some e → result ≡ offer_behind params.now e index place alone.now }
+    ensures { (e : Entry) → slice_get table.now index ≡ Some e → result ≡ offer_from params.now e index place alone.now }
 {
     let entry = table[index];
     let line = line_after(params, entry.end().class, alone);
@@ -184,9 +186,9 @@ fn best_offer(table: &[Best], group: Group, params: &Params, place: usize, alone
     requires small { IsSmallAlone alone.now }
     ensures { IsBestOffer table.now params.now place alone.now group.start group.end result }
 {
-    let mut best = offer_behind(table, group.start, params, place, alone);
+    let mut best = offer_from(table, group.start, params, place, alone);
     for index in group.start + 1..group.end {
-        let offered = offer_behind(table, index, params, place, alone);
+        let offered = offer_from(table, index, params, place, alone);
         best = lesser(best, offered);
     }
     best
@@ -218,6 +220,7 @@ fn offer_best(
 }
 
 /// The same of a line that was tried, unless it is left out. Where no line is counted, it is judged once.
+#[inline(always)]
 fn offer_line(
     left: bool,
     row: &mut Vec<Option<Best>>,
@@ -245,7 +248,7 @@ fn offer_line(
     line.overfull
 }
 
-/// Puts a group behind others, unless trying lines from it has ended.
+/// Puts a group after others, unless trying lines from it has ended.
 fn keep_group(lives: &mut Vec<Live>, ended: bool, live: Live) -> Result<(), AllocError>
     ensures { OnOk result (lives.new.items ≡ (if ended then lives.old.items else (lives.old.items ++ live ∷ []))) }
 {
@@ -255,7 +258,7 @@ fn keep_group(lives: &mut Vec<Live>, ended: bool, live: Live) -> Result<(), Allo
     Ok(())
 }
 
-/// Puts the group of a place behind those of earlier places, unless it has no entries; those of earlier places stay, unless a line must end here.
+/// Puts the group of a place after those of earlier places, unless it has no entries; those of earlier places stay, unless a line must end here.
 fn add_group(lives: &mut Vec<Live>, forced: bool, group: Group) -> Result<(), AllocError>
     ensures { OnOk result (lives.new.items ≡ with_live (if forced then [] else lives.old.items) (record { group = group; over = None })) }
 {
@@ -368,8 +371,10 @@ pub(crate) fn fill<M: Meter>(
     ensures kept { AreKept (M.trials meter.old) (M.trials meter.new) }
     ensures tried { OnOk result (M.trials meter.old 0 < M.trials meter.new 0) }
 {
+    // Most places have an entry, or more.
+    let table = Vec::with_capacity(alloc, meter.places() + 1)?;
     let mut reached = Reached {
-        table: Vec::new(alloc),
+        table,
         live: Vec::new(alloc),
     };
     reached.table.push(Best::first())?;

@@ -47,7 +47,7 @@ pub fn lines_of_five_rules()
     ensures last_sums { sums_of (kept five_rules (Some 7) 11) ≡ sums_of_points 30 0 1 }
 {}
 
-/// A kern before glue is a legal place, and the glue behind it is none. The kern stays there without its width.
+/// A kern before glue is a legal place, and the glue after it is none. The kern stays there without its width.
 pub fn break_at_a_kern()
     ensures places { legal_places kern_and_glue ≡ 1 ∷ 6 ∷ [] }
     ensures first { kept kern_and_glue None 1 ≡ rule 40 ∷ Kern (pos 0) ∷ [] }

@@ -4,7 +4,7 @@
 //! chosen is the least of all that the first pass admits which admits any. Lines are tried from the places of an active list. For `breaks` a place leaves
 //! it where a line must end, so that all pairs of places are tried between such places. For `active_breaks` a place leaves it also after an overfull
 //! line, where the paragraph is steady and the pass admits no overfull line, and in the last pass after a long one, which is in no list that is chosen: it
-//! passes over a place to which it is overfull, and hangs over more than there. So the trials of lines are bounded for each place. What a list tells a
+//! passes over a place to which it is overfull, and hangs over more than there. So the trials of lines are bounded for each place. What a list is to a
 //! meter is in `line_meter` below; `paragraph_core` stands above it, with the boxes of the lines.
 #![tactic(auto)]
 

@@ -122,6 +122,7 @@ fn judged_long(sums: &Sums, amount: i64) -> Judged
 
 /// How a line of that size is set whose items have these sums.
 #[tactic(auto, unfolding(crate::specs::Costs::judged))]
+#[inline(always)]
 pub fn judge(sums: &Sums, size: Dimen) -> Judged
     requires small { IsSmallSums sums.now }
     ensures value { result ≡ judged sums.now size }

@@ -23,14 +23,14 @@ pub fn overfull_lines_hang_over()
     ensures others { (sums : Sums) → (size : ℤ) → (judged sums size).overfull ≡ false → (judged sums size).overhang ≡ pos 0 }
 {}
 
-/// A line of 25pt that stretches by 15pt fills 40pt with badness 100: it is very loose, and costs 12100, and 10000 more behind the start.
+/// A line of 25pt that stretches by 15pt fills 40pt with badness 100: it is very loose, and costs 12100, and 10000 more after the start.
 pub fn very_loose_line()
     ensures badness { (line_of_points 25 15 0).badness ≡ 100 }
     ensures class { (line_of_points 25 15 0).class ≡ VeryLoose }
     ensures demerits { demerits_of first_params (pos 0) Decent (line_of_points 25 15 0) ≡ pos 22100 }
 {}
 
-/// A line that is as wide as it should be costs 100, and 10000 more behind a very loose one.
+/// A line that is as wide as it should be costs 100, and 10000 more after a very loose one.
 pub fn line_that_fits()
     ensures badness { (line_of_points 40 15 0).badness ≡ 0 }
     ensures class { (line_of_points 40 15 0).class ≡ Decent }
@@ -69,7 +69,7 @@ pub fn one_judgement_serves_all()
     ensures most { (params : Params) → (lines : ℕ) → line_size params lines ≤ℤ greatest_size params }
 {}
 
-/// A line behind one of a class is the line without what that class adds, and what it adds.
+/// A line after one of a class is the line without what that class adds, and what it adds.
 pub fn parts_of_a_line()
     ensures { (params : Params) → (bound : Bound) → (penalty : ℤ) → (before : Class) → (line : Judged) →
         after_class params before (line_alone params bound penalty line) ≡ line_of params bound penalty before line }

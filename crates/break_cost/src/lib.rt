@@ -1,6 +1,6 @@
 //! What a line of a paragraph costs.
 //!
-//! How bad a line is whose items have given sums, its class, how far it hangs over, its demerits behind a line of a class, and whether a bound on badness
+//! How bad a line is whose items have given sums, its class, how far it hangs over, its demerits after a line of a class, and whether a bound on badness
 //! admits it. The crate knows no nodes: `line_meter` stands above it, which sums over the items that a line keeps.
 #![tactic(auto)]
 

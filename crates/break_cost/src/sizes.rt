@@ -91,7 +91,7 @@ impl Alone {
         self.first.is_none() && self.rest.is_none()
     }
 
-    /// The line behind another one, if it is admitted.
+    /// The line after another one, if it is admitted.
     pub fn after(&self, params: &Params, before: State) -> Option<Line>
         requires { IsSmallCosts self.now }
         ensures value { result ≡ after_class params.now before.class (if nat_lt before.lines params.now.first_lines then self.now.first else self.now.rest) }

@@ -20,6 +20,7 @@ pub fn empty_row(alloc: Global, cut: usize) -> Result<Vec<Option<Best>>, AllocEr
 }
 
 /// Puts an offer into its slot, unless what the slot holds is not after it.
+#[inline(always)]
 pub fn put(row: &mut Vec<Option<Best>>, offered: Best, cut: usize)
     requires few { cut < 1000 }
     requires wide { length row.old.items ≡ slots cut }

@@ -2,10 +2,10 @@
 
 ghost use Rattle.std.specs.Prelude.{◌≡◌};
 ghost use Rattle.dvi_frame.specs.Ends.{cause_of};
-ghost use Rattle.dvi_frame.specs.declared.fault.FrameFault.TheVariants.{OutOfMemory, Bad};
+ghost use Rattle.dvi_frame.specs.declared.fault.FrameFault.TheVariants.{OutOfMemory};
 
 use dvi_ops::OpFault;
-use std::alloc::{AllocError, AllocFailed};
+use std::alloc::AllocFailed;
 use thiserror::Error;
 
 /// A rule of a DVI file.
@@ -73,22 +73,6 @@ impl From<OpFault> for DviCause {
             OpFault::Opcode => DviCause::Opcode,
             OpFault::Truncated => DviCause::Truncated,
         }
-    }
-}
-
-impl From<BadDvi> for FrameFault {
-    ghost from_gives = { λ bad fault. fault ≡ Bad bad };
-
-    fn from(bad: BadDvi) -> FrameFault {
-        FrameFault::Bad(bad)
-    }
-}
-
-impl From<AllocError> for FrameFault {
-    ghost from_gives = { λ _ fault. fault ≡ OutOfMemory };
-
-    fn from(_error: AllocError) -> FrameFault {
-        FrameFault::OutOfMemory
     }
 }
 

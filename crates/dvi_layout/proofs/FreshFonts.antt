@@ -1,17 +1,18 @@
 -- The fonts that a page defines, gone over slot by slot.
-use Rattle.std.proofs.Common.{◌≡◌, ℕ, ◌+◌, List, [], ◌∷◌, ◌++◌, map, refl, ap, ◌∙◌, add-one, append-nil}
-use Rattle.std.specs.Prelude.{Bool, true, false, filter, if◌then◌else◌, ◌||◌}
+use Rattle.std.proofs.Common.{◌≡◌, ◌≢◌, ℕ, zero, suc, ◌+◌, ◌<◌, List, [], ◌∷◌, ◌++◌, length, set, refl, ap, ap₂, sym, ◌∙◌, add-one, append-nil, get_or, arith}
+use Rattle.std.specs.Prelude.{ℤ, pos, Option, Some, None, Bool, true, false, not, is_some, filter, if◌then◌else◌, ◌&&◌, ◌||◌}
 use Rattle.std.specs.List.{list_any}
+use Rattle.std.specs.Ordering.{int_eq}
+use Rattle.std.proofs.Math.Bool.{or-false, or-true}
+use Rattle.std.proofs.lemmas.Bool.Decides.{Decides-int_eq}
+use Rattle.std.proofs.lemmas.Int.{ints}
+use Rattle.std.proofs.lemmas.List.{get_or-set_other}
+use Rattle.std.proofs.lemmas.Grind.{get_or-set_at}
 use Rattle.std.proofs.lemmas.List.Elements.{filter-append}
-use Rattle.dvi_layout.specs.Fonts.{Slots}
-use Rattle.dvi_ops.specs.Instruction.{Instruction}
-use Rattle.dvi_layout.specs.Sheets.{numbers_below, is_among, is_fresh, fresh_slots, in_rising_order}
-
-pub list_any-map : {X Y : Type 0} (p : Y → Bool) (f : X → Y) (xs : List X) → list_any p (map f xs) ≡ list_any (λ x. p (f x)) xs
-list_any-map p f [] = refl
-list_any-map p f (x ∷ xs) = ap (λ b. p (f x) || b) (list_any-map p f xs)
-
-pub ruleset views = (list_any-map)
+use Rattle.std.proofs.lemmas.List.Folds.{list_any-append}
+use Rattle.dvi_layout.specs.Fonts.{Slots, font_in}
+use Rattle.dvi_ops.specs.Instruction.{FontNum, Instruction, Do}
+use Rattle.dvi_layout.specs.Sheets.{numbers_below, selects, font_of, is_among, is_fresh, is_marked_fresh, fresh_slots, in_rising_order}
 
 -- One number more passes a test, or does not.
 pub filtered_more : (p : ℕ → Bool) (n : ℕ) → p n ≡ true → filter p (numbers_below (n + 1)) ≡ filter p (numbers_below n) ++ n ∷ []
@@ -20,10 +21,94 @@ filtered_more p n passes = rw add-one (filter-append p (numbers_below n) (n ∷ 
 pub filtered_same : (p : ℕ → Bool) (n : ℕ) → p n ≡ false → filter p (numbers_below (n + 1)) ≡ filter p (numbers_below n)
 filtered_same p n fails = rw add-one (filter-append p (numbers_below n) (n ∷ []) ∙ (ap (λ b. filter p (numbers_below n) ++ (if b then n ∷ [] else [])) fails ∙ append-nil (filter p (numbers_below n))))
 
+-- What an instruction selects.
+abbrev is_slot : ℕ → Option ℤ → Bool
+is_slot slot None = false
+is_slot slot (Some font) = int_eq font (pos slot)
+
+selects-by : (slot : ℕ) (i : Instruction) → selects slot i ≡ is_slot slot (font_of i)
+selects-by slot (Do (FontNum font)) = refl
+selects-by slot (Do leaf) = refl
+selects-by slot i = refl
+
+-- An instruction more selects a font, or does not.
+selected_more : (is : List Instruction) (i : Instruction) (slot : ℕ) → list_any (selects slot) (is ++ i ∷ []) ≡ (list_any (selects slot) is || selects slot i)
+selected_more is i slot =
+    list_any-append (selects slot) is (i ∷ []) ∙ ap (λ (b : Bool). list_any (selects slot) is || b) (or-false (selects slot i))
+
+pub marked_more : (before after : List Bool) (is : List Instruction) (i : Instruction) (font : ℤ) (slot : ℕ) → font_of i ≡ Some font
+    → get_or after slot false ≡ (get_or before slot false || int_eq font (pos slot)) → get_or before slot false ≡ list_any (selects slot) is
+    → get_or after slot false ≡ list_any (selects slot) (is ++ i ∷ [])
+marked_more before after is i font slot font_is marks marked =
+    marks
+    ∙ (ap (λ (b : Bool). b || int_eq font (pos slot)) marked
+    ∙ (ap (λ (b : Bool). list_any (selects slot) is || b) (sym (selects-by slot i ∙ ap (is_slot slot) font_is))
+    ∙ sym (selected_more is i slot)))
+
+pub marked_same : (before : List Bool) (is : List Instruction) (i : Instruction) (slot : ℕ) → font_of i ≡ None → get_or before slot false ≡ list_any (selects slot) is
+    → get_or before slot false ≡ list_any (selects slot) (is ++ i ∷ [])
+marked_same before is i slot none marked =
+    marked
+    ∙ (sym (or-false (list_any (selects slot) is))
+    ∙ (ap (λ (b : Bool). list_any (selects slot) is || b) (sym (selects-by slot i ∙ ap (is_slot slot) none))
+    ∙ sym (selected_more is i slot)))
+
+differ : true ≡ false → ⊥
+differ is = cc
+
+-- The slot of a font is marked, where there is one.
+pub marked_at : (marked : List Bool) (font : ℤ) (n slot : ℕ) → font ≡ pos n → n < length marked
+    → get_or (set marked n true) slot false ≡ (get_or marked slot false || int_eq font (pos slot))
+marked_at marked font n slot is within = by_test (int_eq font (pos slot)) refl
+  where
+    by_test : (same : Bool) → int_eq font (pos slot) ≡ same → get_or (set marked n true) slot false ≡ (get_or marked slot false || same)
+    by_test true same =
+        let here : slot ≡ n = omega (arith, ints, is, (Decides-int_eq font (pos slot)).0 same) in
+        get_or-set_at marked n slot true false here within ∙ sym (or-true (get_or marked slot false))
+    by_test false other =
+        let apart : slot ≢ n = λ e. differ (sym ((Decides-int_eq font (pos slot)).1 (is ∙ ap pos (sym e))) ∙ other) in
+        get_or-set_other marked n slot true false apart ∙ sym (or-false (get_or marked slot false))
+
+pub marked_none : (marked : List Bool) (font : ℤ) (slot : ℕ) → slot < 256 → ((n : ℕ) → n < 256 → font ≢ pos n)
+    → get_or marked slot false ≡ (get_or marked slot false || int_eq font (pos slot))
+marked_none marked font slot within none = by_test (int_eq font (pos slot)) refl
+  where
+    by_test : (same : Bool) → int_eq font (pos slot) ≡ same → get_or marked slot false ≡ (get_or marked slot false || same)
+    by_test true same = absurd (none slot within ((Decides-int_eq font (pos slot)).0 same))
+    by_test false other = sym (or-false (get_or marked slot false))
+
+-- A font that is selected and marked.
+turned : (a b c : Bool) → (a && (b && c)) ≡ (b && (c && a))
+turned true true true = refl
+turned true true false = refl
+turned true false c = refl
+turned false true true = refl
+turned false true false = refl
+turned false false c = refl
+
+pub marked-is : (fonts : Slots) (defined : List ℕ) (marked : List Bool) (is : List Instruction) (slot : ℕ) → get_or marked slot false ≡ list_any (selects slot) is
+    → is_marked_fresh fonts defined marked slot ≡ is_fresh fonts defined is slot
+unfolding is_marked_fresh is_fresh
+marked-is fonts defined marked is slot same =
+    ap (λ (b : Bool). b && (is_some (font_in fonts slot) && not (is_among slot defined))) same
+    ∙ turned (list_any (selects slot) is) (is_some (font_in fonts slot)) (not (is_among slot defined))
+
+filter-same : (p q : ℕ → Bool) (n : ℕ) → ((i : ℕ) → i < n → p i ≡ q i) → filter p (numbers_below n) ≡ filter q (numbers_below n)
+filter-same p q zero same = refl
+filter-same p q (suc n) same =
+    filter-append p (numbers_below n) (n ∷ [])
+    ∙ (ap₂ (λ (front last : List ℕ). front ++ last) (filter-same p q n (λ i within. same i (omega (arith, within))))
+    (ap (λ (b : Bool). if b then n ∷ [] else []) (same n (omega arith)))
+    ∙ sym (filter-append q (numbers_below n) (n ∷ [])))
+
 -- All 256 slots were gone over.
-pub fresh-is : (fonts : Slots) (defined : List ℕ) (is : List Instruction) (n : ℕ) → n ≡ 256 → filter (is_fresh fonts defined is) (numbers_below n) ≡ fresh_slots fonts defined is
+pub fresh-is : (fonts : Slots) (defined : List ℕ) (marked : List Bool) (is : List Instruction) (n : ℕ) → n ≡ 256
+    → ((slot : ℕ) → slot < 256 → get_or marked slot false ≡ list_any (selects slot) is)
+    → filter (is_marked_fresh fonts defined marked) (numbers_below n) ≡ fresh_slots fonts defined is
 unfolding fresh_slots
-fresh-is fonts defined is n all = ap (λ k. filter (is_fresh fonts defined is) (numbers_below k)) all
+fresh-is fonts defined marked is n all same =
+    ap (λ k. filter (is_marked_fresh fonts defined marked) (numbers_below k)) all
+    ∙ filter-same (is_marked_fresh fonts defined marked) (is_fresh fonts defined is) 256 (λ i within. marked-is fonts defined marked is i (same i within))
 
 pub in_rising_order-is : (defined : List ℕ) (n : ℕ) → n ≡ 256 → filter (λ slot. is_among slot defined) (numbers_below n) ≡ in_rising_order defined
 unfolding in_rising_order

@@ -65,28 +65,30 @@ definable_in fonts slot loaded all is =
 pub short_names : (fonts : Slots) → AreDefinable fonts → HasShortNames fonts
 short_names fonts all s l has = let of = definable_in fonts s l all has in (of.1, of.0.name.few)
 
--- What holds where no limit is met.
+-- What holds where no limit is met, whether the page is huge or not.
 pub record Admits (s : SoFar) (page : Page) : Type 0 where
   pub pages : nat_le MAX_PAGES s.pages ≡ false
   pub nodes : nat_lt MAX_SHIPPED_NODES (s.load.nodes + box_count page.box_node) ≡ false
   pub text : nat_lt MAX_SHIPPED_TEXT (s.load.text + box_text page.box_node) ≡ false
-  pub small : is_huge page ≡ false
 
-pub admitted : (s : SoFar) (page : Page) → limit_of s page ≡ None → Admits s page
+pub admitted : (s : SoFar) (page : Page) → limit_of s page ≡ (if is_huge page then Some HugePage else None) → Admits s page
 admitted s page none =
-    by_tests (nat_le MAX_PAGES s.pages) (nat_lt MAX_SHIPPED_NODES (s.load.nodes + box_count page.box_node)) (nat_lt MAX_SHIPPED_TEXT (s.load.text + box_text page.box_node)) (is_huge page) refl refl refl refl none
+    by_tests (nat_le MAX_PAGES s.pages) (nat_lt MAX_SHIPPED_NODES (s.load.nodes + box_count page.box_node)) (nat_lt MAX_SHIPPED_TEXT (s.load.text + box_text page.box_node)) (is_huge page) refl refl refl none
   where
     by_tests : (a b t c : Bool) → nat_le MAX_PAGES s.pages ≡ a → nat_lt MAX_SHIPPED_NODES (s.load.nodes + box_count page.box_node) ≡ b
-        → nat_lt MAX_SHIPPED_TEXT (s.load.text + box_text page.box_node) ≡ t → is_huge page ≡ c
-        → (if a then Some TooManyPages else if b then Some TooMuchShipped else if t then Some TooMuchSpecial else if c then Some HugePage else None) ≡ None → Admits s page
-    by_tests true b t c first second third fourth none = cc
-    by_tests false true t c first second third fourth none = cc
-    by_tests false false true c first second third fourth none = cc
-    by_tests false false false true first second third fourth none = cc
-    by_tests false false false false first second third fourth none = record { pages = first; nodes = second; text = third; small = fourth }
+        → nat_lt MAX_SHIPPED_TEXT (s.load.text + box_text page.box_node) ≡ t
+        → (if a then Some TooManyPages else if b then Some TooMuchShipped else if t then Some TooMuchSpecial else if c then Some HugePage else None)
+        ≡ (if c then Some HugePage else None) → Admits s page
+    by_tests true b t true first second third none = cc
+    by_tests true b t false first second third none = cc
+    by_tests false true t true first second third none = cc
+    by_tests false true t false first second third none = cc
+    by_tests false false true true first second third none = cc
+    by_tests false false true false first second third none = cc
+    by_tests false false false c first second third none = record { pages = first; nodes = second; text = third }
 
 -- The texts of the specials of the page are within the limit of a job.
-pub few_text : (s : SoFar) (page : Page) → limit_of s page ≡ None → box_text page.box_node ≤ MAX_SHIPPED_TEXT
+pub few_text : (s : SoFar) (page : Page) → limit_of s page ≡ (if is_huge page then Some HugePage else None) → box_text page.box_node ≤ MAX_SHIPPED_TEXT
 few_text s page none = omega (arith, ltb-false MAX_SHIPPED_TEXT (s.load.text + box_text page.box_node) (admitted s page none).text)
 
 -- Nothing was sent before the preamble.
@@ -97,7 +99,8 @@ opening_fills zero size nodes text fonts fits none = omega (arith, none refl)
 opening_fills (suc n) size nodes text fonts fits none = omega (arith, fits)
 
 -- There is room with one page more.
-pub room_next : (fonts : Slots) (s : SoFar) (page : Page) → AreDefinable fonts → IsShippable fonts page.box_node → length page.counts ≡ 10 → limit_of s page ≡ None
+pub room_next : (fonts : Slots) (s : SoFar) (page : Page) → AreDefinable fonts → IsShippable fonts page.box_node → length page.counts ≡ 10
+    → limit_of s page ≡ (if is_huge page then Some HugePage else None)
     → HasRoom s → HasRoom (with_next fonts s page)
 unfolding with_next next_bytes
 room_next fonts s page definable sound ten none room =

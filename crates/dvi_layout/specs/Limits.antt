@@ -8,7 +8,7 @@ use Rattle.node_core.specs.declared.limits.TheConstants.{MAX_PAGES, MAX_SHIPPED_
 use Rattle.dvi_layout.specs.Sheets.{in_rising_order}
 use Rattle.dvi_layout.specs.SoFar.{SoFar}
 
--- Why a page is not taken before memory is asked for: the first of these that holds.
+-- Why a page is not taken, whatever memory there is: the first of these that holds.
 abbrev pub limit_of : SoFar → Page → Option WriteFault
 limit_of s page =
     if nat_le MAX_PAGES s.pages then Some TooManyPages

@@ -1,5 +1,5 @@
 -- What is written for a page: its body, and the definitions of the fonts that it selects and that are not defined yet (own; DVItype, 15 and 18).
-use Rattle.std.specs.Prelude.{◌++◌, ◌==◌, ◌&&◌, not, [], ◌∷◌, ℕ, zero, suc, pos, Bool, false, List, Option, Some, None, is_some, filter}
+use Rattle.std.specs.Prelude.{◌++◌, ◌==◌, ◌&&◌, not, [], ◌∷◌, ℕ, ℤ, zero, suc, pos, Bool, false, List, Option, Some, None, is_some, filter, get_or}
 use Rattle.std.specs.Ordering.{int_eq}
 use Rattle.std.specs.List.{flat_map, list_any}
 use Rattle.dvi_ops.specs.Instruction.{Definition, FontNum, Instruction, Do}
@@ -46,6 +46,11 @@ abbrev pub selects : ℕ → Instruction → Bool
 selects slot (Do (FontNum font)) = int_eq font (pos slot)
 selects slot i = false
 
+-- The font that an instruction selects, if it selects one (no public clause speaks of it).
+abbrev pub font_of : Instruction → Option ℤ
+font_of (Do (FontNum font)) = Some font
+font_of i = None
+
 -- Whether a slot is among others.
 abbrev pub is_among : ℕ → List ℕ → Bool
 is_among slot slots = list_any (λ other. other == slot) slots
@@ -53,6 +58,10 @@ is_among slot slots = list_any (λ other. other == slot) slots
 -- The font of a slot is selected by these instructions, and is not defined yet.
 unfoldable pub is_fresh : Slots → (defined : List ℕ) → List Instruction → ℕ → Bool
 is_fresh fonts defined is slot = is_some (font_in fonts slot) && (not (is_among slot defined) && list_any (selects slot) is)
+
+-- The same where the slots of the selected fonts are marked (no public clause speaks of it).
+unfoldable pub is_marked_fresh : Slots → (defined : List ℕ) → (marked : List Bool) → ℕ → Bool
+is_marked_fresh fonts defined marked slot = get_or marked slot false && (is_some (font_in fonts slot) && not (is_among slot defined))
 
 -- The slots of the fonts that are selected by these instructions and not defined yet, rising.
 unfoldable pub fresh_slots : Slots → (defined : List ℕ) → List Instruction → List ℕ

@@ -1,6 +1,6 @@
 //! The instructions and the bytes of pages, of font definitions, and of the end of a file (DVItype, 13 to 20).
 
-ghost use Rattle.std.specs.Prelude.{◌≡◌, ◌<◌, ◌+◌, ◌^◌, ◌++◌, [], ◌∷◌, ℕ, length, map, replicate, take, OnOk, OnErr, IfOk};
+ghost use Rattle.std.specs.Prelude.{◌≡◌, ◌<◌, ◌+◌, ◌^◌, ◌++◌, ◌||◌, [], ◌∷◌, ℕ, pos, false, get_or, length, map, replicate, take, OnOk, OnErr, IfOk};
 ghost use Rattle.dvi_ops.specs.Instruction.{Bop, Do, Eop, FontDef};
 ghost use Rattle.dvi_ops.specs.declared.op.Op.TheVariants as ops;
 ghost use Rattle.dvi_ops.specs.declared.opcodes.TheConstants.{PADDING};
@@ -8,10 +8,12 @@ ghost use Rattle.dvi_ops.specs.Layout.{bytes_of, define, padding_after};
 ghost use Rattle.dvi_ops.specs.Spelling.{HasSpelling};
 ghost use Rattle.dvi_ops.specs.View.{view};
 ghost use Rattle.std.specs.List.{AllByRecursion, list_any};
-ghost use Rattle.dvi_layout.specs.Sheets.{definition_of, definitions_of, fresh_slots, is_among, is_fresh, in_rising_order, selects};
+ghost use Rattle.std.specs.Ordering.{int_eq};
+ghost use Rattle.dvi_layout.specs.Sheets.{definition_of, definitions_of, font_of, fresh_slots, is_among, is_marked_fresh, in_rising_order, selects};
 
 use crate::fonts::{Fonts, LoadedFont};
 use dvi_ops::{FontDefinition, Op, Units, opcodes, spell};
+use node_core::limits::FONT_SLOTS;
 use std::alloc::{AllocError, Global};
 
 /// The units of a file: a scaled point.
@@ -37,40 +39,56 @@ pub fn append_all(bytes: &mut Vec<u8>, ops: &[Op<'_>]) -> Result<(), AllocError>
     Ok(())
 }
 
-/// The instructions of a page with these counts, from bop to eop, behind a bop at a place (or -1).
-pub fn page_ops<'a>(
-    alloc: Global,
+/// Appends the spellings of a page with these counts and this body, from bop to eop, behind a bop at a place (or -1); or a front of them.
+pub fn append_page(
+    bytes: &mut Vec<u8>,
     counts: &[i32; 10],
-    body: &[Op<'a>],
+    body: &[Op<'_>],
     last: i32,
-) -> Result<Vec<Op<'a>>, AllocError>
-    ensures { IfOk result (λ ops. map view ops.items ≡ Bop counts.now last ∷ (map view body.now ++ Eop ∷ [])) }
+) -> Result<(), AllocError>
+    requires { AllByRecursion HasSpelling (map view body.now) }
+    ensures { OnOk result (bytes.new.items ≡ bytes.old.items ++ bytes_of (Bop counts.now last ∷ (map view body.now ++ Eop ∷ []))) }
 {
-    let mut ops = Vec::new(alloc);
-    ops.push(Op::Bop {
+    let bop = Op::Bop {
         counts: *counts,
         pointer: last,
-    })?;
-    ops.extend_from_slice(body)?;
-    ops.push(Op::Eop)?;
-    Ok(ops)
+    };
+    spell(&bop, bytes)?;
+    append_all(bytes, body)?;
+    spell(&Op::Eop, bytes)
 }
 
-/// Whether an instruction selects the font of a slot.
-pub fn selects(slot: u8, op: &Op<'_>) -> bool
-    ensures { result ≡ selects slot (view op.now) }
+/// The font that an instruction selects, if it selects one.
+fn font_of(op: &Op<'_>) -> Option<i32>
+    ensures { result ≡ font_of (view op.now) }
 {
     match op {
-        Op::FontNum(font) => *font == i32::from(slot),
-        _ => false,
+        Op::FontNum(font) => Some(*font),
+        _ => None,
     }
 }
 
-/// Whether one of these instructions selects the font of a slot.
-pub fn is_selected(slot: u8, ops: &[Op<'_>]) -> bool
-    ensures { result ≡ list_any (λ op. selects slot (view op)) ops.now }
+/// Marks the slot with the number of a font, if there is one.
+fn mark(marked: &mut [bool; FONT_SLOTS], font: i32)
+    ensures { (slot : ℕ) → slot < 256 → get_or marked.new slot false ≡ (get_or marked.old slot false || int_eq font (pos slot)) }
 {
-    ops.iter().any(|op| selects(slot, op))
+    if let Ok(slot) = u8::try_from(font) {
+        marked[usize::from(slot)] = true;
+    }
+}
+
+/// Which slots have a font that is selected by these instructions.
+fn selected_slots(ops: &[Op<'_>]) -> [bool; FONT_SLOTS]
+    ensures { (slot : ℕ) → slot < 256 → get_or result slot false ≡ list_any (selects slot) (map view ops.now) }
+{
+    let mut selected = [false; FONT_SLOTS];
+    for op in ops {
+        match font_of(op) {
+            Some(font) => mark(&mut selected, font),
+            None => {}
+        }
+    }
+    selected
 }
 
 /// Whether a slot is among others.
@@ -80,21 +98,21 @@ pub fn is_among(slot: u8, slots: &[u8]) -> bool
     slots.iter().any(|other| *other == slot)
 }
 
-/// Whether the font of a slot is selected by these instructions and not defined yet.
-#[tactic(auto, using(crate::proofs::FreshFonts::views), unfolding(crate::specs::Sheets::is_fresh))]
-pub fn is_fresh(fonts: &Fonts, defined: &[u8], ops: &[Op<'_>], slot: u8) -> bool
-    ensures { result ≡ is_fresh fonts.now defined.now (map view ops.now) slot }
+/// Whether the font of a slot is loaded, is among the marked ones, and is not defined yet.
+#[tactic(auto, unfolding(crate::specs::Sheets::is_marked_fresh))]
+fn is_fresh(fonts: &Fonts, defined: &[u8], marked: &[bool; FONT_SLOTS], slot: u8) -> bool
+    ensures { result ≡ is_marked_fresh fonts.now defined.now marked.now slot }
 {
+    if !marked[usize::from(slot)] {
+        return false;
+    }
     if fonts.get(slot).is_none() {
         return false;
     }
-    if is_among(slot, defined) {
-        return false;
-    }
-    is_selected(slot, ops)
+    !is_among(slot, defined)
 }
 
-/// The slots of the fonts that are selected by these instructions and not defined yet, rising.
+/// The slots of the fonts that are selected by these instructions and not defined yet, rising. The instructions are gone over once.
 pub fn fresh_slots(
     alloc: Global,
     fonts: &Fonts,
@@ -103,9 +121,10 @@ pub fn fresh_slots(
 ) -> Result<Vec<u8>, AllocError>
     ensures { IfOk result (λ slots. slots.items ≡ fresh_slots fonts.now defined.now (map view ops.now)) }
 {
+    let selected = selected_slots(ops);
     let mut slots = Vec::new(alloc);
     for slot in 0..256usize {
-        if is_fresh(fonts, defined, ops, slot as u8) {
+        if is_fresh(fonts, defined, &selected, slot as u8) {
             slots.push(slot as u8)?;
         }
     }
@@ -157,28 +176,6 @@ pub fn append_definitions<'a>(
         }
     }
     Ok(())
-}
-
-/// Appends the spellings of instructions and of others behind them, and tells where the others begin; or appends nothing.
-pub fn append_both(
-    bytes: &mut Vec<u8>,
-    first: &[Op<'_>],
-    second: &[Op<'_>],
-) -> Result<usize, AllocError>
-    requires first { AllByRecursion HasSpelling (map view first.now) }
-    requires second { AllByRecursion HasSpelling (map view second.now) }
-    ensures ok { OnOk result (bytes.new.items ≡ bytes.old.items ++ bytes_of (map view first.now ++ map view second.now)) }
-    ensures place { IfOk result (λ place. place ≡ length bytes.old.items + length (bytes_of (map view first.now))) }
-    ensures err { OnErr result (bytes.new.items ≡ bytes.old.items) }
-{
-    let held = bytes.len();
-    append_all(bytes, first)?;
-    let place = bytes.len();
-    if append_all(bytes, second).is_err() {
-        bytes.truncate(held);
-        return Err(AllocError);
-    }
-    Ok(place)
 }
 
 /// Appends four to seven padding bytes, so that the length with `before` bytes in front is a multiple of 4, or nothing.

@@ -1,6 +1,6 @@
 //! What the writer keeps of the pages that it has sent, and the bytes that it sends next (DVItype, 13 to 20).
 
-ghost use Rattle.std.specs.Prelude.{◌≡◌, ◌<◌, ◌≤◌, ◌+◌, ◌^◌, ◌++◌, ◌+ℤ◌, [], ◌∷◌, ℤ, List, None, Some, true, false, max, pos, length, map, OnOk, OnErr, IfOk, IfErr};
+ghost use Rattle.std.specs.Prelude.{◌≡◌, ◌<◌, ◌≤◌, ◌+◌, ◌^◌, ◌++◌, ◌+ℤ◌, [], ◌∷◌, ℤ, List, None, Some, true, false, max, pos, length, map, if◌then◌else◌, OnOk, OnErr, IfOk, IfErr};
 ghost use Rattle.std.specs.Int.{int_max};
 ghost use Rattle.std.specs.List.{AllByRecursion};
 ghost use Rattle.dvi_ops.specs.Instruction.{Bop, Eop, Post};
@@ -20,18 +20,21 @@ ghost use Rattle.dvi_layout.specs.Limits.{HasRoom, limit_of};
 use crate::defined::DefinedSlots;
 use crate::fonts::Fonts;
 use crate::layout::{
-    SCALED_POINTS, append_all, append_both, append_definitions, append_padding, fresh_slots,
-    in_rising_order, page_ops,
+    SCALED_POINTS, append_all, append_definitions, append_padding, append_page, fresh_slots,
+    in_rising_order,
 };
 use dvi_ops::{Op, Postamble, opcodes};
 use move_core::reuse;
 use node_core::BoxNode;
 use node_core::limits::{MAX_PAGES, MAX_SHIPPED_NODES, MAX_SHIPPED_TEXT};
 use scaled_core::Dimen;
-use ship_core::{PagePoint, draw_page, is_huge, push_depth};
+use ship_core::{PagePoint, ShipFault, plan_with_room, push_depth};
 use std::alloc::{AllocError, Global};
 use std::marker::Model;
 use thiserror::Error;
+
+/// For how many instructions of a page there is room from the start, at most; a page of a book has fewer.
+const MAX_ROOM: u64 = 16_384;
 
 /// Why a page was not taken, or a file not ended.
 #[derive(Clone, Copy, Debug, PartialEq, Eq, Error)]
@@ -57,6 +60,16 @@ pub enum WriteFault {
     /// The device failed during the call.
     #[error("the device did not take the bytes")]
     Device,
+}
+
+impl From<AllocError> for WriteFault {
+    ghost use Rattle.dvi_layout.specs.declared.progress.WriteFault.TheVariants.{OutOfMemory};
+
+    ghost from_gives = { λ _ fault. fault ≡ OutOfMemory };
+
+    fn from(_error: AllocError) -> WriteFault {
+        WriteFault::OutOfMemory
+    }
 }
 
 /// How far a page is moved to the right and down (TeX: The Program, part 32, §617: hoffset and voffset).
@@ -114,20 +127,26 @@ pub struct NextPage {
     pub behind: Progress,
 }
 
-/// The instructions of the body of a page as it is written.
-#[tactic(auto, unfolding(ship_core::specs::Marks::is_huge))]
+/// The instructions of the body of a page as it is written, with room for that many from the start. HugePage exactly where the page is huge, else
+/// OutOfMemory.
 fn written_body<'a>(
     alloc: Global,
     box_node: &'a BoxNode,
     at: PagePoint,
     counts: &[i32; 10],
-) -> Result<Vec<Op<'a>>, AllocError>
-    requires { is_huge (page_at counts.now at.h at.v box_node.now) ≡ false }
-    ensures { IfOk result (λ ops. map view ops.items ≡ flat (written_body (page_at counts.now at.h at.v box_node.now))) }
+    room: usize,
+) -> Result<Vec<Op<'a>>, WriteFault>
+    ensures ok { IfOk result (λ ops. map view ops.items ≡ flat (written_body (page_at counts.now at.h at.v box_node.now))) }
+    ensures fits { OnOk result (is_huge (page_at counts.now at.h at.v box_node.now) ≡ false) }
+    ensures err { IfErr result (λ fault. fault
+        ≡ (if is_huge (page_at counts.now at.h at.v box_node.now) then WriteFault.HugePage else WriteFault.OutOfMemory)) }
 {
     let _counts = *counts;
-    let drawn = draw_page(alloc, box_node, at)?;
-    reuse(drawn)
+    match plan_with_room(alloc, box_node, at, room) {
+        Ok(drawn) => Ok(reuse(drawn)?),
+        Err(ShipFault::HugePage) => Err(WriteFault::HugePage),
+        Err(ShipFault::OutOfMemory) => Err(WriteFault::OutOfMemory),
+    }
 }
 
 /// What stands before a page and its definitions, when there are that many pages: the preamble before the first.
@@ -212,12 +231,13 @@ impl Progress {
         }
     }
 
-    /// What the page of a box has that may be sent next, or why it may not.
-    pub fn admit(&self, box_node: &BoxNode, at: PagePoint) -> Result<PageLoad, WriteFault>
+    /// What the page of a box has that may be sent next unless it is huge, or why it may not.
+    pub fn admit(&self, box_node: &BoxNode) -> Result<PageLoad, WriteFault>
         ensures nodes { IfOk result (λ load. load.nodes ≡ box_count box_node.now) }
         ensures text { IfOk result (λ load. load.text ≡ box_text box_node.now) }
-        ensures ok { OnOk result ((counts : List ℤ) → limit_of self.now (page_at counts at.h at.v box_node.now) ≡ None) }
-        ensures err { IfErr result (λ fault. (counts : List ℤ) → limit_of self.now (page_at counts at.h at.v box_node.now) ≡ Some fault) }
+        ensures ok { OnOk result ((counts : List ℤ) (h v : ℤ) → limit_of self.now (page_at counts h v box_node.now)
+            ≡ (if is_huge (page_at counts h v box_node.now) then Some WriteFault.HugePage else None)) }
+        ensures err { IfErr result (λ fault. (counts : List ℤ) (h v : ℤ) → limit_of self.now (page_at counts h v box_node.now) ≡ Some fault) }
     {
         if self.pages >= MAX_PAGES {
             return Err(WriteFault::TooManyPages);
@@ -229,9 +249,6 @@ impl Progress {
         let text = box_node.text_size();
         if self.text.saturating_add(text) > MAX_SHIPPED_TEXT {
             return Err(WriteFault::TooMuchSpecial);
-        }
-        if is_huge(box_node, at) {
-            return Err(WriteFault::HugePage);
         }
         Ok(PageLoad { nodes, text })
     }
@@ -251,9 +268,10 @@ impl Progress {
     {
         let mut before = opening(alloc, self.pages)?;
         append_definitions(fonts, slots, &mut before)?;
-        let page = page_ops(alloc, counts, body, self.last)?;
         let mut bytes = Vec::new(alloc);
-        let bop = append_both(&mut bytes, &before, &page)?;
+        append_all(&mut bytes, &before)?;
+        let bop = bytes.len();
+        append_page(&mut bytes, counts, body, self.last)?;
         Ok((bytes, bop))
     }
 
@@ -292,7 +310,7 @@ impl Progress {
         self.deep = self.deep.max(push_depth(body));
     }
 
-    /// The page of a box that goes out next.
+    /// The page of a box that goes out next. HugePage exactly where it is huge, also where memory is refused as well; else OutOfMemory.
     #[tactic(auto, unfolding(crate::specs::SoFar::with_next, crate::specs::SoFar::next_bytes))]
     pub fn next_page(
         &self,
@@ -302,15 +320,23 @@ impl Progress {
         counts: &[i32; 10],
         fonts: &Fonts,
         load: PageLoad,
-    ) -> Result<NextPage, AllocError>
-        requires huge { is_huge (page_at counts.now at.h at.v box_node.now) ≡ false }
+    ) -> Result<NextPage, WriteFault>
         requires nodes { load.nodes ≡ box_count box_node.now }
         requires text { load.text ≡ box_text box_node.now }
         requires room { HasRoom (with_next fonts.now self.now (page_at counts.now at.h at.v box_node.now)) }
         ensures bytes { IfOk result (λ next. next.bytes.items ≡ next_bytes fonts.now self.now (page_at counts.now at.h at.v box_node.now)) }
         ensures behind { IfOk result (λ next. next.behind ≡ with_next fonts.now self.now (page_at counts.now at.h at.v box_node.now)) }
+        ensures fits { OnOk result (is_huge (page_at counts.now at.h at.v box_node.now) ≡ false) }
+        ensures err { IfErr result (λ fault. fault
+            ≡ (if is_huge (page_at counts.now at.h at.v box_node.now) then WriteFault.HugePage else WriteFault.OutOfMemory)) }
     {
-        let body = written_body(alloc, box_node, at, counts)?;
+        let body = written_body(
+            alloc,
+            box_node,
+            at,
+            counts,
+            load.nodes.min(MAX_ROOM) as usize,
+        )?;
         let fresh = fresh_slots(alloc, fonts, self.defined.as_slice(), &body)?;
         let (bytes, bop) = self.lay_out(alloc, fonts, &fresh, counts, &body)?;
         let mut behind = self.copied();

@@ -1,6 +1,6 @@
 //! The one spelling of an instruction.
 
-ghost use Rattle.std.specs.Prelude.{◌≡◌, ◌≤◌, ◌<◌, ◌+◌, ◌-◌, ◌++◌, ◌^◌, ◌∷◌, length, pos, OnOk, OnErr};
+ghost use Rattle.std.specs.Prelude.{◌≡◌, ◌≤◌, ◌<◌, ◌+◌, ◌-◌, ◌++◌, ◌^◌, [], ◌∷◌, length, pos, OnOk, OnErr};
 ghost use Rattle.std.specs.List.{AllByRecursion, flat_map};
 ghost use Rattle.dvi_ops.specs.Instruction.{FontDef, Post};
 ghost use Rattle.dvi_ops.specs.Spelling.{HasSpelling, LeafFits, NumberFits, NumbersFit, UnitsFit, char_spelling, code_size, coded, coded_signed, definition_spelling, font_spelling, leaf_spelling, operand, post_bytes, signed_size, spelling, text_spelling, units_bytes};
@@ -24,6 +24,15 @@ fn append(out: &mut Vec<u8>, parts: &[&[u8]]) -> Result<(), AllocError>
             return Err(refused);
         }
     }
+    Ok(())
+}
+
+/// Appends a byte, or nothing.
+fn append_byte(out: &mut Vec<u8>, byte: u8) -> Result<(), AllocError>
+    ensures ok { OnOk result (out.new.items ≡ out.old.items ++ byte ∷ []) }
+    ensures err { OnErr result (out.new.items ≡ out.old.items) }
+{
+    out.push(byte)?;
     Ok(())
 }
 
@@ -87,7 +96,7 @@ fn append_char(out: &mut Vec<u8>, character: i32) -> Result<(), AllocError>
     ensures err { OnErr result (out.new.items ≡ out.old.items) }
 {
     match character {
-        0..=127 => append(out, &[&[character as u8]]),
+        0..=127 => append_byte(out, character as u8),
         _ => append_coded(out, opcodes::SET1, size_of_code(character), character),
     }
 }
@@ -99,7 +108,7 @@ fn append_font(out: &mut Vec<u8>, font: i32) -> Result<(), AllocError>
     ensures err { OnErr result (out.new.items ≡ out.old.items) }
 {
     match font {
-        0..=63 => append(out, &[&[opcodes::FNT_NUM_0 + font as u8]]),
+        0..=63 => append_byte(out, opcodes::FNT_NUM_0 + font as u8),
         _ => append_coded(out, opcodes::FNT1, size_of_code(font), font),
     }
 }
@@ -277,20 +286,20 @@ pub fn spell(op: &Op<'_>, out: &mut Vec<u8>) -> Result<(), AllocError>
         ),
         Op::SetRule { height, width } => append_rule(out, opcodes::SET_RULE, *height, *width),
         Op::PutRule { height, width } => append_rule(out, opcodes::PUT_RULE, *height, *width),
-        Op::Nop => append(out, &[&[opcodes::NOP]]),
+        Op::Nop => append_byte(out, opcodes::NOP),
         Op::Bop { counts, pointer } => append_bop(out, counts, *pointer),
-        Op::Eop => append(out, &[&[opcodes::EOP]]),
-        Op::Push => append(out, &[&[opcodes::PUSH]]),
-        Op::Pop => append(out, &[&[opcodes::POP]]),
+        Op::Eop => append_byte(out, opcodes::EOP),
+        Op::Push => append_byte(out, opcodes::PUSH),
+        Op::Pop => append_byte(out, opcodes::POP),
         Op::Right(amount) => append_signed(out, opcodes::RIGHT1, *amount),
-        Op::W0 => append(out, &[&[opcodes::W0]]),
+        Op::W0 => append_byte(out, opcodes::W0),
         Op::W(amount) => append_signed(out, opcodes::W1, *amount),
-        Op::X0 => append(out, &[&[opcodes::X0]]),
+        Op::X0 => append_byte(out, opcodes::X0),
         Op::X(amount) => append_signed(out, opcodes::X1, *amount),
         Op::Down(amount) => append_signed(out, opcodes::DOWN1, *amount),
-        Op::Y0 => append(out, &[&[opcodes::Y0]]),
+        Op::Y0 => append_byte(out, opcodes::Y0),
         Op::Y(amount) => append_signed(out, opcodes::Y1, *amount),
-        Op::Z0 => append(out, &[&[opcodes::Z0]]),
+        Op::Z0 => append_byte(out, opcodes::Z0),
         Op::Z(amount) => append_signed(out, opcodes::Z1, *amount),
         Op::FontNum(font) => append_font(out, *font),
         Op::Xxx(text) => append_text(out, text),

@@ -1,21 +1,21 @@
 -- A writer, and the pages that it has written.
-use Rattle.std.proofs.Common.{◌≡◌, ◌≢◌, ℕ, ◌+◌, ◌<◌, ◌^◌, List, [], ◌∷◌, ◌++◌, length, take, refl, ap, sym, ◌∙◌, arith, append-nil, length-append}
-use Rattle.std.specs.Prelude.{false, Option, Some, None, Result, Ok, Err, OnOk, OnErr}
+use Rattle.std.proofs.Common.{◌≡◌, ◌≢◌, ℕ, ◌+◌, ◌<◌, ◌^◌, List, [], ◌∷◌, ◌++◌, length, take, inl, inr, refl, ap, sym, ◌∙◌, arith, append-nil, length-append}
+use Rattle.std.specs.Prelude.{Bool, true, false, if◌then◌else◌, ◌⊎◌, Option, Some, None, Result, Ok, Err, OnOk, OnErr}
 use Rattle.std.proofs.Math.Seq.{take-append-add}
 use Rattle.std.proofs.lemmas.List.{nil_from_length}
 use Rattle.dvi_ops.proofs.Appends.{all_append}
 use Rattle.device_core.specs.Told.{grown, GrowsByFront}
 use Rattle.device_core.proofs.Tellings.{grown-grown}
-use Rattle.ship_core.specs.Marks.{Page}
+use Rattle.ship_core.specs.Marks.{Page, is_huge}
 use Rattle.dvi_layout.specs.declared.progress.WriteFault.{WriteFault}
-use Rattle.dvi_layout.specs.declared.progress.WriteFault.TheVariants.{Device}
+use Rattle.dvi_layout.specs.declared.progress.WriteFault.TheVariants.{Device, HugePage, JobOver, OutOfMemory}
 use Rattle.dvi_layout.specs.Fonts.{Slots}
 use Rattle.dvi_layout.specs.MoreFonts.{Extends}
 use Rattle.dvi_layout.specs.Layout.{front, whole}
 use Rattle.dvi_layout.specs.Shippable.{IsRightPage}
 use Rattle.dvi_layout.specs.SoFar.{SoFar, nothing_so_far, next_bytes, with_next, last_bytes}
-use Rattle.dvi_layout.specs.Limits.{HasRoom}
-use Rattle.dvi_write.specs.Writing.{Writing, HasWritten}
+use Rattle.dvi_layout.specs.Limits.{HasRoom, limit_of}
+use Rattle.dvi_write.specs.Writing.{Writing, HasWritten, Refuses, refusal_of}
 use Rattle.dvi_layout.proofs.Rooms.{small}
 use Rattle.dvi_layout.proofs.NextPages.{front-append, so_far-append, whole-is}
 use Rattle.dvi_layout.proofs.MoreFonts.{front_more, so_far_more, pages_more}
@@ -38,6 +38,22 @@ next-same : (fonts : Slots) (before : Option (List ℕ)) (w : Writing) (pages : 
     → front fonts pages ++ next_bytes fonts w.so_far page ≡ front fonts (pages ++ page ∷ [])
 next-same fonts before w pages page written =
     ap (λ s. front fonts pages ++ next_bytes fonts s page) written.so_far ∙ sym (front-append fonts pages page)
+
+-- What a page that goes out, or is refused, is refused for.
+unrefused : (w : Writing) (page : Page) → w.over ≡ false → refusal_of w page ≡ limit_of w.so_far page
+unrefused w page running = ap (λ (over : Bool). if over then Some JobOver else limit_of w.so_far page) running
+
+pub may_go : (w : Writing) (page : Page) → w.over ≡ false → limit_of w.so_far page ≡ (if is_huge page then Some HugePage else None) → is_huge page ≡ false
+    → refusal_of w page ≡ None
+may_go w page running limit small = unrefused w page running ∙ (limit ∙ ap (λ (huge : Bool). if huge then Some HugePage else None) small)
+
+pub refused_by : (w : Writing) (page : Page) (fault : WriteFault) → w.over ≡ false → limit_of w.so_far page ≡ (if is_huge page then Some HugePage else None)
+    → fault ≡ (if is_huge page then HugePage else OutOfMemory) → Refuses w page fault
+refused_by w page fault running limit is = by_test (is_huge page) limit is
+  where
+    by_test : (huge : Bool) → limit_of w.so_far page ≡ (if huge then Some HugePage else None) → fault ≡ (if huge then HugePage else OutOfMemory) → Refuses w page fault
+    by_test true limit is = inl (unrefused w page running ∙ (limit ∙ ap Some (sym is)))
+    by_test false limit is = inr (unrefused w page running ∙ limit, is)
 
 -- A writer that has sent a page has written it behind the others.
 pub written_more : (fonts : Slots) (before : Option (List ℕ)) (old new : Writing) (pages : List Page) (page : Page) → HasWritten fonts before old pages

@@ -138,7 +138,7 @@ impl<D: Device> DviWriter<D> {
             return Err(WriteFault::JobOver);
         }
         let at = offsets.point_of(box_node);
-        let load = self.progress.admit(box_node, at)?;
+        let load = self.progress.admit(box_node)?;
         ten_fit(counts);
         fonts.can_be_defined();
         match self
@@ -146,7 +146,7 @@ impl<D: Device> DviWriter<D> {
             .next_page(alloc, box_node, at, counts, fonts, load)
         {
             Ok(next) => Ok(next),
-            Err(_) => Err(WriteFault::OutOfMemory),
+            Err(fault) => Err(fault),
         }
     }
 

@@ -1,6 +1,6 @@
 //! What a list of nodes is to the breaker.
 //!
-//! The legal places of a finished list, the penalty of a break at each, what the line from one place to another keeps and the sums over that. A meter tells
+//! The legal places of a finished list, the penalty of a break at each, what the line from one place to another keeps and the sums over that. A meter gives
 //! them line by line and counts the trials; `ListMeter` measures a list once, by one walk, and refuses one that cannot be broken. The crate knows no
 //! passes and chooses no breaks: `break_core`, which breaks what any meter measures, is above it.
 #![tactic(auto)]

@@ -22,7 +22,7 @@ pub fn is_dropped(node: &Node) -> bool
     node.class().is_discardable()
 }
 
-/// Whether the item behind a place is glue.
+/// Whether the item after a place is glue.
 #[tactic(auto, unfolding(crate::specs::Legal::is_glue))]
 fn is_glue(nodes: &[Node], index: usize) -> bool
     ensures { result ≡ is_glue (slice_get nodes.now index) }
@@ -33,7 +33,7 @@ fn is_glue(nodes: &[Node], index: usize) -> bool
     }
 }
 
-/// Whether there is an item in front of a place behind which glue is a legal place.
+/// Whether there is an item in front of a place after which glue is a legal place.
 fn is_kept_before(nodes: &[Node], index: usize) -> bool
     ensures { result ≡ is_kept (node_before nodes.now index) }
 {

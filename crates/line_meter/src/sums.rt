@@ -42,19 +42,17 @@ fn plus(before: &Sums, more: &Sums) -> Sums
     }
 }
 
-/// The sums over one item more. What is no glue changes the width alone.
-pub fn with_item(before: &Sums, node: &Node) -> Sums
-    requires { IsPrefix most_nodes before.now }
-    ensures value { result ≡ plus before.now (amounts_of node.now) }
-    ensures small { (n : ℕ) → IsPrefix n before.now → IsPrefix (n + 1) result }
+/// Adds an item to sums. What is no glue changes the width alone.
+pub fn add_item(sums: &mut Sums, node: &Node)
+    requires { IsPrefix most_nodes sums.old }
+    ensures value { sums.new ≡ plus sums.old (amounts_of node.now) }
+    ensures small { (n : ℕ) → IsPrefix n sums.old → IsPrefix (n + 1) sums.new }
 {
-    match node {
-        Node::Glue(_) => plus(before, &amounts_of(node)),
-        _ => Sums {
-            width: before.width + advance_of(Kind::Horizontal, node),
-            ..*before
-        },
-    }
+    let Node::Glue(_) = node else {
+        sums.width += advance_of(Kind::Horizontal, node);
+        return;
+    };
+    *sums = plus(sums, &amounts_of(node));
 }
 
 /// How much more one sum is than another.

@@ -7,7 +7,7 @@ ghost use Rattle.line_meter.specs.Marks.{IsWalked, IsMarked};
 
 use crate::list::{MOST_PLACES, is_dropped, is_legal, penalty_at};
 use crate::mark::Mark;
-use crate::sums::{Sums, with_item};
+use crate::sums::{Sums, add_item};
 use node_core::Node;
 use std::alloc::{AllocError, Global};
 
@@ -65,7 +65,7 @@ impl Walk {
     {
         let node = &nodes[index];
         if !is_dropped(node) {
-            self.sums = with_item(&self.sums, node);
+            add_item(&mut self.sums, node);
             self.begin = index;
             return Ok(true);
         }
@@ -73,7 +73,7 @@ impl Walk {
             return Ok(false);
         }
         self.from_begin = self.line_start(index + 1);
-        self.sums = with_item(&self.sums, node);
+        add_item(&mut self.sums, node);
         if !is_legal(nodes, index) {
             return Ok(true);
         }

@@ -6,6 +6,7 @@ pub mod Tidy
 pub mod Kept
 pub mod Laters
 pub mod Flags
+pub mod FullGroups
 pub mod Passing
 pub mod SameBody
 pub mod PlainBodies

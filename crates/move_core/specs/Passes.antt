@@ -1,11 +1,12 @@
 -- What the passes over a list of instructions give (own; that they give what `reused` says is the clause `reused` of `reuse`).
-use Rattle.std.specs.Prelude.{◌≡◌, ◌++◌, [], ◌∷◌, List, map, reverse, take, ℕ, ℤ, zero, suc, Bool, true, false, Option, Some, None, ◌||◌}
+use Rattle.std.specs.Prelude.{◌≡◌, ◌+◌, ◌++◌, [], ◌∷◌, List, length, map, reverse, take, drop, if◌then◌else◌, ℕ, ℤ, zero, suc, Bool, true, false, Option, Some, None, ◌||◌}
 use Rattle.std.specs.List.{list_any}
 use Rattle.std.specs.Ordering.{int_cmp, int_eq}
 use Rattle.std.specs.BTreeSet.{contains}
 use Rattle.dvi_ops.specs.Instruction.{Axis, Across, Downward, Step, By, Set, Again, Leaf, Move, Instruction, Do, Push, Pop}
 use Rattle.dvi_ops.specs.Instruction as instructions
 use Rattle.dvi_ops.specs.View.{view}
+use Rattle.dvi_ops.specs.declared.op.Op.{Op}
 use Rattle.move_core.specs.declared.registers.Register.{Register}
 use Rattle.move_core.specs.declared.registers.Register.TheVariants as registers
 use Rattle.move_core.specs.declared.registers.Step.{Step as WrittenStep}
@@ -58,6 +59,20 @@ trimmed [] out = reverse out
 trimmed (Pop ∷ rest) (Push ∷ out) = trimmed rest out
 trimmed (i ∷ rest) out = trimmed rest (i ∷ out)
 
+-- Whether an instruction is a push; and whether it ends an empty group, where `pushed` says whether a push stands directly in front of it.
+abbrev pub is_push : Instruction → Bool
+is_push Push = true
+is_push i = false
+
+abbrev pub ends_empty_group : (pushed : Bool) → Instruction → Bool
+ends_empty_group true Pop = true
+ends_empty_group pushed i = false
+
+-- Whether a pop stands directly after a push, where `pushed` says whether a push stands directly in front of these instructions.
+abbrev pub has_empty_group : (pushed : Bool) → List Instruction → Bool
+has_empty_group pushed [] = false
+has_empty_group pushed (i ∷ rest) = ends_empty_group pushed i || has_empty_group (is_push i) rest
+
 -- Whether a plain movement by that amount comes, before its end, in the group that is open behind so many more pops, and not in a group of it.
 abbrev pub comes : List Instruction → (pops : ℕ) → Axis → ℤ → Bool
 comes [] pops axis n = false
@@ -73,10 +88,15 @@ abbrev pub again_in : Instruction → (rest : List Instruction) → Bool
 again_in (Do leaf) rest = comes_again leaf (comes rest 0)
 again_in i rest = false
 
--- The same for each of the instructions.
+-- Whether an instruction is a plain movement.
+abbrev pub is_move : Instruction → Bool
+is_move (Do (Move axis (By n))) = true
+is_move i = false
+
+-- For each of the plain movements, whether its amount comes again.
 abbrev pub flags_of : List Instruction → List Bool
 flags_of [] = []
-flags_of (i ∷ rest) = again_in i rest ∷ flags_of rest
+flags_of (i ∷ rest) = if is_move i then again_in i rest ∷ flags_of rest else flags_of rest
 
 -- What is known of the registers, and what was known of them in front of each open group, the innermost first.
 pub record Groups : Type 0 where
@@ -138,10 +158,15 @@ Knows m rest = (pops : ℕ) → (axis : Axis) → (n : ℤ) → held_at (m.here 
 abbrev pub groups_of : Pass → Groups
 groups_of p = record { known = known_view p.known; outer = reverse (map known_view p.outer.items) }
 
--- What a pass has written, and what it will write for these instructions.
-abbrev pub makes : Pass → (rest : List Instruction) → List Instruction
-makes p rest = map view p.out.items ++ rewritten rest (groups_of p)
+-- What stands in front of instruction i, and what a pass will write from there on.
+abbrev pub makes : Pass → List Op → ℕ → List Instruction
+makes p ops i = map view (take i ops) ++ rewritten (map view (drop i ops)) (groups_of p)
 
--- A pass that has met one more instruction, with its flag, makes the same.
-abbrev pub GoesOn : Pass → Instruction → (again : Bool) → Pass → Type 0
-GoesOn before i again after = (rest : List Instruction) → again ≡ again_in i rest → makes before (i ∷ rest) ≡ makes after rest
+-- The flags that a pass has left are those of the movements from instruction i on.
+abbrev pub HasFlags : Pass → List Op → ℕ → Type 0
+HasFlags p ops i = reverse p.flags.items ≡ flags_of (map view (drop i ops))
+
+-- A pass that has met instruction i makes the same.
+abbrev pub Turns : Pass → List Op → ℕ → Pass → List Op → Type 0
+Turns before ops i after written =
+    (length written ≡ length ops) × (HasFlags before ops i → HasFlags after written (i + 1) × (makes after written (i + 1) ≡ makes before ops i))

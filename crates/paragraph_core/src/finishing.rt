@@ -47,7 +47,7 @@ pub fn refusal_of_finished(nodes: &[Node], par_fill_skip: Glue) -> Option<BreakF
     refusal(without_final_glue(nodes))
 }
 
-/// Puts a node behind others. A refused growth leaves them as they were.
+/// Puts a node after others. A refused growth leaves them as they were.
 fn push_one(nodes: &mut Vec<Node>, node: Node) -> Result<(), AllocError>
     ensures ok { OnOk result (nodes.new.items ≡ nodes.old.items ++ node ∷ []) }
     ensures err { OnErr result (nodes.new.items ≡ nodes.old.items) }
@@ -58,7 +58,7 @@ fn push_one(nodes: &mut Vec<Node>, node: Node) -> Result<(), AllocError>
     }
 }
 
-/// Puts two nodes behind others. A refused growth leaves them as they were.
+/// Puts two nodes after others. A refused growth leaves them as they were.
 fn push_two(nodes: &mut Vec<Node>, first: Node, second: Node) -> Result<(), AllocError>
     ensures ok { OnOk result (nodes.new.items ≡ nodes.old.items ++ first ∷ second ∷ []) }
     ensures err { OnErr result (nodes.new.items ≡ nodes.old.items) }
@@ -81,8 +81,8 @@ fn put_at(nodes: &mut Vec<Node>, index: usize, node: Node)
     nodes[index] = node;
 }
 
-/// Finishes the list of a paragraph that is not empty: glue at its end is replaced by a penalty of 10000, or else this penalty is put behind it, and then
-/// parfillskip. It answers the glue that it replaced. A refused growth leaves the list as it was.
+/// Finishes the list of a paragraph that is not empty: glue at its end is replaced by a penalty of 10000, or else this penalty is put after it, and then
+/// parfillskip. It returns the glue that it replaced. A refused growth leaves the list as it was.
 pub fn finish_paragraph(
     nodes: &mut Vec<Node>,
     par_fill_skip: Glue,

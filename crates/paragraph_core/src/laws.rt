@@ -23,8 +23,8 @@ ghost use Rattle.paragraph_core.specs.Paragraphs.{unbroken, IsSetParagraph, IsUn
 ghost use Rattle.paragraph_core.specs.Setting.{setting};
 ghost use Rattle.paragraph_core.specs.Rows.{penalties_of, with_penalties, greatest_penalties, in_two, two_short_lines, narrow, special, special_line, numbers_in};
 
-/// Behind a line of two stand all three penalties, added; of more lines clubpenalty behind the first one and widowpenalty behind the last but one.
-/// Nothing stands behind the last line, nor where the sum is 0.
+/// After a line of two stand all three penalties, added; of more lines clubpenalty after the first one and widowpenalty after the last but one.
+/// Nothing stands after the last line, nor where the sum is 0.
 pub fn penalties_between_lines()
     ensures one { penalties_of with_penalties 1 ≡ [] }
     ensures two { penalties_of with_penalties 2 ≡ pos 111 ∷ [] }
@@ -34,7 +34,7 @@ pub fn penalties_between_lines()
     ensures greatest { penalties_of greatest_penalties 2 ≡ pos 1500000000 ∷ [] }
 {}
 
-/// Two lines: each box stands behind glue by the depth in front of it, the first one by that of the list around, and the penalty stands between.
+/// Two lines: each box stands after glue by the depth in front of it, the first one by that of the list around, and the penalty stands between.
 #[tactic(auto, unfolding(crate::specs::Lines::vertical_items, crate::specs::Lines::brought_by, crate::specs::Lines::last_depth))]
 pub fn two_lines()
     ensures items { (list : List Node) → (first last : ℕ) → (params : Params) → (previous : ℤ) →

@@ -36,7 +36,7 @@ fn without_first(nodes: &[Node]) -> &[Node]
     &[]
 }
 
-/// The items behind a place.
+/// The items after a place.
 fn behind(nodes: &[Node], place: usize) -> &[Node]
     ensures { result.now ≡ drop (place + 1) nodes.now }
 {
@@ -92,7 +92,7 @@ fn copies(alloc: Global, nodes: &[Node]) -> Result<Vec<Node>, AllocError>
     Ok(copies)
 }
 
-/// Puts a node behind others, if there is one.
+/// Puts a node after others, if there is one.
 fn push_some(nodes: &mut Vec<Node>, node: Option<Node>) -> Result<(), AllocError>
     ensures { OnOk result (nodes.new.items ≡ nodes.old.items ++ cons_option node []) }
 {

@@ -76,7 +76,7 @@ fn set_empty(alloc: Global, previous_depth: Dimen) -> CountedParagraph
     CountedParagraph { set, trials: 0 }
 }
 
-/// Why a paragraph was not set where its list could not be finished: it may not be broken, or else memory is wanting.
+/// Why a paragraph was not set where its list could not be finished: it may not be broken, or else there is not enough memory.
 fn unfinished_fault(nodes: &[Node], params: &Params) -> ParagraphFault
     requires { length nodes.now ≤ most_nodes }
     ensures { (previous : ℤ) → IsUnsetList (finished nodes.now params.now.par_fill_skip) params.now previous result }
@@ -167,9 +167,9 @@ fn set_items(
     set
 }
 
-/// Sets a paragraph of at most 131,070 items behind a previous depth, and leaves its list as it is. It is refused where its glue shrinks in an infinite
+/// Sets a paragraph of at most 131,070 items after a previous depth, and leaves its list as it is. It is refused where its glue shrinks in an infinite
 /// order, else where it has more than 8,192 legal places, and a refused growth hides neither; else where a line does not fit, or where a growth is refused
-/// before all lines are packed. Of a paragraph with items some lines are tried, and at most as many as there are places behind each place up to where
+/// before all lines are packed. Of a paragraph with items some lines are tried, and at most as many as there are places after each place up to where
 /// trying stops.
 pub fn set_paragraph(
     alloc: Global,

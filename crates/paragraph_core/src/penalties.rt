@@ -26,7 +26,7 @@ fn penalty_behind(params: &Params, count: usize, line: usize) -> i32
     params.interline_penalty.get() + club + widow
 }
 
-/// Puts a penalty behind a list; 0 is not put there. A refused growth leaves the list as it was.
+/// Puts a penalty after a list; 0 is not put there. A refused growth leaves the list as it was.
 fn push_penalty(nodes: &mut Vec<Node>, penalty: i32) -> Result<(), AllocError>
     ensures ok { OnOk result (nodes.new.items ≡ nodes.old.items ++ penalty_nodes penalty) }
     ensures err { OnErr result (nodes.new.items ≡ nodes.old.items) }
@@ -40,7 +40,7 @@ fn push_penalty(nodes: &mut Vec<Node>, penalty: i32) -> Result<(), AllocError>
     }
 }
 
-/// Puts behind a list what stands behind a line, of so many. A refused growth leaves the list as it was.
+/// Puts after a list what stands after a line, of so many. A refused growth leaves the list as it was.
 pub fn push_behind_line(
     nodes: &mut Vec<Node>,
     params: &Params,

@@ -42,7 +42,7 @@ fn line_end(ends: &[LineEnd], line: usize) -> usize
     ends[line].place
 }
 
-/// Puts the box of a line, of so many, behind a list, with the glue in front of it and the penalty behind it, and answers its depth.
+/// Puts the box of a line, of so many, after a list, with the glue in front of it and the penalty after it, and returns its depth.
 fn stack_line(
     list: &mut Vec<Node>,
     line_box: BoxNode,
@@ -70,7 +70,7 @@ fn stack_line(
     }
 }
 
-/// Puts a line behind a list whose last depth is given, and answers its depth.
+/// Puts a line after a list whose last depth is given, and returns its depth.
 fn add_line(
     alloc: Global,
     list: &mut Vec<Node>,

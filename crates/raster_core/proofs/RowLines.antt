@@ -1,5 +1,8 @@
 -- Rows in lines of seventy digits.
-use Rattle.std.proofs.Common.{◌≡◌, ◌≢◌, ℕ, zero, suc, ◌+◌, ◌-◌, ◌*◌, ◌<◌, ◌≤◌, ◌%◌, ◌||◌, Bool, true, false, nat_eq, List, [], ◌∷◌, ◌++◌, map, min, refl, sym, ap, ◌∙◌, arith}
+use Rattle.std.proofs.Common.{◌≡◌, ◌≢◌, ℕ, zero, suc, ◌+◌, ◌-◌, ◌*◌, ◌<◌, ◌≤◌, ◌/◌, ◌%◌, ◌||◌, Bool, true, false, nat_eq, List, [], ◌∷◌, ◌++◌, length, take, drop, map, min, replicate, refl, sym, ap, ◌∙◌, arith}
+use Rattle.std.specs.Prelude.{slice_index}
+use Rattle.std.proofs.Math.Seq.{drop-append_seam, take-append_seam}
+use Rattle.raster_rows.specs.Words.{in_rows, is_set}
 use Rattle.std.specs.List.{flat_map, range_with_len}
 use Rattle.std.proofs.lemmas.List.{append-nil, append_assoc, map-append}
 use Rattle.std.proofs.lemmas.Grind.{flat_map-append}
@@ -89,46 +92,84 @@ next_line w black line some =
     ∙ (ap (λ f. columns_text w black 0 (70 * line) ++ columns_text w black f (min (w - 70 * line) 70)) z
     ∙ ap (λ k. columns_text w black 0 k ++ columns_text w black (70 * line) (min (w - 70 * line) 70)) m))
 
-cons : (a b : ℕ) (l m : List ℕ) → a ≡ b → l ≡ m → a ∷ l ≡ b ∷ m
-cons a b l m e f = ap (λ x. x ∷ l) e ∙ ap (λ k. b ∷ k) f
-
--- the digits of eight columns, one by one
-pub eight_digits : (black : ℕ → Bool) (x a b c d e f g h : ℕ) → a ≡ digit_of (black x) → b ≡ digit_of (black (x + 1)) → c ≡ digit_of (black (x + 2))
-    → d ≡ digit_of (black (x + 3)) → e ≡ digit_of (black (x + 4)) → f ≡ digit_of (black (x + 5)) → g ≡ digit_of (black (x + 6)) → h ≡ digit_of (black (x + 7))
-    → a ∷ b ∷ c ∷ d ∷ e ∷ f ∷ g ∷ h ∷ [] ≡ digits black x 8
+-- As many digits as columns.
+pub length-digits : (black : ℕ → Bool) (from n : ℕ) → length (digits black from n) ≡ n
 unfolding digits
-eight_digits black x a b c d e f g h p0 p1 p2 p3 p4 p5 p6 p7 =
-    let s : ℕ → ℕ = λ k. digit_of (black k) in
-    let e2 : x + 2 ≡ x + 1 + 1 = omega arith in
-    let e3 : x + 3 ≡ x + 1 + 1 + 1 = omega arith in
-    let e4 : x + 4 ≡ x + 1 + 1 + 1 + 1 = omega arith in
-    let e5 : x + 5 ≡ x + 1 + 1 + 1 + 1 + 1 = omega arith in
-    let e6 : x + 6 ≡ x + 1 + 1 + 1 + 1 + 1 + 1 = omega arith in
-    let e7 : x + 7 ≡ x + 1 + 1 + 1 + 1 + 1 + 1 + 1 = omega arith in
-    cons _ _ _ _ p0 (cons _ _ _ _ p1 (cons _ _ _ _ (p2 ∙ ap s e2) (cons _ _ _ _ (p3 ∙ ap s e3) (cons _ _ _ _ (p4 ∙ ap s e4)
-    (cons _ _ _ _ (p5 ∙ ap s e5) (cons _ _ _ _ (p6 ∙ ap s e6) (cons _ _ _ _ (p7 ∙ ap s e7) refl)))))))
+length-digits black from zero = refl
+length-digits black from (suc n) = omega (arith, length-digits black (from + 1) n)
 
--- no digits yet
-pub no_digits : (black : ℕ → Bool) (from : ℕ) (old : List ℕ) → old ≡ old ++ digits black from 0
+-- The digits of equal pixels.
+pub same_digits : (f g : ℕ → Bool) (a b n : ℕ) → ((i : ℕ) → i < n → f (a + i) ≡ g (b + i)) → digits f a n ≡ digits g b n
 unfolding digits
-no_digits black from old = sym (append-nil old)
+same_digits f g a b zero same = refl
+same_digits f g a b (suc n) same =
+    let a0 : a + 0 ≡ a = omega arith in
+    let b0 : b + 0 ≡ b = omega arith in
+    let first : f a ≡ g b = sym (ap f a0) ∙ same 0 (omega arith) ∙ ap g b0 in
+    ap (λ (x : Bool). digit_of x ∷ digits f (a + 1) n) first
+    ∙ ap (λ (l : List ℕ). digit_of (g b) ∷ l) (same_digits f g (a + 1) (b + 1) n
+    (λ i h. let s : a + 1 + i ≡ a + suc i = omega arith in let t : b + suc i ≡ b + 1 + i = omega arith in ap f s ∙ same (suc i) (omega (arith, h)) ∙ ap g t))
 
--- some digits, and those behind them
-pub more_digits : (black : ℕ → Bool) (from n m k : ℕ) (old mid new : List ℕ) → mid ≡ old ++ digits black from n → new ≡ mid ++ digits black (from + n) m → n + m ≡ k
-    → new ≡ old ++ digits black from k
-more_digits black from n m k old mid new a b e =
-    b
-    ∙ (ap (λ l. l ++ digits black (from + n) m) a
-    ∙ (append_assoc old (digits black from n) (digits black (from + n) m)
-    ∙ ap (λ l. old ++ l) (sym (digits_split black from n m) ∙ ap (digits black from) e)))
+-- Some of the digits of a row.
+pub part_digits : (black : ℕ → Bool) (row : List ℕ) (from n : ℕ) → row ≡ digits black 0 (length row) → from + n ≤ length row → take n (drop from row) ≡ digits black from n
+part_digits black row from n is within =
+    let m : ℕ = length row - (from + n) in
+    let all : length row ≡ from + (n + m) = omega (arith, within) in
+    let z : 0 + from ≡ from = omega arith in
+    let front : List ℕ = digits black 0 from in
+    let part : List ℕ = digits black from n in
+    let parts : row ≡ front ++ (part ++ digits black (from + n) m) =
+    is ∙ ap (digits black 0) all ∙ digits_split black 0 from (n + m) ∙ ap (λ (k : ℕ). front ++ digits black k (n + m)) z
+    ∙ ap (λ (l : List ℕ). front ++ l) (digits_split black from n m) in
+    ap (λ (l : List ℕ). take n (drop from l)) parts
+    ∙ ap (λ (k : ℕ). take n (drop k (front ++ (part ++ digits black (from + n) m)))) (sym (length-digits black 0 from))
+    ∙ ap (take n) (drop-append_seam front (part ++ digits black (from + n) m))
+    ∙ ap (λ (k : ℕ). take k (part ++ digits black (from + n) m)) (sym (length-digits black from n))
+    ∙ take-append_seam part (digits black (from + n) m)
 
--- one digit more
-pub next_digit : (black : ℕ → Bool) (from x d : ℕ) (old mid new : List ℕ) → from ≤ x → mid ≡ old ++ digits black from (x - from) → new ≡ mid ++ d ∷ [] → d ≡ digit_of (black x)
-    → new ≡ old ++ digits black from (x + 1 - from)
+-- One digit more.
+pub one_digit : (black : ℕ → Bool) (i d : ℕ) (mid : List ℕ) → mid ≡ digits black 0 i → d ≡ digit_of (black i) → mid ++ d ∷ [] ≡ digits black 0 (i + 1)
 unfolding digits
-next_digit black from x d old mid new low a b e =
-    let at : x ≡ from + (x - from) = omega (arith, low) in
-    more_digits black from (x - from) 1 (x + 1 - from) old mid new a (b ∙ ap (λ k. mid ++ k ∷ []) (e ∙ ap (λ k. digit_of (black k)) at)) (omega (arith, low))
+one_digit black i d mid is digit =
+    let z : 0 + i ≡ i = omega arith in
+    ap (λ (l : List ℕ). l ++ d ∷ []) is ∙ ap (λ (k : ℕ). digits black 0 i ++ k ∷ []) (digit ∙ ap (λ (k : ℕ). digit_of (black k)) (sym z)) ∙ sym (digits_split black 0 i 1)
+
+-- Pixels that are all alike.
+pub even_digits : (black : ℕ → Bool) (all : Bool) (from n : ℕ) → ((i : ℕ) → black i ≡ all) → replicate n (digit_of all) ≡ digits black from n
+unfolding digits
+even_digits black all from zero same = refl
+even_digits black all from (suc n) same =
+    ap (λ (x : Bool). digit_of x ∷ replicate n (digit_of all)) (sym (same from)) ∙ ap (λ (l : List ℕ). digit_of (black from) ∷ l) (even_digits black all (from + 1) n same)
+
+-- The digits of a word whose bits are all 1.
+pub full_word : replicate 64 49 ≡ digits (is_set 18446744073709551615) 0 64
+unfolding digits
+full_word = refl
+
+-- The digits of a word in its row.
+pub word_digits :
+    (words : List ℕ) (stride y k : ℕ) → digits (is_set (slice_index words (y * stride + k))) 0 64 ≡ digits (λ x. in_rows words stride x y) (64 * k) 64
+unfolding in_rows
+word_digits words stride y k =
+    same_digits (is_set (slice_index words (y * stride + k))) (λ x. in_rows words stride x y) 0 (64 * k) 64
+    (λ i h.
+    let at : k ≡ (64 * k + i) / 64 = omega (arith, h) in
+    let bit : 0 + i ≡ (64 * k + i) % 64 = omega (arith, h) in
+    ap (λ (n : ℕ). is_set (slice_index words (y * stride + k)) n) bit ∙ ap (λ (n : ℕ). is_set (slice_index words (y * stride + n)) ((64 * k + i) % 64)) at)
+
+-- One word more of a row.
+pub more_words :
+    (words : List ℕ) (stride y k : ℕ) (mid part : List ℕ) → mid ≡ digits (λ x. in_rows words stride x y) 0 (64 * k)
+    → part ≡ digits (is_set (slice_index words (y * stride + k))) 0 64 → mid ++ part ≡ digits (λ x. in_rows words stride x y) 0 (64 * (k + 1))
+more_words words stride y k mid part is more =
+    let z : 0 + 64 * k ≡ 64 * k = omega arith in
+    let n : 64 * k + 64 ≡ 64 * (k + 1) = omega arith in
+    let black : ℕ → Bool = λ x. in_rows words stride x y in
+    ap (λ (l : List ℕ). l ++ part) is
+    ∙ ap (λ (l : List ℕ). digits black 0 (64 * k) ++ l) (more ∙ word_digits words stride y k)
+    ∙ ap (λ (a : ℕ). digits black 0 (64 * k) ++ digits black a 64) (sym z)
+    ∙ sym (digits_split black 0 (64 * k) 64)
+    ∙ ap (digits black 0) n
 
 -- the digits of a line, and a line feed
 pub ended_line : (w : ℕ) (black : ℕ → Bool) (line n : ℕ) (old mid new : List ℕ) → 70 * line < w → n ≡ min (w - 70 * line) 70

@@ -1,7 +1,7 @@
 -- Texts that are put together piece by piece.
 use Rattle.std.proofs.Common.{◌≡◌, ℕ, zero, suc, ◌+◌, ◌<◌, ◌≤◌, Bool, List, ◌++◌, length, take, refl, sym, ap, ◌∙◌, arith}
 use Rattle.std.specs.List.{flat_map, range_with_len}
-use Rattle.std.proofs.lemmas.List.{append-nil, append_assoc, take-take, take_at, length-append}
+use Rattle.std.proofs.lemmas.List.{append-nil, append_assoc, take-take, take_at, length-append, length-take}
 use Rattle.raster_rows.specs.Words.{in_rows}
 use Rattle.raster_core.specs.Pictures.{Picture, drawn, is_black}
 use Rattle.raster_core.specs.PlainText.{digit_text, ends_line, header_text, pbm, row_text, rows_text}
@@ -34,6 +34,11 @@ front_kept old mid new more a b =
     let n = length-append old more in
     let le : length old ≤ length mid = omega (arith, ap length a) in
     sym (take-take (length old) (length mid) new le) ∙ (ap (take (length old)) (b ∙ a) ∙ take_at old more (length old) refl)
+
+pub kept_on : (old mid new : List ℕ) → take (length old) mid ≡ old → take (length mid) new ≡ mid → take (length old) new ≡ old
+kept_on old mid new a b =
+    let le : length old ≤ length mid = omega (arith, ap (λ (l : List ℕ). length l) a, length-take (length old) mid) in
+    sym (take-take (length old) (length mid) new le) ∙ (ap (take (length old)) b ∙ a)
 
 pub same_digit : (b c e f : Bool) → b ≡ c → e ≡ f → digit_text b e ≡ digit_text c f
 same_digit b c e f p q = ap (λ x. digit_text x e) p ∙ ap (digit_text c) q

@@ -1,5 +1,5 @@
 -- Pieces of the text of a row, for the contracts within the crate alone (own): a reader need not believe them.
-use Rattle.std.specs.Prelude.{◌+◌, ◌-◌, ◌*◌, ℕ, Bool, if◌then◌else◌, List, map, min}
+use Rattle.std.specs.Prelude.{◌-◌, ◌*◌, ℕ, Bool, if◌then◌else◌, List, map, min}
 use Rattle.std.specs.List.{flat_map, range_with_len}
 use Rattle.raster_core.specs.PlainText.{digit_text, ends_line}
 

@@ -1,13 +1,16 @@
 //! The plain text of a bitmap.
 
-ghost use Rattle.std.specs.Prelude.{◌≡◌, ◌+◌, ◌*◌, ◌-◌, ◌/◌, ◌^◌, ◌<◌, ◌≤◌, ◌++◌, length, take, OnOk, OnErr};
-ghost use Rattle.raster_rows.specs.Words.{in_rows};
+ghost use Rattle.std.specs.Prelude.{◌≡◌, ◌+◌, ◌*◌, ◌<◌, ◌≤◌, ◌++◌, ℕ, Bool, length, take, OnOk};
+ghost use Rattle.raster_rows.specs.Words.{in_rows, is_set};
 ghost use Rattle.raster_core.specs.PlainText.{header_text, row_text, rows_text};
 ghost use Rattle.raster_core.specs.RowPieces.{digit_of, digits, line_text};
 
 use itoa::Buffer;
-use raster_rows::is_black;
+use raster_rows::is_set;
 use std::alloc::AllocError;
+
+/// The most bytes of a header.
+const MAX_HEADER: usize = 16;
 
 /// Appends the header, or a front of it.
 fn append_header(out: &mut Vec<u8>, width: usize, height: usize) -> Result<(), AllocError>
@@ -24,129 +27,89 @@ fn append_header(out: &mut Vec<u8>, width: usize, height: usize) -> Result<(), A
 }
 
 /// The digit of a pixel.
-fn digit(words: &[u64], stride: usize, x: usize, y: usize) -> u8
-    requires { y * stride + x / 64 < length words.now }
-    ensures { result ≡ digit_of (in_rows words.now stride x y) }
+fn digit(black: bool) -> u8
+    ensures { result ≡ digit_of black }
 {
-    if is_black(words, stride, x, y) {
-        b'1'
+    if black { b'1' } else { b'0' }
+}
+
+/// Makes 64 digits those of the pixels of a word. Most words are white or black as a whole.
+fn put_word(word: u64, part: &mut [u8])
+    requires { length part.old ≡ 64 }
+    ensures { part.new ≡ digits (is_set word) 0 64 }
+{
+    if word == 0 {
+        part.fill(b'0');
+    } else if word == u64::MAX {
+        part.fill(b'1');
     } else {
-        b'0'
+        for i in 0..64 {
+            part[i] = digit(is_set(word, i));
+        }
     }
 }
 
-/// Appends the digits of eight columns of a row, or a front of them.
-fn append_eight(
-    out: &mut Vec<u8>,
-    words: &[u64],
-    stride: usize,
-    x: usize,
-    y: usize,
-) -> Result<(), AllocError>
-    requires columns { x + 8 ≤ 64 * stride }
-    requires short { x + 8 < 2 ^ 64 }
+/// Makes the digits those of a row, whose words are all written out: there may be more pixels than columns.
+fn put_row(words: &[u64], stride: usize, y: usize, row: &mut [u8])
+    requires room { length row.old ≡ 64 * stride }
     requires rows { y * stride + stride ≤ length words.now }
-    ensures ok { OnOk result (out.new.items ≡ out.old.items ++ digits (λ x. in_rows words.now stride x y) x 8) }
-    ensures front { take (length out.old.items) out.new.items ≡ out.old.items }
+    ensures { row.new ≡ digits (λ x. in_rows words.now stride x y) 0 (64 * stride) }
 {
-    out.extend_from_slice(&[
-        digit(words, stride, x, y),
-        digit(words, stride, x + 1, y),
-        digit(words, stride, x + 2, y),
-        digit(words, stride, x + 3, y),
-        digit(words, stride, x + 4, y),
-        digit(words, stride, x + 5, y),
-        digit(words, stride, x + 6, y),
-        digit(words, stride, x + 7, y),
-    ])?;
-    Ok(())
-}
-
-/// Appends the digits of some columns of a row, or a front of them.
-fn append_digits(
-    out: &mut Vec<u8>,
-    words: &[u64],
-    stride: usize,
-    y: usize,
-    from: usize,
-    to: usize,
-) -> Result<(), AllocError>
-    requires order { from ≤ to }
-    requires columns { to ≤ 64 * stride }
-    requires rows { y * stride + stride ≤ length words.now }
-    ensures ok { OnOk result (out.new.items ≡ out.old.items ++ digits (λ x. in_rows words.now stride x y) from (to - from)) }
-    ensures front { take (length out.old.items) out.new.items ≡ out.old.items }
-{
-    let eights = (to - from) / 8;
-    'eights: for block in 0..eights {
-        append_eight(out, words, stride, from + 8 * block, y)?;
+    for k in 0..stride {
+        put_word(words[y * stride + k], &mut row[64 * k..64 * k + 64]);
     }
-    'rest: for x in from + 8 * eights..to {
-        out.push(digit(words, stride, x, y))?;
-    }
-    Ok(())
 }
 
 /// Appends a line of a row, from a column on: its digits and a line feed, or a front of that.
-fn append_line(
-    out: &mut Vec<u8>,
-    words: &[u64],
-    stride: usize,
-    width: usize,
-    y: usize,
-    line: usize,
-) -> Result<(), AllocError>
+fn append_line(out: &mut Vec<u8>, row: &[u8], width: usize, line: usize) -> Result<(), AllocError>
     requires within { 70 * line < width }
-    requires columns { width ≤ 64 * stride }
-    requires rows { y * stride + stride ≤ length words.now }
-    ensures ok { OnOk result (out.new.items ≡ out.old.items ++ line_text width (λ x. in_rows words.now stride x y) line) }
+    requires columns { width ≤ length row.now }
+    ensures ok { OnOk result ((black : ℕ → Bool) → row.now ≡ digits black 0 (length row.now)
+        → out.new.items ≡ out.old.items ++ line_text width black line) }
     ensures front { take (length out.old.items) out.new.items ≡ out.old.items }
 {
     let from = 70 * line;
-    append_digits(out, words, stride, y, from, from + (width - from).min(70))?;
+    out.extend_from_slice(&row[from..from + (width - from).min(70)])?;
     out.push(b'\n')?;
     Ok(())
 }
 
-/// Appends the digits of a row, or a front of them.
-fn append_row(
-    out: &mut Vec<u8>,
-    words: &[u64],
-    stride: usize,
-    width: usize,
-    y: usize,
-) -> Result<(), AllocError>
-    requires columns { width ≤ 64 * stride }
-    requires rows { y * stride + stride ≤ length words.now }
-    ensures ok { OnOk result (out.new.items ≡ out.old.items ++ row_text width (λ x. in_rows words.now stride x y)) }
+/// Appends the text of a row whose digits these are, or a front of it.
+fn append_row(out: &mut Vec<u8>, row: &[u8], width: usize) -> Result<(), AllocError>
+    requires columns { width ≤ length row.now }
+    ensures ok { OnOk result ((black : ℕ → Bool) → row.now ≡ digits black 0 (length row.now)
+        → out.new.items ≡ out.old.items ++ row_text width black) }
     ensures front { take (length out.old.items) out.new.items ≡ out.old.items }
 {
     for line in 0..width.div_ceil(70) {
-        append_line(out, words, stride, width, y, line)?;
+        append_line(out, row, width, line)?;
     }
     Ok(())
 }
 
-/// Appends the digits of all rows, or a front of them.
+/// Appends the text of all rows, or a front of it. The digits of a row are put together in `row`.
 fn append_rows(
     out: &mut Vec<u8>,
+    row: &mut [u8],
     words: &[u64],
     stride: usize,
     width: usize,
     height: usize,
 ) -> Result<(), AllocError>
+    requires room { length row.old ≡ 64 * stride }
     requires columns { width ≤ 64 * stride }
     requires rows { height * stride ≤ length words.now }
     ensures ok { OnOk result (out.new.items ≡ out.old.items ++ rows_text width height (in_rows words.now stride)) }
     ensures front { take (length out.old.items) out.new.items ≡ out.old.items }
 {
     for y in 0..height {
-        append_row(out, words, stride, width, y)?;
+        put_row(words, stride, y, row);
+        append_row(out, row, width)?;
     }
     Ok(())
 }
 
-/// Appends the header and the digits of all rows, or a front of them.
+/// Appends the header and the text of all rows, or a front of them. Room for all of it is taken at once.
 pub fn append_text(
     out: &mut Vec<u8>,
     words: &[u64],
@@ -154,11 +117,15 @@ pub fn append_text(
     width: usize,
     height: usize,
 ) -> Result<(), AllocError>
+    requires short { stride ≤ 157 }
+    requires few { height ≤ 10000 }
     requires columns { width ≤ 64 * stride }
     requires rows { height * stride ≤ length words.now }
     ensures ok { OnOk result (out.new.items ≡ out.old.items ++ (header_text width height ++ rows_text width height (in_rows words.now stride))) }
     ensures front { take (length out.old.items) out.new.items ≡ out.old.items }
 {
+    let mut row = vec![in *out.allocator(); 0; 64 * stride]?;
+    out.reserve(MAX_HEADER + height * (width + width.div_ceil(70)))?;
     append_header(out, width, height)?;
-    append_rows(out, words, stride, width, height)
+    append_rows(out, &mut row, words, stride, width, height)
 }

@@ -7,4 +7,4 @@ mod lanes;
 mod masks;
 mod rows;
 
-pub use rows::{blacken, is_black};
+pub use rows::{blacken, is_set};

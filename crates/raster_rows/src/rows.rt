@@ -1,7 +1,7 @@
 //! Pixels of many rows.
 
 ghost use Rattle.std.specs.Prelude.{◌≡◌, ◌==◌, ◌+◌, ◌*◌, ◌/◌, ◌<◌, ◌≤◌, ◌&&◌, ◌||◌, ℕ, length};
-ghost use Rattle.raster_rows.specs.Words.{AreFull, IsRun, between, in_rows};
+ghost use Rattle.raster_rows.specs.Words.{AreFull, IsRun, between, in_rows, is_set};
 
 use crate::lanes::{has_row, or_row};
 use crate::masks::fill;
@@ -100,10 +100,10 @@ pub fn blacken(
     blacken_rows(words, mask, full, &inner, columns, rows.start, rows.end);
 }
 
-/// Whether the pixel of column `x` and row `y` is black, where a row has `stride` words.
-pub fn is_black(words: &[u64], stride: usize, x: usize, y: usize) -> bool
-    requires { y * stride + x / 64 < length words.now }
-    ensures { result ≡ in_rows words.now stride x y }
+/// Whether a pixel of a word is black.
+pub fn is_set(word: u64, i: usize) -> bool
+    requires { i < 64 }
+    ensures { result ≡ is_set word i }
 {
-    (words[y * stride + x / 64] >> (x % 64)) & 1 == 1
+    word >> i & 1 == 1
 }

@@ -4,7 +4,6 @@ use Rattle.std.specs.Prelude.{ℤ, pos, negsuc, ◌+ℤ◌, ◌-ℤ◌, Bool, tr
 use Rattle.std.specs.Option.{option_map}
 use Rattle.std.specs.Ordering.{int_eq}
 use Rattle.std.proofs.lemmas.List.{append-nil}
-use Rattle.std.proofs.lemmas.Bool.{eqb-true}
 use Rattle.dvi_ops.specs.Instruction.{Axis, Across, Downward, SetChar, FontNum, Xxx, Instruction, Do, Push, Pop}
 use Rattle.dvi_ops.specs.View.{view}
 use Rattle.node_core.specs.Items.{Items, none, leaf, box}
@@ -17,6 +16,7 @@ use Rattle.ship_core.specs.declared.placing.Ink.{Ink}
 use Rattle.ship_core.specs.declared.placing.Ink.TheVariants as ink
 use Rattle.ship_core.specs.declared.drawing.Drawing.{Drawing}
 use Rattle.ship_core.specs.Placing.{mark_with, movement, selection, inked, behind, makes, leaves}
+use Rattle.ship_core.proofs.Places.{no_items}
 
 pub flat-moved_by : (axis : Axis) (z : ℤ) (rest : Forest) → flat (moved_by axis z rest) ≡ movement axis z ++ flat rest
 flat-moved_by axis (pos zero) rest = refl
@@ -131,16 +131,7 @@ same_drawing kind d e p is = (sym (ap (λ (x : Drawing). makes kind x p) is), sy
 
 -- A box without items is no group, and one with items is one.
 pub grouped-none : (items : Items) (kind : Kind) (inner rest : Picture) → (length (nodes_of items) == 0) ≡ true → grouped items kind inner rest ≡ rest
-grouped-none none kind inner rest empty = refl
-grouped-none (leaf x items) kind inner rest empty = absurd (more (length (nodes_of items)) (eqb-true (length (nodes_of (leaf x items))) 0 empty))
-  where
-    more : (n : ℕ) → suc n ≡ 0 → ⊥
-    more n is = omega (arith, is)
-grouped-none (box shift frame some items) kind inner rest empty =
-    absurd (more (length (nodes_of items)) (eqb-true (length (nodes_of (box shift frame some items))) 0 empty))
-  where
-    more : (n : ℕ) → suc n ≡ 0 → ⊥
-    more n is = omega (arith, is)
+grouped-none items kind inner rest empty = ap (λ items. grouped items kind inner rest) (no_items items empty)
 
 pub grouped-some : (items : Items) (kind : Kind) (inner rest : Picture) → (length (nodes_of items) == 0) ≡ false → grouped items kind inner rest ≡ group kind inner rest
 grouped-some none kind inner rest full = absurd (cc)

@@ -1,12 +1,13 @@
 -- The items of a list, gone over one by one: what stands behind the first ones.
 use Rattle.std.proofs.Common.{◌≡◌, ◌≢◌, ℕ, zero, suc, ◌+◌, ◌<◌, List, [], ◌∷◌, ◌++◌, length, take, drop, get_or, refl, ap, sym, ◌∙◌, add-one, drop-cons, ◌≤◌, arith}
 use Rattle.std.proofs.lemmas.List.{take_more, length-take-le}
-use Rattle.std.specs.Prelude.{ℤ, pos, Bool, true, false, not, ◌&&◌}
+use Rattle.std.specs.Prelude.{ℤ, pos, ◌+ℤ◌, Bool, true, false, not, ◌&&◌, ◌==◌}
 use Rattle.std.specs.List.{list_all}
 use Rattle.std.proofs.lemmas.List.Folds.{list_all-append}
+use Rattle.std.proofs.lemmas.Bool.{eqb-true}
 use Rattle.node_core.specs.declared.tree.Kind.{Kind}
 use Rattle.node_core.specs.declared.tree.Setting.{Setting}
-use Rattle.node_core.specs.Items.{Items, items_depth}
+use Rattle.node_core.specs.Items.{Items, none, leaf, box, items_depth}
 use Rattle.node_core.specs.Nodes.{most_nodes, items_of, nodes_of}
 use Rattle.node_core.proofs.NodeLemmas.{items_of-nodes_of}
 use Rattle.node_core.specs.declared.tree.Node.{Node}
@@ -134,14 +135,6 @@ pub rest_of_and : (a b c : Bool) → true ≡ a → (a && b) ≡ c → b ≡ c
 rest_of_and true b c first all = all
 rest_of_and false b c first all = cc
 
-pub first_of_and : (a b : Bool) → (a && b) ≡ true → a ≡ true
-first_of_and true b all = refl
-first_of_and false b all = all
-
-pub last_of_and : (a b : Bool) → (a && b) ≡ true → b ≡ true
-last_of_and true b all = all
-last_of_and false b all = cc
-
 pub last_of_three : (a b c : Bool) → not (a && (b && c)) ≡ false → c ≡ true
 last_of_three true true true all = refl
 last_of_three true true false all = cc
@@ -194,10 +187,6 @@ pub item_strokes :
     → found ≡ strokes_at b h v (place_at b.setting from) x rest → found ≡ strokes_of b (item_h b h before) (item_v b v before) x rest
 item_strokes b h v before x from rest found at is = is ∙ ap (λ here. strokes_at b h v here x rest) (reached-place b before from at)
 
-pub no_rest : (a b : Bool) → false ≡ a → (a && b) ≡ true → ⊥
-no_rest false b is all = cc
-no_rest true b is all = cc
-
 -- The item behind a glyph or a rule stands where h is behind it.
 pub reach : (b : BoxNode) (h : ℤ) (before : List Node) (x : Node) → Reaches b.kind (item_h b h before) (item_h b h (before ++ x ∷ [])) x
 reach b h before x =
@@ -235,6 +224,22 @@ pub inner_picture :
     → inside b h v x rest ≡ grouped inner.list inner.kind (picture_after inner begin_h begin_v [] inner.list) rest
 inner_picture b inner h v shift begin_h begin_v x rest is (right, down) = rw (is, right, down) refl
 
+-- A list without items, and its numbers.
+pub no_items : (items : Items) → (length (nodes_of items) == 0) ≡ true → items ≡ none
+no_items none empty = refl
+no_items (leaf x items) empty = absurd (more (length (nodes_of items)) (eqb-true (length (nodes_of (leaf x items))) 0 empty))
+  where
+    more : (n : ℕ) → suc n ≡ 0 → ⊥
+    more n is = omega (arith, is)
+no_items (box shift frame some items) empty =
+    absurd (more (length (nodes_of items)) (eqb-true (length (nodes_of (box shift frame some items))) 0 empty))
+  where
+    more : (n : ℕ) → suc n ≡ 0 → ⊥
+    more n is = omega (arith, is)
+
+pub no_numbers : (b : BoxNode) (h v : ℤ) (items : Items) → (length (nodes_of items) == 0) ≡ true → list_all fits (numbers_behind b h v [] items) ≡ true
+no_numbers b h v items empty = ap (λ items. list_all fits (numbers_behind b h v [] items)) (no_items items empty)
+
 -- An item that is no box has no items.
 pub leaf_numbers : (b : BoxNode) (h v : ℤ) (x : Node) → ((shift : ℤ) (inner : BoxNode) → x ≢ nodes.Box shift inner) → numbers_inside b h v x ≡ []
 leaf_numbers b h v (nodes.Box shift inner) other = absurd (other shift inner refl)
@@ -249,14 +254,14 @@ leaf_numbers b h v (nodes.Rule sizes) other = refl
 pub leaf_picture :
     (b : BoxNode) (h v : ℤ) (x : Node) (rest : Picture) → ((shift : ℤ) (inner : BoxNode) → x ≢ nodes.Box shift inner) → ((text : List ℕ) → x ≢ nodes.Special text)
     → inside b h v x rest ≡ rest
-leaf_picture b h v (nodes.Box shift inner) rest other none = absurd (other shift inner refl)
-leaf_picture b h v (nodes.Glyph g) rest other none = refl
-leaf_picture b h v (nodes.FontKern width) rest other none = refl
-leaf_picture b h v (nodes.Kern width) rest other none = refl
-leaf_picture b h v (nodes.Glue g) rest other none = refl
-leaf_picture b h v (nodes.Penalty p) rest other none = refl
-leaf_picture b h v (nodes.Special text) rest other none = absurd (none text refl)
-leaf_picture b h v (nodes.Rule sizes) rest other none = refl
+leaf_picture b h v (nodes.Box shift inner) rest other no_text = absurd (other shift inner refl)
+leaf_picture b h v (nodes.Glyph g) rest other no_text = refl
+leaf_picture b h v (nodes.FontKern width) rest other no_text = refl
+leaf_picture b h v (nodes.Kern width) rest other no_text = refl
+leaf_picture b h v (nodes.Glue g) rest other no_text = refl
+leaf_picture b h v (nodes.Penalty p) rest other no_text = refl
+leaf_picture b h v (nodes.Special text) rest other no_text = absurd (no_text text refl)
+leaf_picture b h v (nodes.Rule sizes) rest other no_text = refl
 
 -- A special that is found by a walk which has passed the items before it stands at its place.
 pub special_picture :
@@ -294,6 +299,32 @@ inner_depth items xs i x shift inner within at all is =
     let left : drop i xs ≡ nodes.Box shift inner ∷ drop (i + 1) xs = left_at xs i x within at ∙ ap (λ y. y ∷ drop (i + 1) xs) is in
     let whole : items_of xs ≡ items = ap items_of all ∙ items_of-nodes_of items in
     omega (arith, left_depth i xs, ap (λ nodes. items_depth (items_of nodes)) left, ap items_depth whole)
+
+-- A page that reaches too far is huge; another one where the numbers of its items do not fit.
+pub ends_huge : (page : Page) → (fits (page.v +ℤ page.box_node.depth) && fits (page.h +ℤ page.box_node.width)) ≡ false → is_huge page ≡ true
+unfolding is_huge
+ends_huge page over =
+    by_tests (fits (page.v +ℤ page.box_node.depth)) (fits (page.h +ℤ page.box_node.width))
+    (list_all fits (numbers_behind page.box_node page.h (page_v page) [] page.box_node.list)) over
+  where
+    by_tests : (a b c : Bool) → (a && b) ≡ false → not (a && (b && c)) ≡ true
+    by_tests true true c over = absurd (cc)
+    by_tests true false c over = refl
+    by_tests false b c over = refl
+
+pub items_huge :
+    (page : Page) (fit : Bool) → (fits (page.v +ℤ page.box_node.depth) && fits (page.h +ℤ page.box_node.width)) ≡ true
+    → fit ≡ list_all fits (numbers_behind page.box_node page.h (page_v page) [] page.box_node.list) → is_huge page ≡ not fit
+unfolding is_huge
+items_huge page fit within is =
+    by_tests (fits (page.v +ℤ page.box_node.depth)) (fits (page.h +ℤ page.box_node.width))
+    (list_all fits (numbers_behind page.box_node page.h (page_v page) [] page.box_node.list)) within
+    ∙ ap not (sym is)
+  where
+    by_tests : (a b c : Bool) → (a && b) ≡ true → not (a && (b && c)) ≡ not c
+    by_tests true true c within = refl
+    by_tests true false c within = absurd (cc)
+    by_tests false b c within = absurd (cc)
 
 -- The numbers of the items of a page that is not huge fit.
 pub items_fit : (page : Page) → is_huge page ≡ false → list_all fits (numbers_behind page.box_node page.h (page_v page) [] page.box_node.list) ≡ true

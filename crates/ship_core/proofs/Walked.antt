@@ -1,5 +1,5 @@
 -- The items of a box between two places of its list.
-use Rattle.std.proofs.Common.{◌≡◌, ◌∙◌, List, [], ◌∷◌, refl, ap, sym, arith}
+use Rattle.std.proofs.Common.{◌≡◌, ◌∙◌, ◌+◌, ℕ, List, [], ◌∷◌, refl, ap, ap₂, sym, arith}
 use Rattle.std.specs.Prelude.{ℤ, pos, ◌+ℤ◌, Bool, true, false, ◌&&◌, if◌then◌else◌, Option, Some, None}
 use Rattle.std.specs.List.{list_all}
 use Rattle.std.proofs.lemmas.Int.{ints}
@@ -15,7 +15,7 @@ use Rattle.node_core.specs.declared.tree.Setting.TheVariants as settings
 use Rattle.pack_core.specs.Items.{advance, own_size}
 use Rattle.scaled_core.specs.Dimensions.{fits}
 use Rattle.pack_core.specs.Places.{share, set_by}
-use Rattle.pack_core.specs.Cursors.{Reached, one_more, place_at}
+use Rattle.pack_core.specs.Cursors.{Reached, one_more, moved_on, place_at}
 use Rattle.ship_core.specs.declared.placing.Position.{Position}
 use Rattle.ship_core.specs.Marks.{right_at, down_at, rule_below, rule_tall, rule_wide, box_h, box_v, numbers_of}
 use Rattle.ship_core.specs.Drawing.{Picture}
@@ -161,6 +161,16 @@ share_rigid (settings.Shrink order ratio) (nodes.Penalty n) is = refl
 share_rigid (settings.Shrink order ratio) (nodes.Special text) is = refl
 share_rigid (settings.Shrink order ratio) (nodes.Rule r) is = refl
 share_rigid (settings.Shrink order ratio) (nodes.Box shift b) is = refl
+
+abbrev reaching : (natural shares : ℤ) (passed : ℕ) → Reached
+reaching natural shares passed = record { natural = natural; shares = shares; passed = passed }
+
+-- So past such an item only the distance that was gone counts, and how many items were passed.
+pub rigid_more :
+    (kind : Kind) (setting : Setting) (from : Reached) (x : Node) (distance : ℤ) → is_rigid x ≡ true → distance ≡ advance kind x
+    → moved_on from distance ≡ one_more kind setting from x
+rigid_more kind setting from x distance rigid same =
+    ap₂ (λ (natural shares : ℤ). reaching natural shares (from.passed + 1)) (ap (λ (n : ℤ). from.natural +ℤ n) same) (omega (arith, ints, share_rigid setting x rigid))
 
 behind_by :
     (kind : Kind) (setting : Setting) (from : Reached) (h v x y by part : ℤ) → part ≡ pos 0

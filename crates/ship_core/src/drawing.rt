@@ -78,16 +78,16 @@ fn append_ink(ops: &mut Vec<Op<'_>>, kind: Kind, width: Dimen, ink: Ink) -> Resu
 }
 
 impl<'a> Drawing<'a> {
-    /// No instruction yet, where h and v are 0 and no font is chosen.
-    pub fn new(alloc: Global) -> Drawing<'a>
-        ensures { (kind : Kind) → (rest : Picture) → makes kind result rest ≡ flat (drawn kind (pos 0) (pos 0) None rest) }
+    /// No instruction yet, with room for that many, where h and v are 0 and no font is chosen.
+    pub fn new(alloc: Global, room: usize) -> Result<Drawing<'a>, AllocError>
+        ensures { IfOk result (λ drawing. (kind : Kind) (rest : Picture) → makes kind drawing rest ≡ flat (drawn kind (pos 0) (pos 0) None rest)) }
     {
-        Drawing {
-            ops: Vec::new(alloc),
+        Ok(Drawing {
+            ops: Vec::with_capacity(alloc, room)?,
             h: Dimen::ZERO,
             v: Dimen::ZERO,
             font: None,
-        }
+        })
     }
 
     /// Moves to a place, right and then down.

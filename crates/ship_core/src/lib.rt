@@ -7,6 +7,6 @@ pub mod page_plan;
 mod placing;
 mod pushes;
 
-pub use page_plan::{ShipFault, draw_page, is_huge, plan};
+pub use page_plan::{ShipFault, is_huge, plan, plan_with_room};
 pub use placing::PagePoint;
 pub use pushes::push_depth;

@@ -1,6 +1,6 @@
 //! The plan of a page.
 
-ghost use Rattle.std.specs.Prelude.{◌≡◌, ◌↔◌, ◌+ℤ◌, ◌<◌, [], ℤ, pos, List, true, false, Some, map, is_some, IfOk, IfErr, OnOk, IfSome, OnSome};
+ghost use Rattle.std.specs.Prelude.{◌≡◌, ◌↔◌, ◌+ℤ◌, ◌<◌, [], ℤ, pos, List, ◌&&◌, true, Some, false, map, is_some, is_none, IfOk, IfErr, OnOk, IfSome, OnSome};
 ghost use Rattle.std.specs.List.{list_all};
 ghost use Rattle.std.specs.Option.{option_map};
 ghost use Rattle.node_core.specs.Nodes.{most_nodes};
@@ -58,27 +58,6 @@ fn is_rigid(node: &Node) -> bool
     }
 }
 
-/// The place behind an item that stands at a place, which the cursor has reached. Only behind glue is it rounded anew.
-fn place_behind(
-    box_node: &BoxNode,
-    begin: &Begin,
-    cursor: &Cursor,
-    at: &Position,
-    node: &Node,
-) -> Option<Position>
-    requires few { cursor.now.passed < most_nodes }
-    requires at { point_in box_node.now begin.now.h begin.now.v (place_at box_node.now.setting cursor.now) ≡ Some at.now }
-    ensures { result ≡ point_in box_node.now begin.now.h begin.now.v
-        (place_at box_node.now.setting (one_more box_node.now.kind box_node.now.setting cursor.now node.now)) }
-{
-    if is_rigid(node) {
-        return position_behind(box_node.kind, at, advance_of(box_node.kind, node));
-    }
-    let mut behind = *cursor;
-    behind.pass(box_node.kind, &box_node.setting, node);
-    place_of(box_node, begin, &behind)
-}
-
 impl Walk {
     /// In front of the items of a list.
     fn new(box_node: &BoxNode, begin: &Begin) -> Walk
@@ -92,7 +71,25 @@ impl Walk {
         }
     }
 
-    /// Goes behind the next item, and tells how it is seen; None exactly where one of its numbers does not fit.
+    /// Goes past an item that stands at a place, which the walk has reached. Only after glue is the next place rounded anew.
+    fn go_past(&mut self, box_node: &BoxNode, begin: &Begin, at: &Position, node: &Node)
+        requires few { self.old.cursor.passed < most_nodes }
+        requires at { point_in box_node.now begin.now.h begin.now.v (place_at box_node.now.setting self.old.cursor) ≡ Some at.now }
+        ensures cursor { self.new.cursor ≡ one_more box_node.now.kind box_node.now.setting self.old.cursor node.now }
+        ensures here { self.new.here ≡ point_in box_node.now begin.now.h begin.now.v
+            (place_at box_node.now.setting (one_more box_node.now.kind box_node.now.setting self.old.cursor node.now)) }
+    {
+        if is_rigid(node) {
+            let distance = advance_of(box_node.kind, node);
+            self.here = position_behind(box_node.kind, at, distance);
+            self.cursor.move_on(distance);
+            return;
+        }
+        self.cursor.pass(box_node.kind, &box_node.setting, node);
+        self.here = place_of(box_node, begin, &self.cursor);
+    }
+
+    /// Goes past the next item, and returns how it is seen; None exactly where one of its numbers does not fit.
     fn step(&mut self, box_node: &BoxNode, begin: &Begin, node: &Node) -> Option<PlacedItem>
         requires few { self.old.cursor.passed < most_nodes }
         requires here { self.old.here ≡ point_in box_node.now begin.now.h begin.now.v (place_at box_node.now.setting self.old.cursor) }
@@ -109,8 +106,7 @@ impl Walk {
             ≡ reference_v box_node.now.kind (down_at box_node.now.kind begin.now.v (place_at box_node.now.setting self.old.cursor)) node.now) }
     {
         let at = self.here?;
-        self.here = place_behind(box_node, begin, &self.cursor, &at, node);
-        self.cursor.pass(box_node.kind, &box_node.setting, node);
+        self.go_past(box_node, begin, &at, node);
         let next = self.here?;
         place_item(box_node, at, next, node)
     }
@@ -157,51 +153,60 @@ fn end_fits(from: i32, size: Dimen) -> bool
     Dimen::try_new(i64::from(from) + i64::from(size.get())).is_some()
 }
 
+/// Whether the page of a box whose reference point is `at` reaches no further down and to the right than fits.
+fn ends_fit(box_node: &BoxNode, at: PagePoint) -> bool
+    ensures { result ≡ (fits (at.v +ℤ box_node.now.depth) && fits (at.h +ℤ box_node.now.width)) }
+{
+    end_fits(at.v, box_node.depth) && end_fits(at.h, box_node.width)
+}
+
 /// Whether the page of a box whose reference point is `at` is huge: how far it reaches down or to the right, or a place or a size of an
 /// item, in inner boxes too, does not fit. The reference point itself need not. It takes no memory.
 #[tactic(auto, unfolding(crate::specs::Marks::is_huge))]
 pub fn is_huge(box_node: &BoxNode, at: PagePoint) -> bool
     ensures { (counts : List ℤ) → result ≡ is_huge (page_at counts at.h at.v box_node.now) }
 {
-    if !end_fits(at.v, box_node.depth) {
-        return true;
-    }
-    if !end_fits(at.h, box_node.width) {
+    if !ends_fit(box_node, at) {
         return true;
     }
     !all_fit(box_node, &begin_of(box_node, at))
 }
 
-/// Draws the list of a box; each inner box with items is a group, from the place in front of it.
+/// Draws the list of a box; each inner box with items is a group, from the place in front of it. It returns whether the numbers of all items fit,
+/// those of inner boxes too. Where one does not, the drawing ends there, and is of no use.
 fn draw_list<'a>(
     drawing: &mut Drawing<'a>,
     box_node: &'a BoxNode,
     begin: &Begin,
-) -> Result<(), AllocError>
-    requires { list_all fits (numbers_behind box_node.now begin.now.h begin.now.v [] box_node.now.list) ≡ true }
-    ensures ops { OnOk result (map view drawing.new.ops.items
+) -> Result<bool, AllocError>
+    ensures fits { IfOk result (λ fit. fit ≡ list_all fits (numbers_behind box_node.now begin.now.h begin.now.v [] box_node.now.list)) }
+    ensures ops { IfOk result (λ fit. fit ≡ true → map view drawing.new.ops.items
         ≡ makes box_node.now.kind drawing.old (picture_after box_node.now begin.now.h begin.now.v [] box_node.now.list)) }
-    ensures font { OnOk result (option_map pos drawing.new.font ≡ leaves drawing.old (picture_after box_node.now begin.now.h begin.now.v [] box_node.now.list)) }
+    ensures font { IfOk result (λ fit. fit ≡ true → option_map pos drawing.new.font
+        ≡ leaves drawing.old (picture_after box_node.now begin.now.h begin.now.v [] box_node.now.list)) }
 {
     let mut walk = Walk::new(box_node, begin);
     for node in box_node.list.as_slice() {
-        let Some(seen) = walk.step(box_node, begin, node) else {
-            unreachable!();
+        let Some(placed) = walk.step(box_node, begin, node) else {
+            return Ok(false);
         };
-        drawing.draw(box_node.kind, seen.mark)?;
+        drawing.draw(box_node.kind, placed.mark)?;
         match node {
             Node::Box(_, inner) => {
                 if !inner.list.is_empty() {
                     let before = drawing.open()?;
-                    draw_list(drawing, inner, &begin_of(inner, seen.at.point()))?;
+                    let fit = draw_list(drawing, inner, &begin_of(inner, placed.at.point()))?;
+                    if !fit {
+                        return Ok(false);
+                    }
                     drawing.close(before)?;
                 }
             }
-            Node::Special(text) => drawing.draw_special(seen.at, text.as_bytes())?,
+            Node::Special(text) => drawing.draw_special(placed.at, text.as_bytes())?,
             _ => {}
         }
     }
-    Ok(())
+    Ok(true)
 }
 
 /// Why a page is not drawn.
@@ -215,35 +220,61 @@ pub enum ShipFault {
     OutOfMemory,
 }
 
-/// The instructions that draw the page of a box whose reference point is `at`, where the page is not huge: plain movements, selections of
-/// fonts, characters and rules, and an inner box with items between push and pop.
-#[tactic(auto, unfolding(crate::specs::Drawing::body_of))]
-pub fn draw_page(
+/// The instructions that draw the page of a box whose reference point is `at`: plain movements, selections of fonts, characters, rules and
+/// specials, and an inner box with items between push and pop. None exactly where the page is huge.
+#[tactic(auto, unfolding(crate::specs::Drawing::body_of, crate::specs::Marks::is_huge))]
+fn draw_page(
     alloc: Global,
     box_node: &BoxNode,
     at: PagePoint,
-) -> Result<Vec<Op<'_>>, AllocError>
-    requires { (counts : List ℤ) → is_huge (page_at counts at.h at.v box_node.now) ≡ false }
-    ensures { IfOk result (λ ops. (counts : List ℤ) → map view ops.items ≡ flat (body_of (page_at counts at.h at.v box_node.now))) }
+    room: usize,
+) -> Result<Option<Vec<Op<'_>>>, AllocError>
+    ensures ops { IfOk result (λ drawn. IfSome drawn (λ ops. (counts : List ℤ) → map view ops.items ≡ flat (body_of (page_at counts at.h at.v box_node.now)))) }
+    ensures huge { IfOk result (λ drawn. (counts : List ℤ) → is_huge (page_at counts at.h at.v box_node.now) ≡ is_none drawn) }
 {
-    let mut drawing = Drawing::new(alloc);
-    draw_list(&mut drawing, box_node, &begin_of(box_node, at))?;
-    Ok(drawing.ops)
+    if !ends_fit(box_node, at) {
+        return Ok(None);
+    }
+    let mut drawing = Drawing::new(alloc, room)?;
+    let fit = draw_list(&mut drawing, box_node, &begin_of(box_node, at))?;
+    if !fit {
+        return Ok(None);
+    }
+    Ok(Some(drawing.ops))
 }
 
-/// The instructions that draw the page of a box whose reference point is `at`, as `draw_page` gives them. HugePage exactly where a place
-/// or a size on the page does not fit; that is found before memory is taken.
+/// The instructions that draw the page of a box whose reference point is `at`: plain movements, selections of fonts, characters, rules and
+/// specials, and an inner box with items between push and pop. HugePage exactly where a place or a size on the page does not fit, also where
+/// memory is refused as well: only then is the page gone over again, to say so.
 pub fn plan(alloc: Global, box_node: &BoxNode, at: PagePoint) -> Result<Vec<Op<'_>>, ShipFault>
     ensures ok { IfOk result (λ ops. (counts : List ℤ) → map view ops.items ≡ flat (body_of (page_at counts at.h at.v box_node.now))) }
     ensures fits { OnOk result ((counts : List ℤ) → is_huge (page_at counts at.h at.v box_node.now) ≡ false) }
     ensures huge { IfErr result (λ fault. (counts : List ℤ)
         → (fault ≡ ShipFault.HugePage) ↔ (is_huge (page_at counts at.h at.v box_node.now) ≡ true)) }
 {
-    if is_huge(box_node, at) {
-        return Err(ShipFault::HugePage);
-    }
-    match draw_page(alloc, box_node, at) {
-        Ok(ops) => Ok(ops),
-        Err(_) => Err(ShipFault::OutOfMemory),
+    plan_with_room(alloc, box_node, at, 0)
+}
+
+/// The same, with room for that many instructions from the start.
+pub fn plan_with_room(
+    alloc: Global,
+    box_node: &BoxNode,
+    at: PagePoint,
+    room: usize,
+) -> Result<Vec<Op<'_>>, ShipFault>
+    ensures ok { IfOk result (λ ops. (counts : List ℤ) → map view ops.items ≡ flat (body_of (page_at counts at.h at.v box_node.now))) }
+    ensures fits { OnOk result ((counts : List ℤ) → is_huge (page_at counts at.h at.v box_node.now) ≡ false) }
+    ensures huge { IfErr result (λ fault. (counts : List ℤ)
+        → (fault ≡ ShipFault.HugePage) ↔ (is_huge (page_at counts at.h at.v box_node.now) ≡ true)) }
+{
+    match draw_page(alloc, box_node, at, room) {
+        Ok(Some(ops)) => Ok(ops),
+        Ok(None) => Err(ShipFault::HugePage),
+        Err(_) => {
+            if is_huge(box_node, at) {
+                return Err(ShipFault::HugePage);
+            }
+            Err(ShipFault::OutOfMemory)
+        }
     }
 }

@@ -1,6 +1,6 @@
 -- The parts of a list that is split, and why it is not.
 use Rattle.std.proofs.Common.{◌≡◌, ◌≢◌, ◌∙◌, ◌⊎◌, ℕ, ◌+◌, ◌-◌, ◌<◌, ◌≤◌, ◌&&◌, List, [], ◌∷◌, ◌++◌, length, take, drop, get_or, Bool, true, false, inl, inr, refl, ap, sym, subst, arith}
-use Rattle.std.specs.Prelude.{ℤ, pos, Option, Some, None, is_err, is_ok, IfErr, IsErrAnd, IsTrue, Result, Ok, Err, if◌then◌else◌}
+use Rattle.std.specs.Prelude.{ℤ, pos, Option, Some, None, is_some, is_err, is_ok, IfErr, IsErrAnd, Result, Ok, Err, if◌then◌else◌}
 use Rattle.std.specs.List.{filter, list_all, list_any, slice_get}
 use Rattle.std.specs.Option.{IfSome}
 use Rattle.std.proofs.lemmas.Bool.{cases_eq}
@@ -13,16 +13,21 @@ use Rattle.node_core.specs.declared.tree.Node.{Node}
 use Rattle.node_core.specs.declared.tree.Node.TheVariants as nodes
 use Rattle.node_core.specs.Classes.{shrinks_infinitely}
 use Rattle.scaled_core.specs.Dimensions.{fits}
+use Rattle.node_core.specs.Nodes.{box_of, items_of}
+use Rattle.node_core.proofs.NodeLemmas.{nodes_of-items_of}
+use Rattle.pack_core.specs.declared.pack.Packed.{Packed}
+use Rattle.pack_core.specs.declared.pack.Shell.{Shell}
+use Rattle.pack_core.specs.declared.pack.Target.{Target}
 use Rattle.pack_core.specs.declared.pack.Target.TheVariants.{Natural, To}
-use Rattle.pack_core.specs.Boxes.{vbox_numbers}
+use Rattle.pack_core.specs.Boxes.{packed_of, vbox, vbox_badness, vbox_frame, vbox_numbers, vbox_shell}
+use Rattle.pack_core.proofs.Front.{numbers-front, shell-natural}
 use Rattle.split_core.specs.declared.plan.Rest.{Rest}
 use Rattle.split_core.specs.declared.parts.SplitFault.TheVariants.{InfiniteShrink, DimensionTooLarge}
 use Rattle.split_core.specs.Places.{is_box_or_rule, is_some_before_break, precedes_break}
 use Rattle.split_core.specs.Split.{from_box_or_rule, specials_above, split_place, front_items, items_after, topped, left_of, is_special, top_widths, rest_numbers, split_numbers}
 use Rattle.split_core.specs.Split.{refusal, no_limit, packed_as, packed_rest, front_of, rest_of}
-use Rattle.split_core.specs.Steps.{glued, rest_list, left_items, IsInside}
-use Rattle.split_core.proofs.Search.{both-true}
-use Rattle.split_core.proofs.Specials.{above-filtered, numbers-above}
+use Rattle.split_core.specs.Steps.{glued, rest_list, left_items, packed_left, IsInside}
+use Rattle.split_core.proofs.Specials.{above-filtered, above-sizeless}
 
 -- From a box or a rule on nothing is dropped.
 pub rest-here :
@@ -91,11 +96,11 @@ none-fits params items place first specials solid end =
     rw (weak, high) refl
 
 pub planned-left :
-    (params : SplitParams) (items : List Node) (place first start : ℕ) (glue : Option Glue) → first ≤ start → start ≤ length items
+    (params : SplitParams) (items : List Node) (place first start : ℕ) (glue : Option Glue) (shell : Shell) → first ≤ start → start ≤ length items
     → specials_above (drop first items) ≡ specials_above (drop place items) → from_box_or_rule (drop first items) ≡ from_box_or_rule (drop place items)
     → drop start items ≡ from_box_or_rule (drop first items) → glued glue (drop start items) ≡ topped params (drop start items)
-    → rest_list (record { first = first; start = start; glue = glue }) items ≡ left_of params (drop place items)
-planned-left params items place first start glue ordered within specials solid at glue-is =
+    → rest_list (record { first = first; start = start; glue = glue; shell = shell }) items ≡ left_of params (drop place items)
+planned-left params items place first start glue shell ordered within specials solid at glue-is =
     let on : first + (start - first) ≡ start = omega (arith, ordered) in
     let there : drop (start - first) (drop first items) ≡ from_box_or_rule (drop first items) =
     drop-drop (start - first) first items ∙ ap (λ (i : ℕ). drop i items) on ∙ at in
@@ -110,16 +115,15 @@ pub rest-fits :
     → list_all fits (top_widths params left ++ vbox_numbers Natural no_limit (topped params left)) ≡ list_all fits (rest_numbers params after)
 rest-fits params after left is =
     ap (λ (xs : List Node). list_all fits (top_widths params xs ++ vbox_numbers Natural no_limit (topped params xs))) is
-    ∙ ap (λ (ns : List ℤ). list_all fits (top_widths params (from_box_or_rule after) ++ ns)) (sym (numbers-above Natural no_limit after (topped params (from_box_or_rule after))))
+    ∙ ap (λ (ns : List ℤ). list_all fits (top_widths params (from_box_or_rule after) ++ ns)) (sym (numbers-front Natural no_limit (specials_above after) (topped params (from_box_or_rule after)) (above-sizeless after)))
 
-pub left-fits :
-    (params : SplitParams) (items after : List Node) (rest : Option Rest) → left_items rest items ≡ left_of params after → list_all fits (rest_numbers params after) ≡ true
-    → IfSome rest (λ r. IsTrue (list_all fits (vbox_numbers Natural no_limit (rest_list r items))))
-left-fits params items after None same fit = tt
-left-fits params items after (Some rest) same fit =
-    let all = list_all-append fits (top_widths params (from_box_or_rule after)) (vbox_numbers Natural no_limit (left_of params after)) in
-    let both = both-true (list_all fits (top_widths params (from_box_or_rule after))) (list_all fits (vbox_numbers Natural no_limit (left_of params after))) (sym all ∙ fit) in
-    subst (λ (xs : List Node). IsTrue (list_all fits (vbox_numbers Natural no_limit xs))) (sym same) (both.1)
+-- The box of the rest is that of what is below the specials.
+pub left-shell :
+    (params : SplitParams) (after left : List Node) → left ≡ from_box_or_rule after
+    → vbox_shell Natural no_limit (topped params left) ≡ vbox_shell Natural no_limit (left_of params after)
+left-shell params after left is =
+    ap (λ (xs : List Node). vbox_shell Natural no_limit (topped params xs)) is
+    ∙ sym (shell-natural no_limit (specials_above after) (topped params (from_box_or_rule after)) (above-sizeless after))
 
 -- Why a list is not split.
 pub refusal-infinite : (params : SplitParams) (goal : ℤ) (items : List Node) → list_any shrinks_infinitely items ≡ true → refusal params goal items ≡ Some InfiniteShrink
@@ -148,23 +152,40 @@ refusal-planned params goal items place front rest infinite is f r =
     ap (λ (i : ℕ). list_all fits (vbox_numbers (To goal) params.split_max_depth (take i items))) (sym is) ∙ f in
     refusal-fits params goal items front rest infinite f' (ap (λ (i : ℕ). list_all fits (rest_numbers params (drop i items))) (sym is) ∙ r)
 
+-- A list in the box that was found for it is packed.
+packed-by : (target : Target) (limit : ℤ) (xs : List Node) (shell : Shell) → shell ≡ vbox_shell target limit xs → packed_of (items_of xs) shell ≡ packed_as target limit xs
+unfolding packed_of vbox_shell vbox
+packed-by target limit xs shell is =
+    ap (packed_of (items_of xs)) is
+    ∙ sym (ap (λ (ys : List Node). record { box_node = box_of (vbox_frame target limit ys) (items_of xs); badness = vbox_badness target limit xs }) (nodes_of-items_of xs))
+
 -- The parts of the plan are those of the split.
 pub front-planned :
-    (params : SplitParams) (goal : ℤ) (items : List Node) (place : ℕ) → place ≡ split_place params goal items
-    → packed_as (To goal) params.split_max_depth (take place items) ≡ front_of params goal items
+    (params : SplitParams) (goal : ℤ) (items : List Node) (place : ℕ) (shell : Shell) → place ≡ split_place params goal items
+    → shell ≡ vbox_shell (To goal) params.split_max_depth (take place items) → packed_of (items_of (take place items)) shell ≡ front_of params goal items
 unfolding front_of
-front-planned params goal items place is = ap (λ (i : ℕ). packed_as (To goal) params.split_max_depth (take i items)) is
+front-planned params goal items place shell is packed =
+    packed-by (To goal) params.split_max_depth (take place items) shell packed ∙ ap (λ (i : ℕ). packed_as (To goal) params.split_max_depth (take i items)) is
+
+-- What has an item is packed.
+packed-some : (xs : List Node) → 0 < length xs → packed_rest xs ≡ Some (packed_as Natural no_limit xs)
+packed-some [] some = absurd (omega (arith, some))
+packed-some (x ∷ xs) some = refl
 
 pub rest-planned :
     (params : SplitParams) (goal : ℤ) (items : List Node) (rest : Option Rest) → left_items rest items ≡ left_of params (items_after params goal items)
-    → packed_rest (left_items rest items) ≡ rest_of params goal items
+    → IfSome rest (λ r. IsInside r items) → IfSome rest (λ r. r.shell ≡ vbox_shell Natural no_limit (rest_list r items)) → packed_left rest items ≡ rest_of params goal items
 unfolding rest_of
-rest-planned params goal items rest is = ap packed_rest is
+rest-planned params goal items None is inside shell = ap packed_rest is
+rest-planned params goal items (Some rest) is inside shell =
+    ap (λ (p : Packed). Some p) (packed-by Natural no_limit (rest_list rest items) rest.shell shell)
+    ∙ sym (packed-some (rest_list rest items) inside.some)
+    ∙ ap packed_rest is
 
--- What has an item is packed.
-pub packed-some : (xs : List Node) → 0 < length xs → packed_rest xs ≡ Some (packed_as Natural no_limit xs)
-packed-some [] some = absurd (omega (arith, some))
-packed-some (x ∷ xs) some = refl
+-- Where the plan has a rest the split has one.
+pub rest-some : (items : List Node) (rest : Option Rest) (split : Option Packed) → packed_left rest items ≡ split → is_some rest ≡ true → is_some split ≡ true
+rest-some items None split same some = absurd (cc)
+rest-some items (Some rest) split same some = sym (ap is_some same)
 
 -- A rest has no more items than the list.
 filter-shorter : (xs : List Node) → length (filter is_special xs) ≤ length xs

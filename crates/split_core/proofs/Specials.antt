@@ -1,20 +1,12 @@
--- Specials above a box or a rule: they are found, they are moved, and they change no number of a vbox.
+-- Specials above a box or a rule: they are found, they are moved, and they have no size.
 use Rattle.std.proofs.Common.{◌≡◌, ◌∙◌, ℕ, zero, suc, ◌+◌, ◌-◌, ◌<◌, ◌≤◌, List, [], ◌∷◌, ◌++◌, length, take, drop, set, get_or, Bool, true, false, refl, ap, sym, arith}
-use Rattle.std.specs.Prelude.{ℤ, pos, ◌+ℤ◌}
-use Rattle.std.specs.Int.{int_max}
 use Rattle.std.specs.List.{list_all, filter, swap}
-use Rattle.std.proofs.lemmas.Int.{ints, clamps}
 use Rattle.std.proofs.lemmas.List.{append-nil, drop_more, drop-set-lt, get_or-drop, length-drop, take_more, take_more_set, take-set-le}
 use Rattle.std.proofs.lemmas.List.Edits.{swap_is}
 use Rattle.std.proofs.lemmas.List.Elements.{filter-append}
 use Rattle.node_core.specs.declared.tree.Node.{Node}
 use Rattle.node_core.specs.declared.tree.Node.TheVariants as nodes
-use Rattle.node_core.specs.declared.tree.Order.TheVariants.{Normal, Fil, Fill, Filll}
-use Rattle.pack_core.specs.declared.pack.Target.{Target}
-use Rattle.pack_core.specs.Boxes.{vbox_numbers}
-use Rattle.pack_core.specs.Items.{is_sizeless, downward, breadth, stretch_in, shrink_in}
-use Rattle.pack_core.specs.Totals.{total, greatest, pending_depth}
-use Rattle.pack_core.proofs.Sums.{greatest_positive, pending-none}
+use Rattle.pack_core.specs.Items.{is_sizeless}
 use Rattle.split_core.specs.Places.{is_box_or_rule, precedes_break}
 use Rattle.split_core.specs.Split.{from_box_or_rule, is_special, specials_above}
 
@@ -119,42 +111,14 @@ gathered-other old i x some within is other =
     ∙ ap (λ (ys : List Node). filter is_special (take (i - 1) (drop 1 old)) ++ ys) (rw other refl)
     ∙ append-nil (filter is_special (take (i - 1) (drop 1 old)))
 
--- A special changes no number of a vbox.
-zero-more : (z : ℤ) → pos 0 +ℤ z ≡ z
-zero-more z = omega (arith, ints)
-
-pub pending-special : (text : List ℕ) (xs : List Node) → pending_depth (nodes.Special text ∷ xs) ≡ pending_depth xs
-pending-special text xs = here (list_all is_sizeless xs) refl
-  where
-    here : (all : Bool) → list_all is_sizeless xs ≡ all → pending_depth (nodes.Special text ∷ xs) ≡ pending_depth xs
-    here true e = rw e (sym (pending-none xs e))
-    here false e = rw e refl
-
-pub numbers-special : (target : Target) (limit : ℤ) (text : List ℕ) (xs : List Node) → vbox_numbers target limit (nodes.Special text ∷ xs) ≡ vbox_numbers target limit xs
-numbers-special target limit text xs =
-    let wide : int_max (pos 0) (greatest breadth xs) ≡ greatest breadth xs = omega (arith, ints, clamps, greatest_positive breadth xs) in
-    rw (
-      pending-special text xs,
-      wide,
-      zero-more (total downward xs),
-      zero-more (total (stretch_in Normal) xs),
-      zero-more (total (stretch_in Fil) xs),
-      zero-more (total (stretch_in Fill) xs),
-      zero-more (total (stretch_in Filll) xs),
-      zero-more (total (shrink_in Normal) xs),
-      zero-more (total (shrink_in Fil) xs),
-      zero-more (total (shrink_in Fill) xs),
-      zero-more (total (shrink_in Filll) xs),
-    ) refl
-
-pub numbers-above :
-    (target : Target) (limit : ℤ) (after xs : List Node) → vbox_numbers target limit (specials_above after ++ xs) ≡ vbox_numbers target limit xs
-numbers-above target limit [] xs = refl
-numbers-above target limit ((nodes.Special text) ∷ after) xs = numbers-special target limit text (specials_above after ++ xs) ∙ numbers-above target limit after xs
-numbers-above target limit ((nodes.Glyph g) ∷ after) xs = numbers-above target limit after xs
-numbers-above target limit ((nodes.FontKern width) ∷ after) xs = numbers-above target limit after xs
-numbers-above target limit ((nodes.Kern width) ∷ after) xs = numbers-above target limit after xs
-numbers-above target limit ((nodes.Glue g) ∷ after) xs = numbers-above target limit after xs
-numbers-above target limit ((nodes.Penalty p) ∷ after) xs = numbers-above target limit after xs
-numbers-above target limit ((nodes.Rule sizes) ∷ after) xs = refl
-numbers-above target limit ((nodes.Box shift b) ∷ after) xs = refl
+-- Specials have no size.
+pub above-sizeless : (items : List Node) → list_all is_sizeless (specials_above items) ≡ true
+above-sizeless [] = refl
+above-sizeless ((nodes.Special text) ∷ items) = above-sizeless items
+above-sizeless ((nodes.Glyph g) ∷ items) = above-sizeless items
+above-sizeless ((nodes.FontKern width) ∷ items) = above-sizeless items
+above-sizeless ((nodes.Kern width) ∷ items) = above-sizeless items
+above-sizeless ((nodes.Glue g) ∷ items) = above-sizeless items
+above-sizeless ((nodes.Penalty p) ∷ items) = above-sizeless items
+above-sizeless ((nodes.Rule sizes) ∷ items) = refl
+above-sizeless ((nodes.Box shift b) ∷ items) = refl

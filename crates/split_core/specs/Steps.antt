@@ -1,19 +1,19 @@
 -- The steps of a split, one word for each call (own; private calls alone, no public clause speaks of it).
-use Rattle.std.specs.Prelude.{◌≡◌, ◌<◌, ◌≤◌, ◌+◌, ◌-◌, ◌++◌, ℕ, ℤ, false, if◌then◌else◌, List, [], ◌∷◌, length, drop, take, Option, Some, None, IsTrue}
-use Rattle.std.specs.List.{list_all, filter, filter_map, range_with_len, slice_get}
+use Rattle.std.specs.Prelude.{◌≡◌, ◌<◌, ◌≤◌, ◌+◌, ◌-◌, ◌++◌, ℕ, ℤ, false, if◌then◌else◌, List, [], ◌∷◌, length, drop, take, Option, Some, None}
+use Rattle.std.specs.List.{filter, filter_map, range_with_len, slice_get}
 use Rattle.std.specs.Option.{IfSome}
 use Rattle.node_core.specs.declared.params.SplitParams.{SplitParams}
 use Rattle.node_core.specs.declared.tree.Glue.{Glue}
 use Rattle.node_core.specs.declared.tree.Node.{Node}
 use Rattle.node_core.specs.declared.tree.Node.TheVariants as nodes
-use Rattle.scaled_core.specs.Dimensions.{fits}
-use Rattle.pack_core.specs.declared.pack.Target.TheVariants.{Natural, To}
-use Rattle.pack_core.specs.Boxes.{vbox_numbers}
+use Rattle.node_core.specs.Nodes.{items_of}
+use Rattle.pack_core.specs.declared.pack.Packed.{Packed}
+use Rattle.pack_core.specs.Boxes.{packed_of}
 use Rattle.split_core.specs.declared.trials.Trial.{Trial}
 use Rattle.split_core.specs.declared.plan.Rest.{Rest}
 use Rattle.split_core.specs.declared.plan.Plan.{Plan}
 use Rattle.split_core.specs.Places.{is_some_before_break}
-use Rattle.split_core.specs.Split.{trial_at, is_cheaper, is_special, no_limit}
+use Rattle.split_core.specs.Split.{trial_at, is_cheaper, is_special}
 
 -- Of the best trial so far and a later one, that which is kept: the later one, unless the earlier one is cheaper.
 abbrev pub cheaper : Option Trial → Trial → Trial
@@ -48,6 +48,11 @@ abbrev pub left_items : Option Rest → List Node → List Node
 left_items None items = []
 left_items (Some rest) items = rest_list rest items
 
+-- The rest in the box that was found for it.
+abbrev pub packed_left : Option Rest → List Node → Option Packed
+packed_left None items = None
+packed_left (Some rest) items = Some (packed_of (items_of (rest_list rest items)) rest.shell)
+
 -- The rest can be taken from the list: it has an item, and the item of the list before its first one is free for the glue.
 pub record IsInside (rest : Rest) (items : List Node) : Type 0 where
   pub free : 0 < rest.first
@@ -56,9 +61,7 @@ pub record IsInside (rest : Rest) (items : List Node) : Type 0 where
   pub some : 0 < length (rest_list rest items)
 
 -- The plan fits the list: it can be carried out.
-pub record IsSound (params : SplitParams) (goal : ℤ) (items : List Node) (plan : Plan) : Type 0 where
+pub record IsSound (items : List Node) (plan : Plan) : Type 0 where
   pub within : plan.place ≤ length items
   pub after : IfSome plan.rest (λ rest. plan.place < rest.first)
-  pub front_fits : IsTrue (list_all fits (vbox_numbers (To goal) params.split_max_depth (take plan.place items)))
   pub inside : IfSome plan.rest (λ rest. IsInside rest items)
-  pub rest_fits : IfSome plan.rest (λ rest. IsTrue (list_all fits (vbox_numbers Natural no_limit (rest_list rest items))))

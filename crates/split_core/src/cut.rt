@@ -1,80 +1,59 @@
 //! A vertical list is split (TeX: The Program, part 44, §977 to §979, vsplit).
 
-ghost use Rattle.std.specs.Prelude.{◌≡◌, ◌≤◌, ◌<◌, ◌-◌, ◌∷◌, Some, None, IfOk, IfErr, OnOk, OnErr, IsTrue, true, is_some, length, drop, take};
-ghost use Rattle.std.specs.List.{list_all};
-ghost use Rattle.scaled_core.specs.Dimensions.{fits};
-ghost use Rattle.node_core.specs.Nodes.{most_nodes, nodes_of};
-ghost use Rattle.pack_core.specs.Boxes.{vbox_numbers};
-ghost use Rattle.split_core.specs.Split.{front_of, rest_of, refusal, fault_of, packed_as, packed_rest, no_limit};
-ghost use Rattle.split_core.specs.Steps.{rest_list, left_items, IsInside, IsSound};
+ghost use Rattle.std.specs.Prelude.{◌≡◌, ◌≤◌, ◌-◌, Some, None, IfOk, IfErr, OnOk, OnErr, true, is_some, length, take};
+ghost use Rattle.node_core.specs.Nodes.{most_nodes, items_of, nodes_of};
+ghost use Rattle.pack_core.specs.Boxes.{packed_of};
+ghost use Rattle.split_core.specs.Split.{front_of, rest_of, refusal, fault_of};
+ghost use Rattle.split_core.specs.Steps.{rest_list, packed_left, IsInside, IsSound};
 
 use crate::parts::{Split, SplitFault, Unsplit};
 use crate::plan::{Plan, Rest, plan_split};
 use crate::rest::take_rest;
 use node_core::{Node, NodeList, SplitParams};
-use pack_core::{Packed, Target, vpack};
+use pack_core::{Packed, Shell, packed_of};
 use scaled_core::Dimen;
 use std::alloc::{AllocError, Global};
 
-/// The vbox of nodes whose numbers fit.
-fn packed(nodes: Vec<Node>, target: Target, limit: Dimen) -> Packed
-    requires short { length nodes.items ≤ most_nodes }
-    requires fits { IsTrue (list_all fits (vbox_numbers target limit nodes.items)) }
-    ensures { result ≡ packed_as target limit nodes.items }
-{
-    match vpack(NodeList::from_vec(nodes), target, limit) {
-        Ok(packed) => packed,
-        Err(_) => unreachable!(),
-    }
-}
-
-/// Takes the rest away from the nodes and packs it.
+/// Takes the rest away from the nodes and puts it into its box.
 fn pack_rest(nodes: &mut Vec<Node>, rest: &Rest) -> Result<Packed, AllocError>
     requires short { length nodes.old.items ≤ most_nodes }
     requires inside { IsInside rest.now nodes.old.items }
-    requires fits { IsTrue (list_all fits (vbox_numbers Target.Natural no_limit (rest_list rest.now nodes.old.items))) }
-    ensures rest { IfOk result (λ packed. packed ≡ packed_as Target.Natural no_limit (rest_list rest.now nodes.old.items)) }
+    ensures rest { IfOk result (λ packed. packed ≡ packed_of (items_of (rest_list rest.now nodes.old.items)) rest.now.shell) }
     ensures front { OnOk result (nodes.new.items ≡ take (rest.now.first - 1) nodes.old.items) }
     ensures err { OnErr result (nodes.new.items ≡ nodes.old.items) }
 {
-    let rest = take_rest(nodes, rest)?;
-    Ok(packed(rest, Target::Natural, Dimen::MAX))
+    let left = take_rest(nodes, rest)?;
+    Ok(packed_of(NodeList::from_vec(left), &rest.shell))
 }
 
-/// Packs what is before a place.
-fn pack_front(mut nodes: Vec<Node>, place: usize, height: Dimen, params: &SplitParams) -> Packed
-    requires short { length nodes.items ≤ most_nodes }
-    requires fits { IsTrue (list_all fits (vbox_numbers (Target.To height) params.now.split_max_depth (take place nodes.items))) }
-    ensures { result ≡ packed_as (Target.To height) params.now.split_max_depth (take place nodes.items) }
+/// Puts what is before a place into its box.
+fn pack_front(mut nodes: Vec<Node>, place: usize, front: &Shell) -> Packed
+    requires { length nodes.items ≤ most_nodes }
+    ensures { result ≡ packed_of (items_of (take place nodes.items)) front.now }
 {
     nodes.truncate(place);
-    packed(nodes, Target::To(height), params.split_max_depth)
+    packed_of(NodeList::from_vec(nodes), front)
 }
 
 /// Splits nodes as it was planned. Where a growth is refused they come back; nothing grows where nothing is left.
-fn carry_out(
-    mut nodes: Vec<Node>,
-    plan: &Plan,
-    height: Dimen,
-    params: &SplitParams,
-) -> Result<Split, Vec<Node>>
+fn carry_out(mut nodes: Vec<Node>, plan: &Plan) -> Result<Split, Vec<Node>>
     requires short { length nodes.items ≤ most_nodes }
-    requires sound { IsSound params.now height nodes.items plan.now }
-    ensures front { IfOk result (λ s. s.front ≡ packed_as (Target.To height) params.now.split_max_depth (take plan.now.place nodes.items)) }
-    ensures rest { IfOk result (λ s. s.rest ≡ packed_rest (left_items plan.now.rest nodes.items)) }
-    ensures growth { OnErr result (is_some (packed_rest (left_items plan.now.rest nodes.items)) ≡ true) }
+    requires sound { IsSound nodes.items plan.now }
+    ensures front { IfOk result (λ s. s.front ≡ packed_of (items_of (take plan.now.place nodes.items)) plan.now.front) }
+    ensures rest { IfOk result (λ s. s.rest ≡ packed_left plan.now.rest nodes.items) }
+    ensures growth { OnErr result (is_some plan.now.rest ≡ true) }
     ensures back { IfErr result (λ back. back.items ≡ nodes.items) }
 {
     let Some(rest) = &plan.rest else {
         return Ok(Split {
-            front: pack_front(nodes, plan.place, height, params),
+            front: pack_front(nodes, plan.place, &plan.front),
             rest: None,
         });
     };
     match pack_rest(&mut nodes, rest) {
         Err(AllocError) => Err(nodes),
         Ok(rest) => Ok(Split {
-            front: pack_front(nodes, plan.place, height, params),
+            front: pack_front(nodes, plan.place, &plan.front),
             rest: Some(rest),
         }),
     }
@@ -94,7 +73,7 @@ pub fn split_list(list: NodeList, height: Dimen, params: &SplitParams) -> Result
 {
     match plan_split(list.as_slice(), height, params) {
         Err(fault) => Err(Unsplit { list, fault }),
-        Ok(plan) => match carry_out(list.into_vec(), &plan, height, params) {
+        Ok(plan) => match carry_out(list.into_vec(), &plan) {
             Ok(parts) => Ok(parts),
             Err(nodes) => Err(Unsplit {
                 list: NodeList::from_vec(nodes),
@@ -116,19 +95,13 @@ fn copied(alloc: Global, nodes: &[Node]) -> Result<Vec<Node>, AllocError>
 }
 
 /// Splits a copy of nodes as it was planned.
-fn split_copy(
-    alloc: Global,
-    nodes: &[Node],
-    plan: &Plan,
-    height: Dimen,
-    params: &SplitParams,
-) -> Result<Split, AllocError>
+fn split_copy(alloc: Global, nodes: &[Node], plan: &Plan) -> Result<Split, AllocError>
     requires short { length nodes.now ≤ most_nodes }
-    requires sound { IsSound params.now height nodes.now plan.now }
-    ensures front { IfOk result (λ s. s.front ≡ packed_as (Target.To height) params.now.split_max_depth (take plan.now.place nodes.now)) }
-    ensures rest { IfOk result (λ s. s.rest ≡ packed_rest (left_items plan.now.rest nodes.now)) }
+    requires sound { IsSound nodes.now plan.now }
+    ensures front { IfOk result (λ s. s.front ≡ packed_of (items_of (take plan.now.place nodes.now)) plan.now.front) }
+    ensures rest { IfOk result (λ s. s.rest ≡ packed_left plan.now.rest nodes.now) }
 {
-    match carry_out(copied(alloc, nodes)?, plan, height, params) {
+    match carry_out(copied(alloc, nodes)?, plan) {
         Ok(parts) => Ok(parts),
         Err(_) => Err(AllocError),
     }
@@ -149,7 +122,7 @@ pub fn split(
 {
     match plan_split(nodes, height, params) {
         Err(fault) => Err(fault),
-        Ok(plan) => match split_copy(alloc, nodes, &plan, height, params) {
+        Ok(plan) => match split_copy(alloc, nodes, &plan) {
             Ok(parts) => Ok(parts),
             Err(AllocError) => Err(SplitFault::OutOfMemory),
         },

@@ -1,22 +1,22 @@
 //! How a vertical list is going to be split, found before anything of it is moved.
 
-ghost use Rattle.std.specs.Prelude.{◌≡◌, ◌≤◌, ◌<◌, ◌++◌, Some, None, IfOk, IfErr, OnOk, if◌then◌else◌, pos, true, false, is_ok, length, drop};
+ghost use Rattle.std.specs.Prelude.{◌≡◌, ◌≤◌, ◌<◌, ◌++◌, Some, None, IfOk, IfErr, OnOk, if◌then◌else◌, pos, true, false, is_ok, length, take, drop};
 ghost use Rattle.std.specs.List.{list_all, list_any, slice_get};
 ghost use Rattle.std.specs.Int.{int_max};
 ghost use Rattle.std.specs.Option.{IfSome};
 ghost use Rattle.scaled_core.specs.Dimensions.{fits};
 ghost use Rattle.node_core.specs.Nodes.{most_nodes};
 ghost use Rattle.node_core.specs.Classes.{shrinks_infinitely};
-ghost use Rattle.pack_core.specs.Boxes.{vbox_numbers};
+ghost use Rattle.pack_core.specs.Boxes.{vbox_numbers, vbox_shell};
 ghost use Rattle.split_core.specs.Places.{is_some_before_break};
 ghost use Rattle.split_core.specs.Split.{from_box_or_rule, specials_above, topped, left_of, items_after, top_widths, rest_numbers};
 ghost use Rattle.split_core.specs.Split.{split_place, refusal, top_width, top_glue, no_limit};
-ghost use Rattle.split_core.specs.Steps.{glued, left_items, IsInside, IsSound};
+ghost use Rattle.split_core.specs.Steps.{glued, rest_list, left_items, IsInside, IsSound};
 
 use crate::parts::SplitFault;
 use crate::trials::{is_box_or_rule, precedes_break, split_place};
 use node_core::{Glue, Node, SplitParams};
-use pack_core::{Target, first_height_of, vbox_fits, vbox_fits_below};
+use pack_core::{Shell, Target, first_height_of, vbox_below, vbox_shell};
 use scaled_core::Dimen;
 
 /// How a list is split.
@@ -24,6 +24,8 @@ use scaled_core::Dimen;
 pub struct Plan {
     /// Before which item; the number of items at the end.
     pub place: usize,
+    /// The box of the items before it.
+    pub front: Shell,
     /// What is left, if something is.
     pub rest: Option<Rest>,
 }
@@ -37,6 +39,15 @@ pub struct Rest {
     pub start: usize,
     /// The glue above the first box or rule, if there is one.
     pub glue: Option<Glue>,
+    /// The box of what is left.
+    pub shell: Shell,
+}
+
+/// The glue above items, if there are some, and the vbox of both.
+#[derive(Clone, Copy, Debug, PartialEq, Eq)]
+struct Top {
+    glue: Option<Glue>,
+    shell: Shell,
 }
 
 /// Whether some glue of a list shrinks in an infinite order.
@@ -98,27 +109,34 @@ fn positive(value: i64) -> i64
     if value < 0 { 0 } else { value }
 }
 
-/// The glue above items that are left, the first of which is a box or a rule, if there are some, where its width and the numbers of both fit.
-fn glue_above(left: &[Node], params: &SplitParams) -> Result<Option<Glue>, SplitFault>
+/// What comes of items that are left, the first of which is a box or a rule, with the glue above them, where the numbers of both fit. With no item
+/// there is no glue, and the vbox is empty.
+fn top_of(left: &[Node], params: &SplitParams) -> Result<Top, SplitFault>
     requires { length left.now ≤ most_nodes }
-    ensures ok { IfOk result (λ glue. glued glue left.now ≡ topped params.now left.now) }
+    ensures glue { IfOk result (λ top. glued top.glue left.now ≡ topped params.now left.now) }
+    ensures shell { IfOk result (λ top. top.shell ≡ vbox_shell Target.Natural no_limit (topped params.now left.now)) }
     ensures fits { is_ok result ≡ list_all fits (top_widths params.now left.now ++ vbox_numbers Target.Natural no_limit (topped params.now left.now)) }
     ensures fault { IfErr result (λ e. e ≡ SplitFault.DimensionTooLarge) }
 {
     let [first, ..] = left else {
-        return Ok(None);
+        return match vbox_shell(Target::Natural, Dimen::MAX, left) {
+            None => Err(SplitFault::DimensionTooLarge),
+            Some(shell) => Ok(Top { glue: None, shell }),
+        };
     };
     let Some(glue) = top_glue(first_height_of(first), params) else {
         return Err(SplitFault::DimensionTooLarge);
     };
-    if vbox_fits_below(Dimen::MAX, &glue, left) {
-        Ok(Some(glue))
-    } else {
-        Err(SplitFault::DimensionTooLarge)
+    match vbox_below(Dimen::MAX, &glue, left) {
+        None => Err(SplitFault::DimensionTooLarge),
+        Some(shell) => Ok(Top {
+            glue: Some(glue),
+            shell,
+        }),
     }
 }
 
-/// What is left of a list after a place, where its numbers fit. Specials above the glue change none of them.
+/// What is left of a list after a place, where its numbers fit. Specials above the glue change nothing of its box.
 fn plan_rest(nodes: &[Node], place: usize, params: &SplitParams) -> Result<Option<Rest>, SplitFault>
     requires short { length nodes.now ≤ most_nodes }
     requires within { place ≤ length nodes.now }
@@ -126,6 +144,7 @@ fn plan_rest(nodes: &[Node], place: usize, params: &SplitParams) -> Result<Optio
     ensures ok { IfOk result (λ rest. left_items rest nodes.now ≡ left_of params.now (drop place nodes.now)) }
     ensures after { IfOk result (λ rest. IfSome rest (λ r. place < r.first)) }
     ensures inside { IfOk result (λ rest. IfSome rest (λ r. IsInside r nodes.now)) }
+    ensures shell { IfOk result (λ rest. IfSome rest (λ r. r.shell ≡ vbox_shell Target.Natural no_limit (rest_list r nodes.now))) }
     ensures fits { is_ok result ≡ list_all fits (rest_numbers params.now (drop place nodes.now)) }
     ensures fault { IfErr result (λ e. e ≡ SplitFault.DimensionTooLarge) }
 {
@@ -134,8 +153,13 @@ fn plan_rest(nodes: &[Node], place: usize, params: &SplitParams) -> Result<Optio
         return Ok(None);
     }
     let start = rest_start(nodes, first);
-    let glue = glue_above(&nodes[start..], params)?;
-    Ok(Some(Rest { first, start, glue }))
+    let top = top_of(&nodes[start..], params)?;
+    Ok(Some(Rest {
+        first,
+        start,
+        glue: top.glue,
+        shell: top.shell,
+    }))
 }
 
 /// How a list is split to that height. It is refused exactly as the split is, and takes no memory.
@@ -143,7 +167,9 @@ pub fn plan_split(nodes: &[Node], height: Dimen, params: &SplitParams) -> Result
     requires short { length nodes.now ≤ most_nodes }
     ensures place { IfOk result (λ p. p.place ≡ split_place params.now height nodes.now) }
     ensures rest { IfOk result (λ p. left_items p.rest nodes.now ≡ left_of params.now (items_after params.now height nodes.now)) }
-    ensures sound { IfOk result (λ p. IsSound params.now height nodes.now p) }
+    ensures front { IfOk result (λ p. p.front ≡ vbox_shell (Target.To height) params.now.split_max_depth (take p.place nodes.now)) }
+    ensures shell { IfOk result (λ p. IfSome p.rest (λ r. r.shell ≡ vbox_shell Target.Natural no_limit (rest_list r nodes.now))) }
+    ensures sound { IfOk result (λ p. IsSound nodes.now p) }
     ensures ok { OnOk result (refusal params.now height nodes.now ≡ None) }
     ensures err { IfErr result (λ e. refusal params.now height nodes.now ≡ Some e) }
 {
@@ -151,9 +177,10 @@ pub fn plan_split(nodes: &[Node], height: Dimen, params: &SplitParams) -> Result
         return Err(SplitFault::InfiniteShrink);
     }
     let place = split_place(nodes, height, params);
-    if !vbox_fits(Target::To(height), params.split_max_depth, &nodes[..place]) {
+    let before = &nodes[..place];
+    let Some(front) = vbox_shell(Target::To(height), params.split_max_depth, before) else {
         return Err(SplitFault::DimensionTooLarge);
-    }
+    };
     let rest = plan_rest(nodes, place, params)?;
-    Ok(Plan { place, rest })
+    Ok(Plan { place, front, rest })
 }

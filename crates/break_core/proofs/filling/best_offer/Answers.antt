@@ -4,11 +4,11 @@ use Rattle.break_core.specs.Filling.{IsBestOffer}
 use Rattle.break_core.proofs.Best.{best_first, best_more}
 use Rattle.break_core.proofs.filling.best_offer.Goals as goal
 
-pub offer_behind-best-requires-clause-uncounted : goal.offer_behind-best-requires-clause-uncounted
-offer_behind-best-requires-clause-uncounted c = λ e at. (c.requires.entries c.args.group.start e (omega arith) c.requires.some at).1
+pub offer_from-best-requires-clause-uncounted : goal.offer_from-best-requires-clause-uncounted
+offer_from-best-requires-clause-uncounted c = λ e at. (c.requires.entries c.args.group.start e (omega arith) c.requires.some at).1
 
-pub offer_behind-best-requires-clause-later : goal.offer_behind-best-requires-clause-later
-offer_behind-best-requires-clause-later c = λ e at. omega (arith, (c.requires.entries c.args.group.start e (omega arith) c.requires.some at).0, c.requires.earlier)
+pub offer_from-best-requires-clause-later : goal.offer_from-best-requires-clause-later
+offer_from-best-requires-clause-later c = λ e at. omega (arith, (c.requires.entries c.args.group.start e (omega arith) c.requires.some at).0, c.requires.earlier)
 
 pub loop-index-init : goal.loop-index-init
 loop-index-init c =
@@ -17,16 +17,16 @@ loop-index-init c =
     let first = get_at table start (omega (arith, c.requires.some, c.requires.within)) in
     record {
       low = omega arith;
-      best = best_first table c.args.params.now c.args.place c.args.alone.now start (start + 1) first.0 c.offer_behind-best.result first.1 refl
-          (c.offer_behind-best.ensures first.0 first.1);
+      best = best_first table c.args.params.now c.args.place c.args.alone.now start (start + 1) first.0 c.offer_from-best.result first.1 refl
+          (c.offer_from-best.ensures first.0 first.1);
     }
 
-pub offer_behind-offered-requires-clause-uncounted : goal.offer_behind-offered-requires-clause-uncounted
-offer_behind-offered-requires-clause-uncounted c = λ e at.
+pub offer_from-offered-requires-clause-uncounted : goal.offer_from-offered-requires-clause-uncounted
+offer_from-offered-requires-clause-uncounted c = λ e at.
     (c.requires.entries c.loop-index.index e (omega (arith, c.loop-index.invariant.low)) c.loop-index-test.true at).1
 
-pub offer_behind-offered-requires-clause-later : goal.offer_behind-offered-requires-clause-later
-offer_behind-offered-requires-clause-later c = λ e at.
+pub offer_from-offered-requires-clause-later : goal.offer_from-offered-requires-clause-later
+offer_from-offered-requires-clause-later c = λ e at.
     omega (arith, (c.requires.entries c.loop-index.index e (omega (arith, c.loop-index.invariant.low)) c.loop-index-test.true at).0, c.requires.earlier)
 
 pub loop-index-preserved : goal.loop-index-preserved
@@ -37,8 +37,8 @@ loop-index-preserved c =
     let here = get_at table index (omega (arith, c.loop-index-test.true, c.requires.within)) in
     record {
       low = omega (arith, inv.low);
-      best = best_more table c.args.params.now c.args.place c.args.alone.now c.args.group.start index here.0 c.loop-index.best c.offer_behind-offered.result
-          c.lesser-best.result inv.best (omega (arith, inv.low)) here.1 (c.offer_behind-offered.ensures here.0 here.1) c.lesser-best.ensures;
+      best = best_more table c.args.params.now c.args.place c.args.alone.now c.args.group.start index here.0 c.loop-index.best c.offer_from-offered.result
+          c.lesser-best.result inv.best (omega (arith, inv.low)) here.1 (c.offer_from-offered.ensures here.0 here.1) c.lesser-best.ensures;
     }
 
 pub returns : goal.returns

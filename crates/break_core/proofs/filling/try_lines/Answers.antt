@@ -1,8 +1,7 @@
-use Rattle.std.proofs.Common.{◌≡◌, ◌∙◌, ◌+◌, ◌≤◌, None, length, to_z, of_z, w32, w64, refl, arith}
+use Rattle.std.proofs.Common.{◌≡◌, ◌∙◌, ◌+◌, ◌≤◌, length, to_z, of_z, w32, w64, refl, arith}
 use Rattle.std.proofs.lemmas.Int.{ints}
-use Rattle.std.specs.Prelude.{slice_index_or}
 use Rattle.std.proofs.lemmas.List.{length-map}
-use Rattle.std.proofs.lemmas.Option.{slice_get-get_or, slice_get_within}
+use Rattle.std.proofs.lemmas.Option.{slice_get_within}
 use Rattle.break_cost.specs.Sizes.{least_width, judgement}
 use Rattle.break_core.specs.declared.filling.Live.{Live}
 use Rattle.break_core.specs.Trials.{is_overfull}
@@ -11,66 +10,37 @@ use Rattle.break_core.specs.Active.{stops, pruned, groups_of}
 use Rattle.break_core.proofs.Filled.{group_of}
 use Rattle.break_core.proofs.Overfull.{overfull_of}
 use Rattle.break_core.proofs.Endings.{long_found, over_found, pruned_is, goes_on, ended_quiet}
-use Rattle.break_core.proofs.Lives.{group_at, groups_kept, over_kept}
-use Rattle.break_core.proofs.Active.{next_active, row_quiet, row_end, front_more, front_end}
+use Rattle.break_core.proofs.Lives.{group_at, groups_kept, over_kept, live_at, live_here, next_live}
+use Rattle.break_core.proofs.Active.{row_quiet, row_end, front_more, front_end}
 use Rattle.break_core.proofs.Counts.{swept_more, fresh_more, kept_more, tried_more}
 use Rattle.break_core.proofs.filling.try_lines.Goals as goal
 
 pub try_line-sums-requires-clause-later : goal.try_line-sums-requires-clause-later
 try_line-sums-requires-clause-later g c =
-    let f = g.M.Meter.facts c.args.meter.now in
-    let params = c.args.rules.now.params.now in
-    let ending = c.args.rules.now.ending in
-    let table = c.args.table.now in
-    let p = pruned f params c.args.rules.now.bound ending in
-    let stop = stops f params ending in
-    let groups = groups_of c.args.lives.now in
-    let none : Live = record { group = record { place = 0; start = 0; end = 0 }; over = None } in
-    let live = slice_index_or c.args.lives.now c.loop-live.live-index none in
-    let here = slice_get-get_or c.args.lives.now c.loop-live.live-index none c.loop-live-test.true in
-    let group = live.group in
     let inv = c.loop-live.invariant in
-    let both = next_active p stop table c.args.place c.args.place inv.at inv.low c.loop-live.live-index groups group
-    (group_at c.args.lives.now c.loop-live.live-index live here) inv.live in
-    let next = both.0 in
+    let rules = c.args.rules.now in
+    let lives = c.args.lives.now in
+    let index = c.loop-live.live-index in
+    let next = (next_live (g.M.Meter.facts c.args.meter.now) rules.params.now rules.bound rules.ending c.args.table.now c.args.place inv.at inv.low lives index c.loop-live-test.true inv.live).0 in
     next.group.earlier
 
 pub try_line-sums-requires-clause-few : goal.try_line-sums-requires-clause-few
 try_line-sums-requires-clause-few g c =
-    let f = g.M.Meter.facts c.args.meter.now in
-    let params = c.args.rules.now.params.now in
-    let ending = c.args.rules.now.ending in
-    let table = c.args.table.now in
-    let p = pruned f params c.args.rules.now.bound ending in
-    let stop = stops f params ending in
-    let groups = groups_of c.args.lives.now in
-    let none : Live = record { group = record { place = 0; start = 0; end = 0 }; over = None } in
-    let live = slice_index_or c.args.lives.now c.loop-live.live-index none in
-    let here = slice_get-get_or c.args.lives.now c.loop-live.live-index none c.loop-live-test.true in
-    let group = live.group in
     let inv = c.loop-live.invariant in
-    let both = next_active p stop table c.args.place c.args.place inv.at inv.low c.loop-live.live-index groups group
-    (group_at c.args.lives.now c.loop-live.live-index live here) inv.live in
-    let next = both.0 in
-    omega (arith, c.requires.few group.place, inv.fresh group.place next.later)
+    let rules = c.args.rules.now in
+    let lives = c.args.lives.now in
+    let index = c.loop-live.live-index in
+    let next = (next_live (g.M.Meter.facts c.args.meter.now) rules.params.now rules.bound rules.ending c.args.table.now c.args.place inv.at inv.low lives index c.loop-live-test.true inv.live).0 in
+    let place = (live_at lives index).group.place in
+    omega (arith, c.requires.few place, inv.fresh place next.later)
 
 pub offer_line-overfull-requires : goal.offer_line-overfull-requires
 offer_line-overfull-requires g c =
-    let f = g.M.Meter.facts c.args.meter.now in
-    let params = c.args.rules.now.params.now in
-    let ending = c.args.rules.now.ending in
-    let table = c.args.table.now in
-    let p = pruned f params c.args.rules.now.bound ending in
-    let stop = stops f params ending in
-    let groups = groups_of c.args.lives.now in
-    let none : Live = record { group = record { place = 0; start = 0; end = 0 }; over = None } in
-    let live = slice_index_or c.args.lives.now c.loop-live.live-index none in
-    let here = slice_get-get_or c.args.lives.now c.loop-live.live-index none c.loop-live-test.true in
-    let group = live.group in
     let inv = c.loop-live.invariant in
-    let both = next_active p stop table c.args.place c.args.place inv.at inv.low c.loop-live.live-index groups group
-    (group_at c.args.lives.now c.loop-live.live-index live here) inv.live in
-    let next = both.0 in
+    let rules = c.args.rules.now in
+    let lives = c.args.lives.now in
+    let index = c.loop-live.live-index in
+    let next = (next_live (g.M.Meter.facts c.args.meter.now) rules.params.now rules.bound rules.ending c.args.table.now c.args.place inv.at inv.low lives index c.loop-live-test.true inv.live).0 in
     record {
       can = record {
         wide = inv.wide;
@@ -78,7 +48,8 @@ offer_line-overfull-requires g c =
         within = next.group.within;
         earlier = next.group.earlier;
         places = c.requires.places;
-        entries = group_of p table c.args.place group c.requires.filled.is_table next.group;
+        entries = group_of (pruned (g.M.Meter.facts c.args.meter.now) rules.params.now rules.bound rules.ending) c.args.table.now c.args.place (live_at lives index).group
+            c.requires.filled.is_table next.group;
         penalty = omega (arith, ints, c.place-at.ensures.small);
         small = c.try_line-sums.ensures.small;
       };
@@ -86,30 +57,18 @@ offer_line-overfull-requires g c =
 
 pub returns-in_err-keep_group-clause-trials : goal.returns-in_err-keep_group-clause-trials
 returns-in_err-keep_group-clause-trials g c =
-    let f = g.M.Meter.facts c.args.meter.now in
-    let params = c.args.rules.now.params.now in
-    let ending = c.args.rules.now.ending in
-    let table = c.args.table.now in
-    let p = pruned f params c.args.rules.now.bound ending in
-    let stop = stops f params ending in
-    let groups = groups_of c.args.lives.now in
-    let none : Live = record { group = record { place = 0; start = 0; end = 0 }; over = None } in
-    let live = slice_index_or c.args.lives.now c.loop-live.live-index none in
-    let here = slice_get-get_or c.args.lives.now c.loop-live.live-index none c.loop-live-test.true in
-    let group = live.group in
     let inv = c.loop-live.invariant in
-    let both = next_active p stop table c.args.place c.args.place inv.at inv.low c.loop-live.live-index groups group
-    (group_at c.args.lives.now c.loop-live.live-index live here) inv.live in
-    let next = both.0 in
-    swept_more stop c.args.place inv.low group.place (g.M.Meter.trials c.args.meter.now) (g.M.Meter.trials c.loop-live.meter)
+    let rules = c.args.rules.now in
+    let lives = c.args.lives.now in
+    let index = c.loop-live.live-index in
+    let next = (next_live (g.M.Meter.facts c.args.meter.now) rules.params.now rules.bound rules.ending c.args.table.now c.args.place inv.at inv.low lives index c.loop-live-test.true inv.live).0 in
+    swept_more (stops (g.M.Meter.facts c.args.meter.now) rules.params.now rules.ending) c.args.place inv.low (live_at lives index).group.place (g.M.Meter.trials c.args.meter.now) (g.M.Meter.trials c.loop-live.meter)
     (g.M.Meter.trials c.try_line-sums.new.self) inv.swept inv.fresh next.later next.group.earlier next.trying c.try_line-sums.ensures.counted
     c.try_line-sums.ensures.others
 
 pub returns-in_err-keep_group-clause-kept : goal.returns-in_err-keep_group-clause-kept
 returns-in_err-keep_group-clause-kept g c =
-    let none : Live = record { group = record { place = 0; start = 0; end = 0 }; over = None } in
-    let live = slice_index_or c.args.lives.now c.loop-live.live-index none in
-    kept_more live.group.place (g.M.Meter.trials c.args.meter.now) (g.M.Meter.trials c.loop-live.meter) (g.M.Meter.trials c.try_line-sums.new.self)
+    kept_more (live_at c.args.lives.now c.loop-live.live-index).group.place (g.M.Meter.trials c.args.meter.now) (g.M.Meter.trials c.loop-live.meter) (g.M.Meter.trials c.try_line-sums.new.self)
     c.loop-live.invariant.kept c.try_line-sums.ensures.counted c.try_line-sums.ensures.others
 
 pub loop-live-preserved : goal.loop-live-preserved
@@ -121,13 +80,11 @@ loop-live-preserved g c =
     let p = pruned f params c.args.rules.now.bound ending in
     let stop = stops f params ending in
     let groups = groups_of c.args.lives.now in
-    let none : Live = record { group = record { place = 0; start = 0; end = 0 }; over = None } in
-    let live = slice_index_or c.args.lives.now c.loop-live.live-index none in
-    let here = slice_get-get_or c.args.lives.now c.loop-live.live-index none c.loop-live-test.true in
+    let live = live_at c.args.lives.now c.loop-live.live-index in
+    let here = live_here c.args.lives.now c.loop-live.live-index c.loop-live-test.true in
     let group = live.group in
     let inv = c.loop-live.invariant in
-    let both = next_active p stop table c.args.place c.args.place inv.at inv.low c.loop-live.live-index groups group
-    (group_at c.args.lives.now c.loop-live.live-index live here) inv.live in
+    let both = next_live f params c.args.rules.now.bound ending table c.args.place inv.at inv.low c.args.lives.now c.loop-live.live-index c.loop-live-test.true inv.live in
     let next = both.0 in
     let h = g.M.Meter.facts c.loop-live.meter in
     let bound = c.args.rules.now.bound in

@@ -6,5 +6,5 @@ use Rattle.dvi_layout.proofs.progress.written_body.Goals as goal
 
 pub reuse-requires : goal.reuse-requires
 reuse-requires c =
-    plain_drawn (map view c.in_ok-drawn.drawn.items) (page_at c.args.counts.now c.args.at.h c.args.at.v c.args.box_node.now)
-    (c.in_ok-drawn.ensures c.args.counts.now)
+    plain_drawn (map view c.in-Ok.drawn.items) (page_at c.args.counts.now c.args.at.h c.args.at.v c.args.box_node.now)
+    (c.in-Ok.ensures.ok c.args.counts.now)

@@ -4,7 +4,7 @@ use Rattle.dvi_ops.specs.View.{view}
 use Rattle.dvi_ops.specs.declared.op.Op.{Op}
 use Rattle.dvi_ops.specs.declared.op.Op.TheVariants as ops
 use Rattle.move_core.specs.Passes.{Knows, flags_of}
-use Rattle.move_core.proofs.Flags.{in_front, pushed_flag}
+use Rattle.move_core.proofs.Flags.{in_front}
 use Rattle.move_core.proofs.passes.which_come_again.Goals as goal
 
 pub loop-i-preserved : goal.loop-i-preserved
@@ -17,8 +17,5 @@ loop-i-preserved c =
     let e = in_front all i (ops.SetChar (pos 0)) (omega arith) at in
     record {
       knows = subst (λ (is : List Instruction). Knows c.meet.new.self is) (sym e) (c.in_ok-again.ensures.knows rest c.loop-i.invariant.knows);
-      flags =
-          pushed_flag c.loop-i.flags.items c.push.new.self.items c.in_ok-again.again (view op) rest c.in_ok-push.ensures.items
-          (c.in_ok-again.ensures.again rest c.loop-i.invariant.knows) c.loop-i.invariant.flags
-          ∙ ap flags_of (sym e);
+      flags = c.in_ok-push_flag.ensures rest (c.in_ok-again.ensures.again rest c.loop-i.invariant.knows) c.loop-i.invariant.flags ∙ ap flags_of (sym e);
     }

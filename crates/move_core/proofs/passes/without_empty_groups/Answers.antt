@@ -1,9 +1,11 @@
-use Rattle.std.proofs.Common.{◌+◌, ◌∙◌, ap, sym, map, drop, reverse, List, pos}
+use Rattle.std.proofs.Common.{◌+◌, ◌∙◌, ap, sym, map, drop, reverse, List, pos, false}
 use Rattle.dvi_ops.specs.Instruction.{Instruction}
 use Rattle.dvi_ops.specs.View.{view}
+use Rattle.dvi_ops.specs.declared.op.Op.{Op}
 use Rattle.dvi_ops.specs.declared.op.Op.TheVariants as ops
-use Rattle.move_core.specs.Passes.{trimmed}
+use Rattle.move_core.specs.Passes.{trimmed, has_empty_group}
 use Rattle.move_core.proofs.Flags.{from_here}
+use Rattle.move_core.proofs.FullGroups.{kept_whole}
 use Rattle.move_core.proofs.passes.without_empty_groups.Goals as goal
 
 pub loop-op-preserved : goal.loop-op-preserved
@@ -12,3 +14,7 @@ loop-op-preserved c =
     ∙ (ap (λ (is : List Instruction). trimmed is (reverse (map view c.loop-op.kept.items)))
     (sym (from_here c.deref-op-items.result.now c.loop-op.op-index (ops.SetChar (pos 0)) c.loop-op-test.true))
     ∙ c.loop-op.invariant)
+
+pub returns-then-not-has_empty_group : goal.returns-then-not-has_empty_group
+returns-then-not-has_empty_group c =
+    sym (kept_whole (map view c.args.ops.items) (ap (λ (ops : List Op). has_empty_group false (map view ops)) (sym c.deref.ensures.value) ∙ (sym c.has_empty_group.ensures ∙ c.if-not-has_empty_group.true)))

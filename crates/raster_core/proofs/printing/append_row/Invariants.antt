@@ -1,8 +1,10 @@
-use Rattle.std.proofs.Common.{◌≡◌, ◌++◌, ◌*◌, min}
-use Rattle.raster_rows.specs.Words.{in_rows}
-use Rattle.raster_core.specs.RowPieces.{columns_text}
+use Rattle.std.proofs.Common.{◌≡◌, ◌++◌, ◌*◌, ℕ, Bool, length, min, take}
+use Rattle.raster_core.specs.RowPieces.{columns_text, digits}
 use Rattle.raster_core.proofs.printing.append_row.Given as goal
 
 abbrev pub invariant-loop-line : goal.invariant-loop-line
-invariant-loop-line l =
-    l.out.items ≡ l.fn.out.items ++ columns_text l.width (λ x. in_rows l.words l.stride x l.y) 0 (min l.width (70 * l.line))
+invariant-loop-line l = record {
+  written :
+      (black : ℕ → Bool) → l.row ≡ digits black 0 (length l.row) → l.out.items ≡ l.fn.out.items ++ columns_text l.width black 0 (min l.width (70 * l.line));
+  front : take (length l.fn.out.items) l.out.items ≡ l.fn.out.items;
+}

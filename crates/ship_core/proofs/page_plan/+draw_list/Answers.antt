@@ -8,15 +8,15 @@ use Rattle.scaled_core.specs.Dimensions.{fits}
 use Rattle.pack_core.specs.Cursors.{one_more}
 use Rattle.pack_core.proofs.Walks.{reached-more}
 use Rattle.ship_core.specs.Marks.{item_h, item_v, box_h, box_v, list_v, numbers_behind}
-use Rattle.std.specs.Prelude.{pos, List, ℕ}
+use Rattle.std.specs.Prelude.{pos, List, ℕ, true, false}
 use Rattle.dvi_ops.specs.Body.{Special}
 use Rattle.ship_core.specs.Drawing.{group, stroke, picture_after}
 use Rattle.ship_core.specs.Placing.{strokes_in, makes, leaves}
 use Rattle.ship_core.specs.declared.placing.Position.{Position}
 use Rattle.ship_core.proofs.Drawings.{Draws, then_draws, same_picture, same_drawing, grouped-none, grouped-some, drawn_group}
-use Rattle.ship_core.proofs.Places.{inside, picture_left, fits_more, picture_more, item_fits, item_strokes, inner_begin, inner_numbers, inner_picture, inner_depth, leaf_picture, special_picture, first_of_and, last_of_and, rest_of_and, no_rest, few_passed, reached-none}
+use Rattle.ship_core.proofs.Places.{inside, numbers_inside, picture_left, fits_more, picture_more, item_fits, item_strokes, inner_begin, inner_numbers, inner_picture, inner_depth, leaf_numbers, leaf_picture, no_numbers, special_picture, rest_of_and, first_false, second_false, few_passed, reached-none}
 use Rattle.ship_core.proofs.page_plan.+draw_list.Goals as goal
-use Rattle.ship_core.proofs.page_plan.+draw_list.Goals.{in-Box+then-not-is_empty+in_ok-before-in-Box+in_ok-draw_list-in-Box+in_ok-close-in-Box, in-Box+else-not-is_empty, in-Special+in_ok-draw_special-in-Special, in_default-node}
+use Rattle.ship_core.proofs.page_plan.+draw_list.Goals.{in-Box+then-not-is_empty+in_ok-before-in-Box+in_ok-fit-in-Box+else-not-fit+in_ok-close-in-Box, in-Box+else-not-is_empty, in-Special+in_ok-draw_special-in-Special, in_default-node}
 
 pub loop-node-init : goal.loop-node-init
 loop-node-init t c =
@@ -28,7 +28,7 @@ loop-node-init t c =
     record {
       cursor = c.new-walk.ensures.cursor ∙ reached-none b.kind b.setting;
       here = c.new-walk.ensures.here;
-      left = ap (λ items. list_all fits (numbers_behind b h v [] items)) whole ∙ c.requires;
+      left = refl;
       makes = refl {a = makes b.kind c.args.drawing.now (picture_after b h v [] items)};
       leaves = refl {a = leaves c.args.drawing.now (picture_after b h v [] items)};
     }
@@ -38,8 +38,14 @@ step-requires-clause-few t c =
     few_passed c.args.box_node.now.kind c.args.box_node.now.setting c.as_slice-node-items.result.now c.loop-node.node-index c.loop-node.walk.cursor
     c.loop-node.invariant.cursor c.loop-node-test.true (rw c.as_slice-node-items.ensures.nodes c.as_slice-node-items.ensures.short)
 
-pub unreachable-requires : goal.unreachable-requires
-unreachable-requires t c =
+pub draw_list-requires : goal.draw_list-requires
+draw_list-requires t c =
+    let deep = inner_depth c.args.box_node.now.list c.as_slice-node-items.result.now c.loop-node.node-index c.node-item.result c.in-Box.field-0 c.in-Box.inner
+    c.loop-node-test.true c.node-item.is c.as_slice-node-items.ensures.nodes c.in-Box.is in
+    (omega (arith, deep, c.decreases), tt)
+
+pub returns-in_default-clause-fits : goal.returns-in_default-clause-fits
+returns-in_default-clause-fits t c =
     let b = c.args.box_node.now in
     let h = c.args.begin.now.h in
     let v = c.args.begin.now.v in
@@ -47,23 +53,29 @@ unreachable-requires t c =
     let i = c.loop-node.node-index in
     let x = c.node-item.result in
     let here = item_fits b h v (take i xs) x c.loop-node.walk.cursor _ c.loop-node.invariant.cursor c.in_default.ensures.fits in
-    no_rest _ _ here (sym (fits_more b h v xs i x c.loop-node-test.true c.node-item.is) ∙ c.loop-node.invariant.left)
+    let whole : items_of xs ≡ b.list = ap items_of c.as_slice-node-items.ensures.nodes ∙ items_of-nodes_of b.list in
+    sym (first_false _ _ here)
+    ∙ (sym (fits_more b h v xs i x c.loop-node-test.true c.node-item.is)
+    ∙ (c.loop-node.invariant.left ∙ ap (λ items. list_all fits (numbers_behind b h v [] items)) whole))
 
-pub draw_list-requires : goal.draw_list-requires
-draw_list-requires t c =
+pub returns-then-not-fit-clause-fits : goal.returns-then-not-fit-clause-fits
+returns-then-not-fit-clause-fits t c =
     let b = c.args.box_node.now in
     let h = c.args.begin.now.h in
     let v = c.args.begin.now.v in
     let xs = c.as_slice-node-items.result.now in
     let i = c.loop-node.node-index in
     let x = c.node-item.result in
-    let deep = inner_depth b.list xs i x c.in-Box.field-0 c.in-Box.inner c.loop-node-test.true c.node-item.is c.as_slice-node-items.ensures.nodes c.in-Box.is in
     let here = item_fits b h v (take i xs) x c.loop-node.walk.cursor _ c.loop-node.invariant.cursor c.in-Some.ensures.fits in
-    let begin = inner_begin b c.in-Box.inner h v (take i xs) x c.in-Box.field-0 c.loop-node.walk.cursor c.in-Some.seen.at.h c.in-Some.seen.at.v c.begin_of.result.h c.begin_of.result.v
+    let begin = inner_begin b c.in-Box.inner h v (take i xs) x c.in-Box.field-0 c.loop-node.walk.cursor c.in-Some.placed.at.h c.in-Some.placed.at.v c.begin_of.result.h c.begin_of.result.v
     c.loop-node.invariant.cursor c.in-Box.is c.in-Some.ensures.h c.in-Some.ensures.v (c.begin_of.ensures.h ∙ c.point.ensures.h) (c.begin_of.ensures.v ∙ ap (list_v c.in-Box.inner.kind c.in-Box.inner.height) c.point.ensures.v) in
     let inner = inner_numbers b c.in-Box.inner (item_h b h (take i xs)) (item_v b v (take i xs)) c.in-Box.field-0 c.begin_of.result.h c.begin_of.result.v x c.in-Box.is begin in
-    let left = rest_of_and _ _ _ here (sym (fits_more b h v xs i x c.loop-node-test.true c.node-item.is) ∙ c.loop-node.invariant.left) in
-    (omega (arith, deep, c.decreases), sym (ap (list_all fits) inner) ∙ first_of_and _ _ left)
+    let none : false ≡ list_all fits (numbers_inside b (item_h b h (take i xs)) (item_v b v (take i xs)) x) =
+    sym c.if-not-fit.true ∙ (c.in_ok-fit-in-Box.ensures.fits ∙ sym (ap (list_all fits) inner)) in
+    let whole : items_of xs ≡ b.list = ap items_of c.as_slice-node-items.ensures.nodes ∙ items_of-nodes_of b.list in
+    sym (second_false _ _ _ none)
+    ∙ (sym (fits_more b h v xs i x c.loop-node-test.true c.node-item.is)
+    ∙ (c.loop-node.invariant.left ∙ ap (λ items. list_all fits (numbers_behind b h v [] items)) whole))
 
 pub loop-node-preserved : goal.loop-node-preserved
 loop-node-preserved t c =
@@ -80,65 +92,88 @@ loop-node-preserved t c =
     let first = c.loop-node.drawing in
     let marked = c.draw.new.self in
     let here = item_fits b h v (take i xs) x c.loop-node.walk.cursor _ c.loop-node.invariant.cursor c.in-Some.ensures.fits in
-    let left = rest_of_and _ _ _ here (sym (fits_more b h v xs i x c.loop-node-test.true c.node-item.is) ∙ c.loop-node.invariant.left) in
     let mark = item_strokes b h v (take i xs) x c.loop-node.walk.cursor own _ c.loop-node.invariant.cursor (c.in-Some.ensures.mark own) in
     let drawn : Draws b.kind first (picture_left b h v xs i) marked own =
-    then_draws b.kind first first marked (picture_left b h v xs i) (strokes_in c.in-Some.seen.mark own) own
+    then_draws b.kind first first marked (picture_left b h v xs i) (strokes_in c.in-Some.placed.mark own) own
     (same_picture b.kind first _ _ (picture_more b h v xs i x c.loop-node-test.true c.node-item.is ∙ sym mark))
     (c.in_ok-draw.ensures.ops own, c.in_ok-draw.ensures.font own) in
-    let inner : Draws b.kind marked own c.match-node.drawing later = elim c.match-node.branch [
-      | in-Box+then-not-is_empty+in_ok-before-in-Box+in_ok-draw_list-in-Box+in_ok-close-in-Box w ↦
+    let within : (true ≡ list_all fits (numbers_inside b x_h x_v x)) × Draws b.kind marked own c.match-node.drawing later = elim c.match-node.branch [
+      | in-Box+then-not-is_empty+in_ok-before-in-Box+in_ok-fit-in-Box+else-not-fit+in_ok-close-in-Box w ↦
           let box = w.in-Box.inner in
           let start = w.begin_of.result in
-          let begin = inner_begin b box h v (take i xs) x w.in-Box.field-0 c.loop-node.walk.cursor c.in-Some.seen.at.h c.in-Some.seen.at.v start.h start.v
+          let begin = inner_begin b box h v (take i xs) x w.in-Box.field-0 c.loop-node.walk.cursor c.in-Some.placed.at.h c.in-Some.placed.at.v start.h start.v
           c.loop-node.invariant.cursor w.in-Box.is c.in-Some.ensures.h c.in-Some.ensures.v (w.begin_of.ensures.h ∙ w.point.ensures.h) (w.begin_of.ensures.v ∙ ap (list_v w.in-Box.inner.kind w.in-Box.inner.height) w.point.ensures.v) in
           let picture = picture_after box start.h start.v [] box.list in
           let grouped = inner_picture b box x_h x_v w.in-Box.field-0 start.h start.v x later w.in-Box.is begin
           ∙ grouped-some box.list box.kind picture later (sym w.is_empty.ensures ∙ w.if-not-is_empty.true) in
+          let numbers = inner_numbers b box x_h x_v w.in-Box.field-0 start.h start.v x w.in-Box.is begin in
+          let fit : w.in_ok-fit-in-Box.fit ≡ true = w.if-not-fit.false in
           let before = w.in_ok-before-in-Box.ensures.place in
-          let framed = group box.kind picture later in
-          then_draws b.kind marked marked c.match-node.drawing own framed later (same_picture b.kind marked own framed grouped)
-          (then_draws b.kind marked w.close.new.self c.match-node.drawing framed later later
-          (drawn_group b.kind box.kind marked w.open.new.self w.draw_list.new.drawing w.close.new.self picture later
-          w.in_ok-before-in-Box.ensures.ops w.in_ok-before-in-Box.ensures.h w.in_ok-before-in-Box.ensures.v w.in_ok-before-in-Box.ensures.font
-          w.in_ok-draw_list-in-Box.ensures.ops w.in_ok-draw_list-in-Box.ensures.font w.in_ok-close-in-Box.ensures.ops
-          (w.in_ok-close-in-Box.ensures.h ∙ ap (λ (p : Position). p.h) before) (w.in_ok-close-in-Box.ensures.v ∙ ap (λ (p : Position). p.v) before) w.in_ok-close-in-Box.ensures.font)
-          (same_drawing b.kind w.close.new.self c.match-node.drawing later w.drawing-is))
+          let framed = group box.kind picture later in (
+            sym fit ∙ (w.in_ok-fit-in-Box.ensures.fits ∙ sym (ap (list_all fits) numbers)),
+            then_draws b.kind marked marked c.match-node.drawing own framed later (same_picture b.kind marked own framed grouped)
+                (then_draws b.kind marked w.close.new.self c.match-node.drawing framed later later
+                (drawn_group b.kind box.kind marked w.open.new.self w.draw_list.new.drawing w.close.new.self picture later
+                w.in_ok-before-in-Box.ensures.ops w.in_ok-before-in-Box.ensures.h w.in_ok-before-in-Box.ensures.v w.in_ok-before-in-Box.ensures.font
+                (w.in_ok-fit-in-Box.ensures.ops fit) (w.in_ok-fit-in-Box.ensures.font fit) w.in_ok-close-in-Box.ensures.ops
+                (w.in_ok-close-in-Box.ensures.h ∙ ap (λ (p : Position). p.h) before) (w.in_ok-close-in-Box.ensures.v ∙ ap (λ (p : Position). p.v) before) w.in_ok-close-in-Box.ensures.font)
+                (same_drawing b.kind w.close.new.self c.match-node.drawing later w.drawing-is)),
+          )
       | in-Box+else-not-is_empty w ↦
           let box = w.in-Box.inner in
           let at_h = box_h b.kind x_h w.in-Box.field-0 in
           let at_v = list_v box.kind box.height (box_v b.kind x_v w.in-Box.field-0 box.height) in
           let none = inner_picture b box x_h x_v w.in-Box.field-0 at_h at_v x later w.in-Box.is (refl, refl)
           ∙ grouped-none box.list box.kind (picture_after box at_h at_v [] box.list) later (sym w.is_empty.ensures ∙ w.if-not-is_empty.false) in
-          then_draws b.kind marked marked c.match-node.drawing own later later (same_picture b.kind marked own later none)
-          (same_drawing b.kind marked c.match-node.drawing later w.drawing-is)
+          let numbers = inner_numbers b box x_h x_v w.in-Box.field-0 at_h at_v x w.in-Box.is (refl, refl) in
+          let fit = no_numbers box at_h at_v box.list (sym w.is_empty.ensures ∙ w.if-not-is_empty.false) in (
+            sym fit ∙ sym (ap (list_all fits) numbers),
+            then_draws b.kind marked marked c.match-node.drawing own later later (same_picture b.kind marked own later none)
+                (same_drawing b.kind marked c.match-node.drawing later w.drawing-is),
+          )
       | in-Special+in_ok-draw_special-in-Special w ↦
-          let found = special_picture b h v (take i xs) x w.in-Special.text c.loop-node.walk.cursor c.in-Some.seen.at.h c.in-Some.seen.at.v later
+          let found = special_picture b h v (take i xs) x w.in-Special.text c.loop-node.walk.cursor c.in-Some.placed.at.h c.in-Some.placed.at.v later
           c.loop-node.invariant.cursor w.in-Special.is c.in-Some.ensures.h c.in-Some.ensures.v
-          ∙ ap (λ (text : List ℕ). stroke (Special c.in-Some.seen.at.h c.in-Some.seen.at.v text) (pos 0) later) (sym w.as_bytes.ensures.bytes) in
-          let drawn_text = stroke (Special c.in-Some.seen.at.h c.in-Some.seen.at.v w.as_bytes.result.now) (pos 0) later in
-          then_draws b.kind marked marked c.match-node.drawing own drawn_text later (same_picture b.kind marked own drawn_text found)
-          (then_draws b.kind marked w.draw_special.new.self c.match-node.drawing drawn_text later later
-          (w.in_ok-draw_special-in-Special.ensures.ops b.kind later, w.in_ok-draw_special-in-Special.ensures.font later)
-          (same_drawing b.kind w.draw_special.new.self c.match-node.drawing later w.drawing-is))
-      | in_default-node w ↦
-          then_draws b.kind marked marked c.match-node.drawing own later later
-          (same_picture b.kind marked own later (leaf_picture b x_h x_v x later w.in_default-node.not-Box w.in_default-node.not-Special))
-          (same_drawing b.kind marked c.match-node.drawing later w.drawing-is)
+          ∙ ap (λ (text : List ℕ). stroke (Special c.in-Some.placed.at.h c.in-Some.placed.at.v text) (pos 0) later) (sym w.as_bytes.ensures.bytes) in
+          let drawn_text = stroke (Special c.in-Some.placed.at.h c.in-Some.placed.at.v w.as_bytes.result.now) (pos 0) later in (
+            sym (ap (λ y. list_all fits (numbers_inside b x_h x_v y)) w.in-Special.is),
+            then_draws b.kind marked marked c.match-node.drawing own drawn_text later (same_picture b.kind marked own drawn_text found)
+                (then_draws b.kind marked w.draw_special.new.self c.match-node.drawing drawn_text later later
+                (w.in_ok-draw_special-in-Special.ensures.ops b.kind later, w.in_ok-draw_special-in-Special.ensures.font later)
+                (same_drawing b.kind w.draw_special.new.self c.match-node.drawing later w.drawing-is)),
+          )
+      | in_default-node w ↦ (
+        sym (ap (list_all fits) (leaf_numbers b x_h x_v x w.in_default-node.not-Box)),
+        then_draws b.kind marked marked c.match-node.drawing own later later
+            (same_picture b.kind marked own later (leaf_picture b x_h x_v x later w.in_default-node.not-Box w.in_default-node.not-Special))
+            (same_drawing b.kind marked c.match-node.drawing later w.drawing-is),
+      )
     ] in
-    let all = then_draws b.kind first marked c.match-node.drawing (picture_left b h v xs i) own later drawn inner in
+    let all = then_draws b.kind first marked c.match-node.drawing (picture_left b h v xs i) own later drawn within.1 in
     record {
       cursor =
           c.in-Some.ensures.cursor
           ∙ (ap (λ r. one_more b.kind b.setting r x) c.loop-node.invariant.cursor ∙ reached-more b.kind b.setting xs i x c.loop-node-test.true c.node-item.is);
       here = c.in-Some.ensures.here;
-      left = last_of_and _ _ left;
+      left = rest_of_and _ _ _ within.0
+          (rest_of_and _ _ _ here (sym (fits_more b h v xs i x c.loop-node-test.true c.node-item.is) ∙ c.loop-node.invariant.left));
       makes = sym all.0 ∙ c.loop-node.invariant.makes;
       leaves = sym all.1 ∙ c.loop-node.invariant.leaves;
     }
 
+pub returns-clause-fits : goal.returns-clause-fits
+returns-clause-fits t c =
+    let b = c.args.box_node.now in
+    let h = c.args.begin.now.h in
+    let v = c.args.begin.now.v in
+    let xs = c.as_slice-node-items.result.now in
+    let i = c.loop-node.node-index in
+    let whole : items_of xs ≡ b.list = ap items_of c.as_slice-node-items.ensures.nodes ∙ items_of-nodes_of b.list in
+    sym (ap (λ after. list_all fits (numbers_behind b h v (take i xs) (items_of after))) (drop_all i xs c.loop-node-test.false))
+    ∙ (c.loop-node.invariant.left ∙ ap (λ items. list_all fits (numbers_behind b h v [] items)) whole)
+
 pub returns-clause-ops : goal.returns-clause-ops
-returns-clause-ops t c =
+returns-clause-ops t c all =
     let b = c.args.box_node.now in
     let h = c.args.begin.now.h in
     let v = c.args.begin.now.v in
@@ -150,7 +185,7 @@ returns-clause-ops t c =
     ∙ (sym done ∙ (c.loop-node.invariant.makes ∙ ap (λ items. makes b.kind c.args.drawing.now (picture_after b h v [] items)) whole))
 
 pub returns-clause-font : goal.returns-clause-font
-returns-clause-font t c =
+returns-clause-font t c all =
     let b = c.args.box_node.now in
     let h = c.args.begin.now.h in
     let v = c.args.begin.now.v in

@@ -1,5 +1,4 @@
 use Rattle.std.proofs.Common.{◌≡◌, [], take, drop}
-use Rattle.std.specs.Prelude.{true}
 use Rattle.std.specs.List.{list_all}
 use Rattle.node_core.specs.Nodes.{items_of}
 use Rattle.scaled_core.specs.Dimensions.{fits}
@@ -16,7 +15,7 @@ abbrev pub invariant-loop-node : goal.invariant-loop-node
 invariant-loop-node l = record {
   cursor : l.walk.cursor ≡ reached l.box_node.kind l.box_node.setting (take l.node-index l.node-items);
   here : l.walk.here ≡ point_in l.box_node l.begin.h l.begin.v (place_at l.box_node.setting l.walk.cursor);
-  left : list_all fits (numbers_behind l.box_node l.begin.h l.begin.v (take l.node-index l.node-items) (items_of (drop l.node-index l.node-items))) ≡ true;
+  left : list_all fits (numbers_behind l.box_node l.begin.h l.begin.v (take l.node-index l.node-items) (items_of (drop l.node-index l.node-items))) ≡ list_all fits (numbers_behind l.box_node l.begin.h l.begin.v [] (items_of l.node-items));
   makes : makes l.box_node.kind l.drawing (picture_after l.box_node l.begin.h l.begin.v (take l.node-index l.node-items) (items_of (drop l.node-index l.node-items))) ≡ makes l.box_node.kind l.initial.drawing (picture_after l.box_node l.begin.h l.begin.v [] (items_of l.node-items));
   leaves : leaves l.drawing (picture_after l.box_node l.begin.h l.begin.v (take l.node-index l.node-items) (items_of (drop l.node-index l.node-items))) ≡ leaves l.initial.drawing (picture_after l.box_node l.begin.h l.begin.v [] (items_of l.node-items));
 }

@@ -1,4 +1,5 @@
-use Rattle.std.proofs.Common.{length, map, ap, ap₂, ◌∙◌, arith}
+use Rattle.std.proofs.Common.{refl, length, map, ap, ap₂, ◌∙◌, arith}
+use Rattle.std.proofs.lemmas.Result.{err_from_is_err_and}
 use Rattle.dvi_ops.specs.View.{view}
 use Rattle.ship_core.specs.Pages.{page_at}
 use Rattle.dvi_layout.specs.Sheets.{fresh_slots}
@@ -10,12 +11,12 @@ use Rattle.dvi_layout.proofs.progress.Progress.next_page.Goals as goal
 pub lay_out-requires : goal.lay_out-requires
 lay_out-requires c =
     let page = page_at c.args.counts.now c.args.at.h c.args.at.v c.args.box_node.now in
-    rw (c.deref-3.ensures.value, c.in_ok-body.ensures) (spelled_written page (next_short c.args.fonts.now c.args.self.now page c.requires.room))
+    rw (c.deref-3.ensures.value, c.in_ok-body.ensures.ok) (spelled_written page (next_short c.args.fonts.now c.args.self.now page c.requires.room))
 
 pub keep_size-requires-clause-few : goal.keep_size-requires-clause-few
 keep_size-requires-clause-few c =
     let page = page_at c.args.counts.now c.args.at.h c.args.at.v c.args.box_node.now in
-    let body = ap (map view) c.deref.ensures.value ∙ c.in_ok-body.ensures in
+    let body = ap (map view) c.deref.ensures.value ∙ c.in_ok-body.ensures.ok in
     let few = next_few c.args.fonts.now c.args.self.now page c.deref-4.result.now c.requires.room
     (c.deref-4.ensures.value ∙ (c.in_ok-fresh.ensures ∙ ap₂ (fresh_slots c.args.fonts.now) (c.as_slice.ensures ∙ ap (λ (s : SoFar). s.defined) c.self.view_is) body)) in
     omega (arith, few, ap (λ (s : SoFar). length s.defined) c.copied-behind.ensures)
@@ -23,8 +24,8 @@ keep_size-requires-clause-few c =
 pub keep_size-requires-clause-room : goal.keep_size-requires-clause-room
 keep_size-requires-clause-room c =
     let page = page_at c.args.counts.now c.args.at.h c.args.at.v c.args.box_node.now in
-    let body = ap (map view) c.deref.ensures.value ∙ c.in_ok-body.ensures in
-    let again = ap (map view) c.deref-3.ensures.value ∙ c.in_ok-body.ensures in
+    let body = ap (map view) c.deref.ensures.value ∙ c.in_ok-body.ensures.ok in
+    let again = ap (map view) c.deref-3.ensures.value ∙ c.in_ok-body.ensures.ok in
     let fresh = c.deref-2.ensures.value ∙ (c.in_ok-fresh.ensures ∙ ap₂ (fresh_slots c.args.fonts.now) (c.as_slice.ensures ∙ ap (λ (s : SoFar). s.defined) c.self.view_is) body) in
     omega (
       arith,
@@ -32,3 +33,13 @@ keep_size-requires-clause-room c =
       c.len.ensures,
       ap (λ (s : SoFar). s.size) c.copied-behind.ensures,
     )
+
+pub returns-in_err-fresh-clause-err : goal.returns-in_err-fresh-clause-err
+returns-in_err-fresh-clause-err c =
+    let p = err_from_is_err_and c.from_residual-in_err-fresh.result c.from_residual-in_err-fresh.ensures.1 in
+    rw (p.1, p.2, c.in_ok-body.ensures.fits) refl
+
+pub returns-in_err-bytes-clause-err : goal.returns-in_err-bytes-clause-err
+returns-in_err-bytes-clause-err c =
+    let p = err_from_is_err_and c.from_residual-in_err-bytes.result c.from_residual-in_err-bytes.ensures.1 in
+    rw (p.1, p.2, c.in_ok-body.ensures.fits) refl

@@ -13,14 +13,14 @@ pub place_item-requires : goal.place_item-requires
 place_item-requires c =
     let b = c.args.box_node.now in
     let here = sym c.requires.here ∙ c.in_ok-at.was in
-    let there = sym c.place_behind-self.ensures ∙ c.in_ok-next.was in
+    let there = sym c.go_past.ensures.here ∙ c.in_ok-next.was in
     reaches b c.args.begin.now.h c.args.begin.now.v c.args.self.now.cursor c.in_ok-at.at c.in_ok-next.next c.args.node.now here there
 
 pub returns-in_err-next-clause-fits : goal.returns-in_err-next-clause-fits
 returns-in_err-next-clause-fits c =
     let b = c.args.box_node.now in
     let from = c.args.self.now.cursor in
-    let there = sym c.place_behind-self.ensures ∙ c.in_err-next.was in
+    let there = sym c.go_past.ensures.here ∙ c.in_err-next.was in
     ap is_some c.from_residual-in_err-next.ensures
     ∙ sym (between-none b c.args.begin.now.h c.args.begin.now.v (place_at b.setting from) (place_at b.setting (one_more b.kind b.setting from c.args.node.now)) c.args.node.now there)
 
@@ -29,7 +29,7 @@ returns-clause-fits c =
     let b = c.args.box_node.now in
     let from = c.args.self.now.cursor in
     let here = sym c.requires.here ∙ c.in_ok-at.was in
-    let there = sym c.place_behind-self.ensures ∙ c.in_ok-next.was in
+    let there = sym c.go_past.ensures.here ∙ c.in_ok-next.was in
     c.place_item.ensures.fits
     ∙ sym (ap (list_all fits) (between-points b c.args.begin.now.h c.args.begin.now.v (place_at b.setting from) (place_at b.setting (one_more b.kind b.setting from c.args.node.now)) c.in_ok-at.at c.in_ok-next.next c.args.node.now here there))
 

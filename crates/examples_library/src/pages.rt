@@ -1,0 +1,33 @@
+//! A page is made by a job.
+
+use job_core::{Answer, BoxForm, Command, Job, Memory, Opening, Refusal, Register, Target};
+use node_core::{Rule, RuleSize};
+use scaled_core::Dimen;
+use std::alloc::Global;
+
+/// Opens a list whose box goes into the first register: an hbox of its natural width.
+pub fn hbox() -> Command {
+    Command::Open(Opening {
+        form: BoxForm::Hbox, // or Vbox, Vtop
+        target: Target::Natural, // or To(size), Spread(more)
+        into: Some(Register::FIRST), // or None: its box goes into the list around it
+    })
+}
+
+/// The DVI file of a page with one rule as wide and high as a point, and the answer to the command that packed its box.
+pub fn one_rule_page(alloc: Global, point: Dimen) -> Result<(Memory, Answer), Refusal> {
+    let Ok(mut job) = Job::new(alloc, Memory::new(alloc), &[]) else {
+        return Err(Refusal::OutOfMemory); // the device came back in the Err
+    };
+    let rule = Rule {
+        width: RuleSize::Fixed(point),
+        height: RuleSize::Fixed(point),
+        depth: RuleSize::Fixed(Dimen::ZERO),
+    };
+    job.step(&hbox())?; // an Err: refused, and nothing has changed
+    job.step(&Command::Rule(rule))?;
+    let packed = job.step(&Command::End)?; // Answer::Packed(sizes, badness)
+    job.step(&Command::Ship(Register::FIRST))?; // Answer::Shipped(1): the page has gone to the device
+    job.finish()?; // the end of the file goes, too
+    Ok((job.into_device(), packed)) // the bytes() of the device are the file
+}

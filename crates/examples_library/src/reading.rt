@@ -1,0 +1,27 @@
+//! A file is listed, and its first page painted.
+
+use dvi_read::{Dvi, DviFault};
+use raster_core::Bitmap;
+use std::alloc::Global;
+use tfm_core::FontFile;
+
+/// The listing of a DVI file, and its first page as a bitmap of 850 by 1,100 pixels in plain PBM; without a page a white one.
+pub fn shown(
+    alloc: Global,
+    bytes: &[u8],
+    files: &[FontFile],
+) -> Result<(Vec<u8>, Vec<u8>), DviFault> {
+    let dvi = Dvi::open(alloc, bytes, files)?; // the whole file is checked
+    let mut text = Vec::new(alloc);
+    let mut picture = Vec::new(alloc);
+    let Ok(mut bitmap) = Bitmap::new(alloc, 850, 1100) else {
+        return Err(DviFault::OutOfMemory); // the size is in its range
+    };
+    if dvi.pages() > 0 {
+        bitmap.paint(dvi.page(0), dvi.units(), 100);
+    }
+    if dvi.listing(&mut text).is_err() || bitmap.write_pbm(&mut picture).is_err() {
+        return Err(DviFault::OutOfMemory);
+    }
+    Ok((text, picture))
+}

@@ -1,0 +1,40 @@
+//! A job is run again after its device has failed.
+
+use job_core::{Command, Device, FontFile, Fuse, Job, Rest, finish_rest};
+use std::alloc::Global;
+
+/// Runs commands again on a device that took the bytes `sent` of their file before it failed: whether the end succeeded, and the device.
+fn resumed<D: Device>(
+    alloc: Global,
+    commands: &[Command],
+    files: &[FontFile],
+    device: D,
+    sent: Vec<u8>,
+) -> (bool, D) {
+    if device.failures() == u64::MAX {
+        return (false, device); // it can count no failure more
+    }
+    let mut job = match Job::new(alloc, Rest::new(device, sent), files) {
+        Ok(job) => job,
+        Err(rest) => return (false, rest.into_device()), // out of memory
+    };
+    let mut replies = Vec::new(alloc);
+    if job.run(commands, &mut replies).is_err() {
+        return (false, job.into_device().into_device()); // out of memory
+    }
+    let (end, device) = finish_rest(job);
+    (end.is_ok(), device)
+}
+
+/// Runs commands on a device that takes at most 512 bytes a call and fails at one call, and again if it failed.
+pub fn completed(alloc: Global, commands: &[Command], fails_at: u64) -> Option<(bool, Fuse)> {
+    let mut job = Job::new(alloc, Fuse::new(alloc, 512, fails_at), &[]).ok()?;
+    let mut replies = Vec::new(alloc);
+    job.run(commands, &mut replies).ok()?;
+    if job.finish().is_ok() {
+        return Some((true, job.into_device()));
+    }
+    let device = job.into_device();
+    let sent = Vec::from_slice(alloc, device.bytes()).ok()?; // a beginning of the file
+    Some(resumed(alloc, commands, &[], device, sent))
+}

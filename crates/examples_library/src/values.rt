@@ -1,0 +1,84 @@
+//! What the examples are run on.
+
+ghost use Rattle.std.specs.Prelude.{IfOk};
+ghost use Rattle.dvi_layout.specs.Fonts.{Slots};
+ghost use Rattle.dvi_layout.specs.Shippable.{IsShippable};
+
+use crate::pages::hbox;
+use anyhow::{Context, Result};
+use job_core::{Command, FontName, Register};
+use node_core::{BoxNode, Glue, Kind, Node, NodeList, Params, Rule, RuleSize, Setting};
+use scaled_core::Dimen;
+use std::alloc::{AllocError, Global};
+
+/// The script of the page with one rule.
+pub const ONE_RULE: &str = "hbox into 0\nrule 1pt 1pt 0pt\nend\nship 0\n";
+
+/// The script of a page with one glyph.
+pub const ONE_GLYPH: &str = "font 0 tiny\nuse 0\nhbox into 0\ntext c\nend\nship 0\n";
+
+/// The name of the font.
+pub fn tiny_name(alloc: Global) -> Result<FontName> {
+    let name = FontName::try_new(Vec::from_slice(alloc, b"tiny")?);
+    name.context("the name has a byte")
+}
+
+/// A rule of this width, 1pt high.
+fn rule(width: Dimen) -> Rule {
+    Rule {
+        width: RuleSize::Fixed(width),
+        height: RuleSize::Fixed(Dimen::points(1)),
+        depth: RuleSize::Fixed(Dimen::ZERO),
+    }
+}
+
+/// The commands of the page with one rule.
+pub fn one_rule() -> [Command; 4] {
+    [
+        hbox(),
+        Command::Rule(rule(Dimen::points(1))),
+        Command::End,
+        Command::Ship(Register::FIRST),
+    ]
+}
+
+/// A horizontal box of a rule 1pt wide and high.
+pub fn box_of_a_rule(alloc: Global) -> Result<BoxNode, AllocError>
+    ensures { IfOk result (λ box_node. (fonts : Slots) → IsShippable fonts box_node) }
+{
+    let rule = Node::Rule(Rule {
+        width: RuleSize::Fixed(Dimen::points(1)),
+        height: RuleSize::Fixed(Dimen::points(1)),
+        depth: RuleSize::Fixed(Dimen::ZERO),
+    });
+    Ok(BoxNode {
+        kind: Kind::Horizontal,
+        width: Dimen::points(1),
+        height: Dimen::points(1),
+        depth: Dimen::ZERO,
+        setting: Setting::Natural,
+        list: NodeList::from_vec(Vec::from_array(alloc, [rule])?),
+    })
+}
+
+/// Parameters with lines of 40pt.
+pub fn narrow() -> Params {
+    let mut params = Params::first();
+    params.hsize = Dimen::points(40);
+    params
+}
+
+/// A finished list of two rules 40pt wide, with glue of no width between them.
+pub fn two_rules(alloc: Global, params: &Params) -> Result<Vec<Node>, AllocError> {
+    let mut between: Glue = params.par_fill_skip;
+    between.stretch = Dimen::ZERO;
+    let wide = Dimen::points(40);
+    let nodes = [
+        Node::Rule(rule(wide)),
+        Node::Glue(between),
+        Node::Rule(rule(wide)),
+        Node::Penalty(10_000),
+        Node::Glue(params.par_fill_skip),
+    ];
+    Ok(Vec::from_array(alloc, nodes)?)
+}

@@ -1,0 +1,48 @@
+-- Instructions without empty groups, which stay as they are.
+use Rattle.std.proofs.Common.{◌≡◌, ◌∙◌, ◌++◌, [], ◌∷◌, List, Bool, true, false, ◌||◌, refl, ap, sym, reverse, append-nil, append_assoc}
+use Rattle.std.proofs.lemmas.List.{reverse-append}
+use Rattle.dvi_ops.specs.Instruction.{Instruction, Push, Pop}
+use Rattle.move_core.specs.Passes.{trimmed, is_push, ends_empty_group, has_empty_group}
+
+first_true : (a b c : Bool) → a ≡ true → (a || b) ≡ c → true ≡ c
+first_true true b c is all = all
+first_true false b c is all = absurd (cc)
+
+first_false : (a b c : Bool) → a ≡ false → (a || b) ≡ c → b ≡ c
+first_false false b c is all = all
+first_false true b c is all = absurd (cc)
+
+neither : (a b : Bool) → (a || b) ≡ false → a ≡ false
+neither false b none = refl
+neither true b none = none
+
+-- An empty group ends at an instruction, or behind it.
+pub ends_here : (pushed : Bool) (i : Instruction) (rest : List Instruction) (all : Bool) → ends_empty_group pushed i ≡ true → has_empty_group pushed (i ∷ rest) ≡ all → true ≡ all
+ends_here pushed i rest all here is = first_true (ends_empty_group pushed i) (has_empty_group (is_push i) rest) all here is
+
+pub ends_later : (pushed : Bool) (i : Instruction) (rest : List Instruction) (all : Bool) → ends_empty_group pushed i ≡ false → has_empty_group pushed (i ∷ rest) ≡ all
+    → has_empty_group (is_push i) rest ≡ all
+ends_later pushed i rest all here is = first_false (ends_empty_group pushed i) (has_empty_group (is_push i) rest) all here is
+
+-- Whether a push was kept last.
+abbrev is_after_push : (out : List Instruction) → Bool
+is_after_push [] = false
+is_after_push (i ∷ out) = is_push i
+
+kept_more : (i : Instruction) (rest out : List Instruction) → ends_empty_group (is_after_push out) i ≡ false → trimmed (i ∷ rest) out ≡ trimmed rest (i ∷ out)
+kept_more Pop rest (Push ∷ out) none = absurd (cc)
+kept_more Pop rest [] none = refl
+kept_more Pop rest (last ∷ out) none = refl
+kept_more i rest out none = refl
+
+kept_all : (is out : List Instruction) → has_empty_group (is_after_push out) is ≡ false → trimmed is out ≡ reverse out ++ is
+kept_all [] out none = sym (append-nil (reverse out))
+kept_all (i ∷ rest) out none =
+    let here = neither (ends_empty_group (is_after_push out) i) (has_empty_group (is_push i) rest) none in
+    kept_more i rest out here
+    ∙ (kept_all rest (i ∷ out) (ends_later (is_after_push out) i rest false here none)
+    ∙ (ap (λ (front : List Instruction). front ++ rest) (reverse-append (i ∷ []) out) ∙ append_assoc (reverse out) (i ∷ []) rest))
+
+-- They stay where there is none.
+pub kept_whole : (is : List Instruction) → has_empty_group false is ≡ false → trimmed is [] ≡ is
+kept_whole is none = kept_all is [] none

@@ -1,0 +1,165 @@
+"""The script `install`. Built programs are copied with --program; without it a stand-in for `rt` is on the path, which writes down how it is called: nothing is proved."""
+import os
+import signal
+import subprocess
+import tempfile
+import time
+from functools import partial
+
+TITLE = "install: what it puts in place, and the crates that it has proved"
+TRIES = False
+LIMIT = 60
+MODES = {"bin/boxglue": 0o755, "share/man/man1/boxglue.1": 0o644, "share/bash-completion/completions/boxglue": 0o644,
+         "share/zsh/site-functions/_boxglue": 0o644, "share/fish/vendor_completions.d/boxglue.fish": 0o644}
+# Answers an empty script, as boxglue does.
+ANSWERS = "#!/bin/sh\necho end: pages 0 bytes 0\n"
+# Stands in for `rt`. `run` in the folder of the program leaves the program; a crate that is named in the file `bad` is refused, and one in `slow` takes long.
+RT = """#!/bin/sh
+echo "$1 ${PWD##*/}" >> "$ROOM/calls"
+grep -qsx "${PWD##*/}" "$ROOM/slow" && exec sleep 50
+grep -qsx "${PWD##*/}" "$ROOM/bad" && echo the prover says why && exit 1
+if [ "$1" = run ]; then mkdir -p out && cp "$ROOM/boxglue" out/boxglue; fi
+exit 0
+"""
+# A repository of four crates beside two that the program does not use.
+CRATES = "# NAME: what it uses\nboxglue: upper clap\nupper: left right\nother: left\nright: left itoa\nleft:\nrows staticlib: upper\n"
+ORDER = ["check left", "check right", "check upper", "run boxglue"]
+
+
+def write(path, text, mode=0o644):
+    """Writes a file."""
+    os.makedirs(os.path.dirname(path), exist_ok=True)
+    with open(path, "w", encoding="ascii") as it:
+        it.write(text)
+    os.chmod(path, mode)
+
+
+def read(path):
+    """The bytes of a file."""
+    with open(path, "rb") as it:
+        return it.read()
+
+
+def sources(root, program):
+    """Which file is copied to which place."""
+    named = ["docs/boxglue.1", "completions/boxglue.bash", "completions/_boxglue", "completions/boxglue.fish"]
+    return dict(zip(MODES, [program, *(f"{root}/{it}" for it in named)]))
+
+
+def placed(prefix, root, program):
+    """What is wrong with the files that were put in place, or None."""
+    found = {os.path.relpath(f"{folder}/{name}", prefix) for folder, _, names in os.walk(prefix) for name in names}
+    if found != {*MODES}:
+        return f"these files are there or not there: {sorted(found ^ {*MODES})}"
+    for name, source in sources(root, program).items():
+        if read(f"{prefix}/{name}") != read(source) or os.stat(f"{prefix}/{name}").st_mode & 0o777 != MODES[name]:
+            return f"{name} is not the file that it should be"
+    return None
+
+
+def install(root, words, room, path=None):
+    """Runs the script; returns its status and what it printed."""
+    env = {"HOME": f"{room}/home", "PATH": path or os.environ["PATH"], "ROOM": room}
+    ran = subprocess.run([f"{root}/install", *words], cwd=room, env=env, stdin=subprocess.DEVNULL, capture_output=True, text=True, timeout=LIMIT)
+    return ran.returncode, ran.stdout, ran.stderr
+
+
+def copies(root, program, words, prefix):
+    """Installs a program twice, over itself; the program that was put in place answers an empty script."""
+    with tempfile.TemporaryDirectory(prefix="boxglue-install-") as room:
+        for _ in range(2):
+            status, output, errors = install(root, [*(it.replace("ROOM", room) for it in words), "--program", os.path.relpath(program, room)], room)
+            if status != 0 or errors or [it for it in MODES if f"{room}/{prefix}/{it}\n" not in output]:
+                return f"the status is {status}: {(errors or output)[-200:]!r}"
+        answer = subprocess.run([f"{room}/{prefix}/bin/boxglue"], stdin=subprocess.DEVNULL, capture_output=True, timeout=LIMIT)
+        if (answer.returncode, answer.stdout) != (0, b"end: pages 0 bytes 0\n"):
+            return "the program that was put in place does not answer"
+        return placed(f"{room}/{prefix}", root, program)
+
+
+def with_programs(call, programs):
+    """Runs a case with each program, or with a stand-in where none is built."""
+    with tempfile.TemporaryDirectory(prefix="boxglue-install-") as room:
+        write(f"{room}/boxglue", ANSWERS, 0o755)
+        found = {os.path.basename(it): call(it) for it in programs or [f"{room}/boxglue"]}
+    return "; ".join(f"{name}: {why}" for name, why in found.items() if why) or None
+
+
+def refused(root, words, why, before=""):
+    """A program that cannot be copied: the status is 1, and nothing is put in place."""
+    with tempfile.TemporaryDirectory(prefix="boxglue-install-") as room:
+        write(f"{room}/given", before, 0o755)
+        status, _, errors = install(root, [*words, "--prefix", f"{room}/here"], room)
+        return None if status == 1 and why in errors and not os.path.exists(f"{room}/here") else f"the status is {status}: {errors[-200:]!r}"
+
+
+def made_repository(root, room):
+    """A repository with the script, in which a stand-in for `rt` proves."""
+    for name in ("install", "docs/boxglue.1", "completions/boxglue.bash", "completions/_boxglue", "completions/boxglue.fish"):
+        write(f"{room}/top/{name}", read(f"{root}/{name}").decode(), 0o755)
+    write(f"{room}/top/crates.txt", CRATES)
+    for name in ("boxglue", "upper", "left", "right", "other", "rows"):
+        os.makedirs(f"{room}/top/crates/{name}")
+    write(f"{room}/boxglue", ANSWERS, 0o755)
+    write(f"{room}/bin/rt", RT, 0o755)
+    return f"{room}/top", f"{room}/bin:{os.environ['PATH']}"
+
+
+def calls(room):
+    """How `rt` was called."""
+    return read(f"{room}/calls").decode().splitlines() if os.path.exists(f"{room}/calls") else []
+
+
+def proves(root):
+    """The crates are proved in order, each after those that it uses, with a line for each; then all is put in place."""
+    with tempfile.TemporaryDirectory(prefix="boxglue-install-") as room:
+        top, path = made_repository(root, room)
+        status, output, errors = install(top, [], room, path)
+        lines = [it.split("] ")[1].split(",")[0] for it in output.splitlines() if it.startswith("[")]
+        if status != 0 or errors or calls(room) != ORDER:
+            return f"the status is {status}, rt was called for {calls(room)}: {(errors or output)[-200:]!r}"
+        if lines != [f"{at} of 4 {call.split()[1]}: proved" for at, call in enumerate(ORDER, 1)]:
+            return f"the lines of the crates are {lines}"
+        return placed(f"{room}/home/.local", top, f"{room}/boxglue")
+
+
+def stops_at_a_crate(root):
+    """A crate that is not proved ends it, with what `rt` says; nothing is put in place."""
+    with tempfile.TemporaryDirectory(prefix="boxglue-install-") as room:
+        top, path = made_repository(root, room)
+        write(f"{room}/bad", "right\n")
+        status, _, errors = install(top, [], room, path)
+        if status != 1 or "right is not proved" not in errors or "the prover says why" not in errors:
+            return f"the status is {status}: {errors[-200:]!r}"
+        return None if calls(room) == ORDER[:2] and not os.path.exists(f"{room}/home") else f"rt was called for {calls(room)}"
+
+
+def stops_when_told(root, number, lines):
+    """A signal ends it, with the `rt` that runs, once it has printed these lines: while a crate takes long, it prints one in ten seconds. Started again, it goes on."""
+    with tempfile.TemporaryDirectory(prefix="boxglue-install-") as room:
+        top, path = made_repository(root, room)
+        write(f"{room}/slow", "right\n")
+        env = {"HOME": f"{room}/home", "PATH": path, "ROOM": room}
+        with subprocess.Popen([f"{top}/install"], env=env, stdin=subprocess.DEVNULL, stdout=subprocess.PIPE, stderr=subprocess.PIPE, text=True) as started:
+            found = [started.stdout.readline() for _ in lines]
+            began = time.monotonic()
+            started.send_signal(number)
+            started.communicate(timeout=LIMIT)
+        if started.returncode != 128 + number or time.monotonic() - began > 20 or not all(line in it for line, it in zip(lines, found)):
+            return f"the status is {started.returncode}, the lines {found}"
+        os.remove(f"{room}/slow")
+        status, _, errors = install(top, [], room, path)
+        return placed(f"{room}/home/.local", top, f"{room}/boxglue") if status == 0 else f"started again, it ends with status {status}: {errors[-200:]!r}"
+
+
+def cases(programs, root):
+    """The cases, by name."""
+    yield "a program", partial(with_programs, lambda it: copies(root, it, ["--prefix", "ROOM/a folder"], "a folder"), programs)
+    yield "a program, without a folder", partial(with_programs, lambda it: copies(root, it, [], "home/.local"), programs)
+    yield "a file that is not there", partial(refused, root, ["--program", "absent"], "absent cannot be run")
+    yield "a file that is no program", partial(refused, root, ["--program", "given"], "given cannot be run", "end: pages 0 bytes 0\n")
+    yield "another program", partial(refused, root, ["--program", "given"], "given is not boxglue", "#!/bin/sh\necho end: pages 1 bytes 0\n")
+    yield "crates in order", partial(proves, root)
+    yield "a crate that is not proved", partial(stops_at_a_crate, root)
+    yield "an interrupt", partial(stops_when_told, root, signal.SIGINT, ["1 of 4 left: proved", "2 of 4 right: 10 s"])
+    yield "an end", partial(stops_when_told, root, signal.SIGTERM, ["1 of 4 left: proved"])

@@ -1,0 +1,139 @@
+"""The manual page, docs/boxglue.1: its lists of refusals and of bad scripts are those of COMMANDS.md and FORMATS.md, its usual mistakes are what the program refuses, and
+its lines for many scripts at once run 200 of them."""
+import os
+import re
+import shutil
+import subprocess
+import tempfile
+from functools import partial
+
+from steps.dvi_writer import Page, down, dvi_file, set_rule
+from steps.outcome import Skipped
+from steps.plain_font import metric_file
+
+TITLE = "the manual page: refusals, usual mistakes, and lines for many scripts at once"
+NEEDS_PROGRAM = True
+LIMIT = 120
+SCRIPTS, PT = 200, 65536
+# The mistakes that are described in words, with an example and what is right.
+DESCRIBED = {"a tab between words": ("hbox into\t0", "hbox into 0"), "a comment that begins with a space": (" % a comment", "% a comment")}
+
+
+def read(path):
+    """The text of a file."""
+    with open(path, encoding="utf-8") as it:
+        return it.read()
+
+
+def plain(text):
+    """A text of the manual page without its escapes."""
+    for written, shown in (("\\-", "-"), ("\\e", "\\"), ("\\&", ""), ("\\('e", "\u00e9")):
+        text = text.replace(written, shown)
+    return text
+
+
+def part(page, title):
+    """The part of the page after a title."""
+    return re.search(rf"^\.S[HS] {title}\n(.*?)(?=^\.S[HS] )", page, re.M | re.S)[1]
+
+
+def blocks(page, before):
+    """The texts without fill of the page, each with the lines of it, where a line with these words comes before."""
+    return plain(re.search(rf"{before}.*?\.nf\n(.*?)\.fi", page, re.S)[1])
+
+
+def refusals(root):
+    """The numbers and names of the refusals."""
+    here = re.findall(r"^(\d+);(\w+);", part(read(f"{root}/docs/boxglue.1"), "Refusals"), re.M)
+    table = read(f"{root}/docs/COMMANDS.md").partition("\n## 2. Refusals\n")[2].partition("\n## ")[0]
+    there = re.findall(r"^\| (\d+) \| (\w+) \|", table, re.M) + [("20", "BadDvi")]
+    return None if len(there) == 22 and here == sorted(there, key=lambda it: int(it[0])) else f"these are not in both: {sorted({*here} ^ {*there})}"
+
+
+def mistakes(page):
+    """The table of bad scripts: cause, mistaken line, right line. Of each text the last line is the example."""
+    rows = re.findall(r"^(\w+);T\{\n(.*?)\nT\};T\{\n(.*?)\nT\}$", plain(part(page, "Bad scripts")), re.M | re.S)
+    for cause, wrong, right in rows:
+        wrong, right = wrong.splitlines()[-1], right.splitlines()[-1]
+        yield cause, *DESCRIBED.get(wrong, (wrong, right))
+
+
+def causes(root):
+    """The causes of bad scripts."""
+    here = {cause for cause, _, _ in mistakes(read(f"{root}/docs/boxglue.1"))}
+    table = read(f"{root}/docs/FORMATS.md").partition("\n### Bad scripts\n")[2].partition("\n| line | cause |")[0]
+    there = {*re.findall(r"^\| (\w+) \|", table, re.M)} - {"cause"}
+    return None if len(there) == 7 and here == there else f"these are not in both: {sorted(here ^ there)}"
+
+
+def usual_mistakes(programs, root):
+    """Each mistake is refused for its cause, and what is to be written is not."""
+    rows = [*mistakes(read(f"{root}/docs/boxglue.1"))]
+    for program in programs:
+        for cause, *lines in rows:
+            wrong, right = (subprocess.run([program], input=f"\n{line}\n".encode(), capture_output=True, env={}, timeout=LIMIT).stdout.decode() for line in lines)
+            if wrong != f"refused 2 BadScript 2 {cause}\n" or "BadScript" in right or not right:
+                return f"{os.path.basename(program)}: {lines} are answered {wrong!r} and {right!r}"
+    return None
+
+
+def make_room(room, program):
+    """A folder with the program, a metric file, and scripts of a rule each, of which each is wider than the one before."""
+    os.mkdir(f"{room}/bin")
+    os.symlink(program, f"{room}/bin/boxglue")
+    with open(f"{room}/cmr10.tfm", "wb") as it:
+        it.write(metric_file())
+    for number in range(SCRIPTS):
+        with open(f"{room}/{number}.box", "w", encoding="ascii") as it:
+            it.write(f"hbox into 0\nrule {number + 1}pt 1pt 0pt\nend\nship 0\n")
+
+
+def wrong_file(room):
+    """What is wrong with the files that were made, or None."""
+    for number in range(SCRIPTS):
+        width = (number + 1) * PT
+        file = dvi_file([Page([down(PT), set_rule(PT, width)])], PT, width)
+        with open(f"{room}/{number}.dvi", "rb") as it:
+            if it.read() != file.data:
+                return f"the file of script {number} is another one"
+        answers = f"1: ok\n2: ok\n3: packed {number + 1}.0pt 1.0pt 0.0pt badness 0\n4: shipped 1\nend: pages 1 bytes {len(file.data)}\n"
+        if read(f"{room}/{number}.txt") != answers:
+            return f"the answers to script {number} are other ones"
+    return None
+
+
+def many(programs, root, tool, before):
+    """The lines of the page with xargs, or with make and a Makefile: they run all scripts. Then they run some of which one is refused."""
+    if not shutil.which(tool):
+        return Skipped(f"there is no {tool}")
+    page = read(f"{root}/docs/boxglue.1")
+    line = blocks(page, before).removeprefix("$ ")
+    for program in programs:
+        with tempfile.TemporaryDirectory(prefix="boxglue-many-") as room:
+            make_room(room, program)
+            if tool == "make":
+                with open(f"{room}/Makefile", "w", encoding="ascii") as it:
+                    it.write(blocks(page, "a Makefile of four lines"))
+            env = {"PATH": f"{room}/bin:{os.environ['PATH']}"}
+            run = partial(subprocess.run, ["sh", "-c", line], cwd=room, env=env, stdin=subprocess.DEVNULL, capture_output=True, text=True, timeout=LIMIT)
+            ran = run()
+            why = f"the status is {ran.returncode}: {ran.stderr[-200:]!r}" if ran.returncode else wrong_file(room)
+            if why:
+                return f"{os.path.basename(program)}: {why}"
+            for number in range(20, SCRIPTS):
+                os.remove(f"{room}/{number}.box")
+            with open(f"{room}/7.box", "a", encoding="ascii") as it:
+                it.write("ship 0\n")
+            ran = run()
+            if ran.returncode != {"xargs": 123, "make": 2}[tool] or not read(f"{room}/7.txt").endswith("5: refused 21 VoidBox\nend: pages 1 bytes 116\n"):
+                return f"{os.path.basename(program)}: with a script that is refused the status is {ran.returncode}: {ran.stderr[-200:]!r}"
+    return None
+
+
+def cases(programs, root):
+    """The cases, by name."""
+    yield "refusals", partial(refusals, root)
+    yield "causes of bad scripts", partial(causes, root)
+    yield "usual mistakes", partial(usual_mistakes, programs, root)
+    yield "200 scripts by xargs", partial(many, programs, root, "xargs", "For all scripts of a folder")
+    yield "200 scripts by make", partial(many, programs, root, "make", "begins with a tab.*?\\.fi")
