@@ -18,9 +18,10 @@ MAY_TAKE_MEMORY = {
     "unhbox", "unhcopy", "unvbox", "unvcopy", "vsplit",
 }
 NOTHING, WHOLE, COMMAND, DEVICE, END, END_DEVICE, TEXTS = "nwcdeft"
-# Made up for is at most the room for the words (where there are any), the commands and their numbers. The device grows only where its room is used up.
-ORDER_IN_MEMORY = re.compile("n+w{0,2}n+[cd]*c[cd]*d[cd]*e+f?n+")
-ORDER_TO_A_FILE = re.compile("n+w?n+w{0,2}n+c+e+t+")
+# Made up for is at most the room for the words, where there are any. The device grows only where its room is used up. A line is answered as soon as it was run,
+# so the texts grow between the commands; a run on a device in memory shows no difference between such a growth and one before the run.
+ORDER_IN_MEMORY = re.compile("n+[cdn]*c[cdn]*d[cdn]*e+f?n+")
+ORDER_TO_A_FILE = re.compile("n+w?n+[ct]*c[ct]*e+t*")
 ORDER_OF_A_READING = re.compile("n+w?n+")
 
 

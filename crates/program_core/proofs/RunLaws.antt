@@ -13,14 +13,15 @@ use Rattle.dvi_layout.specs.Layout.{front, whole}
 use Rattle.job_core.specs.Shown.{GivesFiles, FilesPages}
 use Rattle.job_core.specs.Closing.{ClosesFile}
 use Rattle.nest_core.specs.Machine.{Machine, first_machine}
-use Rattle.job_core.specs.Jobs.{Seen, HasSent, Holds, RunsTo, FinishesTo}
+use Rattle.job_core.specs.Jobs.{Seen, HasSent, Holds, KeepsTo, RunsTo, FinishesTo}
+use Rattle.job_core.proofs.Moves.{runs_more}
 use Rattle.device_core.specs.Held.{Held}
 use Rattle.job_core.proofs.WholeRuns.{files_kept}
 use Rattle.job_core.proofs.Endings.{said}
 use Rattle.job_core.proofs.NewJobs.{front_none}
 use Rattle.job_core.proofs.RestsOfFiles.{beginning, completed}
 use Rattle.std.specs.Io.KnownBytes.{Keeps}
-use Rattle.std.proofs.lemmas.List.{append-nil}
+use Rattle.std.proofs.lemmas.List.{append-nil, length-append}
 use Rattle.std.proofs.Math.Bool.{and-true}
 use Rattle.std.proofs.lemmas.List.Folds.{list_all-append}
 use Rattle.std.specs.List.{list_all}
@@ -208,3 +209,19 @@ answers_more (front ∷ lines) (first ∷ replies) line reply h =
 
 pub all_more : (replies : List Reply) (reply : Reply) → list_all is_ok (replies ++ reply ∷ []) ≡ (list_all is_ok replies && is_ok reply)
 all_more replies reply = list_all-append is_ok replies (reply ∷ []) ∙ ap (λ (b : Bool). list_all is_ok replies && b) (and-true (is_ok reply))
+
+-- A line more of a run.
+pub ran_one_more : (old now new : Seen) (front more : List Line) (line : Line) (replies : List Reply) (reply : Reply) → more ≡ front ++ line ∷ []
+    → RunsTo old (commands_of front) replies now → KeepsTo now line.command reply new → RunsTo old (commands_of more) (replies ++ reply ∷ []) new
+ran_one_more old now new front more line replies reply is ran keeps =
+    subst (λ (xs : List Command). RunsTo old xs (replies ++ reply ∷ []) new) (sym (ap commands_of is ∙ commands_more front line))
+    (runs_more old now new (commands_of front) replies line.command reply ran keeps)
+
+pub length_more : (front more : List Line) (line : Line) (replies : List Reply) (reply : Reply) → more ≡ front ++ line ∷ [] → length replies ≡ length front
+    → length (replies ++ reply ∷ []) ≡ length more
+length_more front more line replies reply is h = length-append replies (reply ∷ []) ∙ (ap (λ (n : ℕ). n + 1) h ∙ (sym (length-append front (line ∷ [])) ∙ ap length (sym is)))
+
+pub answers_one_more : (front more : List Line) (line : Line) (replies : List Reply) (reply : Reply) (text : List ℕ) → more ≡ front ++ line ∷ [] → length replies ≡ length front
+    → text ≡ answer_lines (numbers_of front) replies ++ answer_line line.number reply → text ≡ answer_lines (numbers_of more) (replies ++ reply ∷ [])
+answers_one_more front more line replies reply text is h t =
+    t ∙ (sym (answers_more front replies line reply h) ∙ ap (λ (xs : List Line). answer_lines (numbers_of xs) (replies ++ reply ∷ [])) (sym is))

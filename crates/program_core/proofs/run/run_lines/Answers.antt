@@ -1,0 +1,26 @@
+-- One line more was run and answered (not checked).
+use Rattle.std.proofs.Common.{◌≡◌, ◌+◌, ◌++◌, ◌∷◌, [], take, ap, sym, ◌∙◌, subst, List, ℕ, IfSome, length, arith}
+use Rattle.std.proofs.lemmas.List.{take_more}
+use Rattle.script_core.specs.declared.script.Line.{Line}
+use Rattle.program_core.proofs.RunLaws.{ran_one_more, answers_one_more, all_more, length_more}
+use Rattle.program_core.proofs.run.run_lines.Goals as goal
+
+pub loop-line-preserved : goal.loop-line-preserved
+loop-line-preserved g c =
+    let lines = c.args.lines.now in
+    let i = c.loop-line.line-index in
+    let line = c.line-item.result in
+    let reply = c.step-reply.result in
+    let before = c.loop-line.invariant.ran in
+    let taken : take (i + 1) lines ≡ take i lines ++ line ∷ [] =
+    take_more lines i line c.loop-line-test.true ∙ ap (λ (x : Line). take i lines ++ x ∷ []) (sym c.line-item.is) in
+    record {
+      ran = (
+        before.0 ++ reply ∷ [],
+        ran_one_more c.args.job.now c.loop-line.job c.step-reply.new.job (take i lines) (take (i + 1) lines) line before.0 reply taken before.1 c.step-reply.ensures.keeps,
+        length_more (take i lines) (take (i + 1) lines) line before.0 reply taken before.2,
+        answers_one_more (take i lines) (take (i + 1) lines) line before.0 reply taken before.2 (c.with_answer.ensures _ before.3),
+        all_more before.0 reply,
+      );
+      began = c.step-reply.ensures.began ∙ c.loop-line.invariant.began;
+    }
