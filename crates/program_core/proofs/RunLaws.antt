@@ -221,7 +221,9 @@ pub length_more : (front more : List Line) (line : Line) (replies : List Reply) 
     → length (replies ++ reply ∷ []) ≡ length more
 length_more front more line replies reply is h = length-append replies (reply ∷ []) ∙ (ap (λ (n : ℕ). n + 1) h ∙ (sym (length-append front (line ∷ [])) ∙ ap length (sym is)))
 
-pub answers_one_more : (front more : List Line) (line : Line) (replies : List Reply) (reply : Reply) (text : List ℕ) → more ≡ front ++ line ∷ [] → length replies ≡ length front
-    → text ≡ answer_lines (numbers_of front) replies ++ answer_line line.number reply → text ≡ answer_lines (numbers_of more) (replies ++ reply ∷ [])
-answers_one_more front more line replies reply text is h t =
-    t ∙ (sym (answers_more front replies line reply h) ∙ ap (λ (xs : List Line). answer_lines (numbers_of xs) (replies ++ reply ∷ [])) (sym is))
+pub answers_one_more : {A : Type 0} (bytes : A → List ℕ) (front more : List Line) (line : Line) (replies : List Reply) (reply : Reply) (text : Option A) → more ≡ front ++ line ∷ []
+    → length replies ≡ length front → IfSome text (λ t. bytes t ≡ answer_lines (numbers_of front) replies ++ answer_line line.number reply)
+    → IfSome text (λ t. bytes t ≡ answer_lines (numbers_of more) (replies ++ reply ∷ []))
+answers_one_more bytes front more line replies reply text is h t =
+    subst (λ (all : List ℕ). IfSome text (λ t. bytes t ≡ all))
+    (sym (answers_more front replies line reply h) ∙ ap (λ (xs : List Line). answer_lines (numbers_of xs) (replies ++ reply ∷ [])) (sym is)) t

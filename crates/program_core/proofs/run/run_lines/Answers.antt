@@ -19,7 +19,7 @@ loop-line-preserved g c =
         before.0 ++ reply ∷ [],
         ran_one_more c.args.job.now c.loop-line.job c.step-reply.new.job (take i lines) (take (i + 1) lines) line before.0 reply taken before.1 c.step-reply.ensures.keeps,
         length_more (take i lines) (take (i + 1) lines) line before.0 reply taken before.2,
-        answers_one_more (take i lines) (take (i + 1) lines) line before.0 reply taken before.2 (c.with_answer.ensures _ before.3),
+        answers_one_more _ (take i lines) (take (i + 1) lines) line before.0 reply _ taken before.2 (c.with_answer-text.ensures _ before.3),
         all_more before.0 reply,
       );
       began = c.step-reply.ensures.began ∙ c.loop-line.invariant.began;
