@@ -1,7 +1,7 @@
 #!/usr/bin/env python3
-"""Draws the charts of docs/SPEED.md from the figures of one run: bench/charts.py [DATA] [--out FOLDER], else docs/speed.tsv and docs.
+"""Draws the charts of docs/SPEED.md from the figures of one run: bench/charts.py [DATA] [--out FOLDER], by default docs/speed.tsv and docs.
 
-  speed_places.svg  microseconds and instructions a place against the length of the paragraph, at both widths, beside tex
+  speed_places.svg  microseconds and instructions per place against the length of the paragraph, at both widths, beside tex
   speed_items.svg   a bar for each case that has a peer: time, instructions and memory as a ratio to the peer
 
 It needs nothing but Python: the charts are written as text."""
@@ -30,19 +30,19 @@ class Figures:
             self.rows.setdefault(row["case"], {})[row["program"]] = row
 
     def each(self, case, program, what):
-        """A figure of a program for each unit of the case, or none."""
+        """A figure of a program per unit of the case, or None."""
         row = self.rows[case].get(program)
         return float(row[what]) / int(row["units"]) if row and row[what] else None
 
     def ratio(self, case, what):
-        """The figure of boxglue as a part of its peer's, or none."""
+        """The figure of boxglue divided by its peer's, or None."""
         row = self.rows[case]
         peer = next((it for name, it in row.items() if name != "boxglue"), None)
         return float(row["boxglue"][what]) / float(peer[what]) if peer and row["boxglue"][what] and peer[what] else None
 
 
 class Svg:
-    """A picture as it is written."""
+    """A picture that is being drawn."""
 
     def __init__(self, width, height, title):
         self.parts = ['<svg xmlns="http://www.w3.org/2000/svg" width="%d" height="%d" viewBox="0 0 %d %d" font-family="Helvetica, Arial, sans-serif" font-size="12" role="img">' % (width, height, width, height),
@@ -74,7 +74,7 @@ def steps_to(top):
 
 
 class Panel:
-    """A chart against the length of the paragraph, which stands on a logarithmic axis."""
+    """A chart against the length of the paragraph, which is on a logarithmic axis."""
 
     def __init__(self, svg, left, top, lengths, marks):
         self.svg, self.left, self.top, self.width, self.height = svg, left, top, 300, 180

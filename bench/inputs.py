@@ -2,7 +2,7 @@
 
 import struct
 
-# Words of running prose: those that stand often, and others.
+# Words of running prose: frequent ones, and others.
 OFTEN = "the of and to in a that is was it for with as his on be at by had not are but from which have they one were their there would when what about"
 WORDS = (
     "other into first after before people through between another without thought different country question morning evening office difficult himself nothing "
@@ -12,7 +12,7 @@ WORDS = (
     "children carefully followed wondered company railway library station voyage avenue wavering quickly explained"
 )
 
-# How boxglue and tex are told the same: no hyphenation, no indentation, and the parameters that boxglue begins with, but for the tolerance.
+# The settings with which boxglue and tex do the same work: no hyphenation, no indentation, and the first parameters of boxglue, except the tolerance.
 TEX_HEAD = r"""\batchmode \frenchspacing \hyphenchar\tenrm=-1 \tenrm \parindent0pt \parskip0pt \hsize%s
 \baselineskip12pt \lineskip1pt \lineskiplimit0pt \splittopskip10pt \maxdepth16383pt \splitmaxdepth16383pt \boxmaxdepth16383pt
 \parfillskip0pt plus 1fil \pretolerance100 \tolerance%d \linepenalty10 \adjdemerits10000 \clubpenalty150 \widowpenalty150 \interlinepenalty0
@@ -35,7 +35,7 @@ class Prose:
         return (self.state >> 33) % below
 
     def paragraph(self, count):
-        """So many words, in sentences of 5 to 20 with a comma here and there."""
+        """This many words, in sentences of 5 to 20 words with some commas."""
         words, left = [], 0
         for place in range(count):
             word = self.words[self.number(len(self.words))]
@@ -71,7 +71,7 @@ def tex_paragraph(words):
 
 
 def book(tolerance):
-    """Chapters of paragraphs, each a box that is split into pages; the last page of a chapter is what is left of it."""
+    """Chapters of paragraphs, each a box that is split into pages; the last page of a chapter is the rest of it."""
     prose = Prose(1)
     box, tex = [BOX_HEAD % ("345pt", tolerance)], [TEX_HEAD % ("345pt", tolerance)]
     words = letters = 0
@@ -88,7 +88,7 @@ def book(tolerance):
 
 
 def places(count, width, total, tolerance, pretolerance):
-    """Paragraphs of so many legal places each, in all of about so many: a word is a place."""
+    """Paragraphs of a number of legal places each, with about this many places in all: a word is a place."""
     prose = Prose(2)
     box, tex = [BOX_HEAD % (width, tolerance)], [TEX_HEAD % (width, tolerance)]
     box.append("set pretolerance %d\n" % pretolerance)
@@ -102,7 +102,7 @@ def places(count, width, total, tolerance, pretolerance):
 
 
 def many_rules(count):
-    """A page of so many rules in rows of forty, each wherever it falls."""
+    """A page of a number of rules in rows of forty, each at an irregular place."""
     prose = Prose(3)
     script = ["vbox into 0\n"]
     for row in range(count // 40):
@@ -114,7 +114,7 @@ def many_rules(count):
 
 
 def small_boxes(lines):
-    """So many lines of short boxes with two rules each."""
+    """This many lines of short boxes with two rules each."""
     prose = Prose(4)
     script = []
     for number in range(lines // 4):
@@ -123,7 +123,7 @@ def small_boxes(lines):
 
 
 def small_pages(pages, last):
-    """So many boxes of one rule, each shipped as a page or made void."""
+    """This many boxes of one rule, each shipped as a page or made void."""
     return ("hbox into 0\nrule 1pt 1pt 0pt\nend\n%s 0\n" % last) * pages
 
 
@@ -163,7 +163,7 @@ def small_metric_file(number):
 
 
 def pages_of_fonts(pages, loaded):
-    """So many pages of one line, each in two of the loaded fonts."""
+    """This many pages of one line, each in two of the loaded fonts."""
     prose = Prose(5)
     box = ["font %d %s\n" % (slot, font_name(slot)) for slot in range(loaded)]
     tex = [r"\batchmode \frenchspacing \maxdepth16383pt \hbadness10000 \hfuzz16383pt" + "\n"]

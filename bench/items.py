@@ -1,4 +1,4 @@
-"""The items of the bench: the work of each, for boxglue and for its peer. docs/SPEED.md has what was measured.
+"""The items of the bench: the work of each, for boxglue and for its peer. docs/SPEED.md has the results.
 
 An item has cases, and a case is one run of boxglue, mostly beside one run of another program on the same work."""
 
@@ -15,7 +15,7 @@ LENGTHS = (100, 250, 500, 1000, 2000, 4000, 8000)
 
 
 class Case:
-    """A run of boxglue with these words, this standard input and the file that it writes, if it does; the words of its peer; and what it is counted in."""
+    """A run of boxglue with these words, this standard input and the file that it writes, if any; the words of its peer; and the unit that it is counted in."""
 
     def __init__(self, name, words, stdin="/dev/null", out=None, peer=None, unit=None, units=1):
         self.name, self.words, self.stdin, self.out, self.peer, self.unit, self.units = name, words, stdin, out, peer, unit, units

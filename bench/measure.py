@@ -1,4 +1,4 @@
-"""Runs programs one at a time: their least time of processor, their peak memory, and their instructions."""
+"""Runs programs one at a time: their least processor time, their peak memory, and their instructions."""
 
 import ctypes
 import os
@@ -6,10 +6,11 @@ import re
 import shlex
 import subprocess
 import sys
+import tempfile
 
 RUNS = 5
 CORE = max(os.sched_getaffinity(0))
-# A program is begun by a small shell and left to this process, so that its peak memory is its own and not that of this process.
+# A program is started by a small shell and inherited by this process, so that its peak memory is its own and not that of this process.
 ctypes.CDLL(None).prctl(36, 1, 0, 0, 0)
 
 
@@ -32,7 +33,7 @@ def run_once(words, stdin, folder):
 
 
 def in_turn(runs, folder, turns=RUNS):
-    """Programs in turn, so many times each, and the least of each. A run is the words of a program and its standard input."""
+    """Runs programs in turn, several times each, and returns the least of each. A run is the words of a program and its standard input."""
     costs = [[] for _ in runs]
     for _ in range(turns):
         for (words, stdin), found in zip(runs, costs):
@@ -41,21 +42,25 @@ def in_turn(runs, folder, turns=RUNS):
 
 
 class Counted:
-    """The instructions of a run, and what it printed."""
+    """The instructions of a run, its output, and the file that it wrote."""
 
-    def __init__(self, instructions, status, answers):
-        self.instructions, self.status, self.answers = instructions, status, answers
+    def __init__(self, instructions, status, answers, written):
+        self.instructions, self.status, self.answers, self.written = instructions, status, answers, written
 
 
-def count(words, stdin, folder):
-    """A run under callgrind, which counts the same number each time."""
-    counts = os.path.join(folder, "callgrind.out")
-    if os.path.exists(counts):
-        os.remove(counts)
-    command = ["valgrind", "--tool=callgrind", "--callgrind-out-file=" + counts, *words]
-    with open(stdin, "rb") as file:
-        done = subprocess.run(command, cwd=folder, stdin=file, stdout=subprocess.PIPE, stderr=subprocess.PIPE)
-    found = os.path.exists(counts) and re.search(r"^(?:summary|totals): (\d+)", open(counts).read(), re.M)
-    if not found:
-        sys.exit(done.stderr.decode(errors="replace")[-1000:])
-    return Counted(int(found[1]), done.returncode, done.stdout)
+def count(words, stdin, folder, out=None):
+    """A run under callgrind, which counts the same number each time. It works in a folder of its own, with links to the inputs in `folder`, so that several can run at once.
+    `out` is the file that it writes."""
+    with tempfile.TemporaryDirectory() as own:
+        for name in set(os.listdir(folder)) - {out}:
+            os.symlink(os.path.join(folder, name), os.path.join(own, name))
+        counts = os.path.join(own, "callgrind.out")
+        command = ["valgrind", "--tool=callgrind", "--callgrind-out-file=" + counts, *words]
+        with open(os.path.join(folder, stdin), "rb") as file:
+            done = subprocess.run(command, cwd=own, stdin=file, stdout=subprocess.PIPE, stderr=subprocess.PIPE)
+        found = os.path.exists(counts) and re.search(r"^(?:summary|totals): (\d+)", open(counts).read(), re.M)
+        if not found:
+            raise OSError(done.stderr.decode(errors="replace")[-1000:])
+        path = out and os.path.join(own, out)
+        written = open(path, "rb").read() if path and os.path.exists(path) else b""
+        return Counted(int(found[1]), done.returncode, done.stdout, written)

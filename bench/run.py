@@ -1,8 +1,8 @@
 #!/usr/bin/env python3
-"""Measures boxglue beside tex, dvitype and dvipng: bench/run.py [--boxglue PROGRAM] [--instructions] [--data FILE] [ITEM ..], all items where none is named.
+"""Measures boxglue beside tex, dvitype and dvipng: bench/run.py [--boxglue PROGRAM] [--instructions] [--data FILE] [ITEM ..], all items if none is named.
 
-Each case says user + system time (the least of five runs on one core), peak memory, with --instructions also the instructions (by callgrind, which takes some minutes),
-and the ratios to the peer. --data writes all figures of the run into a file, from which bench/charts.py draws. docs/SPEED.md has what was measured."""
+Each case says user + system time (the least of five runs on one core), peak memory, with --instructions also the instructions (by callgrind, on all cores before the times
+are taken), and the ratios to the peer. --data writes all figures of the run into a file, from which bench/charts.py draws. docs/SPEED.md has the results."""
 
 import argparse
 import datetime
@@ -12,6 +12,7 @@ import shutil
 import subprocess
 import sys
 import tempfile
+from concurrent.futures import ThreadPoolExecutor
 
 from items import CMR10, ITEMS, PACKAGES, Work
 from measure import count, in_turn
@@ -23,7 +24,7 @@ NEED_CMR10 = ("paragraphs", "places", "list")
 
 
 class Row:
-    """What was found of one program in one case."""
+    """The figures of one program in one case."""
 
     def __init__(self, case, program, cost, instructions):
         self.case, self.program, self.cost, self.instructions = case, program, cost, instructions
@@ -43,13 +44,25 @@ class Row:
         return "\t".join(map(str, (self.case.name, self.program, "%.4f" % self.cost.seconds, self.cost.memory, known, self.case.unit or "", self.case.units)))
 
 
+def runs_of(work, case):
+    """The words and the standard input of boxglue and of its peer in a case."""
+    return [([work.program, *case.words], case.stdin)] + ([(case.peer, "/dev/null")] if case.peer else [])
+
+
+def counted(work, cases):
+    """The instructions of each run of each case, by its name."""
+    def of_case(case):
+        return case.name, [count(*run, work.folder, case.out).instructions for run in runs_of(work, case)]
+
+    with ThreadPoolExecutor(len(os.sched_getaffinity(0))) as pool:
+        return dict(pool.map(of_case, cases))
+
+
 def measured(work, case, instructions):
     """The rows of a case: boxglue's and its peer's."""
-    runs = [([work.program, *case.words], case.stdin)] + ([(case.peer, "/dev/null")] if case.peer else [])
-    turns = 100 if case.name == "start" else 5
-    costs = in_turn(runs, work.folder, turns)
-    counts = [count(*run, work.folder).instructions if instructions else None for run in runs]
-    return [Row(case, name, *it) for name, *it in zip(["boxglue", *(case.peer or [])[:1]], costs, counts)]
+    runs = runs_of(work, case)
+    costs = in_turn(runs, work.folder, 100 if case.name == "start" else 5)
+    return [Row(case, name, *it) for name, *it in zip(["boxglue", *(case.peer or [])[:1]], costs, instructions or [None] * len(runs))]
 
 
 def ratio(rows):
@@ -59,7 +72,7 @@ def ratio(rows):
 
 
 def growth(first, last):
-    """What each unit more costs, from one case to a larger one."""
+    """The cost of each further unit, from one case to a larger one."""
     units = last.case.units - first.case.units
     return "  from %s to %s: %.3f us and %.0f bytes a %s" % (first.case.name, last.case.name,
         (last.cost.seconds - first.cost.seconds) / units * 1e6, (last.cost.memory - first.cost.memory) / units, last.case.unit)
@@ -70,7 +83,7 @@ GROWTHS = (("short_lines_100000", "short_lines_1000000"), ("small_pages_ship_600
 
 
 def head(words):
-    """What was measured, when and where, as lines of a file of data."""
+    """The subject, time and machine of the measurement, as lines of a data file."""
     model = [line.split(":")[1].strip() for line in open("/proc/cpuinfo") if line.startswith("model name")][:1]
     yield "# bench/run.py, %s, %s, %s, %d cores, load %.1f at the start" % (datetime.date.today(), platform.system(), " ".join(model), os.cpu_count(), os.getloadavg()[0])
     for peer in sorted(set(PEERS.values())):
@@ -83,7 +96,7 @@ def head(words):
 
 
 def missing(program, items):
-    """What is not there for these items."""
+    """The programs and files that these items lack."""
     if not os.access(program, os.X_OK):
         yield "%s is not there: (cd crates/boxglue && rt run < ../../examples/one_rule_page.box), or --boxglue PROGRAM" % program
     for peer in sorted({PEERS[item] for item in items if item in PEERS}):
@@ -110,10 +123,12 @@ def main():
     lines, found = list(head(words)), {}
     with tempfile.TemporaryDirectory() as folder:
         work = Work(words.boxglue, folder)
+        cases = {item: list(getattr(work, item)()) for item in items}
+        counts = counted(work, sum(cases.values(), [])) if words.instructions else {}
         for item in items:
             print("%s: %s" % (item, getattr(work, item).__doc__), flush=True)
-            for case in getattr(work, item)():
-                rows = measured(work, case, words.instructions)
+            for case in cases[item]:
+                rows = measured(work, case, counts.get(case.name))
                 print("\n".join([" " + case.name] + [row.shown() for row in rows] + ([ratio(rows)] if case.peer else [])), flush=True)
                 lines += [row.data() for row in rows]
                 found[case.name] = rows[0]

@@ -1,9 +1,9 @@
-# Completions of boxglue for bash. Sourced, or in a folder of bash-completion as `boxglue`.
+# Completions of boxglue for bash. Source the file, or put it as `boxglue` into a folder of bash-completion.
 _boxglue() {
   local word=${COMP_WORDS[COMP_CWORD]} before=${COMP_WORDS[COMP_CWORD - 1]} use=${COMP_WORDS[1]} words=--help
   COMPREPLY=()
   if ((COMP_CWORD == 1)); then
-    mapfile -t COMPREPLY < <(compgen -W 'typeset list paint --help' -- "$word")
+    mapfile -t COMPREPLY < <(compgen -W 'typeset list paint --help --version' -- "$word")
     return
   fi
   case $use in
@@ -11,7 +11,7 @@ _boxglue() {
   typeset | list) ;;
   *) return ;;
   esac
-  # Bash takes a `=` for a word of its own. After `--page=` there is a number, after `NAME=` a path.
+  # Bash treats a `=` as a word of its own. After `--page=` comes a number, after `NAME=` a path.
   [[ $word == = ]] && word=
   [[ $before == = ]] && before=${COMP_WORDS[COMP_CWORD - 2]}
   case $before in

@@ -1,7 +1,7 @@
-"""What the sources of a crate show to the crates above it.
+"""The part of a crate's sources that the crates above it use.
 
 A check of a crate above loads types, constants and contracts, and no body. So a change of a body, of a comment, of a tactic or of a
-function that is private to its file leaves this text as it is."""
+function that is private to its file leaves this text unchanged."""
 import re
 
 TOKEN = re.compile(r"""//[^\n]*|/\*.*?\*/|b?"(?:\\.|[^"\\])*"|b?'(?:\\[^']+|[^\\'\n])'|[^\W\d][\w']*|\d\w*|\s+|.""", re.S)
@@ -13,7 +13,7 @@ def tokens_of(text):
 
 
 def end_of(tokens, at):
-    """The place behind the group that opens at this token."""
+    """The place after the group that opens at this token."""
     depth = 0
     for here in range(at, len(tokens)):
         depth += tokens[here] in ("{", "(", "[")
@@ -24,7 +24,7 @@ def end_of(tokens, at):
 
 
 def body_of(tokens, at):
-    """Where the body begins of the function whose name is at this token; the place of its `;` where it has none."""
+    """The place where the body of the function begins whose name is at this token; the place of its `;` if it has no body."""
     while tokens[at] != ";":
         clause = {*[it for it in tokens[at - 3 : at] if it != "*"][-2:]} & {"requires", "ensures"}
         if tokens[at] == "{" and not clause:
@@ -34,7 +34,7 @@ def body_of(tokens, at):
 
 
 def without_tactics(tokens):
-    """The tokens without the attributes that say how a function is proved."""
+    """The tokens without the attributes for the proof of a function."""
     found, at = [], 0
     while at < len(tokens):
         if tokens[at : at + 3] == ["#", "[", "tactic"]:
@@ -80,7 +80,7 @@ def imports_of(tokens):
 
 
 def statements(text):
-    """The tokens of what a source file shows: its imports are those of names that stand elsewhere in it."""
+    """The tokens that the crates above a source file use. Its imports are only those of names that are used elsewhere in it."""
     rest, imports = imports_of(without_bodies(without_tactics(tokens_of(text))))
     seen = {*rest}
     used = lambda name: {*re.findall(r"[^\W\d][\w']*$|[^\w\s◌]", name)} <= seen

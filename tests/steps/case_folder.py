@@ -1,4 +1,4 @@
-"""A case of tests/program: a folder that says how a program is run, and what it must do. docs/FORMATS.md, section 11, has its files."""
+"""A case of tests/program: a folder with the command line of a run, and its expected results. docs/FORMATS.md, section 11, has its files."""
 import os
 import shutil
 import subprocess
@@ -30,19 +30,19 @@ def words_of(case):
 
 
 def input_of(case, root):
-    """What standard input gives."""
+    """The bytes of standard input."""
     if has(case, "stdin-from"):
         return read(root, read(case, "stdin-from").decode().strip())
     return read(case, "stdin")
 
 
 def files_in(folder):
-    """The names of the files of a folder; none where it is absent."""
+    """The names of the files of a folder; none if it is absent."""
     return sorted(os.listdir(folder)) if os.path.isdir(folder) else []
 
 
 def unknown_files(case):
-    """What is wrong where a case has a file that means nothing, else None."""
+    """What is wrong if a case has a file without a meaning, otherwise None."""
     others = sorted({*os.listdir(case)} - NAMES)
     return f"a case has no file {others[0]}" if others else None
 
@@ -55,8 +55,8 @@ def command(case, program):
 
 
 def run(case, program, root):
-    """Runs the program on a case, and returns its status, what it printed to standard output and to standard error, and the first file of made/
-    that is not as it must be, if one is not."""
+    """Runs the program on a case. Returns its status, its standard output, its standard error, and the first file of made/
+    that is wrong, if one is."""
     how = {"input": input_of(case, root), "stderr": subprocess.PIPE, "env": {"LANG": "C.UTF-8"}, "timeout": LIMIT}
     with tempfile.TemporaryDirectory(prefix="boxglue-case-") as room, open("/dev/full", "wb") as full:
         if has(case, "files"):
@@ -69,7 +69,7 @@ def run(case, program, root):
 
 
 def differs(case, program, root):
-    """Says how what the program does on a case differs from what it must do, or returns None."""
+    """Returns how the program's results on a case differ from the expected ones, or None."""
     try:
         status, output, errors, wrong = run(case, program, root)
     except (OSError, subprocess.TimeoutExpired) as error:

@@ -1,5 +1,5 @@
 """The files of completions/ and the options of the manual page: they have the subcommands and options of the program's help, and no others.
-The help is that of the built program, or without one that of tests/program, which the program has to print."""
+The help is that of the built program; without one it is that of tests/program, which the program has to print."""
 import os
 import re
 import shutil
@@ -9,7 +9,7 @@ from functools import partial
 TITLE = "completions/ and the manual page: the words of the program's help"
 TRIES = False
 LIMIT = 60
-# Prints what bash completes: its words are the words of the line, of which the last is completed.
+# Prints the completions of bash: its words are the words of the line, of which the last is completed.
 BASH = """source "$1"; shift; COMP_WORDS=("$@"); COMP_CWORD=$(($# - 1)); _boxglue; printf '%s\\n' "${COMPREPLY[@]}" """
 FISH = 'source $argv[1]; complete -C "$argv[2]"'
 
@@ -21,7 +21,7 @@ def read(path):
 
 
 def help_of(programs, root, use):
-    """The text of the help of a subcommand, or with an empty text that of the program."""
+    """The help of a subcommand; with an empty text that of the program."""
     if not programs:
         return read(f"{root}/tests/program/help{use and '_of_' + use}/stderr")
     words = [programs[0], *([use] if use else []), "--help"]
@@ -40,7 +40,7 @@ def options_of(text):
 
 
 def words_of_help(programs, root):
-    """The options of the program alone, and of each subcommand. Of `list` there is no text in tests/program: it has those of `typeset`."""
+    """The options of the program alone, and of each subcommand. tests/program has no text for `list`, which has those of `typeset`."""
     text = help_of(programs, root, "")
     uses = [line.split()[0] for line in rows(text, "Commands")]
     found = {use: options_of(help_of(programs, root, use if programs or use != "list" else "typeset")) for use in uses}
@@ -48,7 +48,7 @@ def words_of_help(programs, root):
 
 
 def bash_words(path, *words):
-    """What bash completes at the end of these words."""
+    """The completions of bash at the end of these words."""
     ran = subprocess.run(["bash", "--norc", "-c", BASH, "bash", path, "boxglue", *words], stdin=subprocess.DEVNULL, capture_output=True, text=True, timeout=LIMIT)
     return {*ran.stdout.split()}
 
@@ -73,7 +73,7 @@ def of_zsh(folder):
 
 
 def of_fish(folder):
-    """The words that fish completes, or where there is no fish those of its file."""
+    """The words that fish completes; without fish those of its file."""
     path = f"{folder}/boxglue.fish"
     if shutil.which("fish"):
         def asked(line):
@@ -84,19 +84,20 @@ def of_fish(folder):
     named = {use for line in lines for use in re.findall(r" -a (\w+)", line)}
 
     def options(use):
-        mine = [it for it in lines if "seen_subcommand_from" not in it or f"'__fish_seen_subcommand_from {use}'" in it]
+        none = [it for it in lines if "not __fish_seen_subcommand_from" in it and not use]
+        mine = none + [it for it in lines if "seen_subcommand_from" not in it or f"'__fish_seen_subcommand_from {use}'" in it]
         return {f"--{it}" for line in mine for it in re.findall(r" -l (\w+)", line)}
     return {use: options(use) for use in ["", *named]}
 
 
 def of_manual(folder):
-    """The words of the manual page: those of its synopsis, and `--help`, which its options name."""
+    """The words of the manual page: those of its synopsis, and `--help` and `--version`, which its options name."""
     text = read(f"{folder}/../docs/boxglue.1").replace("\\-", "-")
     synopsis, _, options = text.partition(".SH DESCRIPTION")
     lines = [re.findall(r"boxglue +(\w+)(.*)", line) for line in synopsis.splitlines() if line.startswith(".BI")]
     plain = {*re.findall(r"--[a-z]+", options.partition(".SH OPTIONS")[2].partition(".SH")[0])}
     both = {"--help"} & plain
-    return {"": both, **{use: {*re.findall(r"--[a-z]+", more)} | both for line in lines for use, more in line}}
+    return {"": both | {"--version"} & plain, **{use: {*re.findall(r"--[a-z]+", more)} | both for line in lines for use, more in line}}
 
 
 def outcome(found, programs, root):
@@ -110,7 +111,7 @@ def outcome(found, programs, root):
 
 
 def paths_of_bash(root):
-    """After a `=` bash completes a path, and no option; after an option that has a number, nothing."""
+    """After a `=` bash completes a path, and no option; after an option with a number it completes nothing."""
     path, start = f"{root}/completions/boxglue.bash", f"{root}/examples/plain.t"
     lines = [("list", "out.dvi", "plain", "=", start), ("paint", "--page", ""), ("paint", "--page", "=", "1"), ("other", "")]
     found = [bash_words(path, *words) for words in lines]

@@ -14,8 +14,8 @@ from steps.trying import rt_try
 
 TITLE = "the #[test] functions of a crate, by rt try --test"
 
-# Tests that end only where the code is compiled without run-time checks.
-LEFT_OUT = {"worked_jobs": ["many_pages::a_job_ships_256_boxes_of_65536_nodes_and_no_more"]}
+# Tests that end only if the code is compiled without run-time checks.
+LEFT_OUT = {"tests_jobs": ["many_pages::a_job_ships_256_boxes_of_65536_nodes_and_no_more"]}
 WHY = "no answer within five minutes as rt try compiles it; rt ci runs it"
 
 # Seconds for each test: the longest takes half a minute on a quiet machine, and much more beside other work.
@@ -34,7 +34,7 @@ def tests_in(folder):
 
 
 def outcomes(printed):
-    """What `rt try --test` printed of each test: None where it is ok, else the lines about it."""
+    """The result of each test by `rt try --test`: None if it is ok, otherwise the lines about it."""
     found = {}
     for name, how, more in re.findall(r"^test (\S+) \.\.\. (\w+)\n((?: .*\n)*)", printed, re.M):
         found[name] = None if how == "ok" else " / ".join(it.strip() for it in more.splitlines()) or how
@@ -43,7 +43,7 @@ def outcomes(printed):
 
 @contextmanager
 def tree_without(names, crate, root):
-    """Gives a copy of the crates without these tests of one crate."""
+    """Makes a copy of the crates without these tests of one crate."""
     with tempfile.TemporaryDirectory(prefix="boxglue-tests-") as room:
         shutil.copy(f"{root}/crates.txt", room)
         shutil.copytree(f"{root}/crates", f"{room}/crates", ignore=shutil.ignore_patterns("out", "must-fail", "wrong-bodies"))
@@ -58,7 +58,7 @@ def tree_without(names, crate, root):
 
 
 def run_tests(root, crate, names, left_out):
-    """Runs these tests of a crate, once for all of its cases: what came of each, by its name."""
+    """Runs these tests of a crate, once for all of its cases. Returns the results by their names."""
     with tree_without(left_out, crate, root) if left_out else nullcontext(root) as tree:
         _, output, errors = rt_try(tree, crate, ["--test", "--seconds", str(LIMIT)])
     found = outcomes((output + errors).decode(errors="replace"))

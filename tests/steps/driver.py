@@ -16,20 +16,27 @@ from steps.progress import Progress
 ABOUT = """Runs all tests of boxglue, without proofs: nothing is proved by it. It needs the kit's `rt`, and no network.
 
 Without --program it builds by `rt try`, up to three builds at a time where memory allows: the #[test] functions of each crate that has
-some, the rows of script_rows, and those cases of tests/program that can run in one build. What can only run a built program is skipped.
+some, the rows of rows_scripts, and those cases of tests/program that can run in one build. What can only run a built program is skipped.
 
 With --program it builds nothing: all that is data runs over these programs, and the crates' own tests are left out. `rt run` in
 crates/boxglue makes out/boxglue; `rt ci` makes out/boxglue and out/boxglue.by-rattle.
+
+With --library the parts library_.. call the library for C, whose archive `rt lib` in crates/boxglue_c makes as out/libboxglue_c.a. They compare it with the
+first --program, and need a C compiler. Without --library they are skipped.
+
+The parts `definitions`, `library`, `known_files` and `known_devices` run no program. `definitions` checks that docs/DEFINITIONS.md is fresh:
+where it is not, run tests/definitions.
 
 A line is printed for each part: ok, FAILED or skipped, its seconds, how many of its cases passed; and a line at least every ten seconds.
 The last line is `N passed, M failed, K skipped`. The status is 0 where nothing failed, 1 where something did, 2 where the words are wrong."""
 NOTHING_PROVED = "Nothing is proved by these tests: only `rt ci` proves."
 LANES, ROOM = 3, 1_500_000_000
+NEEDED = {"boxglue": "a built program: --program", "rows_scripts": "a built program: --rows", "library": "an archive: --library"}
 
 
 @dataclass
 class Result:
-    """What came of the cases of a part, each with its reason where it did not pass."""
+    """The results of the cases of a part, with the reason for each that did not pass."""
     passed: int
     failed: list
     skipped: list
@@ -37,11 +44,12 @@ class Result:
 
 def words_of(given):
     """Reads the command line."""
-    usage = "tests/run [NAME ..] [--program PATH ..] [--rows PATH ..], tests/run --list"
+    usage = "tests/run [NAME ..] [--program PATH ..] [--rows PATH ..] [--library ARCHIVE], tests/run --list"
     parser = argparse.ArgumentParser(usage=usage, description=ABOUT, formatter_class=argparse.RawDescriptionHelpFormatter)
     parser.add_argument("names", metavar="NAME", nargs="*", help="run these parts alone (--list names them)")
     parser.add_argument("--program", metavar="PATH", nargs="+", default=[], help="run over these builds of boxglue, in place of building")
-    parser.add_argument("--rows", metavar="PATH", nargs="+", default=[], help="run script_rows over these builds of it, in place of building")
+    parser.add_argument("--rows", metavar="PATH", nargs="+", default=[], help="run rows_scripts over these builds of it, in place of building")
+    parser.add_argument("--library", metavar="ARCHIVE", help="run the tests of the library for C over this archive")
     parser.add_argument("--list", action="store_true", help="print the names of the parts, and what each tests")
     return parser, parser.parse_intermixed_args(given)
 
@@ -62,7 +70,7 @@ def attempt(call):
 
 
 def run_cases(part, pairs, one_by_one, progress):
-    """Runs the cases of a part in turn, or where nothing is built yet in one run of `rt try` that gives the results of all."""
+    """Runs the cases of a part in turn, or, if nothing is built yet, in one run of `rt try` that gives the results of all."""
     result = Result(0, [], [])
     for done, (name, call) in enumerate(pairs):
         if progress.ended.is_set():
@@ -79,7 +87,7 @@ def run_cases(part, pairs, one_by_one, progress):
 
 
 def pairs_of(part, programs, root):
-    """The cases of a part. Where they cannot be made, or have no or equal names, one that fails."""
+    """The cases of a part. If they cannot be made, or names are missing or equal, one case that fails."""
     why = None
     try:
         pairs = list(part.cases(programs, root))
@@ -91,13 +99,14 @@ def pairs_of(part, programs, root):
 
 
 def run_part(part, built, root, progress):
-    """Runs a part, and prints what came of it."""
+    """Runs a part, and prints its results."""
     began = time.monotonic()
     programs = built.get(part.program, [])
+    if part.program == "library" and programs:
+        programs = programs + built["boxglue"]
     pairs = pairs_of(part, programs, root)
     if not programs and (part.needs_program or any(built.values())):
-        reason = "it needs a built program: --" + ("program" if part.program == "boxglue" else "rows")
-        result = Result(0, [], [(name, reason) for name, _ in pairs])
+        result = Result(0, [], [(name, f"it needs {NEEDED[part.program]}") for name, _ in pairs])
     else:
         result = run_cases(part, pairs, bool(programs) or not part.tries, progress)
     progress.end(part.name)
@@ -131,8 +140,8 @@ def run_all(parts, built, root):
 
 
 def chosen(parser, words, root):
-    """The parts that the words ask for."""
-    is_data = bool(words.program or words.rows)
+    """The parts that the command line names."""
+    is_data = bool(words.program or words.rows or words.library)
     parts = {it.name: it for it in all_parts(root) if it.program or not is_data}
     wrong = [it for it in words.names if it not in parts]
     if wrong:
@@ -141,16 +150,19 @@ def chosen(parser, words, root):
 
 
 def main(root, given):
-    """Runs what the words ask for, and returns the status."""
+    """Runs the command line, and returns the status."""
     parser, words = words_of(given)
     parts = chosen(parser, words, root)
     if words.list:
         print("".join(f"{it.name:16}{it.title}\n" for it in sorted(parts, key=lambda it: it.name)), end="")
         return 0
-    built = {"boxglue": [*map(os.path.abspath, words.program)], "script_rows": [*map(os.path.abspath, words.rows)]}
-    absent = [it for paths in built.values() for it in paths if not os.access(it, os.X_OK) or os.path.isdir(it)]
+    built = {"boxglue": [*map(os.path.abspath, words.program)], "rows_scripts": [*map(os.path.abspath, words.rows)]}
+    absent = [f"program {it}" for paths in built.values() for it in paths if not os.access(it, os.X_OK) or os.path.isdir(it)]
+    if words.library:
+        built["library"] = [os.path.abspath(words.library)]
+        absent += [f"archive {it}" for it in built["library"] if not os.path.isfile(it)]
     if absent:
-        print("".join(f"FAILED: no program {it}\n" for it in absent) + f"0 passed, {len(absent)} failed, 0 skipped", flush=True)
+        print("".join(f"FAILED: no {it}\n" for it in absent) + f"0 passed, {len(absent)} failed, 0 skipped", flush=True)
         return 1
     signal.signal(signal.SIGTERM, lambda number, _: sys.exit(128 + number))
     results = run_all(parts, built, root)

@@ -41,7 +41,7 @@ class Font:
 
 @dataclass(frozen=True)
 class Page:
-    """A page: its body, its ten counts, and the fonts that are defined in front of it."""
+    """A page: its body, its ten counts, and the fonts that are defined before it."""
     body: list
     counts: tuple = (0,) * 10
     new_fonts: tuple = ()
@@ -66,7 +66,7 @@ def down(amount):
 
 
 def number(value, size):
-    """A number of `size` bytes, the highest first, signed where it is below 0."""
+    """A number of `size` bytes, the highest first, signed if it is below 0."""
     return value.to_bytes(size, "big", signed=value < 0)
 
 
@@ -82,7 +82,7 @@ def unsigned(value):
 
 
 def set_rule(height, width):
-    """set_rule: a rule; then h grows by its width."""
+    """set_rule: a rule; h grows by its width."""
     return b"\x84" + number(height, 4) + number(width, 4)
 
 
@@ -128,23 +128,23 @@ def pruned(body):
 
 
 def depth(body):
-    """The greatest number of pushes that are open at once."""
+    """The greatest number of pushes that are open at the same time."""
     return max((1 + depth(it) for it in body if isinstance(it, list)), default=0)
 
 
 class Registers:
-    """What is known of the two registers of each direction, and which one was used last."""
+    """The known values of the two registers of each direction, and which one was used last."""
 
     def __init__(self, known=None, last=None):
         self.known = known or {"right": [None, None], "down": [None, None]}
         self.last = last or {"right": 1, "down": 1}
 
     def copy(self):
-        """The same as another object: what a group changes in it is lost after the group."""
+        """A copy: the changes of a group are lost after the group."""
         return Registers({name: list(it) for name, it in self.known.items()}, dict(self.last))
 
     def spell(self, move, comes_again):
-        """The bytes of a movement, which is put into a register where its amount comes again."""
+        """The bytes of a movement, which is put into a register if its amount comes again."""
         codes, known = CODES[move.direction], self.known[move.direction]
         if move.amount in known:
             register = known.index(move.amount)

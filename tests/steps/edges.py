@@ -1,4 +1,4 @@
-"""DVI files at the edges of their numbers. Each is made by arithmetic from docs/FORMATS.md, section 7, which also says what must be answered."""
+"""DVI files at the edges of their numbers. Each is made by arithmetic from docs/FORMATS.md, section 7, which also has the expected answers."""
 from steps.dvi_writer import Font, Page, definition, down, dvi_file, number, put_rule, right, select, set_char, xxx
 from steps.large_inputs import PT, TINY, ZERO_COUNTS, listed, rule_mark, special_mark
 from steps.long_runs import Run, Work
@@ -7,7 +7,7 @@ from steps.sizes import call_of
 TITLE = "DVI files at the edges of their numbers: lengths, names, pointers, sizes and places"
 NEEDS_PROGRAM = True
 
-BOP, POINTER = 15, 41  # where the first bop is that has no definition before it; where the pointer of a bop is in it
+BOP, POINTER = 15, 41  # The place of a first bop without a definition before it; the place of the pointer in a bop.
 BODY = BOP + 45
 GREATEST, LEAST = (1 << 31) - 1, -(1 << 31)
 TINY_10PT = Font(0, b"tiny")
@@ -15,7 +15,7 @@ DEFINITION = len(definition(TINY_10PT))
 
 
 def changed(data, at, bytes_there):
-    """The bytes of a file with others at a place."""
+    """The bytes of a file, with some replaced at a place."""
     return data[:at] + bytes_there + data[at + len(bytes_there):]
 
 
@@ -30,15 +30,15 @@ def accepted(data, marks):
 
 
 def work(*files):
-    """Lists files with the metric file `tiny`. Each comes with what must be printed."""
+    """Lists files with the metric file `tiny`. Each has the expected output."""
     names = {f"{at}.dvi": it for at, it in enumerate(files, 1)}
     runs = [Run(("list", name, "tiny=tiny.tfm"), stdout=(printed,), status=int(printed.startswith(b"refused"))) for name, (_, printed) in names.items()]
     return Work({"tiny.tfm": TINY, **{name: data for name, (data, _) in names.items()}}, runs)
 
 
 def each_special():
-    """xxx1 to xxx4, each with every length up to 70,000 of a row that it can have: all bytes in turn. A special moves nothing. And one of three bytes whose line
-    was worked out by hand."""
+    """xxx1 to xxx4, each with those lengths of a list up to 70,000 that it can have; the texts have all bytes in turn. A special moves nothing.
+    And one of three bytes whose line was worked out by hand."""
     lengths = {1: (0, 1, 255), 2: (0, 1, 255, 256), 3: (0, 1, 255, 256, 70000), 4: (0, 1, 255, 256, 70000)}
     texts = [(bytes(it % 256 for it in range(length)), size) for size, all_lengths in lengths.items() for length in all_lengths]
     files = [accepted(dvi_file([Page([xxx(text, size), put_rule(1, 1)])], 0, 0).data, [special_mark(0, 0, text), rule_mark(0, 0, 1, 1)]) for text, size in texts]
@@ -80,20 +80,20 @@ def long_specials():
 
 
 def cut_names():
-    """Definitions whose length of the name, the byte before it, is too large. In a page the longer name takes the eop, or more than there is up to post;
-    behind post there is less up to post_post, and a font that a page selects is then not defined there."""
+    """Definitions whose length of the name, the byte before it, is too large. In a page the longer name takes the eop, or more bytes than there are before post;
+    after post there are fewer before post_post, and a font that a page selects is then not defined there."""
     in_page = dvi_file([Page([definition(TINY_10PT)])], 0, 0)
     length = BODY + DEFINITION - 5
     unused = dvi_file([Page([], new_fonts=(TINY_10PT,))], 0, 0)
     used = dvi_file([Page([select(0), set_char(99)], new_fonts=(TINY_10PT,))], 0, 0)
-    behind = 29  # the bytes of post, behind which the definition begins
-    last = behind + DEFINITION - 5
+    post_size = 29  # The definition begins after the bytes of post.
+    last = post_size + DEFINITION - 5
     return work(
         accepted(in_page.data, []),
         refused(changed(in_page.data, length, b"\5"), in_page.post, "Opcode"),
         refused(changed(in_page.data, length, b"\6"), BODY, "Truncated"),
         accepted(unused.data, []),
-        refused(changed(unused.data, unused.post + last, b"\5"), unused.post + behind, "Truncated"),
+        refused(changed(unused.data, unused.post + last, b"\5"), unused.post + post_size, "Truncated"),
         accepted(used.data, ["glyph 0 99 0 0"]),
         refused(changed(used.data, used.post + last, b"\5"), BODY + DEFINITION, "Font"),
     )
@@ -139,7 +139,7 @@ def greatest_font_size():
 
 
 def furthest_places():
-    """h and v of -2^31 and of 2^31 - 1, where rules are; and h of 2^31 - 1 behind a glyph, which is 5pt wide, and one more."""
+    """h and v of -2^31 and of 2^31 - 1, where rules are; and h of 2^31 - 1 after a glyph, which is 5pt wide, and one more."""
     rule = put_rule(1, 1)
     ways = [(right, GREATEST), (right, LEAST), (down, GREATEST), (down, LEAST)]
     marks = [rule_mark(GREATEST, 0, 1, 1), rule_mark(LEAST, 0, 1, 1), rule_mark(0, GREATEST, 1, 1), rule_mark(0, LEAST, 1, 1)]

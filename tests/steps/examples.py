@@ -1,4 +1,4 @@
-"""The scripts of examples/, each with a metric file of plain width for its fonts. What is wanted follows from the script's own text: each
+"""The scripts of examples/, each with a metric file of plain width for its fonts. The expected results follow from the script's own text: each
 command is accepted and answered once, each `ship` is a page, and the pages that are listed show the characters of its texts and its specials.
 README.md there has a line for each script, with a picture of each page."""
 import glob
@@ -15,7 +15,7 @@ NEEDS_PROGRAM = True
 LIMIT = 60
 # The most bytes of a picture.
 PICTURE = 20_000
-# What may show a character or a special twice, or not at all.
+# Commands that may show a character or a special twice, or not at all.
 COPIES = {"copy", "unhcopy", "unvcopy", "lastbox", "void"}
 
 
@@ -24,7 +24,7 @@ class Wrong(Exception):
 
 
 def require(holds, why):
-    """Stops where something is wrong."""
+    """Raises the reason if something is wrong."""
     if not holds:
         raise Wrong(why)
 
@@ -57,7 +57,7 @@ def specials(found):
 
 
 def run(program, room, words, given=""):
-    """Runs a program that has to accept all; returns what it prints."""
+    """Runs a program that has to accept all, and returns its output."""
     ran = subprocess.run([program, *words], input=given, cwd=room, env={}, capture_output=True, text=True, timeout=LIMIT)
     require(ran.returncode == 0, f"{words[0]}: the status is {ran.returncode}; {(ran.stderr or ran.stdout)[-200:]!r}")
     require(not ran.stderr, f"{words[0]}: standard error has {ran.stderr[:200]!r}")
@@ -109,7 +109,7 @@ def check(program, script):
 
 
 def outcome(programs, path):
-    """Runs all programs on an example; their files have to be the same."""
+    """Runs all programs on an example; their files have to be equal."""
     with open(path, encoding="ascii") as it:
         script = it.read()
     files = {}

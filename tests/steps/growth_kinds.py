@@ -1,12 +1,12 @@
-"""What a run of a script comes to where one growth of memory was refused, and in which order this comes from the first growth to the last.
+"""The possible results of a run in which one growth of memory is refused, and their order from the first growth to the last.
 
-  n   `refused 1 OutOfMemory` alone, and no file: for the words, what is read, the commands, the slots, the registers or the room for the replies; of a
+  n   `refused 1 OutOfMemory` alone, and no file: for the words, the input, the commands, the slots, the registers or the room for the replies; in a
       run on a device in memory, whose bytes are printed, also for the texts at the end
-  w   all as always: room that is asked for beforehand is made up for by a later growth, or a `ship` is refused HugePage, which is found without memory
-      where a growth was refused
+  w   as without a refusal: a later growth replaces room that is asked for in advance, or a `ship` is refused HugePage, which is found without memory
+      after a refused growth
   c   a command answers OutOfMemory; all other answers, the status and the bytes are those of the script without this command
-  d   the growth was one of the device in memory, so it failed in a `ship`: Device, JobOver from then on, and only the pages before it are out
-  e   `end: refused 1 OutOfMemory`: all pages are out, and no end
+  d   the growth was one of the device in memory, so it failed in a `ship`: Device, then JobOver, and only the pages before it are in the file
+  e   `end: refused 1 OutOfMemory`: all pages are in the file, and no end
   f   `end: refused 18 Device`: the same
   t   `refused 1 OutOfMemory` alone, for the texts of the answers: the whole file is written"""
 import re
@@ -19,20 +19,21 @@ MAY_TAKE_MEMORY = {
     "unhbox", "unhcopy", "unvbox", "unvcopy", "vsplit",
 }
 NOTHING, WHOLE, COMMAND, DEVICE, END, END_DEVICE, TEXTS = "nwcdeft"
-# Made up for is at most the room for the words (where there are any), the commands and their numbers. The device grows only where its room is used up.
+# Only the room for the words, if there are any, is replaced later. The device grows only when its room is used up. A line is answered as soon as it was run,
+# so the texts grow between the commands; a run on a device in memory shows no difference between such a growth and one before the run.
 # In the scripts here at most one `ship` of a huge page grows before it is refused.
-ORDER_IN_MEMORY = re.compile("n+w{0,2}n+[cd]*w?[cd]*c[cd]*d[cd]*e+f?n+")
-ORDER_TO_A_FILE = re.compile("n+w?n+w{0,2}n+c*w?c+e+t+")
+ORDER_IN_MEMORY = re.compile("n+[cdn]*w?[cdn]*c[cdn]*d[cdn]*e+f?n+")
+ORDER_TO_A_FILE = re.compile("n+w?n+[ct]*w?[ct]*c[ct]*e+t*")
 ORDER_OF_A_READING = re.compile("n+w?n+")
 
 
 class Wrong(Exception):
-    """What a run came to is none of the kinds."""
+    """The result of a run is none of the kinds."""
 
 
 @dataclass(frozen=True)
 class Ended:
-    """How a run ended: its status, what it printed, and the file that it wrote, which is empty where there is none."""
+    """The result of a run: its status, its output, and the file that it wrote, which is empty if there is none."""
     status: int
     output: bytes
     errors: bytes
@@ -49,7 +50,7 @@ class Answered:
 
 @dataclass(frozen=True)
 class Kind:
-    """The letter of a kind, and the line that met the refused growth where it is a command."""
+    """The letter of a kind, and the line of the command that met the refused growth, if one did."""
     letter: str
     line: int = 0
 
@@ -77,7 +78,7 @@ def boxes_into_registers(lines):
 
 
 def of_command(script, line, run, without):
-    """A command wanted memory: all else is as in the script without it."""
+    """A command ran out of memory: all else is as in the script without it."""
     command = script.lines[line - 1]
     if command.split()[0] not in MAY_TAKE_MEMORY or line in boxes_into_registers(script.lines):
         raise Wrong(f"line {line}, {command}, takes no memory")
@@ -93,7 +94,7 @@ def front(script, pages):
 
 
 def of_device(script, line, run, whole):
-    """The device failed in a `ship`: all before it is as always, and all after it is JobOver."""
+    """The device failed in a `ship`: all before it is as usual, and all after it is JobOver."""
     shipped = re.fullmatch(r"shipped (\d+)", whole.replies[line])
     if not shipped:
         raise Wrong(f"the device failed in line {line}, which ships nothing")
@@ -104,7 +105,7 @@ def of_device(script, line, run, whole):
 
 
 def of_end(script, run, whole):
-    """The finish was refused: the commands are answered as always, and all pages are out."""
+    """The finish was refused: the commands are answered as usual, and all pages are in the file."""
     letter = {WANTS_MEMORY: END, FAILED: END_DEVICE}.get(run.end)
     if not letter or run != Answered(whole.replies, run.end, front(script, len(script.page_ends))):
         raise Wrong(f"the answers are none of those after a refused growth, with the end {run.end}")
@@ -119,7 +120,7 @@ def of_no_answers(ended, whole):
 
 
 def kind_of(script, ended, whole, without):
-    """The kind of a run in which one growth was refused. `whole` are the answers where none was, `without` those without the command of a line."""
+    """The kind of a run in which one growth was refused. `whole` are the answers without a refusal, `without` those without the command of a line."""
     if ended.status not in (0, 1) or ended.errors:
         raise Wrong(f"the status is {ended.status}, standard error {ended.errors[:200]!r}")
     if ended.output == ALONE and ended.status == 1:
@@ -129,15 +130,15 @@ def kind_of(script, ended, whole, without):
         raise Wrong(f"the status is {ended.status}, with the end {run.end}")
     if run == whole:
         return Kind(WHOLE)
-    wanting = [at for at, reply in run.replies.items() if reply == WANTS_MEMORY]
+    refused = [at for at, reply in run.replies.items() if reply == WANTS_MEMORY]
     failed = [at for at, reply in run.replies.items() if reply == FAILED]
-    if wanting:
-        return of_command(script, wanting[0], run, without)
+    if refused:
+        return of_command(script, refused[0], run, without)
     return of_device(script, failed[0], run, whole) if failed else of_end(script, run, whole)
 
 
 def order_wrong(kinds, order):
-    """Says what is wrong with the order of the kinds, or returns None."""
+    """Returns what is wrong with the order of the kinds, or None."""
     letters = "".join(it.letter for it in kinds)
     lines = [it.line for it in kinds if it.line]
     if not order.fullmatch(letters):

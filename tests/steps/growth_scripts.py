@@ -1,6 +1,6 @@
-"""The scripts of tests/growths, and what the program must answer to them where no growth is refused.
+"""The scripts of tests/growths, and their answers if no growth is refused.
 
-NAME.box is the script. NAME.answers are the answers, written by hand. The pages below are what docs/FORMATS.md, section 8, says of these scripts; their
+NAME.box is the script. NAME.answers are the answers, written by hand. The pages below follow from docs/FORMATS.md, section 8; their
 bytes are made by the writer of the tests."""
 from dataclasses import dataclass
 
@@ -19,12 +19,12 @@ SPECIALS = [down(PT), special(b"a"), RULE, [special(b"bb")], special(b"")]
 
 
 def line_of(height, *parts):
-    """A line or a page of text in font 0, whose baseline is so far below the top."""
+    """A line or a page of text in font 0, whose baseline is this far below the top."""
     return [down(height * PT), select(0), *parts]
 
 
 def column(*heights):
-    """Rules 10pt wide at the left edge: pairs of how far the corner of each lies below the one before, and its height."""
+    """Rules 10pt wide at the left edge: pairs of the distance of its corner below that of the rule before, and its height."""
     return [part for below, height in heights for part in (down(below * PT), put_rule(height * PT, 10 * PT))]
 
 
@@ -63,7 +63,7 @@ BLANK, BLACK = b"P1\n3 3\n000\n000\n000\n", b"P1\n3 3\n000\n100\n000\n"
 LISTING = (
     b"page 1 counts 0 0 0 0 0 0 0 0 0 0\nglyph 0 99 0 655360\nglyph 1 98 327680 655360\nglyph 1 99 983040 655360\n"
 )
-# By name: the words, the DVI file, and what is printed.
+# By name: the words, the DVI file, and the output.
 READINGS = {
     "list_one_rule_page": (("list", "f.dvi"), ONE_RULE_FILE, b"page 1 counts 0 0 0 0 0 0 0 0 0 0\nrule 0 65536 65536 65536\n"),
     "paint_one_rule_page": (PAINT, ONE_RULE_FILE, BLACK),

@@ -1,4 +1,4 @@
-"""The script `install`. Built programs are copied with --program; without it a stand-in for `rt` is on the path, which writes down how it is called: nothing is proved."""
+"""The script `install`. Built programs are copied with --program; without it a stand-in for `rt` is on the path, which records its calls: nothing is proved."""
 import os
 import signal
 import subprocess
@@ -13,7 +13,7 @@ MODES = {"bin/boxglue": 0o755, "share/man/man1/boxglue.1": 0o644, "share/bash-co
          "share/zsh/site-functions/_boxglue": 0o644, "share/fish/vendor_completions.d/boxglue.fish": 0o644}
 # Answers an empty script, as boxglue does.
 ANSWERS = "#!/bin/sh\necho end: pages 0 bytes 0\n"
-# Stands in for `rt`. `run` in the folder of the program leaves the program; a crate that is named in the file `bad` is refused, and one in `slow` takes long.
+# Stands in for `rt`. `run` in the folder of the program leaves the program; a crate in the file `bad` is refused, and one in `slow` takes long.
 RT = """#!/bin/sh
 echo "$1 ${PWD##*/}" >> "$ROOM/calls"
 grep -qsx "${PWD##*/}" "$ROOM/slow" && exec sleep 50
@@ -41,13 +41,13 @@ def read(path):
 
 
 def sources(root, program):
-    """Which file is copied to which place."""
+    """The place to which each file is copied."""
     named = ["docs/boxglue.1", "completions/boxglue.bash", "completions/_boxglue", "completions/boxglue.fish"]
     return dict(zip(MODES, [program, *(f"{root}/{it}" for it in named)]))
 
 
 def placed(prefix, root, program):
-    """What is wrong with the files that were put in place, or None."""
+    """What is wrong with the installed files, or None."""
     found = {os.path.relpath(f"{folder}/{name}", prefix) for folder, _, names in os.walk(prefix) for name in names}
     if found != {*MODES}:
         return f"these files are there or not there: {sorted(found ^ {*MODES})}"
@@ -58,14 +58,14 @@ def placed(prefix, root, program):
 
 
 def install(root, words, room, path=None):
-    """Runs the script; returns its status and what it printed."""
+    """Runs the script, and returns its status and its output."""
     env = {"HOME": f"{room}/home", "PATH": path or os.environ["PATH"], "ROOM": room}
     ran = subprocess.run([f"{root}/install", *words], cwd=room, env=env, stdin=subprocess.DEVNULL, capture_output=True, text=True, timeout=LIMIT)
     return ran.returncode, ran.stdout, ran.stderr
 
 
 def copies(root, program, words, prefix):
-    """Installs a program twice, over itself; the program that was put in place answers an empty script."""
+    """Installs a program twice, over itself. The installed program answers an empty script."""
     with tempfile.TemporaryDirectory(prefix="boxglue-install-") as room:
         for _ in range(2):
             status, output, errors = install(root, [*(it.replace("ROOM", room) for it in words), "--program", os.path.relpath(program, room)], room)
@@ -78,7 +78,7 @@ def copies(root, program, words, prefix):
 
 
 def with_programs(call, programs):
-    """Runs a case with each program, or with a stand-in where none is built."""
+    """Runs a case with each program, or with a stand-in if none is built."""
     with tempfile.TemporaryDirectory(prefix="boxglue-install-") as room:
         write(f"{room}/boxglue", ANSWERS, 0o755)
         found = {os.path.basename(it): call(it) for it in programs or [f"{room}/boxglue"]}
@@ -86,7 +86,7 @@ def with_programs(call, programs):
 
 
 def refused(root, words, why, before=""):
-    """A program that cannot be copied: the status is 1, and nothing is put in place."""
+    """A program that cannot be copied: the status is 1, and nothing is installed."""
     with tempfile.TemporaryDirectory(prefix="boxglue-install-") as room:
         write(f"{room}/given", before, 0o755)
         status, _, errors = install(root, [*words, "--prefix", f"{room}/here"], room)
@@ -106,12 +106,12 @@ def made_repository(root, room):
 
 
 def calls(room):
-    """How `rt` was called."""
+    """The calls of `rt`."""
     return read(f"{room}/calls").decode().splitlines() if os.path.exists(f"{room}/calls") else []
 
 
 def proves(root):
-    """The crates are proved in order, each after those that it uses, with a line for each; then all is put in place."""
+    """The crates are proved in order, each after those that it uses, with a line for each; then all is installed."""
     with tempfile.TemporaryDirectory(prefix="boxglue-install-") as room:
         top, path = made_repository(root, room)
         status, output, errors = install(top, [], room, path)
@@ -124,7 +124,7 @@ def proves(root):
 
 
 def stops_at_a_crate(root):
-    """A crate that is not proved ends it, with what `rt` says; nothing is put in place."""
+    """A crate that is not proved ends it, with the text of `rt`; nothing is installed."""
     with tempfile.TemporaryDirectory(prefix="boxglue-install-") as room:
         top, path = made_repository(root, room)
         write(f"{room}/bad", "right\n")
@@ -135,17 +135,23 @@ def stops_at_a_crate(root):
 
 
 def stops_when_told(root, number, lines):
-    """A signal ends it, with the `rt` that runs, once it has printed these lines: while a crate takes long, it prints one in ten seconds. Started again, it goes on."""
+    """A signal ends the script and the `rt` that runs, once it has printed these lines: while a crate takes long, it prints one every ten seconds.
+    Started again, it continues."""
     with tempfile.TemporaryDirectory(prefix="boxglue-install-") as room:
         top, path = made_repository(root, room)
         write(f"{room}/slow", "right\n")
         env = {"HOME": f"{room}/home", "PATH": path, "ROOM": room}
-        # A shell cannot trap a signal that was ignored when it began, as an interrupt is in what a script runs in the background.
+        # A shell cannot trap a signal that was ignored when it began, as an interrupt is in the background jobs of a script.
         with subprocess.Popen(["env", "--default-signal=INT", f"{top}/install"], env=env, stdin=subprocess.DEVNULL, stdout=subprocess.PIPE, stderr=subprocess.PIPE, text=True) as started:
             found = [started.stdout.readline() for _ in lines]
             began = time.monotonic()
             started.send_signal(number)
-            started.communicate(timeout=LIMIT)
+            try:
+                started.communicate(timeout=LIMIT)
+            except subprocess.TimeoutExpired:
+                # The end of the `with` waits for it.
+                started.kill()
+                return "it does not end"
         if started.returncode != 128 + number or time.monotonic() - began > 20 or not all(line in it for line, it in zip(lines, found)):
             return f"the status is {started.returncode}, the lines {found}"
         os.remove(f"{room}/slow")

@@ -1,7 +1,7 @@
-"""The cases of crates/script_rows on devices that may fail: their texts in its file stdout, against a model of these devices and the bytes of the tests'
+"""The cases of crates/rows_scripts on devices that may fail: their texts in its file stdout, against a model of these devices and the bytes of the tests'
 own writer. It runs no program.
 
-A `ship` sends the bytes of its page in one text, which the device takes piece after piece; the end of the file is another one."""
+A `ship` sends the bytes of its page in one text, which the device takes piece by piece; the end of the file is another text."""
 import os
 import re
 from dataclasses import dataclass
@@ -13,7 +13,7 @@ from steps.growth_kinds import FAILED, OVER
 from steps.large_inputs import hexadecimal, packed, summary
 from steps.texts import blocks, first_difference
 
-TITLE = "the cases of script_rows on devices that fail, by a model of the devices and the tests' own DVI writer"
+TITLE = "the cases of rows_scripts on devices that fail, by a model of the devices and the tests' own DVI writer"
 
 PT = 65536
 
@@ -58,7 +58,7 @@ class Fuse:
         self.most, self.at, self.calls, self.failures, self.data = most, at, 0, 0, b""
 
     def write(self, piece):
-        """Takes a beginning of a piece. Returns how many bytes it took; 0 where it fails."""
+        """Takes a beginning of a piece. Returns how many bytes it took; 0 if it fails."""
         self.calls += 1
         if self.calls == self.at:
             self.failures += 1
@@ -74,7 +74,7 @@ class Rest:
         self.inner, self.left = inner, sent
 
     def write(self, piece):
-        """Compares a piece with what is left of those bytes; passes it on where nothing is left."""
+        """Compares a piece with the rest of those bytes; passes it on if none are left."""
         if not self.left:
             return self.inner.write(piece)
         same = len(os.path.commonprefix([self.left, piece]))
@@ -83,7 +83,7 @@ class Rest:
 
 
 def is_sent(device, data):
-    """Sends bytes piece after piece, and returns whether the device took all."""
+    """Sends bytes piece by piece, and returns whether the device took all."""
     while data:
         count = device.write(data)
         if not count:
@@ -110,13 +110,13 @@ def verdict(accepted):
 
 
 def run_text(script, device, fuse):
-    """What is printed of a run on a device, of which `fuse` is the inner one."""
+    """The output for a run on a device, of which `fuse` is the inner one."""
     answers, accepted = run(script, device)
     return f"{answers}{hexadecimal(fuse.data).decode()}failures {fuse.failures}\n{verdict(accepted)}\n"
 
 
 def rerun_text(script, fuse, words):
-    """What is printed of a run over the rest of a file, and the inner device of it."""
+    """The output for a run over the rest of a file, and its inner device."""
     sent = bytearray(fuse.data)
     if words[:1] == ["fuse"]:
         fuse = Fuse(*map(int, words[1:]))
@@ -136,7 +136,7 @@ def call_text(script, most, at):
 
 
 def case_text(text):
-    """What must be printed of a case, by its text in the file of cases."""
+    """The expected output of a case, by its text in the file of cases."""
     lines = [line for line in text.decode().splitlines() if line and line[0] != "%"]
     commands = tuple(it[1:] for it in lines if it[0] == "|")
     script = next(it for it in SCRIPTS if commands == tuple(command for command, _ in it.rows))
@@ -154,13 +154,13 @@ def case_text(text):
 
 
 def outcome(printed, text):
-    """Says how what is printed of a case differs from what must be, or returns None."""
+    """Returns how the output of a case differs from the expected one, or None."""
     return first_difference("the text", printed, case_text(text).encode())
 
 
 def cases(programs, root):
     """The cases on such devices, by the order of the file."""
-    folder = f"{root}/crates/script_rows"
+    folder = f"{root}/crates/rows_scripts"
     printed = blocks(read(folder, "stdout"))
     for name, text in re.findall(rb"^case (.*)\n((?:(?!case ).*\n)*)", read(folder, "stdin"), re.M):
         if b"\ndevice fuse " in b"\n" + text:

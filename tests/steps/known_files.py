@@ -1,7 +1,7 @@
-"""The DVI writer of the tests, on the files and bodies that docs/FORMATS.md, section 8, writes out byte by byte. It runs no program."""
+"""The DVI writer of the tests, compared with files and bodies whose bytes are known, as those of docs/FORMATS.md, section 8. It runs no program."""
 from steps.dvi_writer import Font, Page, Registers, down, dvi_file, pruned, put_rule, right, select, set_char, set_rule, special, spelled
 
-TITLE = "the tests' own DVI writer, on the files that docs/FORMATS.md writes out"
+TITLE = "the tests' own DVI writer, on files whose bytes are known"
 
 PT = 65536
 RULE = set_rule(PT, PT)
@@ -9,7 +9,7 @@ ONE_RULE = [down(PT), RULE]
 C, B = set_char(99), set_char(98)
 AT_10PT, AT_20PT = Font(0, b"tiny"), Font(1, b"tiny", 20 * PT)
 
-# Of a file: its pages, the greatest height plus depth and width, and what it must have: bytes by their places, the place of post, the length.
+# For a file: its pages, the greatest height plus depth and width; and the expected bytes by their places, place of post, and length.
 FILES = {
     "one_rule": ([Page(ONE_RULE)], PT, PT, {
         0: "f7 02 018392c0 1c3b0000 000003e8 00",
@@ -52,7 +52,7 @@ FILES = {
 
 
 def moves(text):
-    """A body of movements to the right by one digit each, glyphs c, and groups in parentheses."""
+    """A body from a text: a digit is a movement to the right, `c` a glyph, and parentheses are a group."""
     stack = [[]]
     for it in text:
         if it == "(":
@@ -73,7 +73,7 @@ BODIES = {
 
 
 def file_wrong(pages, height, width, parts, post, length):
-    """Says how the file differs from what it must be, or returns None."""
+    """Returns how the file differs from the expected one, or None."""
     file = dvi_file(pages, height, width)
     if (file.post, len(file.data)) != (post, length):
         return f"post at {file.post} and not {post}, {len(file.data)} bytes and not {length}"
@@ -85,7 +85,7 @@ def file_wrong(pages, height, width, parts, post, length):
 
 
 def body_wrong(text, must_be):
-    """Says how the bytes of a body differ from what they must be, or returns None."""
+    """Returns how the bytes of a body differ from the expected ones, or None."""
     found = spelled(pruned(moves(text)), Registers())
     return None if found == bytes.fromhex(must_be) else f"the bytes are {found.hex(' ')} and not {must_be}"
 

@@ -1,4 +1,4 @@
-"""The kinds of runs with a refused growth (growth_kinds.py), on answers that are written here: which kind each is, or that it is none. It runs no program."""
+"""The kinds of runs with a refused growth (growth_kinds.py), on answers that are written here, each with its kind or none. It runs no program."""
 from functools import partial
 
 from steps.growth_kinds import ALONE, FAILED, OVER, WANTS_MEMORY, Answered, Ended, Wrong, kind_of
@@ -24,11 +24,11 @@ def run(replies, end, data=b"", status=1, errors=b""):
 
 
 def over_from(line):
-    """The replies where the device fails in a line."""
+    """The replies if the device fails in a line."""
     return {at: it if at < line else FAILED if at == line else OVER for at, it in REPLIES.items()}
 
 
-# By name: a run, and the letter of its kind, or None where it is none.
+# By name: a run, and the letter of its kind, or None if it is none.
 RUNS = {
     "nothing_was_run": (Ended(1, ALONE, b"", b""), "n"),
     "only_the_texts_lack": (Ended(1, ALONE, b"", FILE), "t"),
@@ -61,12 +61,12 @@ RUNS = {
 
 
 def without(line):
-    """The answers of the script without a line; but for that of the copy they are not asked for rightly."""
+    """The answers of the script without a line; only those without the copy may be asked for."""
     return WITHOUT_COPY if line == 4 else WHOLE
 
 
 def wrong_kind(ended, letter):
-    """Says what is wrong with the kind that a run is taken for, or returns None."""
+    """Returns what is wrong with the kind that was found for a run, or None."""
     try:
         found = kind_of(SCRIPT, ended, WHOLE, without).letter
     except Wrong:

@@ -1,4 +1,4 @@
-"""Makes inputs at size, and what the program must answer to them: by arithmetic from docs/COMMANDS.md and docs/FORMATS.md, never by the program.
+"""Makes large inputs and the expected answers: by arithmetic from docs/COMMANDS.md and docs/FORMATS.md, never by the program.
 
 Each function returns a `Work`: files, and runs over them. The lengths 80,104 and 230,341 are asserted, since they were worked out by hand."""
 import time
@@ -65,7 +65,7 @@ def hexadecimal(data):
 
 
 def listed(pages):
-    """The listing of pages, each its marks: (height, width, h, v) of a rule, (font, code, h, v) of a glyph with the word in front."""
+    """The listing of pages, each its marks: (height, width, h, v) of a rule, (font, code, h, v) of a glyph with its word before it."""
     lines = []
     for at, (counts, marks) in enumerate(pages, 1):
         lines.append(f"page {at} counts {counts}\n")
@@ -79,7 +79,7 @@ def rule_mark(h, v, height, width):
 
 
 def special_mark(h, v, text):
-    """The line of a special: what is not printable, and a backslash, in two hexadecimal digits after a backslash."""
+    """The line of a special: a byte that is not printable, and a backslash, is a backslash and two hexadecimal digits."""
     return f"special {h} {v} " + "".join(chr(it) if 32 <= it < 127 and it != 92 else f"\\{it:02x}" for it in text)
 
 
@@ -94,7 +94,7 @@ def typeset_and_list(file, runs_answers, lines, marks, fonts=()):
 # A script of 300 KB
 
 def long_script():
-    """A script of 307,200 bytes: 15,000 kerns of 1sp, a comment after each tenth of them, and a rule. And what the program without words prints."""
+    """A script of 307,200 bytes: 15,000 kerns of 1sp, a comment after each tenth of them, and a rule. And the output of the program without words."""
     head, tail, comments = "hbox into 0\n", "rule 1pt 1pt 0pt\nend\nship 0\n", 1500
     room = 307200 - len(head) - len(tail) - 15000 * len("kern 1sp\n")
     each, more = divmod(room, comments)
@@ -251,7 +251,7 @@ def page_of_instructions():
 
 # A paragraph of 65,536 items
 
-RULES_OF_A_WORD = (9362, 9362, 9362, 9362, 9362, 9362, 9364)  # together 1pt
+RULES_OF_A_WORD = (9362, 9362, 9362, 9362, 9362, 9362, 9364)  # Together 1pt.
 LAST_WORD = RULES_OF_A_WORD + (1,)
 
 
@@ -290,7 +290,7 @@ def split_and_measured(front, rest):
 
 
 def split_halfway():
-    """32,768 rules 1sp high with glue of 1sp after each, split to 32,767sp: the front of 16,384 rules is exactly as high, and the next one is awful. Of
+    """32,768 rules 1sp high with glue of 1sp after each, split to 32,767sp: the front of 16,384 rules is exactly as high, and the next place is awful. In
     the rest the first glue is dropped, and splittopskip of 10pt less 1sp comes first."""
     lines = ["vbox into 0", *["rule 1pt 1sp 0sp", "glue 1sp"] * 32768, "end", "vsplit 0 to 32767sp into 1", "measure 1", "measure 0"]
     front, rest = sizes(PT, 32767, 0), sizes(PT, 10 * PT - 1 + 32768, 0)
@@ -334,7 +334,7 @@ def large_bitmap():
 
 
 class Blocks:
-    """Blocks that are made anew each time."""
+    """Blocks that are made again for each use."""
 
     def __init__(self, make):
         self.make = make
@@ -399,7 +399,7 @@ def high_font_numbers():
 
 
 def all_slots():
-    """256 fonts are handed in and used, each in its slot at a size of its own: `c` is half as wide and as high."""
+    """256 fonts are given and used, each in its slot at a size of its own: `c` is half as wide and as high."""
     sizes_at = [655360 + 2 * slot for slot in range(256)]
     lines = [line for slot, size in enumerate(sizes_at) for line in (f"font {slot} f{slot} at {size}sp", f"use {slot}")]
     lines += ["hbox into 0", *[line for slot in range(256) for line in (f"use {slot}", "text c")], "end", "ship 0"]
@@ -433,7 +433,7 @@ def text_of(count):
 
 
 def long_texts():
-    """A `text` that makes the list too long adds nothing, and one that fills it is shipped. At 100sp `c` is 50sp wide and high."""
+    """A `text` that would make the list too long adds nothing, and one that fills it is shipped. At 100sp `c` is 50sp wide and high."""
     too_long, box = "refused 10 ListTooLong", packed(65536 * 50, 50, 0)
     rows = [
         ("font 0 tiny at 100sp", "ok"), ("use 0", "ok"),
@@ -485,7 +485,7 @@ def large_font():
 # Files at the limit of a reading
 
 def greatest_file():
-    """A file of 268,435,456 bytes is read: as a DVI file it lacks its bytes 223, as a script its first line has a byte 0."""
+    """A file of 268,435,456 bytes is read: as a DVI file the bytes 223 at its end are missing, as a script its first line has a byte 0."""
     trailer = f"refused 20 BadDvi {READ_LIMIT} Trailer\n".encode()
     return Work({"limit": Sparse(READ_LIMIT)}, [
         Run(("list", "limit"), stdout=(trailer,), status=1),
@@ -494,7 +494,7 @@ def greatest_file():
 
 
 def too_large_file():
-    """A file of one byte more cannot be read."""
+    """A file with one more byte cannot be read."""
     return Work({"beyond": Sparse(READ_LIMIT + 1)}, [
         Run(("list", "beyond"), stderr=b"boxglue: cannot read beyond\n", status=1),
         Run((), "beyond", stderr=b"boxglue: cannot read -\n", status=1),

@@ -1,4 +1,4 @@
-"""Runs of a program with inputs and outputs of any size: fed from a file or a pipe, in pieces, and read as they come."""
+"""Runs of a program with inputs and outputs of any size: fed from a file or a pipe, in pieces; the output is read as it comes."""
 import fcntl
 import os
 import select
@@ -16,19 +16,19 @@ LIMIT = 60
 
 @dataclass(frozen=True)
 class Sparse:
-    """A file of `size` bytes 0, which takes no room on the disk."""
+    """A file of `size` bytes 0, which takes no space on the disk."""
     size: int
 
 
 @dataclass(frozen=True)
 class Run:
-    """A run of the program, and what it must give.
+    """A run of the program, and its expected results.
 
     stdin    the bytes of standard input, or the name of a file in the folder
-    feed     makes the pieces in which these bytes are written into a pipe; absent: standard input is a file
+    feed     makes the pieces in which these bytes are written into a pipe; by default standard input is a file
     slowly   standard output is a small pipe that is read slowly, by a reader that stops the program now and then
-    stdout   the blocks of what it must print
-    made     the files that must be in the folder then, by name; None: there must be none of this name"""
+    stdout   the blocks of the expected output
+    made     the files that must then be in the folder, by name; None if there must be none with this name"""
     words: tuple = ()
     stdin: object = b""
     feed: object = None
@@ -41,7 +41,7 @@ class Run:
 
 @dataclass(frozen=True)
 class Work:
-    """Files, and runs over them, one after another in the same folder."""
+    """Files, and runs over them, in order, in the same folder."""
     files: dict
     runs: list
 
@@ -76,14 +76,14 @@ class Comparison:
             piece, self.block, self.place = piece[size:], self.block[size:], self.place + size
 
     def end(self):
-        """Says what is wrong once all has come, or returns None."""
+        """Returns what is wrong at the end of the output, or None."""
         if not self.wrong and self.next_block():
             self.wrong = f"ends after {self.place} bytes, before {bytes(self.block[:60])!r}"
         return self.wrong
 
 
 def write_pieces(end, pieces):
-    """Writes pieces into a pipe, and closes it. A program that is done may leave some of them."""
+    """Writes pieces into a pipe, and closes it. A program that has ended may leave some of them."""
     try:
         for piece in pieces:
             os.write(end, piece)
@@ -94,14 +94,14 @@ def write_pieces(end, pieces):
 
 
 def fed(pieces):
-    """The end to read of a pipe into which a thread writes pieces, and the thread. The pipe keeps them apart: each reading gets one piece."""
+    """The reading end of a pipe into which a thread writes pieces, and the thread. The pipe keeps them apart: each read gets one piece."""
     output, end = os.pipe2(os.O_CLOEXEC | os.O_DIRECT)
     writer = threading.Thread(target=write_pieces, args=(end, pieces))
     return output, writer
 
 
 def stopped_and_continued(process):
-    """Stops a program and lets it go on: a call that it waits in is interrupted, and a writing that has taken a part returns that part."""
+    """Stops a program and continues it: a call in which it waits is interrupted, and a write that has taken a part returns the size of that part."""
     try:
         os.kill(process.pid, signal.SIGSTOP)
         os.waitid(os.P_PID, process.pid, os.WSTOPPED | os.WEXITED | os.WNOWAIT)
@@ -111,7 +111,7 @@ def stopped_and_continued(process):
 
 
 def pieces_of(output, slowly, process, until):
-    """What comes out of a pipe, piece after piece, up to its end or to a point in time, where the program is killed."""
+    """The output of a pipe, piece by piece, up to its end, or up to a point in time at which the program is killed."""
     count = 0
     while select.select([output], [], [], max(0, until - time.monotonic()))[0]:
         piece = os.read(output, 1500 if slowly else 1 << 20)
@@ -139,7 +139,7 @@ def opened_input(run, folder):
 
 
 def compared(run, process, output):
-    """Compares what a program prints with what it must print, and says what is wrong, or returns None."""
+    """Compares the output of a program with the expected one. Returns what is wrong, or None."""
     comparison = Comparison(run.stdout)
     for piece in pieces_of(output, run.slowly, process, time.monotonic() + LIMIT):
         comparison.take(piece)
@@ -150,7 +150,7 @@ def compared(run, process, output):
 
 
 def started(program, run, folder, errors):
-    """Starts a program. Returns its process, the end to read of its standard output, and the thread that feeds it, if one does."""
+    """Starts a program. Returns its process, the reading end of its standard output, and the thread that feeds it, if one does."""
     source, writer = opened_input(run, folder)
     output, end = os.pipe2(os.O_CLOEXEC)
     if run.slowly:
@@ -167,7 +167,7 @@ def started(program, run, folder, errors):
 
 
 def ended(program, run, folder):
-    """Runs a program, and returns its status, what is wrong with its output, and what it printed to standard error."""
+    """Runs a program, and returns its status, what is wrong with its output, and its standard error."""
     with tempfile.TemporaryFile() as errors:
         process, output, writer = started(program, run, folder, errors)
         try:
@@ -184,7 +184,7 @@ def ended(program, run, folder):
 
 
 def made_wrong(run, folder):
-    """Says which file is not as it must be, or returns None."""
+    """Returns which file is wrong, or None."""
     for name, must_be in run.made.items():
         path = f"{folder}/{name}"
         if must_be is None and os.path.exists(path):
@@ -202,7 +202,7 @@ def made_wrong(run, folder):
 
 
 def wrong_in(program, run, folder):
-    """Says what is wrong with a run, or returns None."""
+    """Returns what is wrong with a run, or None."""
     status, wrong, errors = ended(program, run, folder)
     if wrong:
         return f"standard output {wrong} (status {status}, standard error {errors[:200]!r})"
@@ -224,7 +224,7 @@ def place(files, folder):
 
 
 def wrong_with(program, work):
-    """Does a work with a program, and says what is wrong with its first run that is wrong, or returns None."""
+    """Runs a work with a program. Returns what is wrong with its first wrong run, or None."""
     with tempfile.TemporaryDirectory(prefix="boxglue-sizes-") as folder:
         place(work.files, folder)
         for run in work.runs:
@@ -236,6 +236,6 @@ def wrong_with(program, work):
 
 
 def done(programs, work):
-    """Does a work with each program, and says what is wrong, or returns None."""
+    """Runs a work with each program. Returns what is wrong, or None."""
     found = [wrong_with(it, work) for it in programs]
     return "; ".join(it for it in found if it) or None

@@ -1,4 +1,4 @@
-"""Files of the repository that a script of the repository makes: they have to be what the script gives today."""
+"""Files of the repository that a script of the repository makes: they have to equal the script's output."""
 import subprocess
 import sys
 from functools import partial
@@ -10,7 +10,7 @@ MADE = {"examples/plain.tfm": "examples/plain-metrics"}
 
 
 def outcome(root, path, script):
-    """Says where the file is not what the script prints, or returns None."""
+    """Returns where the file differs from the script's output, or None."""
     ran = subprocess.run([sys.executable, "-B", f"{root}/{script}"], capture_output=True, timeout=LIMIT)
     with open(f"{root}/{path}", "rb") as it:
         return None if ran.returncode == 0 and ran.stdout == it.read() else f"{script} prints another file, status {ran.returncode}"

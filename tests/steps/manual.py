@@ -1,4 +1,4 @@
-"""The manual page, docs/boxglue.1: its lists of refusals and of bad scripts are those of COMMANDS.md and FORMATS.md, its usual mistakes are what the program refuses, and
+"""The manual page, docs/boxglue.1: its lists of refusals and of bad scripts are those of COMMANDS.md and FORMATS.md, the program refuses its usual mistakes, and
 its lines for many scripts at once run 200 of them."""
 import os
 import re
@@ -15,7 +15,7 @@ TITLE = "the manual page: refusals, usual mistakes, and lines for many scripts a
 NEEDS_PROGRAM = True
 LIMIT = 120
 SCRIPTS, PT = 200, 65536
-# The mistakes that are described in words, with an example and what is right.
+# The mistakes that are described in words, with an example and the right line.
 DESCRIBED = {"a tab between words": ("hbox into\t0", "hbox into 0"), "a comment that begins with a space": (" % a comment", "% a comment")}
 
 
@@ -38,7 +38,7 @@ def part(page, title):
 
 
 def blocks(page, before):
-    """The texts without fill of the page, each with the lines of it, where a line with these words comes before."""
+    """The unfilled texts of the page that come after a line with these words, each as its lines."""
     return plain(re.search(rf"{before}.*?\.nf\n(.*?)\.fi", page, re.S)[1])
 
 
@@ -51,7 +51,7 @@ def refusals(root):
 
 
 def mistakes(page):
-    """The table of bad scripts: cause, mistaken line, right line. Of each text the last line is the example."""
+    """The table of bad scripts: cause, mistaken line, right line. The last line of each text is the example."""
     rows = re.findall(r"^(\w+);T\{\n(.*?)\nT\};T\{\n(.*?)\nT\}$", plain(part(page, "Bad scripts")), re.M | re.S)
     for cause, wrong, right in rows:
         wrong, right = wrong.splitlines()[-1], right.splitlines()[-1]
@@ -61,13 +61,13 @@ def mistakes(page):
 def causes(root):
     """The causes of bad scripts."""
     here = {cause for cause, _, _ in mistakes(read(f"{root}/docs/boxglue.1"))}
-    table = read(f"{root}/docs/FORMATS.md").partition("\n### Bad scripts\n")[2].partition("\n| line | cause |")[0]
+    table = read(f"{root}/docs/FORMATS.md").partition("\n### Bad scripts\n")[2].partition("\n## ")[0]
     there = {*re.findall(r"^\| (\w+) \|", table, re.M)} - {"cause"}
     return None if len(there) == 7 and here == there else f"these are not in both: {sorted(here ^ there)}"
 
 
 def usual_mistakes(programs, root):
-    """Each mistake is refused for its cause, and what is to be written is not."""
+    """Each mistake is refused for its cause, and the right line is not refused."""
     rows = [*mistakes(read(f"{root}/docs/boxglue.1"))]
     for program in programs:
         for cause, *lines in rows:
@@ -78,7 +78,7 @@ def usual_mistakes(programs, root):
 
 
 def make_room(room, program):
-    """A folder with the program, a metric file, and scripts of a rule each, of which each is wider than the one before."""
+    """A folder with the program, a metric file, and scripts of one rule each, each wider than the one before."""
     os.mkdir(f"{room}/bin")
     os.symlink(program, f"{room}/bin/boxglue")
     with open(f"{room}/cmr10.tfm", "wb") as it:
@@ -95,15 +95,15 @@ def wrong_file(room):
         file = dvi_file([Page([down(PT), set_rule(PT, width)])], PT, width)
         with open(f"{room}/{number}.dvi", "rb") as it:
             if it.read() != file.data:
-                return f"the file of script {number} is another one"
+                return f"the file of script {number} is wrong"
         answers = f"1: ok\n2: ok\n3: packed {number + 1}.0pt 1.0pt 0.0pt badness 0\n4: shipped 1\nend: pages 1 bytes {len(file.data)}\n"
         if read(f"{room}/{number}.txt") != answers:
-            return f"the answers to script {number} are other ones"
+            return f"the answers to script {number} are wrong"
     return None
 
 
 def many(programs, root, tool, before):
-    """The lines of the page with xargs, or with make and a Makefile: they run all scripts. Then they run some of which one is refused."""
+    """The lines of the page with xargs, or with make and a Makefile, run all scripts. Then they run some, one of which is refused."""
     if not shutil.which(tool):
         return Skipped(f"there is no {tool}")
     page = read(f"{root}/docs/boxglue.1")

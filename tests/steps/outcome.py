@@ -1,4 +1,4 @@
-"""What a case returns that was not run."""
+"""The result of a case that was not run."""
 from dataclasses import dataclass
 
 

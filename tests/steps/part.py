@@ -13,18 +13,18 @@ class Part:
     name: str
     title: str
     cases: Callable
-    # the program that it runs builds of; None where it always builds by itself
+    # The program of which it runs builds; None if it always builds by itself.
     program: Optional[str] = "boxglue"
-    # whether it cannot build that program by itself
+    # Whether it cannot build that program by itself.
     needs_program: bool = False
-    # parts with a larger one are begun first
+    # Parts with a larger one begin earlier.
     weight: int = 0
-    # whether one run of `rt try` gives the results of all its cases where no program is built
+    # Whether one run of `rt try` gives the results of all its cases if no program is built.
     tries: bool = True
 
 
 def parts_of(name, root):
-    """The parts of one module: none where it is a helper."""
+    """The parts of one module: none if it is a helper."""
     module = importlib.import_module(f"steps.{name}")
     if not hasattr(module, "TITLE"):
         return []
@@ -35,6 +35,6 @@ def parts_of(name, root):
 
 
 def all_parts(root):
-    """The parts of all modules of this folder; those that are begun first come first."""
+    """The parts of all modules of this folder; those that begin earlier come first."""
     names = sorted(it.name for it in pkgutil.iter_modules(steps.__path__))
     return sorted((part for name in names for part in parts_of(name, root)), key=lambda it: -it.weight)

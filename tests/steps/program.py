@@ -10,13 +10,13 @@ WEIGHT = 3
 
 
 def on_each(case, programs, root):
-    """Runs each program on a case; says which of them is wrong, and how."""
+    """Runs each program on a case. Returns which of them is wrong, and how."""
     found = {it: case_folder.differs(case, it, root) for it in programs}
     return "; ".join(f"{os.path.basename(it)}: {why}" for it, why in found.items() if why) or None
 
 
 def checked(case, call):
-    """Runs a case, where its folder has the form."""
+    """Runs a case, if its folder has the right form."""
     return case_folder.unknown_files(case) or call()
 
 

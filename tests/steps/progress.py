@@ -1,8 +1,10 @@
-"""What is printed while the parts run: a line when something ends, and one every ten seconds while nothing does."""
+"""The output while the parts run: a line when something ends, and one every ten seconds while nothing does."""
+import os
 import threading
 import time
 
-EVERY = 10
+# The longest time without a line, in seconds; and the time of a case after which it hangs, which is more than a build by `rt try` takes.
+EVERY, LIMIT = 10, 1800
 
 
 class Progress:
@@ -30,7 +32,7 @@ class Progress:
             print(f"[{spent // 60:2}:{spent % 60:02}] {text}", flush=True)
 
     def step(self, part, what):
-        """Says what a part does from now on. Saying the same again changes nothing."""
+        """Sets what a part is doing. The same text again changes nothing."""
         with self.lock:
             if self.running.get(part, ("",))[0] != what:
                 self.running[part] = what, time.monotonic()
@@ -48,8 +50,17 @@ class Progress:
             running = [f"{part} ({what}, {now - since:.0f} s)" for part, (what, since) in self.running.items()]
         return f"{self.done} of {self.count} parts done; running: {', '.join(running) or 'none'}"
 
+    def late(self):
+        """The parts with a case that takes too long."""
+        with self.lock:
+            return [f"{part}: {what}" for part, (what, since) in self.running.items() if time.monotonic() - since > LIMIT]
+
     def tick(self):
-        """Prints the state where nothing was printed for a while."""
+        """Prints the state if nothing was printed for a while. Ends the program if a case hangs, since a thread cannot be ended from outside."""
         while not self.ended.wait(1):
+            if late := self.late():
+                self.say(f"FAILED: no end after {LIMIT} s: {', '.join(late)}")
+                print(f"0 passed, {len(late)} failed, 0 skipped", flush=True)
+                os._exit(1)
             if time.monotonic() - self.printed >= EVERY - 1:
                 self.say(self.state())

@@ -1,5 +1,5 @@
-// Put before a program by LD_PRELOAD: counts its growths of memory, and refuses the one whose number is in REFUSE_GROWTH.
-// Where that is 0, none is refused, and how many there were is written to standard error at the end. No header of the C library is needed.
+// A library for LD_PRELOAD: it counts the growths of memory of a program, and refuses the one whose number is in REFUSE_GROWTH.
+// With 0 none is refused, and their number is written to standard error at the end. No header of the C library is needed.
 typedef __SIZE_TYPE__ size;
 extern void *__libc_malloc(size), *__libc_realloc(void *, size);
 extern char *getenv(const char *);

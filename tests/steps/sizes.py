@@ -1,4 +1,4 @@
-"""Inputs at size, and the edges of input and output. Large inputs are made when a case is run (large_inputs.py); nothing large is in the repository."""
+"""Large inputs, and the edges of input and output. Large inputs are made when a case is run (large_inputs.py); nothing large is in the repository."""
 from steps import large_inputs
 from steps.long_runs import done
 

@@ -1,4 +1,4 @@
-"""Scripts with specials: each is typeset, its file is compared with that of the writer of the tests, and the file is listed. What must be answered follows from
+"""Scripts with specials: each is typeset, its file is compared with that of the writer of the tests, and the file is listed. The expected answers follow from
 docs/COMMANDS.md and docs/FORMATS.md alone; nothing large is in the repository."""
 from steps.dvi_writer import Page, down, dvi_file, right, set_rule, special
 from steps.large_inputs import PT, ZERO_COUNTS, answers, listed, packed, rule_mark, script, sizes, special_mark, summary, typeset_and_list
@@ -14,7 +14,7 @@ BOX = packed(0, 0, 0)
 
 
 def text_of(length):
-    """A text of this length: the bytes 32 to 126 in turn, a backslash among them."""
+    """A text of this length with the bytes 32 to 126 in turn, one of which is a backslash."""
     return "".join(chr(32 + at % 95) for at in range(length))
 
 
@@ -46,7 +46,7 @@ def each_length():
     return Work({}, typeset_and_list(file, answers(replies, summary(1, file)), lines, marks))
 
 
-FULL_PAGE = [*[(f"special {'a' * LONGEST}", "ok")] * 16, (f"special {'a' * 16}", "ok")]  # together 1,048,576 bytes
+FULL_PAGE = [*[(f"special {'a' * LONGEST}", "ok")] * 16, (f"special {'a' * 16}", "ok")]  # Together 1,048,576 bytes.
 FULL_BODY = [special(b"a" * LONGEST)] * 16 + [special(b"a" * 16)]
 
 
@@ -65,7 +65,7 @@ def longest_texts():
 
 def most_text():
     """1,048,576 bytes of texts are shipped, and no more: 16 texts of 65,535 bytes and one of 16. Then a text of one byte is refused, before a huge page, and its box stays;
-    one without a byte is accepted."""
+    an empty one is accepted."""
     one, none = [("hbox into 1", "ok"), ("special a", "ok"), ("end", BOX)], [("hbox into 2", "ok"), ("special", "ok"), ("end", BOX)]
     rows = [
         ("hbox into 0", "ok"), *FULL_PAGE, ("end", BOX), ("copy 0", "refused 7 NoOpenList"), ("ship 0", "shipped 1"),
@@ -95,7 +95,7 @@ def one_page_of_too_much_text():
 
 
 def most_pages_and_text():
-    """65,535 pages are shipped, of which the first has all bytes of texts: of a page with one byte more it is said that there are too many pages."""
+    """65,535 pages are shipped, of which the first has all bytes of texts: a page with one byte more is refused for the number of pages."""
     page = [("hbox into 1", "ok"), ("end", BOX)]
     rows = [("hbox into 0", "ok"), *FULL_PAGE, ("end", BOX), ("ship 0", "shipped 1")]
     rows += [it for at in range(2, 65536) for it in (*page, ("ship 1", f"shipped {at}"))]
@@ -107,8 +107,8 @@ def most_pages_and_text():
 
 def most_nodes_and_text():
     """16,777,216 nodes are shipped: a box of 17 specials, which have all bytes of texts, and 256 boxes that make up the rest. A box with a special is then too much by
-    its nodes and by its text, and the nodes are said."""
-    count = 65535  # the kerns of each of the 255 boxes that are full; the last box takes what is left
+    its nodes and by its text, and is refused for its nodes."""
+    count = 65535  # The kerns of each of the 255 full boxes. The last box has the rest.
     left = (1 << 24) - 18 - 255 * (count + 1) - 1
     full, last = [("hbox into 1", "ok"), ("unhcopy 0", f"added {count}"), ("end", BOX)], [("hbox into 2", "ok"), *[("kern 0pt", "ok")] * left, ("end", BOX)]
     assert 0 < left < 65536 and 18 + 255 * (count + 1) + left + 1 == 1 << 24

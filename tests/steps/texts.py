@@ -1,10 +1,10 @@
-"""Looks at texts that programs printed."""
+"""Helpers for texts that programs printed."""
 import os
 import re
 
 
 def first_difference(what, found, wanted):
-    """Says from where on two texts differ, or returns None."""
+    """Returns the place from which two texts differ, or None."""
     if found == wanted:
         return None
     at = len(os.path.commonprefix([found, wanted]))
@@ -12,12 +12,12 @@ def first_difference(what, found, wanted):
 
 
 def last_lines(text, count=3):
-    """The last lines of what was printed, as one line."""
+    """The last lines of an output, as one line."""
     lines = [it.strip() for it in text.decode(errors="replace").splitlines() if it.strip()]
     return " / ".join(lines[-count:]) or "nothing was printed"
 
 
 def blocks(text):
-    """The texts after lines `== NAME`, by their names; the name is empty for what is before the first."""
+    """The texts after lines `== NAME`, by their names; the name is empty for the text before the first."""
     pieces = re.split(rb"^== (.*)\n", text, flags=re.M)
     return {b"": pieces[0], **dict(zip(pieces[1::2], pieces[2::2]))}

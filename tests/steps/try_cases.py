@@ -1,5 +1,5 @@
 """Case folders in one build, by `rt try --cases`. It gives each run its words, its standard input and copies of files that all runs share,
-and prints what each run prints, and its status. The word {} names a copy of what standard input gives: so a run gets a file of its own."""
+and prints the output of each run and its status. The word {} names a copy of standard input, so that a run gets a file of its own."""
 import os
 import re
 import tempfile
@@ -12,13 +12,13 @@ from steps.texts import blocks, first_difference, last_lines
 from steps.trying import rt_try
 
 STREAMS = {"closed-stdin", "closed-stdout", "full-stdout"}
-# Seconds for each run: much more than it takes, for machines with other work.
+# Seconds for each run: much more than it takes, for busy machines.
 LIMIT = 300
 LINE = re.compile(rb"^case=(\S+) run=(\S+)(?: status=(\d+))?.* proved=no\n", re.M)
 
 
 def is_text(words):
-    """Whether the words are UTF-8; `rt try` gives no others."""
+    """Whether the words are UTF-8; `rt try` passes no others."""
     return all(it.decode(errors="replace").encode() == it for it in words)
 
 
@@ -29,7 +29,7 @@ def write(path, content):
 
 
 def shared_files(cases):
-    """The files that all runs get, by their names: of each name the content that most cases have."""
+    """The files that all runs get, by their names: for each name the content that most cases have."""
     found = {}
     for case in cases:
         for name in case_folder.files_in(f"{case}/files"):
@@ -38,27 +38,27 @@ def shared_files(cases):
 
 
 def judge(case, line, errors, output):
-    """What is wrong with a run: its line, and what it printed to standard error and to standard output."""
+    """What is wrong with a run: its line, its standard error and its standard output."""
     if line[2] != b"ended":
         return f"run={line[2].decode()}: {last_lines(errors)}"
     status, wanted = int(line[3]), case_folder.read(case, "stdout")
     if status != int(case_folder.read(case, "status", b"0")):
         return f"the status is {status}; standard error: {errors[:300]!r}"
-    # (a last line without a line feed is given one)
+    # A last line without a line feed gets one.
     wanted += b"\n" if wanted and not wanted.endswith(b"\n") else b""
     return (first_difference("standard output", output, wanted)
             or first_difference("standard error", errors, case_folder.read(case, "stderr")))
 
 
 class Batch:
-    """The cases that can run in one build. They are run once, when the first result is asked for."""
+    """The cases that can run in one build. They are run once, when the first result is needed."""
 
     def __init__(self, root, cases):
         self.root, self.cases = root, cases
         self.files = shared_files(cases)
 
     def reason(self, case):
-        """Why a case cannot run by `rt try --cases`, else None."""
+        """Why a case cannot run by `rt try --cases`, or None."""
         if STREAMS & {*os.listdir(case)}:
             return "rt try neither closes nor fills a stream"
         if case_folder.has(case, "made"):
@@ -73,17 +73,17 @@ class Batch:
         return None
 
     def own_files(self, case):
-        """The files of a case whose names stand for other bytes in more of the cases."""
+        """The files of a case whose names have other bytes in other cases."""
         return [name for name in case_folder.files_in(f"{case}/files") if case_folder.read(case, f"files/{name}") != self.files[name]]
 
     def takes_as_input(self, case, own):
-        """Whether the files of its own are one file that standard input can give, and {} can name."""
+        """Whether the case has one file of its own, which standard input can be, and {} can name."""
         name, printed = own[0].encode(), case_folder.read(case, "stdout") + case_folder.read(case, "stderr")
         is_free = not case_folder.input_of(case, self.root) and name not in printed
         return len(own) == 1 and is_free and case_folder.words_of(case).count(name) == 1
 
     def given(self, case):
-        """What standard input gives to a case, and its words, one a line."""
+        """The standard input of a case, and its words, one on each line."""
         own = self.own_files(case)
         if not own:
             return case_folder.input_of(case, self.root), case_folder.read(case, "words")
@@ -105,7 +105,7 @@ class Batch:
 
     @cached_property
     def found(self):
-        """Of each case that was run its line, standard error and standard output; and the end of all that was printed."""
+        """For each case that was run, its line, standard error and standard output; and the end of the whole output."""
         with tempfile.TemporaryDirectory(prefix="boxglue-cases-") as room:
             _, output, errors = rt_try(self.root, "boxglue", self.lay_out(room))
         outputs, runs, start = blocks(output), {}, 0
@@ -115,7 +115,7 @@ class Batch:
         return runs, last_lines(errors)
 
     def outcome(self, case):
-        """What came of a case."""
+        """The result of a case."""
         why = self.reason(case)
         if why:
             return Skipped(why)

@@ -1,10 +1,10 @@
-"""The script examples/try, with a stand-in for `rt` that prints how it is called: paths become absolute, standard input and the status go through."""
+"""The script examples/try, with a stand-in for `rt` that prints its call: paths become absolute, standard input and the status are passed on."""
 import os
 import subprocess
 import tempfile
 from functools import partial
 
-TITLE = "examples/try: the words that it hands to `rt try`"
+TITLE = "examples/try: the words that it passes to `rt try`"
 TRIES = False
 LIMIT = 60
 RT = """#!/bin/sh

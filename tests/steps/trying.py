@@ -2,7 +2,7 @@
 import subprocess
 import threading
 
-# A build takes a minute or two; nothing here takes so long on a machine that works.
+# A build takes a minute or two; a working machine never takes this long.
 LIMIT = 1500
 
 _running = set()
@@ -28,7 +28,7 @@ def rt_try(root, crate, words, given=b""):
 
 
 def end_all():
-    """Stops what still runs."""
+    """Stops the commands that still run."""
     with _lock:
         for it in _running:
             it.terminate()

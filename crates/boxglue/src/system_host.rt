@@ -2,13 +2,13 @@
 
 ghost use Rattle.std.specs.Prelude.{None};
 
+use boxglue_lib::{FailureCount, Host, HostFault, read_all, write_some};
 use std::alloc::Global;
 use std::fs::File;
 use std::io::{Error, ErrorKind, Input, Read};
 use std::rt::Files;
-use task_core::{FailureCount, Host, HostFault, read_all, write_some};
 
-/// The host of a real program. It tells nothing of what its files hold, but how many creations and writes have failed.
+/// The host of a real program. Contracts know nothing of what its files hold, only how many creations and writes have failed.
 #[derive(Drop)]
 pub struct SystemHost<'a> {
     rt: &'a HostRuntime,
@@ -17,7 +17,7 @@ pub struct SystemHost<'a> {
 }
 
 impl<'a> SystemHost<'a> {
-    /// The host of a runtime, where no file was created yet.
+    /// The host of a runtime. It has created no file yet.
     pub fn new(rt: &'a HostRuntime) -> SystemHost<'a> {
         SystemHost {
             rt,
@@ -27,7 +27,7 @@ impl<'a> SystemHost<'a> {
     }
 }
 
-/// What a fault of the system is for the program.
+/// The fault of a host for an error of the system.
 fn fault_of(fault: &Error) -> HostFault {
     if fault.kind() == ErrorKind::OutOfMemory {
         HostFault::OutOfMemory

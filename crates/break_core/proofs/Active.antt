@@ -4,9 +4,9 @@ use Rattle.std.specs.Prelude.{slice_get, if◌then◌else◌, ◌==◌}
 use Rattle.std.proofs.Math.Logic.{◌⊎◌, inl, inr}
 use Rattle.std.proofs.lemmas.Bool.{cases_Bool, cases_lt}
 use Rattle.std.proofs.lemmas.Option.{slice_get_within, get_or_from_slice_get}
-use Rattle.break_table.specs.declared.group.Group.{Group}
+use Rattle.break_table.specs.declared.group.ActiveGroup.{ActiveGroup}
 use Rattle.break_table.specs.Problems.{Problem}
-use Rattle.break_table.specs.Tables.{Entry, first_entry, offer, IsOffered, IsMet, IsRow, held_in}
+use Rattle.break_table.specs.Tables.{Entry, first_entry, offer, IsOffered, IsMet, IsRow, row_entries}
 use Rattle.break_table.specs.Live.{IsGroup, IsLive}
 use Rattle.break_table.proofs.Entries.{get_cases}
 use Rattle.break_table.proofs.Since.{since_free}
@@ -14,9 +14,9 @@ use Rattle.break_table.proofs.Bellman.{first_table, next_table}
 use Rattle.break_table.proofs.Live.{live_forced, new_group, first_live}
 use Rattle.break_core.specs.Active.{with_group, IsQuiet, IsNext, IsActive, IsFilled}
 
--- The next group, and those behind it.
+-- The next group, and those after it.
 pub next_active :
-    (p : Problem) (stop : ℕ → ℕ → Bool) (table : List Entry) (b high at low i : ℕ) (live : List Group) (g : Group)
+    (p : Problem) (stop : ℕ → ℕ → Bool) (table : List Entry) (b high at low i : ℕ) (live : List ActiveGroup) (g : ActiveGroup)
     → slice_get live i ≡ Some g → IsActive p stop table b high at low (drop i live)
     → IsNext p stop table b at low g × IsActive p stop table b high g.end (g.place + 1) (drop (i + 1) live)
 next_active p stop table b high at low i live g is here =
@@ -46,23 +46,23 @@ row_passed p table b n m row more passed is =
         let some = offered.offers in
         absurd (cc)
 
--- So do quiet entries.
+-- Quiet entries leave a row as it is.
 pub row_quiet :
     (p : Problem) (table : List Entry) (b n m : ℕ) (row : List (Option Entry))
     → n ≤ m → b ≤ p.places → IsQuiet p table b n m → IsRow p table b n row → IsRow p table b m row
 row_quiet p table b n m row more within quiet is =
     row_passed p table b n m row more (λ k e low high at. quiet k e low high at b (omega arith) within) is
 
--- Behind all groups nothing is offered any more.
+-- After all groups there are no more offers.
 pub row_end :
-    (p : Problem) (stop : ℕ → ℕ → Bool) (table : List Entry) (b high at low i : ℕ) (live : List Group) (row : List (Option Entry))
+    (p : Problem) (stop : ℕ → ℕ → Bool) (table : List Entry) (b high at low i : ℕ) (live : List ActiveGroup) (row : List (Option Entry))
     → length live ≤ i → b ≤ p.places → IsActive p stop table b high at low (drop i live) → IsRow p table b at row → IsRow p table b (length table) row
 row_end p stop table b high at low i live row past within here is =
     let none : drop i live ≡ [] = drop_of_length-le live past in
     let last = subst (λ groups. IsActive p stop table b high at low groups) none here in
     row_quiet p table b at (length table) row last.gap within last.quiet is
 
--- Quiet entries in front of the next group stay quiet for the next place, and so do those of a group that is left out.
+-- Quiet entries before the next group stay quiet for the next place, and so do those of a group that is removed.
 later_quiet : (p : Problem) (table : List Entry) (b c from to : ℕ) → b ≤ c → IsQuiet p table b from to → IsQuiet p table c from to
 later_quiet p table b c from to later quiet k e low high at l behind within = quiet k e low high at l (omega arith) within
 
@@ -76,7 +76,7 @@ joined_quiet p table b from middle to front back k e low high at l behind within
     cases (inr here) = back k e here high at l behind within
 
 earlier_active :
-    (p : Problem) (stop : ℕ → ℕ → Bool) (table : List Entry) (b high from at low more : ℕ) (groups : List Group)
+    (p : Problem) (stop : ℕ → ℕ → Bool) (table : List Entry) (b high from at low more : ℕ) (groups : List ActiveGroup)
     → from ≤ at → low ≤ more → IsQuiet p table b from at → IsActive p stop table b high at more groups → IsActive p stop table b high from low groups
 earlier_active p stop table b high from at low more [] front less quiet is =
     record { gap = omega (arith, is.gap); quiet = joined_quiet p table b from at (length table) quiet is.quiet; lower = omega (arith, is.lower) }
@@ -92,9 +92,9 @@ earlier_active p stop table b high from at low more (g ∷ groups) front less qu
       is.1,
     )
 
--- A group goes on to the next place where trying does not stop.
+-- A group goes on to the next place if trying does not stop.
 kept_active :
-    (p : Problem) (stop : ℕ → ℕ → Bool) (table : List Entry) (b high at low : ℕ) (g : Group) (rest : List Group)
+    (p : Problem) (stop : ℕ → ℕ → Bool) (table : List Entry) (b high at low : ℕ) (g : ActiveGroup) (rest : List ActiveGroup)
     → p.forced b ≡ false → stop g.place b ≡ false → IsNext p stop table b at low g
     → IsActive p stop table (b + 1) high g.end (g.place + 1) rest → IsActive p stop table (b + 1) high at low (g ∷ rest)
 kept_active p stop table b high at low g rest free goes next is = (
@@ -120,14 +120,14 @@ kept_active p stop table b high at low g rest free goes next is = (
         let same : b ≡ l = omega arith in
         subst (λ k. stop g.place k ≡ false) same goes
 
--- What stands in front of groups from which lines to the next place may be tried.
-abbrev pub IsFront : (p : Problem) (stop : ℕ → ℕ → Bool) (table : List Entry) (b high at low : ℕ) → List Group → Type 0
+-- The part of the table before the groups from which lines to the next place can be tried.
+abbrev pub IsFront : (p : Problem) (stop : ℕ → ℕ → Bool) (table : List Entry) (b high at low : ℕ) → List ActiveGroup → Type 0
 IsFront p stop table b high at low front =
-    (rest : List Group) → p.forced b ≡ false → IsActive p stop table (b + 1) high at low rest → IsActive p stop table (b + 1) high 0 0 (front ++ rest)
+    (rest : List ActiveGroup) → p.forced b ≡ false → IsActive p stop table (b + 1) high at low rest → IsActive p stop table (b + 1) high 0 0 (front ++ rest)
 
--- One more group stays, or is left out.
+-- One more group stays or is removed.
 pub front_more :
-    (p : Problem) (stop : ℕ → ℕ → Bool) (table : List Entry) (b high at low : ℕ) (front new : List Group) (g : Group) (ended : Bool)
+    (p : Problem) (stop : ℕ → ℕ → Bool) (table : List Entry) (b high at low : ℕ) (front new : List ActiveGroup) (g : ActiveGroup) (ended : Bool)
     → IsFront p stop table b high at low front → IsNext p stop table b at low g
     → (p.forced b ≡ false → ended ≡ false → stop g.place b ≡ false)
     → (ended ≡ true → IsQuiet p table (b + 1) g.start g.end)
@@ -135,7 +135,7 @@ pub front_more :
     → IsFront p stop table b high g.end (g.place + 1) new
 front_more p stop table b high at low front new g ended is next goes quiet made rest free active = cases (cases_Bool ended)
   where
-    joined : (xs : List Group) → (xs ++ g ∷ []) ++ rest ≡ xs ++ g ∷ rest
+    joined : (xs : List ActiveGroup) → (xs ++ g ∷ []) ++ rest ≡ xs ++ g ∷ rest
     joined [] = refl
     joined (x ∷ xs) = ap (λ ys. x ∷ ys) (joined xs)
 
@@ -153,7 +153,7 @@ front_more p stop table b high at low front new g ended is next goes quiet made 
         (is (g ∷ rest) free (kept_active p stop table b high at low g rest free (goes free not_ended) next active))
 
 pub front_end :
-    (p : Problem) (stop : ℕ → ℕ → Bool) (table : List Entry) (b at low i : ℕ) (live front : List Group)
+    (p : Problem) (stop : ℕ → ℕ → Bool) (table : List Entry) (b at low i : ℕ) (live front : List ActiveGroup)
     → length live ≤ i → IsActive p stop table b b at low (drop i live) → IsFront p stop table b b at low front
     → p.forced b ≡ false → IsActive p stop table (b + 1) b 0 0 front
 front_end p stop table b at low i live front past here is free =
@@ -163,11 +163,11 @@ front_end p stop table b at low i live front past here is free =
     subst (λ xs. IsActive p stop table (b + 1) b 0 0 xs) all
     (is [] free (record { gap = last.gap; quiet = later_quiet p table b (b + 1) at (length table) (omega arith) last.quiet; lower = last.lower }))
   where
-    same : (xs : List Group) → xs ++ [] ≡ xs
+    same : (xs : List ActiveGroup) → xs ++ [] ≡ xs
     same [] = refl
     same (x ∷ xs) = ap (λ ys. x ∷ ys) (same xs)
 
--- An entry of a longer table that stands before the end of the shorter one stands there too.
+-- An entry of a longer table with a number below the length of the shorter one is in the shorter one too.
 shorter : (table more : List Entry) (k : ℕ) (e : Entry) → k < length table → slice_get (table ++ more) k ≡ Some e → slice_get table k ≡ Some e
 shorter table more k e within at = cases (get_cases table more k e at)
   where
@@ -178,9 +178,9 @@ shorter table more k e within at = cases (get_cases table more k e at)
 quiet_longer : (p : Problem) (table more : List Entry) (b from to : ℕ) → to ≤ length table → IsQuiet p table b from to → IsQuiet p (table ++ more) b from to
 quiet_longer p table more b from to within quiet k e low high at = quiet k e low high (shorter table more k e (omega arith) at)
 
--- The group of the next place is put behind the others.
+-- The group of the next place is appended to the others.
 active_more :
-    (p : Problem) (stop : ℕ → ℕ → Bool) (table more : List Entry) (b at low : ℕ) (groups : List Group) (g : Group)
+    (p : Problem) (stop : ℕ → ℕ → Bool) (table more : List Entry) (b at low : ℕ) (groups : List ActiveGroup) (g : ActiveGroup)
     → IsActive p stop table (b + 1) b at low groups
     → g.place ≡ b → g.start ≡ length table → IsGroup p (table ++ more) (b + 1) g → g.end ≡ length (table ++ more)
     → IsActive p stop (table ++ more) (b + 1) (b + 1) at low (groups ++ g ∷ [])
@@ -212,9 +212,9 @@ active_more p stop table more b at low (h ∷ groups) g is place start group end
       active_more p stop table more b h.end (h.place + 1) groups g is.1 place start group end,
     )
 
--- A group that stands alone.
+-- A single group.
 active_one :
-    (p : Problem) (stop : ℕ → ℕ → Bool) (table : List Entry) (b : ℕ) (g : Group)
+    (p : Problem) (stop : ℕ → ℕ → Bool) (table : List Entry) (b : ℕ) (g : ActiveGroup)
     → IsLive p table (b + 1) 0 (g ∷ []) → g.place ≡ b → IsActive p stop table (b + 1) (b + 1) 0 0 (g ∷ [])
 active_one p stop table b g live place =
     let last = live.3 in (
@@ -228,16 +228,16 @@ active_one p stop table b g live place =
       record { gap = last.0; quiet = λ k e low high at l behind within. last.1 k e low high at l behind; lower = omega (arith, place) },
     )
 
--- The groups stay where the next place has no entries.
+-- The groups stay if the next place has no entries.
 active_higher :
-    (p : Problem) (stop : ℕ → ℕ → Bool) (table : List Entry) (b high at low : ℕ) (groups : List Group)
+    (p : Problem) (stop : ℕ → ℕ → Bool) (table : List Entry) (b high at low : ℕ) (groups : List ActiveGroup)
     → IsActive p stop table b high at low groups → IsActive p stop table b (high + 1) at low groups
 active_higher p stop table b high at low [] is = record { gap = is.gap; quiet = is.quiet; lower = omega (arith, is.lower) }
 active_higher p stop table b high at low (g ∷ groups) is = (is.0, active_higher p stop table b high g.end (g.place + 1) groups is.1)
 
--- Where the next place has no entries and a line must end there, all entries are quiet.
+-- If the next place has no entries and a break there is forced, all entries are quiet.
 active_none :
-    (p : Problem) (stop : ℕ → ℕ → Bool) (table : List Entry) (b : ℕ) (g : Group)
+    (p : Problem) (stop : ℕ → ℕ → Bool) (table : List Entry) (b : ℕ) (g : ActiveGroup)
     → IsLive p table (b + 1) 0 (g ∷ []) → g.start ≡ length table → IsActive p stop table (b + 1) (b + 1) 0 0 []
 active_none p stop table b g live start =
     record {
@@ -246,7 +246,7 @@ active_none p stop table b g live start =
       lower = omega arith;
     }
 
--- A list of no length is empty.
+-- A list of length 0 is empty.
 no_more : (table more : List Entry) → length (table ++ more) ≡ length table → table ++ more ≡ table
 no_more table more same = cases more (omega (arith, same, length-append table more))
   where
@@ -258,19 +258,19 @@ no_more table more same = cases more (omega (arith, same, length-append table mo
     cases [] none = all table
     cases (x ∷ xs) none = absurd (omega (arith, none))
 
--- The table, the row of the next place and the groups are filled up to behind that place.
+-- With the row of the next place appended, the table and the groups are filled up to after that place.
 pub filled_more :
-    (p : Problem) (stop : ℕ → ℕ → Bool) (b : ℕ) (table : List Entry) (row : List (Option Entry)) (live next new : List Group) (g : Group)
+    (p : Problem) (stop : ℕ → ℕ → Bool) (b : ℕ) (table : List Entry) (row : List (Option Entry)) (live next new : List ActiveGroup) (g : ActiveGroup)
     → 0 < b → IsFilled p stop b table live → IsRow p table b (length table) row
     → (p.forced b ≡ false → IsActive p stop table (b + 1) b 0 0 next)
-    → g.place ≡ b → g.start ≡ length table → g.end ≡ length (table ++ held_in row)
+    → g.place ≡ b → g.start ≡ length table → g.end ≡ length (table ++ row_entries row)
     → new ≡ with_group (if p.forced b then [] else next) g
-    → IsFilled p stop (b + 1) (table ++ held_in row) new
+    → IsFilled p stop (b + 1) (table ++ row_entries row) new
 filled_more p stop b table row live next new g some is full active place start end made =
     record { is_table = next_table p b table row some is.is_table full; is_active = cases (cases_Bool (p.forced b)) (cases_Bool (g.start == g.end)) }
   where
     more : List Entry
-    more = held_in row
+    more = row_entries row
 
     group : IsGroup p (table ++ more) (b + 1) g
     group = new_group p table row b g full some place start end
@@ -307,8 +307,8 @@ filled_more p stop b table row live next new g some is full active place start e
         subst (λ groups. IsActive p stop (table ++ more) (b + 1) (b + 1) 0 0 groups) (sym (put false false free some_entries))
         (active_more p stop table more b 0 0 next g (active free) place start group end)
 
--- The start alone.
+-- The table with only the start.
 pub filled_first :
-    (p : Problem) (stop : ℕ → ℕ → Bool) (g : Group) → g.place ≡ 0 → g.start ≡ 0 → g.end ≡ 1 → IsFilled p stop 1 (first_entry ∷ []) (g ∷ [])
+    (p : Problem) (stop : ℕ → ℕ → Bool) (g : ActiveGroup) → g.place ≡ 0 → g.start ≡ 0 → g.end ≡ 1 → IsFilled p stop 1 (first_entry ∷ []) (g ∷ [])
 filled_first p stop g place start end =
     record { is_table = first_table p; is_active = active_one p stop (first_entry ∷ []) 0 g (first_live p g place start end) place }

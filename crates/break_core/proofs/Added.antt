@@ -1,25 +1,25 @@
--- The trials of passes, together.
+-- The trials of several passes together.
 use Rattle.std.proofs.Common.{◌≡◌, ◌∙◌, ℕ, ◌+◌, ◌≤◌, Bool, true, false, ◌||◌, List, [], ◌∷◌, ◌++◌, ap, subst, arith}
 use Rattle.std.proofs.Math.Logic.{inl, inr}
 use Rattle.std.proofs.Math.Bool.{or-true}
 use Rattle.node_core.specs.declared.params.Params.{Params}
-use Rattle.break_table.specs.Tables.{most_places}
+use Rattle.break_table.specs.Tables.{max_places}
 use Rattle.break_core.specs.declared.broken.Pass.{Pass}
 use Rattle.break_core.specs.declared.broken.Pass.TheVariants.{First, Second, Third}
-use Rattle.line_meter.specs.Legal.{is_forced}
-use Rattle.line_meter.specs.Facts.{Facts}
-use Rattle.line_meter.specs.Steady.{IsSteady}
+use Rattle.break_lines.specs.Legal.{is_forced}
+use Rattle.break_lines.specs.Facts.{Facts}
+use Rattle.break_lines.specs.Steady.{IsSteady}
 use Rattle.break_core.specs.Filling.{IsGrown}
-use Rattle.break_core.specs.declared.filling.Ending.{Ending}
-use Rattle.break_core.specs.declared.filling.Ending.TheVariants.{Overfull, Long}
+use Rattle.break_core.specs.declared.filling.StopRule.{StopRule}
+use Rattle.break_core.specs.declared.filling.StopRule.TheVariants.{Overfull, Long}
 use Rattle.break_core.specs.Leaving.{is_long}
 use Rattle.break_core.specs.Trials.{is_overfull, is_bounded, MayLeave, passes_run, places_up_to, AreBounded, HasNoTrials}
 use Rattle.break_core.specs.Active.{ends, stops, IsCounted, IsWithin, AreAdded}
 use Rattle.break_core.proofs.Long.{long_of}
 
--- What was counted is within what the definition of stops allows.
+-- The counted trials are within the bound of the definition of stops.
 pub within_pass :
-    (facts : Facts) (params : Params) (pass : Pass) (ending : Ending) (before now : ℕ → ℕ)
+    (facts : Facts) (params : Params) (pass : Pass) (ending : StopRule) (before now : ℕ → ℕ)
     → (IsSteady facts → is_bounded pass ≡ true → ending ≡ Overfull) → (MayLeave facts params → is_bounded pass ≡ false → ending ≡ Long)
     → IsCounted (stops facts params ending) facts.places before now → IsWithin facts params pass before now
 within_pass facts params pass ending before now short long counted a l (inl last) = omega (arith, counted.grown a, last)
@@ -36,7 +36,7 @@ within_pass facts params pass ending before now short long counted a l (inr (ear
     counted.stopped a l earlier within (ap (λ t. is_forced (facts.penalty l) || t) test ∙ or-true (is_forced (facts.penalty l)))
 
 pub grown_pass :
-    (stop : ℕ → ℕ → Bool) (places : ℕ) (before now : ℕ → ℕ) → places ≤ most_places → IsCounted stop places before now → IsGrown 8192 before now
+    (stop : ℕ → ℕ → Bool) (places : ℕ) (before now : ℕ → ℕ) → places ≤ max_places → IsCounted stop places before now → IsGrown 8192 before now
 grown_pass stop places before now few counted a = omega (arith, counted.grown a, few)
 
 -- No pass was run.
@@ -54,19 +54,19 @@ pub added_more :
 added_more facts params passes pass before middle now is within a stop stops =
     omega (arith, is a stop stops, within a (stop pass) (stops pass), joined a stop passes (pass ∷ []))
 
--- What holds of passes holds of more.
+-- A bound for some passes holds for more passes.
 pub added_longer :
     (facts : Facts) (params : Params) (passes more : List Pass) (before now : ℕ → ℕ)
     → AreAdded facts params passes before now → AreAdded facts params (passes ++ more) before now
 added_longer facts params passes more before now is a stop stops = omega (arith, is a stop stops, joined a stop passes more)
 
--- From no trials on, those that were added are all.
+-- If there were no trials before, the added trials are all trials.
 pub all_added :
     (facts : Facts) (params : Params) (passes : List Pass) (before now : ℕ → ℕ)
     → HasNoTrials before → AreAdded facts params passes before now → AreBounded facts params passes now
 all_added facts params passes before now none is a stop stops = omega (arith, none a, is a stop stops)
 
--- The second pass was run behind the first one, and the last one behind it.
+-- The second pass was run after the first one, and the last one after the second.
 pub second_added :
     (f h : Facts) (params : Params) (before middle now : ℕ → ℕ)
     → h ≡ f → AreAdded f params (passes_run params First) before middle → IsWithin h params Second middle now
@@ -81,7 +81,7 @@ pub third_added :
 third_added f h params before middle now same is within =
     added_more f params (passes_run params Second) Third before middle now is (subst (λ x. IsWithin x params Third middle now) same within)
 
--- No more passes than all are run.
+-- The passes that were run are among all passes.
 pub all_from_first :
     (f : Facts) (params : Params) (before now : ℕ → ℕ)
     → AreAdded f params (passes_run params First) before now → AreAdded f params (passes_run params Third) before now

@@ -5,49 +5,49 @@ use Rattle.std.proofs.lemmas.Int.{ints}
 use Rattle.std.proofs.lemmas.Option.{same_Some, slice_get_within, slice_get-get_or, get_or_from_slice_get, MatchOption-at_none, MatchOption-at_some}
 use Rattle.std.proofs.lemmas.List.{get_or-reverse, length-reverse}
 use Rattle.node_core.specs.declared.params.Params.{Params}
-use Rattle.break_table.specs.declared.state.Class.{Class}
-use Rattle.break_table.specs.declared.state.State.{State}
-use Rattle.break_table.specs.declared.state.Line.{Line}
-use Rattle.break_table.specs.declared.answer.Least.{Least}
+use Rattle.break_table.specs.declared.state.Fitness.{Fitness}
+use Rattle.break_table.specs.declared.state.BreakState.{BreakState}
+use Rattle.break_table.specs.declared.state.LineCost.{LineCost}
+use Rattle.break_table.specs.declared.answer.ChosenBreaks.{ChosenBreaks}
 use Rattle.break_table.specs.Problems.{Problem, Path, first_path, with_line, ends_of, places_of}
 use Rattle.break_table.specs.Chosen.{top, IsFalling, AdmitsNone, IsAnswer}
 use Rattle.break_table.specs.Ways.{Way, starts, goes}
 use Rattle.break_table.proofs.Since.{since_below}
 use Rattle.break_table.proofs.Lists.{way_of_break_list, break_list_of_way}
-use Rattle.break_cost.specs.declared.cost.Judged.{Judged}
-use Rattle.break_cost.specs.declared.cost.Bound.{Bound}
-use Rattle.break_cost.specs.declared.cost.Bound.TheVariants.{Any, AtMost}
-use Rattle.break_cost.specs.Costs.{judged, admits, line_of, demerits_of}
-use Rattle.break_cost.specs.Sizes.{line_size}
+use Rattle.break_lines.specs.declared.cost.LineFit.{LineFit}
+use Rattle.break_lines.specs.declared.cost.Bound.{Bound}
+use Rattle.break_lines.specs.declared.cost.Bound.TheVariants.{Any, AtMost}
+use Rattle.break_lines.specs.Costs.{line_fit, admits, line_of, demerits_of}
+use Rattle.break_lines.specs.Sizes.{line_size}
 use Rattle.break_core.specs.declared.broken.Pass.{Pass}
 use Rattle.break_core.specs.declared.broken.Pass.TheVariants.{First, Second, Third}
-use Rattle.line_meter.specs.Facts.{Facts}
+use Rattle.break_lines.specs.Facts.{Facts}
 use Rattle.break_core.specs.Passes.{problem_of, bound_of, IsBefore}
-use Rattle.break_core.specs.Filling.{AreWithin, IsDecided}
-use Rattle.break_core.specs.declared.filling.Ending.{Ending}
-use Rattle.break_core.specs.declared.filling.Ending.TheVariants.{Never, Overfull, Long}
+use Rattle.break_core.specs.Filling.{AreEndsInParagraph, IsDecided}
+use Rattle.break_core.specs.declared.filling.StopRule.{StopRule}
+use Rattle.break_core.specs.declared.filling.StopRule.TheVariants.{Never, Overfull, Long}
 use Rattle.break_core.specs.Active.{pruned, MayEnd}
 use Rattle.break_core.proofs.Detours.{answer_without, none_without}
 
 -- A bound below 0 admits no line.
-none_below : (params : Params) (most penalty : ℤ) (before : Class) (line : Judged) → most <ℤ pos 0 → line_of params (AtMost most) penalty before line ≡ None
+none_below : (params : Params) (most penalty : ℤ) (before : Fitness) (line : LineFit) → most <ℤ pos 0 → line_of params (AtMost most) penalty before line ≡ None
 unfolding line_of admits
 none_below params (pos n) penalty before line below = absurd (omega (arith, ints))
 none_below params (negsuc n) penalty before line below = refused (not line.overfull)
   where
     refused :
         (b : Bool)
-        → cond {A = Option Line} (b && false)
+        → cond {A = Option LineCost} (b && false)
         (Some (record { class = line.class; overhang = line.overhang; demerits = demerits_of params penalty before line })) None ≡ None
     refused true = refl
     refused false = refl
 
--- A line is admitted where each is.
-some_line : (params : Params) (penalty : ℤ) (before : Class) (line : Judged) → (l : Line) × (line_of params Any penalty before line ≡ Some l)
+-- Without a bound every line is admitted.
+some_line : (params : Params) (penalty : ℤ) (before : Fitness) (line : LineFit) → (l : LineCost) × (line_of params Any penalty before line ≡ Some l)
 unfolding line_of admits
 some_line params penalty before line = (record { class = line.class; overhang = line.overhang; demerits = demerits_of params penalty before line }, refl)
 
-no_way : (p : Problem) (q : Path) → Way p q → ((s : State) (b : ℕ) → p.line s b ≡ None) → 0 < q.last.place → ⊥
+no_way : (p : Problem) (q : Path) → Way p q → ((s : BreakState) (b : ℕ) → p.line s b ≡ None) → 0 < q.last.place → ⊥
 no_way p _ starts none some = omega arith
 no_way p _ (goes q b l way later since_b is) none some = let no = none q.last b in cc
 
@@ -57,10 +57,10 @@ pub negative_admits_none :
 negative_admits_none facts params most below some places q is_list admitted =
     let p = problem_of facts params (AtMost most) in
     let way = way_of_break_list p places q is_list admitted in
-    no_way p q way.0 (λ s b. none_below params most (facts.penalty b) s.class (judged (facts.sums s.place b) (line_size params s.lines)) below) (omega (arith, way.1))
+    no_way p q way.0 (λ s b. none_below params most (facts.penalty b) s.class (line_fit (facts.sums s.place b) (line_size params s.lines)) below) (omega (arith, way.1))
 
 -- Each place can be reached from the one before it.
-reached : (p : Problem) → ((s : State) (b : ℕ) → (l : Line) × (p.line s b ≡ Some l)) → (n : ℕ) → (q : Path) × Way p q × (q.last.place ≡ n)
+reached : (p : Problem) → ((s : BreakState) (b : ℕ) → (l : LineCost) × (p.line s b ≡ Some l)) → (n : ℕ) → (q : Path) × Way p q × (q.last.place ≡ n)
 reached p line zero = (first_path, starts, refl)
 reached p line (suc n) = more (reached p line n)
   where
@@ -74,13 +74,13 @@ reached p line (suc n) = more (reached p line n)
 pub last_admits : (facts : Facts) (params : Params) → AdmitsNone (problem_of facts params Any) → ⊥
 last_admits facts params none =
     let p = problem_of facts params Any in
-    let way = reached p (λ s b. some_line params (facts.penalty b) s.class (judged (facts.sums s.place b) (line_size params s.lines))) facts.places in
+    let way = reached p (λ s b. some_line params (facts.penalty b) s.class (line_fit (facts.sums s.place b) (line_size params s.lines))) facts.places in
     let list = break_list_of_way p way.0 way.1 way.2 in
     none _ way.0 list.0 list.1
 
--- The places of a falling list of ends lie within it.
+-- The ends of a falling list are within its places.
 places_in :
-    (ends : List State) (j : ℕ) (s : State)
+    (ends : List BreakState) (j : ℕ) (s : BreakState)
     → IsFalling (places_of ends) → slice_get ends j ≡ Some s → (0 < s.place) × (s.place ≤ top (places_of ends))
 places_in [] j s falls at = absurd (cc)
 places_in (x ∷ ends) zero s falls at = let same = ap (λ t. t.place) (same_Some x s at) in (omega (arith, falls.0, same), omega (arith, same))
@@ -89,7 +89,7 @@ places_in (x ∷ ends) (suc j) s falls at =
     (rest.0, omega (arith, rest.1, falls.0))
 
 -- The ends of an answer are places of the paragraph.
-pub answer_within : (facts : Facts) (params : Params) (bound : Bound) (least : Least) → IsAnswer (problem_of facts params bound) least → AreWithin facts least.ends.items
+pub answer_within : (facts : Facts) (params : Params) (bound : Bound) (least : ChosenBreaks) → IsAnswer (problem_of facts params bound) least → AreEndsInParagraph facts least.ends.items
 answer_within facts params bound least is k s at =
     let xs = ends_of is.path in
     let back : slice_get (reverse xs) k ≡ Some s = ap (λ ys. slice_get ys k) (sym is.ends) ∙ at in
@@ -99,9 +99,9 @@ answer_within facts params bound least is k s at =
     let places = places_in xs (length xs - 1 - k) s is.chosen.is_list.falls stands in
     (places.0, omega (arith, places.1, is.chosen.is_list.ends))
 
--- Where the first pass admits none, the second one decides, and else the last one.
+-- If the first pass admits no list, the second one decides, and otherwise the last one.
 pub second_decides :
-    (facts : Facts) (params : Params) (least : Least)
+    (facts : Facts) (params : Params) (least : ChosenBreaks)
     → AdmitsNone (problem_of facts params (bound_of params First)) → IsAnswer (problem_of facts params (bound_of params Second)) least
     → IsDecided facts params Second least
 second_decides facts params least none is = record { answer = is; earlier = earlier }
@@ -112,7 +112,7 @@ second_decides facts params least none is = record { answer = is; earlier = earl
     earlier Third h = absurd h
 
 pub third_decides :
-    (facts : Facts) (params : Params) (least : Least)
+    (facts : Facts) (params : Params) (least : ChosenBreaks)
     → AdmitsNone (problem_of facts params (bound_of params First)) → AdmitsNone (problem_of facts params (bound_of params Second))
     → IsAnswer (problem_of facts params (bound_of params Third)) least → IsDecided facts params Third least
 third_decides facts params least first second is = record { answer = is; earlier = earlier }
@@ -122,25 +122,25 @@ third_decides facts params least first second is = record { answer = is; earlier
     earlier Second h = second
     earlier Third h = absurd h
 
--- What a pass found holds of the same facts under another name.
-abbrev pub Found : Facts → Params → Bound → Option Least → Type 0
+-- The result of a pass, which also holds for the same facts under another name.
+abbrev pub Found : Facts → Params → Bound → Option ChosenBreaks → Type 0
 Found facts params bound found = MatchOption found (AdmitsNone (problem_of facts params bound)) (IsAnswer (problem_of facts params bound))
 
-pub found_none : (facts other : Facts) (params : Params) (bound : Bound) (found : Option Least) → other ≡ facts → found ≡ None → Found other params bound found → AdmitsNone (problem_of facts params bound)
+pub found_none : (facts other : Facts) (params : Params) (bound : Bound) (found : Option ChosenBreaks) → other ≡ facts → found ≡ None → Found other params bound found → AdmitsNone (problem_of facts params bound)
 found_none facts other params bound found same none is =
     MatchOption-at_none (AdmitsNone (problem_of facts params bound)) (IsAnswer (problem_of facts params bound)) none
     (subst (λ f. Found f params bound found) same is)
 
 pub found_some :
-    (facts other : Facts) (params : Params) (bound : Bound) (found : Option Least) (least : Least)
+    (facts other : Facts) (params : Params) (bound : Bound) (found : Option ChosenBreaks) (least : ChosenBreaks)
     → other ≡ facts → found ≡ Some least → Found other params bound found → IsAnswer (problem_of facts params bound) least
 found_some facts other params bound found least same some is =
     MatchOption-at_some (AdmitsNone (problem_of facts params bound)) (IsAnswer (problem_of facts params bound)) least some
     (subst (λ f. Found f params bound found) same is)
 
--- What is found in a pass without the lines that are left out is found in the pass.
+-- The result of a pass without the lines that are left out is the result of the pass.
 pub found_whole :
-    (facts : Facts) (params : Params) (bound : Bound) (ending : Ending) (found : Option Least)
+    (facts : Facts) (params : Params) (bound : Bound) (ending : StopRule) (found : Option ChosenBreaks)
     → MayEnd ending facts params bound
     → MatchOption found (AdmitsNone (pruned facts params bound ending)) (IsAnswer (pruned facts params bound ending)) → Found facts params bound found
 found_whole facts params bound Never found may is = is
@@ -153,7 +153,7 @@ found_whole facts params bound Long (Some least) may is =
     (answer_without facts params least may.0 (subst (λ b. IsAnswer (pruned facts params b Long) least) may.1 is))
 
 pub all_found :
-    {E : Type 0} (facts : Facts) (params : Params) (bound : Bound) (ending : Ending) (result : Result (Option Least) E)
+    {E : Type 0} (facts : Facts) (params : Params) (bound : Bound) (ending : StopRule) (result : Result (Option ChosenBreaks) E)
     → MayEnd ending facts params bound
     → IfOk result (λ found. MatchOption found (AdmitsNone (pruned facts params bound ending)) (IsAnswer (pruned facts params bound ending)))
     → IfOk result (Found facts params bound)

@@ -1,13 +1,13 @@
--- How many lines are tried.
+-- The number of lines that are tried.
 use Rattle.std.proofs.Common.{◌≡◌, ◌≢◌, ◌∙◌, ℕ, zero, suc, ◌+◌, ◌-◌, ◌<◌, ◌≤◌, Bool, true, List, [], ◌∷◌, Some, refl, ap, sym, subst, arith}
 use Rattle.std.specs.Prelude.{slice_get}
 use Rattle.std.proofs.lemmas.Option.{same_Some}
-use Rattle.break_table.specs.declared.group.Group.{Group}
+use Rattle.break_table.specs.declared.group.ActiveGroup.{ActiveGroup}
 use Rattle.std.proofs.Math.Logic.{◌⊎◌, inl, inr}
 use Rattle.std.proofs.lemmas.Bool.{cases_lt, cases_eq}
-use Rattle.break_core.specs.Active.{IsTrying, IsSwept, IsCounted, AreKept, WereTried}
+use Rattle.break_core.specs.Active.{IsTrying, IsSwept, IsCounted, TrialsOnlyGrow, WereTried}
 
--- Lines from one more place were tried, which is behind those that were.
+-- A line was tried from one more place, which is after the others.
 pub swept_more :
     (stop : ℕ → ℕ → Bool) (b low place : ℕ) (before now new : ℕ → ℕ)
     → IsSwept stop b before now → ((a : ℕ) → low ≤ a → now a ≤ before a)
@@ -51,11 +51,11 @@ counted_more stop b before middle now is swept =
         let all = grown a tried in
         omega (arith, all)
 
--- No line was tried yet.
+-- No line has been tried yet.
 pub counted_none : (stop : ℕ → ℕ → Bool) (before : ℕ → ℕ) → IsCounted stop 0 before before
 counted_none stop before = record { grown = λ a. omega arith; stopped = λ a l earlier within stops. absurd (omega arith) }
 
--- What holds up to a place holds up to a later one.
+-- A bound up to a place holds up to a later place.
 pub counted_longer : (stop : ℕ → ℕ → Bool) (b c : ℕ) (before now : ℕ → ℕ) → b ≤ c → IsCounted stop b before now → IsCounted stop c before now
 counted_longer stop b c before now later is =
     record { grown = λ a. omega (arith, is.grown a); stopped = λ a l earlier within stops. stopped a l earlier stops (cases_lt b l) }
@@ -64,48 +64,48 @@ counted_longer stop b c before now later is =
     stopped a l earlier stops (inl above) = omega (arith, is.grown a)
     stopped a l earlier stops (inr low) = is.stopped a l earlier low stops
 
--- No trial is forgotten by one more.
+-- One more trial does not decrease a count.
 pub kept_more :
-    (place : ℕ) (before now new : ℕ → ℕ) → AreKept before now
-    → new place ≡ now place + 1 → ((other : ℕ) → other ≢ place → new other ≡ now other) → AreKept before new
+    (place : ℕ) (before now new : ℕ → ℕ) → TrialsOnlyGrow before now
+    → new place ≡ now place + 1 → ((other : ℕ) → other ≢ place → new other ≡ now other) → TrialsOnlyGrow before new
 kept_more place before now new kept counted others a = cases (cases_eq a place)
   where
     cases : (a ≡ place) ⊎ (a ≡ place → ⊥) → before a ≤ new a
     cases (inl same) = subst (λ x. before x ≤ new x) (sym same) (omega (arith, counted, kept place))
     cases (inr other) = omega (arith, others a other, kept a)
 
-pub kept_on : (before middle now : ℕ → ℕ) → AreKept before middle → AreKept middle now → AreKept before now
+pub kept_on : (before middle now : ℕ → ℕ) → TrialsOnlyGrow before middle → TrialsOnlyGrow middle now → TrialsOnlyGrow before now
 kept_on before middle now first second a = omega (arith, first a, second a)
 
-pub kept_none : (before : ℕ → ℕ) → AreKept before before
+pub kept_none : (before : ℕ → ℕ) → TrialsOnlyGrow before before
 kept_none before a = omega arith
 
 -- A line was tried from one more group.
 pub tried_more :
-    (live : List Group) (i : ℕ) (group : Group) (before now new : ℕ → ℕ)
-    → ((k : ℕ) (g : Group) → k < i → slice_get live k ≡ Some g → before g.place < now g.place) → AreKept before now
+    (live : List ActiveGroup) (i : ℕ) (group : ActiveGroup) (before now new : ℕ → ℕ)
+    → ((k : ℕ) (g : ActiveGroup) → k < i → slice_get live k ≡ Some g → before g.place < now g.place) → TrialsOnlyGrow before now
     → slice_get live i ≡ Some group → new group.place ≡ now group.place + 1 → ((other : ℕ) → other ≢ group.place → new other ≡ now other)
-    → (k : ℕ) (g : Group) → k < i + 1 → slice_get live k ≡ Some g → before g.place < new g.place
+    → (k : ℕ) (g : ActiveGroup) → k < i + 1 → slice_get live k ≡ Some g → before g.place < new g.place
 tried_more live i group before now new tried kept at counted others k g within is = cases (cases_eq k i)
   where
-    on : AreKept now new
+    on : TrialsOnlyGrow now new
     on = kept_more group.place now now new (kept_none now) counted others
 
     cases : (k ≡ i) ⊎ (k ≡ i → ⊥) → before g.place < new g.place
     cases (inl same) =
         let found : slice_get live i ≡ Some g = ap (slice_get live) (sym same) ∙ is in
         let one : group ≡ g = same_Some group g (sym at ∙ found) in
-        subst (λ (x : Group). before x.place < new x.place) one (omega (arith, counted, kept group.place))
+        subst (λ (x : ActiveGroup). before x.place < new x.place) one (omega (arith, counted, kept group.place))
     cases (inr other) = omega (arith, tried k g (omega arith) is, on g.place)
 
 -- The group of the start.
-abbrev pub start_group : Group
+abbrev pub start_group : ActiveGroup
 start_group = record { place = 0; start = 0; end = 1 }
 
--- A line from the start was tried to the first place.
+-- A line from the start to the first place was tried.
 pub started_more :
-    (b : ℕ) (live : List Group) (before middle now : ℕ → ℕ)
-    → (b ≡ 0 → live ≡ start_group ∷ []) → (0 < b → before 0 < middle 0) → AreKept before middle → AreKept middle now → WereTried live middle now
+    (b : ℕ) (live : List ActiveGroup) (before middle now : ℕ → ℕ)
+    → (b ≡ 0 → live ≡ start_group ∷ []) → (0 < b → before 0 < middle 0) → TrialsOnlyGrow before middle → TrialsOnlyGrow middle now → WereTried live middle now
     → before 0 < now 0
 started_more zero live before middle now begins started first second tried =
     omega (arith, first 0, tried 0 start_group (ap (λ groups. slice_get groups 0) (begins refl)))

@@ -1,4 +1,4 @@
--- In the last pass over a steady paragraph each line that passes over a place to which it is overfull, and hangs over more than there, has a detour.
+-- In the last pass over a steady paragraph each long line has a detour.
 use Rattle.std.proofs.Common.{◌≡◌, ◌∙◌, ℕ, zero, suc, ◌+◌, ◌<◌, ◌≤◌, min, true, false, cond, ◌&&◌, refl, ap, sym, subst, arith, Some}
 use Rattle.std.specs.Prelude.{ℤ, nat_lt, int_lt, ◌+ℤ◌, ◌-ℤ◌, ◌<ℤ◌, ◌≤ℤ◌}
 use Rattle.std.proofs.Math.Logic.{◌⊎◌, inl, inr}
@@ -6,40 +6,40 @@ use Rattle.std.proofs.lemmas.Int.{ints}
 use Rattle.std.proofs.lemmas.Bool.{cases_Bool, cond-true, cond-false}
 use Rattle.std.proofs.lemmas.Option.{same_Some}
 use Rattle.node_core.specs.declared.params.Params.{Params}
-use Rattle.break_table.specs.declared.answer.Least.{Least}
-use Rattle.break_table.specs.declared.state.Class.{Class}
-use Rattle.break_table.specs.declared.state.State.{State}
-use Rattle.break_table.specs.declared.state.Line.{Line}
-use Rattle.break_table.specs.Problems.{state_after}
+use Rattle.break_table.specs.declared.answer.ChosenBreaks.{ChosenBreaks}
+use Rattle.break_table.specs.declared.state.Fitness.{Fitness}
+use Rattle.break_table.specs.declared.state.BreakState.{BreakState}
+use Rattle.break_table.specs.declared.state.LineCost.{LineCost}
+use Rattle.break_table.specs.Problems.{end_after}
 use Rattle.break_table.specs.Chosen.{IsAnswer, AdmitsNone}
 use Rattle.break_table.specs.Parts.{IsNoWorse, IsOrder, HasDetours}
 use Rattle.break_table.proofs.Parts.{answer_of_part, none_of_part}
-use Rattle.break_cost.specs.declared.cost.Judged.{Judged}
-use Rattle.break_cost.specs.declared.cost.Bound.TheVariants.{Any}
-use Rattle.break_cost.specs.Costs.{judged, admits, line_of, demerits_of}
-use Rattle.break_cost.specs.Sizes.{line_size, least_width}
-use Rattle.break_cost.proofs.Bounds.{hangs_not}
-use Rattle.break_cost.proofs.Widths.{overhang_is, overhang_less, overfull_each, size_counted, size_some, size_rest}
-use Rattle.line_meter.specs.Facts.{Facts}
-use Rattle.line_meter.specs.Divided.{IsDivided}
+use Rattle.break_lines.specs.declared.cost.LineFit.{LineFit}
+use Rattle.break_lines.specs.declared.cost.Bound.TheVariants.{Any}
+use Rattle.break_lines.specs.Costs.{line_fit, admits, line_of, demerits_of}
+use Rattle.break_lines.specs.Sizes.{line_size, least_width}
+use Rattle.break_lines.proofs.Bounds.{hangs_not}
+use Rattle.break_lines.proofs.Widths.{overhang_is, overhang_less, overfull_each, size_counted, size_some, size_rest}
+use Rattle.break_lines.specs.Facts.{Facts}
+use Rattle.break_lines.specs.Divided.{IsDivided}
 use Rattle.break_core.specs.Passes.{problem_of}
 use Rattle.break_core.specs.Trials.{is_overfull, IsWidening, MayLeave}
 use Rattle.break_core.specs.Leaving.{first_over, is_long, without_long}
 use Rattle.break_core.proofs.Overfull.{both_true, overfull_stays}
 
--- The line where each line is admitted.
-abbrev any_line : Params → (penalty : ℤ) → Class → Judged → Line
+-- The line in a pass that admits every line.
+abbrev any_line : Params → (penalty : ℤ) → Fitness → LineFit → LineCost
 any_line params penalty before line = record { class = line.class; overhang = line.overhang; demerits = demerits_of params penalty before line }
 
-any_is : (params : Params) (penalty : ℤ) (before : Class) (line : Judged) → line_of params Any penalty before line ≡ Some (any_line params penalty before line)
+any_is : (params : Params) (penalty : ℤ) (before : Fitness) (line : LineFit) → line_of params Any penalty before line ≡ Some (any_line params penalty before line)
 unfolding line_of admits
 any_is params penalty before line = refl
 
--- A state is ahead of another one of its place where the lines that follow it are no narrower.
-abbrev IsAhead : Params → State → State → Type 0
+-- A state is ahead of another one for the same place if the lines that follow it are at least as wide.
+abbrev IsAhead : Params → BreakState → BreakState → Type 0
 IsAhead params s t = (s.place ≡ t.place) × ((more : ℕ) → line_size params (t.lines + more) ≤ℤ line_size params (s.lines + more))
 
--- What the first place is to which a line is overfull.
+-- The first place to which a line is overfull.
 pub record IsFirstOver (facts : Facts) (params : Params) (a m b : ℕ) : Type 0 where
   pub later : a < m
   pub before : m < b
@@ -126,13 +126,13 @@ second_least params (suc n) widening =
     let one : n + 2 ≡ suc n + 1 = omega arith in
     omega (arith, ints, before, next, ap (line_size params) one)
 
--- Lines of the last pass.
+-- The lines of the last pass.
 line_is :
-    (facts : Facts) (params : Params) (s : State) (b : ℕ)
-    → (problem_of facts params Any).line s b ≡ Some (any_line params (facts.penalty b) s.class (judged (facts.sums s.place b) (line_size params s.lines)))
-line_is facts params s b = any_is params (facts.penalty b) s.class (judged (facts.sums s.place b) (line_size params s.lines))
+    (facts : Facts) (params : Params) (s : BreakState) (b : ℕ)
+    → (problem_of facts params Any).line s b ≡ Some (any_line params (facts.penalty b) s.class (line_fit (facts.sums s.place b) (line_size params s.lines)))
+line_is facts params s b = any_is params (facts.penalty b) s.class (line_fit (facts.sums s.place b) (line_size params s.lines))
 
--- States that are ahead.
+-- The order of states that are ahead.
 ahead_order : (facts : Facts) (params : Params) → IsOrder (problem_of facts params Any) (IsAhead params)
 ahead_order facts params =
     record {
@@ -143,7 +143,7 @@ ahead_order facts params =
     }
   where
     counted :
-        (s t : State) → ((more : ℕ) → line_size params (t.lines + more) ≤ℤ line_size params (s.lines + more)) → (more : ℕ)
+        (s t : BreakState) → ((more : ℕ) → line_size params (t.lines + more) ≤ℤ line_size params (s.lines + more)) → (more : ℕ)
         → line_size params (min (t.lines + 1) params.first_lines + more) ≤ℤ line_size params (min (s.lines + 1) params.first_lines + more)
     counted s t wide more =
         let a = size_counted params t.lines more in
@@ -154,40 +154,40 @@ ahead_order facts params =
         omega (arith, ints, a, b, w, ap (line_size params) n, ap (line_size params) m)
 
     line :
-        (s t : State) (b : ℕ) (l : Line) → IsAhead params s t → (problem_of facts params Any).line t b ≡ Some l
+        (s t : BreakState) (b : ℕ) (l : LineCost) → IsAhead params s t → (problem_of facts params Any).line t b ≡ Some l
         → IsNoWorse (problem_of facts params Any) (IsAhead params) s t b l
     line s t b l ahead is =
-        let old : any_line params (facts.penalty b) t.class (judged (facts.sums t.place b) (line_size params t.lines)) ≡ l =
+        let old : any_line params (facts.penalty b) t.class (line_fit (facts.sums t.place b) (line_size params t.lines)) ≡ l =
         same_Some _ l (sym (line_is facts params t b) ∙ is) in
-        let hangs : l.overhang ≡ (judged (facts.sums t.place b) (line_size params t.lines)).overhang = ap (λ x. x.overhang) (sym old) in
+        let hangs : l.overhang ≡ (line_fit (facts.sums t.place b) (line_size params t.lines)).overhang = ap (λ x. x.overhang) (sym old) in
         let n : t.lines ≡ t.lines + 0 = omega arith in
         let m : s.lines ≡ s.lines + 0 = omega arith in
         let wide = ahead.1 0 in
         let less = overhang_less (facts.sums t.place b) (line_size params s.lines) (line_size params t.lines)
         (omega (arith, ints, wide, ap (line_size params) n, ap (line_size params) m)) in
-        let same : (judged (facts.sums s.place b) (line_size params s.lines)).overhang ≡ (judged (facts.sums t.place b) (line_size params s.lines)).overhang =
-        ap (λ a. (judged (facts.sums a b) (line_size params s.lines)).overhang) ahead.0 in
+        let same : (line_fit (facts.sums s.place b) (line_size params s.lines)).overhang ≡ (line_fit (facts.sums t.place b) (line_size params s.lines)).overhang =
+        ap (λ a. (line_fit (facts.sums a b) (line_size params s.lines)).overhang) ahead.0 in
         record {
-          line = any_line params (facts.penalty b) s.class (judged (facts.sums s.place b) (line_size params s.lines));
+          line = any_line params (facts.penalty b) s.class (line_fit (facts.sums s.place b) (line_size params s.lines));
           is = line_is facts params s b;
           less = omega (arith, ints, hangs, less, same);
           ahead = (refl, λ more. counted s t ahead.1 more);
         }
 
--- Two lines hang over less than a long one.
+-- Two lines have less overhang together than a long one.
 two_less :
     (facts : Facts) (params : Params) (a m b : ℕ) (size next o_l o_m : ℤ)
     → IsDivided facts (line_size params 1) → a < m → m < b → b ≤ facts.places → line_size params 1 ≤ℤ next
     → o_l ≡ ((facts.sums a b).width -ℤ size) -ℤ (facts.sums a b).shrink
     → o_m ≡ ((facts.sums a m).width -ℤ size) -ℤ (facts.sums a m).shrink
     → least_width (facts.sums a m) <ℤ least_width (facts.sums a b)
-    → (o_m +ℤ (judged (facts.sums m b) next).overhang) <ℤ o_l
+    → (o_m +ℤ (line_fit (facts.sums m b) next).overhang) <ℤ o_l
 two_less facts params a m b size next o_l o_m divided later before within wide is_l is_m more =
-    cases (cases_Bool (judged (facts.sums m b) next).overfull)
+    cases (cases_Bool (line_fit (facts.sums m b) next).overfull)
   where
     cases :
-        ((judged (facts.sums m b) next).overfull ≡ true) ⊎ ((judged (facts.sums m b) next).overfull ≡ false)
-        → (o_m +ℤ (judged (facts.sums m b) next).overhang) <ℤ o_l
+        ((line_fit (facts.sums m b) next).overfull ≡ true) ⊎ ((line_fit (facts.sums m b) next).overfull ≡ false)
+        → (o_m +ℤ (line_fit (facts.sums m b) next).overhang) <ℤ o_l
     cases (inl is) =
         let o = overhang_is (facts.sums m b) next is in
         let d = divided a m b later before within in
@@ -208,8 +208,8 @@ detours facts params may s b l later since_b within is long =
       first = any_line params (facts.penalty m) s.class one;
       first_is = line_is facts params s m;
       kept = not_long facts params s.place m first.none;
-      second = any_line params (facts.penalty b) one.class (judged (facts.sums m b) next);
-      second_is = line_is facts params (state_after params.first_lines s m (any_line params (facts.penalty m) s.class one)) b;
+      second = any_line params (facts.penalty b) one.class (line_fit (facts.sums m b) next);
+      second_is = line_is facts params (end_after params.first_lines s m (any_line params (facts.penalty m) s.class one)) b;
       less = two_less facts params s.place m b size next l.overhang one.overhang may.divided first.later first.before within wide hangs
           (overhang_is (facts.sums s.place m) size over_m) (long_means facts params s.place b long).1;
       ahead = (refl, ahead);
@@ -236,13 +236,13 @@ detours facts params may s b l later since_b within is long =
     wide : line_size params 1 ≤ℤ line_size params (min (s.lines + 1) params.first_lines)
     wide = let least = second_least params s.lines may.widening in omega (arith, ints, least, is_next)
 
-    one : Judged
-    one = judged (facts.sums s.place m) size
+    one : LineFit
+    one = line_fit (facts.sums s.place m) size
 
-    over_m : (judged (facts.sums s.place m) size).overfull ≡ true
+    over_m : (line_fit (facts.sums s.place m) size).overfull ≡ true
     over_m = overfull_each params (facts.sums s.place m) s.lines (first_is facts params s.place b (long_means facts params s.place b long).0).over
 
-    over_b : (judged (facts.sums s.place b) size).overfull ≡ true
+    over_b : (line_fit (facts.sums s.place b) size).overfull ≡ true
     over_b =
         let f = first_is facts params s.place b (long_means facts params s.place b long).0 in
         overfull_each params (facts.sums s.place b) s.lines
@@ -250,7 +250,7 @@ detours facts params may s b l later since_b within is long =
 
     hangs : l.overhang ≡ ((facts.sums s.place b).width -ℤ size) -ℤ (facts.sums s.place b).shrink
     hangs =
-        let old : any_line params (facts.penalty b) s.class (judged (facts.sums s.place b) size) ≡ l = same_Some _ l (sym (line_is facts params s b) ∙ is) in
+        let old : any_line params (facts.penalty b) s.class (line_fit (facts.sums s.place b) size) ≡ l = same_Some _ l (sym (line_is facts params s b) ∙ is) in
         ap (λ x. x.overhang) (sym old) ∙ overhang_is (facts.sums s.place b) size over_b
 
     ahead :
@@ -267,9 +267,9 @@ detours facts params may s b l later since_b within is long =
         let w = next_wider params (s.lines + more) may.widening in
         omega (arith, ints, x, ap (line_size params) n, y, ap (line_size params) k, z, ap (line_size params) j, w)
 
--- In the last pass the answer of the problem without these lines is the answer, and where that has none there is none.
+-- In the last pass the answer of the problem without these lines is the answer, and if that problem has none there is none.
 pub answer_without :
-    (facts : Facts) (params : Params) (answer : Least) → MayLeave facts params
+    (facts : Facts) (params : Params) (answer : ChosenBreaks) → MayLeave facts params
     → IsAnswer (without_long facts params) answer → IsAnswer (problem_of facts params Any) answer
 answer_without facts params answer may is =
     answer_of_part (problem_of facts params Any) (λ s b. is_long facts params s.place b) (IsAhead params) answer (ahead_order facts params)

@@ -1,33 +1,33 @@
--- Where trying lines from a group ends, and which lines are left out.
+-- When trying lines from a group stops, and which lines are left out.
 use Rattle.std.proofs.Common.{◌≡◌, ◌∙◌, ℕ, ◌+◌, ◌<◌, ◌≤◌, Bool, true, false, cond, ◌||◌, ap, sym, arith, Option, None, List}
 use Rattle.std.specs.Prelude.{ℤ}
 use Rattle.std.proofs.lemmas.Bool.{cond-true, cond-false}
 use Rattle.node_core.specs.declared.params.Params.{Params}
-use Rattle.break_table.specs.declared.group.Group.{Group}
-use Rattle.break_table.specs.declared.state.State.{State}
+use Rattle.break_table.specs.declared.group.ActiveGroup.{ActiveGroup}
+use Rattle.break_table.specs.declared.state.BreakState.{BreakState}
 use Rattle.break_table.specs.Tables.{Entry}
 use Rattle.break_table.specs.Live.{IsGroup}
-use Rattle.break_cost.specs.declared.sums.Sums.{Sums}
-use Rattle.break_cost.specs.declared.cost.Bound.{Bound}
-use Rattle.break_cost.specs.declared.sizes.Judgement.{Judgement}
-use Rattle.break_cost.specs.Costs.{line_of}
-use Rattle.break_cost.specs.Sizes.{least_width, judgement, judged_after}
-use Rattle.line_meter.specs.Legal.{is_forced}
-use Rattle.line_meter.specs.Facts.{Facts}
-use Rattle.line_meter.specs.Steady.{IsSteady}
-use Rattle.break_core.specs.declared.filling.Ending.{Ending}
-use Rattle.break_core.specs.declared.filling.Ending.TheVariants.{Never, Overfull, Long}
+use Rattle.break_lines.specs.declared.sums.Sums.{Sums}
+use Rattle.break_lines.specs.declared.cost.Bound.{Bound}
+use Rattle.break_lines.specs.declared.sizes.LineFits.{LineFits}
+use Rattle.break_lines.specs.Costs.{line_of}
+use Rattle.break_lines.specs.Sizes.{least_width, line_fits, fit_after}
+use Rattle.break_lines.specs.Legal.{is_forced}
+use Rattle.break_lines.specs.Facts.{Facts}
+use Rattle.break_lines.specs.Steady.{IsSteady}
+use Rattle.break_core.specs.declared.filling.StopRule.{StopRule}
+use Rattle.break_core.specs.declared.filling.StopRule.TheVariants.{Never, Overfull, Long}
 use Rattle.break_core.specs.Passes.{problem_of}
 use Rattle.break_core.specs.Filling.{IsOf, IsOffering, IsOfferingUnless}
 use Rattle.break_core.specs.Trials.{is_overfull}
 use Rattle.break_core.specs.Leaving.{is_long, over_before, is_more, kept_over}
 use Rattle.break_core.specs.Active.{ends, stops, pruned, MayEnd, IsQuiet}
 use Rattle.break_core.proofs.Active.{row_passed}
-use Rattle.break_core.proofs.Filled.{judged_is}
+use Rattle.break_core.proofs.Filled.{fit_is}
 use Rattle.break_core.proofs.Overfull.{no_offer, overfull_quiet}
 use Rattle.break_core.proofs.Long.{long_is, over_next, long_stays}
 
--- Whether a line that was tried is long, and what is kept of it.
+-- Whether a line that was tried is long, and the stored value after it.
 pub long_found :
     (f h : Facts) (params : Params) (a b : ℕ) (sums : Sums) (over : Option ℤ) (width : ℤ) (long : Bool)
     → long ≡ is_more over width → over ≡ over_before f params a b → width ≡ least_width sums → sums ≡ h.sums a b → h ≡ f → long ≡ is_long f params a b
@@ -47,48 +47,48 @@ over_found f h params a b sums over kept width overfull later is is_over is_over
 
 -- The line of the pass without those that are left out.
 pub pruned_is :
-    (f h : Facts) (params : Params) (bound : Bound) (ending : Ending) (g : Group) (place : ℕ) (penalty : ℤ) (sums : Sums) (line : Judgement) (left long : Bool)
-    → penalty ≡ f.penalty place → line ≡ judgement params sums → sums ≡ h.sums g.place place → h ≡ f
+    (f h : Facts) (params : Params) (bound : Bound) (ending : StopRule) (g : ActiveGroup) (place : ℕ) (penalty : ℤ) (sums : Sums) (line : LineFits) (left long : Bool)
+    → penalty ≡ f.penalty place → line ≡ line_fits params sums → sums ≡ h.sums g.place place → h ≡ f
     → left ≡ ends ending false long → long ≡ is_long f params g.place place
-    → (s : State) → s.place ≡ g.place
+    → (s : BreakState) → s.place ≡ g.place
     → (pruned f params bound ending).line s place
-    ≡ cond left None (line_of params bound penalty s.class (judged_after params.first_lines s.lines line))
+    ≡ cond left None (line_of params bound penalty s.class (fit_after params.first_lines s.lines line))
 pruned_is f h params bound ending g place penalty sums line left long is_penalty is_line is_sums same is_left is_long_line s at =
     ap (λ t. cond (ends ending false t) None ((problem_of f params bound).line s place)) (ap (λ a. is_long f params a place) at ∙ sym is_long_line)
     ∙ ap (λ t. cond t None ((problem_of f params bound).line s place)) (sym is_left)
-    ∙ ap (cond left None) (judged_is f h params bound g place penalty sums line is_penalty is_line is_sums same s at)
+    ∙ ap (cond left None) (fit_is f h params bound g place penalty sums line is_penalty is_line is_sums same s at)
 
--- Where the line is left out, the row stays as it is; else it is offered.
+-- If the line is left out, the row does not change; otherwise the line is offered.
 pub left_out :
-    (left : Bool) (table : List Entry) (params : Params) (bound : Bound) (group : Group) (place : ℕ) (penalty : ℤ) (line : Judgement) (row : List (Option Entry))
+    (left : Bool) (table : List Entry) (params : Params) (bound : Bound) (group : ActiveGroup) (place : ℕ) (penalty : ℤ) (line : LineFits) (row : List (Option Entry))
     → left ≡ true → group.start ≤ group.end → IsOf params.first_lines table group
     → IsOfferingUnless left table params bound group place penalty line row row
-left_out left table params bound group place penalty line row is rises of p cut late judged before =
+left_out left table params bound group place penalty line row is rises of p cut late line_fit before =
     row_passed p table place group.start group.end row rises (λ k e low high at. no_offer p e k place (none e (of k e low high at).0)) before
   where
     none : (e : Entry) → e.end.place ≡ group.place → p.line e.end place ≡ None
-    none e at = judged e.end at ∙ cond-true left None (line_of params bound penalty e.end.class (judged_after params.first_lines e.end.lines line)) is
+    none e at = line_fit e.end at ∙ cond-true left None (line_of params bound penalty e.end.class (fit_after params.first_lines e.end.lines line)) is
 
 pub not_left_out :
-    (left : Bool) (table : List Entry) (params : Params) (bound : Bound) (group : Group) (place : ℕ) (penalty : ℤ) (line : Judgement) (old new : List (Option Entry))
+    (left : Bool) (table : List Entry) (params : Params) (bound : Bound) (group : ActiveGroup) (place : ℕ) (penalty : ℤ) (line : LineFits) (old new : List (Option Entry))
     → left ≡ false → IsOffering table params bound group place penalty line group.start group.end old new
     → IsOfferingUnless left table params bound group place penalty line old new
-not_left_out left table params bound group place penalty line old new is offering p cut late judged before =
+not_left_out left table params bound group place penalty line old new is offering p cut late line_fit before =
     offering p cut late
-    (λ s at. judged s at ∙ cond-false left None (line_of params bound penalty s.class (judged_after params.first_lines s.lines line)) is) before
+    (λ s at. line_fit s at ∙ cond-false left None (line_of params bound penalty s.class (fit_after params.first_lines s.lines line)) is) before
 
--- Trying goes on where the place is not forced and it has not ended.
+-- Trying goes on if the place is not forced and trying has not stopped.
 pub goes_on :
-    (f : Facts) (params : Params) (ending : Ending) (a b : ℕ) (o long ended : Bool)
+    (f : Facts) (params : Params) (ending : StopRule) (a b : ℕ) (o long ended : Bool)
     → ended ≡ ends ending o long → o ≡ is_overfull f params a b → long ≡ is_long f params a b → is_forced (f.penalty b) ≡ false → ended ≡ false
     → stops f params ending a b ≡ false
 goes_on f params ending a b o long ended is same_over same_long free not_ended =
     ap (λ t. t || ends ending (is_overfull f params a b) (is_long f params a b)) free ∙ ap (λ t. ends ending t (is_long f params a b)) (sym same_over)
     ∙ ap (ends ending o) (sym same_long) ∙ sym is ∙ not_ended
 
--- After a long line no entry of its group offers anything, where such lines are left out.
+-- If long lines are left out, no entry of a group offers anything after one.
 long_quiet :
-    (facts : Facts) (params : Params) (bound : Bound) (table : List Entry) (b : ℕ) (g : Group)
+    (facts : Facts) (params : Params) (bound : Bound) (table : List Entry) (b : ℕ) (g : ActiveGroup)
     → IsSteady facts → IsGroup (pruned facts params bound Long) table b g → is_long facts params g.place b ≡ true
     → IsQuiet (pruned facts params bound Long) table (b + 1) g.start g.end
 long_quiet facts params bound table b g steady group is k e low high at l behind within =
@@ -97,9 +97,9 @@ long_quiet facts params bound table b g steady group is k e low high at l behind
     ap (λ a. is_long facts params a l) place ∙ long_stays facts params g.place b l steady group.earlier (omega arith) within is in
     no_offer (pruned facts params bound Long) e k l (cond-true (is_long facts params e.end.place l) None ((problem_of facts params bound).line e.end l) late)
 
--- Where it has ended, the entries of the group are quiet.
+-- If trying has stopped, the entries of the group are quiet.
 pub ended_quiet :
-    (f : Facts) (params : Params) (bound : Bound) (table : List Entry) (b : ℕ) (g : Group) (ending : Ending) (o long ended : Bool)
+    (f : Facts) (params : Params) (bound : Bound) (table : List Entry) (b : ℕ) (g : ActiveGroup) (ending : StopRule) (o long ended : Bool)
     → ended ≡ ends ending o long → o ≡ is_overfull f params g.place b → long ≡ is_long f params g.place b → MayEnd ending f params bound
     → IsGroup (pruned f params bound ending) table b g → ended ≡ true → IsQuiet (pruned f params bound ending) table (b + 1) g.start g.end
 ended_quiet f params bound table b g Never o long ended is same_over same_long may group yes_ended =

@@ -1,4 +1,4 @@
--- One list of breaks is chosen for a paragraph, in one pass; and bounds on trials at known places.
+-- Only one list of breaks is chosen for a paragraph, in one pass; and bounds on trials at known places.
 use Rattle.std.proofs.Common.{◌≡◌, ◌∙◌, ℕ, ◌<◌, ◌≤◌, true, false, cond, List, reverse, map, refl, ap, sym, subst}
 use Rattle.std.proofs.Math.Logic.{◌⊎◌, inl, inr}
 use Rattle.std.specs.Prelude.{if◌then◌else◌}
@@ -10,20 +10,20 @@ use Rattle.break_table.proofs.Dictionary.{not_after_antisym, key_apart}
 use Rattle.break_core.specs.declared.broken.Pass.{Pass}
 use Rattle.break_core.specs.declared.broken.Pass.TheVariants.{First, Second, Third}
 use Rattle.break_core.specs.declared.broken.Breaks.{Breaks}
-use Rattle.line_meter.specs.Legal.{is_forced}
-use Rattle.line_meter.specs.Facts.{Facts}
-use Rattle.break_core.specs.Passes.{problem_of, bound_of, line_end, IsBefore, IsBroken}
-use Rattle.line_meter.specs.Steady.{IsSteady}
+use Rattle.break_lines.specs.Legal.{is_forced}
+use Rattle.break_lines.specs.Facts.{Facts}
+use Rattle.break_core.specs.Passes.{problem_of, bound_of, line_end_at, IsBefore, IsBroken}
+use Rattle.break_lines.specs.Steady.{IsSteady}
 use Rattle.break_core.specs.Trials.{is_overfull, is_bounded, IsLong, MayLeave, IsStop, places_up_to, AreBounded, AreSame}
 
--- One path is chosen.
+-- Only one path is chosen.
 one_path : (p : Problem) (q r : Path) → IsChosen p (places_of (ends_of q)) q → IsChosen p (places_of (ends_of r)) r → q ≡ r
 one_path p q r left right =
     key_apart q r
     (not_after_antisym (key q) (key r) (left.least (places_of (ends_of r)) r right.is_list right.admitted)
     (right.least (places_of (ends_of q)) q left.is_list left.admitted))
 
--- Of two passes one comes first, or they are the same.
+-- One of two passes comes first, or they are the same.
 order_of : (a b : Pass) → IsBefore a b ⊎ (IsBefore b a ⊎ (a ≡ b))
 order_of First First = inr (inr refl)
 order_of First Second = inl tt
@@ -35,7 +35,7 @@ order_of Third First = inr (inl tt)
 order_of Third Second = inr (inl tt)
 order_of Third Third = inr (inr refl)
 
--- The pass of an answer is not before that of another one.
+-- The pass of a result is not before that of another one.
 not_before : (facts : Facts) (params : Params) (a b : Breaks) → IsBroken facts params a → IsBroken facts params b → IsBefore a.pass b.pass → ⊥
 not_before facts params a b left right before =
     right.earlier a.pass before (places_of (ends_of left.path)) left.path left.chosen.is_list left.chosen.admitted
@@ -48,7 +48,7 @@ one_answer facts params a b left right = cases (order_of a.pass b.pass)
         let chosen = subst (λ x. IsChosen (problem_of facts params (bound_of params x)) (places_of (ends_of left.path)) left.path) pass left.chosen in
         let one = one_path (problem_of facts params (bound_of params b.pass)) left.path right.path chosen right.chosen in
         record {
-          lines = left.lines ∙ ap (λ q. map (line_end facts) (reverse (ends_of q))) one ∙ sym right.lines;
+          lines = left.lines ∙ ap (λ q. map (line_end_at facts) (reverse (ends_of q))) one ∙ sym right.lines;
           pass = pass;
           overhang = left.overhang ∙ ap (λ q. q.overhang) one ∙ sym right.overhang;
           demerits = left.demerits ∙ ap (λ q. q.demerits) one ∙ sym right.demerits;

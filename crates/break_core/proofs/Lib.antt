@@ -10,4 +10,4 @@ pub mod Detours
 pub mod Long
 pub mod Endings
 pub mod Lives
-pub mod Best
+pub mod ActiveNodes

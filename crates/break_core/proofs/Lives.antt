@@ -1,4 +1,4 @@
--- Groups, and what is kept beside them.
+-- Groups, and the values that are stored with them.
 use Rattle.std.proofs.Common.{◌≡◌, ◌∙◌, ℕ, zero, suc, ◌+◌, ◌<◌, drop, Bool, true, false, cond, List, [], ◌∷◌, ◌++◌, length, ap, sym, subst, Some, None}
 use Rattle.std.specs.Prelude.{slice_get, slice_index_or, ◌==◌}
 use Rattle.std.specs.Option.{option_map}
@@ -6,14 +6,14 @@ use Rattle.std.proofs.Math.Logic.{◌⊎◌, inl, inr}
 use Rattle.std.proofs.lemmas.List.{map-append}
 use Rattle.std.proofs.lemmas.Option.{same_Some, slice_get-map, slice_get-get_or}
 use Rattle.node_core.specs.declared.params.Params.{Params}
-use Rattle.break_table.specs.declared.group.Group.{Group}
+use Rattle.break_table.specs.declared.group.ActiveGroup.{ActiveGroup}
 use Rattle.break_table.specs.Problems.{Problem}
 use Rattle.break_table.specs.Tables.{Entry, first_entry}
 use Rattle.break_table.proofs.Entries.{get_cases}
-use Rattle.line_meter.specs.Facts.{Facts}
-use Rattle.break_core.specs.declared.filling.Ending.{Ending}
+use Rattle.break_lines.specs.Facts.{Facts}
+use Rattle.break_core.specs.declared.filling.StopRule.{StopRule}
 use Rattle.break_core.specs.declared.filling.Live.{Live}
-use Rattle.break_cost.specs.declared.cost.Bound.{Bound}
+use Rattle.break_lines.specs.declared.cost.Bound.{Bound}
 use Rattle.break_core.specs.Leaving.{over_before}
 use Rattle.break_core.specs.Active.{stops, pruned, groups_of, with_group, with_live, AreOver, IsNext, IsActive, IsFilled}
 use Rattle.break_core.proofs.Active.{next_active, filled_first}
@@ -23,7 +23,7 @@ use Rattle.break_core.proofs.Long.{over_start}
 pub group_at : (lives : List Live) (i : ℕ) (live : Live) → slice_get lives i ≡ Some live → slice_get (groups_of lives) i ≡ Some live.group
 group_at lives i live at = slice_get-map (λ (x : Live). x.group) lives i ∙ ap (option_map (λ (x : Live). x.group)) at
 
--- One more group, or the same ones.
+-- One more group, or the same groups.
 pub groups_kept :
     (ended : Bool) (lives new : List Live) (live : Live)
     → new ≡ cond ended lives (lives ++ live ∷ []) → groups_of new ≡ cond ended (groups_of lives) (groups_of lives ++ live.group ∷ [])
@@ -47,7 +47,7 @@ over_kept facts params b false lives new live are is made k x at = cases (get_ca
     cases (inl front) = are k x front
     cases (inr end) = subst (λ y. y.over ≡ over_before facts params y.group.place b) (last end.0 end.2) is
 
--- The group of a place is put behind those of earlier places.
+-- The group of a place is appended to those of earlier places.
 pub groups_put :
     (forced : Bool) (lives new : List Live) (live : Live)
     → new ≡ with_live (cond forced [] lives) live → groups_of new ≡ with_group (cond forced [] (groups_of lives)) live.group
@@ -55,7 +55,7 @@ groups_put true lives new live made = groups_kept (live.group.start == live.grou
 groups_put false lives new live made = groups_kept (live.group.start == live.group.end) lives new live made
 
 pub over_put :
-    (facts : Facts) (params : Params) (place : ℕ) (forced : Bool) (lives new : List Live) (group : Group)
+    (facts : Facts) (params : Params) (place : ℕ) (forced : Bool) (lives new : List Live) (group : ActiveGroup)
     → AreOver facts params (place + 1) lives → group.place ≡ place → new ≡ with_live (cond forced [] lives) (record { group = group; over = None })
     → AreOver facts params (place + 1) new
 over_put facts params place true lives new group are at made =
@@ -65,7 +65,7 @@ over_put facts params place false lives new group are at made =
     over_kept facts params (place + 1) (group.start == group.end) lives new (record { group = group; over = None }) are
     (sym (ap (λ a. over_before facts params a (place + 1)) at ∙ over_start facts params place)) made
 
--- The start alone.
+-- The group of the start.
 pub over_first : (facts : Facts) (params : Params) (live : Live) → live.group.place ≡ 0 → live.over ≡ None → AreOver facts params 1 (live ∷ [])
 over_first facts params live at none zero x here =
     let same : live ≡ x = same_Some live x here in
@@ -81,16 +81,16 @@ filled_start p stop table lives live is_table is_lives place start end =
     subst (λ t. IsFilled p stop 1 t (groups_of lives)) (sym is_table)
     (subst (λ xs. IsFilled p stop 1 (first_entry ∷ []) (groups_of xs)) (sym is_lives) (filled_first p stop live.group place start end))
 
--- The group number i of a list, and what is kept beside it.
+-- Live group number i of a list.
 abbrev pub live_at : List Live → (i : ℕ) → Live
 live_at lives i = slice_index_or lives i (record { group = record { place = 0; start = 0; end = 0 }; over = None })
 
 pub live_here : (lives : List Live) (i : ℕ) → i < length lives → slice_get lives i ≡ Some (live_at lives i)
 live_here lives i within = slice_get-get_or lives i (record { group = record { place = 0; start = 0; end = 0 }; over = None }) within
 
--- The next group from which a line is tried, and those behind it.
+-- The next group from which a line is tried, and those after it.
 pub next_live :
-    (f : Facts) (params : Params) (bound : Bound) (ending : Ending) (table : List Entry) (b at low : ℕ) (lives : List Live) (i : ℕ)
+    (f : Facts) (params : Params) (bound : Bound) (ending : StopRule) (table : List Entry) (b at low : ℕ) (lives : List Live) (i : ℕ)
     → i < length lives → IsActive (pruned f params bound ending) (stops f params ending) table b b at low (drop i (groups_of lives))
     → IsNext (pruned f params bound ending) (stops f params ending) table b at low (live_at lives i).group
     × IsActive (pruned f params bound ending) (stops f params ending) table b b (live_at lives i).group.end ((live_at lives i).group.place + 1)

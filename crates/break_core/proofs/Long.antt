@@ -1,14 +1,14 @@
--- Lines that are too long, as they are found beside each place.
+-- Long lines, by the values that are stored with each group.
 use Rattle.std.proofs.Common.{◌≡◌, ◌∙◌, ℕ, zero, suc, ◌+◌, ◌-◌, ◌<◌, ◌≤◌, Bool, true, false, cond, ◌&&◌, refl, ap, sym, arith, Option, Some, None}
 use Rattle.std.specs.Prelude.{ℤ, nat_lt, int_lt, ◌<ℤ◌}
 use Rattle.std.proofs.Math.Logic.{◌⊎◌, inl, inr}
 use Rattle.std.proofs.lemmas.Int.{ints}
 use Rattle.std.proofs.lemmas.Bool.{cases_Bool, cond-true, cond-false}
 use Rattle.node_core.specs.declared.params.Params.{Params}
-use Rattle.break_cost.specs.Sizes.{least_width}
-use Rattle.line_meter.specs.Facts.{Facts}
-use Rattle.line_meter.specs.Steady.{IsSteady}
-use Rattle.line_meter.proofs.Divided.{least_rises}
+use Rattle.break_lines.specs.Sizes.{least_width}
+use Rattle.break_lines.specs.Facts.{Facts}
+use Rattle.break_lines.specs.Steady.{IsSteady}
+use Rattle.break_lines.proofs.Divided.{least_rises}
 use Rattle.break_core.specs.Trials.{is_overfull, IsLong}
 use Rattle.break_core.specs.Leaving.{first_over, is_long, over_before, is_more, kept_over}
 use Rattle.break_core.proofs.Detours.{first_is, long_means}
@@ -67,7 +67,7 @@ first_start facts params a (suc b) low =
     let no : nat_lt a b ≡ false = grind arith in
     first_none facts params a b before (ap (λ t. t && is_overfull facts params a b) no)
 
--- By what is kept.
+-- The test with the stored value.
 by_test : (t : Bool) (x width : ℤ) → (t && int_lt x width) ≡ is_more (cond t (Some x) None) width
 by_test true x width = refl
 by_test false x width = refl
@@ -126,7 +126,7 @@ over_next facts params a b later =
         never true = refl
         never false = refl
 
--- What makes a line too long.
+-- The condition under which a line is long.
 long_when :
     (facts : Facts) (params : Params) (a b f : ℕ)
     → first_over facts params a b ≡ f → 0 < f → least_width (facts.sums a f) <ℤ least_width (facts.sums a b) → is_long facts params a b ≡ true
@@ -140,7 +140,7 @@ long_when facts params a b f is some more =
     lower : (x y : ℤ) → x <ℤ y → int_lt x y ≡ true
     lower x y h = grind (arith, ints)
 
--- Over a steady paragraph, where a line is too long, so are those to later places.
+-- In a steady paragraph, if a line is long, so are the lines to later places.
 pub long_stays :
     (facts : Facts) (params : Params) (a b l : ℕ) → IsSteady facts → a < b → b ≤ l → l ≤ facts.places → is_long facts params a b ≡ true
     → is_long facts params a l ≡ true
@@ -149,7 +149,7 @@ long_stays facts params a b l steady earlier later within is =
     let rises = least_rises facts a b l steady earlier later within in
     long_when facts params a l (first_over facts params a b) (first_later facts params a b l means.0 later) means.0 (omega (arith, ints, rises, means.1))
 
--- A line is too long where it passes over a place to which it is overfull, and hangs over more than there.
+-- A line is long if it passes over a place to which it is overfull, and has more overhang than there.
 pub long_of :
     (facts : Facts) (params : Params) (a l : ℕ) → IsSteady facts → l ≤ facts.places → IsLong facts params a l → is_long facts params a l ≡ true
 long_of facts params a l steady within is = found (cases_Bool (nat_lt 0 (first_over facts params a is.by)))

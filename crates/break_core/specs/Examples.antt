@@ -1,13 +1,13 @@
--- Lists whose lines are known (own).
+-- Lists for the laws about known lines (own).
 use Rattle.std.specs.Prelude.{ℕ, pos, negsuc, List, [], ◌∷◌}
 use Rattle.node_core.specs.declared.tree.Node.{Node}
 use Rattle.node_core.specs.declared.tree.Node.TheVariants as nodes
 use Rattle.node_core.specs.declared.tree.Order.TheVariants.{Normal}
 use Rattle.node_core.specs.declared.tree.RuleSize.TheVariants.{Fixed}
 use Rattle.node_core.specs.Parameters.{first_params}
-use Rattle.break_cost.specs.Examples.{points}
+use Rattle.break_lines.specs.Examples.{points}
 
--- A rule that is so many points wide and 1pt high.
+-- A rule of this width in points and 1pt high.
 abbrev pub rule : (width : ℕ) → Node
 rule width = nodes.Rule (record { width = Fixed (points width); height = Fixed (points 1); depth = Fixed (pos 0) })
 
@@ -15,7 +15,7 @@ rule width = nodes.Rule (record { width = Fixed (points width); height = Fixed (
 abbrev pub space : Node
 space = nodes.Glue (record { width = points 5; stretch = points 15; stretch_order = Normal; shrink = pos 0; shrink_order = Normal })
 
--- The end of a paragraph of a new job.
+-- The end of a paragraph in a new job.
 abbrev pub paragraph_end : List Node
 paragraph_end = nodes.Penalty (pos 10000) ∷ nodes.Glue first_params.par_fill_skip ∷ []
 
@@ -27,7 +27,7 @@ five_rules = rule 10 ∷ space ∷ rule 10 ∷ space ∷ rule 10 ∷ space ∷ r
 abbrev pub kern_and_glue : List Node
 kern_and_glue = rule 40 ∷ nodes.Kern (points 5) ∷ space ∷ rule 40 ∷ paragraph_end
 
--- Two rules, and between them glue with a penalty before and behind it that breaks a line.
+-- Two rules, and between them glue with a penalty before and after it that forces a break.
 abbrev pub glue_among_penalties : List Node
 glue_among_penalties = rule 40 ∷ nodes.Penalty (negsuc 9999) ∷ space ∷ nodes.Penalty (negsuc 9999) ∷ rule 10 ∷ paragraph_end
 
@@ -39,6 +39,6 @@ special = nodes.Special (0x61 ∷ [])
 abbrev pub special_between_glue : List Node
 special_between_glue = rule 40 ∷ space ∷ special ∷ space ∷ rule 40 ∷ paragraph_end
 
--- A special alone.
+-- A special and the end of a paragraph.
 abbrev pub special_alone : List Node
 special_alone = special ∷ paragraph_end

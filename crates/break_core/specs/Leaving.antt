@@ -1,38 +1,38 @@
--- Lines that are left out of the last pass, as they are found beside each place (own; no public clause speaks of it).
+-- Lines that are left out of the last pass, by the values that are stored with each group (own; no public clause speaks of it).
 use Rattle.std.specs.Prelude.{ℕ, zero, suc, ℤ, Bool, false, ◌&&◌, nat_lt, int_lt, Option, Some, None, if◌then◌else◌}
 use Rattle.node_core.specs.declared.params.Params.{Params}
 use Rattle.break_table.specs.Problems.{Problem}
 use Rattle.break_table.specs.Parts.{part}
-use Rattle.break_cost.specs.declared.cost.Bound.TheVariants.{Any}
-use Rattle.break_cost.specs.Sizes.{least_width}
-use Rattle.line_meter.specs.Facts.{Facts}
+use Rattle.break_lines.specs.declared.cost.Bound.TheVariants.{Any}
+use Rattle.break_lines.specs.Sizes.{least_width}
+use Rattle.break_lines.specs.Facts.{Facts}
 use Rattle.break_core.specs.Passes.{problem_of}
 use Rattle.break_core.specs.Trials.{is_overfull}
 
--- The first place after place a and before place b to which the line from a is overfull, or 0.
+-- The first place after place a and before place b to which the line from a is overfull, or 0 if there is none.
 unfoldable pub first_over : Facts → Params → (a b : ℕ) → ℕ
 first_over facts params a zero = 0
 first_over facts params a (suc b) =
     if nat_lt 0 (first_over facts params a b) then first_over facts params a b
     else (if nat_lt a b && is_overfull facts params a b then b else 0)
 
--- The line from place a to place b passes over that place, and hangs over more than there.
+-- The line from place a to place b passes over that place, and has more overhang than there.
 unfoldable pub is_long : Facts → Params → (a b : ℕ) → Bool
 is_long facts params a b =
     nat_lt 0 (first_over facts params a b)
     && int_lt (least_width (facts.sums a (first_over facts params a b))) (least_width (facts.sums a b))
 
--- What is kept of the first such place: how wide the line to it is, shrunk as far as it goes.
+-- The value that is stored for the first such place: the width of the line to it, shrunk as far as possible.
 abbrev pub over_before : Facts → Params → (a b : ℕ) → Option ℤ
 over_before facts params a b =
     if nat_lt 0 (first_over facts params a b) then Some (least_width (facts.sums a (first_over facts params a b))) else None
 
--- A line of that least width hangs over more than there.
+-- A line of this width, shrunk as far as possible, has more overhang than there.
 abbrev pub is_more : Option ℤ → (width : ℤ) → Bool
 is_more None width = false
 is_more (Some over) width = int_lt over width
 
--- What is kept after a line of that least width, which is overfull or not.
+-- The stored value after a line of this width, which is overfull or not.
 abbrev pub kept_over : Option ℤ → (overfull : Bool) → (width : ℤ) → Option ℤ
 kept_over None overfull width = if overfull then Some width else None
 kept_over (Some over) overfull width = Some over

@@ -1,4 +1,4 @@
--- Breaking paragraphs into lines: the passes, the list of breaks that is chosen, how many lines are tried at most, and the table as it is filled.
+-- Breaking paragraphs into lines: the passes, the chosen list of breaks, the greatest number of trials, and the table while it is filled.
 pub mod Passes
 pub mod Trials
 pub mod Examples

@@ -1,28 +1,28 @@
--- The passes over a paragraph, and the list of breaks that is chosen (TeX: The Program, part 39, §863 and §874; own: the last pass admits each line,
--- the least overhang counts first, and ties are decided).
+-- The passes over a paragraph, and the chosen list of breaks (TeX: The Program, part 39, §863 and §874; own: the last pass admits each line, the
+-- least overhang counts first, and ties are decided).
 use Rattle.std.specs.Prelude.{◌≡◌, map, reverse}
 use Rattle.node_core.specs.declared.params.Params.{Params}
-use Rattle.break_table.specs.declared.state.State.{State}
+use Rattle.break_table.specs.declared.state.BreakState.{BreakState}
 use Rattle.break_table.specs.Problems.{Problem, Path, ends_of, places_of}
 use Rattle.break_table.specs.Chosen.{IsChosen, AdmitsNone}
-use Rattle.break_cost.specs.declared.cost.Bound.{Bound}
-use Rattle.break_cost.specs.declared.cost.Bound.TheVariants.{Any, AtMost}
+use Rattle.break_lines.specs.declared.cost.Bound.{Bound}
+use Rattle.break_lines.specs.declared.cost.Bound.TheVariants.{Any, AtMost}
 use Rattle.break_core.specs.declared.broken.Pass.{Pass}
 use Rattle.break_core.specs.declared.broken.Pass.TheVariants.{First, Second, Third}
 use Rattle.break_core.specs.declared.broken.Breaks.{Breaks}
 use Rattle.break_core.specs.declared.broken.LineEnd.{LineEnd}
-use Rattle.line_meter.specs.Legal.{is_forced}
-use Rattle.line_meter.specs.Facts.{Facts}
-use Rattle.break_cost.specs.Costs.{judged, line_of}
-use Rattle.break_cost.specs.Sizes.{line_size}
+use Rattle.break_lines.specs.Legal.{is_forced}
+use Rattle.break_lines.specs.Facts.{Facts}
+use Rattle.break_lines.specs.Costs.{line_fit, line_of}
+use Rattle.break_lines.specs.Sizes.{line_size}
 
--- What a pass admits: the first one lines up to pretolerance, the second one up to tolerance, the last one each line.
+-- The lines that a pass admits: in the first pass those up to pretolerance, in the second pass those up to tolerance, and in the last pass all lines.
 abbrev pub bound_of : Params → Pass → Bound
 bound_of params First = AtMost params.pretolerance
 bound_of params Second = AtMost params.tolerance
 bound_of params Third = Any
 
--- A paragraph in a pass: the lines are counted up to firstlines, and each line is measured against its own width.
+-- A paragraph in a pass: lines are counted up to firstlines, and each line is measured against its own width.
 abbrev pub problem_of : Facts → Params → Bound → Problem
 problem_of facts params bound =
     record {
@@ -30,7 +30,7 @@ problem_of facts params bound =
       forced = λ place. is_forced (facts.penalty place);
       cut = params.first_lines;
       line = λ before place.
-          line_of params bound (facts.penalty place) before.class (judged (facts.sums before.place place) (line_size params before.lines));
+          line_of params bound (facts.penalty place) before.class (line_fit (facts.sums before.place place) (line_size params before.lines));
     }
 
 -- A pass comes before another one.
@@ -40,19 +40,19 @@ IsBefore First Third = Unit {0}
 IsBefore Second Third = Unit {0}
 IsBefore pass other = ⊥
 
--- The end of a line, by where it stands in the list.
-abbrev pub line_end : Facts → State → LineEnd
-line_end facts s = record { place = facts.position s.place; class = s.class }
+-- The end of a line, by its position in the list.
+abbrev pub line_end_at : Facts → BreakState → LineEnd
+line_end_at facts s = record { place = facts.position s.place; class = s.class }
 
--- The breaks are the list that is chosen in the first pass that admits any.
+-- The breaks are the chosen list of the first pass that admits one.
 pub record IsBroken (facts : Facts) (params : Params) (breaks : Breaks) : Type 0 where
   pub path : Path
-  -- its lines are admitted by the pass that it names, and no list of admitted lines is before it
+  -- Its lines are admitted by the pass of the breaks, and no list of admitted lines is better.
   pub chosen : IsChosen (problem_of facts params (bound_of params breaks.pass)) (places_of (ends_of path)) path
-  -- no earlier pass admits any list
+  -- No earlier pass admits a list.
   pub earlier : (pass : Pass) → IsBefore pass breaks.pass → AdmitsNone (problem_of facts params (bound_of params pass))
-  -- its places and classes are those of its lines, in order
-  pub lines : breaks.lines.items ≡ map (line_end facts) (reverse (ends_of path))
-  -- it costs what it says
+  -- The places and classes are those of its lines, in order.
+  pub lines : breaks.lines.items ≡ map (line_end_at facts) (reverse (ends_of path))
+  -- The costs are those of its lines.
   pub overhang : breaks.overhang ≡ path.overhang
   pub demerits : breaks.demerits ≡ path.demerits

@@ -1,23 +1,24 @@
-//! The breaks of a paragraph: the plain breaker, which tries all pairs of places, and the counted one, which tries few lines.
+//! Two breakers of paragraphs with the same result: `breaks`, which tries all pairs of places, and `active_breaks`, which tries few lines.
 
 ghost use Rattle.std.specs.Prelude.{◌≡◌, ◌<◌, ◌≤◌, length, None, IfOk, IfErr, OnOk};
 ghost use Rattle.std.specs.Option.{unwrap_or};
-ghost use Rattle.node_core.specs.Nodes.{most_nodes};
-ghost use Rattle.line_meter.specs.Facts.{facts_of, refusal};
+ghost use Rattle.node_core.specs.Nodes.{max_nodes};
+ghost use Rattle.break_lines.specs.Facts.{facts_of, refusal};
 ghost use Rattle.break_core.specs.Passes.{IsBroken};
 ghost use Rattle.break_core.specs.Trials.{passes_run, AreBounded, HasNoTrials};
 
 use crate::broken::{Breaks, Pass};
 use crate::passes::breaks_of;
-use line_meter::{BreakFault, ListMeter, Meter};
+use break_lines::{BreakFault, ListMeter, Meter};
 use node_core::{Node, Params};
 use std::alloc::{AllocError, Global};
 
-/// The breaks of a finished list of at most 131,072 nodes: the least list of breaks of all that the first pass admits which admits any. The list is
-/// refused exactly where it has glue that shrinks without end, or else more than 8,192 legal places, which a refused growth never hides, or where a growth
-/// is refused.
+/// The breaks of a finished list of at most 131,072 nodes: the best list of breaks in the first pass that admits one.
+///
+/// `InfiniteShrink` is returned exactly when the list has glue that shrinks in an infinite order, and `TooManyBreaks` exactly when it has no such
+/// glue but more than 8,192 legal places; a refused allocation never hides these two. `OutOfMemory` is returned if an allocation is refused.
 pub fn breaks(alloc: Global, nodes: &[Node], params: &Params) -> Result<Breaks, BreakFault>
-    requires short { length nodes.now ≤ most_nodes }
+    requires list_bounded { length nodes.now ≤ max_nodes }
     ensures broken { IfOk result (IsBroken (facts_of nodes.now) params.now) }
     ensures fits { OnOk result (refusal nodes.now ≡ None) }
     ensures fault { IfErr result (λ fault. fault ≡ unwrap_or (refusal nodes.now) BreakFault.OutOfMemory) }
@@ -29,8 +30,8 @@ pub fn breaks(alloc: Global, nodes: &[Node], params: &Params) -> Result<Breaks, 
     }
 }
 
-/// The breaks of a paragraph, which a meter measures that has tried no line: the list that `breaks` chooses, with few trials. Only a growth that is
-/// refused stops it; also then the trials are few.
+/// The breaks of a paragraph, given by a meter without trials: the same list that `breaks` chooses, but with few trials. The only error is that
+/// memory was refused, and the trials are few then too.
 pub fn active_breaks<M: Meter>(
     alloc: Global,
     meter: &mut M,

@@ -1,31 +1,31 @@
 //! The breaks of a paragraph.
 
-use break_table::Class;
+use break_table::Fitness;
 
-/// A pass over a paragraph: the first that admits a list of breaks decides (TeX: The Program, part 39, §863).
+/// A pass over a paragraph. The first pass that admits a list of breaks decides (TeX: The Program, part 39, §863).
 #[derive(Clone, Copy, Debug, PartialEq, Eq)]
 pub enum Pass {
-    /// Lines are not overfull and at most as bad as pretolerance.
+    /// Lines are not overfull, and their badness is at most pretolerance.
     First,
-    /// Lines are not overfull and at most as bad as tolerance.
+    /// Lines are not overfull, and their badness is at most tolerance.
     Second,
-    /// Each line is admitted.
+    /// Every line is admitted.
     Third,
 }
 
-/// The end of a line: its place in the list, from 0 up to the number of items, and the class of the line.
+/// The end of a line: its place in the list, from 0 to the number of items, and the fitness class of the line.
 #[derive(Clone, Copy, Debug, PartialEq, Eq)]
 pub struct LineEnd {
     pub place: usize,
-    pub class: Class,
+    pub class: Fitness,
 }
 
-/// The breaks of a paragraph: the ends of its lines in order, the pass that admitted them, and what they cost.
+/// The breaks of a paragraph: the ends of its lines in order, the pass that admitted them, and their costs.
 #[derive(Debug, Drop)]
 pub struct Breaks {
     pub lines: Vec<LineEnd>,
     pub pass: Pass,
-    /// How far overfull lines hang over together, in scaled points.
+    /// The total overhang of the overfull lines, in scaled points.
     pub overhang: i64,
     pub demerits: i64,
 }

@@ -1,24 +1,23 @@
 //! The passes over a paragraph.
 
 ghost use Rattle.std.specs.Prelude.{◌≡◌, ◌+◌, ◌<◌, ◌≤◌, ℕ, true, false, map, List, IfOk, IfSome, OnOk, MatchOption};
-ghost use Rattle.break_table.specs.declared.state.State.{State};
+ghost use Rattle.break_table.specs.declared.state.BreakState.{BreakState};
 ghost use Rattle.break_table.specs.Chosen.{AdmitsNone, IsAnswer};
-ghost use Rattle.line_meter.specs.Facts.{Facts};
-ghost use Rattle.break_core.specs.Passes.{problem_of, bound_of, line_end, IsBroken};
-ghost use Rattle.line_meter.specs.Steady.{IsSteady};
+ghost use Rattle.break_lines.specs.Facts.{Facts};
+ghost use Rattle.break_core.specs.Passes.{problem_of, bound_of, line_end_at, IsBroken};
+ghost use Rattle.break_lines.specs.Steady.{IsSteady};
 ghost use Rattle.break_core.specs.Trials.{is_bounded, IsWidening, MayLeave, first_run, passes_run, AreBounded, HasNoTrials};
-ghost use Rattle.break_core.specs.Filling.{IsGrown, AreFew, AreWithin, IsDecided};
-ghost use Rattle.break_core.specs.Active.{AreKept, MayEnd, IsWithin, AreAdded};
+ghost use Rattle.break_core.specs.Filling.{IsGrown, CountsMayGrow, AreEndsInParagraph, IsDecided};
+ghost use Rattle.break_core.specs.Active.{TrialsOnlyGrow, MayEnd, IsWithin, AreAdded};
 
 use crate::broken::{Breaks, LineEnd, Pass};
-use crate::filling::{Ending, Rules, fill};
-use break_cost::{Bound, line_size};
-use break_table::{Least, State, chosen_list};
-use line_meter::Meter;
+use crate::filling::{Rules, StopRule, fill};
+use break_lines::{Bound, Meter, line_size};
+use break_table::{BreakState, ChosenBreaks, chosen_list};
 use node_core::Params;
 use std::alloc::{AllocError, Global};
 
-/// What a pass admits.
+/// The lines that a pass admits.
 fn bound_of(params: &Params, pass: Pass) -> Bound
     ensures { result ≡ bound_of params.now pass }
 {
@@ -40,7 +39,8 @@ fn is_widening(params: &Params) -> bool
     params.first_size.get() <= params.hsize.get()
 }
 
-/// Whether long lines may be left out of the last pass over a steady paragraph.
+/// Whether long lines can be left out of the last pass over a steady paragraph. They can if a long line can always be divided at the earlier place:
+/// the two lines have less overhang together than the long one, so the long one is in no chosen list.
 fn may_leave<M: Meter>(meter: &M, params: &Params) -> bool
     requires steady { IsSteady (M.facts meter.now) }
     ensures yes { result ≡ true → MayLeave (M.facts meter.now) params.now }
@@ -56,45 +56,45 @@ fn may_leave<M: Meter>(meter: &M, params: &Params) -> bool
     meter.divided(least)
 }
 
-/// Where trying lines ends in a pass over a paragraph: nowhere, if `drops` is false.
-fn ending_in<M: Meter>(meter: &M, params: &Params, drops: bool, pass: Pass) -> Ending
+/// When to stop trying lines in a pass over a paragraph; if `drops` is false, only at forced breaks.
+fn ending_in<M: Meter>(meter: &M, params: &Params, drops: bool, pass: Pass) -> StopRule
     ensures may { MayEnd result (M.facts meter.now) params.now (bound_of params.now pass) }
-    ensures overfull { drops ≡ true → IsSteady (M.facts meter.now) → is_bounded pass ≡ true → result ≡ Ending.Overfull }
-    ensures long { drops ≡ true → MayLeave (M.facts meter.now) params.now → is_bounded pass ≡ false → result ≡ Ending.Long }
+    ensures overfull { drops ≡ true → IsSteady (M.facts meter.now) → is_bounded pass ≡ true → result ≡ StopRule.Overfull }
+    ensures long { drops ≡ true → MayLeave (M.facts meter.now) params.now → is_bounded pass ≡ false → result ≡ StopRule.Long }
 {
     if !drops {
-        return Ending::Never;
+        return StopRule::Never;
     }
     if !meter.steady() {
-        return Ending::Never;
+        return StopRule::Never;
     }
     match pass {
-        Pass::First | Pass::Second => Ending::Overfull,
+        Pass::First | Pass::Second => StopRule::Overfull,
         Pass::Third => {
             if may_leave(meter, params) {
-                return Ending::Long;
+                return StopRule::Long;
             }
-            Ending::Never
+            StopRule::Never
         }
     }
 }
 
-/// The list that is chosen in a pass, or None where it admits none. If `drops`, trying lines ends where it may.
+/// The chosen list of a pass, or `None` if it admits no list. If `drops` is true, trying lines stops as early as possible.
 fn chosen_in<M: Meter>(
     alloc: Global,
     meter: &mut M,
     params: &Params,
     drops: bool,
     pass: Pass,
-) -> Result<Option<Least>, AllocError>
-    requires few { AreFew 8192 (M.trials meter.old) }
+) -> Result<Option<ChosenBreaks>, AllocError>
+    requires trials_bounded { CountsMayGrow 8192 (M.trials meter.old) }
     ensures found { IfOk result (λ found. MatchOption found
         (AdmitsNone (problem_of (M.facts meter.old) params.now (bound_of params.now pass)))
         (IsAnswer (problem_of (M.facts meter.old) params.now (bound_of params.now pass)))) }
     ensures facts { M.facts meter.new ≡ M.facts meter.old }
     ensures trials { drops ≡ true → IsWithin (M.facts meter.old) params.now pass (M.trials meter.old) (M.trials meter.new) }
     ensures grown { IsGrown 8192 (M.trials meter.old) (M.trials meter.new) }
-    ensures kept { AreKept (M.trials meter.old) (M.trials meter.new) }
+    ensures kept { TrialsOnlyGrow (M.trials meter.old) (M.trials meter.new) }
     ensures tried { OnOk result (M.trials meter.old 0 < M.trials meter.new 0) }
 {
     let places = meter.places();
@@ -107,21 +107,22 @@ fn chosen_in<M: Meter>(
     chosen_list(alloc, &table, places)
 }
 
-/// The list that is chosen in the first pass, or None where it admits none; with a bound below 0 it admits none, and is not run.
+/// The chosen list of the first pass, or `None` if it admits no list. If pretolerance is below 0, the pass is skipped, as in TeX, since it would
+/// admit no list. The second pass is always run, even if tolerance is below 0 and it admits no list.
 fn chosen_first<M: Meter>(
     alloc: Global,
     meter: &mut M,
     params: &Params,
     drops: bool,
-) -> Result<Option<Least>, AllocError>
-    requires few { AreFew 8192 (M.trials meter.old) }
+) -> Result<Option<ChosenBreaks>, AllocError>
+    requires trials_bounded { CountsMayGrow 8192 (M.trials meter.old) }
     ensures found { IfOk result (λ found. MatchOption found
         (AdmitsNone (problem_of (M.facts meter.old) params.now (bound_of params.now Pass.First)))
         (IsAnswer (problem_of (M.facts meter.old) params.now (bound_of params.now Pass.First)))) }
     ensures facts { M.facts meter.new ≡ M.facts meter.old }
     ensures trials { drops ≡ true → AreAdded (M.facts meter.old) params.now (first_run params.now) (M.trials meter.old) (M.trials meter.new) }
     ensures grown { IsGrown 8192 (M.trials meter.old) (M.trials meter.new) }
-    ensures kept { AreKept (M.trials meter.old) (M.trials meter.new) }
+    ensures kept { TrialsOnlyGrow (M.trials meter.old) (M.trials meter.new) }
     ensures tried { IfOk result (λ found. IfSome found (λ least. M.trials meter.old 0 < M.trials meter.new 0)) }
 {
     if params.pretolerance.get() < 0 {
@@ -130,14 +131,14 @@ fn chosen_first<M: Meter>(
     chosen_in(alloc, meter, params, drops, Pass::First)
 }
 
-/// The list that is chosen in the first pass that admits any.
+/// The chosen list of the first pass that admits one.
 fn decide<M: Meter>(
     alloc: Global,
     meter: &mut M,
     params: &Params,
     drops: bool,
-) -> Result<(Pass, Least), AllocError>
-    requires few { AreFew 24576 (M.trials meter.old) }
+) -> Result<(Pass, ChosenBreaks), AllocError>
+    requires trials_bounded { CountsMayGrow 24576 (M.trials meter.old) }
     ensures decided { IfOk result (λ decided. IsDecided (M.facts meter.old) params.now decided.0 decided.1) }
     ensures facts { M.facts meter.new ≡ M.facts meter.old }
     ensures run { drops ≡ true → IfOk result (λ decided.
@@ -153,15 +154,19 @@ fn decide<M: Meter>(
     }
     match chosen_in(alloc, meter, params, drops, Pass::Third)? {
         Some(least) => Ok((Pass::Third, least)),
-        // The last pass admits each line, and so each place from the one before it (`the_last_pass_admits_a_list`).
+        // This cannot happen: the last pass admits every line, so each place can be reached from the one before (law `the_last_pass_admits_a_list`).
         None => unreachable!(),
     }
 }
 
-/// The ends of lines, by where they stand in the list.
-fn line_ends<M: Meter>(alloc: Global, meter: &M, ends: &[State]) -> Result<Vec<LineEnd>, AllocError>
-    requires within { AreWithin (M.facts meter.now) ends.now }
-    ensures { IfOk result (λ lines. lines.items ≡ map (line_end (M.facts meter.now)) ends.now) }
+/// The ends of the lines, by their positions in the list.
+fn line_ends<M: Meter>(
+    alloc: Global,
+    meter: &M,
+    ends: &[BreakState],
+) -> Result<Vec<LineEnd>, AllocError>
+    requires within { AreEndsInParagraph (M.facts meter.now) ends.now }
+    ensures { IfOk result (λ lines. lines.items ≡ map (line_end_at (M.facts meter.now)) ends.now) }
 {
     let mut lines = Vec::new(alloc);
     for end in ends {
@@ -173,7 +178,7 @@ fn line_ends<M: Meter>(alloc: Global, meter: &M, ends: &[State]) -> Result<Vec<L
     Ok(lines)
 }
 
-/// The breaks of a paragraph, which a meter measures that has tried no line. If `drops`, trying lines ends where it may; the breaks are the same.
+/// The breaks of a paragraph, given by a meter without trials. If `drops` is true, trying lines stops as early as possible; the breaks are the same.
 pub(crate) fn breaks_of<M: Meter>(
     alloc: Global,
     meter: &mut M,

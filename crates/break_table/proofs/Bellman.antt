@@ -1,24 +1,24 @@
--- The table grows by the row of a place, and the best entry of the end is the list that is chosen.
+-- The table grows by the row of a place, and the best entry for the end is the chosen list.
 use Rattle.std.proofs.Common.{◌≡◌, ◌∙◌, ℕ, zero, suc, ◌+◌, ◌<◌, ◌≤◌, List, [], ◌∷◌, ◌++◌, length, append_assoc, reverse, refl, ap, sym, subst, arith, Option, Some}
 use Rattle.std.specs.Prelude.{slice_get}
 use Rattle.std.proofs.Math.Logic.{◌⊎◌, inl, inr}
 use Rattle.std.proofs.lemmas.Bool.{cases_lt}
 use Rattle.std.proofs.lemmas.Option.{same_Some, slice_get_within}
 use Rattle.std.proofs.lemmas.List.{reverse-reverse}
-use Rattle.break_table.specs.declared.answer.Least.{Least}
-use Rattle.break_table.specs.declared.state.State.{State}
+use Rattle.break_table.specs.declared.answer.ChosenBreaks.{ChosenBreaks}
+use Rattle.break_table.specs.declared.state.BreakState.{BreakState}
 use Rattle.break_table.specs.Orders.{NotAfter}
 use Rattle.break_table.specs.Problems.{Problem, Path, first_path, path_of, ends_of, places_of, key}
 use Rattle.break_table.specs.Chosen.{IsBreakList, IsChosen, AdmitsNone, IsAnswer}
 use Rattle.break_table.specs.Ways.{Way, starts, goes, IsLeast}
-use Rattle.break_table.specs.Tables.{Entry, first_entry, short, slot, IsReached, way_to, IsLinked, IsBest, IsTable, IsOffered, IsHeld, IsRow, held_in, IsBestEnd, HasNoEnd, IsRead, IsReading}
+use Rattle.break_table.specs.Tables.{Entry, first_entry, compared_numbers, slot, ExtendsLeastWay, way_to, IsLinked, IsBest, IsTable, IsOffered, IsHeld, IsRow, row_entries, IsBestEnd, HasNoEnd, AreEndsOf, AreEndsUpTo}
 use Rattle.break_table.proofs.Entries.{get_left, get_right, get_cases}
 use Rattle.break_table.proofs.Dictionary.{not_after_trans}
 use Rattle.break_table.proofs.Lists.{way_of_break_list, break_list_of_way}
 use Rattle.break_table.proofs.Reached.{least_once, IsExtended, extended_is, right, offered_reached, matches, best_is_least, short_decides, way_ends, least_start}
 use Rattle.break_table.proofs.Rows.{offered_at, held_has, held_from}
 
--- Before any place there is the start.
+-- The table before the first place holds the start.
 pub first_table : (p : Problem) → IsTable p 1 (first_entry ∷ [])
 first_table p =
     record {
@@ -49,18 +49,18 @@ best_left : (p : Problem) (table more : List Entry) (k : ℕ) (e : Entry) → Is
 best_left p table more k e is =
     record { reached = is.reached; least = is.least; linked = linked_left table more e is.linked; earlier = is.earlier }
 
--- What the full row of a place holds are the least ways to there.
+-- The entries in the full row of a place are the best ways to it.
 row_best :
     (p : Problem) (b : ℕ) (table : List Entry) (row : List (Option Entry)) (k s : ℕ) (e : Entry)
     → IsTable p b table → IsRow p table b (length table) row → 0 < b → slice_get row s ≡ Some (Some e) → length table ≤ k
-    → IsBest p (table ++ held_in row) k e
+    → IsBest p (table ++ row_entries row) k e
 row_best p b table row k s e is full some at behind =
     record {
       reached = reached;
       least = best_is_least p b table e reached is some (offered_at p table b h.k e h.offered).0 best;
       linked = record {
         before = h.offered.by;
-        stands = get_left table (held_in row) e.index h.offered.by (ap (slice_get table) index ∙ h.offered.stands);
+        stands = get_left table (row_entries row) e.index h.offered.by (ap (slice_get table) index ∙ h.offered.stands);
         same = sym (ap (λ x. x.from) ext.is);
       };
       earlier = omega (arith, index, h.below);
@@ -69,7 +69,7 @@ row_best p b table row k s e is full some at behind =
     h : IsHeld p table b (length table) s e
     h = full.held s e at
 
-    reached : IsReached p e
+    reached : ExtendsLeastWay p e
     reached = offered_reached p b table (full.held s e at).k e is (full.held s e at).offered
 
     ext : IsExtended p (full.held s e at).offered.by (full.held s e at).k b e
@@ -78,36 +78,36 @@ row_best p b table row k s e is full some at behind =
     index : e.index ≡ (full.held s e at).k
     index = ap (λ x. x.index) (extended_is p (full.held s e at).offered.by (full.held s e at).k b e (full.held s e at).offered.offers).is
 
-    best : (j : ℕ) (f : Entry) → IsOffered p table b j f → f.end ≡ e.end → NotAfter (short e) (short f)
+    best : (j : ℕ) (f : Entry) → IsOffered p table b j f → f.end ≡ e.end → NotAfter (compared_numbers e) (compared_numbers f)
     best j f offered ends =
         let m = full.met j f (slice_get_within table j offered.by offered.stands) offered in
         let here : slot f.end ≡ s = ap slot ends ∙ (full.held s e at).here in
         let there : slice_get row s ≡ Some (Some m.held) = ap (slice_get row) (sym here) ∙ m.stands in
         let one : m.held ≡ e = cc (at, there) in
-        subst (λ x. NotAfter (short x) (short f)) one m.before
+        subst (λ x. NotAfter (compared_numbers x) (compared_numbers f)) one m.before
 
--- A table and the full row of the next place are a table.
+-- A table followed by the full row of the next place is a table.
 pub next_table :
     (p : Problem) (b : ℕ) (table : List Entry) (row : List (Option Entry))
-    → 0 < b → IsTable p b table → IsRow p table b (length table) row → IsTable p (b + 1) (table ++ held_in row)
+    → 0 < b → IsTable p b table → IsRow p table b (length table) row → IsTable p (b + 1) (table ++ row_entries row)
 next_table p b table row some is full =
     record {
-      first = get_left table (held_in row) 0 first_entry is.first;
-      best = λ k e after at. best k e after (get_cases table (held_in row) k e at);
-      below = λ k e at. below k e (get_cases table (held_in row) k e at);
+      first = get_left table (row_entries row) 0 first_entry is.first;
+      best = λ k e after at. best k e after (get_cases table (row_entries row) k e at);
+      below = λ k e at. below k e (get_cases table (row_entries row) k e at);
       whole = λ w way before. whole w way (cases_lt w.last.place b) before;
     }
   where
     best :
-        (k : ℕ) (e : Entry) → 0 < k → (slice_get table k ≡ Some e) ⊎ ((j : ℕ) × (k ≡ length table + j) × (slice_get (held_in row) j ≡ Some e))
-        → IsBest p (table ++ held_in row) k e
-    best k e after (inl here) = best_left p table (held_in row) k e (is.best k e after here)
+        (k : ℕ) (e : Entry) → 0 < k → (slice_get table k ≡ Some e) ⊎ ((j : ℕ) × (k ≡ length table + j) × (slice_get (row_entries row) j ≡ Some e))
+        → IsBest p (table ++ row_entries row) k e
+    best k e after (inl here) = best_left p table (row_entries row) k e (is.best k e after here)
     best k e after (inr there) =
         let at = held_from row there.0 e there.2 in
         row_best p b table row k at.0 e is full some at.1 (omega (arith, there.1))
 
     below :
-        (k : ℕ) (e : Entry) → (slice_get table k ≡ Some e) ⊎ ((j : ℕ) × (k ≡ length table + j) × (slice_get (held_in row) j ≡ Some e))
+        (k : ℕ) (e : Entry) → (slice_get table k ≡ Some e) ⊎ ((j : ℕ) × (k ≡ length table + j) × (slice_get (row_entries row) j ≡ Some e))
         → (e.end.place < b + 1) × (e.end.lines ≤ p.cut)
     below k e (inl here) = let old = is.below k e here in (omega (arith, old.0), old.1)
     below k e (inr there) =
@@ -118,19 +118,19 @@ next_table p b table row some is full =
 
     whole :
         (w : Path) → Way p w → (w.last.place < b) ⊎ (b ≤ w.last.place) → w.last.place < b + 1
-        → (k : ℕ) × (e : Entry) × (slice_get (table ++ held_in row) k ≡ Some e) × (e.end ≡ w.last)
+        → (k : ℕ) × (e : Entry) × (slice_get (table ++ row_entries row) k ≡ Some e) × (e.end ≡ w.last)
     whole w way (inl lower) before =
         let found = is.whole w way lower in
-        (found.0, found.1, get_left table (held_in row) found.0 found.1 found.2, found.3)
+        (found.0, found.1, get_left table (row_entries row) found.0 found.1 found.2, found.3)
     whole w way (inr not_lower) before =
         let same : b ≡ w.last.place = omega arith in
         let m = matches p table w way (subst (λ x. IsTable p x table) same is) (omega (arith, same)) in
         let offered = subst (λ x. IsOffered p table x m.k m.o) (sym same) m.offered in
         let met = full.met m.k m.o (slice_get_within table m.k offered.by offered.stands) offered in
         let found = held_has row (slot m.o.end) met.held met.stands in
-        (length table + found.0, met.held, get_right table (held_in row) found.0 met.held found.1, met.same ∙ m.ends)
+        (length table + found.0, met.held, get_right table (row_entries row) found.0 met.held found.1, met.same ∙ m.ends)
 
--- The best entry of the last place is the list that is chosen.
+-- The best entry for the last place is the chosen list.
 pub chosen :
     (p : Problem) (places : ℕ) (table : List Entry) (k : ℕ)
     → p.places ≡ places → 0 < places → IsTable p (places + 1) table → (best : IsBestEnd table places (length table) k) → (w : Path)
@@ -163,11 +163,11 @@ chosen p places table (suc k) same_places some is best w least =
             (other.least.least u way (sym ends)) in
             subst (λ x. NotAfter (key x) (key u)) (sym one) all
 
--- What is read of the best entry of the last place is the list that is chosen.
+-- The lines read from the best entry for the last place are the chosen list.
 pub answered :
-    (p : Problem) (places : ℕ) (table : List Entry) (k : ℕ) (e : Entry) (answer : Least)
+    (p : Problem) (places : ℕ) (table : List Entry) (k : ℕ) (e : Entry) (answer : ChosenBreaks)
     → p.places ≡ places → 0 < places → IsTable p (places + 1) table → IsBestEnd table places (length table) k → slice_get table k ≡ Some e
-    → IsRead table k (reverse answer.ends.items) → answer.overhang ≡ e.overhang → answer.demerits ≡ e.demerits → IsAnswer p answer
+    → AreEndsOf table k (reverse answer.ends.items) → answer.overhang ≡ e.overhang → answer.demerits ≡ e.demerits → IsAnswer p answer
 answered p places table k e answer same_places some is best stands read overhang demerits =
     let one : e ≡ best.entry = same_Some e best.entry (sym stands ∙ best.stands) in
     let r = right p (places + 1) table k best.entry is best.stands in
@@ -180,7 +180,7 @@ answered p places table k e answer same_places some is best stands read overhang
       demerits = demerits ∙ ap (λ x. x.demerits) one ∙ sym r.demerits;
     }
 
--- Where the last place has no entry, no list is admitted.
+-- If the last place has no entry, no list is admitted.
 pub admits_none :
     (p : Problem) (table : List Entry) → IsTable p (p.places + 1) table → HasNoEnd table p.places (length table) → AdmitsNone p
 admits_none p table is none others r is_list admitted =
@@ -188,15 +188,15 @@ admits_none p table is none others r is_list admitted =
     let found = is.whole r way.0 (omega (arith, way.1)) in
     none found.0 found.1 (slice_get_within table found.0 found.1 found.2) found.2 (ap (λ s. s.place) found.3 ∙ way.1)
 
--- At the start nothing is read, and one more entry is read before the ends behind it.
-pub read_none : (table : List Entry) (whole : ℕ) → IsReading table whole whole []
+-- Reading begins with no ends, and each step puts one more end before those that were read.
+pub read_none : (table : List Entry) (whole : ℕ) → AreEndsUpTo table whole whole []
 read_none table whole p b is e f at there w v least_w least_v =
     let same : e ≡ f = same_Some e f (sym at ∙ there) in
     ap ends_of (least_once p e.end f.end w v (ap (λ x. x.end) same) least_w least_v)
 
 pub read_more :
-    (table : List Entry) (whole k : ℕ) (e : Entry) (read : List State)
-    → 0 < k → slice_get table k ≡ Some e → IsReading table whole k read → IsReading table whole e.index (read ++ e.end ∷ [])
+    (table : List Entry) (whole k : ℕ) (e : Entry) (read : List BreakState)
+    → 0 < k → slice_get table k ≡ Some e → AreEndsUpTo table whole k read → AreEndsUpTo table whole e.index (read ++ e.end ∷ [])
 read_more table whole k e read after stands is p b table_is top before at there w v least_w least_v =
     let best = table_is.best k e after stands in
     let way = way_to p e best.reached in
@@ -210,11 +210,11 @@ read_more table whole k e read after stands is p b table_is top before at there 
     so_far ∙ ap (λ xs. read ++ xs) (last ∙ ap (λ u. e.end ∷ ends_of u) (sym behind)) in
     same ∙ sym (append_assoc read (e.end ∷ []) (ends_of v))
 
-pub read_all : (table : List Entry) (whole : ℕ) (read : List State) → IsReading table whole 0 read → IsRead table whole read
+pub read_all : (table : List Entry) (whole : ℕ) (read : List BreakState) → AreEndsUpTo table whole 0 read → AreEndsOf table whole read
 read_all table whole read is p b table_is e at w least =
     let none : ends_of w ≡ read ++ [] = is p b table_is e first_entry at table_is.first w first_path least (least_start p) in
     sym (all read) ∙ sym none
   where
-    all : (xs : List State) → xs ++ [] ≡ xs
+    all : (xs : List BreakState) → xs ++ [] ≡ xs
     all [] = refl
     all (x ∷ xs) = ap (λ ys. x ∷ ys) (all xs)

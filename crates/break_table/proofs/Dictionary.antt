@@ -1,14 +1,14 @@
--- The dictionary order: reflexive, transitive, antisymmetric, and decided by the front of lists.
+-- The lexicographic order is reflexive, transitive and antisymmetric, and is decided by the front of lists.
 use Rattle.std.proofs.Common.{◌≡◌, ◌∙◌, ℕ, zero, suc, ◌<◌, List, [], ◌∷◌, ◌++◌, length, refl, ap, sym, subst, arith}
 use Rattle.std.proofs.Math.Logic.{inl, inr}
 use Rattle.std.specs.Prelude.{ℤ, pos, neg_ℤ, ◌+ℤ◌}
 use Rattle.std.proofs.lemmas.Int.{ints}
-use Rattle.break_table.specs.declared.state.Class.{Class}
-use Rattle.break_table.specs.declared.state.Class.TheVariants.{VeryLoose, Loose, Decent, Tight}
-use Rattle.break_table.specs.declared.state.State.{State}
-use Rattle.break_table.specs.declared.state.Line.{Line}
+use Rattle.break_table.specs.declared.state.Fitness.{Fitness}
+use Rattle.break_table.specs.declared.state.Fitness.TheVariants.{VeryLoose, Loose, Decent, Tight}
+use Rattle.break_table.specs.declared.state.BreakState.{BreakState}
+use Rattle.break_table.specs.declared.state.LineCost.{LineCost}
 use Rattle.break_table.specs.Orders.{NotAfter}
-use Rattle.break_table.specs.Problems.{Problem, Path, rank, state_after, with_line, numbers_of, key}
+use Rattle.break_table.specs.Problems.{Problem, Path, rank, end_after, with_line, tie_numbers, key}
 
 pub not_after_refl : (xs : List ℤ) → NotAfter xs xs
 not_after_refl [] = tt
@@ -33,7 +33,7 @@ not_after_antisym (x ∷ xs) (y ∷ ys) (inr h) (inl k) = absurd (omega (arith, 
 not_after_antisym (x ∷ xs) (y ∷ ys) (inr h) (inr k) =
     let first : x ≡ y = h.0 in let rest = not_after_antisym xs ys h.1 k.1 in cc
 
--- Lists of one length decide, and where they are the same, what stands behind them does.
+-- Fronts of the same length decide; if they are equal, the rest decides.
 pub not_after_front :
     (xs ys zs ws : List ℤ) → length xs ≡ length ys → NotAfter xs ys → (xs ≡ ys → NotAfter zs ws) → NotAfter (xs ++ zs) (ys ++ ws)
 not_after_front [] [] zs ws long h rest = rest refl
@@ -43,12 +43,12 @@ not_after_front (x ∷ xs) (y ∷ ys) zs ws long (inl h) rest = inl h
 not_after_front (x ∷ xs) (y ∷ ys) zs ws long (inr h) rest =
     let first : x ≡ y = h.0 in inr (first, not_after_front xs ys zs ws (omega arith) h.1 (λ same. rest (cc)))
 
--- Behind one front the order is that of the rest.
+-- With the same front, the order is that of the rest.
 pub not_after_behind : (front xs ys : List ℤ) → NotAfter xs ys → NotAfter (front ++ xs) (front ++ ys)
 not_after_behind [] xs ys h = h
 not_after_behind (z ∷ front) xs ys h = inr (refl, not_after_behind front xs ys h)
 
--- Both numbers grow by the same, and the same front comes before the rest.
+-- Adding the same amounts to both numbers, and the same front before the rest, keeps the order.
 longer :
     (a b c d x y : ℤ) (front xs ys : List ℤ) → NotAfter (a ∷ b ∷ xs) (c ∷ d ∷ ys)
     → NotAfter ((a +ℤ x) ∷ (b +ℤ y) ∷ (front ++ xs)) ((c +ℤ x) ∷ (d +ℤ y) ∷ (front ++ ys))
@@ -57,60 +57,60 @@ longer a b c d x y front xs ys (inr (e, inl h)) = inr (ap (λ z. z +ℤ x) e, in
 longer a b c d x y front xs ys (inr (e, inr h)) =
     inr (ap (λ z. z +ℤ x) e, inr (ap (λ z. z +ℤ y) h.0, not_after_behind front xs ys h.1))
 
--- The same line behind the lesser of two paths to one state gives the lesser path.
+-- The same line after the better of two paths to one state gives the better path.
 pub longer_not_after :
-    (p : Problem) (q r : Path) (b : ℕ) (l : Line)
+    (p : Problem) (q r : Path) (b : ℕ) (l : LineCost)
     → q.last ≡ r.last → NotAfter (key q) (key r) → NotAfter (key (with_line p q b l)) (key (with_line p r b l))
 longer_not_after p q r b l same h =
-    let ends : numbers_of (state_after p.cut q.last b l ∷ []) ≡ numbers_of (state_after p.cut r.last b l ∷ []) =
-    ap (λ s. numbers_of (state_after p.cut s b l ∷ [])) same in
+    let ends : tie_numbers (end_after p.cut q.last b l ∷ []) ≡ tie_numbers (end_after p.cut r.last b l ∷ []) =
+    ap (λ s. tie_numbers (end_after p.cut s b l ∷ [])) same in
     subst
     (λ front. NotAfter (key (with_line p q b l))
-    ((r.overhang +ℤ l.overhang) ∷ (r.demerits +ℤ l.demerits) ∷ (front ++ numbers_of (r.last ∷ r.before))))
+    ((r.overhang +ℤ l.overhang) ∷ (r.demerits +ℤ l.demerits) ∷ (front ++ tie_numbers (r.last ∷ r.before))))
     ends
-    (longer q.overhang q.demerits r.overhang r.demerits l.overhang l.demerits (numbers_of (state_after p.cut q.last b l ∷ []))
-    (numbers_of (q.last ∷ q.before)) (numbers_of (r.last ∷ r.before)) h)
+    (longer q.overhang q.demerits r.overhang r.demerits l.overhang l.demerits (tie_numbers (end_after p.cut q.last b l ∷ []))
+    (tie_numbers (q.last ∷ q.before)) (tie_numbers (r.last ∷ r.before)) h)
 
--- The number of a class tells the class.
-abbrev class_of : ℕ → Class
+-- The class with this number.
+abbrev class_of : ℕ → Fitness
 class_of zero = VeryLoose
 class_of (suc zero) = Loose
 class_of (suc (suc zero)) = Decent
 class_of (suc (suc (suc n))) = Tight
 
-class_of-rank : (c : Class) → class_of (rank c) ≡ c
+class_of-rank : (c : Fitness) → class_of (rank c) ≡ c
 class_of-rank VeryLoose = refl
 class_of-rank Loose = refl
 class_of-rank Decent = refl
 class_of-rank Tight = refl
 
-pub rank_apart : (c d : Class) → rank c ≡ rank d → c ≡ d
+pub rank_apart : (c d : Fitness) → rank c ≡ rank d → c ≡ d
 rank_apart c d same = sym (class_of-rank c) ∙ ap class_of same ∙ class_of-rank d
 
-pub rank_few : (c : Class) → rank c < 4
+pub rank_few : (c : Fitness) → rank c < 4
 rank_few VeryLoose = omega arith
 rank_few Loose = omega arith
 rank_few Decent = omega arith
 rank_few Tight = omega arith
 
-abbrev state : ℕ → ℕ → Class → State
+abbrev state : ℕ → ℕ → Fitness → BreakState
 state place lines class = record { place = place; lines = lines; class = class }
 
-pub state_same : (s t : State) → s.place ≡ t.place → s.lines ≡ t.lines → s.class ≡ t.class → s ≡ t
+pub state_same : (s t : BreakState) → s.place ≡ t.place → s.lines ≡ t.lines → s.class ≡ t.class → s ≡ t
 state_same s t place lines class =
     ap (λ x. state x s.lines s.class) place ∙ ap (λ x. state t.place x s.class) lines ∙ ap (λ x. state t.place t.lines x) class
 
--- The numbers of states tell the states.
+-- The numbers of states determine the states.
 pub state_apart :
-    (s t : State) (ss ts : List State) → numbers_of (s ∷ ss) ≡ numbers_of (t ∷ ts) → (s ≡ t) × (numbers_of ss ≡ numbers_of ts)
+    (s t : BreakState) (ss ts : List BreakState) → tie_numbers (s ∷ ss) ≡ tie_numbers (t ∷ ts) → (s ≡ t) × (tie_numbers ss ≡ tie_numbers ts)
 state_apart s t ss ts same =
     let place : neg_ℤ (pos s.place) ≡ neg_ℤ (pos t.place) = cc in
     let lines : pos s.lines ≡ pos t.lines = cc in
     let class : pos (rank s.class) ≡ pos (rank t.class) = cc in
-    let rest : numbers_of ss ≡ numbers_of ts = cc in
+    let rest : tie_numbers ss ≡ tie_numbers ts = cc in
     (state_same s t (omega (arith, ints)) (omega (arith, ints)) (rank_apart s.class t.class (omega (arith, ints))), rest)
 
-pub states_apart : (ss ts : List State) → numbers_of ss ≡ numbers_of ts → ss ≡ ts
+pub states_apart : (ss ts : List BreakState) → tie_numbers ss ≡ tie_numbers ts → ss ≡ ts
 states_apart [] [] same = refl
 states_apart [] (t ∷ ts) same = absurd (cc)
 states_apart (s ∷ ss) [] same = absurd (cc)
@@ -118,15 +118,15 @@ states_apart (s ∷ ss) (t ∷ ts) same =
     let parts = state_apart s t ss ts same in
     ap (λ x. x ∷ ss) parts.0 ∙ ap (λ xs. t ∷ xs) (states_apart ss ts parts.1)
 
-abbrev path : ℤ → ℤ → State → List State → Path
+abbrev path : ℤ → ℤ → BreakState → List BreakState → Path
 path overhang demerits last before = record { overhang = overhang; demerits = demerits; last = last; before = before }
 
--- The numbers of a path tell the path.
+-- The numbers of a path determine the path.
 pub key_apart : (q r : Path) → key q ≡ key r → q ≡ r
 key_apart q r same =
     let overhang : q.overhang ≡ r.overhang = cc in
     let demerits : q.demerits ≡ r.demerits = cc in
-    let rest : numbers_of (q.last ∷ q.before) ≡ numbers_of (r.last ∷ r.before) = cc in
+    let rest : tie_numbers (q.last ∷ q.before) ≡ tie_numbers (r.last ∷ r.before) = cc in
     let parts = state_apart q.last r.last q.before r.before rest in
     ap (λ x. path x q.demerits q.last q.before) overhang ∙ ap (λ x. path r.overhang x q.last q.before) demerits
     ∙ ap (λ x. path r.overhang r.demerits x q.before) parts.0

@@ -1,4 +1,4 @@
--- Entries of lists: behind another list, and after a write.
+-- Elements of lists: of two lists together, and after a write.
 use Rattle.std.proofs.Common.{◌≡◌, ◌≢◌, ℕ, suc, zero, ◌+◌, ◌<◌, List, [], ◌∷◌, ◌++◌, length, set, replicate, refl, ap, sym, arith, Some}
 use Rattle.std.proofs.Math.Logic.{◌⊎◌, inl, inr}
 use Rattle.std.specs.Prelude.{slice_get}
@@ -16,7 +16,7 @@ get_right {A = A} (y ∷ xs) ys k x is =
     let rest : slice_get (xs ++ ys) (length xs + k) ≡ Some x = get_right xs ys k x is in
     rw same rest
 
--- An entry of two lists is one of the first, or of the second.
+-- An element of two lists together is one of the first or one of the second.
 pub get_cases :
     {A : Type 0} (xs ys : List A) (k : ℕ) (x : A) → slice_get (xs ++ ys) k ≡ Some x
     → (slice_get xs k ≡ Some x) ⊎ ((j : ℕ) × (k ≡ length xs + j) × (slice_get ys j ≡ Some x))
@@ -30,7 +30,7 @@ get_cases {A = A} (y ∷ xs) ys (suc k) x is = cases (get_cases xs ys k x is)
     cases (inl here) = inl here
     cases (inr there) = inr (there.0, omega (arith, there.1), there.2)
 
--- What is written stands there, and all else stays.
+-- A written element is at its index, and the others do not change.
 pub get-set_same : {A : Type 0} (xs : List A) (i : ℕ) (y z : A) → slice_get xs i ≡ Some z → slice_get (set xs i y) i ≡ Some y
 get-set_same [] i y z is = absurd (cc)
 get-set_same (x ∷ xs) zero y z is = refl
@@ -43,19 +43,19 @@ get-set_other (x ∷ xs) zero (suc j) y other = refl
 get-set_other (x ∷ xs) (suc i) zero y other = refl
 get-set_other (x ∷ xs) (suc i) (suc j) y other = get-set_other xs i j y (λ same. other (ap suc same))
 
--- In a list of equal values each one is this value.
+-- Each element of a list of equal values is this value.
 pub get-replicate : {A : Type 0} (n k : ℕ) (x y : A) → slice_get (replicate n x) k ≡ Some y → y ≡ x
 get-replicate zero k x y is = absurd (cc)
 get-replicate (suc n) zero x y is = sym (same_Some x y is)
 get-replicate (suc n) (suc k) x y is = get-replicate n k x y is
 
--- Below its length a list has an entry.
+-- A list has an element at each index below its length.
 pub get_at : {A : Type 0} (xs : List A) (k : ℕ) → k < length xs → (x : A) × (slice_get xs k ≡ Some x)
 get_at [] k within = absurd (omega arith)
 get_at (x ∷ xs) zero within = (x, refl)
 get_at (x ∷ xs) (suc k) within = get_at xs k (omega arith)
 
--- What stands there, put there, changes nothing.
+-- Writing the element that is there changes nothing.
 pub set-get_same : {A : Type 0} (xs : List A) (i : ℕ) (y : A) → slice_get xs i ≡ Some y → set xs i y ≡ xs
 set-get_same [] i y is = absurd (cc)
 set-get_same (x ∷ xs) zero y is = ap (λ z. z ∷ xs) (sym (same_Some x y is))

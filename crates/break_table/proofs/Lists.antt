@@ -1,11 +1,11 @@
--- Lists of breaks and ways are the same thing.
+-- Lists of breaks and ways are two forms of the same thing.
 use Rattle.std.proofs.Common.{◌≡◌, ◌∙◌, ℕ, ◌<◌, ◌≤◌, true, List, [], ◌∷◌, refl, ap, sym, subst, arith, Option, Some, None}
 use Rattle.std.specs.Prelude.{Contains}
 use Rattle.std.proofs.Math.Logic.{◌⊎◌, inl, inr}
 use Rattle.std.proofs.lemmas.Bool.{cases_lt}
 use Rattle.std.proofs.lemmas.Option.{same_Some}
 use Rattle.std.proofs.lemmas.List.Elements.{Contains-append_right, Contains-append_left, Contains-push, Contains-append_cases, Contains-push_cases}
-use Rattle.break_table.specs.declared.state.Line.{Line}
+use Rattle.break_table.specs.declared.state.LineCost.{LineCost}
 use Rattle.break_table.specs.Problems.{Problem, Path, first_path, with_line, with_line_if, lengthened, path_of, ends_of, places_of}
 use Rattle.break_table.specs.Chosen.{top, IsFalling, IsBreakList}
 use Rattle.break_table.specs.Ways.{since, Way, starts, goes}
@@ -14,7 +14,7 @@ use Rattle.break_table.proofs.Since.{since_forced, forced_within}
 contains_none : (x : ℕ) → Contains [] x → ⊥
 contains_none x h = omega (arith, h.1)
 
--- What a list behind one more place contains.
+-- What a list with one more place contains.
 contains_rest : (b : ℕ) (rest : List ℕ) (x : ℕ) → Contains (b ∷ rest) x → x < b → Contains rest x
 contains_rest b rest x h below = cases (Contains-append_cases (b ∷ []) rest x h)
   where
@@ -26,7 +26,7 @@ contains_rest b rest x h below = cases (Contains-append_cases (b ∷ []) rest x 
     cases (inl here) = head (Contains-push_cases [] b x here)
     cases (inr there) = there
 
--- No place of a falling list is after the first.
+-- No place of a falling list is later than the first.
 contained_top : (places : List ℕ) (x : ℕ) → IsFalling places → Contains places x → x ≤ top places
 contained_top [] x falls h = absurd (contains_none x h)
 contained_top (b ∷ rest) x falls h = cases (λ there. contained_top rest x falls.1 there) (Contains-append_cases (b ∷ []) rest x h)
@@ -39,11 +39,11 @@ contained_top (b ∷ rest) x falls h = cases (λ there. contained_top rest x fal
     cases before (inl here) = head (Contains-push_cases [] b x here)
     cases before (inr there) = omega (arith, before there, falls.0)
 
--- The list has each place up to x that must be taken.
+-- The list contains each forced place up to x.
 abbrev HasForced : Problem → ℕ → List ℕ → Type 0
 HasForced p x places = (f : ℕ) → 0 < f → f ≤ x → p.forced f ≡ true → Contains places f
 
--- Lines that end at the places of a falling list, which has each place that must be taken, are a way.
+-- Lines that end at the places of a falling list with each forced place are a way.
 pub way_of :
     (p : Problem) (places : List ℕ) (q : Path)
     → IsFalling places → HasForced p (top places) places → path_of p places ≡ Some q → Way p q × (q.last.place ≡ top places)
@@ -64,7 +64,7 @@ way_of p (b ∷ rest) q falls forced is =
         omega (arith, contained_top rest (since p b) falls.1 (contains_rest b rest (since p b) has at.1))
 
     lines :
-        (r : Path) (l : Option Line) → Way p r × (r.last.place ≡ top rest) → p.line r.last b ≡ l → with_line_if p r b l ≡ Some q
+        (r : Path) (l : Option LineCost) → Way p r × (r.last.place ≡ top rest) → p.line r.last b ≡ l → with_line_if p r b l ≡ Some q
         → Way p q × (q.last.place ≡ b)
     lines r None way at gives = absurd (cc)
     lines r (Some l) way at gives =
@@ -85,7 +85,7 @@ way_of_break_list p places q is admitted =
     let way = way_of p places q is.falls (λ f some within here. is.forced f some (omega (arith, is.ends)) here) admitted in
     (way.0, way.1 ∙ is.ends)
 
--- What a way gives: the places at which its lines end.
+-- The list of a way: the places at which its lines end.
 pub record IsListOf (p : Problem) (q : Path) : Type 0 where
   pub places : List ℕ
   pub falls : IsFalling places

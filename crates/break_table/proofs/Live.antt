@@ -1,19 +1,19 @@
--- The groups from which a line may still go on, as the table grows.
+-- The groups from which lines can still begin, as the table grows.
 use Rattle.std.proofs.Common.{◌≡◌, ◌∙◌, ℕ, zero, suc, ◌+◌, ◌<◌, ◌≤◌, true, false, List, [], ◌∷◌, ◌++◌, length, length-append, ap, sym, subst, arith, Option, Some, None}
 use Rattle.std.specs.Prelude.{nat_le, slice_get}
 use Rattle.std.proofs.Math.Logic.{◌⊎◌, inl, inr}
 use Rattle.std.proofs.lemmas.Bool.{cases_Bool, cond-false, leb-true}
 use Rattle.std.proofs.lemmas.Option.{same_Some, slice_get_within}
-use Rattle.break_table.specs.declared.group.Group.{Group}
+use Rattle.break_table.specs.declared.group.ActiveGroup.{ActiveGroup}
 use Rattle.break_table.specs.Problems.{Problem}
 use Rattle.break_table.specs.Ways.{since}
-use Rattle.break_table.specs.Tables.{Entry, first_entry, IsTable, offer_of, offer, IsRow, held_in}
+use Rattle.break_table.specs.Tables.{Entry, first_entry, IsTable, offer_of, offer, IsRow, row_entries}
 use Rattle.break_table.specs.Live.{IsGroup, IsSilent, IsLive}
 use Rattle.break_table.proofs.Entries.{get_cases}
 use Rattle.break_table.proofs.Since.{since_grows, since_below, since_free, forced_within}
 use Rattle.break_table.proofs.Rows.{offered_at, held_from}
 
--- Entries before a place that must be taken offer nothing behind it.
+-- Entries before a forced place offer nothing after it.
 early_silent : (p : Problem) (e : Entry) (k b l : ℕ) → e.end.place < since p b → b ≤ l → offer p e k l ≡ None
 early_silent p e k b l early behind = cases (cases_Bool (nat_le (since p l) e.end.place))
   where
@@ -21,7 +21,7 @@ early_silent p e k b l early behind = cases (cases_Bool (nat_le (since p l) e.en
     cases (inl late) = absurd (omega (arith, leb-true (since p l) e.end.place late, since_grows p b l behind))
     cases (inr is) = cond-false (nat_le (since p l) e.end.place) (offer_of p.cut e k l (p.line e.end l)) None is
 
--- An entry of a longer table that stands before the end of the shorter one stands there too.
+-- An entry of a longer table with a number below the length of the shorter one is in the shorter one too.
 shorter : (table more : List Entry) (k : ℕ) (e : Entry) → k < length table → slice_get (table ++ more) k ≡ Some e → slice_get table k ≡ Some e
 shorter table more k e within at = cases (get_cases table more k e at)
   where
@@ -34,9 +34,9 @@ silent_longer :
 silent_longer p table more b c from to later within is k e low high at l behind =
     is k e low high (shorter table more k e (omega arith) at) l (omega arith)
 
--- Where the next place need not be taken, the groups stay, and one more is put behind them.
+-- If the next place is not forced, the groups stay, and one more is appended.
 pub live_more :
-    (p : Problem) (table more : List Entry) (b at : ℕ) (groups : List Group) (g : Group)
+    (p : Problem) (table more : List Entry) (b at : ℕ) (groups : List ActiveGroup) (g : ActiveGroup)
     → p.forced b ≡ false → IsLive p table b at groups
     → g.start ≡ length table → IsGroup p (table ++ more) (b + 1) g → g.end ≡ length (table ++ more)
     → IsLive p (table ++ more) (b + 1) at (groups ++ g ∷ [])
@@ -60,9 +60,9 @@ live_more p table more b at (h ∷ groups) g free is start group end =
       live_more p table more b h.end groups g free is.3 start group end,
     )
 
--- Where the next place must be taken, no other group stays.
+-- If the next place is forced, no other group stays.
 pub live_forced :
-    (p : Problem) (table more : List Entry) (b : ℕ) (g : Group)
+    (p : Problem) (table more : List Entry) (b : ℕ) (g : ActiveGroup)
     → p.forced b ≡ true → IsTable p b table
     → g.start ≡ length table → IsGroup p (table ++ more) (b + 1) g → g.end ≡ length (table ++ more)
     → IsLive p (table ++ more) (b + 1) 0 (g ∷ [])
@@ -77,20 +77,20 @@ live_forced p table more b g forced is start group end =
 
 -- The entries of a new row are the group of its place.
 pub new_group :
-    (p : Problem) (table : List Entry) (row : List (Option Entry)) (b : ℕ) (g : Group)
-    → IsRow p table b (length table) row → 0 < b → g.place ≡ b → g.start ≡ length table → g.end ≡ length (table ++ held_in row)
-    → IsGroup p (table ++ held_in row) (b + 1) g
+    (p : Problem) (table : List Entry) (row : List (Option Entry)) (b : ℕ) (g : ActiveGroup)
+    → IsRow p table b (length table) row → 0 < b → g.place ≡ b → g.start ≡ length table → g.end ≡ length (table ++ row_entries row)
+    → IsGroup p (table ++ row_entries row) (b + 1) g
 new_group p table row b g full some place start end =
     record {
-      rises = omega (arith, start, end, length-append table (held_in row));
+      rises = omega (arith, start, end, length-append table (row_entries row));
       within = omega (arith, end);
       since = omega (arith, place, since_below p (b + 1) (omega arith));
       earlier = omega (arith, place);
-      entries = λ k e low high at. here k e low (get_cases table (held_in row) k e at);
+      entries = λ k e low high at. here k e low (get_cases table (row_entries row) k e at);
     }
   where
     here :
-        (k : ℕ) (e : Entry) → g.start ≤ k → (slice_get table k ≡ Some e) ⊎ ((j : ℕ) × (k ≡ length table + j) × (slice_get (held_in row) j ≡ Some e))
+        (k : ℕ) (e : Entry) → g.start ≤ k → (slice_get table k ≡ Some e) ⊎ ((j : ℕ) × (k ≡ length table + j) × (slice_get (row_entries row) j ≡ Some e))
         → e.end.place ≡ g.place
     here k e low (inl before) = absurd (omega (arith, start, slice_get_within table k e before))
     here k e low (inr there) =
@@ -98,8 +98,8 @@ new_group p table row b g full some place start end =
         let h = full.held at.0 e at.1 in
         (offered_at p table b h.k e h.offered).0 ∙ sym place
 
--- Before any place there is the group of the start.
-pub first_live : (p : Problem) (g : Group) → g.place ≡ 0 → g.start ≡ 0 → g.end ≡ 1 → IsLive p (first_entry ∷ []) 1 0 (g ∷ [])
+-- Before the first place there is the group of the start.
+pub first_live : (p : Problem) (g : ActiveGroup) → g.place ≡ 0 → g.start ≡ 0 → g.end ≡ 1 → IsLive p (first_entry ∷ []) 1 0 (g ∷ [])
 first_live p g place start end = (
   omega arith,
   (λ k e low high at l behind. absurd (omega (arith, start))),

@@ -1,24 +1,24 @@
--- What entries stand for, and which of two stands for the lesser way.
+-- The ways of entries, and which of two entries has the better way.
 use Rattle.std.proofs.Common.{◌≡◌, ◌∙◌, ℕ, zero, suc, ◌<◌, ◌≤◌, true, false, List, [], ◌∷◌, ◌++◌, refl, ap, sym, subst, arith, Option, Some, None}
 use Rattle.std.specs.Prelude.{◌+ℤ◌, nat_le, slice_get}
 use Rattle.std.proofs.Math.Logic.{◌⊎◌, inl, inr}
 use Rattle.std.proofs.lemmas.Bool.{cases_Bool, cond-true, cond-false, leb-true, le-leb}
 use Rattle.std.proofs.lemmas.Option.{same_Some}
-use Rattle.break_table.specs.declared.state.State.{State}
-use Rattle.break_table.specs.declared.state.Line.{Line}
+use Rattle.break_table.specs.declared.state.BreakState.{BreakState}
+use Rattle.break_table.specs.declared.state.LineCost.{LineCost}
 use Rattle.break_table.specs.Orders.{NotAfter}
-use Rattle.break_table.specs.Problems.{Problem, Path, start, first_path, state_after, numbers_of, key}
+use Rattle.break_table.specs.Problems.{Problem, Path, start, first_path, end_after, tie_numbers, key}
 use Rattle.break_table.specs.Ways.{since, Way, starts, goes, IsLeast}
-use Rattle.break_table.specs.Tables.{Entry, first_entry, extended, short, IsReached, way_to, IsTable, offer_of, offer, IsOffered}
+use Rattle.break_table.specs.Tables.{Entry, first_entry, extended, compared_numbers, ExtendsLeastWay, way_to, IsTable, offer_of, offer, IsOffered}
 use Rattle.break_table.proofs.Dictionary.{not_after_refl, not_after_trans, not_after_antisym, not_after_front, longer_not_after, state_apart, key_apart}
 
--- There is one least way to a state.
-pub least_once : (p : Problem) (s t : State) (w v : Path) → s ≡ t → IsLeast p s w → IsLeast p t v → w ≡ v
+-- There is only one best way to a state.
+pub least_once : (p : Problem) (s t : BreakState) (w v : Path) → s ≡ t → IsLeast p s w → IsLeast p t v → w ≡ v
 least_once p s t w v same left right =
     key_apart w v
     (not_after_antisym (key w) (key v) (left.least v right.way (right.ends ∙ sym same)) (right.least w left.way (left.ends ∙ same)))
 
--- The least way to the start has no line.
+-- The best way to the start has no line.
 from_start : (p : Problem) (u : Path) → Way p u → u.last ≡ start → NotAfter (key first_path) (key u)
 from_start p _ starts at = not_after_refl (key first_path)
 from_start p _ (goes q b l way later since_b is) at = let none : b ≡ 0 = ap (λ s. s.place) at in absurd (omega arith)
@@ -26,55 +26,55 @@ from_start p _ (goes q b l way later since_b is) at = let none : b ≡ 0 = ap (�
 pub least_start : (p : Problem) → IsLeast p start first_path
 least_start p = record { way = starts; ends = refl; least = from_start p }
 
--- The end of the way that an entry stands for.
-pub way_ends : (p : Problem) (e : Entry) (r : IsReached p e) → (way_to p e r).last ≡ e.end
-way_ends p e r = ap (λ s. state_after p.cut s e.end.place r.line) r.least.ends ∙ sym r.end
+-- The way of an entry ends at its state.
+pub way_ends : (p : Problem) (e : Entry) (r : ExtendsLeastWay p e) → (way_to p e r).last ≡ e.end
+way_ends p e r = ap (λ s. end_after p.cut s e.end.place r.line) r.least.ends ∙ sym r.end
 
--- An entry stands for a way.
-pub way_is : (p : Problem) (e : Entry) (r : IsReached p e) → Way p (way_to p e r)
+-- The way of an entry is a way.
+pub way_is : (p : Problem) (e : Entry) (r : ExtendsLeastWay p e) → Way p (way_to p e r)
 way_is p e r =
     let from : r.before.last ≡ e.from = r.least.ends in
     let place : r.before.last.place ≡ e.from.place = ap (λ s. s.place) from in
     goes r.before e.end.place r.line r.least.way (omega (arith, place, r.later)) (omega (arith, place, r.since))
     (ap (λ s. p.line s e.end.place) from ∙ r.admitted)
 
--- The numbers of an entry are the front of those of its way.
-key_short : (p : Problem) (e : Entry) (r : IsReached p e) → key (way_to p e r) ≡ short e ++ numbers_of r.before.before
+-- The numbers of an entry are the first numbers of its way.
+key_short : (p : Problem) (e : Entry) (r : ExtendsLeastWay p e) → key (way_to p e r) ≡ compared_numbers e ++ tie_numbers r.before.before
 key_short p e r =
     let w = way_to p e r in
-    ap (λ x. x ∷ w.demerits ∷ numbers_of (w.last ∷ r.before.last ∷ r.before.before)) (sym r.overhang)
-    ∙ ap (λ x. e.overhang ∷ x ∷ numbers_of (w.last ∷ r.before.last ∷ r.before.before)) (sym r.demerits)
-    ∙ ap (λ x. e.overhang ∷ e.demerits ∷ numbers_of (x ∷ r.before.last ∷ r.before.before)) (way_ends p e r)
-    ∙ ap (λ x. e.overhang ∷ e.demerits ∷ numbers_of (e.end ∷ x ∷ r.before.before)) r.least.ends
+    ap (λ x. x ∷ w.demerits ∷ tie_numbers (w.last ∷ r.before.last ∷ r.before.before)) (sym r.overhang)
+    ∙ ap (λ x. e.overhang ∷ x ∷ tie_numbers (w.last ∷ r.before.last ∷ r.before.before)) (sym r.demerits)
+    ∙ ap (λ x. e.overhang ∷ e.demerits ∷ tie_numbers (x ∷ r.before.last ∷ r.before.before)) (way_ends p e r)
+    ∙ ap (λ x. e.overhang ∷ e.demerits ∷ tie_numbers (e.end ∷ x ∷ r.before.before)) r.least.ends
 
 -- The numbers of entries decide as those of their ways do.
 pub short_decides :
-    (p : Problem) (e f : Entry) (left : IsReached p e) (right : IsReached p f)
-    → NotAfter (short e) (short f) → NotAfter (key (way_to p e left)) (key (way_to p f right))
+    (p : Problem) (e f : Entry) (left : ExtendsLeastWay p e) (right : ExtendsLeastWay p f)
+    → NotAfter (compared_numbers e) (compared_numbers f) → NotAfter (key (way_to p e left)) (key (way_to p f right))
 short_decides p e f left right h =
     subst (λ xs. NotAfter xs (key (way_to p f right))) (sym (key_short p e left))
-    (subst (λ ys. NotAfter (short e ++ numbers_of left.before.before) ys) (sym (key_short p f right))
-    (not_after_front (short e) (short f) (numbers_of left.before.before) (numbers_of right.before.before) refl h behind))
+    (subst (λ ys. NotAfter (compared_numbers e ++ tie_numbers left.before.before) ys) (sym (key_short p f right))
+    (not_after_front (compared_numbers e) (compared_numbers f) (tie_numbers left.before.before) (tie_numbers right.before.before) refl h behind))
   where
-    behind : short e ≡ short f → NotAfter (numbers_of left.before.before) (numbers_of right.before.before)
+    behind : compared_numbers e ≡ compared_numbers f → NotAfter (tie_numbers left.before.before) (tie_numbers right.before.before)
     behind same =
-        let states : numbers_of (e.end ∷ e.from ∷ []) ≡ numbers_of (f.end ∷ f.from ∷ []) = cc in
+        let states : tie_numbers (e.end ∷ e.from ∷ []) ≡ tie_numbers (f.end ∷ f.from ∷ []) = cc in
         let ends = state_apart e.end f.end (e.from ∷ []) (f.from ∷ []) states in
         let froms = state_apart e.from f.from [] [] ends.1 in
         let one = least_once p e.from f.from left.before right.before froms.0 left.least right.least in
-        subst (λ w. NotAfter (numbers_of left.before.before) (numbers_of w.before)) one (not_after_refl (numbers_of left.before.before))
+        subst (λ w. NotAfter (tie_numbers left.before.before) (tie_numbers w.before)) one (not_after_refl (tie_numbers left.before.before))
 
--- What is known of an offer.
+-- The facts about an offer.
 pub record IsExtended (p : Problem) (e : Entry) (k b : ℕ) (o : Entry) : Type 0 where
   pub since : since p b ≤ e.end.place
-  pub line : Line
+  pub line : LineCost
   pub admitted : p.line e.end b ≡ Some line
   pub is : o ≡ extended p.cut e k b line
 
 pub extended_is : (p : Problem) (e : Entry) (k b : ℕ) (o : Entry) → offer p e k b ≡ Some o → IsExtended p e k b o
 extended_is p e k b o is = cases (cases_Bool (nat_le (since p b) e.end.place))
   where
-    lines : (l : Option Line) → since p b ≤ e.end.place → p.line e.end b ≡ l → offer_of p.cut e k b l ≡ Some o → IsExtended p e k b o
+    lines : (l : Option LineCost) → since p b ≤ e.end.place → p.line e.end b ≡ l → offer_of p.cut e k b l ≡ Some o → IsExtended p e k b o
     lines None late at gives = absurd (cc)
     lines (Some l) late at gives =
         record { since = late; line = l; admitted = at; is = sym (same_Some (extended p.cut e k b l) o gives) }
@@ -87,14 +87,14 @@ extended_is p e k b o is = cases (cases_Bool (nat_le (since p b) e.end.place))
         let none = sym (cond-false (nat_le (since p b) e.end.place) (offer_of p.cut e k b (p.line e.end b)) None early) ∙ is in
         absurd (cc)
 
--- An admitted line that passes over no place that must be taken is offered.
+-- An admitted line that passes over no forced place is offered.
 pub offer_is :
-    (p : Problem) (e : Entry) (k b : ℕ) (l : Option Line) → since p b ≤ e.end.place → p.line e.end b ≡ l → offer p e k b ≡ offer_of p.cut e k b l
+    (p : Problem) (e : Entry) (k b : ℕ) (l : Option LineCost) → since p b ≤ e.end.place → p.line e.end b ≡ l → offer p e k b ≡ offer_of p.cut e k b l
 offer_is p e k b l late is =
     cond-true (nat_le (since p b) e.end.place) (offer_of p.cut e k b (p.line e.end b)) None (le-leb (since p b) e.end.place late)
     ∙ ap (offer_of p.cut e k b) is
 
--- Each entry of a table has the costs of the least way to its state.
+-- Each entry of a table has the costs of the best way to its state.
 pub record IsRight (p : Problem) (e : Entry) : Type 0 where
   pub path : Path
   pub least : IsLeast p e.end path
@@ -116,9 +116,9 @@ right p b table (suc k) e is at =
 
 -- An offer of an entry is reached.
 pub reached_by :
-    (p : Problem) (e : Entry) (k b : ℕ) (o : Entry) → IsRight p e → e.end.place < b → IsExtended p e k b o → IsReached p o
+    (p : Problem) (e : Entry) (k b : ℕ) (o : Entry) → IsRight p e → e.end.place < b → IsExtended p e k b o → ExtendsLeastWay p o
 reached_by p e k b o is later ext =
-    subst (λ x. IsReached p x) (sym ext.is)
+    subst (λ x. ExtendsLeastWay p x) (sym ext.is)
     (record {
       before = is.path;
       line = ext.line;
@@ -132,17 +132,17 @@ reached_by p e k b o is later ext =
     })
 
 pub offered_reached :
-    (p : Problem) (b : ℕ) (table : List Entry) (k : ℕ) (o : Entry) → IsTable p b table → IsOffered p table b k o → IsReached p o
+    (p : Problem) (b : ℕ) (table : List Entry) (k : ℕ) (o : Entry) → IsTable p b table → IsOffered p table b k o → ExtendsLeastWay p o
 offered_reached p b table k o is offered =
     reached_by p offered.by k b o (right p b table k offered.by is offered.stands) (is.below k offered.by offered.stands).0
     (extended_is p offered.by k b o offered.offers)
 
--- Each way to a place has an offer of the same end that is not after it.
+-- Each way to a place has an offer with the same end that is as good or better.
 pub record IsMatched (p : Problem) (table : List Entry) (b : ℕ) (u : Path) : Type 0 where
   pub k : ℕ
   pub o : Entry
   pub offered : IsOffered p table b k o
-  pub reached : IsReached p o
+  pub reached : ExtendsLeastWay p o
   pub ends : o.end ≡ u.last
   pub before : NotAfter (key (way_to p o reached)) (key u)
 
@@ -172,15 +172,15 @@ matches p table _ (goes q b l way later since_b at) is some =
         overhang = ap (λ x. x +ℤ l.overhang) (sym r.overhang);
         demerits = ap (λ x. x +ℤ l.demerits) (sym r.demerits);
       };
-      ends = ap (λ s. state_after p.cut s b l) same;
+      ends = ap (λ s. end_after p.cut s b l) same;
       before = longer_not_after p r.path q b l (r.least.ends ∙ same) (r.least.least q way (sym same));
     }
 
--- An offer that is not after the others of its end is the least way to it.
+-- An offer that is as good as all others with its end is the best way to it.
 pub best_is_least :
-    (p : Problem) (b : ℕ) (table : List Entry) (o : Entry) (reached : IsReached p o)
+    (p : Problem) (b : ℕ) (table : List Entry) (o : Entry) (reached : ExtendsLeastWay p o)
     → IsTable p b table → 0 < b → o.end.place ≡ b
-    → ((k : ℕ) (f : Entry) → IsOffered p table b k f → f.end ≡ o.end → NotAfter (short o) (short f))
+    → ((k : ℕ) (f : Entry) → IsOffered p table b k f → f.end ≡ o.end → NotAfter (compared_numbers o) (compared_numbers f))
     → IsLeast p o.end (way_to p o reached)
 best_is_least p b table o reached is some at best =
     record { way = way_is p o reached; ends = way_ends p o reached; least = least }

@@ -5,17 +5,17 @@ use Rattle.std.proofs.Math.Logic.{◌⊎◌, inl, inr}
 use Rattle.std.proofs.lemmas.Bool.{cases_eq, cases_lt}
 use Rattle.std.proofs.lemmas.List.{length-replicate, take_more, append_assoc, append-nil}
 use Rattle.std.proofs.lemmas.Option.{same_Some, slice_get-get_or}
-use Rattle.break_table.specs.declared.state.State.{State}
+use Rattle.break_table.specs.declared.state.BreakState.{BreakState}
 use Rattle.break_table.specs.Problems.{Problem}
-use Rattle.break_table.specs.Tables.{Entry, short, slot, slots, offer, IsOffered, IsHeld, IsMet, IsRow, IsKept, held_in}
+use Rattle.break_table.specs.Tables.{Entry, compared_numbers, slot, slots, offer, IsOffered, IsHeld, IsMet, IsRow, IsKept, row_entries}
 use Rattle.break_table.specs.Live.{IsSilent}
 use Rattle.break_table.specs.Orders.{NotAfter}
 use Rattle.break_table.proofs.Dictionary.{state_same, rank_few, rank_apart, not_after_refl, not_after_trans}
 use Rattle.break_table.proofs.Reached.{extended_is}
 use Rattle.break_table.proofs.Entries.{get-set_same, get-set_other, get-replicate, set-get_same}
 
--- States of one place with one slot are the same.
-pub slot_apart : (s t : State) → s.place ≡ t.place → slot s ≡ slot t → s ≡ t
+-- States of one place with the same slot are equal.
+pub slot_apart : (s t : BreakState) → s.place ≡ t.place → slot s ≡ slot t → s ≡ t
 slot_apart s t place same =
     let few_s = rank_few s.class in
     let few_t = rank_few t.class in
@@ -28,7 +28,7 @@ offered_at p table b k o offered =
     let lines : o.end.lines ≡ min (offered.by.end.lines + 1) p.cut = ap (λ e. e.end.lines) ext.is in
     (ap (λ e. e.end.place) ext.is, omega (arith, lines))
 
--- Before any offer a row is empty.
+-- A row before the first offer is empty.
 pub row_empty : (p : Problem) (table : List Entry) (b : ℕ) → IsRow p table b 0 (replicate (slots p.cut) None)
 row_empty p table b =
     record {
@@ -80,11 +80,11 @@ row_none p table b n e row stands none is =
         let some : offer p e n b ≡ Some o = ap (λ x. offer p x n b) (sym one) ∙ ap (λ x. offer p offered.by x b) (sym same) ∙ offered.offers in
         absurd (cc)
 
--- The least of the offers of some entries is put into its slot, where they are all for one state.
+-- The best offer of some entries is put into its slot, if all their offers are for one state.
 pub row_best :
     (p : Problem) (table : List Entry) (b n m by : ℕ) (o r : Entry) (old : Option Entry) (row : List (Option Entry))
     → n ≤ by → by < m → IsOffered p table b by o → slice_get row (slot o.end) ≡ Some old → IsKept old o r
-    → ((k : ℕ) (f : Entry) → n ≤ k → k < m → IsOffered p table b k f → (f.end ≡ o.end) × NotAfter (short o) (short f))
+    → ((k : ℕ) (f : Entry) → n ≤ k → k < m → IsOffered p table b k f → (f.end ≡ o.end) × NotAfter (compared_numbers o) (compared_numbers f))
     → IsRow p table b n row → IsRow p table b m (set row (slot o.end) (Some r))
 row_best p table b n m by o r old row low high offered_o was kept least is =
     record {
@@ -96,7 +96,7 @@ row_best p table b n m by o r old row low high offered_o was kept least is =
     written : slice_get (set row (slot o.end) (Some r)) (slot o.end) ≡ Some (Some r)
     written = get-set_same row (slot o.end) (Some r) old was
 
-    -- What the slot holds now.
+    -- The content of the slot now.
     now : (r ≡ o) ⊎ (old ≡ Some r) → IsHeld p table b m (slot o.end) r
     now (inl same) = subst (λ x. IsHeld p table b m (slot o.end) x) (sym same) (record { k = by; below = high; offered = offered_o; here = refl })
     now (inr same) = held_more p table b n m (slot o.end) r (omega arith) (is.held (slot o.end) r (was ∙ ap Some same))
@@ -119,7 +119,7 @@ row_best p table b n m by o r old row low high offered_o was kept least is =
         let place_o : o.end.place ≡ b = (offered_at p table b by o offered_o).0 in
         slot_apart r.end o.end (place ∙ sym place_o) h.here
 
-    -- An offer in another slot is met by what stood there, one in this slot by what stands there now.
+    -- An offer for another slot is matched by the old content of that slot, and one for this slot by the new content.
     spread : (f : Entry) → f.end.place ≡ b → IsMet row f → (slot f.end ≡ slot o.end) ⊎ (slot f.end ≡ slot o.end → ⊥) → IsMet (set row (slot o.end) (Some r)) f
     spread f at m_f (inl same) =
         let there : slice_get row (slot o.end) ≡ Some (Some m_f.held) = ap (slice_get row) (sym same) ∙ m_f.stands in
@@ -130,7 +130,7 @@ row_best p table b n m by o r old row low high offered_o was kept least is =
           held = r;
           stands = ap (slice_get (set row (slot o.end) (Some r))) same ∙ written;
           same = end_of_r ∙ sym one;
-          before = not_after_trans (short r) (short m_f.held) (short f) (kept.older m_f.held was_held) m_f.before;
+          before = not_after_trans (compared_numbers r) (compared_numbers m_f.held) (compared_numbers f) (kept.older m_f.held was_held) m_f.before;
         }
     spread f at m_f (inr other) =
         record {
@@ -149,10 +149,10 @@ row_best p table b n m by o r old row low high offered_o was kept least is =
           held = r;
           stands = ap (λ s. slice_get (set row (slot o.end) (Some r)) (slot s)) no_less.0 ∙ written;
           same = end_of_r ∙ sym no_less.0;
-          before = not_after_trans (short r) (short o) (short f) kept.offered no_less.1;
+          before = not_after_trans (compared_numbers r) (compared_numbers o) (compared_numbers f) kept.offered no_less.1;
         }
 
--- An offer that is put into its slot, or what the slot held, whichever is before the other.
+-- The slot then holds the better one of the offer and its old content.
 pub row_step :
     (p : Problem) (table : List Entry) (b n : ℕ) (e o r : Entry) (old : Option Entry) (row : List (Option Entry))
     → slice_get table n ≡ Some e → offer p e n b ≡ Some o → slice_get row (slot o.end) ≡ Some old → IsKept old o r
@@ -160,35 +160,35 @@ pub row_step :
 row_step p table b n e o r old row stands offers was kept is =
     row_best p table b n (n + 1) n o r old row (omega arith) (omega arith) (record { by = e; stands = stands; offers = offers }) was kept alone is
   where
-    alone : (k : ℕ) (f : Entry) → n ≤ k → k < n + 1 → IsOffered p table b k f → (f.end ≡ o.end) × NotAfter (short o) (short f)
+    alone : (k : ℕ) (f : Entry) → n ≤ k → k < n + 1 → IsOffered p table b k f → (f.end ≡ o.end) × NotAfter (compared_numbers o) (compared_numbers f)
     alone k f low high offered =
         let same : k ≡ n = omega arith in
         let there : slice_get table n ≡ Some offered.by = ap (slice_get table) (sym same) ∙ offered.stands in
         let one : offered.by ≡ e = same_Some offered.by e (sym there ∙ stands) in
         let some : offer p e n b ≡ Some f = ap (λ x. offer p x n b) (sym one) ∙ ap (λ x. offer p offered.by x b) (sym same) ∙ offered.offers in
         let is_o : o ≡ f = same_Some o f (sym offers ∙ some) in
-        (ap (λ x. x.end) (sym is_o), subst (λ x. NotAfter (short o) (short x)) is_o (not_after_refl (short o)))
+        (ap (λ x. x.end) (sym is_o), subst (λ x. NotAfter (compared_numbers o) (compared_numbers x)) is_o (not_after_refl (compared_numbers o)))
 
--- What a row holds stands behind each other, and nothing else does.
-pub held_has : (row : List (Option Entry)) (s : ℕ) (e : Entry) → slice_get row s ≡ Some (Some e) → (j : ℕ) × (slice_get (held_in row) j ≡ Some e)
+-- The entries in a row come one after another, and there are no others.
+pub held_has : (row : List (Option Entry)) (s : ℕ) (e : Entry) → slice_get row s ≡ Some (Some e) → (j : ℕ) × (slice_get (row_entries row) j ≡ Some e)
 held_has [] s e is = absurd (cc)
 held_has (None ∷ row) zero e is = absurd (cc)
 held_has (None ∷ row) (suc s) e is = held_has row s e is
 held_has (Some x ∷ row) zero e is = (0, same_Some (Some x) (Some e) is)
 held_has (Some x ∷ row) (suc s) e is = let rest = held_has row s e is in (suc rest.0, rest.1)
 
-pub held_from : (row : List (Option Entry)) (j : ℕ) (e : Entry) → slice_get (held_in row) j ≡ Some e → (s : ℕ) × (slice_get row s ≡ Some (Some e))
+pub held_from : (row : List (Option Entry)) (j : ℕ) (e : Entry) → slice_get (row_entries row) j ≡ Some e → (s : ℕ) × (slice_get row s ≡ Some (Some e))
 held_from [] j e is = absurd (cc)
 held_from (None ∷ row) j e is = let rest = held_from row j e is in (suc rest.0, rest.1)
 held_from (Some x ∷ row) zero e is = (0, ap Some is)
 held_from (Some x ∷ row) (suc j) e is = let rest = held_from row j e is in (suc rest.0, rest.1)
 
-held-append : (front row : List (Option Entry)) → held_in (front ++ row) ≡ held_in front ++ held_in row
+held-append : (front row : List (Option Entry)) → row_entries (front ++ row) ≡ row_entries front ++ row_entries row
 held-append [] row = refl
 held-append (None ∷ front) row = held-append front row
 held-append (Some e ∷ front) row = ap (λ xs. e ∷ xs) (held-append front row)
 
--- A row whose first slots were emptied has, in the next one, what it had there.
+-- A row whose first slots were emptied still has its old content in the next slot.
 emptied_next :
     (n : ℕ) (row : List (Option Entry)) (d : Option Entry)
     → n < length row → get_or (replicate n None ++ drop n row) n d ≡ get_or row n d
@@ -203,26 +203,26 @@ emptied_set zero (x ∷ row) within = refl
 emptied_set (suc n) [] within = absurd (omega (arith, within))
 emptied_set (suc n) (x ∷ row) within = ap (λ l. None ∷ l) (emptied_set n row (omega (arith, within)))
 
--- One more slot was emptied, and what it held was appended.
+-- One more slot was emptied, and its content was appended.
 pub emptied_more :
     (table first new : List Entry) (row cur : List (Option Entry)) (n : ℕ) (x d : Option Entry)
-    → n < length row → table ≡ first ++ held_in (take n row) → cur ≡ replicate n None ++ drop n row → get_or cur n d ≡ x
-    → new ≡ table ++ held_in (x ∷ [])
-    → (new ≡ first ++ held_in (take (n + 1) row)) × (set cur n None ≡ replicate (n + 1) None ++ drop (n + 1) row)
+    → n < length row → table ≡ first ++ row_entries (take n row) → cur ≡ replicate n None ++ drop n row → get_or cur n d ≡ x
+    → new ≡ table ++ row_entries (x ∷ [])
+    → (new ≡ first ++ row_entries (take (n + 1) row)) × (set cur n None ≡ replicate (n + 1) None ++ drop (n + 1) row)
 emptied_more table first new row cur n x d within before is here made =
     let one : suc n ≡ n + 1 = omega arith in
     let value : x ≡ get_or row n d = sym here ∙ ap (λ l. get_or l n d) is ∙ emptied_next n row d within in
-    let more : held_in (take (n + 1) row) ≡ held_in (take n row) ++ held_in (x ∷ []) =
-    ap held_in (take_more row n d within) ∙ held-append (take n row) (get_or row n d ∷ []) ∙ ap (λ y. held_in (take n row) ++ held_in (y ∷ [])) (sym value) in (
-      made ∙ ap (λ xs. xs ++ held_in (x ∷ [])) before ∙ append_assoc first (held_in (take n row)) (held_in (x ∷ [])) ∙ ap (λ xs. first ++ xs) (sym more),
+    let more : row_entries (take (n + 1) row) ≡ row_entries (take n row) ++ row_entries (x ∷ []) =
+    ap row_entries (take_more row n d within) ∙ held-append (take n row) (get_or row n d ∷ []) ∙ ap (λ y. row_entries (take n row) ++ row_entries (y ∷ [])) (sym value) in (
+      made ∙ ap (λ xs. xs ++ row_entries (x ∷ [])) before ∙ append_assoc first (row_entries (take n row)) (row_entries (x ∷ [])) ∙ ap (λ xs. first ++ xs) (sym more),
       ap (λ l. set l n None) is ∙ emptied_set n row within ∙ ap (λ k. replicate k None ++ drop k row) one,
     )
 
 -- One more slot was empty.
 pub emptied_none :
     (table first : List Entry) (row cur : List (Option Entry)) (n : ℕ) (d : Option Entry)
-    → n < length row → n < length cur → table ≡ first ++ held_in (take n row) → cur ≡ replicate n None ++ drop n row → get_or cur n d ≡ None
-    → (table ≡ first ++ held_in (take (n + 1) row)) × (cur ≡ replicate (n + 1) None ++ drop (n + 1) row)
+    → n < length row → n < length cur → table ≡ first ++ row_entries (take n row) → cur ≡ replicate n None ++ drop n row → get_or cur n d ≡ None
+    → (table ≡ first ++ row_entries (take (n + 1) row)) × (cur ≡ replicate (n + 1) None ++ drop (n + 1) row)
 emptied_none table first row cur n d within here before is none =
     let more = emptied_more table first table row cur n None d within before is none (sym (append-nil table)) in
     let stands : slice_get cur n ≡ Some None = slice_get-get_or cur n d here ∙ ap Some none in

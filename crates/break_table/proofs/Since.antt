@@ -1,11 +1,11 @@
--- Places that must be taken.
+-- Forced places.
 use Rattle.std.proofs.Common.{◌≡◌, ◌∙◌, ℕ, zero, suc, ◌+◌, ◌<◌, ◌≤◌, true, false, ap, sym, arith}
 use Rattle.std.proofs.Math.Logic.{◌⊎◌, inl, inr}
 use Rattle.std.proofs.lemmas.Bool.{cases_Bool, cases_eq, cases_lt, cond-true, cond-false}
 use Rattle.break_table.specs.Problems.{Problem}
 use Rattle.break_table.specs.Ways.{since}
 
--- The last place below b that must be taken is below b, and must be taken.
+-- The last forced place below b is below b, and is forced.
 pub since_forced : (p : Problem) (b : ℕ) → 0 < since p b → (p.forced (since p b) ≡ true) × (since p b < b)
 since_forced p zero some = absurd (omega arith)
 since_forced p (suc b) some = cases (λ above. since_forced p b above) (cases_Bool (p.forced b))
@@ -21,7 +21,7 @@ since_forced p (suc b) some = cases (λ above. since_forced p b above) (cases_Bo
         let before = lower (omega (arith, same)) in
         (ap p.forced same ∙ before.0, omega (arith, same, before.1))
 
--- Each place below b that must be taken is at most the last one.
+-- Each forced place below b is at most the last one.
 pub forced_within : (p : Problem) (f b : ℕ) → f < b → p.forced f ≡ true → f ≤ since p b
 forced_within p f zero below is = absurd (omega arith)
 forced_within p f (suc b) below is = cases (λ under. forced_within p f b under is) (cases_Bool (p.forced b))
@@ -45,7 +45,7 @@ since_below p b some = cases (cases_lt 0 (since p b))
     cases (inl above) = (since_forced p b above).1
     cases (inr none) = omega arith
 
--- Later places have no earlier one.
+-- The last forced place before a later place is not earlier.
 pub since_grows : (p : Problem) (b c : ℕ) → b ≤ c → since p b ≤ since p c
 since_grows p b c before = cases (cases_lt 0 (since p b))
   where
@@ -55,7 +55,7 @@ since_grows p b c before = cases (cases_lt 0 (since p b))
         forced_within p (since p b) c (omega (arith, forced.1)) forced.0
     cases (inr none) = omega arith
 
--- A place that need not be taken changes nothing for the next one.
+-- A place that is not forced changes nothing for the next one.
 pub since_free : (p : Problem) (b : ℕ) → p.forced b ≡ false → since p (b + 1) ≡ since p b
 since_free p b free =
     let one : b + 1 ≡ suc b = omega arith in

@@ -1,4 +1,4 @@
--- Lists of breaks of an abstract paragraph: what they cost, which is chosen, and the table of those that are best so far.
+-- Lists of breaks of an abstract paragraph: their costs, the chosen list, and the table of the best lists so far.
 pub mod Orders
 pub mod Problems
 pub mod Chosen

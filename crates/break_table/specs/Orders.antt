@@ -1,7 +1,8 @@
--- The dictionary order of lists of numbers (own).
+-- The lexicographic order of lists of numbers (own).
 use Rattle.std.specs.Prelude.{◌≡◌, ◌<ℤ◌, ◌⊎◌, ℤ, List, [], ◌∷◌}
 
--- A list of numbers is before another one in a dictionary, or the same: at the first place where they differ its number is lower, or there it has ended.
+-- A list of numbers is before another one in lexicographic order, or equal to it: at the first place where they differ its number is lower, or it
+-- ends there.
 abbrev pub NotAfter : List ℤ → List ℤ → Type 0
 NotAfter [] ys = Unit {0}
 NotAfter (x ∷ xs) [] = ⊥

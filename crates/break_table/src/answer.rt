@@ -1,24 +1,29 @@
-//! The list of breaks that is chosen, out of the table.
+//! The chosen list of breaks, read from the table.
 
 ghost use Rattle.std.specs.Prelude.{◌≡◌, ◌<◌, ◌+◌, length, reverse, IfOk, MatchOption};
 ghost use Rattle.break_table.specs.Problems.{Problem};
 ghost use Rattle.break_table.specs.Chosen.{AdmitsNone, IsAnswer};
-ghost use Rattle.break_table.specs.Tables.{IsTable, IsBestEnd, HasNoEnd, IsRead, IsSomeTable};
+ghost use Rattle.break_table.specs.Tables.{IsTable, IsBestEnd, HasNoEnd, AreEndsOf, IsSomeTable};
 
-use crate::entry::Best;
-use crate::state::State;
+use crate::entry::ActiveNode;
+use crate::state::BreakState;
 use std::alloc::{AllocError, Global};
 
-/// A list of breaks: the ends of its lines, the first one first, and what it costs.
+/// A list of breaks: the ends of its lines in order, its total overhang in scaled points, and its total demerits.
 #[derive(Debug, Drop)]
-pub struct Least {
-    pub ends: Vec<State>,
+pub struct ChosenBreaks {
+    pub ends: Vec<BreakState>,
     pub overhang: i64,
     pub demerits: i64,
 }
 
-/// The best entry of a place among the first ones up to number `index`, by the best among those before that.
-fn better_end(table: &[Best], best: Option<usize>, index: usize, place: usize) -> Option<usize>
+/// The best entry of a place among the entries 0 to `index`, given the best one among those before `index`.
+fn better_end(
+    table: &[ActiveNode],
+    best: Option<usize>,
+    index: usize,
+    place: usize,
+) -> Option<usize>
     requires within { index < length table.now }
     requires best { MatchOption best (HasNoEnd table.now place index) (IsBestEnd table.now place index) }
     ensures { MatchOption result (HasNoEnd table.now place (index + 1)) (IsBestEnd table.now place (index + 1)) }
@@ -36,8 +41,8 @@ fn better_end(table: &[Best], best: Option<usize>, index: usize, place: usize) -
     Some(index)
 }
 
-/// The number of the best entry of a place, if there is an entry of it.
-fn best_end(table: &[Best], place: usize) -> Option<usize>
+/// The number of the best entry of a place, if the place has an entry.
+fn best_end(table: &[ActiveNode], place: usize) -> Option<usize>
     ensures { MatchOption result (HasNoEnd table.now place (length table.now)) (IsBestEnd table.now place (length table.now)) }
 {
     let mut best = None;
@@ -47,11 +52,11 @@ fn best_end(table: &[Best], place: usize) -> Option<usize>
     best
 }
 
-/// The ends of the lines of the way that an entry stands for, the first one first.
-fn read_back(alloc: Global, table: &[Best], at: usize) -> Result<Vec<State>, AllocError>
+/// The ends of the lines that lead to an entry, in order. An entry knows only the entry before it, so they are collected backward and then reversed.
+fn read_back(alloc: Global, table: &[ActiveNode], at: usize) -> Result<Vec<BreakState>, AllocError>
     requires within { at < length table.now }
     requires table { IsSomeTable table.now }
-    ensures { IfOk result (λ ends. IsRead table.now at (reverse ends.items)) }
+    ensures { IfOk result (λ ends. AreEndsOf table.now at (reverse ends.items)) }
 {
     let mut ends = Vec::new(alloc);
     let mut index = at;
@@ -64,12 +69,12 @@ fn read_back(alloc: Global, table: &[Best], at: usize) -> Result<Vec<State>, All
     Ok(ends)
 }
 
-/// The list of breaks that is chosen, out of a table for all places, or None where no list is admitted.
+/// The chosen list of breaks, from a table for all places, or `None` if no list is admitted.
 pub fn chosen_list(
     alloc: Global,
-    table: &[Best],
+    table: &[ActiveNode],
     places: usize,
-) -> Result<Option<Least>, AllocError>
+) -> Result<Option<ChosenBreaks>, AllocError>
     requires some { 0 < places }
     requires table { IsSomeTable table.now }
     ensures { (p : Problem) → p.places ≡ places → IsTable p (places + 1) table.now →
@@ -80,7 +85,7 @@ pub fn chosen_list(
     };
     let best = table[index];
     let ends = read_back(alloc, table, index)?;
-    Ok(Some(Least {
+    Ok(Some(ChosenBreaks {
         ends,
         overhang: best.overhang(),
         demerits: best.demerits(),

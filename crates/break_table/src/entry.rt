@@ -1,24 +1,24 @@
-//! Entries of the table: the least way to a state.
+//! Entries of the table: the best way to a state. They correspond to TeX's active and passive nodes.
 
 ghost use Rattle.std.specs.Prelude.{◌≡◌, ◌<◌, ◌≤◌, true, false, Some};
 ghost use Rattle.break_table.specs.Orders.{NotAfter};
-ghost use Rattle.break_table.specs.Tables.{most_places, Entry, first_entry, extended, short, IsSmallLine, IsKept};
+ghost use Rattle.break_table.specs.Tables.{max_places, Entry, first_entry, extended, compared_numbers, IsSmallLine, IsKept};
 
-use crate::state::{Line, State, order};
+use crate::state::{BreakState, LineCost, order};
 use std::cmp::Ordering;
 use std::marker::Model;
 
-/// The least way to a state, as an entry of a table: what it costs, the state before the last one, and where that stands in the table.
+/// An entry of a table: a state, the costs of the best way to it, the state before it, and the number of the entry for that state.
 #[derive(Clone, Copy, Debug, PartialEq, Eq)]
-pub struct Best {
-    end: State,
+pub struct ActiveNode {
+    end: BreakState,
     overhang: i64,
     demerits: i64,
-    from: State,
+    from: BreakState,
     index: usize,
 }
 
-impl Model for Best {
+impl Model for ActiveNode {
     ghost use Rattle.break_table.specs.Tables.{Entry, IsSmall};
 
     ghost Value = { Entry };
@@ -30,59 +30,59 @@ impl Model for Best {
     ghost inverse = { λ e. record { end = e.end; overhang = e.overhang; demerits = e.demerits; from = e.from; index = e.index } };
 }
 
-impl Best {
-    /// The entry of the start.
-    pub fn first() -> Best
+impl ActiveNode {
+    /// The entry for the start.
+    pub fn first() -> ActiveNode
         ensures { result ≡ first_entry }
     {
-        Best {
-            end: State::start(),
+        ActiveNode {
+            end: BreakState::start(),
             overhang: 0,
             demerits: 0,
-            from: State::start(),
+            from: BreakState::start(),
             index: 0,
         }
     }
 
-    /// The state.
-    pub fn end(self) -> State
+    /// The state of the entry.
+    pub fn end(self) -> BreakState
         ensures end { result ≡ self.end }
-        ensures few { result.place ≤ most_places }
+        ensures place_bounded { result.place ≤ max_places }
     {
         self.end
     }
 
-    /// Where the entry stands that it goes on from.
+    /// The number of the entry before this one.
     pub fn index(self) -> usize
         ensures { result ≡ self.index }
     {
         self.index
     }
 
-    /// The total overhang of its lines.
+    /// The total overhang of the lines, in scaled points.
     pub fn overhang(self) -> i64
         ensures { result ≡ self.overhang }
     {
         self.overhang
     }
 
-    /// The total demerits of its lines.
+    /// The total demerits of the lines.
     pub fn demerits(self) -> i64
         ensures { result ≡ self.demerits }
     {
         self.demerits
     }
 
-    /// The entry, number `index` of its table, lengthened by a line to a later place.
-    pub fn extended(self, index: usize, place: usize, line: Line, cut: usize) -> Best
-        requires few { cut < 1000 }
+    /// This entry, number `index` of its table, extended by a line to a later place.
+    pub fn extended(self, index: usize, place: usize, line: LineCost, cut: usize) -> ActiveNode
+        requires cut_bounded { cut < 1000 }
         requires counted { self.end.lines ≤ cut }
         requires later { self.end.place < place }
-        requires places { place ≤ most_places }
-        requires small { IsSmallLine line }
+        requires places { place ≤ max_places }
+        requires line_bounded { IsSmallLine line }
         ensures { result ≡ extended cut self index place line }
     {
-        Best {
+        ActiveNode {
             end: self.end.after(place as u32, line, cut),
             overhang: self.overhang + line.overhang,
             demerits: self.demerits + line.demerits,
@@ -91,10 +91,10 @@ impl Best {
         }
     }
 
-    /// Whether the entry is not after another one, by costs and then by ends.
-    pub fn is_not_after(self, other: Best) -> bool
-        ensures not_after { result ≡ true → NotAfter (short self) (short other) }
-        ensures after { result ≡ false → NotAfter (short other) (short self) }
+    /// Whether this entry is as good as another one or better: costs are compared first, and then ends of lines.
+    pub fn is_not_after(self, other: ActiveNode) -> bool
+        ensures not_after { result ≡ true → NotAfter (compared_numbers self) (compared_numbers other) }
+        ensures after { result ≡ false → NotAfter (compared_numbers other) (compared_numbers self) }
     {
         if self.overhang < other.overhang {
             return true;
@@ -120,8 +120,8 @@ impl Best {
     }
 }
 
-/// Whether an offer takes the place of what a slot holds: it holds nothing, or what is after the offer.
-pub fn replaces(held: &Option<Best>, offered: Best) -> bool
+/// Whether an offer replaces the content of a slot: the slot is empty, or its content is worse than the offer.
+pub fn replaces(held: &Option<ActiveNode>, offered: ActiveNode) -> bool
     ensures yes { result ≡ true → IsKept held.now offered offered }
     ensures no { result ≡ false → (kept : Entry) × (held.now ≡ Some kept) × IsKept held.now offered kept }
 {

@@ -1,8 +1,8 @@
 //! The entries of a place.
 
-/// The entries of a table that end at a place: from number `start` up to `end`, which is the first after them.
+/// The entries of a table for one place: numbers `start` to `end`, without `end`.
 #[derive(Clone, Copy, Debug, PartialEq, Eq)]
-pub struct Group {
+pub struct ActiveGroup {
     pub place: usize,
     pub start: usize,
     pub end: usize,

@@ -1,10 +1,10 @@
-//! Laws of the definitions, each on a function that does nothing.
+//! Laws of the definitions.
 
 ghost use Rattle.std.specs.Prelude.{◌≡◌, ℕ, List};
 ghost use Rattle.break_table.specs.Problems.{Problem, Path, places_of, ends_of};
 ghost use Rattle.break_table.specs.Chosen.{IsChosen};
 
-/// One list of breaks is chosen, if any: two that are chosen are the same, with the same lines.
+/// At most one list of breaks is chosen: two chosen lists are the same, with the same lines.
 pub fn one_list_is_chosen()
     ensures { (p : Problem) → (q : Path) → (r : Path) →
         IsChosen p (places_of (ends_of q)) q → IsChosen p (places_of (ends_of r)) r → q ≡ r }

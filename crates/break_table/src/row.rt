@@ -1,15 +1,15 @@
-//! The row of a place: to each state the best offer so far.
+//! The row of a place: the best offer so far for each state.
 
 ghost use Rattle.std.specs.Prelude.{◌≡◌, ◌<◌, ◌≤◌, ◌++◌, length, take, replicate, None, IfSome, IfOk, OnOk, OnErr};
-ghost use Rattle.break_table.specs.Tables.{most_places, slots, held_in, IsSmallLine, IsPut, IsImproved};
+ghost use Rattle.break_table.specs.Tables.{max_places, slots, row_entries, IsSmallLine, IsPut, IsImproved};
 
-use crate::entry::{Best, replaces};
-use crate::state::Line;
+use crate::entry::{ActiveNode, replaces};
+use crate::state::LineCost;
 use std::alloc::{AllocError, Global};
 
-/// A row without an offer, of the size that the states of a place need.
-pub fn empty_row(alloc: Global, cut: usize) -> Result<Vec<Option<Best>>, AllocError>
-    requires few { cut < 1000 }
+/// A row without offers, with a slot for each state of a place. The error is that memory was refused.
+pub fn empty_row(alloc: Global, cut: usize) -> Result<Vec<Option<ActiveNode>>, AllocError>
+    requires cut_bounded { cut < 1000 }
     ensures { IfOk result (λ row. row.items ≡ replicate (slots cut) None) }
 {
     let mut row = Vec::with_capacity(alloc, 4 * (cut + 1))?;
@@ -19,10 +19,10 @@ pub fn empty_row(alloc: Global, cut: usize) -> Result<Vec<Option<Best>>, AllocEr
     Ok(row)
 }
 
-/// Puts an offer into its slot, unless what the slot holds is not after it.
+/// Puts an offer into its slot, unless the slot holds one that is as good or better.
 #[inline(always)]
-pub fn put(row: &mut Vec<Option<Best>>, offered: Best, cut: usize)
-    requires few { cut < 1000 }
+pub fn put(row: &mut Vec<Option<ActiveNode>>, offered: ActiveNode, cut: usize)
+    requires cut_bounded { cut < 1000 }
     requires wide { length row.old.items ≡ slots cut }
     requires counted { offered.end.lines ≤ cut }
     ensures put { IsPut offered row.old.items row.new.items }
@@ -34,21 +34,21 @@ pub fn put(row: &mut Vec<Option<Best>>, offered: Best, cut: usize)
     }
 }
 
-/// Offers an entry, number `index` of its table, for a place, by its line to there, if there is one.
-pub fn improve(
-    row: &mut Vec<Option<Best>>,
-    entry: Best,
+/// Extends an entry, number `index` of its table, by its line to a place, if there is one, and offers the result.
+pub fn offer(
+    row: &mut Vec<Option<ActiveNode>>,
+    entry: ActiveNode,
     index: usize,
     place: usize,
-    line: Option<Line>,
+    line: Option<LineCost>,
     cut: usize,
 )
-    requires few { cut < 1000 }
+    requires cut_bounded { cut < 1000 }
     requires wide { length row.old.items ≡ slots cut }
     requires counted { entry.end.lines ≤ cut }
     requires later { entry.end.place < place }
-    requires places { place ≤ most_places }
-    requires small { IfSome line IsSmallLine }
+    requires places { place ≤ max_places }
+    requires line_bounded { IfSome line IsSmallLine }
     ensures row { IsImproved cut entry index place line row.old.items row.new.items }
     ensures wide { length row.new.items ≡ slots cut }
 {
@@ -58,10 +58,13 @@ pub fn improve(
     put(row, entry.extended(index, place, line, cut), cut);
 }
 
-/// Appends what a row holds to a table, and takes it out of the row.
-fn move_held(table: &mut Vec<Best>, row: &mut Vec<Option<Best>>) -> Result<(), AllocError>
+/// Appends the offers of a row to a table, and removes them from the row.
+fn move_held(
+    table: &mut Vec<ActiveNode>,
+    row: &mut Vec<Option<ActiveNode>>,
+) -> Result<(), AllocError>
     ensures front { take (length table.old.items) table.new.items ≡ table.old.items }
-    ensures table { OnOk result (table.new.items ≡ table.old.items ++ held_in row.old.items) }
+    ensures table { OnOk result (table.new.items ≡ table.old.items ++ row_entries row.old.items) }
     ensures row { OnOk result (row.new.items ≡ replicate (length row.old.items) None) }
 {
     for index in 0..row.len() {
@@ -73,9 +76,12 @@ fn move_held(table: &mut Vec<Best>, row: &mut Vec<Option<Best>>) -> Result<(), A
     Ok(())
 }
 
-/// Appends what a row holds to a table, and leaves the row without an offer. Where a growth is refused, the table is as it was.
-pub fn keep(table: &mut Vec<Best>, row: &mut Vec<Option<Best>>) -> Result<(), AllocError>
-    ensures table { OnOk result (table.new.items ≡ table.old.items ++ held_in row.old.items) }
+/// Appends the offers of a row to a table, and empties the row. If memory is refused, the table is as it was before the call.
+pub fn flush_row(
+    table: &mut Vec<ActiveNode>,
+    row: &mut Vec<Option<ActiveNode>>,
+) -> Result<(), AllocError>
+    ensures table { OnOk result (table.new.items ≡ table.old.items ++ row_entries row.old.items) }
     ensures row { OnOk result (row.new.items ≡ replicate (length row.old.items) None) }
     ensures err { OnErr result (table.new.items ≡ table.old.items) }
 {

@@ -1,84 +1,85 @@
 //! Ends of lines, and lines.
 
 ghost use Rattle.std.specs.Prelude.{◌≡◌, ◌<◌, ◌≤◌, ◌*◌, ◌+◌};
-ghost use Rattle.break_table.specs.Problems.{rank, start, state_after};
+ghost use Rattle.break_table.specs.Problems.{rank, start, end_after};
 ghost use Rattle.break_table.specs.Tables.{slot, slots, IsFirst};
 
 use std::cmp::Ordering;
 
-/// How loosely or tightly a line is set (TeX: The Program, part 38, §817).
+/// The fitness class of a line: how loosely or tightly it is set (TeX: The Program, part 38, §817).
 #[derive(Clone, Copy, Debug, PartialEq, Eq)]
-pub enum Class {
+pub enum Fitness {
     VeryLoose,
     Loose,
     Decent,
     Tight,
 }
 
-impl Class {
+impl Fitness {
     /// The class as a number, from 0 for a very loose line to 3 for a tight one.
     pub fn rank(self) -> usize
         ensures rank { result ≡ rank self }
-        ensures few { result < 4 }
+        ensures rank_bounded { result < 4 }
     {
         match self {
-            Class::VeryLoose => 0,
-            Class::Loose => 1,
-            Class::Decent => 2,
-            Class::Tight => 3,
+            Fitness::VeryLoose => 0,
+            Fitness::Loose => 1,
+            Fitness::Decent => 2,
+            Fitness::Tight => 3,
         }
     }
 }
 
-/// The end of a line: a legal place, how many lines there are up to it, cut at a number, and the class of the line.
+/// The end of a line: a legal place, the number of lines up to it, which counts no further than a limit, and the class of the line.
 #[derive(Clone, Copy, Debug, PartialEq, Eq)]
-pub struct State {
+pub struct BreakState {
     pub place: u32,
     pub lines: u16,
-    pub class: Class,
+    pub class: Fitness,
 }
 
-/// What a line costs: how far it hangs over, its demerits, and its class.
+/// The cost of a line: its class, its overhang in scaled points, and its demerits.
 #[derive(Clone, Copy, Debug, PartialEq, Eq)]
-pub struct Line {
-    pub class: Class,
+pub struct LineCost {
+    pub class: Fitness,
     pub overhang: i64,
     pub demerits: i64,
 }
 
-impl State {
-    /// The start of a paragraph: no line yet, and the class is decent.
-    pub fn start() -> State
+impl BreakState {
+    /// The start of a paragraph: there is no line yet, and the class is decent.
+    pub fn start() -> BreakState
         ensures { result ≡ start }
     {
-        State {
+        BreakState {
             place: 0,
             lines: 0,
-            class: Class::Decent,
+            class: Fitness::Decent,
         }
     }
 
-    /// The end of a line that goes on from here to a place.
-    pub fn after(self, place: u32, line: Line, cut: usize) -> State
-        requires few { cut < 1000 }
+    /// The end of a line from here to a place; `cut` is the number of lines that are counted.
+    pub fn after(self, place: u32, line: LineCost, cut: usize) -> BreakState
+        requires cut_bounded { cut < 1000 }
         requires counted { self.lines ≤ cut }
-        ensures { result ≡ state_after cut self place line }
+        ensures { result ≡ end_after cut self place line }
     {
         let lines = if usize::from(self.lines) < cut {
             self.lines + 1
         } else {
-            self.lines
+            // If no lines are counted, `cut` is the constant 0, and so is this value.
+            cut as u16
         };
-        State {
+        BreakState {
             place,
             lines,
             class: line.class,
         }
     }
 
-    /// Where the state stands in the row of its place.
+    /// The slot of the state in the row of its place.
     pub fn slot(self, cut: usize) -> usize
-        requires few { cut < 1000 }
+        requires cut_bounded { cut < 1000 }
         requires counted { self.lines ≤ cut }
         ensures slot { result ≡ slot self }
         ensures within { result < slots cut }
@@ -87,8 +88,8 @@ impl State {
     }
 }
 
-/// Which of two ends of lines comes first where all else is the same: the later place, then the one with fewer lines, then the lower class.
-pub fn order(a: State, b: State) -> Ordering
+/// The order of two ends of lines if all else is equal: first the later place, then the one with fewer lines, then the lower class.
+pub fn order(a: BreakState, b: BreakState) -> Ordering
     ensures less { result ≡ Ordering.Less → IsFirst a b }
     ensures greater { result ≡ Ordering.Greater → IsFirst b a }
     ensures equal { result ≡ Ordering.Equal → a ≡ b }

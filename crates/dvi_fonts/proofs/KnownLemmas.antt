@@ -1,4 +1,4 @@
--- Definitions by their numbers: what a table of the first ones says of all.
+-- Definitions by number: facts about all of them from the table of the first ones.
 use Rattle.std.proofs.Common.{◌≡◌, ◌≢◌, ◌++◌, [], ◌∷◌, List, ℤ, Bool, true, false, Option, Some, None, if◌then◌else◌, refl, sym, ◌∙◌, ap, subst}
 use Rattle.std.specs.BTreeMap.{BTreeMap, get}
 use Rattle.std.specs.List.{AllByRecursion}
@@ -10,9 +10,9 @@ use Rattle.dvi_ops.specs.Instruction.{Definition}
 use Rattle.dvi_ops.specs.View.{definition}
 use Rattle.dvi_ops.specs.declared.op.FontDefinition.{FontDefinition}
 use Rattle.dvi_ops.proofs.Appends.{all_append, all_both, all_weaker}
-use Rattle.dvi_fonts.specs.Known.{AddsFirst, AreKept}
+use Rattle.dvi_fonts.specs.Known.{AddsFirst, HasFirstDefinitions}
 
--- What holds of all definitions holds of the first one of a number, and that is its number.
+-- A property of all definitions is one of the first one of a number, which has that number.
 by_test : (P : Definition → Type 0) (b : Bool) (x d : Definition) (rest : Option Definition) → (b ≡ true → P x) → (rest ≡ Some d → P d) → (if b then Some x else rest) ≡ Some d → P d
 by_test P true x d rest here later e = let same : x ≡ d = cc in subst P same (here refl)
 by_test P false x d rest here later e = later e
@@ -25,7 +25,7 @@ pub defined_number : (f : ℤ) (ds : List Definition) (d : Definition) → defin
 defined_number f [] d e = absurd cc
 defined_number f (x ∷ ds) d e = by_test (λ (d : Definition). f ≡ d.number) (int_eq f x.number) x d (defined f ds) (λ yes. (Decides-int_eq f x.number).0 yes) (λ later. defined_number f ds d later) e
 
--- A number that is not defined agrees with all.
+-- A number without a definition agrees with all.
 not_first : (b : Bool) (x : Definition) (rest : Option Definition) → (if b then Some x else rest) ≡ None → (b ≡ false) × (rest ≡ None)
 not_first true x rest e = absurd cc
 not_first false x rest e = (refl, e)
@@ -37,7 +37,7 @@ none_agree : (d : Definition) (ds : List Definition) → defined d.number ds ≡
 none_agree d [] e = tt
 none_agree d (x ∷ ds) e = let both = not_first (int_eq d.number x.number) x (defined d.number ds) e in (other_number d x both.0, none_agree d ds both.1)
 
--- Two lists, one behind the other.
+-- Two lists, one after the other.
 or_test : (b : Bool) (x : Definition) (rest more : Option Definition) → (if b then Some x else option_or rest more) ≡ option_or (if b then Some x else rest) more
 or_test true x rest more = refl
 or_test false x rest more = refl
@@ -47,8 +47,8 @@ defined-append f [] ys = refl
 defined-append f (x ∷ xs) ys =
     ap (λ (rest : Option Definition). if int_eq f x.number then Some x else rest) (defined-append f xs ys) ∙ or_test (int_eq f x.number) x (defined f xs) (defined f ys)
 
-module _ (first : BTreeMap ℤ FontDefinition) (all : List Definition) (kept : AreKept first all) (d : Definition) where
-  -- No definition of a number is known.
+module _ (first : BTreeMap ℤ FontDefinition) (all : List Definition) (kept : HasFirstDefinitions first all) (d : Definition) where
+  -- No definition of the number is known.
   pub agrees_none : get int_cmp first d.number ≡ None → AllByRecursion (AgreesWith d) all
   agrees_none none = none_agree d all (sym (kept.firsts d.number) ∙ ap (λ (o : Option FontDefinition). option_map definition o) none)
 
@@ -64,9 +64,9 @@ module _ (first : BTreeMap ℤ FontDefinition) (all : List Definition) (kept : A
     pub agrees_other : d ≢ definition e → AllByRecursion (AgreesWith d) all → ⊥
     agrees_other other agree = other (defined_all (AgreesWith d) d.number all (definition e) agree there (defined_number d.number all (definition e) there))
 
--- One more that agrees with all.
-pub kept_more : (old new : BTreeMap ℤ FontDefinition) (all : List Definition) (font : FontDefinition) → AreKept old all → AllByRecursion (AgreesWith (definition font)) all → AddsFirst old new font
-    → AreKept new (all ++ definition font ∷ [])
+-- One more definition that agrees with all.
+pub kept_more : (old new : BTreeMap ℤ FontDefinition) (all : List Definition) (font : FontDefinition) → HasFirstDefinitions old all → AllByRecursion (AgreesWith (definition font)) all → AddsFirst old new font
+    → HasFirstDefinitions new (all ++ definition font ∷ [])
 kept_more old new all font kept agrees adds =
     let more : List Definition = definition font ∷ [] in
     record {

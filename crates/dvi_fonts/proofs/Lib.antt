@@ -1,3 +1,5 @@
 pub mod FontLemmas
 pub mod KnownLemmas
 pub mod RefusalLemmas
+pub mod ClosingLemmas
+pub mod AheadLemmas

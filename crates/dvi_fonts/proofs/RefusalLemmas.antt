@@ -1,4 +1,4 @@
--- A refused font has no widths; what holds a metric file breaks no rule; an error that `?` hands on.
+-- A refused font has no widths; a good metric file breaks no rule; an error that `?` passes on.
 use Rattle.std.proofs.Common.{◌≡◌, ◌≢◌, List, ℕ, ℤ, Option, None, Some, Result, Ok, Err, false, refl, sym, ◌∙◌, subst}
 use Rattle.std.specs.Result.{IfErr, IsErrAnd}
 use Rattle.dvi_ops.specs.Instruction.{Definition}
@@ -28,7 +28,7 @@ front_holds bytes file is = by_front (broken_in_front bytes) refl
     by_front None e = e
     by_front (Some cause) e = let both : Err cause ≡ Ok file = sym (metric_file-front bytes cause e) ∙ is in absurd cc
 
--- Where a font has widths, the first file of its name breaks no rule that needs no table.
+-- Where a font has widths, the first file with its name breaks no rule that needs no table.
 pub widths_room : (files : List NamedBytes) (d : Definition) (w : ℤ → Option ℤ) → file_widths files d.name d.size ≡ Some w → IsFontRefusal files d OutOfMemory
 widths_room files d w e = by_file (file_named d.name files) refl e
   where
@@ -40,7 +40,7 @@ widths_room files d w e = by_file (file_named d.name files) refl e
     by_file None is e = absurd cc
     by_file (Some file) is e = (file, is, by_read file (metric_file file.bytes) refl e)
 
--- What holds of an error holds of what is returned for it.
+-- A property of an error holds of what is returned for it.
 pub handed_on : {A E : Type 0} (P : E → Type 0) (r : Result A E) (e : E) → IsErrAnd r (λ y. y ≡ e) → P e → IfErr r P
 handed_on P (Ok x) e given p = tt
 handed_on P (Err y) e given p = subst P (sym given) p

@@ -1,2 +1,4 @@
 pub mod Known
 pub mod Widths
+pub mod Closing
+pub mod Ahead

@@ -17,25 +17,26 @@ use Rattle.dvi_fonts.specs.declared.widths.FontRefusal.TheVariants.{OutOfMemory,
 abbrev pub HasBytes : SizedFont → Type 0
 HasBytes font = (code : ℕ) (size : GlyphSize) → glyph_of font code ≡ Some size → code < 256
 
--- What is said of a font where its metric file was not read (own).
+-- The refusal of a font whose metric file was not read (own).
 abbrev pub of_file : TfmFault → FontRefusal
 of_file files.OutOfMemory = OutOfMemory
 of_file (files.Bad cause) = BadTfm cause
 
--- The same where it was read, but not at that size (own).
+-- The refusal of a font whose metric file was read, but not at that size (own).
 abbrev pub of_size : FontFault → FontRefusal
 of_size sizes.OutOfMemory = OutOfMemory
 of_size sizes.DimensionTooLarge = DimensionTooLarge
 
--- Some bytes hold no metric file, or one of its dimensions at a size does not fit; or memory is wanting for its tables: the rules that need no table are looked at before any growth.
+-- Why the bytes give no font at a size: they are no metric file; or one of its dimensions at the size does not fit; or memory was refused for its
+-- tables. The rules that need no table are tested before any growth.
 abbrev pub IsSizedRefusal : List ℕ → (size : ℤ) → FontRefusal → Type 0
 IsSizedRefusal bytes size OutOfMemory = broken_in_front bytes ≡ None
 IsSizedRefusal bytes size NoFont = ⊥
 IsSizedRefusal bytes size (BadTfm cause) = metric_file bytes ≡ Err cause
 IsSizedRefusal bytes size DimensionTooLarge = (metrics : MetricFile) × (metric_file bytes ≡ Ok metrics) × (fits_at metrics size ≡ false)
 
--- What a refusal says: no file of the font's name was handed in; or the first one of it holds no metric file, or one of its dimensions at the font's size does not fit,
--- or memory is wanting for it: where no file has the name, or that file breaks a rule that needs no table, this is said before any growth.
+-- The reason of a refusal: no file with the font's name was given; or the first one is no metric file; or one of its dimensions at the font's size
+-- does not fit; or memory was refused for it. A missing file and a broken rule that needs no table are found before any growth.
 abbrev pub IsFontRefusal : List NamedBytes → Definition → FontRefusal → Type 0
 IsFontRefusal files d NoFont = file_named d.name files ≡ None
 IsFontRefusal files d refusal = (file : NamedBytes) × (file_named d.name files ≡ Some file) × IsSizedRefusal file.bytes d.size refusal

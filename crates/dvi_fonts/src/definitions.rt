@@ -13,9 +13,9 @@ use std::alloc::{AllocError, Global};
 use std::collections::BTreeMap;
 use std::marker::Model;
 
-/// The number of a font.
+/// The number of a font in a file.
 #[derive(Clone, Copy, Debug, PartialEq, Eq)]
-pub struct Number {
+pub struct FontNumber {
     pub value: i32,
 }
 
@@ -35,7 +35,7 @@ fn is_same(one: &FontDefinition<'_>, other: &FontDefinition<'_>) -> bool
 /// The first definition of each number.
 type Firsts<'a> = BTreeMap<i32, FontDefinition<'a>>;
 
-/// Takes a definition where it is the first one of its number. It takes memory for it then.
+/// Adds a definition where it is the first one of its number, and takes memory for it only then.
 fn add_first<'a>(first: &mut Firsts<'a>, font: &FontDefinition<'a>) -> Result<(), AllocError>
     ensures ok { OnOk result (AddsFirst first.old first.new font.now) }
     ensures err { OnErr result (IsUnchanged first.old first.new) }
@@ -49,7 +49,7 @@ fn add_first<'a>(first: &mut Firsts<'a>, font: &FontDefinition<'a>) -> Result<()
     }
 }
 
-/// The definitions of a file so far, in order: each agrees with those before it. The first one of a number is found in a search tree.
+/// The definitions of a file so far, in order. Each agrees with those before it. The first one of a number is found in a search tree.
 #[derive(Drop)]
 pub struct KnownFonts<'a> {
     all: Vec<FontDefinition<'a>>,
@@ -63,15 +63,15 @@ impl<'a> Model for KnownFonts<'a> {
 
     ghost Value = { List Definition };
 
-    ghost use Rattle.dvi_fonts.specs.Known.{AreKept};
+    ghost use Rattle.dvi_fonts.specs.Known.{HasFirstDefinitions};
 
     ghost view = { λ known. map definition known.all.items };
 
-    ghost invariant = { λ known. AreKept known.first (map definition known.all.items) };
+    ghost invariant = { λ known. HasFirstDefinitions known.first (map definition known.all.items) };
 }
 
 impl<'a> KnownFonts<'a> {
-    /// None yet.
+    /// No definitions.
     pub fn new(alloc: Global) -> KnownFonts<'a>
         ensures { result ≡ [] }
     {
@@ -81,7 +81,8 @@ impl<'a> KnownFonts<'a> {
         }
     }
 
-    /// Whether a definition is the same as each one of its number (DVItype, 18). It takes no memory, and time by the logarithm of how many are known.
+    /// Whether a definition is the same as each one of its number (DVItype, 18). It takes no memory, and time logarithmic in the number of
+    /// definitions.
     pub fn agrees(&self, font: &FontDefinition<'_>) -> bool
         ensures yes { result ≡ true → AllByRecursion (AgreesWith (definition font.now)) self.now }
         ensures no { result ≡ false → AllByRecursion (AgreesWith (definition font.now)) self.now → ⊥ }
@@ -92,14 +93,14 @@ impl<'a> KnownFonts<'a> {
         }
     }
 
-    /// The first definition of a number (DVItype, 18). It takes no memory, and time by the logarithm of how many are known.
-    pub fn get(&self, number: Number) -> Option<&FontDefinition<'a>>
+    /// The first definition of a number (DVItype, 18). It takes no memory, and time logarithmic in the number of definitions.
+    pub fn get(&self, number: FontNumber) -> Option<&FontDefinition<'a>>
         ensures { option_map definition (option_copied result) ≡ defined number.value self.now }
     {
         self.first.get(&number.value)
     }
 
-    /// Puts a definition behind the others. It takes memory for it.
+    /// Adds a definition after the others. It takes memory for it; where this is refused, the definitions are unchanged.
     pub fn push(&mut self, font: &FontDefinition<'a>) -> Result<(), AllocError>
         requires { AllByRecursion (AgreesWith (definition font.now)) self.old }
         ensures ok { OnOk result (self.new ≡ self.old ++ definition font.now ∷ []) }
@@ -117,7 +118,7 @@ impl<'a> KnownFonts<'a> {
         }
     }
 
-    /// All of them, in order.
+    /// All definitions, in order.
     pub fn into_all(self) -> Vec<FontDefinition<'a>>
         ensures { map definition result.items ≡ self.entry }
     {

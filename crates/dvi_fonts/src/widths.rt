@@ -1,7 +1,7 @@
 //! The widths of a font's characters, from the metric file of its name (DVItype, 18; TFtoPL, 11).
 
 ghost use Rattle.std.specs.Prelude.{◌≡◌, Ok, Some, IfOk, IfErr};
-ghost use Rattle.dvi_ops.specs.Fonts.{IsSize};
+ghost use Rattle.dvi_ops.specs.Fonts.{IsFontSize};
 ghost use Rattle.dvi_ops.specs.View.{definition};
 ghost use Rattle.dvi_fonts.specs.Widths.{HasBytes, IsFontRefusal, IsSizedRefusal, of_file, of_size};
 ghost use Rattle.tfm_core.specs.FileWidths.{file_widths, width_at, widths_by};
@@ -15,16 +15,16 @@ use thiserror::Error;
 /// Why a font has no widths.
 #[derive(Clone, Copy, Debug, PartialEq, Eq, Error)]
 pub enum FontRefusal {
-    /// A growth was refused.
+    /// A growth of memory was refused.
     #[error("out of memory")]
     OutOfMemory,
-    /// No file of its name was handed in.
+    /// No file with the font's name was given.
     #[error("there is no file of this font")]
     NoFont,
-    /// Its metric file breaks that rule.
+    /// The metric file breaks this rule.
     #[error("{0}")]
     BadTfm(TfmCause),
-    /// One of its dimensions at that size does not fit.
+    /// A dimension of the font at its size does not fit.
     #[error("a dimension of the font is too large")]
     DimensionTooLarge,
 }
@@ -53,16 +53,16 @@ impl From<FontFault> for FontRefusal {
 
 /// The size of a definition.
 fn size_of(font: &FontDefinition<'_>) -> Option<FontSize>
-    requires { IsSize font.now.size }
+    requires { IsFontSize font.now.size }
     ensures { result ≡ Some font.now.size }
 {
     FontSize::try_new(i64::from(font.size))
 }
 
-/// The font that some bytes hold, at the size of a definition.
+/// The font in the bytes of a metric file, at the size of a definition.
 #[tactic(auto, using(crate::proofs::RefusalLemmas::front_holds))]
 fn sized_font(alloc: Global, bytes: &[u8], font: &FontDefinition<'_>) -> Result<Font, FontRefusal>
-    requires { IsSize font.now.size }
+    requires { IsFontSize font.now.size }
     ensures ok { IfOk result (λ read. widths_by (metric_file bytes.now) font.now.size ≡ Some (width_at read)) }
     ensures bytes { IfOk result HasBytes }
     ensures bad { IfErr result (IsSizedRefusal bytes.now font.now.size) }
@@ -72,18 +72,19 @@ fn sized_font(alloc: Global, bytes: &[u8], font: &FontDefinition<'_>) -> Result<
     Ok(read)
 }
 
-/// The font that a definition means: the first file of its name, at its size. The area is not looked at (own). It takes memory for the font.
+/// Reads the font of a definition: the first file with its name, at its size. The area is ignored (own). It takes memory for the font. The fault is
+/// NoFont, BadTfm, DimensionTooLarge or OutOfMemory.
 pub fn read_font(
     alloc: Global,
     files: &[FontFile],
     font: &FontDefinition<'_>,
 ) -> Result<Font, FontRefusal>
-    requires { IsSize font.now.size }
+    requires { IsFontSize font.now.size }
     // The characters of the font have the widths that the files give.
     ensures ok { IfOk result (λ read. file_widths files.now font.now.name.now font.now.size ≡ Some (width_at read)) }
-    // Its characters are bytes.
+    // The codes of its characters are bytes.
     ensures bytes { IfOk result HasBytes }
-    // What a refusal says of the files is so.
+    // The reason that a refusal gives holds for the files.
     ensures bad { IfErr result (IsFontRefusal files.now (definition font.now)) }
 {
     let file = file_named(files, font.name).ok_or(FontRefusal::NoFont)?;

@@ -1,4 +1,4 @@
--- Which fonts a file of pages defines: each is a font of the job, and each that a page selects is among them.
+-- The fonts that a file of pages defines: each is a font of the job, and each font that a page selects is among them.
 use Rattle.std.proofs.Common.{◌≡◌, ℕ, zero, suc, ◌+◌, ◌<◌, ◌≤◌, List, [], ◌∷◌, ◌++◌, length, refl, ap, ap₂, sym, ◌∙◌, subst, arith, inl, inr, length-append}
 use Rattle.std.specs.Prelude.{ℤ, pos, ◌==◌, ◌⊎◌, Bool, true, false, not, ◌&&◌, ◌||◌, if◌then◌else◌, filter, Option, Some, None, is_some, IsSome}
 use Rattle.std.specs.Ordering.{int_eq}
@@ -103,7 +103,7 @@ filter_short p (suc n) =
     by_test true = omega arith
     by_test false = omega arith
 
--- What passes one of two tests that nothing passes both.
+-- The numbers that pass one of two tests, where none passes both.
 filter_either : (p q : ℕ → Bool) → ((s : ℕ) → p s ≡ true → q s ≡ true → ⊥) → (xs : List ℕ) → length (filter (λ s. p s || q s) xs) ≡ length (filter p xs) + length (filter q xs)
 filter_either p q never [] = refl
 filter_either p q never (x ∷ xs) = by_tests (p x) (q x) refl refl (filter_either p q never xs)
@@ -116,7 +116,7 @@ filter_either p q never (x ∷ xs) = by_tests (p x) (q x) refl refl (filter_eith
     by_tests false true first second later = omega (arith, later)
     by_tests false false first second later = later
 
--- A font that is fresh is there, is not defined yet, and is selected.
+-- A fresh font is loaded, is not defined yet, and is selected.
 pub fresh_parts : (fonts : Slots) (slots : List ℕ) (is : List Instruction) (s : ℕ) → is_fresh fonts slots is s ≡ true
     → (is_some (font_in fonts s) ≡ true) × ((not (is_among s slots) ≡ true) × (list_any (selects s) is ≡ true))
 unfolding is_fresh
@@ -156,7 +156,7 @@ count_either : (fonts : Slots) (slots : List ℕ) (is : List Instruction) → le
 unfolding in_rising_order fresh_slots either
 count_either fonts slots is = filter_either (λ s. is_among s slots) (is_fresh fonts slots is) (never_both fonts slots is) (numbers_below 256)
 
--- Each slot is defined once, so that 256 fonts are defined at most.
+-- Each slot is defined once, so at most 256 fonts are defined.
 pub defined_once : (fonts : Slots) (slots : List ℕ) (is : List Instruction) → length (in_rising_order slots) ≡ length slots
     → length (in_rising_order (slots ++ fresh_slots fonts slots is)) ≡ length (slots ++ fresh_slots fonts slots is)
 defined_once fonts slots is once =
@@ -215,7 +215,7 @@ each_of P fonts (t ∷ slots) each =
     here None is = tt
     here (Some l) is = (each t l (or_left (t == t) (is_among t slots) (eq-eqb t t refl)) is, tt)
 
--- What is known behind definitions.
+-- The known definitions after more definitions.
 kept_known : (f : ℤ) (known ds : List Definition) → IsSome (defined f known) → IsSome (defined f (known_after known (define ds)))
 kept_known f known [] some = some
 kept_known f known (d ∷ ds) some = kept_known f (d ∷ known) ds (by_test (int_eq f d.number))
@@ -246,7 +246,7 @@ pub record IsListed (fonts : Slots) (slots : List ℕ) (d : Definition) : Type 0
   pub small : slot < 256
   pub has : font_in fonts slot ≡ Some loaded
 
--- The definitions that are known are those of the fonts in these slots.
+-- The known definitions are those of the fonts in these slots.
 pub record AreKnown (fonts : Slots) (slots : List ℕ) (known : List Definition) : Type 0 where
   pub forth : (s : ℕ) → is_among s slots ≡ true → IsSome (defined (pos s) known)
   pub back : AllByRecursion (IsListed fonts slots) known
@@ -299,7 +299,7 @@ module _ (fonts : Slots) (slots : List ℕ) (is : List Instruction) where
         }));
   }
 
-  -- A font that is selected is known then.
+  -- A selected font is known afterwards.
   pub selected_known : (known : List Definition) → AreKnown fonts slots known → (s : ℕ) (l : LoadedFont) → list_any (selects s) is ≡ true → s < 256 → font_in fonts s ≡ Some l
       → IsSome (defined (pos s) (known_after known (define (definitions_of fonts (fresh_slots fonts slots is)))))
   unfolding fresh is_fresh
@@ -311,12 +311,12 @@ module _ (fonts : Slots) (slots : List ℕ) (is : List Instruction) where
           known_new (pos s) known (definitions_of fonts (fresh_slots fonts slots is))
           (fresh_defined s (fresh_among fonts slots is s (rw (has, old, selected) refl) small))
 
--- The slots that are defined, rising.
+-- The defined slots in rising order.
 pub rising_among : (slots : List ℕ) (s : ℕ) → is_among s slots ≡ true → s < 256 → is_among s (in_rising_order slots) ≡ true
 unfolding in_rising_order
 rising_among slots s among small = filter_among (λ t. is_among t slots) s 256 among small
 
--- A definition that is known by a number.
+-- A definition that is known by its number.
 pub listed_at : (fonts : Slots) (slots : List ℕ) (known : List Definition) (f : ℤ) → AllByRecursion (IsListed fonts slots) known → IsSome (defined f known)
     → (d : Definition) × (f ≡ d.number) × IsListed fonts slots d
 listed_at fonts slots [] f all some = cc
@@ -340,14 +340,14 @@ each_selected P Q (Do (FontNum f) ∷ is) chosen all each (here, has) =
     )
 each_selected P Q (i ∷ is) chosen all each has = each_selected P Q is chosen (λ s e. all s (or_right (selects s i) (list_any (selects s) is) e)) each has
 
--- What holds of each selected font holds of one that is selected.
+-- A property of each selected font is one of a font that is selected.
 pub holds_selected : (P : ℤ → Type 0) (is : List Instruction) → AllByRecursion P (selections is) → (s : ℕ) → list_any (selects s) is ≡ true → P (pos s)
 holds_selected P [] has s e = cc
 holds_selected P (Do (FontNum f) ∷ is) (here, has) s e =
     or_cases (int_eq f (pos s)) (list_any (selects s) is) e (λ same. subst P ((Decides-int_eq f (pos s)).0 same) here) (λ later. holds_selected P is has s later)
 holds_selected P (i ∷ is) has s e = holds_selected P is has s e
 
--- Selected fonts are there.
+-- The selected fonts are loaded.
 abbrev pub HasSelected : Slots → List Instruction → Type 0
 HasSelected fonts is = (s : ℕ) → list_any (selects s) is ≡ true → is_some (font_in fonts s) ≡ true
 
@@ -363,7 +363,7 @@ same_fresh fonts more slots is extends has s = by_test (list_any (selects s) is)
     by_test true e = ap (λ a. a && (not (is_among s slots) && true)) (has s e ∙ sym (more_there fonts more extends s (has s e)))
     by_test false e = both_false (is_some (font_in fonts s)) (not (is_among s slots)) (is_some (font_in more s))
 
--- They leave the fresh fonts of a page as they are, and the definitions.
+-- More fonts change neither the fresh fonts of a page nor their definitions.
 pub fresh_same : (fonts more : Slots) (slots : List ℕ) (is : List Instruction) → Extends fonts more → HasSelected fonts is → fresh_slots fonts slots is ≡ fresh_slots more slots is
 unfolding fresh_slots
 fresh_same fonts more slots is extends has = filter_same (is_fresh fonts slots is) (is_fresh more slots is) 256 (λ s small. same_fresh fonts more slots is extends has s)

@@ -26,7 +26,7 @@ module _ {A : Type 0} (P : A → Type 0) where
   each_copy zero x here = tt
   each_copy (suc n) x here = (here, each_copy n x here)
 
--- What a slot or a register holds has the property, and its number is less than how many there are.
+-- The content of a slot or a register has the property, and its number is below the number of slots.
 pub each_held : {A : Type 0} (P : Option A → Type 0) (xs : List (Option A)) (i : ℕ) (x : A) → AllByRecursion P xs → unwrap_or (slice_get xs i) None ≡ Some x → P (Some x)
 each_held P [] i x all is = cc
 each_held P (held ∷ xs) zero x all is = subst P is all.0

@@ -1,4 +1,4 @@
--- What the writer writes for pages is a DVI file of them.
+-- The bytes that the writer writes for pages are a DVI file of them.
 use Rattle.std.proofs.Common.{◌≡◌, ℕ, ◌<◌, ◌≤◌, ◌^◌, List, [], ◌∷◌, length, map, refl, ap, sym, ◌∙◌, subst, arith}
 use Rattle.std.specs.Prelude.{ℤ, pos, negsuc, ◌+ℤ◌, ◌<ℤ◌, true, Option, Some, None, is_some, IsSome}
 use Rattle.std.specs.List.{AllByRecursion, list_any}
@@ -10,12 +10,12 @@ use Rattle.tfm_core.specs.FileWidths.{width_at}
 use Rattle.node_core.specs.Items.{Leaf, Items, glyph, font_kern, kern, glue, penalty, rule, special, EachLeaf}
 use Rattle.dvi_ops.specs.Forest.{flat}
 use Rattle.dvi_ops.specs.Instruction.{Definition}
-use Rattle.dvi_ops.specs.Fonts.{Metrics, selections, defined, known_after, font_in as font_by, width_in}
+use Rattle.dvi_ops.specs.Fonts.{WidthsByName, selections, defined, known_after, widths_in as font_by, width_in}
 use Rattle.dvi_ops.specs.File.{IsFile}
 use Rattle.dvi_ops.specs.Spelling.{NumberFits}
-use Rattle.dvi_ops.specs.Layout.{Table, Written, at_first, after, after_all, define, padding_after, table_widths, IsTabled, IsGood, AreGood, IsClosing}
+use Rattle.dvi_ops.specs.Layout.{Table, WriterKnowledge, after_preamble, after, after_all, define, padding_after, table_widths, IsTabled, IsGood, AreGood, IsClosing}
 use Rattle.dvi_ops.proofs.WholeFile.{whole_file, padding_low}
-use Rattle.ship_core.specs.Marks.{Page, marks_of_page}
+use Rattle.ship_core.specs.Marks.{ShippedPage, marks_of_page}
 use Rattle.ship_core.specs.Pages.{reach_down, reach_right}
 use Rattle.ship_core.specs.Shown.{HasWidth}
 use Rattle.ship_core.proofs.DrawnMarks.{number_within}
@@ -24,7 +24,7 @@ use Rattle.dvi_layout.specs.declared.fonts.LoadedFont.{LoadedFont}
 use Rattle.dvi_layout.specs.Fonts.{Slots, font_in, AreDefinable}
 use Rattle.dvi_layout.specs.Sheets.{written_body, definition_of, definitions_of, fresh_slots, in_rising_order, selects, sheet_of}
 use Rattle.dvi_layout.specs.Layout.{slots_after, slots_behind, sheets_of, greatest, closing_of, ended, front, whole}
-use Rattle.dvi_layout.specs.Shippable.{widths_by, slot_widths, IsRightPage, GivesFonts, read_page, IsFileOfPages}
+use Rattle.dvi_layout.specs.Shippable.{slot_font_widths, slot_widths, IsRightPage, GivesFonts, read_page, IsFileOfPages}
 use Rattle.dvi_layout.proofs.DefinedFonts.{AreKnown, HasSelected, none_known, known_next, selected_known, each_selected, each_of, rising_among, listed_at, defined_among, holds_selected}
 use Rattle.dvi_layout.proofs.Leaves.{each_leaf}
 use Rattle.dvi_layout.proofs.NextPages.{size-some}
@@ -36,7 +36,7 @@ abbrev pub table_of : Slots → Table
 table_of fonts (pos slot) = option_map (definition_of slot) (font_in fonts slot)
 table_of fonts (negsuc n) = None
 
--- The definition of a font in a slot is right.
+-- The definition of a font in a slot is that of the table.
 pub tabled : (fonts : Slots) → AreDefinable fonts → (s : ℕ) (l : LoadedFont) → font_in fonts s ≡ Some l → IsTabled (table_of fonts) (definition_of s l)
 tabled fonts definable s l has =
     let of = definable_in fonts s l definable has in
@@ -54,7 +54,7 @@ tabled fonts definable s l has =
     size_fits (pos n) positive below = record { sfits = omega (arith, ints, below) }
     size_fits (negsuc n) positive below = record { sfits = omega (arith, ints, positive) }
 
--- A number that is that of a slot with a font.
+-- A number is that of a slot with a font.
 pub record IsSlot (fonts : Slots) (f : ℤ) : Type 0 where
   pub slot : ℕ
   pub loaded : LoadedFont
@@ -62,7 +62,7 @@ pub record IsSlot (fonts : Slots) (f : ℤ) : Type 0 where
   pub small : slot < 256
   pub has : font_in fonts slot ≡ Some loaded
 
-slot_of : (fonts : Slots) (s : ℕ) (c w : ℤ) (x : Option LoadedFont) → font_in fonts s ≡ x → width_in (widths_by x) c ≡ Some w → s < 256 → IsSlot fonts (pos s)
+slot_of : (fonts : Slots) (s : ℕ) (c w : ℤ) (x : Option LoadedFont) → font_in fonts s ≡ x → width_in (slot_font_widths x) c ≡ Some w → s < 256 → IsSlot fonts (pos s)
 slot_of fonts s c w None is sized small = cc
 slot_of fonts s c w (Some l) is sized small = record { slot = s; loaded = l; is = refl; small = small; has = is }
 
@@ -76,22 +76,22 @@ has_font fonts (special text) sized = tt
 has_font fonts (rule sizes) sized = tt
 
 -- Each font that a page selects is in its slot.
-selected_slots : (fonts : Slots) (page : Page) → EachLeaf (HasWidth (slot_widths fonts)) page.box_node.list → AllByRecursion (IsSlot fonts) (selections (flat (written_body page)))
+selected_slots : (fonts : Slots) (page : ShippedPage) → EachLeaf (HasWidth (slot_widths fonts)) page.box_node.list → AllByRecursion (IsSlot fonts) (selections (flat (written_body page)))
 selected_slots fonts page sized =
     selections_written (IsSlot fonts) page (each_leaf (HasWidth (slot_widths fonts)) (HasFont (IsSlot fonts)) (has_font fonts) page.box_node.list sized)
 
-pub has_selected : (fonts : Slots) (page : Page) → EachLeaf (HasWidth (slot_widths fonts)) page.box_node.list → HasSelected fonts (flat (written_body page))
+pub has_selected : (fonts : Slots) (page : ShippedPage) → EachLeaf (HasWidth (slot_widths fonts)) page.box_node.list → HasSelected fonts (flat (written_body page))
 has_selected fonts page sized s selected =
     let of = holds_selected (IsSlot fonts) (flat (written_body page)) (selected_slots fonts page sized) s selected in
     let same : s ≡ of.slot = cc (of.is) in
     ap is_some (ap (font_in fonts) same ∙ of.has)
 
-module _ (metrics : Metrics) (fonts : Slots) (gives : GivesFonts metrics fonts) where
+module _ (metrics : WidthsByName) (fonts : Slots) (gives : GivesFonts metrics fonts) where
   -- The metrics give the widths of a font.
   font_measured : (s : ℕ) (l : LoadedFont) → font_in fonts s ≡ Some l → font_by metrics (table_of fonts (pos s)) ≡ Some (width_at l.font)
   font_measured s l has = ap (λ x. font_by metrics (option_map (definition_of s) x)) has ∙ gives s l has
 
-  glyph_width : (s : ℕ) (c w : ℤ) (x : Option LoadedFont) → font_in fonts s ≡ x → width_in (widths_by x) c ≡ Some w → table_widths metrics (table_of fonts) (pos s) c ≡ Some w
+  glyph_width : (s : ℕ) (c w : ℤ) (x : Option LoadedFont) → font_in fonts s ≡ x → width_in (slot_font_widths x) c ≡ Some w → table_widths metrics (table_of fonts) (pos s) c ≡ Some w
   glyph_width s c w None is sized = cc
   glyph_width s c w (Some l) is sized = ap (λ widths. width_in widths c) (font_measured s l is) ∙ sized
 
@@ -108,8 +108,8 @@ module _ (metrics : Metrics) (fonts : Slots) (gives : GivesFonts metrics fonts) 
   have_widths items sized = each_leaf (HasWidth (slot_widths fonts)) (HasWidth (table_widths metrics (table_of fonts))) has_width items sized
 
   module _ (definable : AreDefinable fonts) where
-    -- A page can be written behind what is known, and shows its marks.
-    page_good : (slots : List ℕ) (known : List Definition) (page : Page) → AreKnown fonts slots known → IsRightPage fonts page
+    -- A page can be written after the known definitions, and shows its marks.
+    page_good : (slots : List ℕ) (known : List Definition) (page : ShippedPage) → AreKnown fonts slots known → IsRightPage fonts page
         → IsGood metrics (table_of fonts) known (sheet_of fonts slots page) (marks_of_page page)
     page_good slots known page knows right =
         let widths = have_widths page.box_node.list right.sound.glyphs in
@@ -140,7 +140,7 @@ module _ (metrics : Metrics) (fonts : Slots) (gives : GivesFonts metrics fonts) 
           shows = shown.1;
         }
 
-    pages_good : (slots : List ℕ) (s : Written) (pages : List Page) → AreKnown fonts slots s.known → AllByRecursion (IsRightPage fonts) pages
+    pages_good : (slots : List ℕ) (s : WriterKnowledge) (pages : List ShippedPage) → AreKnown fonts slots s.known → AllByRecursion (IsRightPage fonts) pages
         → AreGood metrics (table_of fonts) s (sheets_of fonts slots pages) (map read_page pages)
     pages_good slots s [] knows all = tt
     pages_good slots s (page ∷ pages) knows (here, all) = (
@@ -149,14 +149,14 @@ module _ (metrics : Metrics) (fonts : Slots) (gives : GivesFonts metrics fonts) 
       pages_good (slots_after fonts slots page) (after s (sheet_of fonts slots page)) pages (known_next fonts slots (flat (written_body page)) s.known knows) all,
     )
 
--- What is known behind pages.
-known_behind : (fonts : Slots) (slots : List ℕ) (s : Written) (pages : List Page) → AreKnown fonts slots s.known
+-- The known definitions after pages.
+known_behind : (fonts : Slots) (slots : List ℕ) (s : WriterKnowledge) (pages : List ShippedPage) → AreKnown fonts slots s.known
     → AreKnown fonts (slots_behind fonts slots pages) (after_all s (sheets_of fonts slots pages)).known
 known_behind fonts slots s [] knows = knows
 known_behind fonts slots s (page ∷ pages) knows =
     known_behind fonts (slots_after fonts slots page) (after s (sheet_of fonts slots page)) pages (known_next fonts slots (flat (written_body page)) s.known knows)
 
--- The definitions of the postamble are right, and all that are known.
+-- The definitions of the postamble are right, and include all known ones.
 all_closing : (fonts : Slots) (slots : List ℕ) (known : List Definition) → AreDefinable fonts → AreKnown fonts slots known
     → IsClosing (table_of fonts) known (definitions_of fonts (in_rising_order slots))
 all_closing fonts slots known definable knows = record {
@@ -168,7 +168,7 @@ all_closing fonts slots known definable knows = record {
       (defined_among fonts listed.slot listed.loaded (in_rising_order slots) listed.has (rising_among slots listed.slot listed.among listed.small));
 }
 
-greatest_within : (fonts : Slots) (size : Page → ℤ) (pages : List Page) → ((page : Page) → IsRightPage fonts page → Within 1073741823 (size page))
+greatest_within : (fonts : Slots) (size : ShippedPage → ℤ) (pages : List ShippedPage) → ((page : ShippedPage) → IsRightPage fonts page → Within 1073741823 (size page))
     → AllByRecursion (IsRightPage fonts) pages → Within 1073741823 (greatest size pages)
 greatest_within fonts size [] fits all = record { low = omega (arith, ints); high = omega (arith, ints) }
 greatest_within fonts size (page ∷ pages) fits (here, all) =
@@ -176,24 +176,24 @@ greatest_within fonts size (page ∷ pages) fits (here, all) =
     let others = greatest_within fonts size pages fits all in
     record { low = omega (arith, ints, clamps, one.low, others.low); high = omega (arith, ints, clamps, one.high, others.high) }
 
-pub tall_fits : (fonts : Slots) (pages : List Page) → AllByRecursion (IsRightPage fonts) pages → NumberFits (greatest reach_down pages)
+pub tall_fits : (fonts : Slots) (pages : List ShippedPage) → AllByRecursion (IsRightPage fonts) pages → NumberFits (greatest reach_down pages)
 tall_fits fonts pages all =
     number_within _ (greatest_within fonts reach_down pages (λ page right. fits_within (page.v +ℤ page.box_node.depth) (fits_down page right.small)) all)
 
-pub wide_fits : (fonts : Slots) (pages : List Page) → AllByRecursion (IsRightPage fonts) pages → NumberFits (greatest reach_right pages)
+pub wide_fits : (fonts : Slots) (pages : List ShippedPage) → AllByRecursion (IsRightPage fonts) pages → NumberFits (greatest reach_right pages)
 wide_fits fonts pages all =
     number_within _ (greatest_within fonts reach_right pages (λ page right. fits_within (page.h +ℤ page.box_node.width) (fits_right page right.small)) all)
 
 -- The file of some pages is a DVI file of them.
-ended_shows : (metrics : Metrics) (fonts : Slots) (pages : List Page) (padding : ℕ) → GivesFonts metrics fonts → AreDefinable fonts → AllByRecursion (IsRightPage fonts) pages
-    → (after_all at_first (sheets_of fonts [] pages)).size < 2 ^ 31 → 4 ≤ padding → IsFile metrics (ended fonts pages padding) (map read_page pages)
+ended_shows : (metrics : WidthsByName) (fonts : Slots) (pages : List ShippedPage) (padding : ℕ) → GivesFonts metrics fonts → AreDefinable fonts → AllByRecursion (IsRightPage fonts) pages
+    → (after_all after_preamble (sheets_of fonts [] pages)).size < 2 ^ 31 → 4 ≤ padding → IsFile metrics (ended fonts pages padding) (map read_page pages)
 ended_shows metrics fonts pages padding gives definable all small low =
     whole_file metrics (table_of fonts) (sheets_of fonts [] pages) (map read_page pages) (greatest reach_down pages) (greatest reach_right pages) (closing_of fonts pages) padding
-    (pages_good metrics fonts gives definable [] at_first pages (none_known fonts) all)
-    (all_closing fonts (slots_behind fonts [] pages) (after_all at_first (sheets_of fonts [] pages)).known definable (known_behind fonts [] at_first pages (none_known fonts)))
+    (pages_good metrics fonts gives definable [] after_preamble pages (none_known fonts) all)
+    (all_closing fonts (slots_behind fonts [] pages) (after_all after_preamble (sheets_of fonts [] pages)).known definable (known_behind fonts [] after_preamble pages (none_known fonts)))
     (tall_fits fonts pages all) (wide_fits fonts pages all) small low
 
-pub file_shows : (metrics : Metrics) (fonts : Slots) (pages : List Page) → GivesFonts metrics fonts → AreDefinable fonts → AllByRecursion (IsRightPage fonts) pages
+pub file_shows : (metrics : WidthsByName) (fonts : Slots) (pages : List ShippedPage) → GivesFonts metrics fonts → AreDefinable fonts → AllByRecursion (IsRightPage fonts) pages
     → length (front fonts pages) < 2 ^ 31 → IsFileOfPages metrics (whole fonts pages) pages
 unfolding whole
 file_shows metrics fonts [] gives definable all small = refl

@@ -1,4 +1,4 @@
--- The fonts that a page defines, gone over slot by slot.
+-- The fonts that a page defines, slot by slot.
 use Rattle.std.proofs.Common.{◌≡◌, ◌≢◌, ℕ, zero, suc, ◌+◌, ◌<◌, List, [], ◌∷◌, ◌++◌, length, set, refl, ap, ap₂, sym, ◌∙◌, add-one, append-nil, get_or, arith}
 use Rattle.std.specs.Prelude.{ℤ, pos, Option, Some, None, Bool, true, false, not, is_some, filter, if◌then◌else◌, ◌&&◌, ◌||◌}
 use Rattle.std.specs.List.{list_any}
@@ -14,7 +14,7 @@ use Rattle.dvi_layout.specs.Fonts.{Slots, font_in}
 use Rattle.dvi_ops.specs.Instruction.{FontNum, Instruction, Do}
 use Rattle.dvi_layout.specs.Sheets.{numbers_below, selects, font_of, is_among, is_fresh, is_marked_fresh, fresh_slots, in_rising_order}
 
--- One number more passes a test, or does not.
+-- One more number passes a test, or does not.
 pub filtered_more : (p : ℕ → Bool) (n : ℕ) → p n ≡ true → filter p (numbers_below (n + 1)) ≡ filter p (numbers_below n) ++ n ∷ []
 filtered_more p n passes = rw add-one (filter-append p (numbers_below n) (n ∷ []) ∙ ap (λ b. filter p (numbers_below n) ++ (if b then n ∷ [] else [])) passes)
 
@@ -31,7 +31,7 @@ selects-by slot (Do (FontNum font)) = refl
 selects-by slot (Do leaf) = refl
 selects-by slot i = refl
 
--- An instruction more selects a font, or does not.
+-- One more instruction selects a font, or does not.
 selected_more : (is : List Instruction) (i : Instruction) (slot : ℕ) → list_any (selects slot) (is ++ i ∷ []) ≡ (list_any (selects slot) is || selects slot i)
 selected_more is i slot =
     list_any-append (selects slot) is (i ∷ []) ∙ ap (λ (b : Bool). list_any (selects slot) is || b) (or-false (selects slot i))
@@ -56,7 +56,7 @@ marked_same before is i slot none marked =
 differ : true ≡ false → ⊥
 differ is = cc
 
--- The slot of a font is marked, where there is one.
+-- The slot of a font is marked, if it is a slot.
 pub marked_at : (marked : List Bool) (font : ℤ) (n slot : ℕ) → font ≡ pos n → n < length marked
     → get_or (set marked n true) slot false ≡ (get_or marked slot false || int_eq font (pos slot))
 marked_at marked font n slot is within = by_test (int_eq font (pos slot)) refl
@@ -77,7 +77,7 @@ marked_none marked font slot within none = by_test (int_eq font (pos slot)) refl
     by_test true same = absurd (none slot within ((Decides-int_eq font (pos slot)).0 same))
     by_test false other = sym (or-false (get_or marked slot false))
 
--- A font that is selected and marked.
+-- The three conditions of a fresh font in another order.
 turned : (a b c : Bool) → (a && (b && c)) ≡ (b && (c && a))
 turned true true true = refl
 turned true true false = refl
@@ -101,7 +101,7 @@ filter-same p q (suc n) same =
     (ap (λ (b : Bool). if b then n ∷ [] else []) (same n (omega arith)))
     ∙ sym (filter-append q (numbers_below n) (n ∷ [])))
 
--- All 256 slots were gone over.
+-- All 256 slots were tested.
 pub fresh-is : (fonts : Slots) (defined : List ℕ) (marked : List Bool) (is : List Instruction) (n : ℕ) → n ≡ 256
     → ((slot : ℕ) → slot < 256 → get_or marked slot false ≡ list_any (selects slot) is)
     → filter (is_marked_fresh fonts defined marked) (numbers_below n) ≡ fresh_slots fonts defined is

@@ -1,7 +1,7 @@
 -- Properties of each leaf of a list.
 use Rattle.node_core.specs.Items.{Leaf, Items, none, leaf, box, EachLeaf}
 
--- If each leaf has the property P, and what has P has Q, each leaf has Q.
+-- Where each leaf has the property P, and P implies Q, each leaf has Q.
 pub each_leaf : (P Q : Leaf → Type 0) → ((x : Leaf) → P x → Q x) → (items : Items) → EachLeaf P items → EachLeaf Q items
 each_leaf P Q turns none all = tt
 each_leaf P Q turns (leaf x rest) all = (turns x all.0, each_leaf P Q turns rest all.1)

@@ -1,4 +1,4 @@
--- How many bytes a page takes at most, with the definitions before it.
+-- The greatest number of bytes of a page, with the definitions before it.
 use Rattle.std.proofs.Common.{◌≡◌, ℕ, ◌+◌, ◌*◌, ◌≤◌, ◌<◌, List, [], ◌∷◌, ◌++◌, length, refl, ap, arith, length-append}
 use Rattle.std.specs.Prelude.{ℤ, pos, nat_lt, if◌then◌else◌, Option, Some, None}
 use Rattle.std.proofs.lemmas.Bool.{lt-ltb}
@@ -16,9 +16,9 @@ use Rattle.dvi_ops.proofs.Layouts.{length-bytes_of-append}
 use Rattle.dvi_ops.proofs.Spelled.{operand_length}
 use Rattle.dvi_layout.specs.declared.fonts.LoadedFont.{LoadedFont}
 use Rattle.dvi_layout.specs.Fonts.{Slots, font_in}
-use Rattle.ship_core.specs.Marks.{Page}
+use Rattle.ship_core.specs.Marks.{ShippedPage}
 use Rattle.dvi_layout.specs.Sheets.{written_body, definition_of, definition_by, definitions_of, fresh_slots, sheet_of}
-use Rattle.ship_core.specs.Pages.{page_of}
+use Rattle.ship_core.specs.Pages.{page_of_box}
 use Rattle.ship_core.specs.Shown.{HasWidth}
 use Rattle.dvi_layout.proofs.WrittenBodies.{written_bytes}
 
@@ -85,7 +85,7 @@ definition_bytes fonts (s ∷ slots) short =
         let fine = short s l is in omega (arith, length-append (spelling (Do (FontDef (definition_of s l)))) [], length-definition s l fine.0 fine.1)
 
 -- A page takes at most 46 bytes, 19 for each node of its box, and 271 for each font that it defines.
-pub sheet_bytes : (widths : Widths) (fonts : Slots) (slots : List ℕ) (page : Page) (last : ℤ) → HasShortNames fonts → length page.counts ≡ 10
+pub sheet_bytes : (widths : Widths) (fonts : Slots) (slots : List ℕ) (page : ShippedPage) (last : ℤ) → HasShortNames fonts → length page.counts ≡ 10
     → EachLeaf (HasWidth widths) page.box_node.list
     → length (bytes_of (sheet_from last (sheet_of fonts slots page)))
     ≤ 46 + 19 * box_count page.box_node + box_text page.box_node + 271 * length (fresh_slots fonts slots (flat (written_body page)))
@@ -106,5 +106,5 @@ sheet_bytes widths fonts slots page last short ten sized =
     )
 
 pub page_bytes : (widths : Widths) (fonts : Slots) (slots : List ℕ) (b : BoxNode) (last : ℤ) → HasShortNames fonts → EachLeaf (HasWidth widths) b.list
-    → length (bytes_of (sheet_from last (sheet_of fonts slots (page_of b)))) ≤ 46 + 19 * box_count b + box_text b + 271 * length (fresh_slots fonts slots (flat (written_body (page_of b))))
-page_bytes widths fonts slots b last short sized = sheet_bytes widths fonts slots (page_of b) last short refl sized
+    → length (bytes_of (sheet_from last (sheet_of fonts slots (page_of_box b)))) ≤ 46 + 19 * box_count b + box_text b + 271 * length (fresh_slots fonts slots (flat (written_body (page_of_box b))))
+page_bytes widths fonts slots b last short sized = sheet_bytes widths fonts slots (page_of_box b) last short refl sized

@@ -1,4 +1,4 @@
--- What the writer keeps lies within its limits, so that every place in the file is below 2^31.
+-- The writer's numbers are within the limits, so that every place in the file is below 2^31.
 use Rattle.std.proofs.Common.{◌≡◌, ℕ, ◌+◌, ◌*◌, ◌≤◌, ◌<◌, ◌^◌, List, [], ◌∷◌, ◌++◌, length, refl, ap, ap₂, sym, ◌∙◌, subst, arith, append_assoc, length-append}
 use Rattle.dvi_ops.specs.Forest.{flat}
 use Rattle.dvi_ops.specs.Instruction.{Instruction, Bop, Eop}
@@ -9,28 +9,28 @@ use Rattle.dvi_ops.specs.Spelling.{spelling, operand}
 use Rattle.dvi_ops.proofs.Layouts.{length-bytes_of-append}
 use Rattle.node_core.specs.Items.{items_text}
 use Rattle.node_core.specs.Nodes.{box_count, box_text}
-use Rattle.ship_core.specs.Marks.{Page, is_huge}
+use Rattle.ship_core.specs.Marks.{ShippedPage, is_huge}
 use Rattle.dvi_layout.specs.declared.progress.WriteFault.TheVariants.{TooManyPages, TooMuchShipped, TooMuchSpecial, HugePage}
 use Rattle.node_core.specs.declared.limits.TheConstants.{MAX_PAGES, MAX_SHIPPED_NODES, MAX_SHIPPED_TEXT}
 use Rattle.dvi_layout.specs.declared.fonts.LoadedFont.{LoadedFont}
 use Rattle.dvi_layout.specs.Fonts.{Slots, font_in, IsDefinable, AreDefinable}
 use Rattle.dvi_layout.specs.Shippable.{IsShippable, slot_widths}
 use Rattle.dvi_layout.specs.Sheets.{written_body, definitions_of, fresh_slots, sheet_of}
-use Rattle.dvi_layout.specs.SoFar.{SoFar, nothing_so_far, opening, next_bytes, with_next}
+use Rattle.dvi_layout.specs.SoFar.{ProgressView, nothing_so_far, opening, next_bytes, with_next}
 use Rattle.dvi_layout.specs.Limits.{HasRoom, limit_of}
 use Rattle.dvi_layout.proofs.DefinedFonts.{few_defined, none_rising, defined_once}
 use Rattle.dvi_layout.proofs.EachOf.{each_held, held_within}
 use Rattle.dvi_layout.proofs.PageBytes.{HasShortNames, sheet_bytes}
 use Rattle.dvi_layout.proofs.WrittenBodies.{nests_written}
 
-pub small : (s : SoFar) → HasRoom s → s.size < 2 ^ 31
+pub small : (s : ProgressView) → HasRoom s → s.size < 2 ^ 31
 small s room = omega (arith, room.nodes, room.text, room.pages, room.size, few_defined s.defined room.defined)
 
 pub first_room : HasRoom nothing_so_far
 first_room = record { nodes = omega arith; text = omega arith; pages = omega arith; deep = omega arith; defined = none_rising; size = omega arith; empty = λ none. refl }
 
--- The bytes of the next page, with its definitions among what stands before its bop.
-pub next-is : (fonts : Slots) (s : SoFar) (page : Page) (bytes slots : List ℕ) (is : List Instruction)
+-- The bytes of the next page, with its definitions among those before its bop.
+pub next-is : (fonts : Slots) (s : ProgressView) (page : ShippedPage) (bytes slots : List ℕ) (is : List Instruction)
     → slots ≡ fresh_slots fonts s.defined (flat (written_body page)) → is ≡ flat (written_body page)
     → bytes ≡ bytes_of ((opening s.pages ++ define (definitions_of fonts slots)) ++ (Bop page.counts s.last ∷ (is ++ Eop ∷ []))) → bytes ≡ next_bytes fonts s page
 unfolding next_bytes
@@ -39,7 +39,7 @@ next-is fonts s page bytes slots is fresh body same =
     ∙ (ap bytes_of (append_assoc (opening s.pages) (define (definitions_of fonts slots)) (Bop page.counts s.last ∷ (is ++ Eop ∷ [])))
     ∙ ap₂ (λ (slots : List ℕ) (is : List Instruction). bytes_of (opening s.pages ++ (define (definitions_of fonts slots) ++ (Bop page.counts s.last ∷ (is ++ Eop ∷ []))))) fresh body)
 
-pub next_small : (fonts : Slots) (s : SoFar) (page : Page) (bytes slots : List ℕ) (is : List Instruction)
+pub next_small : (fonts : Slots) (s : ProgressView) (page : ShippedPage) (bytes slots : List ℕ) (is : List Instruction)
     → HasRoom (with_next fonts s page) → slots ≡ fresh_slots fonts s.defined (flat (written_body page)) → is ≡ flat (written_body page)
     → bytes ≡ bytes_of ((opening s.pages ++ define (definitions_of fonts slots)) ++ (Bop page.counts s.last ∷ (is ++ Eop ∷ []))) → s.size + length bytes < 2 ^ 31
 unfolding with_next
@@ -47,11 +47,11 @@ next_small fonts s page bytes slots is room fresh body same =
     omega (arith, small (with_next fonts s page) room, ap length (next-is fonts s page bytes slots is fresh body same))
 
 -- The texts of the specials of the page can be spelled.
-pub next_short : (fonts : Slots) (s : SoFar) (page : Page) → HasRoom (with_next fonts s page) → items_text page.box_node.list < 2 ^ 32
+pub next_short : (fonts : Slots) (s : ProgressView) (page : ShippedPage) → HasRoom (with_next fonts s page) → items_text page.box_node.list < 2 ^ 32
 unfolding with_next
 next_short fonts s page room = omega (arith, room.text)
 
-pub next_few : (fonts : Slots) (s : SoFar) (page : Page) (slots : List ℕ) → HasRoom (with_next fonts s page) → slots ≡ fresh_slots fonts s.defined (flat (written_body page))
+pub next_few : (fonts : Slots) (s : ProgressView) (page : ShippedPage) (slots : List ℕ) → HasRoom (with_next fonts s page) → slots ≡ fresh_slots fonts s.defined (flat (written_body page))
     → length s.defined + length slots ≤ 256
 unfolding with_next
 next_few fonts s page slots room fresh =
@@ -65,13 +65,13 @@ definable_in fonts slot loaded all is =
 pub short_names : (fonts : Slots) → AreDefinable fonts → HasShortNames fonts
 short_names fonts all s l has = let of = definable_in fonts s l all has in (of.1, of.0.name.few)
 
--- What holds where no limit is met, whether the page is huge or not.
-pub record Admits (s : SoFar) (page : Page) : Type 0 where
+-- The facts where no limit is exceeded, whether the page is huge or not.
+pub record Admits (s : ProgressView) (page : ShippedPage) : Type 0 where
   pub pages : nat_le MAX_PAGES s.pages ≡ false
   pub nodes : nat_lt MAX_SHIPPED_NODES (s.load.nodes + box_count page.box_node) ≡ false
   pub text : nat_lt MAX_SHIPPED_TEXT (s.load.text + box_text page.box_node) ≡ false
 
-pub admitted : (s : SoFar) (page : Page) → limit_of s page ≡ (if is_huge page then Some HugePage else None) → Admits s page
+pub admitted : (s : ProgressView) (page : ShippedPage) → limit_of s page ≡ (if is_huge page then Some HugePage else None) → Admits s page
 admitted s page none =
     by_tests (nat_le MAX_PAGES s.pages) (nat_lt MAX_SHIPPED_NODES (s.load.nodes + box_count page.box_node)) (nat_lt MAX_SHIPPED_TEXT (s.load.text + box_text page.box_node)) (is_huge page) refl refl refl none
   where
@@ -88,7 +88,7 @@ admitted s page none =
     by_tests false false false c first second third none = record { pages = first; nodes = second; text = third }
 
 -- The texts of the specials of the page are within the limit of a job.
-pub few_text : (s : SoFar) (page : Page) → limit_of s page ≡ (if is_huge page then Some HugePage else None) → box_text page.box_node ≤ MAX_SHIPPED_TEXT
+pub few_text : (s : ProgressView) (page : ShippedPage) → limit_of s page ≡ (if is_huge page then Some HugePage else None) → box_text page.box_node ≤ MAX_SHIPPED_TEXT
 few_text s page none = omega (arith, ltb-false MAX_SHIPPED_TEXT (s.load.text + box_text page.box_node) (admitted s page none).text)
 
 -- Nothing was sent before the preamble.
@@ -98,8 +98,8 @@ unfolding spelling operand
 opening_fills zero size nodes text fonts fits none = omega (arith, none refl)
 opening_fills (suc n) size nodes text fonts fits none = omega (arith, fits)
 
--- There is room with one page more.
-pub room_next : (fonts : Slots) (s : SoFar) (page : Page) → AreDefinable fonts → IsShippable fonts page.box_node → length page.counts ≡ 10
+-- The limits hold with one more page.
+pub room_next : (fonts : Slots) (s : ProgressView) (page : ShippedPage) → AreDefinable fonts → IsShippable fonts page.box_node → length page.counts ≡ 10
     → limit_of s page ≡ (if is_huge page then Some HugePage else None)
     → HasRoom s → HasRoom (with_next fonts s page)
 unfolding with_next next_bytes
@@ -127,7 +127,7 @@ room_next fonts s page definable sound ten none room =
       empty = λ none. absurd (omega (arith, none));
     }
 
--- There is room behind a page, whether its bytes were made or not.
-pub kept_room : {A E : Type 0} (result : Result A E) (old next new : SoFar) → OnOk result (new ≡ next) → OnErr result (new ≡ old) → HasRoom next → HasRoom old → HasRoom new
+-- The limits hold after a page, whether its bytes were made or not.
+pub kept_room : {A E : Type 0} (result : Result A E) (old next new : ProgressView) → OnOk result (new ≡ next) → OnErr result (new ≡ old) → HasRoom next → HasRoom old → HasRoom new
 kept_room (Ok x) old next new ok err there room = subst HasRoom (sym ok) there
 kept_room (Err e) old next new ok err there room = subst HasRoom (sym err) room

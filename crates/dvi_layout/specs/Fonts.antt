@@ -1,4 +1,4 @@
--- The fonts of a job by their slots (own; after TeX: The Program, part 30).
+-- The fonts of a job, by slot (own; after TeX: The Program, part 30).
 use Rattle.std.specs.Prelude.{◌≡◌, ℕ, List, length, Option, None, slice_get, unwrap_or, IfSome}
 use Rattle.std.specs.List.{AllByRecursion}
 use Rattle.tfm_core.specs.NamedBytes.{IsFontName}

@@ -6,49 +6,49 @@ use Rattle.dvi_ops.specs.Forest.{flat}
 use Rattle.dvi_ops.specs.Instruction.{Definition}
 use Rattle.dvi_ops.specs.Layout.{Sheet, front_of, whole_of, padding_after}
 use Rattle.node_core.specs.Loads.{Load, heavier}
-use Rattle.ship_core.specs.Marks.{Page}
+use Rattle.ship_core.specs.Marks.{ShippedPage}
 use Rattle.ship_core.specs.Pages.{reach_down, reach_right}
 use Rattle.dvi_layout.specs.Fonts.{Slots}
 use Rattle.dvi_layout.specs.Sheets.{written_body, definitions_of, fresh_slots, in_rising_order, sheet_of}
 
--- The slots whose fonts are defined behind a page, where these are defined before it.
-abbrev pub slots_after : Slots → (defined : List ℕ) → Page → List ℕ
+-- The defined slots after a page, where these are defined before it.
+abbrev pub slots_after : Slots → (defined : List ℕ) → ShippedPage → List ℕ
 slots_after fonts defined page = defined ++ fresh_slots fonts defined (flat (written_body page))
 
--- The slots whose fonts are defined behind pages.
-abbrev pub slots_behind : Slots → (defined : List ℕ) → List Page → List ℕ
+-- The defined slots after pages.
+abbrev pub slots_behind : Slots → (defined : List ℕ) → List ShippedPage → List ℕ
 slots_behind fonts defined [] = defined
 slots_behind fonts defined (page ∷ pages) = slots_behind fonts (slots_after fonts defined page) pages
 
--- What is written for pages, each behind the definitions before it.
-abbrev pub sheets_of : Slots → (defined : List ℕ) → List Page → List Sheet
+-- The input to the layout for pages, each after the definitions before it.
+abbrev pub sheets_of : Slots → (defined : List ℕ) → List ShippedPage → List Sheet
 sheets_of fonts defined [] = []
 sheets_of fonts defined (page ∷ pages) = sheet_of fonts defined page ∷ sheets_of fonts (slots_after fonts defined page) pages
 
--- The greatest of a size of pages, at least 0.
-abbrev pub greatest : (Page → ℤ) → List Page → ℤ
+-- The greatest value of a size over pages, at least 0.
+abbrev pub greatest : (ShippedPage → ℤ) → List ShippedPage → ℤ
 greatest size [] = pos 0
 greatest size (page ∷ pages) = int_max (size page) (greatest size pages)
 
--- How many nodes the boxes of pages have, and how many bytes the texts of their specials.
-abbrev pub load_on : List Page → Load
+-- The number of nodes of the boxes of pages, and the number of bytes in the texts of their specials.
+abbrev pub load_on : List ShippedPage → Load
 load_on [] = record { nodes = 0; text = 0 }
 load_on (page ∷ pages) = heavier (load_on pages) page.box_node
 
 -- The definitions of the postamble: those of all fonts that the pages define, in rising order of the slots.
-abbrev pub closing_of : Slots → List Page → List Definition
+abbrev pub closing_of : Slots → List ShippedPage → List Definition
 closing_of fonts pages = definitions_of fonts (in_rising_order (slots_behind fonts [] pages))
 
 -- The file of pages, with that many bytes 223 at its end.
-abbrev pub ended : Slots → List Page → (padding : ℕ) → List ℕ
+abbrev pub ended : Slots → List ShippedPage → (padding : ℕ) → List ℕ
 ended fonts pages padding = whole_of (sheets_of fonts [] pages) (greatest reach_down pages) (greatest reach_right pages) (closing_of fonts pages) padding
 
 -- The bytes for pages up to the last eop.
-unfoldable pub front : Slots → List Page → List ℕ
+unfoldable pub front : Slots → List ShippedPage → List ℕ
 front fonts [] = []
 front fonts (page ∷ pages) = front_of (sheets_of fonts [] (page ∷ pages))
 
 -- The whole file of pages: four to seven bytes 223 make its length a multiple of 4.
-unfoldable pub whole : Slots → List Page → List ℕ
+unfoldable pub whole : Slots → List ShippedPage → List ℕ
 whole fonts [] = []
 whole fonts (page ∷ pages) = ended fonts (page ∷ pages) (padding_after (length (ended fonts (page ∷ pages) 0)))

@@ -1,15 +1,15 @@
 -- The limits of a file (own; the limits of a job).
 use Rattle.std.specs.Prelude.{◌≡◌, ◌+◌, ◌*◌, ◌≤◌, length, Option, Some, None, if◌then◌else◌, nat_le, nat_lt}
 use Rattle.node_core.specs.Nodes.{box_count, box_text}
-use Rattle.ship_core.specs.Marks.{Page, is_huge}
+use Rattle.ship_core.specs.Marks.{ShippedPage, is_huge}
 use Rattle.dvi_layout.specs.declared.progress.WriteFault.{WriteFault}
 use Rattle.dvi_layout.specs.declared.progress.WriteFault.TheVariants.{TooManyPages, TooMuchShipped, TooMuchSpecial, HugePage}
 use Rattle.node_core.specs.declared.limits.TheConstants.{MAX_PAGES, MAX_SHIPPED_NODES, MAX_SHIPPED_TEXT, MAX_DEPTH}
 use Rattle.dvi_layout.specs.Sheets.{in_rising_order}
-use Rattle.dvi_layout.specs.SoFar.{SoFar}
+use Rattle.dvi_layout.specs.SoFar.{ProgressView}
 
--- Why a page is not taken, whatever memory there is: the first of these that holds.
-abbrev pub limit_of : SoFar → Page → Option WriteFault
+-- Why a page is not written, however much memory there is: the first of these that holds.
+abbrev pub limit_of : ProgressView → ShippedPage → Option WriteFault
 limit_of s page =
     if nat_le MAX_PAGES s.pages then Some TooManyPages
     else if nat_lt MAX_SHIPPED_NODES (s.load.nodes + box_count page.box_node) then Some TooMuchShipped
@@ -17,15 +17,15 @@ limit_of s page =
     else if is_huge page then Some HugePage
     else None
 
--- What is kept lies within the limits, so that every place in the file is below 2^31 (the invariant of the writer).
-pub record HasRoom (s : SoFar) : Type 0 where
+-- The writer's numbers are within the limits, so that every place in the file is below 2^31 (the invariant of the writer).
+pub record HasRoom (s : ProgressView) : Type 0 where
   pub nodes : s.load.nodes ≤ MAX_SHIPPED_NODES
   pub text : s.load.text ≤ MAX_SHIPPED_TEXT
   pub pages : s.pages ≤ MAX_PAGES
   pub deep : s.deep ≤ MAX_DEPTH
-  -- Each slot is defined once, so that there are at most `FONT_SLOTS` definitions.
+  -- Each slot is defined once, so there are at most `FONT_SLOTS` definitions.
   pub defined : length (in_rising_order s.defined) ≡ length s.defined
-  -- Nothing goes out before the first page.
+  -- Nothing is sent before the first page.
   pub empty : s.pages ≡ 0 → s.size ≡ 0
-  -- A page takes 46 bytes and 19 for each node, beside the texts of its specials, and a font definition at most 271.
+  -- A page takes 46 bytes, 19 bytes for each node, and the texts of its specials; a font definition takes at most 271.
   pub size : s.size ≤ 15 + 46 * s.pages + 19 * s.load.nodes + s.load.text + 271 * length s.defined

@@ -3,6 +3,6 @@ use Rattle.std.specs.Prelude.{◌≡◌, ℕ, Some}
 use Rattle.dvi_layout.specs.declared.fonts.LoadedFont.{LoadedFont}
 use Rattle.dvi_layout.specs.Fonts.{Slots, font_in}
 
--- More fonts, beside those that are in slots.
+-- All fonts of some slots, and perhaps more.
 abbrev pub Extends : Slots → Slots → Type 0
 Extends fonts more = (slot : ℕ) (loaded : LoadedFont) → font_in fonts slot ≡ Some loaded → font_in more slot ≡ Some loaded

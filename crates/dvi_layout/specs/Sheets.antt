@@ -5,14 +5,15 @@ use Rattle.std.specs.List.{flat_map, list_any}
 use Rattle.dvi_ops.specs.Instruction.{Definition, FontNum, Instruction, Do}
 use Rattle.dvi_ops.specs.Forest.{Forest, flat}
 use Rattle.dvi_ops.specs.Layout.{Sheet}
-use Rattle.ship_core.specs.Marks.{Page}
+use Rattle.ship_core.specs.Marks.{ShippedPage}
 use Rattle.ship_core.specs.Drawing.{body_of}
 use Rattle.move_core.specs.Reused.{reused}
 use Rattle.dvi_layout.specs.declared.fonts.LoadedFont.{LoadedFont}
 use Rattle.dvi_layout.specs.Fonts.{Slots, font_in}
 
--- The body of a page as it is written: without empty groups, and with its movements by w, x, y and z where their amounts come again.
-abbrev pub written_body : Page → Forest
+-- The body of a page as it is written: without empty groups, and with movements by w, x, y and z where their amounts come again. Only this body is
+-- written; the plan of the page stays `body_of`.
+abbrev pub written_body : ShippedPage → Forest
 written_body page = reused (body_of page)
 
 -- The definition of a font: its number is its slot, and its name has no area (DVItype, 18).
@@ -36,7 +37,7 @@ definition_by slot (Some loaded) = definition_of slot loaded ∷ []
 abbrev pub definitions_of : Slots → List ℕ → List Definition
 definitions_of fonts slots = flat_map (λ slot. definition_by slot (font_in fonts slot)) slots
 
--- The numbers below n, rising.
+-- The numbers below n, in rising order.
 abbrev pub numbers_below : ℕ → List ℕ
 numbers_below zero = []
 numbers_below (suc n) = numbers_below n ++ n ∷ []
@@ -59,19 +60,19 @@ is_among slot slots = list_any (λ other. other == slot) slots
 unfoldable pub is_fresh : Slots → (defined : List ℕ) → List Instruction → ℕ → Bool
 is_fresh fonts defined is slot = is_some (font_in fonts slot) && (not (is_among slot defined) && list_any (selects slot) is)
 
--- The same where the slots of the selected fonts are marked (no public clause speaks of it).
+-- The same with marks for the slots of the selected fonts (no public clause speaks of it).
 unfoldable pub is_marked_fresh : Slots → (defined : List ℕ) → (marked : List Bool) → ℕ → Bool
 is_marked_fresh fonts defined marked slot = get_or marked slot false && (is_some (font_in fonts slot) && not (is_among slot defined))
 
--- The slots of the fonts that are selected by these instructions and not defined yet, rising.
+-- The slots of the fonts that these instructions select and that are not defined yet, in rising order.
 unfoldable pub fresh_slots : Slots → (defined : List ℕ) → List Instruction → List ℕ
 fresh_slots fonts defined is = filter (is_fresh fonts defined is) (numbers_below 256)
 
--- The slots of the fonts that are defined, rising.
+-- The slots of the fonts that are defined, in rising order.
 unfoldable pub in_rising_order : (defined : List ℕ) → List ℕ
 in_rising_order defined = filter (λ slot. is_among slot defined) (numbers_below 256)
 
--- What is written for a page, where the fonts of these slots are defined before it.
-abbrev pub sheet_of : Slots → (defined : List ℕ) → Page → Sheet
+-- The input to the layout for a page, where the fonts of these slots are defined before it.
+abbrev pub sheet_of : Slots → (defined : List ℕ) → ShippedPage → Sheet
 sheet_of fonts defined page =
     record { counts = page.counts; fresh = definitions_of fonts (fresh_slots fonts defined (flat (written_body page))); body = written_body page }

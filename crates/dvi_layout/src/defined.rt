@@ -5,7 +5,8 @@ ghost use Rattle.std.specs.Prelude.{◌≡◌, ◌<◌, ◌≤◌, ◌+◌, ◌+
 use node_core::limits::FONT_SLOTS;
 use std::marker::Model;
 
-/// The slots of the fonts that are defined, in the order of their definitions: as many as there are slots at most. They take no memory.
+/// The slots of the fonts that are defined, in the order of their definitions: at most `FONT_SLOTS` of them. They are bytes of the writer itself, so
+/// `DviWriter::new` takes no memory.
 #[derive(Drop)]
 pub struct DefinedSlots {
     slots: [u8; FONT_SLOTS],
@@ -24,7 +25,7 @@ impl Model for DefinedSlots {
 }
 
 impl DefinedSlots {
-    /// No slot.
+    /// An empty list of slots.
     pub fn new() -> DefinedSlots
         ensures { result ≡ [] }
     {
@@ -41,14 +42,14 @@ impl DefinedSlots {
         &self.slots[..self.count]
     }
 
-    /// The same slots once more.
+    /// A copy of the slots.
     pub fn copied(&self) -> DefinedSlots
         ensures { result ≡ self.now }
     {
         DefinedSlots { ..*self }
     }
 
-    /// Adds a slot behind the others.
+    /// Adds a slot after the others.
     fn push(&mut self, slot: u8)
         requires { length self.old < 256 }
         ensures { self.new ≡ self.old ++ slot ∷ [] }
@@ -57,7 +58,7 @@ impl DefinedSlots {
         self.count += 1;
     }
 
-    /// Adds slots behind the others, in order.
+    /// Adds slots after the others, in order.
     pub fn append(&mut self, slots: &[u8])
         requires { length self.old + length slots.now ≤ 256 }
         ensures { self.new ≡ self.old ++ slots.now }

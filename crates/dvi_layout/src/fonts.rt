@@ -1,4 +1,4 @@
-//! The fonts of a job by their slots.
+//! The fonts of a job, by slot.
 
 ghost use Rattle.std.specs.Prelude.{◌≡◌, List, Option, Some, None, IfOk, OnOk, option_copied, replicate, slice_set};
 ghost use Rattle.dvi_layout.specs.Fonts.{font_in, IsDefinable, AreDefinable};
@@ -16,7 +16,7 @@ pub struct LoadedFont {
 }
 
 impl LoadedFont {
-    /// The font can be defined in a file: names and sizes of fonts always can. It does nothing.
+    /// The font can be defined in a file, since names and sizes of fonts always can. This is a fact for the proofs, and the call does nothing.
     fn can_be_defined(&self)
         ensures { IsDefinable self.now }
     {
@@ -27,7 +27,7 @@ impl LoadedFont {
     }
 }
 
-/// What each slot has: a font, or nothing.
+/// The slots: each has a font, or none.
 #[derive(Debug, Drop)]
 pub struct Fonts {
     slots: Vec<Option<LoadedFont>>,
@@ -50,7 +50,7 @@ impl Model for Fonts {
 }
 
 impl Fonts {
-    /// No slot has a font.
+    /// Slots without fonts. It takes memory for all slots; the result is an Err where this is refused.
     pub fn new(alloc: Global) -> Result<Fonts, AllocError>
         ensures { IfOk result (λ fonts. fonts ≡ replicate FONT_SLOTS None) }
     {
@@ -61,21 +61,21 @@ impl Fonts {
         Ok(Fonts { slots })
     }
 
-    /// The font of a slot; None where it has none.
+    /// The font of a slot; None where the slot has no font.
     pub fn get(&self, slot: u8) -> Option<&LoadedFont>
         ensures { option_copied result ≡ font_in self.now slot }
     {
         self.slots[usize::from(slot)].as_ref()
     }
 
-    /// The font of each slot can be defined in a file. It does nothing.
+    /// The font of each slot can be defined in a file. This is a fact for the proofs, and the call does nothing.
     pub fn can_be_defined(&self)
         ensures { AreDefinable self.now }
     {
         let _slots = &self.slots;
     }
 
-    /// Gives a slot a font.
+    /// Puts a font into a slot, in place of an earlier one.
     pub fn put(&mut self, slot: u8, loaded: LoadedFont)
         ensures { self.new ≡ slice_set self.old slot (Some loaded) }
     {

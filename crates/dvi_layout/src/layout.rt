@@ -6,14 +6,18 @@ ghost use Rattle.dvi_ops.specs.declared.op.Op.TheVariants as ops;
 ghost use Rattle.dvi_ops.specs.declared.opcodes.TheConstants.{PADDING};
 ghost use Rattle.dvi_ops.specs.Layout.{bytes_of, define, padding_after};
 ghost use Rattle.dvi_ops.specs.Spelling.{HasSpelling};
-ghost use Rattle.dvi_ops.specs.View.{view};
+ghost use Rattle.dvi_ops.specs.View.{body_view, view};
 ghost use Rattle.std.specs.List.{AllByRecursion, list_any};
 ghost use Rattle.std.specs.Ordering.{int_eq};
-ghost use Rattle.dvi_layout.specs.Sheets.{definition_of, definitions_of, font_of, fresh_slots, is_among, is_marked_fresh, in_rising_order, selects};
+ghost use Rattle.std.specs.Option.{option_map};
+ghost use Rattle.dvi_layout.specs.Sheets.{definition_of, definitions_of, font_of, fresh_slots, is_among, is_marked_fresh, in_rising_order, numbers_below, selects};
+ghost use Rattle.dvi_ops.specs.Forest.{Forest, flat, nests};
+ghost use Rattle.std.specs.Prelude.{filter};
 
 use crate::fonts::{Fonts, LoadedFont};
-use dvi_ops::{FontDefinition, Op, Units, opcodes, spell};
+use dvi_ops::{BodyOp, FontDefinition, Op, Units, opcodes, spell, spell_body};
 use node_core::limits::FONT_SLOTS;
+use ship_core::pushed_after;
 use std::alloc::{AllocError, Global};
 
 /// The units of a file: a scaled point.
@@ -23,7 +27,7 @@ pub const SCALED_POINTS: Units = Units {
     mag: 1000,
 };
 
-/// Appends the spellings of instructions, or nothing.
+/// Appends the spellings of instructions. Where memory is refused, `bytes` is unchanged.
 pub fn append_all(bytes: &mut Vec<u8>, ops: &[Op<'_>]) -> Result<(), AllocError>
     requires { AllByRecursion HasSpelling (map view ops.now) }
     ensures ok { OnOk result (bytes.new.items ≡ bytes.old.items ++ bytes_of (map view ops.now)) }
@@ -39,56 +43,84 @@ pub fn append_all(bytes: &mut Vec<u8>, ops: &[Op<'_>]) -> Result<(), AllocError>
     Ok(())
 }
 
-/// Appends the spellings of a page with these counts and this body, from bop to eop, behind a bop at a place (or -1); or a front of them.
+/// Appends the spellings of the instructions of a body. Where memory is refused, `bytes` is unchanged.
+pub fn append_body(bytes: &mut Vec<u8>, body: &[BodyOp<'_>]) -> Result<(), AllocError>
+    requires { AllByRecursion HasSpelling (map body_view body.now) }
+    ensures ok { OnOk result (bytes.new.items ≡ bytes.old.items ++ bytes_of (map body_view body.now)) }
+    ensures err { OnErr result (bytes.new.items ≡ bytes.old.items) }
+{
+    let held = bytes.len();
+    for op in body {
+        if spell_body(op, bytes).is_err() {
+            bytes.truncate(held);
+            return Err(AllocError);
+        }
+    }
+    Ok(())
+}
+
+/// Appends the spellings of a page with these counts and this body, from bop to eop. `last` is the place of the previous bop, or -1. Where memory is
+/// refused, a beginning of the spellings may be there.
 pub fn append_page(
     bytes: &mut Vec<u8>,
     counts: &[i32; 10],
-    body: &[Op<'_>],
+    body: &[BodyOp<'_>],
     last: i32,
 ) -> Result<(), AllocError>
-    requires { AllByRecursion HasSpelling (map view body.now) }
-    ensures { OnOk result (bytes.new.items ≡ bytes.old.items ++ bytes_of (Bop counts.now last ∷ (map view body.now ++ Eop ∷ []))) }
+    requires { AllByRecursion HasSpelling (map body_view body.now) }
+    ensures { OnOk result (bytes.new.items ≡ bytes.old.items ++ bytes_of (Bop counts.now last ∷ (map body_view body.now ++ Eop ∷ []))) }
 {
     let bop = Op::Bop {
         counts: *counts,
         pointer: last,
     };
     spell(&bop, bytes)?;
-    append_all(bytes, body)?;
+    append_body(bytes, body)?;
     spell(&Op::Eop, bytes)
 }
 
 /// The font that an instruction selects, if it selects one.
-fn font_of(op: &Op<'_>) -> Option<i32>
-    ensures { result ≡ font_of (view op.now) }
+fn font_of(op: &BodyOp<'_>) -> Option<u8>
+    ensures { option_map pos result ≡ font_of (body_view op.now) }
 {
     match op {
-        Op::FontNum(font) => Some(*font),
+        BodyOp::FontNum(slot) => Some(*slot),
         _ => None,
     }
 }
 
-/// Marks the slot with the number of a font, if there is one.
-fn mark(marked: &mut [bool; FONT_SLOTS], font: i32)
-    ensures { (slot : ℕ) → slot < 256 → get_or marked.new slot false ≡ (get_or marked.old slot false || int_eq font (pos slot)) }
+/// Marks a slot.
+fn mark(marked: &mut [bool; FONT_SLOTS], slot: u8)
+    ensures { (other : ℕ) → other < 256 → get_or marked.new other false ≡ (get_or marked.old other false || int_eq (pos slot) (pos other)) }
 {
-    if let Ok(slot) = u8::try_from(font) {
-        marked[usize::from(slot)] = true;
-    }
+    marked[usize::from(slot)] = true;
 }
 
-/// Which slots have a font that is selected by these instructions.
-fn selected_slots(ops: &[Op<'_>]) -> [bool; FONT_SLOTS]
-    ensures { (slot : ℕ) → slot < 256 → get_or result slot false ≡ list_any (selects slot) (map view ops.now) }
+/// The result of one pass over the instructions of a body: the slots of the fonts that they select, and the greatest number of pushes that are open
+/// at once.
+#[derive(Drop)]
+struct Passed {
+    selected: [bool; FONT_SLOTS],
+    deepest: usize,
+}
+
+/// Passes over the instructions of a body once.
+fn pass_over(ops: &[BodyOp<'_>]) -> Passed
+    ensures selected { (slot : ℕ) → slot < 256 → get_or result.selected slot false ≡ list_any (selects slot) (map body_view ops.now) }
+    ensures deepest { (forest : Forest) → map body_view ops.now ≡ flat forest → result.deepest ≡ nests forest }
 {
     let mut selected = [false; FONT_SLOTS];
+    let mut pushed: usize = 0;
+    let mut deepest: usize = 0;
     for op in ops {
+        pushed = pushed_after(pushed, op);
+        deepest = deepest.max(pushed);
         match font_of(op) {
-            Some(font) => mark(&mut selected, font),
+            Some(slot) => mark(&mut selected, slot),
             None => {}
         }
     }
-    selected
+    Passed { selected, deepest }
 }
 
 /// Whether a slot is among others.
@@ -98,7 +130,7 @@ pub fn is_among(slot: u8, slots: &[u8]) -> bool
     slots.iter().any(|other| *other == slot)
 }
 
-/// Whether the font of a slot is loaded, is among the marked ones, and is not defined yet.
+/// Whether the font of a slot is marked, is loaded, and is not defined yet.
 #[tactic(auto, unfolding(crate::specs::Sheets::is_marked_fresh))]
 fn is_fresh(fonts: &Fonts, defined: &[u8], marked: &[bool; FONT_SLOTS], slot: u8) -> bool
     ensures { result ≡ is_marked_fresh fonts.now defined.now marked.now slot }
@@ -112,26 +144,41 @@ fn is_fresh(fonts: &Fonts, defined: &[u8], marked: &[bool; FONT_SLOTS], slot: u8
     !is_among(slot, defined)
 }
 
-/// The slots of the fonts that are selected by these instructions and not defined yet, rising. The instructions are gone over once.
-pub fn fresh_slots(
+/// The slots that are marked as selected, loaded and not defined yet, in rising order.
+fn marked_fresh(
     alloc: Global,
     fonts: &Fonts,
     defined: &[u8],
-    ops: &[Op<'_>],
+    selected: &[bool; FONT_SLOTS],
 ) -> Result<Vec<u8>, AllocError>
-    ensures { IfOk result (λ slots. slots.items ≡ fresh_slots fonts.now defined.now (map view ops.now)) }
+    ensures { IfOk result (λ slots. slots.items ≡ filter (is_marked_fresh fonts.now defined.now selected.now) (numbers_below 256)) }
 {
-    let selected = selected_slots(ops);
     let mut slots = Vec::new(alloc);
     for slot in 0..256usize {
-        if is_fresh(fonts, defined, &selected, slot as u8) {
+        if is_fresh(fonts, defined, selected, slot as u8) {
             slots.push(slot as u8)?;
         }
     }
     Ok(slots)
 }
 
-/// The slots of the fonts that are defined, rising.
+/// The slots of the fonts that these instructions select and that are not defined yet, in rising order; and the greatest number of pushes that are
+/// open at once. One pass over the instructions gives both.
+pub fn fresh_slots(
+    alloc: Global,
+    fonts: &Fonts,
+    defined: &[u8],
+    ops: &[BodyOp<'_>],
+) -> Result<(Vec<u8>, usize), AllocError>
+    ensures slots { IfOk result (λ found. found.0.items ≡ fresh_slots fonts.now defined.now (map body_view ops.now)) }
+    ensures deepest { IfOk result (λ found. (forest : Forest) → map body_view ops.now ≡ flat forest → found.1 ≡ nests forest) }
+{
+    let passed = pass_over(ops);
+    let slots = marked_fresh(alloc, fonts, defined, &passed.selected)?;
+    Ok((slots, passed.deepest))
+}
+
+/// The slots of the fonts that are defined, in rising order.
 pub fn in_rising_order(alloc: Global, defined: &[u8]) -> Result<Vec<u8>, AllocError>
     ensures { IfOk result (λ slots. slots.items ≡ in_rising_order defined.now) }
 {
@@ -144,10 +191,10 @@ pub fn in_rising_order(alloc: Global, defined: &[u8]) -> Result<Vec<u8>, AllocEr
     Ok(slots)
 }
 
-/// The definition of the font in a slot.
+/// The definition of the font in a slot. Its number is the slot, and its name has no area.
 pub fn definition_of(slot: u8, loaded: &LoadedFont) -> FontDefinition<'_>
     ensures value { view (ops.FontDef result) ≡ Do (FontDef (definition_of slot loaded.now)) }
-    ensures few { HasSpelling (view (ops.FontDef result)) }
+    ensures operands_fit { HasSpelling (view (ops.FontDef result)) }
 {
     FontDefinition {
         number: i32::from(slot),
@@ -159,7 +206,7 @@ pub fn definition_of(slot: u8, loaded: &LoadedFont) -> FontDefinition<'_>
     }
 }
 
-/// Appends the definitions of the fonts in these slots, or a front of them.
+/// Appends the definitions of the fonts in these slots. Where memory is refused, a beginning of them may be there.
 pub fn append_definitions<'a>(
     fonts: &'a Fonts,
     slots: &[u8],
@@ -167,7 +214,7 @@ pub fn append_definitions<'a>(
 ) -> Result<(), AllocError>
     requires { AllByRecursion HasSpelling (map view ops.old.items) }
     ensures ok { OnOk result (map view ops.new.items ≡ map view ops.old.items ++ define (definitions_of fonts.now slots.now)) }
-    ensures few { OnOk result (AllByRecursion HasSpelling (map view ops.new.items)) }
+    ensures operands_fit { OnOk result (AllByRecursion HasSpelling (map view ops.new.items)) }
     ensures err { OnErr result ((n : ℕ) × (map view ops.new.items ≡ map view ops.old.items ++ define (definitions_of fonts.now (take n slots.now)))) }
 {
     for slot in slots {
@@ -178,7 +225,8 @@ pub fn append_definitions<'a>(
     Ok(())
 }
 
-/// Appends four to seven padding bytes, so that the length with `before` bytes in front is a multiple of 4, or nothing.
+/// Appends four to seven padding bytes, so that the length with the `before` earlier bytes is a multiple of 4. Where memory is refused, `bytes` is
+/// unchanged.
 pub fn append_padding(before: usize, bytes: &mut Vec<u8>) -> Result<(), AllocError>
     requires { before < 2 ^ 31 }
     ensures ok { OnOk result (bytes.new.items ≡ bytes.old.items ++ replicate (padding_after (before + length bytes.old.items)) PADDING) }

@@ -1,5 +1,5 @@
-//! How the writer lays a DVI file out: the fonts of a job by their slots, the bytes of pages, of font definitions and of the end, and what is kept from
-//! page to page. The writer that sends them stands above it.
+//! The layout of a DVI file by the writer: the fonts of a job by slot, the bytes of pages, of font definitions and of the end, and the numbers that
+//! the writer keeps from page to page. `dvi_write` sends the bytes.
 #![tactic(auto)]
 
 mod defined;

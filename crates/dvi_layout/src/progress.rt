@@ -1,4 +1,4 @@
-//! What the writer keeps of the pages that it has sent, and the bytes that it sends next (DVItype, 13 to 20).
+//! The numbers that the writer keeps of the pages that it has sent, and the bytes that it sends next (DVItype, 13 to 20).
 
 ghost use Rattle.std.specs.Prelude.{◌≡◌, ◌<◌, ◌≤◌, ◌+◌, ◌^◌, ◌++◌, ◌+ℤ◌, [], ◌∷◌, ℤ, List, None, Some, true, false, max, pos, length, map, if◌then◌else◌, OnOk, OnErr, IfOk, IfErr};
 ghost use Rattle.std.specs.Int.{int_max};
@@ -8,7 +8,7 @@ ghost use Rattle.dvi_ops.specs.declared.op.Op.TheVariants as ops;
 ghost use Rattle.dvi_ops.specs.Forest.{Forest, flat, nests};
 ghost use Rattle.dvi_ops.specs.Layout.{bytes_of, define};
 ghost use Rattle.dvi_ops.specs.Spelling.{HasSpelling};
-ghost use Rattle.dvi_ops.specs.View.{view};
+ghost use Rattle.dvi_ops.specs.View.{body_view, view};
 ghost use Rattle.node_core.specs.Nodes.{box_count, box_text};
 ghost use Rattle.scaled_core.specs.Dimensions.{fits};
 ghost use Rattle.ship_core.specs.Marks.{is_huge};
@@ -23,38 +23,38 @@ use crate::layout::{
     SCALED_POINTS, append_all, append_definitions, append_padding, append_page, fresh_slots,
     in_rising_order,
 };
-use dvi_ops::{Op, Postamble, opcodes};
+use dvi_ops::{BodyOp, Op, Postamble, opcodes};
 use move_core::reuse;
 use node_core::BoxNode;
 use node_core::limits::{MAX_PAGES, MAX_SHIPPED_NODES, MAX_SHIPPED_TEXT};
 use scaled_core::Dimen;
-use ship_core::{PagePoint, ShipFault, plan_with_room, push_depth};
+use ship_core::{PagePoint, ShipFault, plan_with_room};
 use std::alloc::{AllocError, Global};
 use std::marker::Model;
 use thiserror::Error;
 
-/// For how many instructions of a page there is room from the start, at most; a page of a book has fewer.
+/// The greatest capacity for instructions of a page at the start. A page of a book has fewer instructions.
 const MAX_ROOM: u64 = 16_384;
 
-/// Why a page was not taken, or a file not ended.
+/// Why a page was not written, or a file not finished.
 #[derive(Clone, Copy, Debug, PartialEq, Eq, Error)]
 pub enum WriteFault {
-    /// The file was ended, or its device failed before.
+    /// The file is finished, or its device has failed.
     #[error("the file is over")]
     JobOver,
-    /// The file has 65,535 pages.
+    /// The file has the greatest number of pages, 65,535.
     #[error("there are too many pages")]
     TooManyPages,
-    /// The boxes of all pages would have more than 16,777,216 nodes.
+    /// The boxes of all pages would have more than 16,777,216 nodes in total.
     #[error("too much is shipped")]
     TooMuchShipped,
-    /// More than 1,048,576 bytes of special texts would be shipped in the job.
+    /// The special texts of all pages would have more than 1,048,576 bytes in total.
     #[error("too much special text is shipped")]
     TooMuchSpecial,
     /// A place or a size on the page is more than 2^30 - 1 sp or less than -(2^30 - 1) sp.
     #[error("a place or size of the page does not fit")]
     HugePage,
-    /// Memory was refused.
+    /// A growth of memory was refused.
     #[error("a growth of memory was refused")]
     OutOfMemory,
     /// The device failed during the call.
@@ -72,7 +72,7 @@ impl From<AllocError> for WriteFault {
     }
 }
 
-/// How far a page is moved to the right and down (TeX: The Program, part 32, §617: hoffset and voffset).
+/// The distance by which a page is moved to the right and down, in scaled points (TeX: The Program, part 32, §617: hoffset and voffset).
 #[derive(Clone, Copy, Debug, PartialEq, Eq)]
 pub struct Offsets {
     pub h: Dimen,
@@ -80,7 +80,7 @@ pub struct Offsets {
 }
 
 impl Offsets {
-    /// The reference point of the page of a box: its height below the origin, moved.
+    /// The reference point of a box on its page: the box's height below the origin, and then moved by the offsets.
     pub fn point_of(self, box_node: &BoxNode) -> PagePoint
         ensures { result ≡ record { h = self.h; v = box_node.now.height +ℤ self.v } }
     {
@@ -91,7 +91,7 @@ impl Offsets {
     }
 }
 
-/// What the writer keeps of the pages that it has sent.
+/// The numbers that the writer keeps of the pages that it has sent.
 #[derive(Drop)]
 pub struct Progress {
     last: i32,
@@ -106,37 +106,45 @@ pub struct Progress {
 }
 
 impl Model for Progress {
-    ghost use Rattle.dvi_layout.specs.SoFar.{SoFar};
+    ghost use Rattle.dvi_layout.specs.SoFar.{ProgressView};
 
-    ghost Value = { SoFar };
+    ghost Value = { ProgressView };
 
     ghost view = { λ p. record { last = p.last; size = p.size; defined = p.defined; tall = p.tall; wide = p.wide; deep = p.deep; pages = p.pages; load = record { nodes = p.nodes; text = p.text } } };
 }
 
-/// How many nodes the box of a page has, and how many bytes the texts of its specials.
+/// The number of nodes of the box of a page, and the number of bytes in the texts of its specials.
 #[derive(Clone, Copy, Debug, PartialEq, Eq)]
 pub struct PageLoad {
     pub nodes: u64,
     pub text: u64,
 }
 
-/// The bytes of a page with what stands before it, and what is kept once they are sent.
+/// The bytes of a page, with what comes before it, and the numbers to keep once they are sent.
 #[derive(Drop)]
 pub struct NextPage {
     pub bytes: Vec<u8>,
     pub behind: Progress,
 }
 
-/// The instructions of the body of a page as it is written, with room for that many from the start. HugePage exactly where the page is huge, else
-/// OutOfMemory.
+/// The capacity for instructions of a page with that many nodes: an eighth more, for the groups and the movements of its lines.
+fn room_for(nodes: u64) -> usize {
+    nodes
+        .saturating_add(nodes / 8)
+        .saturating_add(16)
+        .min(MAX_ROOM) as usize
+}
+
+/// The instructions of a page body as it is written, with capacity for `room` of them from the start. The fault is HugePage exactly where the page is
+/// huge, and OutOfMemory otherwise.
 fn written_body<'a>(
     alloc: Global,
     box_node: &'a BoxNode,
     at: PagePoint,
     counts: &[i32; 10],
     room: usize,
-) -> Result<Vec<Op<'a>>, WriteFault>
-    ensures ok { IfOk result (λ ops. map view ops.items ≡ flat (written_body (page_at counts.now at.h at.v box_node.now))) }
+) -> Result<Vec<BodyOp<'a>>, WriteFault>
+    ensures ok { IfOk result (λ ops. map body_view ops.items ≡ flat (written_body (page_at counts.now at.h at.v box_node.now))) }
     ensures fits { OnOk result (is_huge (page_at counts.now at.h at.v box_node.now) ≡ false) }
     ensures err { IfErr result (λ fault. fault
         ≡ (if is_huge (page_at counts.now at.h at.v box_node.now) then WriteFault.HugePage else WriteFault.OutOfMemory)) }
@@ -149,10 +157,10 @@ fn written_body<'a>(
     }
 }
 
-/// What stands before a page and its definitions, when there are that many pages: the preamble before the first.
+/// The instructions before the definitions of a page that follows `pages` others: the preamble before the first page.
 fn opening(alloc: Global, pages: u32) -> Result<Vec<Op<'static>>, AllocError>
     ensures ok { IfOk result (λ ops. map view ops.items ≡ opening pages) }
-    ensures few { IfOk result (λ ops. AllByRecursion HasSpelling (map view ops.items)) }
+    ensures operands_fit { IfOk result (λ ops. AllByRecursion HasSpelling (map view ops.items)) }
 {
     let mut ops = Vec::new(alloc);
     if pages == 0 {
@@ -165,7 +173,7 @@ fn opening(alloc: Global, pages: u32) -> Result<Vec<Op<'static>>, AllocError>
     Ok(ops)
 }
 
-/// How far down the page of a box reaches.
+/// The bottom of the page of a box.
 #[tactic(auto, unfolding(scaled_core::specs::Dimensions::dimension_of))]
 fn reach_down(box_node: &BoxNode, at: PagePoint) -> Dimen
     requires { fits (at.v +ℤ box_node.now.depth) ≡ true }
@@ -177,7 +185,7 @@ fn reach_down(box_node: &BoxNode, at: PagePoint) -> Dimen
     }
 }
 
-/// How far to the right the page of a box reaches.
+/// The right edge of the page of a box.
 #[tactic(auto, unfolding(scaled_core::specs::Dimensions::dimension_of))]
 fn reach_right(box_node: &BoxNode, at: PagePoint) -> Dimen
     requires { fits (at.h +ℤ box_node.now.width) ≡ true }
@@ -190,7 +198,7 @@ fn reach_right(box_node: &BoxNode, at: PagePoint) -> Dimen
 }
 
 impl Progress {
-    /// Nothing was sent.
+    /// The numbers before any page.
     pub fn new() -> Progress
         ensures { result ≡ nothing_so_far }
     {
@@ -207,21 +215,21 @@ impl Progress {
         }
     }
 
-    /// How many pages there are.
+    /// The number of pages.
     pub fn pages(&self) -> u32
         ensures { result ≡ self.now.pages }
     {
         self.pages
     }
 
-    /// How many bytes there are up to the last eop.
+    /// The number of bytes up to the last eop.
     pub fn size(&self) -> usize
         ensures { result ≡ self.now.size }
     {
         self.size
     }
 
-    /// The same once more.
+    /// A copy.
     fn copied(&self) -> Progress
         ensures { result ≡ self.now }
     {
@@ -231,7 +239,8 @@ impl Progress {
         }
     }
 
-    /// What the page of a box has that may be sent next unless it is huge, or why it may not.
+    /// The load of the page of a box, where the limits of a file allow it. The fault is the first of TooManyPages, TooMuchShipped and TooMuchSpecial
+    /// that holds; HugePage is found later, by `next_page`. It takes no memory.
     pub fn admit(&self, box_node: &BoxNode) -> Result<PageLoad, WriteFault>
         ensures nodes { IfOk result (λ load. load.nodes ≡ box_count box_node.now) }
         ensures text { IfOk result (λ load. load.text ≡ box_text box_node.now) }
@@ -253,31 +262,31 @@ impl Progress {
         Ok(PageLoad { nodes, text })
     }
 
-    /// The bytes of a page with this body, behind the definitions of the fonts in these slots, and the place of its bop among them.
+    /// The bytes of a page with this body, after the definitions of the fonts in these slots; and the place of its bop in these bytes.
     fn lay_out(
         &self,
         alloc: Global,
         fonts: &Fonts,
         slots: &[u8],
         counts: &[i32; 10],
-        body: &[Op<'_>],
+        body: &[BodyOp<'_>],
     ) -> Result<(Vec<u8>, usize), AllocError>
-        requires { AllByRecursion HasSpelling (map view body.now) }
-        ensures bytes { IfOk result (λ page. page.0.items ≡ bytes_of ((opening self.now.pages ++ define (definitions_of fonts.now slots.now)) ++ (Bop counts.now self.now.last ∷ (map view body.now ++ Eop ∷ [])))) }
+        requires { AllByRecursion HasSpelling (map body_view body.now) }
+        ensures bytes { IfOk result (λ page. page.0.items ≡ bytes_of ((opening self.now.pages ++ define (definitions_of fonts.now slots.now)) ++ (Bop counts.now self.now.last ∷ (map body_view body.now ++ Eop ∷ [])))) }
         ensures bop { IfOk result (λ page. page.1 ≡ length (bytes_of (opening self.now.pages ++ define (definitions_of fonts.now slots.now)))) }
     {
         let mut before = opening(alloc, self.pages)?;
         append_definitions(fonts, slots, &mut before)?;
-        let mut bytes = Vec::new(alloc);
+        let mut bytes = Vec::with_capacity(alloc, body.len().saturating_add(body.len() / 2))?;
         append_all(&mut bytes, &before)?;
         let bop = bytes.len();
         append_page(&mut bytes, counts, body, self.last)?;
         Ok((bytes, bop))
     }
 
-    /// Keeps the slots whose fonts a page defines, where its bop stands among its bytes, and how many bytes and nodes it has.
+    /// Adds a page to the numbers: the slots of the fonts that it defines, the place of its bop in its bytes, and its bytes and nodes.
     fn keep_size(&mut self, slots: &[u8], bop: usize, size: usize, load: PageLoad)
-        requires few { length self.old.defined + length slots.now ≤ 256 }
+        requires slots_bounded { length self.old.defined + length slots.now ≤ 256 }
         requires within { bop ≤ size }
         requires room { self.old.size + size < 2 ^ 31 }
         requires pages { self.old.pages < MAX_PAGES }
@@ -293,7 +302,7 @@ impl Progress {
         self.text += load.text;
     }
 
-    /// Keeps how far a page reaches.
+    /// Adds the bottom and the right edge of a page to the numbers.
     fn keep_reach(&mut self, box_node: &BoxNode, at: PagePoint, counts: &[i32; 10])
         requires { is_huge (page_at counts.now at.h at.v box_node.now) ≡ false }
         ensures { self.new ≡ record self.old { tall = int_max self.old.tall (reach_down (page_at counts.now at.h at.v box_node.now)); wide = int_max self.old.wide (reach_right (page_at counts.now at.h at.v box_node.now)) } }
@@ -303,14 +312,17 @@ impl Progress {
         self.wide = self.wide.max(reach_right(box_node, at));
     }
 
-    /// Keeps how many pushes are open at once in a page with this body, where no page before it has more.
-    fn keep_depth(&mut self, body: &[Op<'_>])
-        ensures { (forest : Forest) → map view body.now ≡ flat forest → self.new ≡ record self.old { deep = max self.old.deep (nests forest) } }
+    /// Adds the depth of a page with this body to the numbers: the greatest number of pushes that are open at once.
+    fn keep_depth(&mut self, body: &[BodyOp<'_>], deepest: usize)
+        requires { (forest : Forest) → map body_view body.now ≡ flat forest → deepest ≡ nests forest }
+        ensures { (forest : Forest) → map body_view body.now ≡ flat forest → self.new ≡ record self.old { deep = max self.old.deep (nests forest) } }
     {
-        self.deep = self.deep.max(push_depth(body));
+        let _body = body;
+        self.deep = self.deep.max(deepest);
     }
 
-    /// The page of a box that goes out next. HugePage exactly where it is huge, also where memory is refused as well; else OutOfMemory.
+    /// The page of a box that is sent next. The fault is HugePage exactly where the page is huge, even if memory is refused too, and OutOfMemory
+    /// otherwise.
     #[tactic(auto, unfolding(crate::specs::SoFar::with_next, crate::specs::SoFar::next_bytes))]
     pub fn next_page(
         &self,
@@ -330,23 +342,17 @@ impl Progress {
         ensures err { IfErr result (λ fault. fault
             ≡ (if is_huge (page_at counts.now at.h at.v box_node.now) then WriteFault.HugePage else WriteFault.OutOfMemory)) }
     {
-        let body = written_body(
-            alloc,
-            box_node,
-            at,
-            counts,
-            load.nodes.min(MAX_ROOM) as usize,
-        )?;
-        let fresh = fresh_slots(alloc, fonts, self.defined.as_slice(), &body)?;
+        let body = written_body(alloc, box_node, at, counts, room_for(load.nodes))?;
+        let (fresh, deepest) = fresh_slots(alloc, fonts, self.defined.as_slice(), &body)?;
         let (bytes, bop) = self.lay_out(alloc, fonts, &fresh, counts, &body)?;
         let mut behind = self.copied();
         behind.keep_size(&fresh, bop, bytes.len(), load);
         behind.keep_reach(box_node, at, counts);
-        behind.keep_depth(&body);
+        behind.keep_depth(&body, deepest);
         Ok(NextPage { bytes, behind })
     }
 
-    /// What post says.
+    /// The operands of post.
     fn postamble(&self) -> Postamble
         requires { self.now.deep < 2 ^ 16 }
         ensures { view (ops.Post result) ≡ Post (stop_so_far self.now) }
@@ -366,7 +372,7 @@ impl Progress {
         requires room { self.now.size < 2 ^ 31 }
         requires deep { self.now.deep < 2 ^ 16 }
         ensures ok { IfOk result (λ ops. map view ops.items ≡ closing_so_far fonts.now self.now) }
-        ensures few { IfOk result (λ ops. AllByRecursion HasSpelling (map view ops.items)) }
+        ensures operands_fit { IfOk result (λ ops. AllByRecursion HasSpelling (map view ops.items)) }
     {
         let slots = in_rising_order(alloc, self.defined.as_slice())?;
         let mut ops = Vec::new(alloc);
@@ -379,7 +385,7 @@ impl Progress {
         Ok(ops)
     }
 
-    /// The bytes from post to the end of the file.
+    /// The bytes from post to the end of the file. The result is an Err where memory is refused.
     #[tactic(auto, unfolding(crate::specs::SoFar::last_bytes))]
     pub fn last_bytes(&self, alloc: Global, fonts: &Fonts) -> Result<Vec<u8>, AllocError>
         requires room { self.now.size < 2 ^ 31 }

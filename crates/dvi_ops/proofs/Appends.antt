@@ -1,17 +1,17 @@
--- What is said of a list of instructions or of parts, at two lists one behind the other.
+-- Facts about two lists of instructions or of parts, one after the other.
 use Rattle.std.proofs.Common.{◌≡◌, ◌+◌, ◌++◌, [], ◌∷◌, List, length, map, ℕ, suc, ℤ, Option, Some, None, Bool, true, false, if◌then◌else◌, refl, sym, ◌∙◌, ap, append_assoc, add_assoc, length-append, arith}
 use Rattle.std.proofs.lemmas.List.{map-append}
 use Rattle.std.proofs.lemmas.Grind.{flat_map-append}
 use Rattle.std.specs.Ordering.{int_eq}
 use Rattle.std.specs.List.{flat_map, AllByRecursion}
-use Rattle.dvi_ops.specs.Instruction.{Definition, Leaf, Instruction, Do, Push, Pop, Bop, Eop}
+use Rattle.dvi_ops.specs.Instruction.{Definition, BodyLeaf, Instruction, Do, Push, Pop, Bop, Eop}
 use Rattle.dvi_ops.specs.Body.{Meaning, Acts, start}
-use Rattle.dvi_ops.specs.Tokens.{Token, says, written, place_of, places, pointer_of, pointers}
-use Rattle.dvi_ops.specs.Fonts.{definition_of, definitions, selection_of, selections, defined, FontsAreRight, known_after}
+use Rattle.dvi_ops.specs.Tokens.{Token, says, written, bop_place, places, pointer_of, pointers}
+use Rattle.dvi_ops.specs.Fonts.{definitions_in, definitions, selection_of, selections, defined, FontsAreRight, known_after}
 use Rattle.dvi_ops.specs.Forest.{Forest, Empty, Then, Group, flat, meaning}
-use Rattle.dvi_ops.specs.File.{Part, Idle, Defines, Shows, MarkedPage, page_then, pages_of, instructions}
+use Rattle.dvi_ops.specs.File.{FilePart, Idle, Defines, Shows, MarkedPage, page_then, pages_of, instructions}
 
--- All of two lists.
+-- A fact that holds of all items of two lists holds of all items of both together.
 pub all_append : {X : Type 0} (P : X → Type 0) (xs ys : List X) → AllByRecursion P xs → AllByRecursion P ys → AllByRecursion P (xs ++ ys)
 all_append P [] ys p q = q
 all_append P (x ∷ xs) ys (here, p) q = (here, all_append P xs ys p q)
@@ -24,7 +24,7 @@ pub all_back : {X : Type 0} (P : X → Type 0) (xs ys : List X) → AllByRecursi
 all_back P [] ys p = p
 all_back P (x ∷ xs) ys (here, p) = all_back P xs ys p
 
--- Something weaker of all, two things of all, and all of the images.
+-- From a fact of all items: a weaker one, the conjunction of two, and the fact of all images.
 pub all_weaker : {X : Type 0} (P Q : X → Type 0) (xs : List X) → ((x : X) → P x → Q x) → AllByRecursion P xs → AllByRecursion Q xs
 all_weaker P Q [] from p = tt
 all_weaker P Q (x ∷ xs) from (here, p) = (from x here, all_weaker P Q xs from p)
@@ -41,7 +41,7 @@ pub all_unmap : {X Y : Type 0} (P : Y → Type 0) (f : X → Y) (xs : List X) �
 all_unmap P f [] p = tt
 all_unmap P f (x ∷ xs) (here, p) = (here, all_unmap P f xs p)
 
--- The instructions, the bytes, and what is taken from each instruction.
+-- The instructions, the bytes and what is collected from each instruction, for two lists.
 pub says-append : (a b : List Token) → says (a ++ b) ≡ says a ++ says b
 says-append a b = map-append (λ (t : Token). t.says) a b
 
@@ -55,51 +55,51 @@ pub pointers-append : (a b : List Instruction) → pointers (a ++ b) ≡ pointer
 pointers-append a b = flat_map-append pointer_of a b
 
 pub definitions-append : (a b : List Instruction) → definitions (a ++ b) ≡ definitions a ++ definitions b
-definitions-append a b = flat_map-append definition_of a b
+definitions-append a b = flat_map-append definitions_in a b
 
 pub selections-append : (a b : List Instruction) → selections (a ++ b) ≡ selections a ++ selections b
 selections-append a b = flat_map-append selection_of a b
 
-pub instructions-append : (a b : List Part) → flat_map instructions (a ++ b) ≡ flat_map instructions a ++ flat_map instructions b
+pub instructions-append : (a b : List FilePart) → flat_map instructions (a ++ b) ≡ flat_map instructions a ++ flat_map instructions b
 instructions-append a b = flat_map-append instructions a b
 
--- The places: those of the second list are counted from the end of the first.
+-- The places of the bops of two lists: those of the second list count from the end of the first.
 pub places-append : (at : ℕ) (a b : List Token) → places at (a ++ b) ≡ places at a ++ places (at + length (written a)) b
 places-append at [] b = ap (λ n. places n b) (omega arith)
 places-append at (t ∷ a) b =
-    ap (λ ns. place_of at t.says ++ ns) (places-append (at + length t.bytes) a b)
-    ∙ (sym (append_assoc (place_of at t.says) (places (at + length t.bytes) a) (places ((at + length t.bytes) + length (written a)) b))
-    ∙ ap (λ n. (place_of at t.says ++ places (at + length t.bytes) a) ++ places n b) (add_assoc at (length t.bytes) (length (written a)) ∙ ap (λ n. at + n) (sym (length-append t.bytes (written a)))))
+    ap (λ ns. bop_place at t.says ++ ns) (places-append (at + length t.bytes) a b)
+    ∙ (sym (append_assoc (bop_place at t.says) (places (at + length t.bytes) a) (places ((at + length t.bytes) + length (written a)) b))
+    ∙ ap (λ n. (bop_place at t.says ++ places (at + length t.bytes) a) ++ places n b) (add_assoc at (length t.bytes) (length (written a)) ∙ ap (λ n. at + n) (sym (length-append t.bytes (written a)))))
 
 -- There are as many places as pointers.
 pub length-places : (at : ℕ) (tokens : List Token) → length (places at tokens) ≡ length (pointers (says tokens))
 length-places at [] = refl
 length-places at (t ∷ tokens) =
-    length-append (place_of at t.says) (places (at + length t.bytes) tokens)
-    ∙ (ap (λ n. length (place_of at t.says) + n) (length-places (at + length t.bytes) tokens)
+    length-append (bop_place at t.says) (places (at + length t.bytes) tokens)
+    ∙ (ap (λ n. length (bop_place at t.says) + n) (length-places (at + length t.bytes) tokens)
     ∙ (ap (λ n. n + length (pointers (says tokens))) (one_each at t.says)
     ∙ sym (length-append (pointer_of t.says) (pointers (says tokens)))))
   where
-    one_each : (at : ℕ) (i : Instruction) → length (place_of at i) ≡ length (pointer_of i)
+    one_each : (at : ℕ) (i : Instruction) → length (bop_place at i) ≡ length (pointer_of i)
     one_each at (Bop counts pointer) = refl
     one_each at i = refl
 
--- The fonts: those of the second list are right where the first list's definitions are known.
+-- The fonts of two lists: those of the second are right where the definitions of the first are known.
 pub known_after-append : (known : List Definition) (a b : List Instruction) → known_after known (a ++ b) ≡ known_after (known_after known a) b
 known_after-append known [] b = refl
-known_after-append known (i ∷ a) b = known_after-append (definition_of i ++ known) a b
+known_after-append known (i ∷ a) b = known_after-append (definitions_in i ++ known) a b
 
 pub fonts_append : (known : List Definition) (a b : List Instruction) → FontsAreRight known a → FontsAreRight (known_after known a) b → FontsAreRight known (a ++ b)
 fonts_append known [] b p q = q
-fonts_append known (i ∷ a) b (here, p) q = (here, fonts_append (definition_of i ++ known) a b p q)
+fonts_append known (i ∷ a) b (here, p) q = (here, fonts_append (definitions_in i ++ known) a b p q)
 
 pub fonts_front : (known : List Definition) (a b : List Instruction) → FontsAreRight known (a ++ b) → FontsAreRight known a
 fonts_front known [] b p = tt
-fonts_front known (i ∷ a) b (here, p) = (here, fonts_front (definition_of i ++ known) a b p)
+fonts_front known (i ∷ a) b (here, p) = (here, fonts_front (definitions_in i ++ known) a b p)
 
 pub fonts_back : (known : List Definition) (a b : List Instruction) → FontsAreRight known (a ++ b) → FontsAreRight (known_after known a) b
 fonts_back known [] b p = p
-fonts_back known (i ∷ a) b (here, p) = fonts_back (definition_of i ++ known) a b p
+fonts_back known (i ∷ a) b (here, p) = fonts_back (definitions_in i ++ known) a b p
 
 -- The first definition of a number in two lists.
 abbrev pub first_of : Option Definition → Option Definition → Option Definition
@@ -130,7 +130,7 @@ both_pages-none : (others : Option (List MarkedPage)) → others ≡ both_pages 
 both_pages-none None = refl
 both_pages-none (Some others) = refl
 
-pub pages_of-append : (does : Acts) (a b : List Part) → pages_of does (a ++ b) ≡ both_pages (pages_of does a) (pages_of does b)
+pub pages_of-append : (does : Acts) (a b : List FilePart) → pages_of does (a ++ b) ≡ both_pages (pages_of does a) (pages_of does b)
 pages_of-append does [] b = both_pages-none (pages_of does b)
 pages_of-append does (Idle ∷ a) b = pages_of-append does a b
 pages_of-append does (Defines d ∷ a) b = pages_of-append does a b
@@ -138,11 +138,11 @@ pages_of-append does (Shows counts pointer body ∷ a) b =
     ap (page_then counts (meaning does body start)) (pages_of-append does a b) ∙ page_then-both counts (meaning does body start) (pages_of does a) (pages_of does b)
 
 -- Where both lists have pages, the whole has them.
-pub pages_joined : (does : Acts) (a b : List Part) (pages others : List MarkedPage) → pages_of does a ≡ Some pages → pages_of does b ≡ Some others → pages_of does (a ++ b) ≡ Some (pages ++ others)
+pub pages_joined : (does : Acts) (a b : List FilePart) (pages others : List MarkedPage) → pages_of does a ≡ Some pages → pages_of does b ≡ Some others → pages_of does (a ++ b) ≡ Some (pages ++ others)
 pages_joined does a b pages others e e' = pages_of-append does a b ∙ (ap (λ (o : Option (List MarkedPage)). both_pages o (pages_of does b)) e ∙ ap (both_pages (Some pages)) e')
 
--- Where the whole has pages, both lists have them.
-pub pages_parted : (does : Acts) (a b : List Part) (all : List MarkedPage) → pages_of does (a ++ b) ≡ Some all →
+-- Where both lists together have pages, each of them has pages.
+pub pages_parted : (does : Acts) (a b : List FilePart) (all : List MarkedPage) → pages_of does (a ++ b) ≡ Some all →
     (pages : List MarkedPage) × (others : List MarkedPage) × (pages_of does a ≡ Some pages) × (pages_of does b ≡ Some others) × (all ≡ pages ++ others)
 pages_parted does a b all e = parted (pages_of does a) (pages_of does b) (sym (pages_of-append does a b) ∙ e)
   where
@@ -151,8 +151,8 @@ pages_parted does a b all e = parted (pages_of does a) (pages_of does b) (sym (p
     parted (Some pages) None e = absurd cc
     parted (Some pages) (Some others) e = let same : pages ++ others ≡ all = cc in (pages, others, refl, refl, sym same)
 
--- What stands in no leaf, push or pop is not in a body.
-pub body_has_none : {X : Type 0} (of : Instruction → List X) → ((i : Leaf) → of (Do i) ≡ []) → of Push ≡ [] → of Pop ≡ [] → (f : Forest) → flat_map of (flat f) ≡ []
+-- What no leaf, push or pop contains is not in a body.
+pub body_has_none : {X : Type 0} (of : Instruction → List X) → ((i : BodyLeaf) → of (Do i) ≡ []) → of Push ≡ [] → of Pop ≡ [] → (f : Forest) → flat_map of (flat f) ≡ []
 body_has_none of leaf push pop Empty = refl
 body_has_none of leaf push pop (Then i f) = ap (λ here. here ++ flat_map of (flat f)) (leaf i) ∙ body_has_none of leaf push pop f
 body_has_none of leaf push pop (Group inner f) =
@@ -169,7 +169,7 @@ pointers-page counts pointer f =
     ap (λ ps. pointer ∷ ps) (pointers-append (flat f) (Eop ∷ []) ∙ ap (λ ps. ps ++ pointers (Eop ∷ [])) (pointers-flat f))
 
 -- There are as many pages as bops.
-pub length-pages : (does : Acts) (parts : List Part) (pages : List MarkedPage) → pages_of does parts ≡ Some pages → length (pointers (flat_map instructions parts)) ≡ length pages
+pub length-pages : (does : Acts) (parts : List FilePart) (pages : List MarkedPage) → pages_of does parts ≡ Some pages → length (pointers (flat_map instructions parts)) ≡ length pages
 length-pages does [] pages e = let same : [] ≡ pages = cc in ap length same
 length-pages does (Idle ∷ parts) pages e = length-pages does parts pages e
 length-pages does (Defines d ∷ parts) pages e = length-pages does parts pages e

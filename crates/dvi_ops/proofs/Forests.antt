@@ -1,11 +1,11 @@
--- The pass with a stack is the meaning of the forest, and a list is the list of one forest at most.
+-- The pass with a stack gives the meaning of the forest, and a list is the list of at most one forest.
 use Rattle.std.proofs.Common.{◌≡◌, ◌++◌, [], ◌∷◌, List, Some, None, refl, sym, ◌∙◌, ap, append_assoc, append-nil, subst, max, arith}
-use Rattle.dvi_ops.specs.Instruction.{Leaf, Instruction, Do, Push, Pop, Eop}
-use Rattle.dvi_ops.specs.Body.{Mark, Place, State, Meaning, Acts, only}
+use Rattle.dvi_ops.specs.Instruction.{BodyLeaf, Instruction, Do, Push, Pop, Eop}
+use Rattle.dvi_ops.specs.Body.{Mark, Position, DviState, Meaning, Acts, only}
 use Rattle.dvi_ops.specs.Forest.{Forest, Empty, Then, Group, flat, ahead, and_then, restored, meaning, nests, beside}
 use Rattle.dvi_ops.specs.Walk.{walk}
 
--- No marks before a meaning leave it as it is.
+-- A meaning with no marks added before it is the same.
 ahead-nil : (m : Meaning) → ahead [] m ≡ m
 ahead-nil None = refl
 ahead-nil (Some (marks, s)) = refl
@@ -14,17 +14,17 @@ ahead-ahead : (a b : List Mark) (m : Meaning) → ahead a (ahead b m) ≡ ahead 
 ahead-ahead a b None = refl
 ahead-ahead a b (Some (marks, s)) = ap (λ (marks : List Mark). Some (marks, s)) (sym (append_assoc a b marks))
 
-ahead-and_then : (a : List Mark) (m : Meaning) (k : State → Meaning) → and_then (ahead a m) k ≡ ahead a (and_then m k)
+ahead-and_then : (a : List Mark) (m : Meaning) (k : DviState → Meaning) → and_then (ahead a m) k ≡ ahead a (and_then m k)
 ahead-and_then a None k = refl
 ahead-and_then a (Some (marks, s)) k = sym (ahead-ahead a marks (k s))
 
 -- Two steps one after the other, grouped either way.
-pub and_then-and_then : (m : Meaning) (j k : State → Meaning) → and_then (and_then m j) k ≡ and_then m (λ t. and_then (j t) k)
+pub and_then-and_then : (m : Meaning) (j k : DviState → Meaning) → and_then (and_then m j) k ≡ and_then m (λ t. and_then (j t) k)
 and_then-and_then None j k = refl
 and_then-and_then (Some (marks, s)) j k = ahead-and_then marks (j s) k
 
--- What follows may be replaced by what is equal to it.
-pub and_then-same : (m : Meaning) (j k : State → Meaning) → ((t : State) → j t ≡ k t) → and_then m j ≡ and_then m k
+-- The continuation may be replaced by an equal one.
+pub and_then-same : (m : Meaning) (j k : DviState → Meaning) → ((t : DviState) → j t ≡ k t) → and_then m j ≡ and_then m k
 and_then-same None j k same = refl
 and_then-same (Some (marks, s)) j k same = ap (ahead marks) (same s)
 
@@ -32,13 +32,13 @@ and_then-only : (m : Meaning) → and_then m only ≡ m
 and_then-only None = refl
 and_then-only (Some (marks, s)) = ap (λ (marks : List Mark). Some (marks, s)) (append-nil marks)
 
-and_then-restored : (p : Place) (m : Meaning) (k : State → Meaning) →
+and_then-restored : (p : Position) (m : Meaning) (k : DviState → Meaning) →
     and_then (restored p m) k ≡ and_then m (λ t. k (record { place = p; font = t.font }))
 and_then-restored p None k = refl
 and_then-restored p (Some (marks, s)) k = refl
 
--- The pass over a forest's list and what stands behind it is the meaning, and then the pass over the rest.
-pub walk-flat : (does : Acts) (f : Forest) (rest : List Instruction) (stack : List Place) (s : State) →
+-- The pass over a forest's list and the rest is the meaning of the forest, and then the pass over the rest.
+pub walk-flat : (does : Acts) (f : Forest) (rest : List Instruction) (stack : List Position) (s : DviState) →
     walk does (flat f ++ rest) stack s ≡ and_then (meaning does f s) (λ t. walk does rest stack t)
 walk-flat does Empty rest stack s = sym (ahead-nil (walk does rest stack s))
 walk-flat does (Then i f) rest stack s =
@@ -52,38 +52,38 @@ walk-flat does (Group inner f) rest stack s =
     ∙ sym (and_then-and_then (restored s.place (meaning does inner s)) (λ t. meaning does f t) (λ u. walk does rest stack u)))))
 
 -- The pass gives the meaning of every forest.
-pub walk-meaning : (does : Acts) (f : Forest) (s : State) → walk does (flat f) [] s ≡ meaning does f s
+pub walk-meaning : (does : Acts) (f : Forest) (s : DviState) → walk does (flat f) [] s ≡ meaning does f s
 walk-meaning does f s =
     ap (λ is. walk does is [] s) (sym (append-nil (flat f))) ∙ (walk-flat does f [] [] s ∙ and_then-only (meaning does f s))
 
--- A list that ends groups which were opened before it, as many as the stack has places.
-Opens : List Instruction → List Place → Type 0
+-- A list that closes groups which were opened before it, one for each place of the stack.
+Opens : List Instruction → List Position → Type 0
 Opens is [] = (f : Forest) × (is ≡ flat f)
 Opens is (p ∷ stack) = (f : Forest) × (rest : List Instruction) × (is ≡ flat f ++ (Pop ∷ rest)) × Opens rest stack
 
-then_opens : (i : Leaf) (is : List Instruction) (stack : List Place) → Opens is stack → Opens (Do i ∷ is) stack
+then_opens : (i : BodyLeaf) (is : List Instruction) (stack : List Position) → Opens is stack → Opens (Do i ∷ is) stack
 unfolding Opens
 then_opens i is [] (f, e) = (Then i f, ap (λ (is : List Instruction). Do i ∷ is) e)
 then_opens i is (p ∷ stack) (f, rest, e, more) = (Then i f, rest, ap (λ (is : List Instruction). Do i ∷ is) e, more)
 
-group_opens : (p : Place) (is : List Instruction) (stack : List Place) → Opens is (p ∷ stack) → Opens (Push ∷ is) stack
+group_opens : (p : Position) (is : List Instruction) (stack : List Position) → Opens is (p ∷ stack) → Opens (Push ∷ is) stack
 unfolding Opens
 group_opens p is [] (inner, rest, e, (f, whole)) =
     (Group inner f, ap (λ (is : List Instruction). Push ∷ is) (e ∙ ap (λ (is : List Instruction). flat inner ++ (Pop ∷ is)) whole))
 group_opens p is (q ∷ stack) (inner, rest, e, (f, rest', whole, more)) =
     (Group inner f, rest', ap (λ (is : List Instruction). Push ∷ is) (e ∙ (ap (λ (is : List Instruction). flat inner ++ (Pop ∷ is)) whole ∙ sym (append_assoc (flat inner) (Pop ∷ flat f) (Pop ∷ rest')))), more)
 
--- Where a step and what follows it have a meaning, both have.
-pub and_then-some : (m : Meaning) (k : State → Meaning) (out : List Mark × State) → and_then m k ≡ Some out →
-    (t : State) × (last : List Mark × State) × (k t ≡ Some last)
+-- Where a step and its continuation have a meaning together, each has one.
+pub and_then-some : (m : Meaning) (k : DviState → Meaning) (out : List Mark × DviState) → and_then m k ≡ Some out →
+    (t : DviState) × (last : List Mark × DviState) × (k t ≡ Some last)
 and_then-some None k out e = absurd cc
 and_then-some (Some (marks, s)) k out e = (s, (ahead_some marks (k s) out e).0, (ahead_some marks (k s) out e).1)
   where
-    ahead_some : (marks : List Mark) (m : Meaning) (out : List Mark × State) → ahead marks m ≡ Some out → (last : List Mark × State) × (m ≡ Some last)
+    ahead_some : (marks : List Mark) (m : Meaning) (out : List Mark × DviState) → ahead marks m ≡ Some out → (last : List Mark × DviState) × (m ≡ Some last)
     ahead_some marks None out e = cc
     ahead_some marks (Some last) out e = (last, refl)
 
-walk_opens : (does : Acts) (is : List Instruction) (stack : List Place) (s : State) (out : List Mark × State) → walk does is stack s ≡ Some out → Opens is stack
+walk_opens : (does : Acts) (is : List Instruction) (stack : List Position) (s : DviState) (out : List Mark × DviState) → walk does is stack s ≡ Some out → Opens is stack
 unfolding Opens
 walk_opens does [] [] s out e = (Empty, refl)
 walk_opens does [] (p ∷ stack) s out e = absurd cc
@@ -94,14 +94,14 @@ walk_opens does (Do i ∷ rest) stack s out e =
     let next = and_then-some (does i s) (λ t. walk does rest stack t) out e in then_opens i rest stack (walk_opens does rest stack next.0 next.1 next.2)
 walk_opens does (i ∷ rest) stack s out e = absurd cc
 
--- Where the pass gives a meaning, there is a forest with this list, and it has that meaning.
-pub walked_forest : (does : Acts) (is : List Instruction) (s : State) (out : List Mark × State) → walk does is [] s ≡ Some out →
+-- Where the pass gives a meaning, a forest has this list and this meaning.
+pub walked_forest : (does : Acts) (is : List Instruction) (s : DviState) (out : List Mark × DviState) → walk does is [] s ≡ Some out →
     (f : Forest) × (is ≡ flat f) × (meaning does f s ≡ Some out)
 unfolding Opens
 walked_forest does is s out e =
     let found = walk_opens does is [] s out e in (found.0, found.1, sym (walk-meaning does found.0 s) ∙ (ap (λ is. walk does is [] s) (sym found.1) ∙ e))
 
--- A list that ends a body: it begins with no leaf and no push.
+-- A list that may follow a body: it begins with no leaf and no push.
 pub Ends : List Instruction → Type 0
 Ends [] = Unit {0}
 Ends (Do i ∷ rest) = ⊥
@@ -112,7 +112,7 @@ pub ends_eop : (rest : List Instruction) → Ends (Eop ∷ rest)
 unfolding Ends
 ends_eop rest = tt
 
--- Two forests are equal where their instructions with a list behind each that ends a body are equal; the two lists are equal too.
+-- Two forests are equal where their lists are equal after each was extended by a list that may follow a body. These two lists are equal too.
 pub flat_cut : (f g : Forest) (x y : List Instruction) → Ends x → Ends y → flat f ++ x ≡ flat g ++ y → (f ≡ g) × (x ≡ y)
 unfolding Ends
 flat_cut Empty Empty x y ends ends' e = (refl, e)
@@ -134,19 +134,19 @@ flat_cut (Group inner f) (Group inner' g) x y ends ends' e =
     let f_same : f ≡ g = second.0 in
     (cc, second.1)
 
--- A list is the list of one forest at most.
+-- A list is the list of at most one forest.
 pub one_forest : (f g : Forest) → flat f ≡ flat g → f ≡ g
 unfolding Ends
 one_forest f g e = (flat_cut f g [] [] tt tt (append-nil (flat f) ∙ (e ∙ sym (append-nil (flat g))))).0
 
--- One body behind another: its instructions, its meaning, and how many pushes are open.
+-- The concatenation of two bodies: its instructions, its meaning, and its open pushes.
 pub flat-beside : (f g : Forest) → flat (beside f g) ≡ flat f ++ flat g
 flat-beside Empty g = refl
 flat-beside (Then i f) g = ap (λ (is : List Instruction). Do i ∷ is) (flat-beside f g)
 flat-beside (Group inner f) g =
     ap (λ (is : List Instruction). Push ∷ (flat inner ++ Pop ∷ is)) (flat-beside f g) ∙ ap (λ (is : List Instruction). Push ∷ is) (sym (append_assoc (flat inner) (Pop ∷ flat f) (flat g)))
 
-pub meaning-beside : (does : Acts) (f g : Forest) (s : State) → meaning does (beside f g) s ≡ and_then (meaning does f s) (λ t. meaning does g t)
+pub meaning-beside : (does : Acts) (f g : Forest) (s : DviState) → meaning does (beside f g) s ≡ and_then (meaning does f s) (λ t. meaning does g t)
 meaning-beside does Empty g s = sym (ahead-nil (meaning does g s))
 meaning-beside does (Then i f) g s =
     and_then-same (does i s) (λ t. meaning does (beside f g) t) (λ t. and_then (meaning does f t) (λ u. meaning does g u)) (λ t. meaning-beside does f g t)

@@ -1,4 +1,4 @@
--- No spelling begins another, so bytes have one list of instructions, one frame, and one list of pages.
+-- No spelling is the beginning of another, so bytes have one list of instructions, one frame, and one list of pages.
 use Rattle.std.proofs.Common.{◌≡◌, ◌+◌, ◌++◌, [], ◌∷◌, List, length, replicate, take, ℕ, zero, suc, pos, Some, refl, sym, ◌∙◌, ap, ap₂, subst, append_assoc, append-nil, length-append, arith, add-one, ◌≤◌, ◌%◌, min, map, negsuc, IsSome}
 use Rattle.std.proofs.lemmas.List.{append_cancel_left, take_at, same_from_push, replicate_more}
 use Rattle.std.specs.List.{flat_map, AllByRecursion}
@@ -6,13 +6,13 @@ use Rattle.dvi_ops.specs.Instruction.{Postamble, Instruction, Push, Eop, Pre, Po
 use Rattle.dvi_ops.specs.Table.{Spells, signed}
 use Rattle.dvi_ops.specs.Forest.{flat}
 use Rattle.dvi_ops.specs.Tokens.{Token, IsSpelled, says, written, places, pointers}
-use Rattle.dvi_ops.specs.File.{Part, Idle, Defines, Shows, instructions, MarkedPage, pages_of, depth_of, IsIdle, AreUnits, Frame, IsFile}
-use Rattle.dvi_ops.specs.Fonts.{Metrics, FontsAreRight, definitions, selections, font, widths_of}
+use Rattle.dvi_ops.specs.File.{FilePart, Idle, Defines, Shows, instructions, MarkedPage, pages_of, push_depth_of, IsIdle, AreUnits, Frame, IsFile}
+use Rattle.dvi_ops.specs.Fonts.{WidthsByName, FontsAreRight, definitions, selections, font, widths_of}
 use Rattle.dvi_ops.specs.Body.{acts, kept}
 use Rattle.dvi_ops.proofs.FrontLaws.{one_reading}
 use Rattle.dvi_ops.proofs.Forests.{flat_cut, ends_eop}
 
--- Two lists cut at the same place from the front, or at the same length from the end.
+-- Two equal lists, cut at the same distance from the start or from the end.
 pub one_cut : {X : Type 0} (a b x y : List X) → a ++ x ≡ b ++ y → length a ≡ length b → (a ≡ b) × (x ≡ y)
 one_cut [] [] x y e same = (refl, e)
 one_cut [] (z ∷ b) x y e same = absurd cc
@@ -30,7 +30,7 @@ pub not_empty : (i : Instruction) → Spells i [] → ⊥
 not_empty i s =
     let push : List ℕ = 141 ∷ [] in let same = one_reading i Push [] push push [] s refl refl in let empty : [] ≡ push = same.1 in cc
 
--- What is spelled first in bytes, where other spelled instructions make up all of them.
+-- Where instructions spell the beginning of bytes that other instructions spell in whole, the other list begins with the first one.
 pub begins : (ts us : List Token) (x : List ℕ) → AllByRecursion IsSpelled ts → AllByRecursion IsSpelled us → written ts ++ x ≡ written us →
     (more : List Token) × (us ≡ ts ++ more) × AllByRecursion IsSpelled more × (written more ≡ x)
 begins [] us x p q e = (us, refl, q, sym e)
@@ -53,7 +53,7 @@ take_none : (n : ℕ) → take {A = ℕ} n [] ≡ []
 take_none zero = refl
 take_none (suc n) = refl
 
--- Nothing is left where no front of the bytes spells an instruction.
+-- Nothing remains where no beginning of the bytes spells an instruction.
 pub stuck : (ts : List Token) (x : List ℕ) → AllByRecursion IsSpelled ts → written ts ≡ x → ((i : Instruction) (size : ℕ) → Spells i (take size x) → ⊥) → ts ≡ []
 stuck [] x p e none = refl
 stuck (t ∷ ts) x (here, p) e none =
@@ -69,7 +69,7 @@ one_list ts us p q e =
     nothing : (more : List Token) → AllByRecursion IsSpelled more → written more ≡ [] → more ≡ []
     nothing more p e = stuck more [] p e (λ i size s. not_empty i (subst (λ bytes. Spells i bytes) (take_none size) s))
 
--- A list that ends in 2 and then n times 223, from its end.
+-- A list that ends with 2 and then n times 223, built from its end.
 trailing : List ℕ → ℕ → List ℕ
 trailing a zero = a ++ 2 ∷ []
 trailing a (suc n) = trailing a n ++ 223 ∷ []
@@ -91,11 +91,11 @@ one_trailing a b zero (suc m) e = absurd (two_differs _ _ (same_from_push a (tra
 one_trailing a b (suc n) zero e = absurd (two_differs _ _ (sym (same_from_push (trailing a n) b 223 2 e).1) refl refl)
 one_trailing a b (suc n) (suc m) e = let same = one_trailing a b n m (same_from_push (trailing a n) (trailing b m) 223 223 e).0 in (same.0, ap suc same.1)
 
--- What stands before a 2 and bytes 223 at the end, and how many these are, is fixed.
+-- The bytes before a 2 and bytes 223 at the end are determined, and so is the number of the bytes 223.
 pub one_trailer : (a b : List ℕ) (n m : ℕ) → a ++ 2 ∷ replicate n 223 ≡ b ++ 2 ∷ replicate m 223 → (a ≡ b) × (n ≡ m)
 one_trailer a b n m e = one_trailing a b n m (sym (trailing-is a n) ∙ (e ∙ trailing-is b m))
 
--- A frame's bytes cut into what stands before post_post's operand, that operand, and the end.
+-- The bytes of a frame: those before the operand of post_post, this operand, and the end.
 pub record Cut (bytes : List ℕ) (f : Frame bytes) : Type 0 where
   pub operand : List ℕ
   pub whole : bytes ≡ (((written f.front ++ (f.post ++ (written f.tail ++ 249 ∷ []))) ++ operand) ++ 2 ∷ replicate f.padding 223)
@@ -153,8 +153,8 @@ one_frame bytes f g =
       padding = trailer.1;
     }
 
--- Instructions are those of one list of parts at most.
-pub one_parts : (ps qs : List Part) → flat_map instructions ps ≡ flat_map instructions qs → ps ≡ qs
+-- Instructions are those of at most one list of parts.
+pub one_parts : (ps qs : List FilePart) → flat_map instructions ps ≡ flat_map instructions qs → ps ≡ qs
 one_parts [] [] e = refl
 one_parts [] (Idle ∷ qs) e = absurd cc
 one_parts [] (Defines d ∷ qs) e = absurd cc
@@ -183,7 +183,7 @@ one_parts (Shows counts pointer body ∷ ps) (Shows counts' pointer' body' ∷ q
     cc
 
 -- Bytes have one list of pages.
-pub one_list_of_pages : (metrics : Metrics) (bytes : List ℕ) (pages others : List MarkedPage) → IsFile metrics bytes pages → IsFile metrics bytes others → pages ≡ others
+pub one_list_of_pages : (metrics : WidthsByName) (bytes : List ℕ) (pages others : List MarkedPage) → IsFile metrics bytes pages → IsFile metrics bytes others → pages ≡ others
 one_list_of_pages metrics bytes pages others f g =
     let same = one_frame bytes f.frame g.frame in
     let fronts : Pre 2 f.frame.stop.units f.comment ∷ flat_map instructions f.parts ≡ Pre 2 g.frame.stop.units g.comment ∷ flat_map instructions g.parts =
@@ -192,13 +192,13 @@ one_list_of_pages metrics bytes pages others f g =
     let parts = one_parts f.parts g.parts bodies in
     let shows : Some pages ≡ Some others =
     sym f.shows
-    ∙ (ap₂ (λ (tail : List Token) (parts : List Part). pages_of (kept (acts (widths_of metrics (definitions (says tail))))) parts) same.tail parts ∙ g.shows) in
+    ∙ (ap₂ (λ (tail : List Token) (parts : List FilePart). pages_of (kept (acts (widths_of metrics (definitions (says tail))))) parts) same.tail parts ∙ g.shows) in
     cc
 
--- What is wanted of the instructions of a frame, for a file of these pages.
-pub record Facts (metrics : Metrics) (front : List Token) (stop : Postamble) (tail : List Token) (pages : List MarkedPage) : Type 0 where
+-- The facts about the instructions of a frame that make a file of these pages.
+pub record Facts (metrics : WidthsByName) (front : List Token) (stop : Postamble) (tail : List Token) (pages : List MarkedPage) : Type 0 where
   pub comment : List ℕ
-  pub parts : List Part
+  pub parts : List FilePart
   pub front_is : says front ≡ Pre 2 stop.units comment ∷ flat_map instructions parts
   pub tail_is : AllByRecursion IsIdle (says tail)
   pub units : AreUnits stop.units
@@ -206,10 +206,10 @@ pub record Facts (metrics : Metrics) (front : List Token) (stop : Postamble) (ta
   pub count : stop.pages ≡ length pages % 65536
   pub fonts : FontsAreRight [] (says front ++ says tail)
   pub closing : AllByRecursion (λ f. IsSome (font metrics (definitions (says tail)) f)) (selections (says front))
-  pub depth : AllByRecursion (λ part. depth_of part ≤ min 1024 stop.stack_depth) parts
+  pub depth : AllByRecursion (λ part. push_depth_of part ≤ min 1024 stop.stack_depth) parts
   pub shows : pages_of (kept (acts (widths_of metrics (definitions (says tail))))) parts ≡ Some pages
 
-pub facts_of : (metrics : Metrics) (bytes : List ℕ) (pages : List MarkedPage) (f : IsFile metrics bytes pages) → Facts metrics f.frame.front f.frame.stop f.frame.tail pages
+pub facts_of : (metrics : WidthsByName) (bytes : List ℕ) (pages : List MarkedPage) (f : IsFile metrics bytes pages) → Facts metrics f.frame.front f.frame.stop f.frame.tail pages
 facts_of metrics bytes pages f =
     record {
       comment = f.comment;
@@ -225,16 +225,16 @@ facts_of metrics bytes pages f =
       shows = f.shows;
     }
 
--- Where bytes are a file, this holds of every frame that they have.
-pub facts_at : (metrics : Metrics) (bytes : List ℕ) (pages : List MarkedPage) → IsFile metrics bytes pages → (g : Frame bytes) → Facts metrics g.front g.stop g.tail pages
+-- Where bytes are a file, these facts hold of every frame of the bytes.
+pub facts_at : (metrics : WidthsByName) (bytes : List ℕ) (pages : List MarkedPage) → IsFile metrics bytes pages → (g : Frame bytes) → Facts metrics g.front g.stop g.tail pages
 facts_at metrics bytes pages f g =
     let same = one_frame bytes f.frame g in
     subst (λ (front : List Token). Facts metrics front g.stop g.tail pages) same.front
     (subst (λ (stop : Postamble). Facts metrics f.frame.front stop g.tail pages) same.stop
     (subst (λ (tail : List Token). Facts metrics f.frame.front f.frame.stop tail pages) same.tail (facts_of metrics bytes pages f)))
 
--- Where it holds of one frame, the bytes are a file.
-pub file_at : (metrics : Metrics) (bytes : List ℕ) (pages : List MarkedPage) (g : Frame bytes) → Facts metrics g.front g.stop g.tail pages → IsFile metrics bytes pages
+-- Where the facts hold of one frame, the bytes are a file.
+pub file_at : (metrics : WidthsByName) (bytes : List ℕ) (pages : List MarkedPage) (g : Frame bytes) → Facts metrics g.front g.stop g.tail pages → IsFile metrics bytes pages
 file_at metrics bytes pages g f =
     record {
       frame = g;

@@ -1,4 +1,4 @@
--- What `read` has to do with the table.
+-- How `read` and the table agree.
 use Rattle.std.proofs.Common.{ℕ, ◌≡◌, ◌≤◌, ◌-◌, List, [], ◌∷◌, ◌++◌, length, take, drop, slice_index, None, arith, refl, sym, ap, subst, ◌∙◌}
 use Rattle.std.proofs.Math.Seq.{take-append_seam}
 use Rattle.std.proofs.lemmas.Bool.{le-ltb}
@@ -10,7 +10,7 @@ use Rattle.dvi_ops.proofs.Fronts.{got, same_first, same_rest}
 use Rattle.dvi_ops.proofs.ReadSpells.{read_spells}
 use Rattle.dvi_ops.proofs.SpellsRead.{spells_read}
 
--- the bytes before the rest
+-- The rest is no longer than the bytes.
 pub front_length : (i : Instruction) (bytes rest : List ℕ) → read bytes ≡ got i rest → length rest ≤ length bytes
 front_length i bytes rest e =
     let s = read_spells bytes rest i e in
@@ -24,20 +24,20 @@ front_spells i bytes rest e =
     let same : take (length bytes - length rest) bytes ≡ s.front = ap (λ (x : List ℕ). take (length x - length rest) x) s.whole ∙ cut in
     subst (λ (x : List ℕ). Spells i x) (sym same) s.spells
 
--- where nothing is read, nothing is spelled
+-- Where nothing is read, no beginning of the bytes spells an instruction.
 pub none_spells : (bytes : List ℕ) → read bytes ≡ None → (i : Instruction) (size : ℕ) → Spells i (take size bytes) → ⊥
 none_spells bytes e i size says =
     let there : read bytes ≡ got i (drop size bytes) = ap read (sym (take-append-drop size bytes)) ∙ spells_read i (take size bytes) (drop size bytes) says in
     cc
 
--- codes from 250 begin nothing
+-- No instruction begins with a code from 250.
 pub none_read : (bytes : List ℕ) → 250 ≤ slice_index bytes 0 → read bytes ≡ None
 unfolding read frame_at
 none_read [] h = absurd (omega arith)
 none_read (operation ∷ rest) h =
     rw (le-ltb operation 132 (omega arith), le-ltb operation 143 (omega arith), le-ltb operation 157 (omega arith), le-ltb operation 171 (omega arith), le-ltb operation 239 (omega arith), le-ltb operation 247 (omega arith), le-ltb operation 248 (omega arith), le-ltb operation 249 (omega arith), le-ltb operation 250 (omega arith)) refl
 
--- no spelling begins another
+-- No spelling is the beginning of another.
 pub one_reading : (i j : Instruction) (a b x y : List ℕ) → Spells i a → Spells j b → a ++ x ≡ b ++ y → (i ≡ j) × (a ≡ b)
 one_reading i j a b x y first second same =
     let one = spells_read i a x first in

@@ -5,9 +5,9 @@ use Rattle.std.specs.Ordering.{int_eq}
 use Rattle.std.specs.List.{AllByRecursion}
 use Rattle.dvi_ops.specs.Instruction.{Across, Downward, By, Definition, SetChar, Move, FontNum}
 use Rattle.dvi_ops.specs.Spelling.{operand, signed_size, code_size, char_spelling, font_spelling, leaf_spelling, spelling, NumberFits}
-use Rattle.dvi_ops.specs.Body.{Mark, Glyph, State, Widths, acts, kept, start}
+use Rattle.dvi_ops.specs.Body.{Mark, Glyph, DviState, Widths, acts, kept, start}
 use Rattle.dvi_ops.specs.Forest.{Forest, Empty, Then, Group, meaning}
-use Rattle.dvi_ops.specs.Fonts.{Metrics, defined}
+use Rattle.dvi_ops.specs.Fonts.{WidthsByName, defined}
 use Rattle.dvi_ops.specs.File.{IsFile}
 use Rattle.dvi_ops.specs.Layout.{Sheet, Table, table_widths, IsTabled, IsGood}
 use Rattle.dvi_ops.specs.Examples.{one_rule_body, one_rule_marks, one_rule_file, one_rule_pages, two_page_file, two_pages, fonts_in_nested_boxes_file, fonts_in_nested_boxes_pages, tiny_name, GivesTiny}
@@ -23,7 +23,7 @@ no_fonts f = None
 abbrev one_rule_sheet : List ℤ → Sheet
 one_rule_sheet counts = record { counts = counts; fresh = []; body = one_rule_body }
 
-one_rule_good : (metrics : Metrics) (known : List Definition) (counts : List ℤ) → length counts ≡ 10 → AllByRecursion NumberFits counts → IsGood metrics no_fonts known (one_rule_sheet counts) one_rule_marks
+one_rule_good : (metrics : WidthsByName) (known : List Definition) (counts : List ℤ) → length counts ≡ 10 → AllByRecursion NumberFits counts → IsGood metrics no_fonts known (one_rule_sheet counts) one_rule_marks
 one_rule_good metrics known counts ten fit =
     record {
       ten = ten;
@@ -42,7 +42,7 @@ pub all_fit : (n : ℕ) → AllByRecursion NumberFits (replicate n (pos 0))
 all_fit zero = tt
 all_fit (suc n) = (record { sfits = lit< tt }, all_fit n)
 
-pub one_rule_is_file : (metrics : Metrics) → IsFile metrics one_rule_file one_rule_pages
+pub one_rule_is_file : (metrics : WidthsByName) → IsFile metrics one_rule_file one_rule_pages
 unfolding spelling leaf_spelling operand signed_size
 one_rule_is_file metrics =
     whole_file metrics no_fonts (one_rule_sheet zeros ∷ []) one_rule_pages (pos 65536) (pos 65536) [] 7
@@ -51,8 +51,8 @@ one_rule_is_file metrics =
 seven : List ℤ
 seven = pos 7 ∷ replicate 9 (pos 0)
 
--- The same page twice, the second with another count.
-pub two_page_is_file : (metrics : Metrics) → IsFile metrics two_page_file two_pages
+-- The same page twice, with another first count on the second.
+pub two_page_is_file : (metrics : WidthsByName) → IsFile metrics two_page_file two_pages
 unfolding spelling leaf_spelling operand signed_size seven
 two_page_is_file metrics =
     whole_file metrics no_fonts (one_rule_sheet zeros ∷ one_rule_sheet seven ∷ []) two_pages (pos 65536) (pos 65536) [] 4
@@ -88,12 +88,12 @@ nested_sheet = record { counts = zeros; fresh = small ∷ large ∷ []; body = n
 abbrev nested_marks : List Mark
 nested_marks = Glyph (pos 0) (pos 99) (pos 0) (pos 655360) ∷ Glyph (pos 1) (pos 98) (pos 327680) (pos 655360) ∷ Glyph (pos 1) (pos 99) (pos 983040) (pos 655360) ∷ []
 
--- The meaning of the body, by the three widths that it asks for.
+-- The meaning of the body, from the three widths that it needs.
 nested_shows : (widths : Widths) → widths (pos 0) (pos 99) ≡ Some (pos 327680) → widths (pos 1) (pos 98) ≡ Some (pos 655360) → widths (pos 1) (pos 99) ≡ Some (pos 655360) →
-    (last : State) × (meaning (kept (acts widths)) nested_body start ≡ Some (nested_marks, last))
+    (last : DviState) × (meaning (kept (acts widths)) nested_body start ≡ Some (nested_marks, last))
 nested_shows widths a b c = (record { place = record { h = pos 1638400; v = pos 655360; held = start.place.held }; font = Some (pos 1) }, rw (a, b, c) refl)
 
-nested_good : (metrics : Metrics) → GivesTiny metrics → IsGood metrics fonts [] nested_sheet nested_marks
+nested_good : (metrics : WidthsByName) → GivesTiny metrics → IsGood metrics fonts [] nested_sheet nested_marks
 nested_good metrics tiny =
     let shows = nested_shows (table_widths metrics fonts) (rw (tiny.small_is) (tiny.small_99)) (rw (tiny.large_is) (tiny.large_98)) (rw (tiny.large_is) (tiny.large_99)) in
     record {
@@ -118,7 +118,7 @@ known_are_there f some = by_tests (int_eq f (pos 1)) (int_eq f (pos 0)) some
     by_tests false false some = some
 
 -- Two fonts, a group and three glyphs, where the metric files give their widths.
-pub fonts_in_nested_boxes_is_file : (metrics : Metrics) → GivesTiny metrics → IsFile metrics fonts_in_nested_boxes_file fonts_in_nested_boxes_pages
+pub fonts_in_nested_boxes_is_file : (metrics : WidthsByName) → GivesTiny metrics → IsFile metrics fonts_in_nested_boxes_file fonts_in_nested_boxes_pages
 unfolding spelling leaf_spelling operand signed_size code_size char_spelling font_spelling
 fonts_in_nested_boxes_is_file metrics tiny =
     whole_file metrics fonts (nested_sheet ∷ []) fonts_in_nested_boxes_pages (pos 983040) (pos 1638400) (small ∷ large ∷ []) 5

@@ -1,4 +1,4 @@
--- What the writer has written, while it writes pages: lemmas for the law that the whole is a file.
+-- The state of the writer while it writes pages: lemmas for the law that the whole is a file.
 use Rattle.std.proofs.Common.{◌≡◌, ◌≤◌, ◌<◌, ◌+◌, ◌^◌, ◌++◌, [], ◌∷◌, List, length, map, ℕ, ℤ, pos, negsuc, Bool, true, false, if◌then◌else◌, Some, IsSome, refl, lit<, lit≤, sym, ◌∙◌, ap, ap₂, subst, append-nil, length-append, arith}
 use Rattle.std.proofs.lemmas.List.{nil_from_length, map-append}
 use Rattle.std.proofs.lemmas.Grind.{flat_map-append}
@@ -9,12 +9,12 @@ use Rattle.dvi_ops.specs.Spelling.{operand, spelling, NumberFits}
 use Rattle.dvi_ops.specs.Body.{Mark, Meaning, Acts, acts, kept}
 use Rattle.dvi_ops.specs.Forest.{flat}
 use Rattle.dvi_ops.specs.Tokens.{Token, says, written, places, pointers}
-use Rattle.dvi_ops.specs.Fonts.{Metrics, AgreesWith, definitions, selections, defined, FontsAreRight, known_after, font_in}
-use Rattle.dvi_ops.specs.File.{Part, Defines, Shows, instructions, MarkedPage, page_then, pages_of, depth_of}
-use Rattle.dvi_ops.specs.Layout.{bytes_of, preamble, define, Sheet, Written, at_first, sheet_from, after, Table, table_widths, IsWritable, IsTabled, IsGood}
+use Rattle.dvi_ops.specs.Fonts.{WidthsByName, AgreesWith, definitions, selections, defined, FontsAreRight, known_after, widths_in}
+use Rattle.dvi_ops.specs.File.{FilePart, Defines, Shows, instructions, MarkedPage, page_then, pages_of, push_depth_of}
+use Rattle.dvi_ops.specs.Layout.{bytes_of, preamble, define, Sheet, WriterKnowledge, after_preamble, sheet_from, after, Table, table_widths, IsWritable, IsTabled, IsGood}
 use Rattle.dvi_ops.proofs.Appends.{all_append, all_weaker, all_map, pointers-page, pointers-append, definitions-append, selections-append, instructions-append, places-append, length-places, known_after-append, fonts_append, pages_joined, pointers-flat}
 
--- An instruction with the bytes that are written for it.
+-- An instruction with its written bytes.
 abbrev pub wrote : Instruction → Token
 wrote i = record { says = i; bytes = spelling i }
 
@@ -36,7 +36,7 @@ length-bytes_of-append a b = ap length (bytes_of-append a b) ∙ length-append (
 no_places : (at : ℕ) (is : List Instruction) → pointers is ≡ [] → places at (map wrote is) ≡ []
 no_places at is none = nil_from_length _ (length-places at (map wrote is) ∙ (ap (λ (is : List Instruction). length (pointers is)) (says-wrote is) ∙ ap length none))
 
--- What stands in definitions.
+-- Definitions contain no bop and no selection.
 pub pointers-define : (fonts : List Definition) → pointers (define fonts) ≡ []
 pointers-define [] = refl
 pointers-define (d ∷ fonts) = pointers-define fonts
@@ -53,7 +53,7 @@ pub instructions-define : (fonts : List Definition) → flat_map instructions (m
 instructions-define [] = refl
 instructions-define (d ∷ fonts) = ap (λ (is : List Instruction). Do (FontDef d) ∷ is) (instructions-define fonts)
 
--- Where nothing is defined, no more is known, and fonts are right where those selected are known.
+-- Where nothing is defined, the known definitions stay, and the fonts are right where those selected are known.
 known_stays : (known : List Definition) (is : List Instruction) → definitions is ≡ [] → known_after known is ≡ known
 known_stays known [] none = refl
 known_stays known (Do (FontDef d) ∷ is) none = absurd cc
@@ -65,7 +65,7 @@ chosen_right known (Do (FontDef d) ∷ is) none chosen = absurd cc
 chosen_right known (Do (FontNum f) ∷ is) none (here, chosen) = (here, chosen_right known is none chosen)
 chosen_right known (i ∷ is) none chosen = (tt, chosen_right known is none chosen)
 
--- Two definitions of a job agree.
+-- Two definitions of one number in a job agree.
 tabled_agree : (table : Table) (d e : Definition) → IsTabled table d → IsTabled table e → AgreesWith d e
 tabled_agree table d e t u same = let first = t.listed in let second : table d.number ≡ Some e = ap table same ∙ u.listed in cc
 
@@ -89,7 +89,7 @@ stays_known f known (d ∷ fonts) p = stays_known f (d ∷ known) fonts (by_test
     by_test true = refl
     by_test false = p
 
--- -1, or a place up to n.
+-- The number -1, or a place up to n.
 pub IsPlaceUpTo : ℕ → ℤ → Type 0
 IsPlaceUpTo n (pos a) = a ≤ n
 IsPlaceUpTo n (negsuc a) = a ≡ 0
@@ -99,24 +99,24 @@ unfolding IsPlaceUpTo
 place_fits n (pos a) p below = record { sfits = omega arith }
 place_fits n (negsuc a) p below = record { sfits = omega arith }
 
--- How the writer's knowledge stands to what it has written.
-pub record Knows (metrics : Metrics) (table : Table) (s : Written) (is : List Instruction) (parts : List Part) (pages : List MarkedPage) : Type 0 where
+-- The relation between the writer's numbers and what it has written.
+pub record Knows (metrics : WidthsByName) (table : Table) (s : WriterKnowledge) (is : List Instruction) (parts : List FilePart) (pages : List MarkedPage) : Type 0 where
   pub writable : AllByRecursion IsWritable is
   pub is_front : is ≡ preamble ∷ flat_map instructions parts
   pub size : s.size ≡ length (bytes_of is)
   pub last : IsPlaceUpTo s.size s.last
   pub chain : pointers is ++ s.last ∷ [] ≡ negsuc 0 ∷ map pos (places 0 (map wrote is))
-  pub depth : AllByRecursion (λ part. depth_of part ≤ s.depth) parts
+  pub depth : AllByRecursion (λ part. push_depth_of part ≤ s.depth) parts
   pub shallow : s.depth ≤ 1024
   pub fonts : FontsAreRight [] is
   pub known : known_after [] is ≡ s.known
   pub tabled : AllByRecursion (IsTabled table) s.known
   pub chosen : AllByRecursion (λ f. IsSome (defined f s.known)) (selections is)
-  pub measured : AllByRecursion (λ f. IsSome (font_in metrics (table f))) (selections is)
+  pub measured : AllByRecursion (λ f. IsSome (widths_in metrics (table f))) (selections is)
   pub shows : pages_of (kept (acts (table_widths metrics table))) parts ≡ Some pages
 
--- At first there is the preamble.
-pub knows_first : (metrics : Metrics) (table : Table) → Knows metrics table at_first (preamble ∷ []) [] []
+-- At first only the preamble is written.
+pub knows_first : (metrics : WidthsByName) (table : Table) → Knows metrics table after_preamble (preamble ∷ []) [] []
 unfolding spelling operand IsPlaceUpTo
 knows_first metrics table =
     record {
@@ -135,23 +135,23 @@ knows_first metrics table =
       shows = refl;
     }
 
--- The parts of a page: the definitions of its fresh fonts, and itself.
-abbrev pub parts_of : ℤ → Sheet → List Part
+-- The parts of a page: the definitions of its fresh fonts, and the page itself.
+abbrev pub parts_of : ℤ → Sheet → List FilePart
 parts_of last p = map (λ d. Defines d) p.fresh ++ (Shows p.counts last p.body ∷ [])
 
 -- The page itself.
 abbrev pub page_from : ℤ → Sheet → List Instruction
 page_from last p = Bop p.counts last ∷ (flat p.body ++ Eop ∷ [])
 
--- The page as it is read.
+-- The page as a reader sees it.
 abbrev pub page_with : Sheet → List Mark → MarkedPage
 page_with p marks = record { counts = p.counts; marks = marks }
 
-pages-define : (does : Acts) (fonts : List Definition) (rest : List Part) → pages_of does (map (λ d. Defines d) fonts ++ rest) ≡ pages_of does rest
+pages-define : (does : Acts) (fonts : List Definition) (rest : List FilePart) → pages_of does (map (λ d. Defines d) fonts ++ rest) ≡ pages_of does rest
 pages-define does [] rest = refl
 pages-define does (d ∷ fonts) rest = pages-define does fonts rest
 
-module _ (metrics : Metrics) (table : Table) (s : Written) (is : List Instruction) (parts : List Part) (pages : List MarkedPage) (p : Sheet) (marks : List Mark)
+module _ (metrics : WidthsByName) (table : Table) (s : WriterKnowledge) (is : List Instruction) (parts : List FilePart) (pages : List MarkedPage) (p : Sheet) (marks : List Mark)
     (t : Knows metrics table s is parts pages) (g : IsGood metrics table s.known p marks) (small : s.size < 2 ^ 31) where
   writable_next : AllByRecursion IsWritable (is ++ sheet_from s.last p)
   writable_next =
@@ -219,7 +219,7 @@ module _ (metrics : Metrics) (table : Table) (s : Written) (is : List Instructio
       let sheet = fonts_append s.known (define p.fresh) (page_from s.last p) (defined_right table s.known p.fresh t.tabled g.fresh) page in
       fonts_append [] is (sheet_from s.last p) t.fonts (subst (λ (known : List Definition). FontsAreRight known (sheet_from s.last p)) (sym t.known) sheet)
 
-  -- What holds of the fonts that were selected before, and of those that the page selects.
+  -- What holds of the fonts selected before and of those that the page selects holds of both together.
   selected_next : (P : ℤ → Type 0) → AllByRecursion P (selections is) → AllByRecursion P (selections (flat p.body)) → AllByRecursion P (selections (is ++ sheet_from s.last p))
   selected_next P before here =
       subst (AllByRecursion P) (sym (selections-append is (sheet_from s.last p)))
@@ -236,13 +236,13 @@ module _ (metrics : Metrics) (table : Table) (s : Written) (is : List Instructio
       pages_joined does parts (parts_of s.last p) pages (page_with p marks ∷ []) t.shows
       (pages-define does p.fresh (Shows p.counts s.last p.body ∷ []) ∙ ap (λ (m : Meaning). page_then p.counts m (Some [])) g.shows)
 
-  depth_next : AllByRecursion (λ part. depth_of part ≤ (after s p).depth) (parts ++ parts_of s.last p)
+  depth_next : AllByRecursion (λ part. push_depth_of part ≤ (after s p).depth) (parts ++ parts_of s.last p)
   depth_next =
-      let Shallow : Part → Type 0 = λ part. depth_of part ≤ (after s p).depth in
-      all_append Shallow parts (parts_of s.last p) (all_weaker (λ part. depth_of part ≤ s.depth) Shallow parts (λ part q. omega arith) t.depth)
+      let Shallow : FilePart → Type 0 = λ part. push_depth_of part ≤ (after s p).depth in
+      all_append Shallow parts (parts_of s.last p) (all_weaker (λ part. push_depth_of part ≤ s.depth) Shallow parts (λ part q. omega arith) t.depth)
       (all_append Shallow (map (λ d. Defines d) p.fresh) (Shows p.counts s.last p.body ∷ []) (no_depth p.fresh) (omega arith, tt))
     where
-      no_depth : (fonts : List Definition) → AllByRecursion (λ part. depth_of part ≤ (after s p).depth) (map (λ d. Defines d) fonts)
+      no_depth : (fonts : List Definition) → AllByRecursion (λ part. push_depth_of part ≤ (after s p).depth) (map (λ d. Defines d) fonts)
       no_depth [] = tt
       no_depth (d ∷ fonts) = (omega arith, no_depth fonts)
 
@@ -250,7 +250,7 @@ module _ (metrics : Metrics) (table : Table) (s : Written) (is : List Instructio
   unfolding IsPlaceUpTo
   last_next = omega (arith, length-bytes_of-append (define p.fresh) (page_from s.last p))
 
-  -- One page more.
+  -- The relation holds after one more page.
   pub knows_next : Knows metrics table (after s p) (is ++ sheet_from s.last p) (parts ++ parts_of s.last p) (pages ++ page_with p marks ∷ [])
   knows_next =
       record {
@@ -265,6 +265,6 @@ module _ (metrics : Metrics) (table : Table) (s : Written) (is : List Instructio
         known = known_next;
         tabled = known_tabled table s.known p.fresh t.tabled g.fresh;
         chosen = chosen_next;
-        measured = selected_next (λ f. IsSome (font_in metrics (table f))) t.measured g.measured;
+        measured = selected_next (λ f. IsSome (widths_in metrics (table f))) t.measured g.measured;
         shows = shows_next;
       }

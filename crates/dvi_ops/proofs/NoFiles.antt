@@ -1,4 +1,4 @@
--- Bytes that are no file, and bytes that stay one.
+-- Bytes that are no file, and bytes that remain a file.
 use Rattle.std.proofs.Common.{◌≡◌, ◌+◌, ◌++◌, ◌≤◌, ◌<◌, ◌%◌, ◌^◌, min, [], ◌∷◌, List, length, replicate, take, ℕ, ℤ, pos, negsuc, refl, lit<, lit≤, sym, ◌∙◌, ap, subst, true, false, append_assoc, arith}
 use Rattle.std.proofs.lemmas.List.{replicate_more}
 use Rattle.std.specs.List.{flat_map, AllByRecursion}
@@ -6,8 +6,8 @@ use Rattle.dvi_ops.specs.Instruction.{Across, Downward, FontNum, FontDef, SetCha
 use Rattle.dvi_ops.specs.Spelling.{operand, signed_size, code_size, char_spelling, font_spelling, leaf_spelling, spelling, NumbersFit}
 use Rattle.dvi_ops.specs.Forest.{Empty, Then, Group}
 use Rattle.dvi_ops.specs.Tokens.{Token, written, pointers}
-use Rattle.dvi_ops.specs.Fonts.{Metrics}
-use Rattle.dvi_ops.specs.File.{Part, Idle, Defines, Shows, instructions, MarkedPage, depth_of, IsFile}
+use Rattle.dvi_ops.specs.Fonts.{WidthsByName}
+use Rattle.dvi_ops.specs.File.{FilePart, Idle, Defines, Shows, instructions, MarkedPage, push_depth_of, IsFile}
 use Rattle.dvi_ops.specs.Layout.{scaled_points, preamble, IsWritable}
 use Rattle.dvi_ops.specs.Examples.{self_naming_file, stray_pop_file, short_file, miscounted_file, undefined_font_file, shallow_file, one_rule_file}
 use Rattle.dvi_ops.proofs.KnownFiles.{nested_body, zeros, all_fit, small, large, small_tabled, large_tabled}
@@ -15,8 +15,8 @@ use Rattle.dvi_ops.proofs.Appends.{length-pages}
 use Rattle.dvi_ops.proofs.Frames.{one_trailer, cut_of, one_parts, facts_of, file_at}
 use Rattle.dvi_ops.proofs.WholeFile.{facts_of_written}
 
--- More bytes 223 at the end.
-pub padding_grows : (metrics : Metrics) (bytes : List ℕ) (pages : List MarkedPage) → IsFile metrics bytes pages → IsFile metrics (bytes ++ 223 ∷ []) pages
+-- A byte 223 may be added at the end.
+pub padding_grows : (metrics : WidthsByName) (bytes : List ℕ) (pages : List MarkedPage) → IsFile metrics bytes pages → IsFile metrics (bytes ++ 223 ∷ []) pages
 padding_grows metrics bytes pages f =
     let g = f.frame in
     file_at metrics (bytes ++ 223 ∷ []) pages
@@ -40,7 +40,7 @@ padding_grows metrics bytes pages f =
         (written front ++ (post ++ (written tail ++ (ending ++ replicate n 223)))) ++ 223 ∷ [] ≡ written front ++ (post ++ (written tail ++ (ending ++ replicate (n + 1) 223)))
     more front post tail ending n = simp append_assoc (ap (λ (bytes : List ℕ). written front ++ (post ++ (written tail ++ (ending ++ bytes)))) (replicate_more n 223))
 
--- What post says in a file of one rule.
+-- The operands of post in a file of one rule.
 abbrev one_rule_stop : ℕ → Postamble
 one_rule_stop count = record { last_bop = pos 15; units = scaled_points; height_plus_depth = pos 65536; width = pos 65536; stack_depth = 0; pages = count }
 
@@ -58,7 +58,7 @@ self_naming_fits : AllByRecursion IsWritable self_naming
 self_naming_fits =
     (preamble_fits, ((tt, (refl, all_fit 10, record { sfits = lit< tt })), ((tt, record { sfits = lit< tt }), ((tt, (record { sfits = lit< tt }, record { sfits = lit< tt })), ((tt, tt), tt)))))
 
-pub self_naming_is_none : (metrics : Metrics) (pages : List MarkedPage) → IsFile metrics self_naming_file pages → ⊥
+pub self_naming_is_none : (metrics : WidthsByName) (pages : List MarkedPage) → IsFile metrics self_naming_file pages → ⊥
 unfolding spelling leaf_spelling operand signed_size
 self_naming_is_none metrics pages f =
     let found = facts_of_written self_naming (one_rule_stop 1) [] 74 7 metrics pages self_naming_fits (stop_fits 1 (lit< tt)) tt refl (lit< tt) (lit≤ tt) f in
@@ -78,7 +78,7 @@ stray_pop_fits =
 tails : {X : Type 0} {x y : X} {xs ys : List X} → x ∷ xs ≡ y ∷ ys → xs ≡ ys
 tails e = cc
 
-no_pop_first : (counts : List ℤ) (pointer : ℤ) (rest : List Instruction) (parts : List Part) → Bop counts pointer ∷ Pop ∷ rest ≡ flat_map instructions parts → ⊥
+no_pop_first : (counts : List ℤ) (pointer : ℤ) (rest : List Instruction) (parts : List FilePart) → Bop counts pointer ∷ Pop ∷ rest ≡ flat_map instructions parts → ⊥
 no_pop_first counts pointer rest [] e = cc
 no_pop_first counts pointer rest (Idle ∷ parts) e = cc
 no_pop_first counts pointer rest (Defines d ∷ parts) e = cc
@@ -86,22 +86,22 @@ no_pop_first counts pointer rest (Shows counts' pointer' Empty ∷ parts) e = cc
 no_pop_first counts pointer rest (Shows counts' pointer' (Then i body) ∷ parts) e = cc
 no_pop_first counts pointer rest (Shows counts' pointer' (Group inner body) ∷ parts) e = cc
 
-pub stray_pop_is_none : (metrics : Metrics) (pages : List MarkedPage) → IsFile metrics stray_pop_file pages → ⊥
+pub stray_pop_is_none : (metrics : WidthsByName) (pages : List MarkedPage) → IsFile metrics stray_pop_file pages → ⊥
 unfolding spelling leaf_spelling operand signed_size
 stray_pop_is_none metrics pages f =
     let found = facts_of_written stray_pop (one_rule_stop 1) [] 74 7 metrics pages stray_pop_fits (stop_fits 1 (lit< tt)) tt refl (lit< tt) (lit≤ tt) f in
     let body : Bop zeros (negsuc 0) ∷ Pop ∷ Do Nop ∷ Do Nop ∷ Do Nop ∷ Do (SetRule (pos 65536) (pos 65536)) ∷ Eop ∷ [] ≡ flat_map instructions found.parts = tails found.front_is in
     no_pop_first zeros (negsuc 0) _ found.parts body
 
--- Three bytes 223 alone.
-pub short_is_none : (metrics : Metrics) (pages : List MarkedPage) → IsFile metrics short_file pages → ⊥
+-- A file with only three bytes 223.
+pub short_is_none : (metrics : WidthsByName) (pages : List MarkedPage) → IsFile metrics short_file pages → ⊥
 short_is_none metrics pages f =
     let cut = cut_of short_file f.frame in
     let three : f.frame.padding ≡ 3 = (one_trailer _ (take 108 one_rule_file) f.frame.padding 3 (sym cut.whole ∙ refl)).1 in
     let four = f.frame.padded in
     omega arith
 
--- A post that counts two pages.
+-- A file whose post counts two pages.
 abbrev one_rule : List Instruction
 one_rule = preamble ∷ Bop zeros (negsuc 0) ∷ Do (Move Downward (By (pos 65536))) ∷ Do (SetRule (pos 65536) (pos 65536)) ∷ Eop ∷ []
 
@@ -109,7 +109,7 @@ one_rule_fits : AllByRecursion IsWritable one_rule
 one_rule_fits =
     (preamble_fits, ((tt, (refl, all_fit 10, record { sfits = lit< tt })), ((tt, record { sfits = lit< tt }), ((tt, (record { sfits = lit< tt }, record { sfits = lit< tt })), ((tt, tt), tt)))))
 
-pub miscounted_is_none : (metrics : Metrics) (pages : List MarkedPage) → IsFile metrics miscounted_file pages → ⊥
+pub miscounted_is_none : (metrics : WidthsByName) (pages : List MarkedPage) → IsFile metrics miscounted_file pages → ⊥
 unfolding spelling leaf_spelling operand signed_size
 miscounted_is_none metrics pages f =
     let found = facts_of_written one_rule (one_rule_stop 2) [] 74 7 metrics pages one_rule_fits (stop_fits 2 (lit< tt)) tt refl (lit< tt) (lit≤ tt) f in
@@ -140,8 +140,8 @@ nested_tail = Do (FontDef small) ∷ Do (FontDef large) ∷ []
 nested_tail_fits : AllByRecursion IsWritable nested_tail
 nested_tail_fits = (small_tabled.writable, (large_tabled.writable, tt))
 
--- A font that is selected and has no definition.
-pub undefined_font_is_none : (metrics : Metrics) (pages : List MarkedPage) → IsFile metrics undefined_font_file pages → ⊥
+-- A font that is selected but has no definition.
+pub undefined_font_is_none : (metrics : WidthsByName) (pages : List MarkedPage) → IsFile metrics undefined_font_file pages → ⊥
 unfolding spelling leaf_spelling operand signed_size code_size char_spelling font_spelling
 undefined_font_is_none metrics pages f =
     let found = facts_of_written (nested (pos 2)) (nested_stop 1) nested_tail 116 5 metrics pages (nested_fits 2 (lit< tt)) (nested_stop_fits 1 (lit< tt)) nested_tail_fits refl (lit< tt) (lit≤ tt) f in
@@ -150,13 +150,13 @@ undefined_font_is_none metrics pages f =
     differ : false ≡ true → ⊥
     differ e = cc
 
--- A push that post does not count.
-pub shallow_is_none : (metrics : Metrics) (pages : List MarkedPage) → IsFile metrics shallow_file pages → ⊥
+-- A push that post does not allow.
+pub shallow_is_none : (metrics : WidthsByName) (pages : List MarkedPage) → IsFile metrics shallow_file pages → ⊥
 unfolding spelling leaf_spelling operand signed_size code_size char_spelling font_spelling
 shallow_is_none metrics pages f =
     let found = facts_of_written (nested (pos 1)) (nested_stop 0) nested_tail 116 5 metrics pages (nested_fits 1 (lit< tt)) (nested_stop_fits 0 (lit< tt)) nested_tail_fits refl (lit< tt) (lit≤ tt) f in
-    let parts : List Part = Defines small ∷ Defines large ∷ Shows zeros (negsuc 0) nested_body ∷ [] in
+    let parts : List FilePart = Defines small ∷ Defines large ∷ Shows zeros (negsuc 0) nested_body ∷ [] in
     let same : parts ≡ found.parts = one_parts parts found.parts (tails found.front_is) in
-    let depth = subst (AllByRecursion (λ part. depth_of part ≤ min 1024 0)) (sym same) found.depth in
+    let depth = subst (AllByRecursion (λ part. push_depth_of part ≤ min 1024 0)) (sym same) found.depth in
     let one : 1 ≤ 0 = depth.1.1.0 in
     omega arith

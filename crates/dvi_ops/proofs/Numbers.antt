@@ -1,4 +1,4 @@
--- What one to four bytes say.
+-- The values of one to four bytes.
 use Rattle.std.proofs.Common.{ℕ, zero, suc, ℤ, pos, ◌≡◌, ◌≤◌, ◌<◌, ◌+◌, ◌*◌, List, [], ◌∷◌, length, drop, slice_index, ◌-ℤ◌, nat_lt, if◌then◌else◌, arith, inl, inr, refl, sym, ap, ◌∙◌}
 use Rattle.std.proofs.lemmas.Bool.{cases_lt, lt-ltb, le-ltb}
 use Rattle.std.proofs.lemmas.Int.{ints}
@@ -10,7 +10,7 @@ use Rattle.byteorder.specs.Numbers.{big_from-lt}
 use Rattle.dvi_ops.specs.Reading.{words}
 use Rattle.dvi_ops.specs.Table.{signed}
 
--- one of four numbers
+-- Proof by cases on a number from 1 to 4.
 pub four : (P : ℕ → Type 0) (n : ℕ) → 1 ≤ n → n ≤ 4 → P 1 → P 2 → P 3 → P 4 → P n
 four P zero low high a b c d = absurd (omega arith)
 four P (suc zero) low high a b c d = a
@@ -19,7 +19,7 @@ four P (suc (suc (suc zero))) low high a b c d = c
 four P (suc (suc (suc (suc zero)))) low high a b c d = d
 four P (suc (suc (suc (suc (suc n))))) low high a b c d = absurd (omega arith)
 
--- a number in two's complement, in a field that is large enough
+-- A number in two's complement fits, where its field is small enough.
 complement_fits : (half x : ℕ) → half ≤ 2147483648 → x < 2 * half
     → FitsSigned w32 (if nat_lt x half then pos x else pos x -ℤ pos (2 * half))
 complement_fits half x large h = elim (cases_lt x half) [
@@ -35,7 +35,7 @@ signed_fits n bytes low high small =
     (let h = big_from-lt 0 3 bytes small in complement_fits 8388608 (big_number 3 bytes) (omega arith) (omega arith))
     (let h = big_from-lt 0 4 bytes small in complement_fits 2147483648 (big_number 4 bytes) (omega arith) (omega arith))
 
--- up to three bytes say less than 2^24
+-- The value of up to three bytes is below 2^24.
 pub short_below : (n : ℕ) (bytes : List ℕ) → n ≤ 3 → ((k : ℕ) → slice_index bytes k < 256) → big_number n bytes < 16777216
 short_below zero bytes high small = omega arith
 short_below (suc zero) bytes high small = let h = big_from-lt 0 1 bytes small in omega arith
@@ -43,14 +43,14 @@ short_below (suc (suc zero)) bytes high small = let h = big_from-lt 0 2 bytes sm
 short_below (suc (suc (suc zero))) bytes high small = let h = big_from-lt 0 3 bytes small in omega arith
 short_below (suc (suc (suc (suc n)))) bytes high small = absurd (omega arith)
 
--- a number of four bytes, cast as the code casts it
+-- The code's cast of a number of four bytes is its value in two's complement.
 cast_is : (x : ℕ) → x < 4294967296 → cast_signed w32 x ≡ twos_complement 4 x
 cast_is x h = elim (cases_lt x 2147483648) [
   | inl below ↦ rw (lt-ltb x 2147483648 below) refl
   | inr above ↦ rw (le-ltb x 2147483648 above) (omega (arith, ints))
 ]
 
--- the numbers that are read from some bytes are the words that stand there
+-- The numbers that the code reads from some bytes are `words` of these bytes.
 pub read_words : (n : ℕ) (src : List ℕ) (dst : List ℤ) → length dst ≡ n → ((k : ℕ) → slice_index src k < 256)
     → IsReadBy (λ ys. cast_signed w32 (big_number 4 ys)) 4 src dst → dst ≡ words n src
 unfolding words

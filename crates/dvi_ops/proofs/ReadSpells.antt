@@ -1,4 +1,4 @@
--- What is read as an instruction spells it.
+-- The bytes that were read as an instruction spell it.
 use Rattle.std.proofs.Common.{ℕ, ℤ, pos, ◌≡◌, ◌≤◌, ◌<◌, ◌+◌, ◌-◌, List, [], ◌∷◌, ◌++◌, length, None, arith, inl, inr, refl, sym, ap, subst, ◌∙◌, append_assoc}
 use Rattle.byteorder.specs.Endian.{big_number}
 use Rattle.dvi_ops.specs.Instruction.{Axis, Across, Downward, First, Second, By, Set, Again, Definition, Units, Postamble, SetChar, PutChar, SetRule, PutRule, Nop, Move, FontNum, FontDef, Xxx, Instruction, Do, Push, Pop, Bop, Eop, Pre, Post, PostPost}
@@ -6,13 +6,13 @@ use Rattle.dvi_ops.specs.Reading.{Front, made, followed, cut, signed_at, code_at
 use Rattle.dvi_ops.specs.Table.{signed, code, IsCoded, IsRule, SaysUnits, SaysDefinition, Spells, plain_code, register_code}
 use Rattle.dvi_ops.proofs.Fronts.{got, split, same_first, same_rest, made_is, followed_is, cut_is, byte_is, number_is, word_is, two_is, three_is, halves_is, words_stand}
 
--- a spelling of the instruction, and the rest behind it
+-- The bytes begin with a spelling of the instruction, and the rest follows.
 pub record Stands (i : Instruction) (bytes rest : List ℕ) : Type 0 where
   pub front : List ℕ
   pub whole : bytes ≡ front ++ rest
   pub spells : Spells i front
 
--- a code alone
+-- An instruction with no operand.
 fixed_is : (operation : ℕ) (j i : Instruction) (bytes rest : List ℕ) → Spells j (operation ∷ []) → got j bytes ≡ got i rest → Stands i (operation ∷ bytes) rest
 fixed_is operation j i bytes rest says e = record {
   front = operation ∷ [];
@@ -20,7 +20,7 @@ fixed_is operation j i bytes rest says e = record {
   spells = subst (λ (k : Instruction). Spells k (operation ∷ [])) (same_first j i bytes rest e) says;
 }
 
--- a code and one to four bytes
+-- An instruction with an operand of one to four bytes.
 coded_is : (says : ℕ → List ℕ → ℤ) (make : ℤ → Instruction) (base m operation : ℕ) (bytes rest : List ℕ) (i : Instruction)
     → 1 ≤ m → m ≤ 4 → operation ≡ base + m → ((z : ℤ) (a : List ℕ) → IsCoded says base z a → Spells (make z) a)
     → made make (made (says m) (cut m bytes)) ≡ got i rest → Stands i (operation ∷ bytes) rest
@@ -40,7 +40,7 @@ char_is operation bytes rest i bound e =
     (λ below f. fixed_is operation (Do (SetChar (pos operation))) i bytes rest (inl (operation, below, refl, refl)) f)
     (λ above f. coded_is code (λ c. Do (SetChar c)) 127 (operation - 127) operation bytes rest i (omega arith) (omega arith) (omega arith) (λ z a h. inr h) f)
 
--- a rule
+-- A rule.
 rule_is : (make : ℤ × ℤ → Instruction) (operation : ℕ) (bytes rest : List ℕ) (i : Instruction)
     → ((height width : ℤ) (a : List ℕ) → IsRule operation height width a → Spells (make (height, width)) a)
     → made make (two_at bytes) ≡ got i rest → Stands i (operation ∷ bytes) rest
@@ -68,7 +68,7 @@ bop_is bytes rest i e =
       spells = subst (λ (k : Instruction). Spells k (139 ∷ (a ++ b))) same spells;
     }
 
--- a code that is known
+-- A code that is known.
 by_code : (operation code : ℕ) (bytes rest : List ℕ) (i : Instruction) → operation ≡ code → Stands i (code ∷ bytes) rest → Stands i (operation ∷ bytes) rest
 by_code operation code bytes rest i e stands = subst (λ (n : ℕ). Stands i (n ∷ bytes) rest) (sym e) stands
 
@@ -91,7 +91,7 @@ plain_is operation bytes rest i low high e =
     (λ h f. by_code operation 141 bytes rest i (omega arith) (fixed_is 141 Push i bytes rest refl f))
     (λ a7 f. by_code operation 142 bytes rest i (omega arith) (fixed_is 142 Pop i bytes rest refl f))))))))
 
--- the codes of the registers, counted from the one before right1 or down1
+-- The codes of the registers, counted from the code before right1 or down1.
 first_code : (axis : Axis) → register_code axis First ≡ plain_code axis + 5
 first_code Across = refl
 first_code Downward = refl
@@ -157,7 +157,7 @@ names_is names bytes rest e =
     ∙ ap (λ (n : ℕ). n ∷ l ∷ (area ++ (name ++ rest))) (sym long_area) ∙ ap (λ (n : ℕ). length area ∷ n ∷ (area ++ (name ++ rest))) (sym long_name) in
     subst (λ (p : List ℕ × List ℕ). bytes ≡ length p.0 ∷ length p.1 ∷ (p.0 ++ (p.1 ++ rest))) pair whole
 
--- a font definition from its parts
+-- A font definition, from its parts.
 abbrev defined : ℤ → ℤ × ℤ × ℤ → List ℕ × List ℕ → Definition
 defined number sizes names = record {
   number = number;
@@ -202,7 +202,7 @@ long_is operation bytes rest i low high e =
       spells = subst (λ (k : Instruction). Spells k ((242 + (operation - 242)) ∷ (number ++ body))) same spells;
     }))
 
--- the units from three numbers
+-- The units, from three numbers.
 abbrev measured : ℤ × ℤ × ℤ → Units
 measured u = record { num = u.0; den = u.1; mag = u.2 }
 
@@ -233,7 +233,7 @@ pre_is bytes rest i e =
       spells = subst (λ (k : Instruction). Spells k front) same spells;
     }
 
--- what post says, from its parts
+-- The operands of post, from their parts.
 abbrev closed : ℤ → ℤ × ℤ × ℤ → ℤ × ℤ → ℕ × ℕ → Postamble
 closed last u sizes counts = record {
   last_bop = last;

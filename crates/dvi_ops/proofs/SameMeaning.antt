@@ -1,11 +1,11 @@
--- A meaning asks only for the widths of the fonts that are selected.
+-- A meaning depends only on the widths of the fonts that are selected.
 use Rattle.std.proofs.Common.{◌≡◌, ◌++◌, ◌&&◌, if◌then◌else◌, [], ◌∷◌, List, ℤ, Bool, true, false, Option, Some, None, refl, ◌∙◌, ap, ap₂, subst}
 use Rattle.std.specs.List.{flat_map, AllByRecursion}
-use Rattle.dvi_ops.specs.Instruction.{SetChar, PutChar, FontNum, Leaf, Do, Pop, Eop}
-use Rattle.dvi_ops.specs.Body.{Mark, Place, State, Widths, Meaning, start, glyph, glyph_of, put_glyph, set_glyph, right, acts, in_range, kept_in, kept}
+use Rattle.dvi_ops.specs.Instruction.{SetChar, PutChar, FontNum, BodyLeaf, Do, Pop, Eop}
+use Rattle.dvi_ops.specs.Body.{Mark, Position, DviState, Widths, Meaning, start, glyph, glyph_of, put_glyph, set_glyph, right, acts, in_range, kept_in, kept}
 use Rattle.dvi_ops.specs.Forest.{Forest, Empty, Then, Group, flat, ahead, and_then, restored, meaning}
 use Rattle.dvi_ops.specs.Fonts.{selection_of, selections}
-use Rattle.dvi_ops.specs.File.{Part, Idle, Defines, Shows, instructions, page_then, pages_of}
+use Rattle.dvi_ops.specs.File.{FilePart, Idle, Defines, Shows, instructions, page_then, pages_of}
 use Rattle.dvi_ops.proofs.Appends.{all_front, all_back, selections-append}
 
 -- Two tables have the same widths of a font.
@@ -17,17 +17,17 @@ SameNow : Widths → Widths → Option ℤ → Type 0
 SameNow v w None = Unit {0}
 SameNow v w (Some f) = SameWidths v w f
 
--- A fact of the state after a meaning.
-Ends : (State → Type 0) → Meaning → Type 0
+-- A fact about the state after a meaning.
+Ends : (DviState → Type 0) → Meaning → Type 0
 Ends P None = Unit {0}
 Ends P (Some (marks, s)) = P s
 
--- What is wanted of two meanings: they are the same, and the current font after them has the same widths.
+-- The claim about two meanings: they are equal, and the current font after them has the same widths in both tables.
 Alike : Widths → Widths → Meaning → Meaning → Type 0
 Alike v w m n = (m ≡ n) × Ends (λ s. SameNow v w s.font) m
 
--- A step, and two continuations that are alike behind it.
-then_alike : (v w : Widths) (m : Meaning) (j k : State → Meaning) → Ends (λ s. SameNow v w s.font) m → ((s : State) → SameNow v w s.font → Alike v w (j s) (k s)) → Alike v w (and_then m j) (and_then m k)
+-- One step, and two continuations that are alike after it.
+then_alike : (v w : Widths) (m : Meaning) (j k : DviState → Meaning) → Ends (λ s. SameNow v w s.font) m → ((s : DviState) → SameNow v w s.font → Alike v w (j s) (k s)) → Alike v w (and_then m j) (and_then m k)
 unfolding Alike Ends
 then_alike v w None j k p next = (refl, tt)
 then_alike v w (Some (marks, s)) j k p next = ahead_alike (j s) (k s) (next s p)
@@ -36,12 +36,12 @@ then_alike v w (Some (marks, s)) j k p next = ahead_alike (j s) (k s) (next s p)
     ahead_alike None n (e, q) = (ap (ahead marks) e, tt)
     ahead_alike (Some (more, t)) n (e, q) = (ap (ahead marks) e, q)
 
--- Two steps that are alike, and two continuations that are alike behind them.
-alike_then : (v w : Widths) (m n : Meaning) (j k : State → Meaning) → Alike v w m n → ((s : State) → SameNow v w s.font → Alike v w (j s) (k s)) → Alike v w (and_then m j) (and_then n k)
+-- Two steps that are alike, and two continuations that are alike after them.
+alike_then : (v w : Widths) (m n : Meaning) (j k : DviState → Meaning) → Alike v w m n → ((s : DviState) → SameNow v w s.font → Alike v w (j s) (k s)) → Alike v w (and_then m j) (and_then n k)
 unfolding Alike Ends
 alike_then v w m n j k (e, p) next = let first = then_alike v w m j k p next in (first.0 ∙ ap (λ (o : Meaning). and_then o k) e, first.1)
 
-alike_restored : (v w : Widths) (p : Place) (m n : Meaning) → Alike v w m n → Alike v w (restored p m) (restored p n)
+alike_restored : (v w : Widths) (p : Position) (m n : Meaning) → Alike v w m n → Alike v w (restored p m) (restored p n)
 unfolding Alike Ends
 alike_restored v w p None n (e, q) = (ap (restored p) e, tt)
 alike_restored v w p (Some (marks, s)) n (e, q) = (ap (restored p) e, q)
@@ -55,29 +55,29 @@ alike_kept v w (Some (marks, s)) n (e, q) = (ap kept_in e, by_test (in_range s.p
     by_test true = q
     by_test false = tt
 
-same_glyph : (v w : Widths) (c : ℤ) (p : Place) (font : Option ℤ) → SameNow v w font → glyph v c p font ≡ glyph w c p font
+same_glyph : (v w : Widths) (c : ℤ) (p : Position) (font : Option ℤ) → SameNow v w font → glyph v c p font ≡ glyph w c p font
 unfolding SameNow
 same_glyph v w c p None same = refl
 same_glyph v w c p (Some f) same = ap (glyph_of f c p) (same c)
 
-ends_set : (P : State → Type 0) (g : Option (Mark × ℤ)) (s : State) → ((z : ℤ) → P (right s z)) → Ends P (set_glyph g s)
+ends_set : (P : DviState → Type 0) (g : Option (Mark × ℤ)) (s : DviState) → ((z : ℤ) → P (right s z)) → Ends P (set_glyph g s)
 unfolding Ends
 ends_set P None s p = tt
 ends_set P (Some (mark, width)) s p = p width
 
-ends_put : (P : State → Type 0) (g : Option (Mark × ℤ)) (s : State) → P s → Ends P (put_glyph g s)
+ends_put : (P : DviState → Type 0) (g : Option (Mark × ℤ)) (s : DviState) → P s → Ends P (put_glyph g s)
 unfolding Ends
 ends_put P None s p = tt
 ends_put P (Some (mark, width)) s p = p
 
-alike_act : (v w : Widths) (i : Leaf) (s : State) → AllByRecursion (SameWidths v w) (selection_of (Do i)) → SameNow v w s.font → Alike v w (acts v i s) (acts w i s)
+alike_act : (v w : Widths) (i : BodyLeaf) (s : DviState) → AllByRecursion (SameWidths v w) (selection_of (Do i)) → SameNow v w s.font → Alike v w (acts v i s) (acts w i s)
 unfolding Alike Ends SameNow
 alike_act v w (SetChar c) s sel p = (ap (λ (g : Option (Mark × ℤ)). set_glyph g s) (same_glyph v w c s.place s.font p), ends_set (λ s. SameNow v w s.font) (glyph v c s.place s.font) s (λ z. p))
 alike_act v w (PutChar c) s sel p = (ap (λ (g : Option (Mark × ℤ)). put_glyph g s) (same_glyph v w c s.place s.font p), ends_put (λ s. SameNow v w s.font) (glyph v c s.place s.font) s p)
 alike_act v w (FontNum f) s sel p = (refl, sel.0)
 alike_act v w i s sel p = (refl, p)
 
-alike_meaning : (v w : Widths) (f : Forest) (s : State) → AllByRecursion (SameWidths v w) (selections (flat f)) → SameNow v w s.font → Alike v w (meaning (kept (acts v)) f s) (meaning (kept (acts w)) f s)
+alike_meaning : (v w : Widths) (f : Forest) (s : DviState) → AllByRecursion (SameWidths v w) (selections (flat f)) → SameNow v w s.font → Alike v w (meaning (kept (acts v)) f s) (meaning (kept (acts w)) f s)
 unfolding Alike Ends
 alike_meaning v w Empty s sel p = (refl, p)
 alike_meaning v w (Then i f) s sel p =
@@ -90,13 +90,13 @@ alike_meaning v w (Group inner f) s sel p =
     (alike_restored v w s.place (meaning (kept (acts v)) inner s) (meaning (kept (acts w)) inner s) (alike_meaning v w inner s (all_front (SameWidths v w) (selections (flat inner)) (selections (flat f)) parted) p))
     (λ t q. alike_meaning v w f t (all_back (SameWidths v w) (selections (flat inner)) (selections (flat f)) parted) q)
 
--- The meaning of a page's body with either table, where both have the same widths of all fonts that it selects.
+-- The meaning of a page's body is the same for two tables that have the same widths of all fonts that it selects.
 pub same_meaning : (v w : Widths) (f : Forest) → AllByRecursion (SameWidths v w) (selections (flat f)) → meaning (kept (acts v)) f start ≡ meaning (kept (acts w)) f start
 unfolding Alike Ends SameNow
 same_meaning v w f sel = (alike_meaning v w f start sel tt).0
 
--- The pages of parts with either table, where both have the same widths of all fonts that the parts select.
-pub same_pages : (v w : Widths) (parts : List Part) → AllByRecursion (SameWidths v w) (selections (flat_map instructions parts)) → pages_of (kept (acts v)) parts ≡ pages_of (kept (acts w)) parts
+-- The pages of parts are the same for two tables that have the same widths of all fonts that the parts select.
+pub same_pages : (v w : Widths) (parts : List FilePart) → AllByRecursion (SameWidths v w) (selections (flat_map instructions parts)) → pages_of (kept (acts v)) parts ≡ pages_of (kept (acts w)) parts
 same_pages v w [] sel = refl
 same_pages v w (Idle ∷ parts) sel = same_pages v w parts sel
 same_pages v w (Defines d ∷ parts) sel = same_pages v w parts sel

@@ -1,4 +1,4 @@
--- How long spellings are, and that the written one is the shortest.
+-- The lengths of spellings, and that the written one is the shortest.
 use Rattle.std.proofs.Common.{ℕ, suc, ℤ, pos, negsuc, ◌≡◌, ◌≤◌, ◌<◌, ◌+◌, ◌*◌, ◌-ℤ◌, ◌≤ℤ◌, ◌<ℤ◌, neg_ℤ, List, [], ◌∷◌, ◌++◌, length, slice_index, nat_lt, if◌then◌else◌, arith, inl, inr, refl, ap, subst, ◌∙◌}
 use Rattle.std.proofs.lemmas.Bool.{cases_lt, lt-ltb, le-ltb}
 use Rattle.std.proofs.lemmas.Int.{ints}
@@ -7,7 +7,7 @@ use Rattle.std.specs.Int.Signed.{mag}
 use Rattle.std.specs.List.{flat_map}
 use Rattle.byteorder.specs.Endian.{big_number}
 use Rattle.byteorder.specs.Numbers.{big_from-lt}
-use Rattle.dvi_ops.specs.Instruction.{Axis, Step, By, Set, Again, Definition, Units, Postamble, Leaf, SetChar, PutChar, SetRule, PutRule, Nop, Move, FontNum, FontDef, Xxx, Instruction, Do, Push, Pop, Bop, Eop, Pre, Post, PostPost}
+use Rattle.dvi_ops.specs.Instruction.{Axis, Movement, By, Set, Again, Definition, Units, Postamble, BodyLeaf, SetChar, PutChar, SetRule, PutRule, Nop, Move, FontNum, FontDef, Xxx, Instruction, Do, Push, Pop, Bop, Eop, Pre, Post, PostPost}
 use Rattle.dvi_ops.specs.Spelling.{HasShortText, IsBrief, bytes_for, char_spelling, code_size, coded, coded_number, coded_signed, definition_bytes, font_spelling, leaf_spelling, operand, post_bytes, signed_size, spelling, text_spelling, units_bytes}
 use Rattle.dvi_ops.specs.Table.{signed, code, IsCoded, IsRule, SaysUnits, SaysDefinition, SpellsLeaf, Spells, plain_code, register_code}
 use Rattle.dvi_ops.proofs.Fronts.{words_read}
@@ -27,7 +27,7 @@ front_small a b k small = elim (cases_lt k (length a)) [
   | inr past ↦ rw (get_or_past a k 0 past) (omega arith)
 ]
 
--- what n bytes can say as a signed number
+-- The range of n bytes as a signed number.
 mag_below : (z : ℤ) (half : ℕ) → neg_ℤ (pos half) ≤ℤ z → z <ℤ pos half → mag z < half
 mag_below (pos m) half low high = omega (arith, ints)
 mag_below (negsuc m) half low high = omega (arith, ints)
@@ -69,7 +69,7 @@ signed_least n bytes z low high small =
     (λ e. let h : mag z < 8388608 = subst (λ (z : ℤ). mag z < 8388608) e (complement_small 8388608 16777216 (big_number 3 bytes) refl (big_from-lt 0 3 bytes small)) in rw (size_is z) (bytes_three (mag z) h))
     (λ e. signed_cases (λ n. n ≤ 4) z (λ h. omega arith) (λ h. omega arith) (λ h. omega arith) (omega arith))
 
--- what n bytes can say as the number of a character or of a font
+-- The range of n bytes as the number of a character or of a font.
 code_one : (m : ℕ) → m < 256 → code_size (pos m) ≤ 1
 unfolding code_size
 code_one m h = rw (lt-ltb m 256 h) (omega arith)
@@ -116,7 +116,7 @@ code_least n bytes z low high small =
     (λ e. subst (λ (z : ℤ). code_size z ≤ 3) e (code_three (big_number 3 bytes) (big_from-lt 0 3 bytes small)))
     (λ e. (code_range z).1)
 
--- how long things are
+-- The lengths of the parts of a written spelling.
 pub coded_length : (base n : ℕ) (z : ℤ) → length (coded base n z) ≡ suc n
 coded_length base n z = ap suc (operand_length n z)
 
@@ -158,7 +158,7 @@ font_shortest (pos f) bytes small (inr coded) = elim (cases_lt f 64) [
 ]
 font_shortest (negsuc f) bytes small (inr coded) = code_shortest 234 (negsuc f) bytes small coded
 
--- the lengths of the parts
+-- The lengths of the fixed fields.
 pub units_length : (u : Units) → length (units_bytes u) ≡ 12
 units_length u =
     omega (arith, length-append (operand 4 u.num) (operand 4 u.den ++ operand 4 u.mag), length-append (operand 4 u.den) (operand 4 u.mag), operand_length 4 u.num, operand_length 4 u.den, operand_length 4 u.mag)
@@ -175,7 +175,7 @@ counts_length (z ∷ zs) = omega (arith, counts_length zs, operand_length 4 z, l
 pub rule_length : (height width : ℤ) → length (operand 4 height ++ operand 4 width) ≡ 8
 rule_length height width = omega (arith, length-append (operand 4 height) (operand 4 width), operand_length 4 height, operand_length 4 width)
 
--- what spells a fixed field is as long
+-- Any spelling of a fixed field has the same length.
 says_units_length : (u : Units) (a : List ℕ) → SaysUnits u a → length a ≡ 12
 says_units_length u a says =
     let (p, q, r, whole, one, two, three) = says in
@@ -205,7 +205,7 @@ text_shortest text bytes short says =
     let (n, count, low, high, whole, len, value) = says in
     rw (lt-ltb (length text) 256 short) (omega (arith, ap (λ (x : List ℕ). length x) whole, length-append count text))
 
-leaf_shortest : (leaf : Leaf) (bytes : List ℕ) → HasShortText (Do leaf) → AreBytes bytes → SpellsLeaf leaf bytes → Longer bytes (leaf_spelling leaf)
+leaf_shortest : (leaf : BodyLeaf) (bytes : List ℕ) → HasShortText (Do leaf) → AreBytes bytes → SpellsLeaf leaf bytes → Longer bytes (leaf_spelling leaf)
 unfolding leaf_spelling
 leaf_shortest (SetChar c) bytes short small says = char_shortest c bytes small says
 leaf_shortest (PutChar c) bytes short small says = code_shortest 132 c bytes small says
@@ -219,7 +219,7 @@ leaf_shortest (FontNum f) bytes short small says = font_shortest f bytes small s
 leaf_shortest (FontDef d) bytes short small says = definition_shortest d bytes small says
 leaf_shortest (Xxx text) bytes short small says = text_shortest text bytes short says
 
--- post's fields
+-- The length of the operands of post.
 pub post_length : (p : Postamble) → length (post_bytes p) ≡ 28
 post_length p =
     let a : List ℕ = operand 2 (pos p.stack_depth) ++ operand 2 (pos p.pages) in
@@ -236,7 +236,7 @@ bop_length counts pointer = omega (arith, length-append (flat_map (operand 4) co
 pub place_length : (place : ℤ) (id : ℕ) → length (operand 4 place ++ id ∷ []) ≡ 5
 place_length place id = omega (arith, length-append (operand 4 place) (id ∷ []), operand_length 4 place)
 
--- no spelling is shorter than the one that is written
+-- No spelling is shorter than the one that is written.
 pub written_is_shortest : (i : Instruction) (bytes : List ℕ) → HasShortText i → AreBytes bytes → Spells i bytes → length (spelling i) ≤ length bytes
 unfolding spelling
 written_is_shortest (Do leaf) bytes short small says = leaf_shortest leaf bytes short small says
@@ -256,7 +256,7 @@ written_is_shortest (PostPost place id) bytes short small says =
     let (a, whole, more) = says in
     omega (arith, place_length place id, ap (λ (x : List ℕ). length x) whole, length-append a (id ∷ []), more.0)
 
--- how long the written spellings are
+-- The lengths of the written spellings.
 signed_length : (base : ℕ) (z : ℤ) → (2 ≤ length (coded_signed base z)) × (length (coded_signed base z) ≤ 5)
 signed_length base z = let range = signed_range z in (omega (arith, coded_length base (signed_size z) z), omega (arith, coded_length base (signed_size z) z))
 
@@ -280,7 +280,7 @@ text_length text = elim (cases_lt (length text) 256) [
   | inr h ↦ rw (le-ltb (length text) 256 h) (omega (arith, length-append (operand 4 (pos (length text))) text, operand_length 4 (pos (length text))))
 ]
 
-leaf_length : (leaf : Leaf) → IsBrief leaf → length (leaf_spelling leaf) ≤ 9
+leaf_length : (leaf : BodyLeaf) → IsBrief leaf → length (leaf_spelling leaf) ≤ 9
 unfolding leaf_spelling
 leaf_length (SetChar c) brief = omega (arith, char_length c)
 leaf_length (PutChar c) brief = omega (arith, (code_length 132 c).1)
@@ -294,11 +294,11 @@ leaf_length (FontNum f) brief = omega (arith, font_length f)
 leaf_length (FontDef d) brief = absurd brief
 leaf_length (Xxx text) brief = absurd brief
 
-pub brief_length : (leaf : Leaf) → IsBrief leaf → length (spelling (Do leaf)) ≤ 9
+pub brief_length : (leaf : BodyLeaf) → IsBrief leaf → length (spelling (Do leaf)) ≤ 9
 unfolding spelling
 brief_length leaf brief = leaf_length leaf brief
 
-pub movement_length : (axis : Axis) (step : Step) → length (spelling (Do (Move axis step))) ≤ 5
+pub movement_length : (axis : Axis) (step : Movement) → length (spelling (Do (Move axis step))) ≤ 5
 unfolding spelling leaf_spelling
 movement_length axis (By z) = (signed_length (plain_code axis) z).1
 movement_length axis (Set register z) = (signed_length (register_code axis register) z).1

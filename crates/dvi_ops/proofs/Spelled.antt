@@ -1,4 +1,4 @@
--- What is written spells the instruction.
+-- The written bytes spell the instruction.
 use Rattle.std.proofs.Common.{ℕ, suc, ℤ, pos, negsuc, ◌≡◌, ◌≤◌, ◌<◌, ◌-◌, ◌*◌, ◌%◌, ◌^◌, ◌-ℤ◌, List, [], ◌∷◌, ◌++◌, length, nat_lt, if◌then◌else◌, arith, inl, inr, refl, sym, ap, ◌∙◌, append-nil}
 use Rattle.std.proofs.lemmas.Bool.{cases_lt, lt-ltb, le-ltb}
 use Rattle.std.proofs.lemmas.Int.{ints}
@@ -7,12 +7,12 @@ use Rattle.std.specs.Int.Signed.{mag}
 use Rattle.std.specs.List.{AllByRecursion, flat_map}
 use Rattle.byteorder.specs.Endian.{big_number}
 use Rattle.byteorder.specs.Numbers.{big_from-bytes, length-bytes_high_first}
-use Rattle.dvi_ops.specs.Instruction.{By, Set, Again, Definition, Units, Leaf, SetChar, PutChar, SetRule, PutRule, Nop, Move, FontNum, FontDef, Xxx, Instruction, Do, Push, Pop, Bop, Eop, Pre, Post, PostPost}
+use Rattle.dvi_ops.specs.Instruction.{By, Set, Again, Definition, Units, BodyLeaf, SetChar, PutChar, SetRule, PutRule, Nop, Move, FontNum, FontDef, Xxx, Instruction, Do, Push, Pop, Bop, Eop, Pre, Post, PostPost}
 use Rattle.dvi_ops.specs.Spelling.{HasSpelling, LeafFits, NumberFits, NumbersFit, UnitsFit, bytes_for, char_spelling, code_size, coded_number, coded_signed, definition_bytes, font_spelling, leaf_spelling, operand, signed_size, spelling, text_spelling, units_bytes}
-use Rattle.dvi_ops.specs.Table.{signed, code, IsCoded, Says, SaysShort, SaysEach, SaysUnits, SpellsLeaf, Spells, plain_code, register_code}
+use Rattle.dvi_ops.specs.Table.{signed, code, IsCoded, SpellsSigned, SaysShort, SaysEach, SaysUnits, SpellsLeaf, Spells, plain_code, register_code}
 use Rattle.dvi_ops.proofs.Numbers.{four}
 
--- an operand has its bytes, and they say the number's low bytes
+-- An operand has its number of bytes, and their value is that of the number's low bytes.
 pub operand_length : (n : ℕ) (z : ℤ) → length (operand n z) ≡ n
 unfolding operand
 operand_length n z = length-bytes_high_first n (cast_unsigned w32 z)
@@ -21,14 +21,14 @@ pub operand_says : (n : ℕ) (z : ℤ) → big_number n (operand n z) ≡ cast_u
 unfolding operand
 operand_says n z = ap (big_number n) (sym (append-nil (bytes_high_first n (cast_unsigned w32 z)))) ∙ big_from-bytes n (cast_unsigned w32 z) []
 
--- a test that is known
+-- A test with a known outcome.
 below_half : (m half whole x : ℕ) → x ≡ m → m < half → (if nat_lt x half then pos x else pos x -ℤ pos whole) ≡ pos m
 below_half m half whole x e h = rw (e, lt-ltb m half h) refl
 
 above_half : (m half whole x : ℕ) → x ≡ whole - suc m → m < half → whole ≡ 2 * half → (if nat_lt x half then pos x else pos x -ℤ pos whole) ≡ negsuc m
 above_half m half whole x e h w = let high : half ≤ x = omega arith in rw (le-ltb x half high) (omega (arith, ints))
 
--- a number that fits in n bytes is said by them
+-- A number that fits in n bytes is their value.
 says_one : (z : ℤ) → mag z < 128 → signed 1 (operand 1 z) ≡ z
 says_one (pos m) h = below_half m 128 256 (big_number 1 (operand 1 (pos m))) (operand_says 1 (pos m) ∙ omega arith) h
 says_one (negsuc m) h = above_half m 128 256 (big_number 1 (operand 1 (negsuc m))) (operand_says 1 (negsuc m) ∙ omega arith) h refl
@@ -45,7 +45,7 @@ says_four : (z : ℤ) → mag z < 2147483648 → signed 4 (operand 4 z) ≡ z
 says_four (pos m) h = below_half m 2147483648 4294967296 (big_number 4 (operand 4 (pos m))) (operand_says 4 (pos m) ∙ omega arith) h
 says_four (negsuc m) h = above_half m 2147483648 4294967296 (big_number 4 (operand 4 (negsuc m))) (operand_says 4 (negsuc m) ∙ omega arith) h refl
 
--- the size of a signed number, by cases
+-- The size of a signed number, by cases.
 bytes_cases : (P : ℕ → Type 0) (m : ℕ) → (m < 128 → P 1) → (m < 32768 → P 2) → (m < 8388608 → P 3) → P 4 → P (bytes_for m)
 bytes_cases P m one two three four = elim (cases_lt m 128) [
   | inl h ↦ rw (lt-ltb m 128 h) (one h)
@@ -63,14 +63,14 @@ unfolding signed_size
 signed_cases P (pos m) one two three four = bytes_cases P m one two three four
 signed_cases P (negsuc m) one two three four = bytes_cases P m one two three four
 
--- a signed operand
+-- A signed operand is coded.
 pub signed_coded : (base : ℕ) (z : ℤ) → NumberFits z → IsCoded signed base z (coded_signed base z)
 signed_coded base z fits =
     let range : (1 ≤ signed_size z) × (signed_size z ≤ 4) = signed_cases (λ n. (1 ≤ n) × (n ≤ 4)) z (λ h. (omega arith, omega arith)) (λ h. (omega arith, omega arith)) (λ h. (omega arith, omega arith)) (omega arith, omega arith) in
     let says : signed (signed_size z) (operand (signed_size z) z) ≡ z = signed_cases (λ n. signed n (operand n z) ≡ z) z (says_one z) (says_two z) (says_three z) (says_four z fits.sfits) in
     (signed_size z, operand (signed_size z) z, range.0, range.1, refl, operand_length (signed_size z) z, says)
 
--- the number of a character or of a font
+-- The number of a character or of a font is coded.
 code_cases : (m : ℕ) (P : ℕ → Type 0) → (m < 256 → P 1) → (m < 65536 → P 2) → (m < 16777216 → P 3) → P 4 → P (code_size (pos m))
 unfolding code_size
 code_cases m P one two three four = elim (cases_lt m 256) [
@@ -96,8 +96,8 @@ number_coded base (pos m) fits =
 number_coded base (negsuc m) fits =
     (4, operand 4 (negsuc m), omega arith, omega arith, refl, operand_length 4 (negsuc m), says_four (negsuc m) fits.sfits)
 
--- numbers of four bytes and of two
-pub word_says : (z : ℤ) → NumberFits z → Says z (operand 4 z)
+-- Numbers of four bytes and of two are written right.
+pub word_says : (z : ℤ) → NumberFits z → SpellsSigned z (operand 4 z)
 word_says z fits = (operand_length 4 z, says_four z fits.sfits)
 
 pub half_says : (n : ℕ) → n < 65536 → SaysShort n (operand 2 (pos n))
@@ -147,7 +147,7 @@ definition_spelled d fits =
       (operand 4 d.check_sum, operand 4 d.size, operand 4 d.design_size, refl, word_says d.check_sum fits.1, word_says d.size fits.2, word_says d.design_size fits.3),
     )
 
-leaf_spelled : (leaf : Leaf) → HasSpelling (Do leaf) → LeafFits leaf → SpellsLeaf leaf (leaf_spelling leaf)
+leaf_spelled : (leaf : BodyLeaf) → HasSpelling (Do leaf) → LeafFits leaf → SpellsLeaf leaf (leaf_spelling leaf)
 unfolding leaf_spelling
 leaf_spelled (SetChar c) has fits = char_spelled c fits
 leaf_spelled (PutChar c) has fits = number_coded 132 c fits

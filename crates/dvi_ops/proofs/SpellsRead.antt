@@ -1,14 +1,14 @@
--- What spells an instruction is read as it, whatever stands behind.
+-- Bytes that spell an instruction are read as it, whatever follows.
 use Rattle.std.proofs.Common.{ℕ, ℤ, pos, ◌≡◌, ◌≤◌, ◌<◌, ◌+◌, ◌-◌, List, [], ◌∷◌, ◌++◌, length, arith, inl, inr, refl, ap, ◌∙◌, append_assoc}
 use Rattle.std.proofs.lemmas.Bool.{lt-ltb, le-ltb}
 use Rattle.byteorder.specs.Endian.{big_number}
-use Rattle.dvi_ops.specs.Instruction.{Across, Downward, First, Second, By, Set, Again, Definition, Units, Postamble, Leaf, SetChar, PutChar, SetRule, PutRule, Nop, Move, FontNum, FontDef, Xxx, Instruction, Do, Push, Pop, Bop, Eop, Pre, Post, PostPost}
+use Rattle.dvi_ops.specs.Instruction.{Across, Downward, First, Second, By, Set, Again, Definition, Units, Postamble, BodyLeaf, SetChar, PutChar, SetRule, PutRule, Nop, Move, FontNum, FontDef, Xxx, Instruction, Do, Push, Pop, Bop, Eop, Pre, Post, PostPost}
 use Rattle.dvi_ops.specs.Reading.{made, cut, signed_at, code_at, two_at, char_at, bop_at, plain_at, movement_at, font_at, text_at, names_at, definition_at, long_at, comment_at, pre_at, post_at, post_post_at, frame_at, read}
-use Rattle.dvi_ops.specs.Table.{signed, code, IsCoded, IsRule, Says, SaysShort, SaysEach, SaysUnits, SaysDefinition, SpellsLeaf, Spells}
+use Rattle.dvi_ops.specs.Table.{signed, code, IsCoded, IsRule, SpellsSigned, SaysShort, SaysEach, SaysUnits, SaysDefinition, SpellsLeaf, Spells}
 use Rattle.dvi_ops.proofs.Fronts.{got, cut_at, number_reads, word_reads, two_reads, three_reads, halves_reads, words_read}
 use Rattle.dvi_ops.proofs.Numbers.{four}
 
--- a code and one to four bytes
+-- An instruction with an operand of one to four bytes.
 coded_read : (says : ℕ → List ℕ → ℤ) (make : ℤ → Instruction) (base : ℕ) (z : ℤ) (a x : List ℕ)
     → ((m : ℕ) (rest : List ℕ) → 1 ≤ m → m ≤ 4 → read ((base + m) ∷ rest) ≡ made make (made (says m) (cut m rest)))
     → IsCoded says base z a → read (a ++ x) ≡ got (make z) x
@@ -53,7 +53,7 @@ fnt_read : (m : ℕ) (rest : List ℕ) → 1 ≤ m → m ≤ 4 → read ((234 + 
 unfolding read font_at code_at
 fnt_read m rest low high = four (λ m. read ((234 + m) ∷ rest) ≡ made (λ f. Do (FontNum f)) (made (code m) (cut m rest))) m low high refl refl refl refl
 
--- the codes that are numbers themselves
+-- Characters and fonts whose code includes their number.
 char_read : (n : ℕ) (x : List ℕ) → n < 128 → read (n ∷ x) ≡ got (Do (SetChar (pos n))) x
 unfolding read char_at
 char_read n x h = let wide : n < 132 = omega arith in rw (lt-ltb n 132 wide, lt-ltb n 128 h) refl
@@ -64,7 +64,7 @@ font_read n x h =
     let same : 171 + n - 171 ≡ n = omega arith in
     rw (le-ltb (171 + n) 132 (omega arith), le-ltb (171 + n) 143 (omega arith), le-ltb (171 + n) 157 (omega arith), le-ltb (171 + n) 171 (omega arith), lt-ltb (171 + n) 239 (omega arith), lt-ltb (171 + n) 235 (omega arith), same) refl
 
--- a rule
+-- A rule.
 rule_read : (operation : ℕ) (make : ℤ × ℤ → Instruction) (height width : ℤ) (a x : List ℕ)
     → ((rest : List ℕ) → read (operation ∷ rest) ≡ made make (two_at rest)) → IsRule operation height width a → read (a ++ x) ≡ got (make (height, width)) x
 rule_read operation make height width a x step rule =
@@ -73,7 +73,7 @@ rule_read operation make height width a x step rule =
     step ((p ++ q) ++ x) ∙ ap (λ (r : List ℕ). made make (two_at r)) (append_assoc p q x) ∙ ap (made make) (two_reads height width p q x tall wide) in
     ap (λ (r : List ℕ). read (r ++ x)) whole ∙ here
 
--- a special
+-- A special.
 text_code : (m : ℕ) (rest : List ℕ) → 1 ≤ m → m ≤ 4 → read ((238 + m) ∷ rest) ≡ text_at m rest
 unfolding read long_at
 text_code m rest low high = four (λ m. read ((238 + m) ∷ rest) ≡ text_at m rest) m low high refl refl refl refl
@@ -83,7 +83,7 @@ unfolding text_at
 text_read n count text x len value =
     rw (append_assoc count text x, cut_at n count (text ++ x) len, value, cut_at (length text) text x refl) refl
 
--- a font definition
+-- A font definition.
 definition_code : (m : ℕ) (rest : List ℕ) → 1 ≤ m → m ≤ 4 → read ((242 + m) ∷ rest) ≡ made (λ d. Do (FontDef d)) (definition_at m rest)
 unfolding read long_at
 definition_code m rest low high = four (λ m. read ((242 + m) ∷ rest) ≡ made (λ d. Do (FontDef d)) (definition_at m rest)) m low high refl refl refl refl
@@ -101,7 +101,7 @@ definition_read d n number rest x len value says =
     let shape : (number ++ rest) ++ x ≡ number ++ (sum ++ (size ++ (design ++ names))) = rw whole (simp append_assoc) in
     rw (shape, number_reads code n d.number number (sum ++ (size ++ (design ++ names))) len value, three_reads d.check_sum d.size d.design_size sum size design names first second third, names_read d.area d.name x) refl
 
-leaf_read : (leaf : Leaf) (a x : List ℕ) → SpellsLeaf leaf a → read (a ++ x) ≡ got (Do leaf) x
+leaf_read : (leaf : BodyLeaf) (a x : List ℕ) → SpellsLeaf leaf a → read (a ++ x) ≡ got (Do leaf) x
 unfolding read plain_at movement_at
 leaf_read (SetChar c) a x (inl (n, h, e, whole)) = rw (whole, e) (char_read n x h)
 leaf_read (SetChar c) a x (inr coded) = coded_read code (λ c. Do (SetChar c)) 127 c a x set_read coded
@@ -132,8 +132,8 @@ leaf_read (Xxx text) a x says =
     text_code n ((count ++ text) ++ x) low high ∙ text_read n count text x len value in
     ap (λ (r : List ℕ). read (r ++ x)) whole ∙ here
 
--- what stands around pages, behind the code
-bop_read : (counts : List ℤ) (pointer : ℤ) (a b x : List ℕ) → length counts ≡ 10 → SaysEach counts a → Says pointer b → bop_at ((a ++ b) ++ x) ≡ got (Bop counts pointer) x
+-- The operands of bop, pre, post and post_post.
+bop_read : (counts : List ℤ) (pointer : ℤ) (a b x : List ℕ) → length counts ≡ 10 → SaysEach counts a → SpellsSigned pointer b → bop_at ((a ++ b) ++ x) ≡ got (Bop counts pointer) x
 unfolding bop_at
 bop_read counts pointer a b x ten each says =
     let (same, forty) = words_read counts a 10 ten each in
@@ -147,7 +147,7 @@ pre_read id units comment a x says =
     let shape : (a ++ (length comment ∷ comment)) ++ x ≡ p ++ (q ++ (r ++ rest)) = rw whole (simp append_assoc) in
     rw (shape, three_reads units.num units.den units.mag p q r rest first second third, cut_at (length comment) comment x refl) refl
 
-post_read : (p : Postamble) (last units tall wide deep count x : List ℕ) → Says p.last_bop last → SaysUnits p.units units → Says p.height_plus_depth tall → Says p.width wide
+post_read : (p : Postamble) (last units tall wide deep count x : List ℕ) → SpellsSigned p.last_bop last → SaysUnits p.units units → SpellsSigned p.height_plus_depth tall → SpellsSigned p.width wide
     → SaysShort p.stack_depth deep → SaysShort p.pages count → post_at ((last ++ (units ++ (tall ++ (wide ++ (deep ++ count))))) ++ x) ≡ got (Post p) x
 unfolding post_at
 post_read p last units tall wide deep count x says_last says_units says_tall says_wide says_deep says_count =
@@ -156,7 +156,7 @@ post_read p last units tall wide deep count x says_last says_units says_tall say
     let shape : (last ++ (units ++ (tall ++ (wide ++ (deep ++ count))))) ++ x ≡ last ++ (a ++ (b ++ (c ++ sizes))) = rw whole (simp append_assoc) in
     rw (shape, word_reads p.last_bop last (a ++ (b ++ (c ++ sizes))) says_last, three_reads p.units.num p.units.den p.units.mag a b c sizes first second third, two_reads p.height_plus_depth p.width tall wide (deep ++ (count ++ x)) says_tall says_wide, halves_reads p.stack_depth p.pages deep count x says_deep says_count) refl
 
-post_post_read : (place : ℤ) (id : ℕ) (a x : List ℕ) → Says place a → post_post_at ((a ++ id ∷ []) ++ x) ≡ got (PostPost place id) x
+post_post_read : (place : ℤ) (id : ℕ) (a x : List ℕ) → SpellsSigned place a → post_post_at ((a ++ id ∷ []) ++ x) ≡ got (PostPost place id) x
 unfolding post_post_at
 post_post_read place id a x says = rw (append_assoc a (id ∷ []) x, word_reads place a (id ∷ x) says) refl
 

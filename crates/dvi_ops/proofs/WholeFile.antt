@@ -1,4 +1,4 @@
--- What is written for good pages is a file of them.
+-- The bytes that are written for good pages are a file of them.
 use Rattle.std.proofs.Common.{◌≡◌, ◌≤◌, ◌<◌, ◌+◌, ◌%◌, ◌^◌, ◌++◌, min, [], ◌∷◌, List, length, map, replicate, ℕ, suc, ℤ, pos, Bool, true, false, if◌then◌else◌, Option, Some, IsSome, refl, sym, ◌∙◌, ap, ap₂, subst, subst₂, append_assoc, append-nil, lit<, arith}
 use Rattle.std.proofs.lemmas.Int.{ints}
 use Rattle.std.proofs.lemmas.Bool.Decides.{Decides-int_eq}
@@ -8,9 +8,9 @@ use Rattle.dvi_ops.specs.Instruction.{Definition, Postamble, FontDef, Instructio
 use Rattle.dvi_ops.specs.Table.{Spells}
 use Rattle.dvi_ops.specs.Spelling.{operand, spelling, NumberFits, NumbersFit}
 use Rattle.dvi_ops.specs.Tokens.{IsSpelled, says, pointers}
-use Rattle.dvi_ops.specs.Fonts.{Metrics, definitions, selections, defined, FontsAreRight, font, font_in, width_in, widths_of}
-use Rattle.dvi_ops.specs.File.{Part, instructions, MarkedPage, depth_of, IsIdle, Frame, IsFile}
-use Rattle.dvi_ops.specs.Layout.{bytes_of, preamble, define, Sheet, Written, at_first, sheet_from, after, sheets_from, after_all, front_of, whole_of, stop_of, ending_of, padding_after, Table, table_widths, IsWritable, IsTabled, IsGood, AreGood, IsClosing}
+use Rattle.dvi_ops.specs.Fonts.{WidthsByName, definitions, selections, defined, FontsAreRight, font, widths_in, width_in, widths_of}
+use Rattle.dvi_ops.specs.File.{FilePart, instructions, MarkedPage, push_depth_of, IsIdle, Frame, IsFile}
+use Rattle.dvi_ops.specs.Layout.{bytes_of, preamble, define, Sheet, WriterKnowledge, after_preamble, sheet_from, after, sheets_from, after_all, front_of, whole_of, stop_of, ending_of, padding_after, Table, table_widths, IsWritable, IsTabled, IsGood, AreGood, IsClosing}
 use Rattle.dvi_ops.proofs.Appends.{all_weaker, all_both, all_map, fonts_append}
 use Rattle.dvi_ops.proofs.Layouts.{wrote, says-wrote, written-wrote, bytes_of-append, length-bytes_of-append, definitions-define, defined_right, place_fits, Knows, knows_first, knows_next, page_with}
 use Rattle.dvi_ops.proofs.Frames.{Facts, facts_at}
@@ -21,15 +21,15 @@ pub all_spelled : (is : List Instruction) → AllByRecursion IsWritable is → A
 all_spelled [] w = tt
 all_spelled (i ∷ is) (here, w) = (written_is_spelled i here.0 here.1, all_spelled is w)
 
--- Pages do not take bytes away.
-grows : (s : Written) (ps : List Sheet) → s.size ≤ (after_all s ps).size
+-- A page never makes the file shorter.
+grows : (s : WriterKnowledge) (ps : List Sheet) → s.size ≤ (after_all s ps).size
 grows s [] = omega arith
 grows s (p ∷ ps) = let more = grows (after s p) ps in omega arith
 
--- All pages, one after the other.
-knows_all : (metrics : Metrics) (table : Table) (s : Written) (is : List Instruction) (parts : List Part) (pages : List MarkedPage) (ps : List Sheet) (more : List MarkedPage) →
+-- The relation holds after all pages.
+knows_all : (metrics : WidthsByName) (table : Table) (s : WriterKnowledge) (is : List Instruction) (parts : List FilePart) (pages : List MarkedPage) (ps : List Sheet) (more : List MarkedPage) →
     Knows metrics table s is parts pages → AreGood metrics table s ps more → (after_all s ps).size < 2 ^ 31 →
-    (all : List Part) × Knows metrics table (after_all s ps) (is ++ sheets_from s ps) all (pages ++ more)
+    (all : List FilePart) × Knows metrics table (after_all s ps) (is ++ sheets_from s ps) all (pages ++ more)
 knows_all metrics table s is parts pages [] [] t good small =
     (parts, subst₂ (λ is pages. Knows metrics table s is parts pages) (sym (append-nil is)) (sym (append-nil pages)) t)
 knows_all metrics table s is parts pages [] (page ∷ more) t good small = absurd good
@@ -57,7 +57,7 @@ all_idle (d ∷ fonts) = (tt, all_idle fonts)
 pub regroup : (a p t e bytes : List ℕ) → a ++ ((p ++ (t ++ (e ++ []))) ++ bytes) ≡ a ++ (p ++ (t ++ (e ++ bytes)))
 regroup a p t e bytes = simp (append_assoc, append-nil)
 
--- The frame of what is written for instructions up to post, post, instructions behind it, and post_post.
+-- The frame of what is written: instructions before post, post, instructions after it, and post_post.
 unfoldable pub frame_of : (is : List Instruction) (stop : Postamble) (tail : List Instruction) (place padding : ℕ) →
     AllByRecursion IsWritable is → NumbersFit (Post stop) → AllByRecursion IsWritable tail → place ≡ length (bytes_of is) → place < 2 ^ 31 → 4 ≤ padding →
     Frame (bytes_of is ++ (bytes_of (Post stop ∷ (tail ++ PostPost (pos place) 2 ∷ [])) ++ replicate padding 223))
@@ -82,15 +82,15 @@ frame_of is stop tail place padding front_fits stop_fits tail_fits at small padd
       ending_spelled = subst (λ n. Spells (PostPost (pos n) 2) ending) (at ∙ ap length (sym (written-wrote is))) (written_is_spelled (PostPost (pos place) 2) tt (record { sfits = small }));
     }
 
--- What is known where such bytes are a file.
-pub facts_of_written : (is : List Instruction) (stop : Postamble) (tail : List Instruction) (place padding : ℕ) (metrics : Metrics) (pages : List MarkedPage) →
+-- The facts about such bytes where they are a file.
+pub facts_of_written : (is : List Instruction) (stop : Postamble) (tail : List Instruction) (place padding : ℕ) (metrics : WidthsByName) (pages : List MarkedPage) →
     AllByRecursion IsWritable is → NumbersFit (Post stop) → AllByRecursion IsWritable tail → place ≡ length (bytes_of is) → place < 2 ^ 31 → 4 ≤ padding →
     IsFile metrics (bytes_of is ++ (bytes_of (Post stop ∷ (tail ++ PostPost (pos place) 2 ∷ [])) ++ replicate padding 223)) pages → Facts metrics (map wrote is) stop (map wrote tail) pages
 unfolding frame_of
 facts_of_written is stop tail place padding metrics pages front_fits stop_fits tail_fits at small padded f =
     facts_at metrics _ pages f (frame_of is stop tail place padding front_fits stop_fits tail_fits at small padded)
 
-module _ (metrics : Metrics) (table : Table) (s : Written) (is : List Instruction) (parts : List Part) (pages : List MarkedPage)
+module _ (metrics : WidthsByName) (table : Table) (s : WriterKnowledge) (is : List Instruction) (parts : List FilePart) (pages : List MarkedPage)
     (tall wide : ℤ) (closing : List Definition) (padding : ℕ)
     (t : Knows metrics table s is parts pages) (c : IsClosing table s.known closing) (tall_fits : NumberFits tall) (wide_fits : NumberFits wide) (small : s.size < 2 ^ 31) (padded : 4 ≤ padding) where
   stop : Postamble
@@ -105,7 +105,7 @@ module _ (metrics : Metrics) (table : Table) (s : Written) (is : List Instructio
       let shallow = t.shallow in
       (place_fits s.size s.last t.last small, (record { sfits = lit< tt }, record { sfits = lit< tt }, record { sfits = lit< tt }), tall_fits, wide_fits, omega arith, omega arith)
 
-  -- What is written for definitions of the job.
+  -- Definitions of the job can be written.
   closing_fits : AllByRecursion IsWritable (define closing)
   closing_fits = all_map IsWritable (λ d. Do (FontDef d)) closing (all_weaker (IsTabled table) (λ d. IsWritable (Do (FontDef d))) closing (λ d u. u.writable) c.tabled)
 
@@ -116,17 +116,17 @@ module _ (metrics : Metrics) (table : Table) (s : Written) (is : List Instructio
   definitions_tail : definitions (says (map wrote (define closing))) ≡ closing
   definitions_tail = ap definitions (says-wrote (define closing)) ∙ definitions-define closing
 
-  -- A font that was selected has a definition in the postamble, the job's.
+  -- A selected font has a definition in the postamble, and it is the job's.
   closes : (f : ℤ) → IsSome (defined f s.known) → defined f closing ≡ table f
   closes f some = closing_is_table table closing f c.tabled (c.each f some)
 
   same_widths : (f : ℤ) → IsSome (defined f s.known) → SameWidths (widths_of metrics (definitions (says (map wrote (define closing))))) (table_widths metrics table) f
   same_widths f some code =
-      ap (λ (fonts : List Definition). width_in (font_in metrics (defined f fonts)) code) definitions_tail ∙ ap (λ (d : Option Definition). width_in (font_in metrics d) code) (closes f some)
+      ap (λ (fonts : List Definition). width_in (widths_in metrics (defined f fonts)) code) definitions_tail ∙ ap (λ (d : Option Definition). width_in (widths_in metrics d) code) (closes f some)
 
-  measured : (f : ℤ) → IsSome (defined f s.known) × IsSome (font_in metrics (table f)) → IsSome (font metrics (definitions (says (map wrote (define closing)))) f)
+  measured : (f : ℤ) → IsSome (defined f s.known) × IsSome (widths_in metrics (table f)) → IsSome (font metrics (definitions (says (map wrote (define closing)))) f)
   measured f (some, widths) =
-      subst (λ (d : Option Definition). IsSome (font_in metrics d)) (sym (ap (defined f) definitions_tail ∙ closes f some)) widths
+      subst (λ (d : Option Definition). IsSome (widths_in metrics d)) (sym (ap (defined f) definitions_tail ∙ closes f some)) widths
 
   file : IsFile metrics whole_bytes pages
   unfolding frame stop frame_of
@@ -145,9 +145,9 @@ module _ (metrics : Metrics) (table : Table) (s : Written) (is : List Instructio
             (fonts_append [] is (define closing) t.fonts (subst (λ (known : List Definition). FontsAreRight known (define closing)) (sym t.known) (defined_right table s.known closing t.tabled c.tabled)));
         closing =
             subst (λ (is : List Instruction). AllByRecursion (λ f. IsSome (font metrics (definitions (says (map wrote (define closing)))) f)) (selections is)) (sym (says-wrote is))
-            (all_weaker (λ f. IsSome (defined f s.known) × IsSome (font_in metrics (table f))) (λ f. IsSome (font metrics (definitions (says (map wrote (define closing)))) f)) (selections is) measured
-            (all_both (λ f. IsSome (defined f s.known)) (λ f. IsSome (font_in metrics (table f))) (selections is) t.chosen t.measured));
-        depth = all_weaker (λ part. depth_of part ≤ s.depth) (λ part. depth_of part ≤ min 1024 s.depth) parts (λ part shallow. (let most = t.shallow in omega arith)) t.depth;
+            (all_weaker (λ f. IsSome (defined f s.known) × IsSome (widths_in metrics (table f))) (λ f. IsSome (font metrics (definitions (says (map wrote (define closing)))) f)) (selections is) measured
+            (all_both (λ f. IsSome (defined f s.known)) (λ f. IsSome (widths_in metrics (table f))) (selections is) t.chosen t.measured));
+        depth = all_weaker (λ part. push_depth_of part ≤ s.depth) (λ part. push_depth_of part ≤ min 1024 s.depth) parts (λ part shallow. (let most = t.shallow in omega arith)) t.depth;
         shows =
             same_pages (widths_of metrics (definitions (says (map wrote (define closing))))) (table_widths metrics table) parts
             (all_weaker (λ f. IsSome (defined f s.known)) (SameWidths (widths_of metrics (definitions (says (map wrote (define closing))))) (table_widths metrics table)) (selections (flat_map instructions parts)) same_widths
@@ -156,50 +156,50 @@ module _ (metrics : Metrics) (table : Table) (s : Written) (is : List Instructio
       }
 
 -- There are as many pages as sheets.
-same_length : (metrics : Metrics) (table : Table) (s : Written) (ps : List Sheet) (pages : List MarkedPage) → AreGood metrics table s ps pages → length pages ≡ length ps
+same_length : (metrics : WidthsByName) (table : Table) (s : WriterKnowledge) (ps : List Sheet) (pages : List MarkedPage) → AreGood metrics table s ps pages → length pages ≡ length ps
 same_length metrics table s [] [] good = refl
 same_length metrics table s [] (page ∷ pages) good = absurd good
 same_length metrics table s (p ∷ ps) [] good = absurd good
 same_length metrics table s (p ∷ ps) (page ∷ pages) (counts, here, good) = ap suc (same_length metrics table (after s p) ps pages good)
 
--- What is written for good pages, and then the postamble, is a file of these pages.
-pub whole_file : (metrics : Metrics) (table : Table) (ps : List Sheet) (pages : List MarkedPage) (tall wide : ℤ) (closing : List Definition) (padding : ℕ) →
-    AreGood metrics table at_first ps pages → IsClosing table (after_all at_first ps).known closing → NumberFits tall → NumberFits wide → (after_all at_first ps).size < 2 ^ 31 → 4 ≤ padding →
+-- The bytes that are written for good pages and the postamble are a file of these pages.
+pub whole_file : (metrics : WidthsByName) (table : Table) (ps : List Sheet) (pages : List MarkedPage) (tall wide : ℤ) (closing : List Definition) (padding : ℕ) →
+    AreGood metrics table after_preamble ps pages → IsClosing table (after_all after_preamble ps).known closing → NumberFits tall → NumberFits wide → (after_all after_preamble ps).size < 2 ^ 31 → 4 ≤ padding →
     IsFile metrics (whole_of ps tall wide closing padding) pages
 unfolding whole_bytes stop
 whole_file metrics table ps pages tall wide closing padding good closed tall_fits wide_fits small padded =
-    let all = knows_all metrics table at_first (preamble ∷ []) [] [] ps pages (knows_first metrics table) good small in
-    subst (λ count. IsFile metrics (front_of ps ++ ending_of (after_all at_first ps) (stop_of (after_all at_first ps) tall wide count) closing padding) pages) (same_length metrics table at_first ps pages good)
-    (file metrics table (after_all at_first ps) (preamble ∷ sheets_from at_first ps) all.0 pages tall wide closing padding all.1 closed tall_fits wide_fits small padded)
+    let all = knows_all metrics table after_preamble (preamble ∷ []) [] [] ps pages (knows_first metrics table) good small in
+    subst (λ count. IsFile metrics (front_of ps ++ ending_of (after_all after_preamble ps) (stop_of (after_all after_preamble ps) tall wide count) closing padding) pages) (same_length metrics table after_preamble ps pages good)
+    (file metrics table (after_all after_preamble ps) (preamble ∷ sheets_from after_preamble ps) all.0 pages tall wide closing padding all.1 closed tall_fits wide_fits small padded)
 
--- One page more: what the writer knows, what it writes, and that the pages are good.
-pub after_all-append : (s : Written) (ps qs : List Sheet) → after_all s (ps ++ qs) ≡ after_all (after_all s ps) qs
+-- One more page: the writer's numbers, its bytes, and that the pages are good.
+pub after_all-append : (s : WriterKnowledge) (ps qs : List Sheet) → after_all s (ps ++ qs) ≡ after_all (after_all s ps) qs
 after_all-append s [] qs = refl
 after_all-append s (p ∷ ps) qs = after_all-append (after s p) ps qs
 
-pub sheets_from-append : (s : Written) (ps qs : List Sheet) → sheets_from s (ps ++ qs) ≡ sheets_from s ps ++ sheets_from (after_all s ps) qs
+pub sheets_from-append : (s : WriterKnowledge) (ps qs : List Sheet) → sheets_from s (ps ++ qs) ≡ sheets_from s ps ++ sheets_from (after_all s ps) qs
 sheets_from-append s [] qs = refl
 sheets_from-append s (p ∷ ps) qs =
     ap (λ (is : List Instruction). sheet_from s.last p ++ is) (sheets_from-append (after s p) ps qs) ∙ sym (append_assoc (sheet_from s.last p) (sheets_from (after s p) ps) (sheets_from (after_all (after s p) ps) qs))
 
-pub front_more : (ps : List Sheet) (p : Sheet) → front_of (ps ++ p ∷ []) ≡ front_of ps ++ bytes_of (sheet_from (after_all at_first ps).last p)
+pub front_more : (ps : List Sheet) (p : Sheet) → front_of (ps ++ p ∷ []) ≡ front_of ps ++ bytes_of (sheet_from (after_all after_preamble ps).last p)
 front_more ps p =
-    ap (λ (is : List Instruction). bytes_of (preamble ∷ is)) (sheets_from-append at_first ps (p ∷ []) ∙ ap (λ (is : List Instruction). sheets_from at_first ps ++ is) (append-nil (sheet_from (after_all at_first ps).last p)))
-    ∙ bytes_of-append (preamble ∷ sheets_from at_first ps) (sheet_from (after_all at_first ps).last p)
+    ap (λ (is : List Instruction). bytes_of (preamble ∷ is)) (sheets_from-append after_preamble ps (p ∷ []) ∙ ap (λ (is : List Instruction). sheets_from after_preamble ps ++ is) (append-nil (sheet_from (after_all after_preamble ps).last p)))
+    ∙ bytes_of-append (preamble ∷ sheets_from after_preamble ps) (sheet_from (after_all after_preamble ps).last p)
 
-pub good_more : (metrics : Metrics) (table : Table) (s : Written) (ps : List Sheet) (pages : List MarkedPage) (p : Sheet) (page : MarkedPage) →
+pub good_more : (metrics : WidthsByName) (table : Table) (s : WriterKnowledge) (ps : List Sheet) (pages : List MarkedPage) (p : Sheet) (page : MarkedPage) →
     AreGood metrics table s ps pages → page.counts ≡ p.counts → IsGood metrics table (after_all s ps).known p page.marks → AreGood metrics table s (ps ++ p ∷ []) (pages ++ page ∷ [])
 good_more metrics table s [] [] p page are counts good = (counts, good, tt)
 good_more metrics table s [] (q ∷ pages) p page are counts good = absurd are
 good_more metrics table s (q ∷ ps) [] p page are counts good = absurd are
 good_more metrics table s (q ∷ ps) (first ∷ pages) p page (same, here, are) counts good = (same, here, good_more metrics table (after s q) ps pages p page are counts good)
 
--- The number of bytes that the writer keeps is that of what it has written.
-pub size_of_front : (ps : List Sheet) → (after_all at_first ps).size ≡ length (front_of ps)
+-- The writer's count of bytes is the length of what it has written.
+pub size_of_front : (ps : List Sheet) → (after_all after_preamble ps).size ≡ length (front_of ps)
 unfolding spelling operand
-size_of_front ps = sized at_first (preamble ∷ []) ps refl
+size_of_front ps = sized after_preamble (preamble ∷ []) ps refl
   where
-    sized : (s : Written) (is : List Instruction) (ps : List Sheet) → s.size ≡ length (bytes_of is) → (after_all s ps).size ≡ length (bytes_of (is ++ sheets_from s ps))
+    sized : (s : WriterKnowledge) (is : List Instruction) (ps : List Sheet) → s.size ≡ length (bytes_of is) → (after_all s ps).size ≡ length (bytes_of (is ++ sheets_from s ps))
     sized s is [] e = e ∙ ap (λ (is : List Instruction). length (bytes_of is)) (sym (append-nil is))
     sized s is (p ∷ ps) e =
         sized (after s p) (is ++ sheet_from s.last p) ps (ap (λ n. n + length (bytes_of (sheet_from s.last p))) e ∙ sym (length-bytes_of-append is (sheet_from s.last p)))

@@ -1,9 +1,9 @@
--- Pages and files whose meaning is known, to hold the definitions against (own).
+-- Pages and files with known meanings, which laws compare with the definitions (own).
 use Rattle.std.specs.Prelude.{◌≡◌, [], ◌∷◌, ◌++◌, List, take, drop, replicate, codes, ℕ, ℤ, pos, Option, Some}
 use Rattle.dvi_ops.specs.Instruction.{Across, Downward, First, By, Set, Again, SetRule, PutRule, Move, Xxx}
 use Rattle.dvi_ops.specs.Body.{Mark, Glyph, Rule, Special}
 use Rattle.dvi_ops.specs.Forest.{Forest, Empty, Then, Group}
-use Rattle.dvi_ops.specs.Fonts.{Metrics}
+use Rattle.dvi_ops.specs.Fonts.{WidthsByName}
 use Rattle.dvi_ops.specs.File.{MarkedPage}
 
 -- The body of a page with one rule, 1pt high and wide: down 65536, set_rule 65536 65536.
@@ -21,11 +21,11 @@ saved_register_body =
     (Group (Then (Move Across (Set First (pos 7))) (Then (PutRule (pos 1) (pos 1)) Empty))
     (Then (Move Across (Again First)) (Then (PutRule (pos 1) (pos 1)) Empty))))
 
--- The marks of that body. The rules stand at 5, 12 and 10: pop brings back w and the place.
+-- The marks of that body. The rules are at 5, 12 and 10, since pop restores w and the place.
 abbrev pub saved_register_marks : List Mark
 saved_register_marks = Rule (pos 5) (pos 0) (pos 1) (pos 1) ∷ Rule (pos 12) (pos 0) (pos 1) (pos 1) ∷ Rule (pos 10) (pos 0) (pos 1) (pos 1) ∷ []
 
--- The body set_rule 0 5, put_rule: the first rule is no mark, and h grows by its width all the same.
+-- The body set_rule 0 5, put_rule. The first rule makes no mark, but h still grows by its width.
 abbrev pub empty_rule_body : Forest
 empty_rule_body = Then (SetRule (pos 0) (pos 5)) (Then (PutRule (pos 1) (pos 1)) Empty)
 
@@ -38,11 +38,11 @@ abbrev pub special_body : Forest
 special_body =
     Then (Move Across (By (pos 7))) (Group (Then (Move Downward (By (pos 3))) (Then (Xxx (0x61 ∷ 0x5c ∷ 0x00 ∷ [])) Empty)) (Then (Xxx []) Empty))
 
--- The marks of that body: each text stands where its instruction stands, and moves nothing.
+-- The marks of that body: each text is at the place of its instruction, and moves nothing.
 abbrev pub special_marks : List Mark
 special_marks = Special (pos 7) (pos 3) (0x61 ∷ 0x5c ∷ 0x00 ∷ []) ∷ Special (pos 7) (pos 0) [] ∷ []
 
--- The body right by 2^31 - 1, right by 1: h leaves signed 32 bits.
+-- The body right 2^31 - 1, right 1: h leaves signed 32 bits.
 abbrev pub too_far_body : Forest
 too_far_body = Then (Move Across (By (pos 2147483647))) (Then (Move Across (By (pos 1))) Empty)
 
@@ -62,23 +62,23 @@ one_rule_file =
 abbrev pub one_rule_pages : List MarkedPage
 one_rule_pages = record { counts = replicate 10 (pos 0); marks = one_rule_marks } ∷ []
 
--- The file of one rule, but its bop names its own place 15 in the place of -1.
+-- The file of one rule, but its bop names its own place 15 instead of -1.
 abbrev pub self_naming_file : List ℕ
 self_naming_file = take 56 one_rule_file ++ (0x00 ∷ 0x00 ∷ 0x00 ∷ 0x0f ∷ drop 60 one_rule_file)
 
--- The file of one rule, but with pop and three nops in the place of the movement.
+-- The file of one rule, but with pop and three nops instead of the movement.
 abbrev pub stray_pop_file : List ℕ
 stray_pop_file = take 60 one_rule_file ++ (0x8e ∷ 0x8a ∷ 0x8a ∷ 0x8a ∷ drop 64 one_rule_file)
 
--- The file of one rule, but only up to the third of the bytes 223.
+-- The file of one rule, but cut off after the third byte 223.
 abbrev pub short_file : List ℕ
 short_file = take 112 one_rule_file
 
--- The file of one rule, but post says that there are two pages.
+-- The file of one rule, but post counts two pages.
 abbrev pub miscounted_file : List ℕ
 miscounted_file = take 102 one_rule_file ++ (0x02 ∷ drop 103 one_rule_file)
 
--- The file of two pages with one rule each, the second with 7 as its first count. Its bop points to the first page's.
+-- The file of two pages with one rule each, the second with 7 as its first count. Its second bop points to the first.
 abbrev pub two_page_file : List ℕ
 two_page_file =
     0xf7 ∷ 0x02 ∷ 0x01 ∷ 0x83 ∷ 0x92 ∷ 0xc0 ∷ 0x1c ∷ 0x3b ∷ 0x00 ∷ 0x00 ∷ 0x00 ∷ 0x00 ∷ 0x03 ∷ 0xe8 ∷ 0x00 ∷ 0x8b ∷
@@ -98,8 +98,8 @@ abbrev pub two_pages : List MarkedPage
 two_pages =
     record { counts = replicate 10 (pos 0); marks = one_rule_marks } ∷ record { counts = pos 7 ∷ replicate 9 (pos 0); marks = one_rule_marks } ∷ []
 
--- A file with two fonts: a glyph of the first, a group with a glyph of the second, and behind the group another glyph of the second,
--- since pop does not bring the font back. Its body: down 655360, fnt_num 0, set_char 99, push, fnt_num 1, set_char 98, pop, right 655360, set_char 99.
+-- A file with two fonts: a glyph of the first, a group with a glyph of the second, and after the group another glyph of the second, since pop does
+-- not restore the font. Its body: down 655360, fnt_num 0, set_char 99, push, fnt_num 1, set_char 98, pop, right 655360, set_char 99.
 abbrev pub fonts_in_nested_boxes_file : List ℕ
 fonts_in_nested_boxes_file =
     0xf7 ∷ 0x02 ∷ 0x01 ∷ 0x83 ∷ 0x92 ∷ 0xc0 ∷ 0x1c ∷ 0x3b ∷ 0x00 ∷ 0x00 ∷ 0x00 ∷ 0x00 ∷ 0x03 ∷ 0xe8 ∷ 0x00 ∷ 0xf3 ∷
@@ -126,11 +126,11 @@ fonts_in_nested_boxes_pages =
           ∷ Glyph (pos 1) (pos 99) (pos 983040) (pos 655360) ∷ [];
     } ∷ []
 
--- The file with two fonts, but fnt_num 2 in the place of fnt_num 1: font 2 has no definition.
+-- The file with two fonts, but with fnt_num 2 instead of fnt_num 1: font 2 has no definition.
 abbrev pub undefined_font_file : List ℕ
 undefined_font_file = take 107 fonts_in_nested_boxes_file ++ (0xad ∷ drop 108 fonts_in_nested_boxes_file)
 
--- The file with two fonts, but post says that no push is open in any page.
+-- The file with two fonts, but post allows no open push.
 abbrev pub shallow_file : List ℕ
 shallow_file = take 142 fonts_in_nested_boxes_file ++ (0x00 ∷ drop 143 fonts_in_nested_boxes_file)
 
@@ -138,8 +138,8 @@ shallow_file = take 142 fonts_in_nested_boxes_file ++ (0x00 ∷ drop 143 fonts_i
 abbrev pub tiny_name : List ℕ
 tiny_name = codes "tiny"
 
--- Metric files for fonts of that name: the width of character 99 at the size 655360, and those of 98 and 99 at twice that size.
-pub record GivesTiny (metrics : Metrics) : Type 0 where
+-- Metric files for fonts of that name: the width of character 99 at the size 655360, and those of 98 and 99 at twice the size.
+pub record GivesTiny (metrics : WidthsByName) : Type 0 where
   pub small : ℤ → Option ℤ
   pub large : ℤ → Option ℤ
   pub small_is : metrics tiny_name (pos 655360) ≡ Some small

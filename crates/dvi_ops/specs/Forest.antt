@@ -1,12 +1,12 @@
--- The body of a page: instructions, and groups between push and pop (DVItype, 14 and 15).
+-- The body of a page as a forest: instructions, and groups between push and pop (DVItype, 14 and 15).
 use Rattle.std.specs.Prelude.{◌++◌, [], ◌∷◌, ◌+◌, max, List, ℕ, ℤ, IsTrue, Option, Some, None}
-use Rattle.dvi_ops.specs.Instruction.{Leaf, Instruction, Do, Push, Pop}
-use Rattle.dvi_ops.specs.Body.{Mark, Place, State, Meaning, Acts, only, in_range}
+use Rattle.dvi_ops.specs.Instruction.{BodyLeaf, Instruction, Do, Push, Pop}
+use Rattle.dvi_ops.specs.Body.{Mark, Position, DviState, Meaning, Acts, only, in_range}
 
--- Nothing; or an instruction and what follows it; or a group and what follows it.
+-- An empty body; an instruction and the rest; or a group and the rest.
 pub data Forest : Type 0 where
   Empty : Forest
-  Then : Leaf → Forest → Forest
+  Then : BodyLeaf → Forest → Forest
   Group : Forest → Forest → Forest
 
 -- The instructions of a body in order, with a push before each group and a pop after it.
@@ -15,28 +15,28 @@ flat Empty = []
 flat (Then i rest) = Do i ∷ flat rest
 flat (Group inner rest) = Push ∷ (flat inner ++ Pop ∷ flat rest)
 
--- A meaning with more marks before its own.
+-- A meaning with more marks before its own marks.
 abbrev pub ahead : List Mark → Meaning → Meaning
 ahead marks None = None
 ahead marks (Some (more, s)) = Some (marks ++ more, s)
 
--- A meaning, and behind it what begins at its state.
-abbrev pub and_then : Meaning → (State → Meaning) → Meaning
+-- A meaning, and then a second one from its last state.
+abbrev pub and_then : Meaning → (DviState → Meaning) → Meaning
 and_then None next = None
 and_then (Some (marks, s)) next = ahead marks (next s)
 
--- After a group the place is that from before it, and the font is that from its end (DVItype, 15: pop).
-abbrev pub restored : Place → Meaning → Meaning
+-- The state after a group: the place from before it, and the font from its end (DVItype, 15: pop).
+abbrev pub restored : Position → Meaning → Meaning
 restored p None = None
 restored p (Some (marks, s)) = Some (marks, record { place = p; font = s.font })
 
 -- The marks of a body, and the state after it.
-abbrev pub meaning : Acts → Forest → State → Meaning
+abbrev pub meaning : Acts → Forest → DviState → Meaning
 meaning does Empty s = only s
 meaning does (Then i rest) s = and_then (does i s) (λ t. meaning does rest t)
 meaning does (Group inner rest) s = and_then (restored s.place (meaning does inner s)) (λ t. meaning does rest t)
 
--- How many groups are open at once.
+-- The greatest number of groups that are open at once.
 abbrev pub nests : Forest → ℕ
 nests Empty = 0
 nests (Then i rest) = nests rest
@@ -47,19 +47,19 @@ abbrev pub marks_of : Meaning → Option (List Mark)
 marks_of None = None
 marks_of (Some (marks, s)) = Some marks
 
--- One body behind another (own).
+-- The concatenation of two bodies (own).
 abbrev pub beside : Forest → Forest → Forest
 beside Empty g = g
 beside (Then i f) g = Then i (beside f g)
 beside (Group inner f) g = Group inner (beside f g)
 
--- The place (h, v) after a meaning, and the places from there on; none where there is no meaning (own).
-abbrev pub points_then : Meaning → (State → List (ℤ × ℤ)) → List (ℤ × ℤ)
+-- The place (h, v) after a meaning, and the places from there on; an empty list where there is no meaning (own).
+abbrev pub points_then : Meaning → (DviState → List (ℤ × ℤ)) → List (ℤ × ℤ)
 points_then None next = []
 points_then (Some (marks, s)) next = (s.place.h, s.place.v) ∷ next s
 
 -- The places (h, v) after each instruction and after each group of a body, as far as there is a meaning (own).
-abbrev pub points : Acts → Forest → State → List (ℤ × ℤ)
+abbrev pub points : Acts → Forest → DviState → List (ℤ × ℤ)
 points does Empty s = []
 points does (Then i rest) s = points_then (does i s) (λ t. points does rest t)
 points does (Group inner rest) s = points does inner s ++ points_then (restored s.place (meaning does inner s)) (λ t. points does rest t)

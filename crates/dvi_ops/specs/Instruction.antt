@@ -7,17 +7,17 @@ pub data Axis : Type 0 where
   Downward : Axis
 
 -- The registers of a direction: w or y is the first, x or z the second (DVItype, 14).
-pub data Register : Type 0 where
-  First : Register
-  Second : Register
+pub data MoveRegister : Type 0 where
+  First : MoveRegister
+  Second : MoveRegister
 
--- A movement: by an amount (right, down), by an amount that a register keeps (w1, x1, y1, z1), by what a register holds (w0, x0, y0, z0).
-pub data Step : Type 0 where
-  By : ℤ → Step
-  Set : Register → ℤ → Step
-  Again : Register → Step
+-- A movement: by an amount (right, down), by an amount that is stored in a register (w1, x1, y1, z1), or by the value of a register (w0, x0, y0, z0).
+pub data Movement : Type 0 where
+  By : ℤ → Movement
+  Set : MoveRegister → ℤ → Movement
+  Again : MoveRegister → Movement
 
--- A font definition (DVItype, 18): sizes are in DVI units, the name is in two parts.
+-- A font definition (DVItype, 18). Sizes are in DVI units, and the name is in two parts.
 pub record Definition : Type 0 where
   pub number : ℤ
   pub check_sum : ℤ
@@ -32,7 +32,7 @@ pub record Units : Type 0 where
   pub den : ℤ
   pub mag : ℤ
 
--- What post says of the whole file (DVItype, 19).
+-- The operands of post, which describe the whole file (DVItype, 19).
 pub record Postamble : Type 0 where
   pub last_bop : ℤ
   pub units : Units
@@ -41,21 +41,21 @@ pub record Postamble : Type 0 where
   pub stack_depth : ℕ
   pub pages : ℕ
 
--- What stands in the body of a page, but for push and pop.
-pub data Leaf : Type 0 where
-  SetChar : ℤ → Leaf
-  PutChar : ℤ → Leaf
-  SetRule : (height width : ℤ) → Leaf
-  PutRule : (height width : ℤ) → Leaf
-  Nop : Leaf
-  Move : Axis → Step → Leaf
-  FontNum : ℤ → Leaf
-  FontDef : Definition → Leaf
-  Xxx : List ℕ → Leaf
+-- An instruction of a page body, except push and pop.
+pub data BodyLeaf : Type 0 where
+  SetChar : ℤ → BodyLeaf
+  PutChar : ℤ → BodyLeaf
+  SetRule : (height width : ℤ) → BodyLeaf
+  PutRule : (height width : ℤ) → BodyLeaf
+  Nop : BodyLeaf
+  Move : Axis → Movement → BodyLeaf
+  FontNum : ℤ → BodyLeaf
+  FontDef : Definition → BodyLeaf
+  Xxx : List ℕ → BodyLeaf
 
--- An instruction: such a leaf, or one that opens, closes or stands outside a page.
+-- An instruction: a leaf, or one that opens or closes a group or a page, or is outside of pages.
 pub data Instruction : Type 0 where
-  Do : Leaf → Instruction
+  Do : BodyLeaf → Instruction
   Push : Instruction
   Pop : Instruction
   Bop : (counts : List ℤ) (pointer : ℤ) → Instruction

@@ -1,23 +1,23 @@
--- How this writer lays a file out (own; the law `whole_is_file` ties it to `IsFile`): the preamble, for each page the definitions of its new fonts and
--- the page, then the postamble.
+-- How this writer lays a file out (own; the law `whole_is_file` connects it with `IsFile`): the preamble, for each page the definitions of its new
+-- fonts and the page, then the postamble.
 use Rattle.std.specs.Prelude.{◌≡◌, ◌≤◌, ◌+◌, ◌-◌, ◌%◌, ◌++◌, max, [], ◌∷◌, List, length, map, replicate, ℕ, ℤ, pos, negsuc, Option, Some, IsSome}
 use Rattle.std.specs.List.{flat_map, AllByRecursion}
 use Rattle.dvi_ops.specs.Instruction.{Definition, Units, Postamble, FontDef, Instruction, Do, Bop, Eop, Pre, Post, PostPost}
 use Rattle.dvi_ops.specs.Spelling.{spelling, HasSpelling, NumberFits, NumbersFit}
-use Rattle.dvi_ops.specs.Body.{Mark, State, Widths, acts, kept, start}
+use Rattle.dvi_ops.specs.Body.{Mark, DviState, Widths, acts, kept, start}
 use Rattle.dvi_ops.specs.Forest.{Forest, flat, meaning, nests}
-use Rattle.dvi_ops.specs.Fonts.{Metrics, IsSize, definitions, selections, defined, known_after, font_in, width_in}
+use Rattle.dvi_ops.specs.Fonts.{WidthsByName, IsFontSize, definitions, selections, defined, known_after, widths_in, width_in}
 use Rattle.dvi_ops.specs.File.{MarkedPage}
 
 -- The bytes of instructions, each by its written spelling.
 abbrev pub bytes_of : List Instruction → List ℕ
 bytes_of is = flat_map spelling is
 
--- 25400000 / 473628672 times 10^-7 metres: a scaled point.
+-- The units of a scaled point: 25400000 / 473628672 times 10^-7 metres.
 abbrev pub scaled_points : Units
 scaled_points = record { num = pos 25400000; den = pos 473628672; mag = pos 1000 }
 
--- Version 2, in scaled points, without a comment.
+-- The preamble: version 2, in scaled points, without a comment.
 abbrev pub preamble : Instruction
 preamble = Pre 2 scaled_points []
 
@@ -25,30 +25,30 @@ preamble = Pre 2 scaled_points []
 abbrev pub define : List Definition → List Instruction
 define fonts = map (λ d. Do (FontDef d)) fonts
 
--- What is written for a page: its ten counts, the definitions of the fonts that no page before it uses, and its body.
+-- The input for one page: its ten counts, the definitions of the fonts that no earlier page uses, and its body.
 pub record Sheet : Type 0 where
   pub counts : List ℤ
   pub fresh : List Definition
   pub body : Forest
 
--- What the writer knows of what it has written: the place of the last bop, or -1; how many bytes; how many pushes were open at once, at most;
--- and the defined fonts, the last one first.
-pub record Written : Type 0 where
+-- What the writer has written so far: the place of the last bop, or -1; the number of bytes; the greatest number of pushes open at once; and the
+-- defined fonts, the last one first.
+pub record WriterKnowledge : Type 0 where
   pub last : ℤ
   pub size : ℕ
   pub depth : ℕ
   pub known : List Definition
 
--- What the writer knows behind the preamble, which has 15 bytes.
-abbrev pub at_first : Written
-at_first = record { last = negsuc 0; size = 15; depth = 0; known = [] }
+-- The writer's numbers after the preamble, which has 15 bytes.
+abbrev pub after_preamble : WriterKnowledge
+after_preamble = record { last = negsuc 0; size = 15; depth = 0; known = [] }
 
--- The instructions for a page, when the bop before it stands at `last`.
+-- The instructions for a page, where the previous bop is at `last`.
 abbrev pub sheet_from : ℤ → Sheet → List Instruction
 sheet_from last p = define p.fresh ++ (Bop p.counts last ∷ (flat p.body ++ Eop ∷ []))
 
--- What the writer knows after a page.
-abbrev pub after : Written → Sheet → Written
+-- The writer's numbers after a page.
+abbrev pub after : WriterKnowledge → Sheet → WriterKnowledge
 after s p =
     record {
       last = pos (s.size + length (bytes_of (define p.fresh)));
@@ -57,35 +57,35 @@ after s p =
       known = known_after s.known (define p.fresh);
     }
 
--- The instructions for pages, one behind the other.
-abbrev pub sheets_from : Written → List Sheet → List Instruction
+-- The instructions for pages, in order.
+abbrev pub sheets_from : WriterKnowledge → List Sheet → List Instruction
 sheets_from s [] = []
 sheets_from s (p ∷ rest) = sheet_from s.last p ++ sheets_from (after s p) rest
 
--- What the writer knows after these pages.
-abbrev pub after_all : Written → List Sheet → Written
+-- The writer's numbers after these pages.
+abbrev pub after_all : WriterKnowledge → List Sheet → WriterKnowledge
 after_all s [] = s
 after_all s (p ∷ rest) = after_all (after s p) rest
 
 -- The bytes of a file up to the last eop.
 abbrev pub front_of : List Sheet → List ℕ
-front_of sheets = bytes_of (preamble ∷ sheets_from at_first sheets)
+front_of sheets = bytes_of (preamble ∷ sheets_from after_preamble sheets)
 
--- What post says, with the greatest sizes of the pages and their number.
-abbrev pub stop_of : Written → (tall wide : ℤ) → (count : ℕ) → Postamble
+-- The operands of post, with the greatest sizes of the pages and their number.
+abbrev pub stop_of : WriterKnowledge → (tall wide : ℤ) → (count : ℕ) → Postamble
 stop_of s tall wide count =
     record { last_bop = s.last; units = scaled_points; height_plus_depth = tall; width = wide; stack_depth = s.depth; pages = count % 65536 }
 
 -- The bytes from post to the end of a file.
-abbrev pub ending_of : Written → Postamble → List Definition → (padding : ℕ) → List ℕ
+abbrev pub ending_of : WriterKnowledge → Postamble → List Definition → (padding : ℕ) → List ℕ
 ending_of s stop closing padding = bytes_of (Post stop ∷ (define closing ++ PostPost (pos s.size) 2 ∷ [])) ++ replicate padding 223
 
 -- The whole file, with these greatest sizes, and these definitions in the postamble.
 abbrev pub whole_of : List Sheet → (tall wide : ℤ) → List Definition → (padding : ℕ) → List ℕ
 whole_of sheets tall wide closing padding =
-    front_of sheets ++ ending_of (after_all at_first sheets) (stop_of (after_all at_first sheets) tall wide (length sheets)) closing padding
+    front_of sheets ++ ending_of (after_all after_preamble sheets) (stop_of (after_all after_preamble sheets) tall wide (length sheets)) closing padding
 
--- How many bytes 223 stand behind `size` bytes: 4 to 7, so that the number of bytes is a multiple of 4.
+-- How many bytes 223 follow `size` bytes: 4 to 7, so that the length is a multiple of 4.
 abbrev pub padding_after : ℕ → ℕ
 padding_after size = 7 - (size + 3) % 4
 
@@ -94,42 +94,42 @@ abbrev pub Table : Type 0
 Table = ℤ → Option Definition
 
 -- The width of each character of the job's fonts.
-abbrev pub table_widths : Metrics → Table → Widths
-table_widths metrics table f c = width_in (font_in metrics (table f)) c
+abbrev pub table_widths : WidthsByName → Table → Widths
+table_widths metrics table f c = width_in (widths_in metrics (table f)) c
 
 -- The numbers and the lengths of an instruction fit their fields.
 abbrev pub IsWritable : Instruction → Type 0
 IsWritable i = HasSpelling i × NumbersFit i
 
--- A definition is that of the job's font of its number, has the size of a font, and can be written.
+-- A definition is the job's for its number, has a valid size, and can be written.
 pub record IsTabled (table : Table) (d : Definition) : Type 0 where
   pub listed : table d.number ≡ Some d
-  pub size : IsSize d.size
+  pub size : IsFontSize d.size
   pub writable : IsWritable (Do (FontDef d))
 
--- A page may stand behind definitions `known`, and has these marks.
-pub record IsGood (metrics : Metrics) (table : Table) (known : List Definition) (p : Sheet) (marks : List Mark) : Type 0 where
+-- A page may follow the definitions `known`, and has these marks.
+pub record IsGood (metrics : WidthsByName) (table : Table) (known : List Definition) (p : Sheet) (marks : List Mark) : Type 0 where
   pub ten : length p.counts ≡ 10
   pub counts_fit : AllByRecursion NumberFits p.counts
   pub fresh : AllByRecursion (IsTabled table) p.fresh
   pub writable : AllByRecursion IsWritable (flat p.body)
-  -- The body defines no font, and selects fonts that are known or fresh, and that have widths.
+  -- The body defines no font, and selects only fonts that are known or fresh and have widths.
   pub plain : definitions (flat p.body) ≡ []
   pub chosen : AllByRecursion (λ f. IsSome (defined f (known_after known (define p.fresh)))) (selections (flat p.body))
-  pub measured : AllByRecursion (λ f. IsSome (font_in metrics (table f))) (selections (flat p.body))
+  pub measured : AllByRecursion (λ f. IsSome (widths_in metrics (table f))) (selections (flat p.body))
   pub shallow : nests p.body ≤ 1024
-  pub last : State
+  pub last : DviState
   pub shows : meaning (kept (acts (table_widths metrics table))) p.body start ≡ Some (marks, last)
 
--- Each page is good behind those before it. The pages as they are read have their counts and marks.
-abbrev pub AreGood : Metrics → Table → Written → List Sheet → List MarkedPage → Type 0
+-- Each page is good after those before it, and the marked pages have their counts and marks.
+abbrev pub AreGood : WidthsByName → Table → WriterKnowledge → List Sheet → List MarkedPage → Type 0
 AreGood metrics table s [] [] = Unit {0}
 AreGood metrics table s [] (page ∷ pages) = ⊥
 AreGood metrics table s (p ∷ rest) [] = ⊥
 AreGood metrics table s (p ∷ rest) (page ∷ pages) =
     (page.counts ≡ p.counts) × IsGood metrics table s.known p page.marks × AreGood metrics table (after s p) rest pages
 
--- The definitions of the postamble: each is the job's, and all fonts that are known are among them.
+-- The definitions of the postamble: each is the job's, and all known fonts are among them.
 pub record IsClosing (table : Table) (known closing : List Definition) : Type 0 where
   pub tabled : AllByRecursion (IsTabled table) closing
   pub each : (f : ℤ) → IsSome (defined f known) → IsSome (defined f closing)

@@ -1,25 +1,25 @@
--- The instruction at the front of some bytes as a function (own; private calls alone, no public clause speaks of it).
--- What it has to do with the table is on `next`.
+-- The instruction at the start of some bytes, as a function (own; private calls alone, no public clause speaks of it). The contract of `next`
+-- connects it with the table.
 use Rattle.std.specs.Prelude.{◌-◌, ◌∷◌, [], List, length, take, drop, ℕ, zero, suc, ℤ, pos, nat_lt, nat_le, if◌then◌else◌, Option, Some, None}
 use Rattle.byteorder.specs.Endian.{big_number}
 use Rattle.dvi_ops.specs.Instruction.{Axis, Across, Downward, First, Second, By, Set, Again, Definition, SetChar, PutChar, SetRule, PutRule, Nop, Move, FontNum, FontDef, Xxx, Instruction, Do, Push, Pop, Bop, Eop, Pre, Post, PostPost}
 use Rattle.dvi_ops.specs.Table.{signed, code}
 
--- Something at the front of some bytes, and the bytes behind it; none where the bytes end before.
+-- A value at the start of some bytes, and the rest of the bytes; None where the bytes are too few.
 abbrev pub Front : Type 0 → Type 0
 Front A = Option (A × List ℕ)
 
--- What a function makes of something at the front of some bytes; the bytes behind it stay.
+-- The image of a value that was read; the rest of the bytes is the same.
 abbrev pub made : {A B : Type 0} → (A → B) → Front A → Front B
 made f None = None
 made f (Some (value, rest)) = Some (f value, rest)
 
--- What is read behind something at the front of some bytes, by what that is.
+-- A second value that is read after a first one and may depend on it.
 abbrev pub followed : {A B : Type 0} → Front A → (A → List ℕ → Front B) → Front B
 followed None next = None
 followed (Some (value, rest)) next = next value rest
 
--- The first n bytes.
+-- The first n bytes, and the rest.
 abbrev pub cut : ℕ → List ℕ → Front (List ℕ)
 cut n bytes = if nat_le n (length bytes) then Some (take n bytes, drop n bytes) else None
 
@@ -35,17 +35,17 @@ code_at n bytes = made (code n) (cut n bytes)
 unfoldable pub half_at : List ℕ → Front ℕ
 half_at bytes = made (big_number 2) (cut 2 bytes)
 
--- n numbers of four bytes.
+-- A list of n numbers of four bytes each.
 unfoldable pub words : ℕ → List ℕ → List ℤ
 words zero bytes = []
 words (suc n) bytes = signed 4 bytes ∷ words n (drop 4 bytes)
 
--- set_char and set1 to set4: codes 0 to 131.
+-- A character: set_char and set1 to set4, codes 0 to 131.
 unfoldable pub char_at : ℕ → List ℕ → Front Instruction
 char_at operation rest =
     if nat_lt operation 128 then Some (Do (SetChar (pos operation)), rest) else made (λ c. Do (SetChar c)) (code_at (operation - 127) rest)
 
--- A byte.
+-- One byte.
 abbrev pub byte_at : List ℕ → Front ℕ
 byte_at [] = None
 byte_at (byte ∷ rest) = Some (byte, rest)
@@ -62,7 +62,7 @@ three_at bytes = followed (signed_at 4 bytes) (λ a rest. made (λ bc. (a, bc.0,
 unfoldable pub halves_at : List ℕ → Front (ℕ × ℕ)
 halves_at bytes = followed (half_at bytes) (λ a rest. made (λ b. (a, b)) (half_at rest))
 
--- bop, behind its code.
+-- The operands of bop.
 unfoldable pub bop_at : List ℕ → Front Instruction
 bop_at bytes = followed (cut 40 bytes) (λ counts rest. made (λ pointer. Bop (words 10 counts) pointer) (signed_at 4 rest))
 
@@ -78,7 +78,7 @@ plain_at operation rest =
     else if nat_lt operation 142 then Some (Push, rest)
     else Some (Pop, rest)
 
--- The movements of an axis, by how far their code stands above the one before right1 or down1: 1 to 14.
+-- The movements of an axis, by the difference of their code and the code before right1 or down1: 1 to 14.
 unfoldable pub movement_at : Axis → ℕ → List ℕ → Front Instruction
 movement_at axis offset rest =
     if nat_lt offset 5 then made (λ z. Do (Move axis (By z))) (signed_at offset rest)
@@ -87,7 +87,7 @@ movement_at axis offset rest =
     else if nat_lt offset 11 then Some (Do (Move axis (Again Second)), rest)
     else made (λ z. Do (Move axis (Set Second z))) (signed_at (offset - 10) rest)
 
--- fnt_num and fnt1 to fnt4: codes 171 to 238.
+-- A font selection: fnt_num and fnt1 to fnt4, codes 171 to 238.
 unfoldable pub font_at : ℕ → List ℕ → Front Instruction
 font_at operation rest =
     if nat_lt operation 235 then Some (Do (FontNum (pos (operation - 171))), rest) else made (λ f. Do (FontNum f)) (code_at (operation - 234) rest)
@@ -115,21 +115,21 @@ definition_at n bytes =
       name = names.1;
     }) (names_at rest)))
 
--- xxx1 to xxx4 and fnt_def1 to fnt_def4: codes 239 to 246.
+-- A special or a font definition: xxx1 to xxx4 and fnt_def1 to fnt_def4, codes 239 to 246.
 unfoldable pub long_at : ℕ → List ℕ → Front Instruction
 long_at operation rest =
     if nat_lt operation 243 then text_at (operation - 238) rest else made (λ d. Do (FontDef d)) (definition_at (operation - 242) rest)
 
--- A text behind its length of one byte.
+-- A length of one byte, and a text of that length.
 unfoldable pub comment_at : List ℕ → Front (List ℕ)
 comment_at bytes = followed (byte_at bytes) (λ k rest. cut k rest)
 
--- pre, behind its code.
+-- The operands of pre.
 unfoldable pub pre_at : List ℕ → Front Instruction
 pre_at bytes =
     followed (byte_at bytes) (λ id rest. followed (three_at rest) (λ u rest. made (λ comment. Pre id (record { num = u.0; den = u.1; mag = u.2 }) comment) (comment_at rest)))
 
--- post, behind its code.
+-- The operands of post.
 unfoldable pub post_at : List ℕ → Front Instruction
 post_at bytes =
     followed
@@ -143,11 +143,11 @@ post_at bytes =
       pages = counts.1;
     })) (halves_at rest))))
 
--- post_post, behind its code.
+-- The operands of post_post.
 unfoldable pub post_post_at : List ℕ → Front Instruction
 post_post_at bytes = followed (signed_at 4 bytes) (λ place rest. made (λ id. PostPost place id) (byte_at rest))
 
--- pre, post and post_post: codes 247 to 249. There are no more.
+-- The instructions pre, post and post_post: codes 247 to 249. No other code from 247 begins an instruction.
 unfoldable pub frame_at : ℕ → List ℕ → Front Instruction
 frame_at operation rest =
     if nat_lt operation 248 then pre_at rest
@@ -155,7 +155,7 @@ frame_at operation rest =
     else if nat_lt operation 250 then post_post_at rest
     else None
 
--- The instruction at the front of some bytes, by its code.
+-- The instruction at the start of some bytes, by its code.
 unfoldable pub read : List ℕ → Front Instruction
 read [] = None
 read (operation ∷ rest) =

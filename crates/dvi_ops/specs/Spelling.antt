@@ -1,80 +1,80 @@
--- The one spelling of an instruction that is written: the fewest bytes for every instruction whose operand may have several lengths; of xxx
--- the first form or the last (own; the clause `spelled` of `spell` ties it to `Spells`).
+-- The spelling of an instruction that is written: the fewest bytes wherever an operand may have several lengths; for a special the form xxx1 or xxx4
+-- (own; the clause `spelled` of `spell` connects it with `Spells`).
 use Rattle.std.specs.Prelude.{◌≡◌, ◌<◌, ◌+◌, ◌++◌, ◌^◌, ◌∷◌, [], List, length, ℕ, ℤ, pos, negsuc, nat_lt, if◌then◌else◌}
 use Rattle.std.specs.Int.{w32, cast_unsigned}
 use Rattle.std.specs.Int.RustNames.{FitsSigned}
 use Rattle.std.specs.List.{flat_map, AllByRecursion}
 use Rattle.byteorder.specs.Endian.{big_bytes}
-use Rattle.dvi_ops.specs.Instruction.{By, Set, Again, Definition, Units, Postamble, Leaf, SetChar, PutChar, SetRule, PutRule, Nop, Move, FontNum, FontDef, Xxx, Instruction, Do, Push, Pop, Bop, Eop, Pre, Post, PostPost}
+use Rattle.dvi_ops.specs.Instruction.{By, Set, Again, Definition, Units, Postamble, BodyLeaf, SetChar, PutChar, SetRule, PutRule, Nop, Move, FontNum, FontDef, Xxx, Instruction, Do, Push, Pop, Bop, Eop, Pre, Post, PostPost}
 use Rattle.dvi_ops.specs.Table.{plain_code, register_code}
 
 -- The n lowest bytes of z in two's complement, the highest of them first.
 unfoldable pub operand : ℕ → ℤ → List ℕ
 operand n z = big_bytes n (cast_unsigned w32 z)
 
--- How many bytes hold m and -m-1 as signed numbers, at least: 1 to 4.
+-- The fewest bytes that hold m and -m-1 as signed numbers: 1 to 4.
 abbrev pub bytes_for : ℕ → ℕ
 bytes_for m = if nat_lt m 128 then 1 else if nat_lt m 32768 then 2 else if nat_lt m 8388608 then 3 else 4
 
--- How many bytes hold z as a signed number, at least.
+-- The fewest bytes that hold z as a signed number.
 unfoldable pub signed_size : ℤ → ℕ
 signed_size (pos m) = bytes_for m
 signed_size (negsuc m) = bytes_for m
 
--- How many bytes hold the number of a character or of a font, at least: one to three bytes are not signed, four are.
+-- The fewest bytes that hold the number of a character or of a font: one to three bytes are unsigned, four are signed.
 unfoldable pub code_size : ℤ → ℕ
 code_size (pos m) = if nat_lt m 256 then 1 else if nat_lt m 65536 then 2 else if nat_lt m 16777216 then 3 else 4
 code_size (negsuc m) = 4
 
--- The code that stands n above base, and n bytes of z.
+-- The code base + n, and n bytes of z.
 abbrev pub coded : ℕ → ℕ → ℤ → List ℕ
 coded base n z = (base + n) ∷ operand n z
 
--- A movement, by the fewest bytes that hold its amount.
+-- A movement, with the fewest bytes that hold its amount.
 abbrev pub coded_signed : ℕ → ℤ → List ℕ
 coded_signed base z = coded base (signed_size z) z
 
--- What selects a character or a font, by the fewest bytes that hold its number.
+-- The selection of a character or a font, with the fewest bytes that hold its number.
 abbrev pub coded_number : ℕ → ℤ → List ℕ
 coded_number base z = coded base (code_size z) z
 
--- set_char for 0 to 127, else set1 to set4.
+-- A character: set_char for 0 to 127, else set1 to set4.
 unfoldable pub char_spelling : ℤ → List ℕ
 char_spelling (pos c) = if nat_lt c 128 then c ∷ [] else coded_number 127 (pos c)
 char_spelling (negsuc c) = coded_number 127 (negsuc c)
 
--- fnt_num for 0 to 63, else fnt1 to fnt4.
+-- A font selection: fnt_num for 0 to 63, else fnt1 to fnt4.
 unfoldable pub font_spelling : ℤ → List ℕ
 font_spelling (pos f) = if nat_lt f 64 then (171 + f) ∷ [] else coded_number 234 (pos f)
 font_spelling (negsuc f) = coded_number 234 (negsuc f)
 
--- xxx1 for up to 255 bytes, else xxx4.
+-- A special: xxx1 for up to 255 bytes, else xxx4.
 unfoldable pub text_spelling : List ℕ → List ℕ
 text_spelling text =
     if nat_lt (length text) 256 then 239 ∷ length text ∷ text else 242 ∷ (operand 4 (pos (length text)) ++ text)
 
--- What stands behind the number of a font definition.
+-- The bytes of a font definition after its number.
 abbrev pub definition_bytes : Definition → List ℕ
 definition_bytes d =
     operand 4 d.check_sum ++ (operand 4 d.size ++ (operand 4 d.design_size ++ (length d.area ∷ length d.name ∷ (d.area ++ d.name))))
 
--- fnt_def1 to fnt_def4, by the font's number.
+-- A font definition: fnt_def1 to fnt_def4, by the font's number.
 abbrev pub definition_spelling : Definition → List ℕ
 definition_spelling d = coded_number 242 d.number ++ definition_bytes d
 
--- num, den and mag.
+-- The bytes of num, den and mag.
 abbrev pub units_bytes : Units → List ℕ
 units_bytes units = operand 4 units.num ++ (operand 4 units.den ++ operand 4 units.mag)
 
--- What stands behind the code of post.
+-- The operands of post.
 abbrev pub post_bytes : Postamble → List ℕ
 post_bytes p =
     operand 4 p.last_bop
     ++ (units_bytes p.units
     ++ (operand 4 p.height_plus_depth ++ (operand 4 p.width ++ (operand 2 (pos p.stack_depth) ++ operand 2 (pos p.pages)))))
 
--- The spelling of what stands in a body.
-unfoldable pub leaf_spelling : Leaf → List ℕ
+-- The spelling of a leaf.
+unfoldable pub leaf_spelling : BodyLeaf → List ℕ
 leaf_spelling (SetChar c) = char_spelling c
 leaf_spelling (PutChar c) = coded_number 132 c
 leaf_spelling (SetRule height width) = 132 ∷ (operand 4 height ++ operand 4 width)
@@ -109,12 +109,12 @@ HasSpelling i = Unit {0}
 abbrev pub NumberFits : ℤ → Type 0
 NumberFits z = FitsSigned w32 z
 
--- num, den and mag each fit a field of four bytes.
+-- The numbers num, den and mag each fit a field of four bytes.
 abbrev pub UnitsFit : Units → Type 0
 UnitsFit units = NumberFits units.num × NumberFits units.den × NumberFits units.mag
 
--- Each number in what stands in a body fits a field of four bytes.
-abbrev pub LeafFits : Leaf → Type 0
+-- Each number of a leaf fits a field of four bytes.
+abbrev pub LeafFits : BodyLeaf → Type 0
 LeafFits (SetChar c) = NumberFits c
 LeafFits (PutChar c) = NumberFits c
 LeafFits (SetRule height width) = NumberFits height × NumberFits width
@@ -127,7 +127,7 @@ LeafFits (FontNum f) = NumberFits f
 LeafFits (FontDef d) = NumberFits d.number × NumberFits d.check_sum × NumberFits d.size × NumberFits d.design_size
 LeafFits (Xxx text) = Unit {0}
 
--- Each number of two bytes or more in an instruction fits its field, and a bop has ten counts. (An identifier is its byte as it stands.)
+-- Each number of two bytes or more in an instruction fits its field, and a bop has ten counts. An identifier is one byte, and needs no condition.
 abbrev pub NumbersFit : Instruction → Type 0
 NumbersFit (Do leaf) = LeafFits leaf
 NumbersFit (Bop counts pointer) = (length counts ≡ 10) × AllByRecursion NumberFits counts × NumberFits pointer
@@ -144,8 +144,8 @@ abbrev pub HasShortText : Instruction → Type 0
 HasShortText (Do (Xxx text)) = length text < 256
 HasShortText i = Unit {0}
 
--- What stands in a body is neither a special nor a font definition.
-abbrev pub IsBrief : Leaf → Type 0
+-- A leaf that is neither a special nor a font definition.
+abbrev pub IsBrief : BodyLeaf → Type 0
 IsBrief (FontDef d) = ⊥
 IsBrief (Xxx text) = ⊥
 IsBrief leaf = Unit {0}

@@ -1,10 +1,10 @@
--- Instructions with the bytes that spell them (own), and what stands in a list of them: where the pages begin, and what each names as the one before it.
+-- Instructions with the bytes that spell them (own), the places of the pages among them, and the place that each page names as the previous one.
 use Rattle.std.specs.Prelude.{◌+◌, ◌++◌, [], ◌∷◌, List, length, map, ℕ, ℤ}
 use Rattle.std.specs.List.{flat_map}
 use Rattle.dvi_ops.specs.Instruction.{Instruction, Bop}
 use Rattle.dvi_ops.specs.Table.{Spells}
 
--- An instruction, and the bytes that stand for it in a file.
+-- An instruction, and the bytes that spell it in a file.
 pub record Token : Type 0 where
   pub says : Instruction
   pub bytes : List ℕ
@@ -17,25 +17,25 @@ IsSpelled t = Spells t.says t.bytes
 abbrev pub says : List Token → List Instruction
 says tokens = map (λ t. t.says) tokens
 
--- The bytes of tokens, one instruction's behind the other's.
+-- The bytes of tokens, in order.
 abbrev pub written : List Token → List ℕ
 written tokens = flat_map (λ t. t.bytes) tokens
 
--- The place of an instruction, if it is a bop.
-abbrev pub place_of : ℕ → Instruction → List ℕ
-place_of at (Bop counts pointer) = at ∷ []
-place_of at i = []
+-- The place of an instruction, if it is a bop, as a list of one or none.
+abbrev pub bop_place : ℕ → Instruction → List ℕ
+bop_place at (Bop counts pointer) = at ∷ []
+bop_place at i = []
 
--- The places of the bops, if the first instruction stands at `at` (DVItype, 15).
+-- The places of the bops, where the first instruction is at `at` (DVItype, 15).
 abbrev pub places : ℕ → List Token → List ℕ
 places at [] = []
-places at (t ∷ rest) = place_of at t.says ++ places (at + length t.bytes) rest
+places at (t ∷ rest) = bop_place at t.says ++ places (at + length t.bytes) rest
 
--- What an instruction names as the bop before it, if it is a bop.
+-- The pointer of an instruction, if it is a bop, as a list of one or none.
 abbrev pub pointer_of : Instruction → List ℤ
 pointer_of (Bop counts pointer) = pointer ∷ []
 pointer_of i = []
 
--- What the bops name as the bop before them (DVItype, 15).
+-- The pointers of the bops, each to the previous bop (DVItype, 15).
 abbrev pub pointers : List Instruction → List ℤ
 pointers is = flat_map pointer_of is

@@ -1,12 +1,12 @@
--- The pass over the instructions of a body with a stack of places, as DVItype itself does it (DVItype, 15: push and pop; the laws `pass_is_meaning` and
--- `passed_is_body` tie it to `meaning`).
+-- A pass over the instructions of a body with a stack of places, as DVItype does it (DVItype, 15: push and pop; the laws `pass_is_meaning` and
+-- `passed_is_body` connect it with `meaning`).
 use Rattle.std.specs.Prelude.{[], ◌∷◌, List, None}
 use Rattle.dvi_ops.specs.Instruction.{Instruction, Do, Push, Pop}
-use Rattle.dvi_ops.specs.Body.{Place, State, Meaning, Acts, only}
+use Rattle.dvi_ops.specs.Body.{Position, DviState, Meaning, Acts, only}
 use Rattle.dvi_ops.specs.Forest.{and_then}
 
--- push saves the place, pop brings the last one back; the stack is empty at the end, and nothing is popped from an empty one.
-abbrev pub walk : Acts → List Instruction → List Place → State → Meaning
+-- Each push saves the place, and each pop restores the last saved one. The stack is empty at the end, and a pop on an empty stack has no meaning.
+abbrev pub walk : Acts → List Instruction → List Position → DviState → Meaning
 walk does [] [] s = only s
 walk does [] (p ∷ stack) s = None
 walk does (Push ∷ rest) stack s = walk does rest (s.place ∷ stack) s

@@ -1,76 +1,77 @@
-//! A DVI file of these pages: laws of the definition that writer and reader share (DVItype, 13 to 20).
+//! Laws about DVI files, for the definition that the writer and the reader share (DVItype, 13 to 20).
 
 ghost use Rattle.std.specs.Prelude.{◌≡◌, ◌++◌, ◌<◌, ◌≤◌, ◌+◌, ◌%◌, ◌^◌, [], ◌∷◌, List, length, ℕ, ℤ};
 ghost use Rattle.dvi_ops.specs.Examples.{one_rule_file, one_rule_pages, two_page_file, two_pages, fonts_in_nested_boxes_file, fonts_in_nested_boxes_pages, self_naming_file, stray_pop_file, short_file, miscounted_file, undefined_font_file, shallow_file, GivesTiny};
 ghost use Rattle.dvi_ops.specs.File.{IsFile, MarkedPage};
-ghost use Rattle.dvi_ops.specs.Fonts.{Metrics};
+ghost use Rattle.dvi_ops.specs.Fonts.{WidthsByName};
 ghost use Rattle.dvi_ops.specs.Instruction.{Definition};
-ghost use Rattle.dvi_ops.specs.Layout.{AreGood, IsClosing, IsGood, Sheet, Table, Written, after, after_all, at_first, bytes_of, front_of, padding_after, sheet_from, whole_of};
+ghost use Rattle.dvi_ops.specs.Layout.{AreGood, IsClosing, IsGood, Sheet, Table, WriterKnowledge, after, after_all, after_preamble, bytes_of, front_of, padding_after, sheet_from, whole_of};
 ghost use Rattle.dvi_ops.specs.Spelling.{NumberFits};
 
-/// Bytes are a file of one list of pages at most.
+/// Bytes are a file of at most one list of pages.
 pub fn one_file()
-    ensures { (metrics : Metrics) (bytes : List ℕ) (pages others : List MarkedPage)
+    ensures { (metrics : WidthsByName) (bytes : List ℕ) (pages others : List MarkedPage)
         → IsFile metrics bytes pages → IsFile metrics bytes others → pages ≡ others }
 {}
 
-/// What this writer writes for good pages, with the postamble behind them, is a file of these pages: any number of pages and fonts, any greatest sizes.
+/// What this writer writes for good pages, and then the postamble, is a file of these pages, for any number of pages and fonts and any greatest
+/// sizes.
 pub fn whole_is_file()
-    ensures { (metrics : Metrics) (table : Table) (sheets : List Sheet) (pages : List MarkedPage)
+    ensures { (metrics : WidthsByName) (table : Table) (sheets : List Sheet) (pages : List MarkedPage)
         (tall wide : ℤ) (closing : List Definition) (padding : ℕ)
-        → AreGood metrics table at_first sheets pages
-        → IsClosing table (after_all at_first sheets).known closing
-        → NumberFits tall → NumberFits wide → (after_all at_first sheets).size < 2 ^ 31 → 4 ≤ padding
+        → AreGood metrics table after_preamble sheets pages
+        → IsClosing table (after_all after_preamble sheets).known closing
+        → NumberFits tall → NumberFits wide → (after_all after_preamble sheets).size < 2 ^ 31 → 4 ≤ padding
         → IsFile metrics (whole_of sheets tall wide closing padding) pages }
 {}
 
-/// What a page adds to what was written before it: its own bytes, behind the others. A good page behind good ones makes good pages.
+/// A page adds its own bytes after those that were written before it. A good page after good ones makes good pages.
 pub fn pages_are_added()
     ensures bytes { (sheets : List Sheet) (p : Sheet)
-        → front_of (sheets ++ p ∷ []) ≡ front_of sheets ++ bytes_of (sheet_from (after_all at_first sheets).last p) }
-    ensures state { (s : Written) (sheets : List Sheet) (p : Sheet) → after_all s (sheets ++ p ∷ []) ≡ after (after_all s sheets) p }
-    ensures size { (sheets : List Sheet) → (after_all at_first sheets).size ≡ length (front_of sheets) }
-    ensures good { (metrics : Metrics) (table : Table) (s : Written) (sheets : List Sheet) (pages : List MarkedPage) (p : Sheet) (page : MarkedPage)
+        → front_of (sheets ++ p ∷ []) ≡ front_of sheets ++ bytes_of (sheet_from (after_all after_preamble sheets).last p) }
+    ensures state { (s : WriterKnowledge) (sheets : List Sheet) (p : Sheet) → after_all s (sheets ++ p ∷ []) ≡ after (after_all s sheets) p }
+    ensures size { (sheets : List Sheet) → (after_all after_preamble sheets).size ≡ length (front_of sheets) }
+    ensures good { (metrics : WidthsByName) (table : Table) (s : WriterKnowledge) (sheets : List Sheet) (pages : List MarkedPage) (p : Sheet) (page : MarkedPage)
         → AreGood metrics table s sheets pages → page.counts ≡ p.counts
         → IsGood metrics table (after_all s sheets).known p page.marks
         → AreGood metrics table s (sheets ++ p ∷ []) (pages ++ page ∷ []) }
 {}
 
-/// There are four to seven bytes 223 at the end, so that the length is a multiple of four.
+/// The end has four to seven bytes 223, so that the length is a multiple of four.
 pub fn padding_is_right()
     ensures low { (size : ℕ) → 4 ≤ padding_after size }
     ensures high { (size : ℕ) → padding_after size ≤ 7 }
     ensures fills { (size : ℕ) → (size + padding_after size) % 4 ≡ 0 }
 {}
 
-/// A file with more bytes 223 at its end is a file of the same pages.
+/// A file with one more byte 223 at its end is a file of the same pages.
 pub fn padding_may_grow()
-    ensures { (metrics : Metrics) (bytes : List ℕ) (pages : List MarkedPage)
+    ensures { (metrics : WidthsByName) (bytes : List ℕ) (pages : List MarkedPage)
         → IsFile metrics bytes pages → IsFile metrics (bytes ++ 223 ∷ []) pages }
 {}
 
 /// The 116 bytes of the file of one rule are a file of one page with that rule.
 pub fn one_rule_file_is_a_file()
-    ensures { (metrics : Metrics) → IsFile metrics one_rule_file one_rule_pages }
+    ensures { (metrics : WidthsByName) → IsFile metrics one_rule_file one_rule_pages }
 {}
 
-/// The 172 bytes of two such pages are a file of two pages, with their counts.
+/// The 172 bytes of two such pages are a file of two pages with their counts.
 pub fn two_page_file_is_a_file()
-    ensures { (metrics : Metrics) → IsFile metrics two_page_file two_pages }
+    ensures { (metrics : WidthsByName) → IsFile metrics two_page_file two_pages }
 {}
 
 /// The 196 bytes of a page with two fonts and a group are a file of one page with three glyphs.
 pub fn fonts_in_nested_boxes_is_a_file()
-    ensures { (metrics : Metrics) → GivesTiny metrics → IsFile metrics fonts_in_nested_boxes_file fonts_in_nested_boxes_pages }
+    ensures { (metrics : WidthsByName) → GivesTiny metrics → IsFile metrics fonts_in_nested_boxes_file fonts_in_nested_boxes_pages }
 {}
 
-/// Bytes that are no file, whatever the pages: a first page that names itself as the page before it, a pop without a push, three bytes 223 alone,
-/// a wrong number of pages, a selected font without a definition, more open pushes than post says.
+/// Bytes that are not a file of any pages: a first page that names itself as the previous page, a pop without a push, only three bytes 223, a wrong
+/// number of pages, a selected font without a definition, and more open pushes than post allows.
 pub fn what_is_no_file()
-    ensures pointer { (metrics : Metrics) (pages : List MarkedPage) → ¬ IsFile metrics self_naming_file pages }
-    ensures pop { (metrics : Metrics) (pages : List MarkedPage) → ¬ IsFile metrics stray_pop_file pages }
-    ensures padding { (metrics : Metrics) (pages : List MarkedPage) → ¬ IsFile metrics short_file pages }
-    ensures count { (metrics : Metrics) (pages : List MarkedPage) → ¬ IsFile metrics miscounted_file pages }
-    ensures font { (metrics : Metrics) (pages : List MarkedPage) → ¬ IsFile metrics undefined_font_file pages }
-    ensures depth { (metrics : Metrics) (pages : List MarkedPage) → ¬ IsFile metrics shallow_file pages }
+    ensures pointer { (metrics : WidthsByName) (pages : List MarkedPage) → ¬ IsFile metrics self_naming_file pages }
+    ensures pop { (metrics : WidthsByName) (pages : List MarkedPage) → ¬ IsFile metrics stray_pop_file pages }
+    ensures padding { (metrics : WidthsByName) (pages : List MarkedPage) → ¬ IsFile metrics short_file pages }
+    ensures count { (metrics : WidthsByName) (pages : List MarkedPage) → ¬ IsFile metrics miscounted_file pages }
+    ensures font { (metrics : WidthsByName) (pages : List MarkedPage) → ¬ IsFile metrics undefined_font_file pages }
+    ensures depth { (metrics : WidthsByName) (pages : List MarkedPage) → ¬ IsFile metrics shallow_file pages }
 {}

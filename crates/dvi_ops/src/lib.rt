@@ -1,6 +1,8 @@
-//! The instructions of a DVI file: their table, the page body and the file as definitions, and the calls that spell and read one instruction.
+//! The instructions of a DVI file: their table, definitions of a page body and of a whole file, and the calls that spell and read one instruction.
 #![tactic(auto)]
 
+pub mod body_op;
+mod body_spelling;
 pub mod dvi_file;
 mod fault;
 pub mod laws;
@@ -10,6 +12,8 @@ pub mod page_body;
 mod reading;
 mod spelling;
 
+pub use body_op::BodyOp;
+pub use body_spelling::spell_body;
 pub use fault::OpFault;
 pub use op::{FontDefinition, Op, Postamble, Units};
 pub use reading::next;

@@ -1,6 +1,7 @@
 //! An instruction of a DVI file as a value, without the lengths of its operands (DVItype, 13 to 20).
 //!
-//! All distances and sizes are in DVI units; names and texts are slices of the file. Each number may be any of its type; a file asks more of some.
+//! All distances and sizes are in DVI units. Names and texts are slices of the file. Each field admits every value of its type; a file restricts some
+//! of them.
 
 /// A font definition (DVItype, 18).
 #[derive(Clone, Copy, Debug, PartialEq)]
@@ -9,13 +10,13 @@ pub struct FontDefinition<'a> {
     pub number: i32,
     /// The check sum of its metric file.
     pub check_sum: i32,
-    /// The size at which the font is used, in DVI units; in a file 1 to 2^27 - 1.
+    /// The size at which the font is used, in DVI units. In a file it is 1 to 2^27 - 1.
     pub size: i32,
-    /// The size for which it was designed, in DVI units.
+    /// The design size of the font, in DVI units.
     pub design_size: i32,
-    /// The first part of its name, up to 255 bytes: the area.
+    /// The first part of the name, of up to 255 bytes: the area.
     pub area: &'a [u8],
-    /// The second part of its name, up to 255 bytes.
+    /// The second part of the name, of up to 255 bytes.
     pub name: &'a [u8],
 }
 
@@ -27,10 +28,10 @@ pub struct Units {
     pub mag: i32,
 }
 
-/// What `post` says of the whole file (DVItype, 19).
+/// The operands of `post`, which describe the whole file (DVItype, 19).
 #[derive(Clone, Copy, Debug, PartialEq)]
 pub struct Postamble {
-    /// The place of the last bop, or -1.
+    /// The place of the last bop, in bytes from the start of the file, or -1.
     pub last_bop: i32,
     /// The units, as in the preamble.
     pub units: Units,
@@ -38,7 +39,7 @@ pub struct Postamble {
     pub height_plus_depth: i32,
     /// The greatest width of a page, in DVI units.
     pub width: i32,
-    /// How many pushes are open at once, at most.
+    /// The greatest number of pushes that are open at once.
     pub stack_depth: u16,
     /// The number of pages, modulo 65536.
     pub pages: u16,
@@ -47,32 +48,32 @@ pub struct Postamble {
 /// An instruction, without the length of its operands (DVItype, 15 to 20).
 #[derive(Clone, Copy, Debug, PartialEq)]
 pub enum Op<'a> {
-    /// Sets the character of that number in the current font and moves right by its width.
+    /// Sets the character with this number in the current font and moves right by its width.
     SetChar(i32),
-    /// Sets the character of that number in the current font.
+    /// Sets the character with this number in the current font, without moving.
     PutChar(i32),
     /// Sets a rule with its bottom left corner at (h, v) and moves right by its width.
     SetRule {
         height: i32,
         width: i32,
     },
-    /// Sets a rule with its bottom left corner at (h, v).
+    /// Sets a rule with its bottom left corner at (h, v), without moving.
     PutRule {
         height: i32,
         width: i32,
     },
     /// Does nothing.
     Nop,
-    /// Begins a page, with its ten counts and the place of the bop before, or -1.
+    /// Begins a page, with its ten counts and the place of the previous bop, or -1.
     Bop {
         counts: [i32; 10],
         pointer: i32,
     },
     /// Ends a page.
     Eop,
-    /// Keeps h, v, w, x, y, z.
+    /// Saves h, v, w, x, y and z.
     Push,
-    /// Takes back h, v, w, x, y, z.
+    /// Restores h, v, w, x, y and z, as the matching push saved them.
     Pop,
     /// Moves right.
     Right(i32),
@@ -94,7 +95,7 @@ pub enum Op<'a> {
     Z0,
     /// Sets z and moves down by it.
     Z(i32),
-    /// Selects the font of that number.
+    /// Selects the font with this number.
     FontNum(i32),
     /// A special: a text for another program, of fewer than 2^32 bytes.
     Xxx(&'a [u8]),
@@ -106,9 +107,9 @@ pub enum Op<'a> {
         units: Units,
         comment: &'a [u8],
     },
-    /// Begins the postamble, with what it says of the file.
+    /// Begins the postamble, with a description of the file.
     Post(Postamble),
-    /// Ends the postamble and names its place; the bytes 223 behind it do not belong to it.
+    /// Ends the postamble and names its place. The bytes 223 after it are not part of it.
     PostPost {
         place: i32,
         id: u8,

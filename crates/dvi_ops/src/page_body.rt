@@ -1,45 +1,45 @@
 //! The body of a page: instructions and groups between push and pop, and what they mean (DVItype, 14 and 15).
 //!
-//! The functions here do nothing; their contracts are laws of the definitions, which writer and reader share.
+//! The laws here are about the definitions that the writer and the reader share.
 
 ghost use Rattle.std.specs.Prelude.{◌≡◌, ◌++◌, max, [], List};
 ghost use Rattle.std.specs.List.{AllByRecursion};
 ghost use Rattle.dvi_ops.specs.Instruction.{Instruction};
-ghost use Rattle.dvi_ops.specs.Body.{Acts, Mark, State, Widths, acts, kept, start};
+ghost use Rattle.dvi_ops.specs.Body.{Acts, Mark, DviState, Widths, acts, kept, start};
 ghost use Rattle.dvi_ops.specs.Examples.{one_rule_body, one_rule_marks, saved_register_body, saved_register_marks, empty_rule_body, empty_rule_marks, special_body, special_marks, too_far_body};
 ghost use Rattle.dvi_ops.specs.Forest.{Forest, IsPoint, and_then, beside, flat, marks_of, meaning, nests, points};
 ghost use Rattle.dvi_ops.specs.Walk.{walk};
 
-/// The pass with a stack of places gives each body its meaning, and none where it has none.
+/// A pass with a stack of places gives each body its meaning, and fails where the body has none.
 pub fn pass_is_meaning()
-    ensures { (does : Acts) (f : Forest) (s : State) → walk does (flat f) [] s ≡ meaning does f s }
+    ensures { (does : Acts) (f : Forest) (s : DviState) → walk does (flat f) [] s ≡ meaning does f s }
 {}
 
-/// Where the pass with a stack gives marks, the instructions are a body with this meaning.
+/// Where a pass with a stack succeeds, the instructions are a body, and its meaning is what the pass gives.
 pub fn passed_is_body()
-    ensures { (does : Acts) (is : List Instruction) (s : State) (out : List Mark × State) → walk does is [] s ≡ Some out
+    ensures { (does : Acts) (is : List Instruction) (s : DviState) (out : List Mark × DviState) → walk does is [] s ≡ Some out
         → (f : Forest) × (is ≡ flat f) × (meaning does f s ≡ Some out) }
 {}
 
-/// Instructions are one body at most.
+/// A list of instructions is the list of one body at most.
 pub fn one_body()
     ensures { (f g : Forest) → flat f ≡ flat g → f ≡ g }
 {}
 
-/// One body behind another has the instructions of both in order; it means what the first means and then the second, from where the first ends; and
-/// as many pushes are open in it at once as in the deeper of the two.
+/// The concatenation of two bodies has the instructions of both in order. Its meaning is that of the first and then that of the second, from where
+/// the first ends. Its depth of open pushes is the greater one of the two.
 pub fn one_behind_another()
     ensures instructions { (f g : Forest) → flat (beside f g) ≡ flat f ++ flat g }
-    ensures marks { (does : Acts) (f g : Forest) (s : State)
+    ensures marks { (does : Acts) (f g : Forest) (s : DviState)
         → meaning does (beside f g) s ≡ and_then (meaning does f s) (λ t. meaning does g t) }
     ensures depth { (f g : Forest) → nests (beside f g) ≡ max (nests f) (nests g) }
 {}
 
-/// The meaning with h and v in signed 32 bits is the meaning where all places on the way are in that range, and there is none elsewhere.
+/// The meaning with h and v restricted to signed 32 bits equals the meaning where all places on the way are in that range; elsewhere there is none.
 pub fn kept_where_in_range()
-    ensures within { (does : Acts) (f : Forest) (s : State)
+    ensures within { (does : Acts) (f : Forest) (s : DviState)
         → AllByRecursion IsPoint (points does f s) → meaning (kept does) f s ≡ meaning does f s }
-    ensures back { (does : Acts) (f : Forest) (s : State) (out : List Mark × State)
+    ensures back { (does : Acts) (f : Forest) (s : DviState) (out : List Mark × DviState)
         → IsPoint (s.place.h, s.place.v) → meaning (kept does) f s ≡ Some out
         → (meaning does f s ≡ Some out) × AllByRecursion IsPoint (points does f s) }
 {}

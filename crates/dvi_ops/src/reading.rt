@@ -1,4 +1,4 @@
-//! The instruction at the front of some bytes.
+//! Reads the instruction at the start of some bytes.
 
 ghost use Rattle.std.specs.Prelude.{◌≡◌, ◌≤◌, ◌-◌, ◌+◌, length, option_map, slice_index, take, IfOk, OnErr, ◌↔◌, ℕ};
 ghost use Rattle.dvi_ops.specs.Instruction.{Across, Downward, Instruction};
@@ -11,7 +11,7 @@ use crate::op::{FontDefinition, Op, Postamble, Units};
 use crate::opcodes;
 use byteorder::{BigEndian, ByteOrder};
 
-/// What the bytes say as a signed number.
+/// The value of one to four bytes as a signed number.
 fn signed_of(operand: &[u8]) -> i32
     requires low { 1 ≤ length operand.now }
     requires high { length operand.now ≤ 4 }
@@ -20,7 +20,7 @@ fn signed_of(operand: &[u8]) -> i32
     BigEndian::read_int(operand, operand.len()) as i32
 }
 
-/// The number of a character or of a font.
+/// The number of a character or of a font: four bytes are signed, fewer are not.
 fn code_of(operand: &[u8]) -> i32
     requires low { 1 ≤ length operand.now }
     requires high { length operand.now ≤ 4 }
@@ -32,7 +32,7 @@ fn code_of(operand: &[u8]) -> i32
     BigEndian::read_uint(operand, operand.len()) as i32
 }
 
-/// A signed number of `size` bytes, and what is behind it.
+/// A signed number of `size` bytes, and the rest of the bytes.
 #[tactic(auto, unfolding(crate::specs::Reading::signed_at))]
 fn signed_number(bytes: &[u8], size: usize) -> Option<(i32, &[u8])>
     requires low { 1 ≤ size }
@@ -43,7 +43,7 @@ fn signed_number(bytes: &[u8], size: usize) -> Option<(i32, &[u8])>
     Some((signed_of(operand), rest))
 }
 
-/// The number of a character or of a font, of `size` bytes, and what is behind it.
+/// The number of a character or of a font in `size` bytes, and the rest of the bytes.
 #[tactic(auto, unfolding(crate::specs::Reading::code_at))]
 fn code_number(bytes: &[u8], size: usize) -> Option<(i32, &[u8])>
     requires low { 1 ≤ size }
@@ -54,7 +54,7 @@ fn code_number(bytes: &[u8], size: usize) -> Option<(i32, &[u8])>
     Some((code_of(operand), rest))
 }
 
-/// A number of two bytes, and what is behind it.
+/// A number of two bytes, and the rest of the bytes.
 #[tactic(auto, unfolding(crate::specs::Reading::half_at))]
 fn half(bytes: &[u8]) -> Option<(u16, &[u8])>
     ensures { option_map (λ found. (found.0, found.1.now)) result ≡ half_at bytes.now }
@@ -63,19 +63,19 @@ fn half(bytes: &[u8]) -> Option<(u16, &[u8])>
     Some((BigEndian::read_u16(operand), rest))
 }
 
-/// How many bytes the operand behind a code has, by the code of its kind whose operand has one byte.
+/// The length of the operand of an instruction with four codes, in bytes. `first` is the code for an operand of one byte.
 fn operand_size(operation: u8, first: u8) -> usize
     requires code { 1 ≤ first }
     requires low { first ≤ operation }
     requires high { operation ≤ first + 3 }
     ensures size { result ≡ operation - (first - 1) }
     ensures some { 1 ≤ result }
-    ensures few { result ≤ 4 }
+    ensures size_bounded { result ≤ 4 }
 {
     usize::from(operation - first) + 1
 }
 
-/// A character, by its code from 0 to 131.
+/// A character, with a code from 0 to 131.
 #[tactic(auto, unfolding(crate::specs::Reading::char_at))]
 fn character(operation: u8, rest: &[u8]) -> Option<(Op<'_>, &[u8])>
     requires { operation ≤ 131 }
@@ -88,7 +88,7 @@ fn character(operation: u8, rest: &[u8]) -> Option<(Op<'_>, &[u8])>
     Some((Op::SetChar(number), rest))
 }
 
-/// Two numbers of four bytes, and what is behind them.
+/// Two numbers of four bytes, and the rest of the bytes.
 #[tactic(auto, unfolding(crate::specs::Reading::two_at))]
 fn two(bytes: &[u8]) -> Option<((i32, i32), &[u8])>
     ensures { option_map (λ found. ((found.0.0, found.0.1), found.1.now)) result ≡ two_at bytes.now }
@@ -98,7 +98,7 @@ fn two(bytes: &[u8]) -> Option<((i32, i32), &[u8])>
     Some(((first, second), rest))
 }
 
-/// Three numbers of four bytes, and what is behind them.
+/// Three numbers of four bytes, and the rest of the bytes.
 #[tactic(auto, unfolding(crate::specs::Reading::three_at))]
 fn three(bytes: &[u8]) -> Option<((i32, i32, i32), &[u8])>
     ensures { option_map (λ found. ((found.0.0, found.0.1, found.0.2), found.1.now)) result ≡ three_at bytes.now }
@@ -108,7 +108,7 @@ fn three(bytes: &[u8]) -> Option<((i32, i32, i32), &[u8])>
     Some(((first, second, third), rest))
 }
 
-/// Two numbers of two bytes, and what is behind them.
+/// Two numbers of two bytes, and the rest of the bytes.
 #[tactic(auto, unfolding(crate::specs::Reading::halves_at))]
 fn halves(bytes: &[u8]) -> Option<((u16, u16), &[u8])>
     ensures { option_map (λ found. ((found.0.0, found.0.1), found.1.now)) result ≡ halves_at bytes.now }
@@ -128,7 +128,7 @@ fn counts_of(operand: &[u8]) -> [i32; 10]
     counts
 }
 
-/// The beginning of a page, behind its code.
+/// The operands of bop.
 #[tactic(auto, unfolding(crate::specs::Reading::bop_at))]
 fn bop(bytes: &[u8]) -> Option<(Op<'_>, &[u8])>
     ensures { option_map (λ found. (view found.0, found.1.now)) result ≡ bop_at bytes.now }
@@ -139,7 +139,7 @@ fn bop(bytes: &[u8]) -> Option<(Op<'_>, &[u8])>
     Some((Op::Bop { counts, pointer }, rest))
 }
 
-/// Rules, put, nop, bop, eop, push and pop, by their code from 132 to 142.
+/// Rules, put, nop, bop, eop, push and pop, with a code from 132 to 142.
 #[tactic(auto, unfolding(crate::specs::Reading::plain_at))]
 fn plain(operation: u8, rest: &[u8]) -> Option<(Op<'_>, &[u8])>
     requires low { 132 ≤ operation }
@@ -167,7 +167,7 @@ fn plain(operation: u8, rest: &[u8]) -> Option<(Op<'_>, &[u8])>
     }
 }
 
-/// Movements to the right, by their code from 143 to 156.
+/// Movements to the right, with a code from 143 to 156.
 #[tactic(auto, unfolding(crate::specs::Reading::movement_at))]
 fn across(operation: u8, rest: &[u8]) -> Option<(Op<'_>, &[u8])>
     requires low { 143 ≤ operation }
@@ -192,7 +192,7 @@ fn across(operation: u8, rest: &[u8]) -> Option<(Op<'_>, &[u8])>
     }
 }
 
-/// Movements down, by their code from 157 to 170.
+/// Movements down, with a code from 157 to 170.
 #[tactic(auto, unfolding(crate::specs::Reading::movement_at))]
 fn down(operation: u8, rest: &[u8]) -> Option<(Op<'_>, &[u8])>
     requires low { 157 ≤ operation }
@@ -217,7 +217,7 @@ fn down(operation: u8, rest: &[u8]) -> Option<(Op<'_>, &[u8])>
     }
 }
 
-/// The selection of a font, by its code from 171 to 238.
+/// The selection of a font, with a code from 171 to 238.
 #[tactic(auto, unfolding(crate::specs::Reading::font_at))]
 fn font(operation: u8, rest: &[u8]) -> Option<(Op<'_>, &[u8])>
     requires low { 171 ≤ operation }
@@ -244,7 +244,7 @@ fn text(bytes: &[u8], size: usize) -> Option<(Op<'_>, &[u8])>
     Some((Op::Xxx(text), rest))
 }
 
-/// The two parts of a font's name behind their lengths.
+/// The two lengths of a font's name, and then its two parts.
 #[tactic(auto, unfolding(crate::specs::Reading::names_at))]
 fn names(bytes: &[u8]) -> Option<((&[u8], &[u8]), &[u8])>
     ensures { option_map (λ found. ((found.0.0.now, found.0.1.now), found.1.now)) result ≡ names_at bytes.now }
@@ -277,7 +277,7 @@ fn definition(bytes: &[u8], size: usize) -> Option<(FontDefinition<'_>, &[u8])>
     Some((font, rest))
 }
 
-/// A special or a font definition, by its code from 239 to 246.
+/// A special or a font definition, with a code from 239 to 246.
 #[tactic(auto, unfolding(crate::specs::Reading::long_at))]
 fn long(operation: u8, rest: &[u8]) -> Option<(Op<'_>, &[u8])>
     requires low { 239 ≤ operation }
@@ -291,7 +291,7 @@ fn long(operation: u8, rest: &[u8]) -> Option<(Op<'_>, &[u8])>
     Some((Op::FontDef(font), rest))
 }
 
-/// A text behind its length of one byte.
+/// A length of one byte, and a text of that length.
 #[tactic(auto, unfolding(crate::specs::Reading::comment_at))]
 fn comment(bytes: &[u8]) -> Option<(&[u8], &[u8])>
     ensures { option_map (λ found. (found.0.now, found.1.now)) result ≡ comment_at bytes.now }
@@ -300,7 +300,7 @@ fn comment(bytes: &[u8]) -> Option<(&[u8], &[u8])>
     rest.split_at_checked(usize::from(*count))
 }
 
-/// The preamble, behind its code.
+/// The operands of pre.
 #[tactic(auto, unfolding(crate::specs::Reading::pre_at))]
 fn pre(bytes: &[u8]) -> Option<(Op<'_>, &[u8])>
     ensures { option_map (λ found. (view found.0, found.1.now)) result ≡ pre_at bytes.now }
@@ -318,7 +318,7 @@ fn pre(bytes: &[u8]) -> Option<(Op<'_>, &[u8])>
     ))
 }
 
-/// The beginning of the postamble, behind its code.
+/// The operands of post.
 #[tactic(auto, unfolding(crate::specs::Reading::post_at))]
 fn post(bytes: &[u8]) -> Option<(Op<'_>, &[u8])>
     ensures { option_map (λ found. (view found.0, found.1.now)) result ≡ post_at bytes.now }
@@ -341,7 +341,7 @@ fn post(bytes: &[u8]) -> Option<(Op<'_>, &[u8])>
     ))
 }
 
-/// The end of the postamble, behind its code.
+/// The operands of post_post.
 #[tactic(auto, unfolding(crate::specs::Reading::post_post_at))]
 fn post_post(bytes: &[u8]) -> Option<(Op<'_>, &[u8])>
     ensures { option_map (λ found. (view found.0, found.1.now)) result ≡ post_post_at bytes.now }
@@ -351,7 +351,7 @@ fn post_post(bytes: &[u8]) -> Option<(Op<'_>, &[u8])>
     Some((Op::PostPost { place, id: *id }, rest))
 }
 
-/// What stands around the pages, by its code from 247.
+/// The preamble and the instructions of the postamble, with a code from 247; the codes from 250 begin no instruction.
 #[tactic(auto, unfolding(crate::specs::Reading::frame_at))]
 fn frame(operation: u8, rest: &[u8]) -> Option<(Op<'_>, &[u8])>
     requires { 247 ≤ operation }
@@ -365,7 +365,7 @@ fn frame(operation: u8, rest: &[u8]) -> Option<(Op<'_>, &[u8])>
     }
 }
 
-/// The instruction at the front of some bytes, and the bytes behind it.
+/// The instruction at the start of some bytes, and the rest of the bytes.
 #[tactic(auto, unfolding(crate::specs::Reading::read))]
 fn front(bytes: &[u8]) -> Option<(Op<'_>, &[u8])>
     ensures { option_map (λ found. (view found.0, found.1.now)) result ≡ read bytes.now }
@@ -382,7 +382,7 @@ fn front(bytes: &[u8]) -> Option<(Op<'_>, &[u8])>
     }
 }
 
-/// Why no instruction stands at the front of some bytes.
+/// The fault where no instruction begins at the start of some bytes.
 fn fault_of(bytes: &[u8]) -> OpFault
     ensures { (result ≡ OpFault.Opcode) ↔ (250 ≤ slice_index bytes.now 0) }
 {
@@ -392,15 +392,15 @@ fn fault_of(bytes: &[u8]) -> OpFault
     }
 }
 
-/// Reads the instruction at the front of some bytes, and says how many bytes spell it (DVItype, 15 to 20). Where no front of the bytes spells an instruction,
-/// the fault is `Opcode` if the first byte is 250 to 255, else `Truncated`. It takes no memory.
+/// Reads the instruction at the start of some bytes, and returns it with the number of bytes that spell it (DVItype, 15 to 20). Where no instruction
+/// begins there, the fault is `Opcode` if the first byte is 250 to 255, and `Truncated` otherwise. It takes no memory.
 pub fn next(bytes: &[u8]) -> Result<(Op<'_>, usize), OpFault>
     ensures length { IfOk result (λ found. found.1 ≤ length bytes.now) }
     // The first bytes spell the instruction.
     ensures found { IfOk result (λ found. Spells (view found.0) (take found.1 bytes.now)) }
-    // A fault comes only where no front of the bytes spells an instruction.
+    // A fault is returned only where no beginning of the bytes spells an instruction.
     ensures none { OnErr result ((i : Instruction) (size : ℕ) → Spells i (take size bytes.now) → ⊥) }
-    // The fault is Opcode exactly where the first byte is 250 to 255.
+    // The fault is `Opcode` exactly where the first byte is 250 to 255.
     ensures opcode { (result ≡ Err OpFault.Opcode) ↔ (250 ≤ slice_index bytes.now 0) }
 {
     match front(bytes) {

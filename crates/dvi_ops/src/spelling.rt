@@ -1,4 +1,4 @@
-//! The one spelling of an instruction.
+//! The spelling of an instruction: the bytes that this writer chooses for it.
 
 ghost use Rattle.std.specs.Prelude.{◌≡◌, ◌≤◌, ◌<◌, ◌+◌, ◌-◌, ◌++◌, ◌^◌, [], ◌∷◌, length, pos, OnOk, OnErr};
 ghost use Rattle.std.specs.List.{AllByRecursion, flat_map};
@@ -12,7 +12,7 @@ use crate::opcodes;
 use byteorder::{BigEndian, ByteOrder};
 use std::alloc::AllocError;
 
-/// Appends the parts, one after the other.
+/// Appends the parts in order. Where memory is refused, `out` is cut back to its old length, so a caller never sees half a spelling.
 fn append(out: &mut Vec<u8>, parts: &[&[u8]]) -> Result<(), AllocError>
     ensures ok { OnOk result (out.new.items ≡ out.old.items ++ flat_map (λ part. part.now) parts.now) }
     ensures err { OnErr result (out.new.items ≡ out.old.items) }
@@ -27,8 +27,9 @@ fn append(out: &mut Vec<u8>, parts: &[&[u8]]) -> Result<(), AllocError>
     Ok(())
 }
 
-/// Appends a byte, or nothing.
-fn append_byte(out: &mut Vec<u8>, byte: u8) -> Result<(), AllocError>
+/// Appends a byte.
+#[inline(always)]
+pub fn append_byte(out: &mut Vec<u8>, byte: u8) -> Result<(), AllocError>
     ensures ok { OnOk result (out.new.items ≡ out.old.items ++ byte ∷ []) }
     ensures err { OnErr result (out.new.items ≡ out.old.items) }
 {
@@ -36,7 +37,7 @@ fn append_byte(out: &mut Vec<u8>, byte: u8) -> Result<(), AllocError>
     Ok(())
 }
 
-/// The four bytes of a number.
+/// The four bytes of a number, the highest first.
 #[tactic(auto, unfolding(crate::specs::Spelling::operand))]
 fn word(value: i32) -> [u8; 4]
     ensures { result ≡ operand 4 value }
@@ -46,7 +47,7 @@ fn word(value: i32) -> [u8; 4]
     bytes
 }
 
-/// How many bytes hold a signed number, at least.
+/// The fewest bytes that hold a signed number.
 #[tactic(auto, unfolding(crate::specs::Spelling::signed_size))]
 fn size_of_signed(value: i32) -> usize
     ensures size { result ≡ signed_size value }
@@ -61,9 +62,9 @@ fn size_of_signed(value: i32) -> usize
     }
 }
 
-/// How many bytes hold the number of a character or of a font, at least.
+/// The fewest bytes that hold the number of a character or of a font. Numbers of one to three bytes are unsigned, those of four bytes are signed.
 #[tactic(auto, unfolding(crate::specs::Spelling::code_size))]
-fn size_of_code(value: i32) -> usize
+pub fn size_of_code(value: i32) -> usize
     ensures size { result ≡ code_size value }
     ensures low { 1 ≤ result }
     ensures high { result ≤ 4 }
@@ -76,9 +77,9 @@ fn size_of_code(value: i32) -> usize
     }
 }
 
-/// Appends the code of that size, by the code of size 1, and the `size` lowest bytes of a number.
+/// Appends the code for an operand of `size` bytes, and the `size` lowest bytes of a number. `first` is the code for an operand of one byte.
 #[tactic(auto, using(crate::proofs::Operands::operands))]
-fn append_coded(out: &mut Vec<u8>, first: u8, size: usize, value: i32) -> Result<(), AllocError>
+pub fn append_coded(out: &mut Vec<u8>, first: u8, size: usize, value: i32) -> Result<(), AllocError>
     requires low { 1 ≤ size }
     requires high { size ≤ 4 }
     requires code { 1 ≤ first }
@@ -91,7 +92,8 @@ fn append_coded(out: &mut Vec<u8>, first: u8, size: usize, value: i32) -> Result
 
 /// Appends a character: set_char or set1 to set4.
 #[tactic(auto, unfolding(crate::specs::Spelling::char_spelling))]
-fn append_char(out: &mut Vec<u8>, character: i32) -> Result<(), AllocError>
+#[inline(always)]
+pub fn append_char(out: &mut Vec<u8>, character: i32) -> Result<(), AllocError>
     ensures ok { OnOk result (out.new.items ≡ out.old.items ++ char_spelling character) }
     ensures err { OnErr result (out.new.items ≡ out.old.items) }
 {
@@ -103,7 +105,7 @@ fn append_char(out: &mut Vec<u8>, character: i32) -> Result<(), AllocError>
 
 /// Appends the selection of a font: fnt_num or fnt1 to fnt4.
 #[tactic(auto, unfolding(crate::specs::Spelling::font_spelling))]
-fn append_font(out: &mut Vec<u8>, font: i32) -> Result<(), AllocError>
+pub fn append_font(out: &mut Vec<u8>, font: i32) -> Result<(), AllocError>
     ensures ok { OnOk result (out.new.items ≡ out.old.items ++ font_spelling font) }
     ensures err { OnErr result (out.new.items ≡ out.old.items) }
 {
@@ -113,8 +115,8 @@ fn append_font(out: &mut Vec<u8>, font: i32) -> Result<(), AllocError>
     }
 }
 
-/// Appends a movement, by the code of its shortest form with an amount.
-fn append_signed(out: &mut Vec<u8>, first: u8, amount: i32) -> Result<(), AllocError>
+/// Appends a movement with an amount, in its shortest form. `first` is the code of the form with one byte.
+pub fn append_signed(out: &mut Vec<u8>, first: u8, amount: i32) -> Result<(), AllocError>
     requires code { 1 ≤ first }
     requires room { first + 3 < 256 }
     ensures ok { OnOk result (out.new.items ≡ out.old.items ++ coded_signed (first - 1) amount) }
@@ -123,15 +125,15 @@ fn append_signed(out: &mut Vec<u8>, first: u8, amount: i32) -> Result<(), AllocE
     append_coded(out, first, size_of_signed(amount), amount)
 }
 
-/// Appends a rule, by its code.
-fn append_rule(out: &mut Vec<u8>, code: u8, height: i32, width: i32) -> Result<(), AllocError>
+/// Appends the code of a rule, its height and its width.
+pub fn append_rule(out: &mut Vec<u8>, code: u8, height: i32, width: i32) -> Result<(), AllocError>
     ensures ok { OnOk result (out.new.items ≡ out.old.items ++ code ∷ (operand 4 height ++ operand 4 width)) }
     ensures err { OnErr result (out.new.items ≡ out.old.items) }
 {
     append(out, &[&[code], &word(height), &word(width)])
 }
 
-/// The length of a text in four bytes.
+/// The length of a text, in four bytes.
 #[tactic(auto, unfolding(crate::specs::Spelling::operand))]
 fn length_of(text: &[u8]) -> [u8; 4]
     requires { length text.now < 2 ^ 32 }
@@ -144,7 +146,7 @@ fn length_of(text: &[u8]) -> [u8; 4]
 
 /// Appends a special.
 #[tactic(auto, unfolding(crate::specs::Spelling::text_spelling))]
-fn append_text(out: &mut Vec<u8>, text: &[u8]) -> Result<(), AllocError>
+pub fn append_text(out: &mut Vec<u8>, text: &[u8]) -> Result<(), AllocError>
     requires { length text.now < 2 ^ 32 }
     ensures ok { OnOk result (out.new.items ≡ out.old.items ++ text_spelling text.now) }
     ensures err { OnErr result (out.new.items ≡ out.old.items) }
@@ -155,7 +157,7 @@ fn append_text(out: &mut Vec<u8>, text: &[u8]) -> Result<(), AllocError>
     append(out, &[&[opcodes::XXX4], &length_of(text), text])
 }
 
-/// The twelve bytes of the units.
+/// The twelve bytes of num, den and mag.
 #[tactic(auto, unfolding(crate::specs::Spelling::operand))]
 fn units_of(units: &Units) -> [u8; 12]
     ensures bytes { result ≡ units_bytes (view_units units.now) }
@@ -166,7 +168,8 @@ fn units_of(units: &Units) -> [u8; 12]
     bytes
 }
 
-/// Each count is in the range of its type. The loop only reads each of them: so the prover learns its range.
+/// Each count is in the range of its type. The loop only reads the counts: in a proof, a number in a reference has the range of its type only once it
+/// is read.
 fn counts_fit(counts: &[i32; 10])
     ensures ten { length counts.now ≡ 10 }
     ensures fits { AllByRecursion NumberFits counts.now }
@@ -234,7 +237,7 @@ fn append_pre(out: &mut Vec<u8>, id: u8, units: &Units, comment: &[u8]) -> Resul
     )
 }
 
-/// Two numbers of two bytes.
+/// Two numbers of two bytes each.
 #[tactic(auto, unfolding(crate::specs::Spelling::operand))]
 fn two_halves(first: u16, second: u16) -> [u8; 4]
     ensures bytes { result ≡ operand 2 (pos first) ++ operand 2 (pos second) }
@@ -265,14 +268,14 @@ fn append_post(out: &mut Vec<u8>, post: &Postamble) -> Result<(), AllocError>
     )
 }
 
-/// Appends the spelling of an instruction: the fewest bytes for every instruction whose operand may have several lengths; of xxx the first form for up to 255
-/// bytes, else the last (DVItype, 15 to 20). Each length has to fit its field: areas, names and comments have up to 255 bytes, specials fewer than 2^32.
-/// Where memory is refused, `out` is as it was.
+/// Appends the spelling of an instruction: the shortest one wherever an operand may have several lengths. A special of up to 255 bytes is written
+/// with xxx1, a longer one with xxx4 (DVItype, 15 to 20). Each length has to fit its field: areas, names and comments have up to 255 bytes, specials
+/// fewer than 2^32. This is a premise and no error, since the caller knows the lengths. Where memory is refused, `out` is unchanged.
 #[tactic(auto, unfolding(crate::specs::Spelling::spelling, crate::specs::Spelling::leaf_spelling))]
 pub fn spell(op: &Op<'_>, out: &mut Vec<u8>) -> Result<(), AllocError>
     requires { HasSpelling (view op.now) }
     ensures ok { OnOk result (out.new.items ≡ out.old.items ++ spelling (view op.now)) }
-    // What is written spells the instruction.
+    // The bytes that are written spell the instruction.
     ensures spelled { Spells (view op.now) (spelling (view op.now)) }
     ensures err { OnErr result (out.new.items ≡ out.old.items) }
 {

@@ -1,38 +1,38 @@
--- Where a rule is broken that a fault names, the bytes are no file.
+-- Where the rule that a fault names is broken, the bytes are no file.
 use Rattle.std.proofs.Common.{◌≡◌, ◌≢◌, ◌≤◌, ◌-◌, [], ◌∷◌, List, length, take, ℕ, ℤ, refl, subst, inl, inr, arith}
 use Rattle.std.specs.Prelude.{◌⊎◌}
 use Rattle.std.specs.List.{AllByRecursion}
-use Rattle.dvi_closing.specs.Ahead.{IsLookedAhead}
-use Rattle.dvi_closing.specs.Closing.{Closes, IsClosingFault}
-use Rattle.dvi_closing.proofs.AheadLemmas.{looked}
-use Rattle.dvi_closing.proofs.ClosingLemmas.{broken_closing, first_stands}
-use Rattle.dvi_frame.specs.Ends.{StandsAt}
-use Rattle.dvi_frame.specs.Preamble.{IsPreambleFault}
-use Rattle.dvi_frame.specs.declared.fault.BadDvi.{BadDvi}
-use Rattle.dvi_frame.specs.declared.fault.DviCause.TheVariants.{Opcode, Pointer}
-use Rattle.dvi_frame.specs.declared.fault.FrameFault.TheVariants as frames
-use Rattle.dvi_frame.proofs.FaultLemmas.{chain_fault, end_fault}
+use Rattle.dvi_fonts.specs.Ahead.{IsLookedAhead}
+use Rattle.dvi_fonts.specs.Closing.{Closes, IsClosingFault}
+use Rattle.dvi_fonts.proofs.AheadLemmas.{looked}
+use Rattle.dvi_fonts.proofs.ClosingLemmas.{broken_closing, first_stands}
+use Rattle.dvi_scan.specs.Ends.{StandsAt}
+use Rattle.dvi_scan.specs.Preamble.{IsPreambleFault}
+use Rattle.dvi_scan.specs.declared.fault.BadDvi.{BadDvi}
+use Rattle.dvi_scan.specs.declared.fault.DviCause.TheVariants.{Opcode, Pointer}
+use Rattle.dvi_scan.specs.declared.fault.FrameFault.TheVariants as frames
+use Rattle.dvi_scan.proofs.FaultLemmas.{chain_fault, end_fault}
 use Rattle.dvi_ops.specs.File.{IsFile, MarkedPage}
 use Rattle.dvi_ops.specs.Fonts.{definitions, known_after}
 use Rattle.dvi_ops.specs.Instruction.{Definition, Instruction, Postamble, Pre}
 use Rattle.dvi_ops.specs.Tokens.{Token, IsSpelled, says, written}
 use Rattle.dvi_ops.proofs.Appends.{fonts_back}
-use Rattle.dvi_pass.specs.Pass.{Between}
-use Rattle.dvi_pass.specs.Passed.{IsFramed, IsPassed}
-use Rattle.dvi_pass.specs.Reached.{AreNumbersOf, SoFar, all_left}
-use Rattle.dvi_pass.proofs.KnownLemmas.{same_self}
-use Rattle.dvi_pass.proofs.PassedLemmas.{file_passed}
-use Rattle.dvi_pass.proofs.ReachedLemmas.{end_right, tail_right}
+use Rattle.dvi_scan.specs.Pass.{Between}
+use Rattle.dvi_scan.specs.Passed.{IsFramed, IsPassed}
+use Rattle.dvi_scan.specs.Reached.{AreNumbersOf, ReadSoFar, all_left}
+use Rattle.dvi_scan.proofs.KnownLemmas.{same_self}
+use Rattle.dvi_scan.proofs.PassedLemmas.{file_passed}
+use Rattle.dvi_scan.proofs.ReachedLemmas.{end_right, tail_right}
 use Rattle.dvi_read.specs.Opening.{HasPages, IsDviFault, ForPlaces, LookingAhead, AtTheEnd, InTheChain, InThePreamble, InThePages, AtPost, AfterPost, ForDefinitions}
-use Rattle.dvi_walk.specs.Stops.{IsUnended}
-use Rattle.dvi_walk.specs.declared.fault.DviFault.{DviFault}
-use Rattle.dvi_walk.specs.declared.fault.DviFault.TheVariants.{OutOfMemory}
-use Rattle.dvi_walk.proofs.WalkLemmas.{walk_fault}
+use Rattle.dvi_read.specs.Stops.{IsUnended}
+use Rattle.dvi_read.specs.declared.fault.DviFault.{DviFault}
+use Rattle.dvi_read.specs.declared.fault.DviFault.TheVariants.{OutOfMemory}
+use Rattle.dvi_read.proofs.WalkLemmas.{walk_fault}
 use Rattle.tfm_core.specs.FileWidths.{file_widths}
 use Rattle.tfm_core.specs.NamedBytes.{NamedBytes}
 
 module _ (files : List NamedBytes) (bytes : List ℕ) (post behind last : ℕ) (stop : Postamble) (chain : List ℕ) (framed : IsFramed bytes post behind last stop chain) where
-  -- post stands within the file, and so does what is behind it.
+  -- The place of post is within the file, and so is the part after it.
   pub post_within : post ≤ length bytes
   post_within =
       let low = framed.low in
@@ -44,12 +44,12 @@ module _ (files : List NamedBytes) (bytes : List ℕ) (post behind last : ℕ) (
   behind_within = let padded = framed.ends.closed.trailed.padded in omega arith
 
   module _ (pages : List MarkedPage) (f : IsPassed (file_widths files) bytes post behind last stop chain pages) where
-    -- What stands after post in a file.
+    -- The instructions after post in a file.
     closes_there : Closes bytes behind (last - 5) (known_after [] (says f.front)) f.tail
     closes_there =
         record { spelled = f.tail_spelled; whole = f.tail_whole; idle = f.tail_is; fonts = fonts_back [] (says f.front) (says f.tail) f.fonts }
 
-    -- The numbers that were looked ahead are those that are defined after post.
+    -- The numbers that were found ahead are those that are defined after post.
     pub numbers_are : (ahead : List ℤ) → IsLookedAhead bytes behind (last - 5) ahead → AreNumbersOf ahead (definitions (says f.tail))
     numbers_are ahead look = looked bytes behind (last - 5) ahead (known_after [] (says f.front)) f.tail behind_within look closes_there
 
@@ -64,8 +64,8 @@ module _ (files : List NamedBytes) (bytes : List ℕ) (post behind last : ℕ) (
             let whole_size : post ≡ post - 0 = omega arith in
             fault.none f.comment (subst (λ (i : Instruction). StandsAt bytes 0 post i) first (first_stands bytes 0 post t more (omega arith) post_within here (subst (λ (n : ℕ). written (t ∷ more) ≡ take n bytes) whole_size whole))) f.units
 
-    -- At post's place.
-    pub pages_ended : (bad : BadDvi) (from : ℕ) (ahead : List ℤ) (seen : SoFar) → HasPages files bytes post behind last stop chain from ahead seen → IsUnended seen.pass seen.left post bad → ⊥
+    -- A fault at the place of post.
+    pub pages_ended : (bad : BadDvi) (from : ℕ) (ahead : List ℤ) (seen : ReadSoFar) → HasPages files bytes post behind last stop chain from ahead seen → IsUnended seen.pass seen.left post bad → ⊥
     pages_ended bad from ahead seen has (place, broken) =
         let (p, left) = end_right (file_widths files) bytes post behind last stop chain pages f post_within ahead (numbers_are ahead has.looked) post seen (omega arith) has.reached refl in by_rule broken p left
       where
@@ -74,14 +74,14 @@ module _ (files : List NamedBytes) (bytes : List ℕ) (post behind last : ℕ) (
         by_rule (inl (cause, inside)) p left = inside pages p
         by_rule (inr (cause, closed, some)) p left = some left
 
-    pub tail_is_right : (bad : BadDvi) (from : ℕ) (ahead : List ℤ) (seen : SoFar) (new : List Definition) → HasPages files bytes post behind last stop chain from ahead seen
+    pub tail_is_right : (bad : BadDvi) (from : ℕ) (ahead : List ℤ) (seen : ReadSoFar) (new : List Definition) → HasPages files bytes post behind last stop chain from ahead seen
         → IsClosingFault bytes behind (last - 5) seen.known new (frames.Bad bad) → ⊥
     tail_is_right bad from ahead seen new has broken =
         let tail = tail_right (file_widths files) bytes post behind last stop chain pages f post_within ahead seen has.reached in
         let closes : Closes bytes behind (last - 5) seen.known f.tail = record { spelled = tail.spelled; whole = tail.whole; idle = tail.idle; fonts = tail.fonts } in
         broken_closing bytes behind (last - 5) seen.known new seen.known bad f.tail behind_within (same_self seen.known) broken closes
 
--- A fault that is none of memory.
+-- A fault other than refused memory.
 pub no_fault : (files : List NamedBytes) (bytes : List ℕ) (fault : DviFault) (pages : List MarkedPage) → fault ≢ OutOfMemory → IsDviFault files bytes fault → IsFile (file_widths files) bytes pages → ⊥
 no_fault files bytes fault pages other (ForPlaces post e stop is ends named) f = other is
 no_fault files bytes fault pages other (LookingAhead post behind last stop chain from is starts wants) f = other is

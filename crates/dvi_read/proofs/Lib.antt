@@ -1,2 +1,9 @@
+pub mod SelectLemmas
+pub mod StepLemmas
+pub mod PointerLemmas
+pub mod WalkLemmas
+mod MarkLines
+mod NextLines
+mod PartLemmas
 pub mod FaultLemmas
 pub mod OpenLemmas

@@ -1,54 +1,54 @@
--- A whole file: what was found makes a file, and each refusal says why.
+-- A whole file: its parts make a file, and each refusal has a reason.
 use Rattle.std.proofs.Common.{◌≡◌, ◌≢◌, ◌+◌, ◌-◌, ◌++◌, List, length, replicate, take, drop, ℕ, ℤ, Result, Ok, Err, refl, sym, ◌∙◌, ap, ap₂, subst, inl, inr, length-append, arith}
 use Rattle.std.proofs.lemmas.List.{drop-drop, drop_at, take_at, length-drop, length-take-le}
 use Rattle.std.specs.Prelude.{IfOk, IfErr}
 use Rattle.std.proofs.lemmas.Grind.{flat_map-append}
-use Rattle.dvi_closing.specs.Closing.{ClosesTo, IsClosingFault}
-use Rattle.dvi_closing.proofs.AheadLemmas.{looked}
-use Rattle.dvi_frame.specs.Chain.{IsChainRefusal}
-use Rattle.dvi_frame.specs.Ends.{Ends}
-use Rattle.dvi_frame.specs.declared.fault.FrameFault.{FrameFault}
-use Rattle.dvi_frame.specs.declared.fault.FrameFault.TheVariants as frames
-use Rattle.dvi_frame.proofs.EndLemmas.{frame_ends, frame_last, one_end}
-use Rattle.dvi_frame.proofs.PlaceLemmas.{same_front}
+use Rattle.dvi_fonts.specs.Closing.{ClosesTo, IsClosingFault}
+use Rattle.dvi_fonts.proofs.AheadLemmas.{looked}
+use Rattle.dvi_scan.specs.Chain.{IsChainRefusal}
+use Rattle.dvi_scan.specs.Ends.{HasPostamble}
+use Rattle.dvi_scan.specs.declared.fault.FrameFault.{FrameFault}
+use Rattle.dvi_scan.specs.declared.fault.FrameFault.TheVariants as frames
+use Rattle.dvi_scan.proofs.EndLemmas.{frame_ends, frame_last, one_end}
+use Rattle.dvi_scan.proofs.PlaceLemmas.{same_front}
 use Rattle.dvi_ops.specs.File.{Frame, IsFile, MarkedPage}
-use Rattle.dvi_ops.specs.Fonts.{Metrics, definition_of, definitions}
+use Rattle.dvi_ops.specs.Fonts.{WidthsByName, definitions_in, definitions}
 use Rattle.dvi_ops.specs.Instruction.{Definition, Post, Postamble}
 use Rattle.dvi_ops.specs.Table.{Spells}
 use Rattle.dvi_ops.specs.Tokens.{Token, says, written}
 use Rattle.dvi_ops.proofs.Frames.{one_list, one_list_of_pages}
-use Rattle.dvi_pass.specs.Pass.{Pass}
-use Rattle.dvi_pass.specs.Passed.{IsFramed}
-use Rattle.dvi_pass.specs.Reached.{IsReached, IsTail, Left, SoFar, at_first}
-use Rattle.dvi_pass.proofs.PassedLemmas.{passed_file}
-use Rattle.dvi_pass.proofs.ReachedLemmas.{reached_end, reached_first}
+use Rattle.dvi_scan.specs.Pass.{PassStateView}
+use Rattle.dvi_scan.specs.Passed.{IsFramed}
+use Rattle.dvi_scan.specs.Reached.{IsReached, IsTail, Left, ReadSoFar, before_pages}
+use Rattle.dvi_scan.proofs.PassedLemmas.{passed_file}
+use Rattle.dvi_scan.proofs.ReachedLemmas.{reached_end, reached_first}
 use Rattle.dvi_read.specs.Opened.{Opened, GivesPages, HasFontsOf, HasUnitsOf, IsExact, IsNoFile, IsReadFrom}
 use Rattle.dvi_read.specs.Opening.{HasPages, IsDviFault, IsStray, StartsAt, ForPlaces, InTheChain, AtPost, AfterPost, ForDefinitions}
-use Rattle.dvi_read.specs.Parts.{IsFinishFault}
+use Rattle.dvi_read.specs.OpeningParts.{IsFinishFault}
 use Rattle.dvi_read.proofs.FaultLemmas.{behind_within, no_fault, post_within}
-use Rattle.dvi_walk.specs.Faults.{of_frame}
-use Rattle.dvi_walk.specs.Stops.{HasEnded, IsWalkFault}
-use Rattle.dvi_walk.specs.declared.fault.DviFault.{DviFault}
-use Rattle.dvi_walk.specs.declared.fault.DviFault.TheVariants as faults
-use Rattle.dvi_walk.proofs.PointerLemmas.{stray_bop, stray_pointer, unmet_pointer}
+use Rattle.dvi_read.specs.Faults.{of_frame}
+use Rattle.dvi_read.specs.Stops.{PagesHaveEnded, IsWalkFault}
+use Rattle.dvi_read.specs.declared.fault.DviFault.{DviFault}
+use Rattle.dvi_read.specs.declared.fault.DviFault.TheVariants as faults
+use Rattle.dvi_read.proofs.PointerLemmas.{stray_bop, stray_pointer, unmet_pointer}
 use Rattle.tfm_core.specs.FileWidths.{file_widths}
 use Rattle.tfm_core.specs.NamedBytes.{NamedBytes}
 
 -- A refusal of the chain.
-pub chain_refused : (files : List NamedBytes) (bytes : List ℕ) (post e : ℕ) (stop : Postamble) (fault : FrameFault) → Ends bytes post e stop → IsChainRefusal bytes post stop fault
+pub chain_refused : (files : List NamedBytes) (bytes : List ℕ) (post e : ℕ) (stop : Postamble) (fault : FrameFault) → HasPostamble bytes post e stop → IsChainRefusal bytes post stop fault
     → IsDviFault files bytes (of_frame fault)
 chain_refused files bytes post e stop frames.OutOfMemory ends named = ForPlaces post e stop refl ends named
 chain_refused files bytes post e stop (frames.Bad fault) ends broken = InTheChain fault post e stop refl ends broken
 
--- What is after the preamble begins the walk.
+-- The place after the preamble begins the walk.
 pub starts_reached : (files : List NamedBytes) (bytes : List ℕ) (post behind last : ℕ) (stop : Postamble) (chain : List ℕ) (from : ℕ) (ahead : List ℤ) → StartsAt bytes post behind last stop chain from
-    → IsReached (file_widths files) ahead bytes stop chain from (at_first chain)
+    → IsReached (file_widths files) ahead bytes stop chain from (before_pages chain)
 starts_reached files bytes post behind last stop chain from ahead starts =
     let high = post_within files bytes post behind last stop chain starts.chained.framed in
     let within = starts.preamble.within in
     reached_first (file_widths files) ahead bytes stop chain from starts.preamble.comment (omega arith) starts.preamble.spelled
 
--- A pointer that is named in the pages is that of a bop that is not in the chain.
+-- A fault of the pages that is Pointer is at a bop that is not in the chain.
 pub strays : (files : List NamedBytes) (ahead : List ℤ) (bytes : List ℕ) (post behind last : ℕ) (stop : Postamble) (chain : List ℕ) (fault : DviFault) → IsFramed bytes post behind last stop chain
     → IsWalkFault files ahead bytes stop chain post fault → IsStray bytes post chain fault
 strays files ahead bytes post behind last stop chain fault framed broken = λ bad is cause.
@@ -56,9 +56,9 @@ strays files ahead bytes post behind last stop chain fault framed broken = λ ba
     let high = post_within files bytes post behind last stop chain framed in
     (stray_bop files ahead bytes stop chain post bad cause walk, stray_pointer files ahead bytes stop chain post post stop.last_bop bad high framed.links cause walk)
 
--- What was found makes a file of the pages.
-pub opened : (files : List NamedBytes) (bytes : List ℕ) (post behind last : ℕ) (stop : Postamble) (chain : List ℕ) (from : ℕ) (ahead : List ℤ) (seen : SoFar) (pages : List MarkedPage) (new : List Definition)
-    → HasPages files bytes post behind last stop chain from ahead seen → HasEnded seen.pass seen.left pages → ClosesTo bytes behind (last - 5) seen.known new → IsFile (file_widths files) bytes pages
+-- The parts make a file of the pages.
+pub opened : (files : List NamedBytes) (bytes : List ℕ) (post behind last : ℕ) (stop : Postamble) (chain : List ℕ) (from : ℕ) (ahead : List ℤ) (seen : ReadSoFar) (pages : List MarkedPage) (new : List Definition)
+    → HasPages files bytes post behind last stop chain from ahead seen → PagesHaveEnded seen.pass seen.left pages → ClosesTo bytes behind (last - 5) seen.known new → IsFile (file_widths files) bytes pages
 opened files bytes post behind last stop chain from ahead seen pages new has ended (tail, closes, new_is) =
     let framed = has.starts.chained.framed in
     let numbers = looked bytes behind (last - 5) ahead seen.known tail (behind_within files bytes post behind last stop chain framed) has.looked closes in
@@ -67,14 +67,14 @@ opened files bytes post behind last stop chain from ahead seen pages new has end
     (reached_end (file_widths files) bytes post behind last stop chain pages ahead seen tail has.starts.preamble.units numbers has.reached ended.between ended.none is_tail)
 
 -- The units are those of post.
-pub units_of_post : (bytes : List ℕ) (post e : ℕ) (stop : Postamble) → Ends bytes post e stop → (f : Frame bytes) → stop.units ≡ f.stop.units
+pub units_of_post : (bytes : List ℕ) (post e : ℕ) (stop : Postamble) → HasPostamble bytes post e stop → (f : Frame bytes) → stop.units ≡ f.stop.units
 units_of_post bytes post e stop ends f =
     let found = frame_ends bytes f in
     let (lasts, posts, stops) = one_end bytes post e (length (written f.front)) found.0 stop f.stop ends found.1 in
     ap (λ (s : Postamble). s.units) stops
 
--- A refusal at post's place or after it.
-pub finish_refused : (files : List NamedBytes) (bytes : List ℕ) (post behind last : ℕ) (stop : Postamble) (chain : List ℕ) (from : ℕ) (ahead : List ℤ) (seen : SoFar) (fault : DviFault)
+-- A refusal at the place of post or after it.
+pub finish_refused : (files : List NamedBytes) (bytes : List ℕ) (post behind last : ℕ) (stop : Postamble) (chain : List ℕ) (from : ℕ) (ahead : List ℤ) (seen : ReadSoFar) (fault : DviFault)
     → HasPages files bytes post behind last stop chain from ahead seen → IsFinishFault bytes post behind last seen.pass seen.left seen.known fault → IsDviFault files bytes fault
 finish_refused files bytes post behind last stop chain from ahead seen faults.OutOfMemory has (pages, ended, new, wants) =
     ForDefinitions post behind last stop chain from ahead seen pages new refl has ended wants
@@ -84,7 +84,7 @@ finish_refused files bytes post behind last stop chain from ahead seen (faults.B
     AfterPost bad post behind last stop chain from ahead seen pages new refl has ended broken
 finish_refused files bytes post behind last stop chain from ahead seen fault has broken = absurd broken
 
--- Where the parts of each frame stand.
+-- The places of the parts of each frame.
 frame_parts : (bytes : List ℕ) (post behind last : ℕ) (stop : Postamble) (chain : List ℕ) → IsFramed bytes post behind last stop chain → (g : Frame bytes)
     → (written g.front ≡ take post bytes) × (written g.tail ≡ take (last - 5 - behind) (drop behind bytes))
 frame_parts bytes post behind last stop chain framed g =
@@ -116,8 +116,8 @@ frame_parts bytes post behind last stop chain framed g =
         let equal = ap (λ (x : List ℕ). length x) same in
         omega arith
 
--- The definitions that were read up to post and after it are those of the whole file.
-pub fonts_read : (metrics : Metrics) (ahead : List ℤ) (bytes : List ℕ) (post behind last : ℕ) (stop : Postamble) (chain : List ℕ) (seen : SoFar) (new : List Definition)
+-- The definitions that were read before post and after it are those of the whole file.
+pub fonts_read : (metrics : WidthsByName) (ahead : List ℤ) (bytes : List ℕ) (post behind last : ℕ) (stop : Postamble) (chain : List ℕ) (seen : ReadSoFar) (new : List Definition)
     → IsFramed bytes post behind last stop chain → IsReached metrics ahead bytes stop chain post seen → ClosesTo bytes behind (last - 5) seen.known new
     → (f : Frame bytes) → new ≡ definitions (says f.front ++ says f.tail)
 fonts_read metrics ahead bytes post behind last stop chain seen new framed r (tail, closes, new_is) f =
@@ -126,12 +126,12 @@ fonts_read metrics ahead bytes post behind last stop chain seen new framed r (ta
     let behind_it : tail ≡ f.tail = one_list tail f.tail closes.spelled f.tail_spelled (closes.whole ∙ sym parts.1) in
     new_is
     ∙ (ap (λ (ds : List Definition). ds ++ definitions (says tail)) (sym r.known_is)
-    ∙ (sym (flat_map-append definition_of (says r.before) (says tail))
+    ∙ (sym (flat_map-append definitions_in (says r.before) (says tail))
     ∙ ap₂ (λ (a b : List Token). definitions (says a ++ says b)) front behind_it))
 
--- What was read of a whole file.
-pub read_from : (files : List NamedBytes) (bytes : List ℕ) (post behind last : ℕ) (stop : Postamble) (chain : List ℕ) (from : ℕ) (ahead : List ℤ) (seen : SoFar) (pages : List MarkedPage) (new : List Definition)
-    → HasPages files bytes post behind last stop chain from ahead seen → HasEnded seen.pass seen.left pages → ClosesTo bytes behind (last - 5) seen.known new
+-- The result of reading a whole file.
+pub read_from : (files : List NamedBytes) (bytes : List ℕ) (post behind last : ℕ) (stop : Postamble) (chain : List ℕ) (from : ℕ) (ahead : List ℤ) (seen : ReadSoFar) (pages : List MarkedPage) (new : List Definition)
+    → HasPages files bytes post behind last stop chain from ahead seen → PagesHaveEnded seen.pass seen.left pages → ClosesTo bytes behind (last - 5) seen.known new
     → IsReadFrom files bytes (record { units = stop.units; pages = pages; fonts = new })
 read_from files bytes post behind last stop chain from ahead seen pages new has ended closes =
     record {
@@ -140,7 +140,7 @@ read_from files bytes post behind last stop chain from ahead seen pages new has 
       fonts = fonts_read (file_widths files) ahead bytes post behind last stop chain seen new has.starts.chained.framed has.reached closes;
     }
 
--- What follows for a whole answer.
+-- The clauses for a whole result.
 pub pages_open : (files : List NamedBytes) (bytes : List ℕ) (result : Result Opened DviFault) → IfOk result (IsReadFrom files bytes) → IfOk result (λ dvi. IsFile (file_widths files) bytes dvi.pages)
 pages_open files bytes (Ok dvi) read = read.pages
 pages_open files bytes (Err fault) read = tt
@@ -166,15 +166,15 @@ exactly files bytes (Err fault) pages read bad f = absurd (no_fault files bytes 
 pub exact_open : (files : List NamedBytes) (bytes : List ℕ) (result : Result Opened DviFault) → IfOk result (IsReadFrom files bytes) → IfErr result (IsDviFault files bytes) → IsExact files bytes result
 exact_open files bytes result read bad = λ pages f. exactly files bytes result pages read bad f
 
--- What is wrong after post.
-pub tail_refused : (bytes : List ℕ) (post behind last : ℕ) (p : Pass) (left : Left) (pages : List MarkedPage) (known new : List Definition) (fault : FrameFault) → HasEnded p left pages
+-- A fault after post.
+pub tail_refused : (bytes : List ℕ) (post behind last : ℕ) (p : PassStateView) (left : Left) (pages : List MarkedPage) (known new : List Definition) (fault : FrameFault) → PagesHaveEnded p left pages
     → IsClosingFault bytes behind (last - 5) known new fault → IsFinishFault bytes post behind last p left known (of_frame fault)
 tail_refused bytes post behind last p left pages known new frames.OutOfMemory ended wants = (pages, ended, new, wants)
 tail_refused bytes post behind last p left pages known new (frames.Bad fault) ended broken = inr (pages, ended, new, broken)
 
--- The same, of pages that are equal to those of the walk.
-pub read_kept : (files : List NamedBytes) (bytes : List ℕ) (post behind last : ℕ) (stop : Postamble) (chain : List ℕ) (from : ℕ) (ahead : List ℤ) (seen : SoFar) (pages kept : List MarkedPage)
-    (new : List Definition) → HasPages files bytes post behind last stop chain from ahead seen → HasEnded seen.pass seen.left pages → ClosesTo bytes behind (last - 5) seen.known new → kept ≡ pages
+-- The same for pages that are equal to those of the walk.
+pub read_kept : (files : List NamedBytes) (bytes : List ℕ) (post behind last : ℕ) (stop : Postamble) (chain : List ℕ) (from : ℕ) (ahead : List ℤ) (seen : ReadSoFar) (pages kept : List MarkedPage)
+    (new : List Definition) → HasPages files bytes post behind last stop chain from ahead seen → PagesHaveEnded seen.pass seen.left pages → ClosesTo bytes behind (last - 5) seen.known new → kept ≡ pages
     → IsReadFrom files bytes (record { units = stop.units; pages = kept; fonts = new })
 read_kept files bytes post behind last stop chain from ahead seen pages kept new has ended closes same =
     subst (λ (ps : List MarkedPage). IsReadFrom files bytes (record { units = stop.units; pages = ps; fonts = new })) (sym same)

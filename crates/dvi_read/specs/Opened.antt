@@ -1,11 +1,11 @@
--- What is kept of a file that was opened, and what its file says of it (own).
+-- The result of opening a file, in relation to the file (own).
 use Rattle.std.specs.Prelude.{◌≡◌, ◌++◌, List, ℕ, Result, Ok, Err}
 use Rattle.dvi_ops.specs.File.{Frame, IsFile, MarkedPage}
 use Rattle.dvi_ops.specs.Fonts.{definitions}
 use Rattle.dvi_ops.specs.Instruction.{Definition, Units}
 use Rattle.dvi_ops.specs.Tokens.{says}
-use Rattle.dvi_walk.specs.declared.fault.DviFault.{DviFault}
-use Rattle.dvi_walk.specs.declared.fault.DviFault.TheVariants.{OutOfMemory}
+use Rattle.dvi_read.specs.declared.fault.DviFault.{DviFault}
+use Rattle.dvi_read.specs.declared.fault.DviFault.TheVariants.{OutOfMemory}
 use Rattle.tfm_core.specs.FileWidths.{file_widths}
 use Rattle.tfm_core.specs.NamedBytes.{NamedBytes}
 
@@ -15,20 +15,20 @@ pub record Opened : Type 0 where
   pub pages : List MarkedPage
   pub fonts : List Definition
 
--- The units are those that the postamble gives, and so those of the preamble.
+-- The units are those of the postamble, and so those of the preamble.
 abbrev pub HasUnitsOf : List ℕ → Opened → Type 0
 HasUnitsOf bytes dvi = (f : Frame bytes) → dvi.units ≡ f.stop.units
 
--- The definitions are those of the whole file, in order: up to post and after it.
+-- The definitions are those of the whole file, in order: before post and after it.
 abbrev pub HasFontsOf : List ℕ → Opened → Type 0
 HasFontsOf bytes dvi = (f : Frame bytes) → dvi.fonts ≡ definitions (says f.front ++ says f.tail)
 
--- In a file of these pages a call gives exactly them, or memory is wanting.
+-- A call gives exactly these pages, or memory was refused.
 abbrev pub GivesPages : List MarkedPage → Result Opened DviFault → Type 0
 GivesPages pages (Ok dvi) = dvi.pages ≡ pages
 GivesPages pages (Err fault) = fault ≡ OutOfMemory
 
--- Whatever the pages of these bytes with these font files, a call gives exactly them, or memory is wanting.
+-- Whatever the pages of these bytes with these font files are, a call gives exactly them, or memory was refused.
 abbrev pub IsExact : List NamedBytes → List ℕ → Result Opened DviFault → Type 0
 IsExact files bytes result = (pages : List MarkedPage) → IsFile (file_widths files) bytes pages → GivesPages pages result
 
@@ -36,7 +36,7 @@ IsExact files bytes result = (pages : List MarkedPage) → IsFile (file_widths f
 abbrev pub IsNoFile : List NamedBytes → List ℕ → Type 0
 IsNoFile files bytes = (pages : List MarkedPage) → IsFile (file_widths files) bytes pages → ⊥
 
--- What was read of a file: these are its pages, its units and its fonts.
+-- The result of reading a file: these are its pages, its units and its fonts.
 pub record IsReadFrom (files : List NamedBytes) (bytes : List ℕ) (dvi : Opened) : Type 0 where
   pub pages : IsFile (file_widths files) bytes dvi.pages
   pub units : HasUnitsOf bytes dvi

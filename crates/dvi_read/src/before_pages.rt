@@ -1,34 +1,34 @@
-//! What is found before the pages are read: the end of the file, the places of its pages, its preamble (DVItype, 15 to 20).
+//! The parts of a file that are found before the pages are read: its end, the places of its pages, its preamble (DVItype, 15 to 20).
 
 ghost use Rattle.std.specs.Prelude.{List, IfErr, IfOk};
 ghost use Rattle.dvi_read.specs.Opening.{IsDviFault};
-ghost use Rattle.dvi_read.specs.Parts.{HasFront};
+ghost use Rattle.dvi_read.specs.OpeningParts.{HasFront};
 ghost use Rattle.tfm_core.specs.NamedBytes.{NamedBytes};
 
-use dvi_frame::{Ending, chain, ends, preamble};
-use dvi_walk::DviFault;
+use crate::fault::DviFault;
+use dvi_scan::{FileEnd, find_postamble, page_offsets, preamble};
 use std::alloc::Global;
 
-/// What is found before the pages are read.
+/// The parts of a file that are found before the pages are read.
 #[derive(Drop)]
-pub struct Front {
-    /// Where the parts of the file stand, and what post says.
-    pub ending: Ending,
+pub struct BeforePages {
+    /// The places of the parts of the file, and the operands of post.
+    pub ending: FileEnd,
     /// The places of the pages, the last one first.
     pub chain: Vec<usize>,
-    /// The place behind the preamble.
+    /// The place after the preamble.
     pub from: usize,
 }
 
 /// Finds the end of a file, the places of its pages, and its preamble, in this order. It takes memory for the places.
-pub fn find_front(alloc: Global, bytes: &[u8]) -> Result<Front, DviFault>
+pub fn find_front(alloc: Global, bytes: &[u8]) -> Result<BeforePages, DviFault>
     ensures ok { IfOk result (HasFront bytes.now) }
     ensures bad { IfErr result (λ fault. (files : List NamedBytes) → IsDviFault files bytes.now fault) }
 {
-    let ending = ends(bytes)?;
-    let chain = chain(alloc, bytes, &ending)?;
+    let ending = find_postamble(bytes)?;
+    let chain = page_offsets(alloc, bytes, &ending)?;
     let from = preamble(bytes, &ending)?;
-    Ok(Front {
+    Ok(BeforePages {
         ending,
         chain,
         from,

@@ -1,13 +1,34 @@
 //! DVI files are read: `Dvi::open` checks a whole file, and its pages are those of the file definition.
 //!
-//! The programs that list and paint pages stand above it.
+//! `walk_pages` passes over the instructions of all pages up to post, with the fonts that are selected. `listing` is the text of the pages and their marks,
+//! line by line, and `Lines` gives it piece by piece.
 #![tactic(auto)]
 
+mod ahead;
 mod before_pages;
-pub mod laws;
+mod fault;
+pub mod file_laws;
+mod lines;
 mod opening;
+mod part;
+mod read_fonts;
 mod reading;
+mod selecting;
+mod stepping;
+mod text;
+mod walk;
+pub mod walk_laws;
+mod walking;
 
-pub use before_pages::{Front, find_front};
-pub use dvi_walk::DviFault;
+pub use ahead::Lines;
+pub use before_pages::{BeforePages, find_front};
+pub use dvi_scan::{Mark, Page};
+pub use fault::{DviFault, StepFault};
 pub use opening::Dvi;
+pub use part::PART;
+pub use read_fonts::{CharCode, ReadFonts, width_asked, width_of};
+pub use selecting::select;
+pub use stepping::step;
+pub use text::listing;
+pub use walk::{Source, Walk};
+pub use walking::{pages_end, walk_pages};

@@ -1,21 +1,23 @@
 //! A DVI file that was checked as a whole (DVItype, 13 to 20).
 
 ghost use Rattle.std.specs.Prelude.{◌≡◌, ◌≢◌, ◌++◌, ◌<◌, length, map, slice_get, IfErr, IfOk, OnErr, OnOk, Some};
-ghost use Rattle.dvi_listing.specs.Listing.{lines_ahead, listing as listing_of};
+ghost use Rattle.dvi_read.specs.Listing.{lines_ahead, listing as listing_of};
 ghost use Rattle.dvi_ops.specs.File.{AreUnits, IsFile};
 ghost use Rattle.dvi_ops.specs.View.{definition, units as view_units};
-ghost use Rattle.dvi_pass.specs.View.{page_of};
+ghost use Rattle.dvi_scan.specs.View.{marked_page};
 ghost use Rattle.dvi_read.specs.Opened.{HasFontsOf, HasUnitsOf, IsExact, IsNoFile, IsReadFrom};
 ghost use Rattle.dvi_read.specs.Opening.{IsDviFault};
-ghost use Rattle.dvi_walk.specs.declared.fault.DviFault.TheVariants.{OutOfMemory};
+ghost use Rattle.dvi_read.specs.declared.fault.DviFault.TheVariants.{OutOfMemory};
 ghost use Rattle.tfm_core.specs.FileWidths.{file_widths};
 
-use crate::before_pages::{Front, find_front};
+use crate::ahead::Lines;
+use crate::before_pages::{BeforePages, find_front};
+use crate::fault::DviFault;
 use crate::reading::{finish, read_pages};
-use dvi_listing::{Lines, listing};
+use crate::text::listing;
+use crate::walk::Walk;
 use dvi_ops::{FontDefinition, Units};
-use dvi_pass::Page;
-use dvi_walk::{DviFault, Walk};
+use dvi_scan::Page;
 use std::alloc::{AllocError, Global};
 use std::marker::Model;
 use tfm_core::FontFile;
@@ -32,20 +34,20 @@ impl<'a> Model for Dvi<'a> {
     ghost use Rattle.std.specs.Prelude.{map};
     ghost use Rattle.dvi_ops.specs.File.{AreUnits};
     ghost use Rattle.dvi_ops.specs.View.{definition, units as view_units};
-    ghost use Rattle.dvi_pass.specs.View.{page_of};
+    ghost use Rattle.dvi_scan.specs.View.{marked_page};
     ghost use Rattle.dvi_read.specs.Opened.{Opened};
 
     ghost Value = { Opened };
 
-    ghost view = { λ dvi. record { units = view_units dvi.units; pages = map page_of dvi.pages.items; fonts = map definition dvi.fonts.items } };
+    ghost view = { λ dvi. record { units = view_units dvi.units; pages = map marked_page dvi.pages.items; fonts = map definition dvi.fonts.items } };
 
     ghost invariant = { λ dvi. AreUnits (view_units dvi.units) };
 }
 
-/// What is kept of a walk over all pages.
+/// The result of a walk over all pages.
 fn kept(units: Units, walk: Walk<'_>) -> Dvi<'_>
     requires { AreUnits (view_units units) }
-    ensures { result ≡ record { units = view_units units; pages = map page_of walk.entry.done.items; fonts = walk.entry.known } }
+    ensures { result ≡ record { units = view_units units; pages = map marked_page walk.entry.done.items; fonts = walk.entry.known } }
 {
     let Walk { done, known, .. } = walk;
     Dvi {
@@ -60,7 +62,7 @@ fn read_file<'a>(alloc: Global, bytes: &'a [u8], files: &[FontFile]) -> Result<D
     ensures ok { IfOk result (IsReadFrom files.now bytes.now) }
     ensures bad { IfErr result (IsDviFault files.now bytes.now) }
 {
-    let Front {
+    let BeforePages {
         ending,
         chain,
         from,
@@ -71,20 +73,22 @@ fn read_file<'a>(alloc: Global, bytes: &'a [u8], files: &[FontFile]) -> Result<D
 }
 
 impl<'a> Dvi<'a> {
-    /// Checks a whole DVI file and reads its pages, with the widths that the metric files give; a font is found by its name, in the first file of that name.
-    /// It takes memory for places, pages, marks, definitions and fonts.
+    /// Checks a whole DVI file and reads its pages, with the widths of the metric files. The metric file of a font is the first one with the font's
+    /// name. It takes memory for places, pages, marks, definitions and fonts.
     ///
-    /// The checks are in this order: the end of the file, the places of its pages from the last one back, the preamble, then each instruction from there on.
+    /// The checks are in this order: the end of the file, the places of its pages from the last one back, the preamble, and each instruction from
+    /// there on. The fault is Bad with the first broken rule and its place; NoFont, BadTfm or DimensionTooLarge for a selected font without widths;
+    /// or OutOfMemory.
     pub fn open(alloc: Global, bytes: &'a [u8], files: &[FontFile]) -> Result<Dvi<'a>, DviFault>
         // The bytes are a file of these pages.
         ensures ok { IfOk result (λ dvi. IsFile (file_widths files.now) bytes.now dvi.pages) }
         ensures units { IfOk result (HasUnitsOf bytes.now) }
         ensures fonts { IfOk result (HasFontsOf bytes.now) }
-        // The rule that a fault names is broken at its place, and the checks before it hold.
+        // The rule that a fault names is broken at its place, and the earlier checks hold.
         ensures bad { IfErr result (IsDviFault files.now bytes.now) }
-        // But for memory, only what is no file is refused.
+        // Except for memory, only bytes that are no file are refused.
         ensures refused { IfErr result (λ fault. fault ≢ OutOfMemory → IsNoFile files.now bytes.now) }
-        // A file is opened with exactly its pages, or memory is wanting.
+        // A file is opened with exactly its pages, or memory is refused.
         ensures exact { IsExact files.now bytes.now result }
     {
         read_file(alloc, bytes, files)
@@ -97,10 +101,10 @@ impl<'a> Dvi<'a> {
         self.pages.len()
     }
 
-    /// A page, with its number counted from 0.
+    /// The page with this index, from 0.
     pub fn page(&self, index: usize) -> &Page<'a>
         requires { index < length self.now.pages }
-        ensures { slice_get self.now.pages index ≡ Some (page_of result.now) }
+        ensures { slice_get self.now.pages index ≡ Some (marked_page result.now) }
     {
         &self.pages[index]
     }
@@ -113,21 +117,21 @@ impl<'a> Dvi<'a> {
         self.units
     }
 
-    /// The definitions of the fonts of the file, in its order.
+    /// The definitions of the fonts, in the order of the file.
     pub fn fonts(&self) -> &[FontDefinition<'a>]
         ensures { map definition result.now ≡ self.now.fonts }
     {
         &self.fonts
     }
 
-    /// The lines of the listing of all pages.
+    /// The lines of the listing of all pages, to be taken in pieces.
     pub fn lines(&self) -> Lines<'_, 'a>
         ensures { lines_ahead result ≡ listing_of self.now.pages }
     {
         Lines::new(&self.pages)
     }
 
-    /// Appends the listing of all pages. Where memory is refused, `text` is as it was.
+    /// Appends the listing of all pages. Where memory is refused, `text` is unchanged.
     pub fn listing(&self, text: &mut Vec<u8>) -> Result<(), AllocError>
         ensures ok { OnOk result (text.new.items ≡ text.old.items ++ listing_of self.now.pages) }
         ensures err { OnErr result (text.new.items ≡ text.old.items) }

@@ -4,157 +4,157 @@ use Rattle.std.specs.Prelude.{Bool, true, false, if◌then◌else◌, ◌⊎◌,
 use Rattle.std.proofs.Math.Seq.{take-append-add}
 use Rattle.std.proofs.lemmas.List.{nil_from_length}
 use Rattle.dvi_ops.proofs.Appends.{all_append}
-use Rattle.device_core.specs.Told.{grown, GrowsByFront}
-use Rattle.device_core.proofs.Tellings.{grown-grown}
-use Rattle.ship_core.specs.Marks.{Page, is_huge}
+use Rattle.dvi_device.specs.Written.{written_then, GrowsByFront}
+use Rattle.dvi_device.proofs.Tellings.{grown-grown}
+use Rattle.ship_core.specs.Marks.{ShippedPage, is_huge}
 use Rattle.dvi_layout.specs.declared.progress.WriteFault.{WriteFault}
 use Rattle.dvi_layout.specs.declared.progress.WriteFault.TheVariants.{Device, HugePage, JobOver, OutOfMemory}
 use Rattle.dvi_layout.specs.Fonts.{Slots}
 use Rattle.dvi_layout.specs.MoreFonts.{Extends}
 use Rattle.dvi_layout.specs.Layout.{front, whole}
 use Rattle.dvi_layout.specs.Shippable.{IsRightPage}
-use Rattle.dvi_layout.specs.SoFar.{SoFar, nothing_so_far, next_bytes, with_next, last_bytes}
+use Rattle.dvi_layout.specs.SoFar.{ProgressView, nothing_so_far, next_bytes, with_next, last_bytes}
 use Rattle.dvi_layout.specs.Limits.{HasRoom, limit_of}
-use Rattle.dvi_write.specs.Writing.{Writing, HasWritten, Refuses, refusal_of}
+use Rattle.dvi_write.specs.Writing.{Writing, HasWritten, RefusesPage, refusal_of}
 use Rattle.dvi_layout.proofs.Rooms.{small}
 use Rattle.dvi_layout.proofs.NextPages.{front-append, so_far-append, whole-is}
 use Rattle.dvi_layout.proofs.MoreFonts.{front_more, so_far_more, pages_more}
 
-grown-none : (told : Option (List ℕ)) → told ≡ grown told []
+grown-none : (bytes_written : Option (List ℕ)) → bytes_written ≡ written_then bytes_written []
 grown-none None = refl
 grown-none (Some bytes) = ap Some (sym (append-nil bytes))
 
 -- A new writer has written no page.
-pub written_none : (fonts : Slots) (w : Writing) → w.so_far ≡ nothing_so_far → w.over ≡ false → HasWritten fonts w.told w []
+pub written_none : (fonts : Slots) (w : Writing) → w.so_far ≡ nothing_so_far → w.over ≡ false → HasWritten fonts w.bytes_written w []
 unfolding front
-written_none fonts w nothing running = record { told = grown-none w.told; so_far = nothing; right = tt; running = running }
+written_none fonts w nothing running = record { bytes_written = grown-none w.bytes_written; so_far = nothing; right = tt; running = running }
 
--- What was sent of a page behind others is front of all of them.
-sent_front : (fonts : Slots) (before : Option (List ℕ)) (w : Writing) (pages : List Page) (page : Page) (more : List ℕ) → HasWritten fonts before w pages
-    → grown w.told more ≡ grown before (front fonts pages ++ more)
-sent_front fonts before w pages page more written = ap (λ told. grown told more) written.told ∙ grown-grown before (front fonts pages) more
+-- The bytes sent for a page after others are the end of the front of all of them.
+sent_front : (fonts : Slots) (before : Option (List ℕ)) (w : Writing) (pages : List ShippedPage) (page : ShippedPage) (more : List ℕ) → HasWritten fonts before w pages
+    → written_then w.bytes_written more ≡ written_then before (front fonts pages ++ more)
+sent_front fonts before w pages page more written = ap (λ bytes_written. written_then bytes_written more) written.bytes_written ∙ grown-grown before (front fonts pages) more
 
-next-same : (fonts : Slots) (before : Option (List ℕ)) (w : Writing) (pages : List Page) (page : Page) → HasWritten fonts before w pages
+next-same : (fonts : Slots) (before : Option (List ℕ)) (w : Writing) (pages : List ShippedPage) (page : ShippedPage) → HasWritten fonts before w pages
     → front fonts pages ++ next_bytes fonts w.so_far page ≡ front fonts (pages ++ page ∷ [])
 next-same fonts before w pages page written =
     ap (λ s. front fonts pages ++ next_bytes fonts s page) written.so_far ∙ sym (front-append fonts pages page)
 
--- What a page that goes out, or is refused, is refused for.
-unrefused : (w : Writing) (page : Page) → w.over ≡ false → refusal_of w page ≡ limit_of w.so_far page
+-- Why a page is refused while the file is not over.
+unrefused : (w : Writing) (page : ShippedPage) → w.over ≡ false → refusal_of w page ≡ limit_of w.so_far page
 unrefused w page running = ap (λ (over : Bool). if over then Some JobOver else limit_of w.so_far page) running
 
-pub may_go : (w : Writing) (page : Page) → w.over ≡ false → limit_of w.so_far page ≡ (if is_huge page then Some HugePage else None) → is_huge page ≡ false
+pub may_go : (w : Writing) (page : ShippedPage) → w.over ≡ false → limit_of w.so_far page ≡ (if is_huge page then Some HugePage else None) → is_huge page ≡ false
     → refusal_of w page ≡ None
 may_go w page running limit small = unrefused w page running ∙ (limit ∙ ap (λ (huge : Bool). if huge then Some HugePage else None) small)
 
-pub refused_by : (w : Writing) (page : Page) (fault : WriteFault) → w.over ≡ false → limit_of w.so_far page ≡ (if is_huge page then Some HugePage else None)
-    → fault ≡ (if is_huge page then HugePage else OutOfMemory) → Refuses w page fault
+pub refused_by : (w : Writing) (page : ShippedPage) (fault : WriteFault) → w.over ≡ false → limit_of w.so_far page ≡ (if is_huge page then Some HugePage else None)
+    → fault ≡ (if is_huge page then HugePage else OutOfMemory) → RefusesPage w page fault
 refused_by w page fault running limit is = by_test (is_huge page) limit is
   where
-    by_test : (huge : Bool) → limit_of w.so_far page ≡ (if huge then Some HugePage else None) → fault ≡ (if huge then HugePage else OutOfMemory) → Refuses w page fault
+    by_test : (huge : Bool) → limit_of w.so_far page ≡ (if huge then Some HugePage else None) → fault ≡ (if huge then HugePage else OutOfMemory) → RefusesPage w page fault
     by_test true limit is = inl (unrefused w page running ∙ (limit ∙ ap Some (sym is)))
     by_test false limit is = inr (unrefused w page running ∙ limit, is)
 
--- A writer that has sent a page has written it behind the others.
-pub written_more : (fonts : Slots) (before : Option (List ℕ)) (old new : Writing) (pages : List Page) (page : Page) → HasWritten fonts before old pages
-    → IsRightPage fonts page → new.so_far ≡ with_next fonts old.so_far page → new.told ≡ grown old.told (next_bytes fonts old.so_far page) → new.over ≡ false
+-- A writer that has sent a page has written it after the others.
+pub written_more : (fonts : Slots) (before : Option (List ℕ)) (old new : Writing) (pages : List ShippedPage) (page : ShippedPage) → HasWritten fonts before old pages
+    → IsRightPage fonts page → new.so_far ≡ with_next fonts old.so_far page → new.bytes_written ≡ written_then old.bytes_written (next_bytes fonts old.so_far page) → new.over ≡ false
     → HasWritten fonts before new (pages ++ page ∷ [])
-written_more fonts before old new pages page written right kept told running =
+written_more fonts before old new pages page written right kept bytes_written running =
     record {
-      told =
-          told ∙ (sent_front fonts before old pages page (next_bytes fonts old.so_far page) written ∙ ap (grown before) (next-same fonts before old pages page written));
+      bytes_written =
+          bytes_written ∙ (sent_front fonts before old pages page (next_bytes fonts old.so_far page) written ∙ ap (written_then before) (next-same fonts before old pages page written));
       so_far = kept ∙ (ap (λ s. with_next fonts s page) written.so_far ∙ sym (so_far-append fonts pages page));
       right = all_append (IsRightPage fonts) pages (page ∷ []) written.right (right, tt);
       running = running;
     }
 
--- A beginning of what stands behind other bytes.
-front_behind : (before old new : Option (List ℕ)) (front more whole : List ℕ) → old ≡ grown before front → front ++ more ≡ whole → GrowsByFront old new more → GrowsByFront before new whole
-front_behind before old new front more whole told same grows =
+-- A beginning of what follows other bytes.
+front_behind : (before old new : Option (List ℕ)) (front more whole : List ℕ) → old ≡ written_then before front → front ++ more ≡ whole → GrowsByFront old new more → GrowsByFront before new whole
+front_behind before old new front more whole bytes_written same grows =
     let n = grows.0 in (
       length front + n,
       omega (arith, ap length same, length-append front more, grows.1),
       grows.2
-          ∙ (ap (λ told. grown told (take n more)) told
+          ∙ (ap (λ bytes_written. written_then bytes_written (take n more)) bytes_written
           ∙ (grown-grown before front (take n more)
-          ∙ ap (grown before) (sym (take-append-add front more n) ∙ ap (take (length front + n)) same))),
+          ∙ ap (written_then before) (sym (take-append-add front more n) ∙ ap (take (length front + n)) same))),
     )
 
--- A device that failed in a page has taken a beginning of the front with this page.
-pub part_more : (fonts : Slots) (before new : Option (List ℕ)) (old : Writing) (pages : List Page) (page : Page) → HasWritten fonts before old pages
-    → GrowsByFront old.told new (next_bytes fonts old.so_far page) → GrowsByFront before new (front fonts (pages ++ page ∷ []))
+-- A device that failed during a page has taken a beginning of the front with this page.
+pub part_more : (fonts : Slots) (before new : Option (List ℕ)) (old : Writing) (pages : List ShippedPage) (page : ShippedPage) → HasWritten fonts before old pages
+    → GrowsByFront old.bytes_written new (next_bytes fonts old.so_far page) → GrowsByFront before new (front fonts (pages ++ page ∷ []))
 part_more fonts before new old pages page written grows =
-    front_behind before old.told new (front fonts pages) (next_bytes fonts old.so_far page) (front fonts (pages ++ page ∷ [])) written.told
+    front_behind before old.bytes_written new (front fonts pages) (next_bytes fonts old.so_far page) (front fonts (pages ++ page ∷ [])) written.bytes_written
     (next-same fonts before old pages page written) grows
 
--- There are pages where they are counted.
-pub some_pages : (fonts : Slots) (before : Option (List ℕ)) (w : Writing) (pages : List Page) → HasWritten fonts before w pages → w.so_far.pages ≢ 0 → pages ≢ []
-some_pages fonts before w pages written some none = some (ap (λ (s : SoFar). s.pages) written.so_far ∙ ap length none)
+-- The pages are not empty where their number is not 0.
+pub some_pages : (fonts : Slots) (before : Option (List ℕ)) (w : Writing) (pages : List ShippedPage) → HasWritten fonts before w pages → w.so_far.pages ≢ 0 → pages ≢ []
+some_pages fonts before w pages written some none = some (ap (λ (s : ProgressView). s.pages) written.so_far ∙ ap length none)
 
-pub no_pages : (fonts : Slots) (before : Option (List ℕ)) (w : Writing) (pages : List Page) → HasWritten fonts before w pages → w.so_far.pages ≡ 0 → pages ≡ []
-no_pages fonts before w pages written none = nil_from_length pages (sym (ap (λ (s : SoFar). s.pages) written.so_far) ∙ none)
+pub no_pages : (fonts : Slots) (before : Option (List ℕ)) (w : Writing) (pages : List ShippedPage) → HasWritten fonts before w pages → w.so_far.pages ≡ 0 → pages ≡ []
+no_pages fonts before w pages written none = nil_from_length pages (sym (ap (λ (s : ProgressView). s.pages) written.so_far) ∙ none)
 
-whole-same : (fonts : Slots) (before : Option (List ℕ)) (w : Writing) (pages : List Page) → HasWritten fonts before w pages → w.so_far.pages ≢ 0
+whole-same : (fonts : Slots) (before : Option (List ℕ)) (w : Writing) (pages : List ShippedPage) → HasWritten fonts before w pages → w.so_far.pages ≢ 0
     → front fonts pages ++ last_bytes fonts w.so_far ≡ whole fonts pages
 whole-same fonts before w pages written some =
     ap (λ s. front fonts pages ++ last_bytes fonts s) written.so_far ∙ sym (whole-is fonts pages (some_pages fonts before w pages written some))
 
--- What the device took is the whole file behind the end.
-pub ended_all : (fonts : Slots) (before new : Option (List ℕ)) (old : Writing) (pages : List Page) → HasWritten fonts before old pages → old.so_far.pages ≢ 0
-    → new ≡ grown old.told (last_bytes fonts old.so_far) → new ≡ grown before (whole fonts pages)
-ended_all fonts before new old pages written some told =
-    told
-    ∙ (ap (λ told. grown told (last_bytes fonts old.so_far)) written.told
-    ∙ (grown-grown before (front fonts pages) (last_bytes fonts old.so_far) ∙ ap (grown before) (whole-same fonts before old pages written some)))
+-- After the end, the device has taken the whole file.
+pub ended_all : (fonts : Slots) (before new : Option (List ℕ)) (old : Writing) (pages : List ShippedPage) → HasWritten fonts before old pages → old.so_far.pages ≢ 0
+    → new ≡ written_then old.bytes_written (last_bytes fonts old.so_far) → new ≡ written_then before (whole fonts pages)
+ended_all fonts before new old pages written some bytes_written =
+    bytes_written
+    ∙ (ap (λ bytes_written. written_then bytes_written (last_bytes fonts old.so_far)) written.bytes_written
+    ∙ (grown-grown before (front fonts pages) (last_bytes fonts old.so_far) ∙ ap (written_then before) (whole-same fonts before old pages written some)))
 
--- It is nothing where there are no pages.
-pub ended_none : (fonts : Slots) (before : Option (List ℕ)) (old : Writing) (pages : List Page) → HasWritten fonts before old pages → old.so_far.pages ≡ 0
-    → old.told ≡ grown before (whole fonts pages)
+-- Without pages, it has taken nothing.
+pub ended_none : (fonts : Slots) (before : Option (List ℕ)) (old : Writing) (pages : List ShippedPage) → HasWritten fonts before old pages → old.so_far.pages ≡ 0
+    → old.bytes_written ≡ written_then before (whole fonts pages)
 unfolding front whole
 ended_none fonts before old pages written none =
     let empty = no_pages fonts before old pages written none in
-    written.told ∙ (ap (λ pages. grown before (front fonts pages)) empty ∙ sym (ap (λ pages. grown before (whole fonts pages)) empty))
+    written.bytes_written ∙ (ap (λ pages. written_then before (front fonts pages)) empty ∙ sym (ap (λ pages. written_then before (whole fonts pages)) empty))
 
--- It is a beginning of it where the device failed.
-pub ended_part : (fonts : Slots) (before new : Option (List ℕ)) (old : Writing) (pages : List Page) → HasWritten fonts before old pages → old.so_far.pages ≢ 0
-    → GrowsByFront old.told new (last_bytes fonts old.so_far) → GrowsByFront before new (whole fonts pages)
+-- Where the device failed, it has taken a beginning of the file.
+pub ended_part : (fonts : Slots) (before new : Option (List ℕ)) (old : Writing) (pages : List ShippedPage) → HasWritten fonts before old pages → old.so_far.pages ≢ 0
+    → GrowsByFront old.bytes_written new (last_bytes fonts old.so_far) → GrowsByFront before new (whole fonts pages)
 ended_part fonts before new old pages written some grows =
-    front_behind before old.told new (front fonts pages) (last_bytes fonts old.so_far) (whole fonts pages) written.told (whole-same fonts before old pages written some) grows
+    front_behind before old.bytes_written new (front fonts pages) (last_bytes fonts old.so_far) (whole fonts pages) written.bytes_written (whole-same fonts before old pages written some) grows
 
 -- The length of the file, and the number of its pages.
-pub ended_size : (fonts : Slots) (before : Option (List ℕ)) (w : Writing) (pages : List Page) → HasWritten fonts before w pages → w.so_far.pages ≢ 0
+pub ended_size : (fonts : Slots) (before : Option (List ℕ)) (w : Writing) (pages : List ShippedPage) → HasWritten fonts before w pages → w.so_far.pages ≢ 0
     → length (whole fonts pages) ≡ w.so_far.size + length (last_bytes fonts w.so_far)
 ended_size fonts before w pages written some =
     omega (
       arith,
       ap length (whole-same fonts before w pages written some),
       length-append (front fonts pages) (last_bytes fonts w.so_far),
-      ap (λ (s : SoFar). s.size) written.so_far,
+      ap (λ (s : ProgressView). s.size) written.so_far,
     )
 
-pub ended_count : (fonts : Slots) (before : Option (List ℕ)) (w : Writing) (pages : List Page) → HasWritten fonts before w pages → w.so_far.pages ≡ length pages
-ended_count fonts before w pages written = ap (λ (s : SoFar). s.pages) written.so_far
+pub ended_count : (fonts : Slots) (before : Option (List ℕ)) (w : Writing) (pages : List ShippedPage) → HasWritten fonts before w pages → w.so_far.pages ≡ length pages
+ended_count fonts before w pages written = ap (λ (s : ProgressView). s.pages) written.so_far
 
--- What holds of a page behind the call of the device.
-pub lost_page : {A : Type 0} (result : Result A WriteFault) (fonts : Slots) (old : Writing) (new : Option (List ℕ)) (page : Page)
-    → OnErr result (GrowsByFront old.told new (next_bytes fonts old.so_far page)) → result ≡ Err Device
-    → (before : Option (List ℕ)) (pages : List Page) → HasWritten fonts before old pages → GrowsByFront before new (front fonts (pages ++ page ∷ []))
+-- The facts about a page after the device was called.
+pub lost_page : {A : Type 0} (result : Result A WriteFault) (fonts : Slots) (old : Writing) (new : Option (List ℕ)) (page : ShippedPage)
+    → OnErr result (GrowsByFront old.bytes_written new (next_bytes fonts old.so_far page)) → result ≡ Err Device
+    → (before : Option (List ℕ)) (pages : List ShippedPage) → HasWritten fonts before old pages → GrowsByFront before new (front fonts (pages ++ page ∷ []))
 lost_page (Ok x) fonts old new page grows is = cc
 lost_page (Err e) fonts old new page grows is = λ before pages written. part_more fonts before new old pages page written grows
 
-pub none_ended : (fonts : Slots) (before : Option (List ℕ)) (w : Writing) (pages : List Page) → HasWritten fonts before w pages → w.so_far.pages ≡ 0 → 0 ≡ length (whole fonts pages)
+pub none_ended : (fonts : Slots) (before : Option (List ℕ)) (w : Writing) (pages : List ShippedPage) → HasWritten fonts before w pages → w.so_far.pages ≡ 0 → 0 ≡ length (whole fonts pages)
 unfolding whole
 none_ended fonts before w pages written none = sym (ap (λ pages. length (whole fonts pages)) (no_pages fonts before w pages written none))
 
-pub written_small : (fonts : Slots) (before : Option (List ℕ)) (w : Writing) (pages : List Page) → HasWritten fonts before w pages → HasRoom w.so_far → length (front fonts pages) < 2 ^ 31
-written_small fonts before w pages written room = omega (arith, small w.so_far room, ap (λ (s : SoFar). s.size) written.so_far)
+pub written_small : (fonts : Slots) (before : Option (List ℕ)) (w : Writing) (pages : List ShippedPage) → HasWritten fonts before w pages → HasRoom w.so_far → length (front fonts pages) < 2 ^ 31
+written_small fonts before w pages written room = omega (arith, small w.so_far room, ap (λ (s : ProgressView). s.size) written.so_far)
 
--- What was written stays so with more fonts.
-pub written_with_more : (fonts more : Slots) (before : Option (List ℕ)) (w : Writing) (pages : List Page) → Extends fonts more → HasWritten fonts before w pages
+-- What was written is the same with more fonts.
+pub written_with_more : (fonts more : Slots) (before : Option (List ℕ)) (w : Writing) (pages : List ShippedPage) → Extends fonts more → HasWritten fonts before w pages
     → HasWritten more before w pages
 written_with_more fonts more before w pages extends written =
     record {
-      told = written.told ∙ ap (grown before) (front_more fonts more extends pages written.right);
+      bytes_written = written.bytes_written ∙ ap (written_then before) (front_more fonts more extends pages written.right);
       so_far = written.so_far ∙ so_far_more fonts more extends pages written.right;
       right = pages_more fonts more extends pages written.right;
       running = written.running;

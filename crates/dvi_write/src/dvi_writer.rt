@@ -1,23 +1,23 @@
-//! The writer of a DVI file: each page goes to a device as it comes, and the end behind the last (DVItype, 13 to 20).
+//! The writer of a DVI file: each page goes to a device as it comes, and the end after the last (DVItype, 13 to 20).
 
 ghost use Rattle.std.specs.Prelude.{◌≡◌, length};
 ghost use Rattle.std.specs.List.{AllByRecursion};
 ghost use Rattle.dvi_ops.specs.Spelling.{NumberFits};
 
-use device_core::{Device, write_all};
+use dvi_device::{Device, write_all};
 use dvi_layout::{Fonts, NextPage, Offsets, Progress, WriteFault};
 use node_core::BoxNode;
 use std::alloc::Global;
 use std::marker::Model;
 
-/// How many pages a file has that was ended, and how many bytes.
+/// The number of pages and of bytes of a finished file.
 #[derive(Clone, Copy, Debug, PartialEq, Eq)]
 pub struct WrittenFile {
     pub pages: u32,
     pub bytes: u64,
 }
 
-/// The writer of a DVI file. It keeps no page and no byte that was sent.
+/// The writer of a DVI file. It keeps no page, and no byte that was sent.
 #[derive(Drop)]
 pub struct DviWriter<D: Device> {
     progress: Progress,
@@ -35,16 +35,16 @@ impl<D: Device> Model for DviWriter<D> {
 
     ghost coded = { coded_writing };
 
-    ghost view = { λ w. record { so_far = w.progress; told = D.told w.device; failed = D.failed w.device; began = D.began w.device; over = w.over } };
+    ghost view = { λ w. record { so_far = w.progress; bytes_written = D.bytes_written w.device; failed = D.failed w.device; began = D.began w.device; over = w.over } };
 
     ghost invariant = { λ w. HasRoom w.progress × (w.over ≡ false → D.failed w.device + 1 < 2 ^ 64) };
 }
 
 impl<D: Device> DviWriter<D> {
     ghost use Rattle.std.specs.Prelude.{◌≡◌, ◌≢◌, ◌<◌, ◌+◌, ◌^◌, ◌++◌, ◌⊎◌, ◌∷◌, [], true, false, ℕ, List, Option, Some, None, length, IfOk, IfErr, OnOk, OnErr, Err, Result, nat_eq};
-    ghost use Rattle.device_core.specs.Told.{grown, GrowsByFront};
-    ghost use Rattle.dvi_ops.specs.Fonts.{Metrics};
-    ghost use Rattle.ship_core.specs.Marks.{Page};
+    ghost use Rattle.dvi_device.specs.Written.{written_then, GrowsByFront};
+    ghost use Rattle.dvi_ops.specs.Fonts.{WidthsByName};
+    ghost use Rattle.ship_core.specs.Marks.{ShippedPage};
     ghost use Rattle.dvi_layout.specs.declared.progress.WriteFault.{WriteFault};
     ghost use Rattle.dvi_layout.specs.Fonts.{Slots};
     ghost use Rattle.dvi_layout.specs.SoFar.{next_bytes, with_next};
@@ -52,12 +52,13 @@ impl<D: Device> DviWriter<D> {
     ghost use Rattle.dvi_layout.specs.Limits.{HasRoom};
     ghost use Rattle.dvi_layout.specs.Closing.{IsClosedFor};
     ghost use Rattle.dvi_layout.specs.Shippable.{GivesFonts, IsFileOfPages, IsRightPage, IsShippable, page_with};
-    ghost use Rattle.dvi_write.specs.Writing.{EndsWith, HasWritten, MayFail, Refuses, refusal_of};
+    ghost use Rattle.dvi_write.specs.Writing.{EndsWith, HasWritten, MayFail, RefusesPage, refusal_of};
 
-    /// A writer on a device. It takes no memory, and sends nothing.
+    /// A writer to a device. It takes no memory, and sends nothing. What the device reported before is named in the clauses, so that callers need not
+    /// begin with a fresh device.
     pub fn new(device: D) -> DviWriter<D>
         requires { D.failed device + 1 < 2 ^ 64 }
-        ensures written { (fonts : Slots) → HasWritten fonts (D.told device) result [] }
+        ensures written { (fonts : Slots) → HasWritten fonts (D.bytes_written device) result [] }
         ensures failed { result.failed ≡ D.failed device }
         ensures began { result.began ≡ D.began device }
     {
@@ -68,23 +69,32 @@ impl<D: Device> DviWriter<D> {
         }
     }
 
-    /// Whether the file is over.
+    /// Whether the file is over: it was finished, or the device failed.
     pub fn is_over(&self) -> bool
         ensures { result ≡ self.now.over }
     {
         self.over
     }
 
-    /// How many pages were sent.
+    /// The number of pages that were sent.
     pub fn pages(&self) -> u32
         ensures { result ≡ self.now.so_far.pages }
     {
         self.progress.pages()
     }
 
-    /// The device.
+    /// Lends the device.
+    pub fn device(&self) -> &D
+        ensures bytes_written { D.bytes_written result.now ≡ self.now.bytes_written }
+        ensures failed { D.failed result.now ≡ self.now.failed }
+        ensures began { D.began result.now ≡ self.now.began }
+    {
+        &self.device
+    }
+
+    /// Returns the device.
     pub fn into_device(self) -> D
-        ensures told { D.told result ≡ self.told }
+        ensures bytes_written { D.bytes_written result ≡ self.bytes_written }
         ensures failed { D.failed result ≡ self.failed }
         ensures began { D.began result ≡ self.began }
     {
@@ -96,15 +106,15 @@ impl<D: Device> DviWriter<D> {
         device
     }
 
-    /// Sends bytes; where the device fails, the file is over.
+    /// Sends bytes. Where the device fails, the file is over.
     fn send(&mut self, bytes: &[u8]) -> Result<(), WriteFault>
         requires { self.old.over ≡ false }
         ensures so_far { self.new.so_far ≡ self.old.so_far }
-        ensures told { OnOk result (self.new.told ≡ grown self.old.told bytes.now) }
+        ensures bytes_written { OnOk result (self.new.bytes_written ≡ written_then self.old.bytes_written bytes.now) }
         ensures stands { OnOk result (self.new.failed ≡ self.old.failed) }
         ensures running { OnOk result (self.new.over ≡ false) }
         ensures fault { IfErr result (λ fault. fault ≡ WriteFault.Device) }
-        ensures front { OnErr result (GrowsByFront self.old.told self.new.told bytes.now) }
+        ensures front { OnErr result (GrowsByFront self.old.bytes_written self.new.bytes_written bytes.now) }
         ensures counted { OnErr result (self.new.failed ≡ self.old.failed + 1) }
         ensures over { OnErr result (self.new.over ≡ true) }
         ensures began { self.new.began ≡ self.old.began }
@@ -116,7 +126,7 @@ impl<D: Device> DviWriter<D> {
         Ok(())
     }
 
-    /// The page that goes out next.
+    /// The page that is sent next. Each refusal but Device is found here, before the device is called.
     fn prepare(
         &self,
         alloc: Global,
@@ -132,7 +142,7 @@ impl<D: Device> DviWriter<D> {
         ensures right { OnOk result (IsRightPage fonts.now (page_with counts.now offsets box_node.now)) }
         ensures may { OnOk result (refusal_of self.now (page_with counts.now offsets box_node.now) ≡ None) }
         ensures running { OnOk result (self.now.over ≡ false) }
-        ensures refused { IfErr result (Refuses self.now (page_with counts.now offsets box_node.now)) }
+        ensures refused { IfErr result (RefusesPage self.now (page_with counts.now offsets box_node.now)) }
     {
         if self.over {
             return Err(WriteFault::JobOver);
@@ -150,11 +160,11 @@ impl<D: Device> DviWriter<D> {
         }
     }
 
-    /// Sends the page of a box under these counts: the preamble before the first page, the definitions of the fonts that no page before it uses,
-    /// and the page. All memory is taken before the device is called. A page counts once all of it was sent.
+    /// Sends the page of a box with these counts: the preamble before the first page, the definitions of the fonts that no earlier page uses, and the
+    /// page. All memory is taken before the device is called, so no refusal but Device has sent anything. A page counts once all of it was sent.
     ///
-    /// Refused with JobOver, TooManyPages, TooMuchShipped, TooMuchSpecial, HugePage (the first of them that holds) or OutOfMemory, it has sent
-    /// nothing and changed nothing. With Device, the device has failed and the file is over.
+    /// The fault is the first of JobOver, TooManyPages, TooMuchShipped, TooMuchSpecial and HugePage that holds, or OutOfMemory; then nothing was sent
+    /// and nothing has changed. With Device, the device has failed and the file is over; the numbers are those of the pages before.
     pub fn page(
         &mut self,
         alloc: Global,
@@ -164,10 +174,10 @@ impl<D: Device> DviWriter<D> {
         fonts: &Fonts,
     ) -> Result<(), WriteFault>
         requires { IsShippable fonts.now box_node.now }
-        ensures written { OnOk result ((before : Option (List ℕ)) (pages : List Page) → HasWritten fonts.now before self.old pages
+        ensures written { OnOk result ((before : Option (List ℕ)) (pages : List ShippedPage) → HasWritten fonts.now before self.old pages
             → HasWritten fonts.now before self.new (pages ++ page_with counts.now offsets box_node.now ∷ [])) }
-        ensures part { result ≡ Err WriteFault.Device → (before : Option (List ℕ)) (pages : List Page) → HasWritten fonts.now before self.old pages
-            → GrowsByFront before self.new.told (front fonts.now (pages ++ page_with counts.now offsets box_node.now ∷ [])) }
+        ensures part { result ≡ Err WriteFault.Device → (before : Option (List ℕ)) (pages : List ShippedPage) → HasWritten fonts.now before self.old pages
+            → GrowsByFront before self.new.bytes_written (front fonts.now (pages ++ page_with counts.now offsets box_node.now ∷ [])) }
         ensures kept { OnOk result (self.new.so_far ≡ with_next fonts.now self.old.so_far (page_with counts.now offsets box_node.now)) }
         ensures running { OnOk result (self.new.over ≡ false) }
         ensures may { OnOk result (refusal_of self.old (page_with counts.now offsets box_node.now) ≡ None) }
@@ -185,21 +195,22 @@ impl<D: Device> DviWriter<D> {
         Ok(())
     }
 
-    /// Ends the file: where there are pages, the postamble with the definitions of all their fonts goes out, and what stands behind it. All memory
-    /// is taken before the device is called. Behind it the file is over.
+    /// Finishes the file. Where there are pages, it sends the postamble with the definitions of all their fonts, and the padding. All memory is taken
+    /// before the device is called. The file is over after it.
     ///
-    /// Refused with JobOver or OutOfMemory, it has sent nothing and changed nothing. With Device, the device has failed and the file is over.
+    /// The fault is JobOver or OutOfMemory, and then nothing was sent and nothing has changed; or Device, and then the device has failed and the file
+    /// is over.
     pub fn finish(&mut self, alloc: Global, fonts: &Fonts) -> Result<WrittenFile, WriteFault>
-        ensures whole { OnOk result ((before : Option (List ℕ)) (pages : List Page) → HasWritten fonts.now before self.old pages
-            → self.new.told ≡ grown before (whole fonts.now pages)) }
-        ensures part { result ≡ Err WriteFault.Device → (before : Option (List ℕ)) (pages : List Page) → HasWritten fonts.now before self.old pages
-            → GrowsByFront before self.new.told (whole fonts.now pages) }
-        ensures file { OnOk result ((before : Option (List ℕ)) (pages : List Page) (metrics : Metrics) → HasWritten fonts.now before self.old pages
+        ensures whole { OnOk result ((before : Option (List ℕ)) (pages : List ShippedPage) → HasWritten fonts.now before self.old pages
+            → self.new.bytes_written ≡ written_then before (whole fonts.now pages)) }
+        ensures part { result ≡ Err WriteFault.Device → (before : Option (List ℕ)) (pages : List ShippedPage) → HasWritten fonts.now before self.old pages
+            → GrowsByFront before self.new.bytes_written (whole fonts.now pages) }
+        ensures file { OnOk result ((before : Option (List ℕ)) (pages : List ShippedPage) (metrics : WidthsByName) → HasWritten fonts.now before self.old pages
             → GivesFonts metrics fonts.now → IsFileOfPages metrics (whole fonts.now pages) pages) }
-        ensures closed { OnOk result ((before : Option (List ℕ)) (pages : List Page) → HasWritten fonts.now before self.old pages → pages ≢ []
+        ensures closed { OnOk result ((before : Option (List ℕ)) (pages : List ShippedPage) → HasWritten fonts.now before self.old pages → pages ≢ []
             → IsClosedFor fonts.now (whole fonts.now pages) pages) }
-        ensures pages { IfOk result (λ file. (before : Option (List ℕ)) (pages : List Page) → HasWritten fonts.now before self.old pages → file.pages ≡ length pages) }
-        ensures size { IfOk result (λ file. (before : Option (List ℕ)) (pages : List Page) → HasWritten fonts.now before self.old pages → file.bytes ≡ length (whole fonts.now pages)) }
+        ensures pages { IfOk result (λ file. (before : Option (List ℕ)) (pages : List ShippedPage) → HasWritten fonts.now before self.old pages → file.pages ≡ length pages) }
+        ensures size { IfOk result (λ file. (before : Option (List ℕ)) (pages : List ShippedPage) → HasWritten fonts.now before self.old pages → file.bytes ≡ length (whole fonts.now pages)) }
         ensures so_far { self.new.so_far ≡ self.old.so_far }
         ensures may { OnOk result (self.old.over ≡ false) }
         ensures refused { IfErr result (MayFail self.old) }
@@ -232,7 +243,8 @@ impl<D: Device> DviWriter<D> {
     }
 }
 
-/// Ten counts fit their fields: counts of signed 32 bits always do. It does nothing.
+/// Ten counts fit their fields, since a field has signed 32 bits. This is a fact for the proofs: a number in a reference has its range in a proof
+/// only once it is read.
 fn ten_fit(counts: &[i32; 10])
     ensures ten { length counts.now ≡ 10 }
     ensures fit { AllByRecursion NumberFits counts.now }

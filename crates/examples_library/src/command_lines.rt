@@ -1,10 +1,10 @@
 //! The whole program is run over a host in memory.
 
+use boxglue_lib::{HeldFile, MemoryHost, program};
 use std::alloc::{AllocError, Global};
-use task_core::{HeldFile, MemoryHost, program};
 
-/// Runs the program on words, as `typeset`, `out.dvi`, `tiny=tiny.tfm`, with a script and this one file: its status, what it prints and what it says on the errors,
-/// and the host, whose `written()` is the DVI file.
+/// Runs the program with words, such as `typeset`, `out.dvi`, `tiny=tiny.tfm`, on a script and with this one file. Returns its status, its output, its
+/// errors, and the host, whose `written()` is the DVI file.
 pub fn run(
     alloc: Global,
     words: &[&str],

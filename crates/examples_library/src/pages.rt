@@ -10,24 +10,24 @@ pub fn hbox() -> Command {
     Command::Open(Opening {
         form: BoxForm::Hbox, // or Vbox, Vtop
         target: Target::Natural, // or To(size), Spread(more)
-        into: Some(Register::FIRST), // or None: its box goes into the list around it
+        into: Some(Register::FIRST), // or None: its box goes to the enclosing list
     })
 }
 
 /// The DVI file of a page with one rule as wide and high as a point, and the answer to the command that packed its box.
 pub fn one_rule_page(alloc: Global, point: Dimen) -> Result<(Memory, Answer), Refusal> {
     let Ok(mut job) = Job::new(alloc, Memory::new(alloc), &[]) else {
-        return Err(Refusal::OutOfMemory); // the device came back in the Err
+        return Err(Refusal::OutOfMemory); // the Err has the device
     };
     let rule = Rule {
         width: RuleSize::Fixed(point),
         height: RuleSize::Fixed(point),
         depth: RuleSize::Fixed(Dimen::ZERO),
     };
-    job.step(&hbox())?; // an Err: refused, and nothing has changed
+    job.step(&hbox())?; // an Err is a refusal, which changes nothing
     job.step(&Command::Rule(rule))?;
     let packed = job.step(&Command::End)?; // Answer::Packed(sizes, badness)
-    job.step(&Command::Ship(Register::FIRST))?; // Answer::Shipped(1): the page has gone to the device
-    job.finish()?; // the end of the file goes, too
+    job.step(&Command::Ship(Register::FIRST))?; // Answer::Shipped(1): the page was sent to the device
+    job.finish()?; // sends the end of the file
     Ok((job.into_device(), packed)) // the bytes() of the device are the file
 }

@@ -4,7 +4,7 @@ use break_core::{Breaks, ListMeter, active_breaks};
 use node_core::{Node, Params};
 use std::alloc::Global;
 
-/// The breaks of a finished list, and how many lines were tried for them; none where it is too long, cannot be broken, or memory is refused.
+/// The breaks of a finished list, and how many lines were tried for them. None if it is too long or cannot be broken, or if memory is refused.
 pub fn counted(alloc: Global, nodes: &[Node], params: &Params) -> Option<(Breaks, u128)> {
     if nodes.len() > 131_072 {
         return None;

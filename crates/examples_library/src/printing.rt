@@ -1,4 +1,4 @@
-//! What is printed of each example.
+//! The output of each example.
 
 use crate::command_lines::run;
 use crate::pages::one_rule_page;
@@ -27,7 +27,7 @@ pub fn print_answered<W: Write>(alloc: Global, output: &mut W) -> Result<()> {
     Ok(())
 }
 
-/// What the program answers to the script of a page with one glyph, its status, and the lengths of its errors and of the file that it writes.
+/// The answers of the program to the script of a page with one glyph, its status, and the lengths of its errors and of the file that it writes.
 pub fn print_run<W: Write>(alloc: Global, output: &mut W) -> Result<()> {
     let words = ["typeset", "out.dvi", "tiny=tiny.tfm"];
     let script = Vec::from_slice(alloc, ONE_GLYPH.as_bytes())?;
@@ -55,7 +55,7 @@ pub fn print_pages<W: Write>(alloc: Global, output: &mut W) -> Result<()> {
     Ok(())
 }
 
-/// How the page with one rule ends on a device that fails at no call, at the first and at the second, and what the device has then.
+/// The end of the page with one rule on a device that fails at no call, at the first and at the second, and the bytes that the device then has.
 pub fn print_completed<W: Write>(alloc: Global, output: &mut W) -> Result<()> {
     writeln!(output, "== completed")?;
     for fails_at in [0, 1, 2] {

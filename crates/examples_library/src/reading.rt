@@ -5,7 +5,7 @@ use raster_core::Bitmap;
 use std::alloc::Global;
 use tfm_core::FontFile;
 
-/// The listing of a DVI file, and its first page as a bitmap of 850 by 1,100 pixels in plain PBM; without a page a white one.
+/// The listing of a DVI file, and its first page as a bitmap of 850 by 1,100 pixels in plain PBM, white if the file has no page.
 pub fn shown(
     alloc: Global,
     bytes: &[u8],
@@ -15,7 +15,7 @@ pub fn shown(
     let mut text = Vec::new(alloc);
     let mut picture = Vec::new(alloc);
     let Ok(mut bitmap) = Bitmap::new(alloc, 850, 1100) else {
-        return Err(DviFault::OutOfMemory); // the size is in its range
+        return Err(DviFault::OutOfMemory); // the size is in range, so memory was refused
     };
     if dvi.pages() > 0 {
         bitmap.paint(dvi.page(0), dvi.units(), 100);

@@ -3,7 +3,7 @@
 use job_core::{Command, Device, FontFile, Fuse, Job, Rest, finish_rest};
 use std::alloc::Global;
 
-/// Runs commands again on a device that took the bytes `sent` of their file before it failed: whether the end succeeded, and the device.
+/// Runs commands again on a device that took the bytes `sent` of their file before it failed. Returns whether the end succeeded, and the device.
 fn resumed<D: Device>(
     alloc: Global,
     commands: &[Command],
@@ -12,7 +12,7 @@ fn resumed<D: Device>(
     sent: Vec<u8>,
 ) -> (bool, D) {
     if device.failures() == u64::MAX {
-        return (false, device); // it can count no failure more
+        return (false, device); // it cannot count one more failure
     }
     let mut job = match Job::new(alloc, Rest::new(device, sent), files) {
         Ok(job) => job,

@@ -6,7 +6,7 @@ use job_core::{
 };
 use std::alloc::Global;
 
-/// The DVI file of a page with a paragraph of text, in the font of the first of these files that has the name, and what the paragraph became.
+/// The DVI file of a page with a paragraph of text, in the font of the first of these files with this name, and the answer to the end of the paragraph.
 pub fn text_page(
     alloc: Global,
     files: &[FontFile],
@@ -19,7 +19,7 @@ pub fn text_page(
     let load = FontLoad {
         slot: 0,
         name,
-        size: None, // its design size; else Some(FontSize)
+        size: None, // its design size, or Some(FontSize)
     };
     job.step(&Command::LoadFont(load))?;
     job.step(&Command::UseFont(0))?;

@@ -1,4 +1,4 @@
-//! What the examples are run on.
+//! The values that the examples are run on.
 
 ghost use Rattle.std.specs.Prelude.{IfOk};
 ghost use Rattle.dvi_layout.specs.Fonts.{Slots};

@@ -12,30 +12,30 @@ use Rattle.node_core.specs.declared.tree.BoxNode.{BoxNode}
 use Rattle.node_core.specs.Items.{Leaf, glyph, font_kern, kern, glue, penalty, rule, special}
 use Rattle.dvi_ops.proofs.Appends.{all_append, all_weaker}
 use Rattle.dvi_layout.specs.declared.fonts.LoadedFont.{LoadedFont}
-use Rattle.command_core.specs.declared.command.Command.{Command}
-use Rattle.command_core.specs.declared.command.Command.TheVariants.{LoadFont, UseFont, Open, Paragraph, End, Text, Character, Rule, Kern, Glue, Penalty, Append, Unbox, LastBox, Split, Measure, Void, Set, Count, Special, Ship}
-use Rattle.command_core.specs.declared.command.Refusal.{Refusal}
-use Rattle.command_core.specs.Reply.{Reply}
+use Rattle.job_commands.specs.declared.command.Command.{Command}
+use Rattle.job_commands.specs.declared.command.Command.TheVariants.{LoadFont, UseFont, Open, Paragraph, End, Text, Character, Rule, Kern, Glue, Penalty, Append, Unbox, LastBox, Split, Measure, Void, Set, Count, Special, Ship}
+use Rattle.job_commands.specs.declared.command.Refusal.{Refusal}
+use Rattle.job_commands.specs.Reply.{Reply}
 use Rattle.dvi_layout.specs.Fonts.{Slots, font_in}
-use Rattle.nest_core.specs.FontSlots.{font_of, with_font, glyph_by}
-use Rattle.state_core.specs.Sized.{IsSizedLeaf, IsSoundBox, HasSizedGlyphs}
+use Rattle.job_machine.specs.FontSlots.{font_of_slot, with_font, glyph_by}
+use Rattle.job_state.specs.Sized.{IsSizedLeaf, IsSoundBox, HasSizedGlyphs}
 use Rattle.dvi_layout.proofs.Leaves.{each_leaf}
-use Rattle.state_core.proofs.KeptRest.{KeepsRest, end_keeps, append_keeps, unbox_keeps}
-use Rattle.ship_core.specs.Marks.{Page}
-use Rattle.nest_core.specs.State.{State, font_for, held_in}
-use Rattle.nest_core.specs.Checks.{checks, first_of}
-use Rattle.nest_core.specs.NextPages.{pages_of}
-use Rattle.nest_core.specs.Effects.{after, new_pages}
-use Rattle.nest_core.specs.Machine.{Machine, first_machine, state_by}
-use Rattle.nest_core.specs.Runs.{Steps, Replies, LacksMemory, LosesDevice, Run}
+use Rattle.job_machine.proofs.KeptRest.{KeepsRest, end_keeps, append_keeps, unbox_keeps}
+use Rattle.ship_core.specs.Marks.{ShippedPage}
+use Rattle.job_machine.specs.State.{State, font_for, held_in}
+use Rattle.job_machine.specs.Checks.{checks, first_refusal}
+use Rattle.job_machine.specs.NextPages.{shipped_pages}
+use Rattle.job_machine.specs.Effects.{after, new_pages}
+use Rattle.job_machine.specs.Machine.{Machine, first_machine, state_by}
+use Rattle.job_machine.specs.Runs.{StepsTo, Replies, LacksMemory, LosesDevice, Run}
 use Rattle.job_core.specs.GlyphWidths.{HasFileWidth, IsMeasured, IsMeasuredPage}
 use Rattle.dvi_layout.proofs.EachOf.{each_set, each_copy, each_held}
-use Rattle.state_core.proofs.SizedGlyphs.{sized_first, sized_after, sized_held, stays_sized}
-use Rattle.state_core.proofs.LoadedFonts.{read_again, widths_in}
+use Rattle.job_state.proofs.SizedGlyphs.{sized_first, sized_after, sized_held, stays_sized}
+use Rattle.job_state.proofs.LoadedFonts.{read_again, widths_in}
 
 -- A font is what the first file of its name gives at its size.
 abbrev IsRead : List NamedBytes → LoadedFont → Type 0
-IsRead files loaded = font_of (file_named loaded.name files) (Some loaded.font.size) ≡ Ok loaded.font
+IsRead files loaded = font_of_slot (file_named loaded.name files) (Some loaded.font.size) ≡ Ok loaded.font
 
 abbrev AreRead : State → Type 0
 AreRead s = AllByRecursion (λ slot. IfSome slot (IsRead s.files)) s.fonts
@@ -46,7 +46,7 @@ record IsKnown (m : Machine) : Type 0 where
   sized : HasSizedGlyphs m.state
   pages : AllByRecursion (λ page. IsSoundBox m.state.fonts page.box_node) m.pages
 
-read_with : (files : List NamedBytes) (fonts : Slots) (slot : ℕ) (name : List ℕ) (size : Option _) (read : Result SizedFont Refusal) → font_of (file_named name files) size ≡ read
+read_with : (files : List NamedBytes) (fonts : Slots) (slot : ℕ) (name : List ℕ) (size : Option _) (read : Result SizedFont Refusal) → font_of_slot (file_named name files) size ≡ read
     → AllByRecursion (λ slot. IfSome slot (IsRead files)) fonts → AllByRecursion (λ slot. IfSome slot (IsRead files)) (with_font fonts slot name read)
 read_with files fonts slot name size (Err refusal) is all = all
 read_with files fonts slot name size (Ok font) is all =
@@ -80,10 +80,10 @@ read_after s (Count counting) all = all
 read_after s (Special text) all = all
 read_after s (Ship r) all = all
 
-abbrev IsSizedPage : Slots → Page → Type 0
+abbrev IsSizedPage : Slots → ShippedPage → Type 0
 IsSizedPage fonts page = IsSoundBox fonts page.box_node
 
-sized_page : (s : State) (r : ℕ) (held : Option BoxNode) → held_in s.registers r ≡ held → HasSizedGlyphs s → AllByRecursion (IsSizedPage s.fonts) (pages_of s held)
+sized_page : (s : State) (r : ℕ) (held : Option BoxNode) → held_in s.registers r ≡ held → HasSizedGlyphs s → AllByRecursion (IsSizedPage s.fonts) (shipped_pages s held)
 sized_page s r None is sized = tt
 sized_page s r (Some b) is sized = (sized_held s r b sized is, tt)
 
@@ -110,7 +110,7 @@ new_sized s (Count counting) sized = tt
 new_sized s (Special text) sized = tt
 new_sized s (Ship r) sized = sized_page s r (held_in s.registers r) refl sized
 
-known_step : (m : Machine) (command : Command) (refused : Option Refusal) → first_of (checks m.state command) ≡ refused → IsKnown m
+known_step : (m : Machine) (command : Command) (refused : Option Refusal) → first_refusal (checks m.state command) ≡ refused → IsKnown m
     → IsKnown (record { state = state_by refused m.state (after m.state command); pages = state_by refused m.pages (m.pages ++ new_pages m.state command); flight = m.flight })
 known_step m command (Some refusal) is known = record { read = known.read; sized = known.sized; pages = known.pages }
 known_step m command None is known =
@@ -123,8 +123,8 @@ known_step m command None is known =
           (all_append (IsSizedPage m.state.fonts) m.pages (new_pages m.state command) known.pages (new_sized m.state command known.sized));
     }
 
-known_next : (m : Machine) (n : ℕ) (command : Command) (reply : Reply) (next : Machine) (k : ℕ) → Steps m n command reply next k → IsKnown m → IsKnown next
-known_next m n command reply next k (Replies says goes counts) known = subst IsKnown (sym goes) (known_step m command (first_of (checks m.state command)) refl known)
+known_next : (m : Machine) (n : ℕ) (command : Command) (reply : Reply) (next : Machine) (k : ℕ) → StepsTo m n command reply next k → IsKnown m → IsKnown next
+known_next m n command reply next k (Replies says goes counts) known = subst IsKnown (sym goes) (known_step m command (first_refusal (checks m.state command)) refl known)
 known_next m n command reply next k (LacksMemory says takes may goes counts) known = subst IsKnown (sym goes) known
 known_next m n command reply next k (LosesDevice says ships may goes counts) known =
     subst IsKnown (sym goes) (record { read = known.read; sized = record { nest = known.sized.nest; registers = known.sized.registers }; pages = known.pages })

@@ -11,10 +11,10 @@ use Rattle.dvi_layout.specs.declared.fonts.LoadedFont.{LoadedFont}
 use Rattle.dvi_layout.specs.Fonts.{Slots, font_in}
 use Rattle.dvi_layout.specs.Shippable.{slot_widths, IsShippable}
 use Rattle.dvi_layout.proofs.Leaves.{each_leaf}
-use Rattle.nest_core.specs.FontSlots.{glyph_by}
-use Rattle.state_core.specs.Loaded.{AreLoaded}
-use Rattle.state_core.specs.Sized.{IsSizedLeaf, IsSoundBox}
-use Rattle.state_core.proofs.LoadedFonts.{loaded_in, code_small}
+use Rattle.job_machine.specs.FontSlots.{glyph_by}
+use Rattle.job_state.specs.Loaded.{AreLoaded}
+use Rattle.job_state.specs.Sized.{IsSizedLeaf, IsSoundBox}
+use Rattle.job_state.proofs.LoadedFonts.{loaded_in, code_small}
 
 module _ (files : List NamedBytes) (fonts : Slots) (loaded : AreLoaded files fonts) where
   glyph_width : (s code : ℕ) (size : GlyphSize) (x : Option LoadedFont) → font_in fonts s ≡ x → glyph_by x code ≡ Some size

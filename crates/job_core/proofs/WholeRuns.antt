@@ -1,19 +1,17 @@
--- Runs one behind another, and a job from its beginning to its end.
-use Rattle.std.proofs.Common.{◌≡◌, ◌≢◌, ℕ, List, [], ◌∷◌, ◌++◌, length, Result, Ok, Err, refl, ap, sym, ◌∙◌, subst}
+-- Consecutive runs, and a job from its beginning to its end.
+use Rattle.std.proofs.Common.{◌≡◌, ◌≢◌, ℕ, List, [], ◌∷◌, ◌++◌, length, Result, Ok, Err, refl, sym, subst}
 use Rattle.std.specs.Prelude.{IfOk, IfSome}
-use Rattle.command_core.specs.declared.command.Command.{Command}
-use Rattle.command_core.specs.declared.command.Refusal.{Refusal}
-use Rattle.command_core.specs.declared.command.Refusal.TheVariants.{Device}
-use Rattle.command_core.specs.declared.command.Summary.{Summary}
-use Rattle.command_core.specs.Reply.{Reply}
+use Rattle.job_commands.specs.declared.command.Command.{Command}
+use Rattle.job_commands.specs.declared.command.Refusal.{Refusal}
+use Rattle.job_commands.specs.declared.command.Refusal.TheVariants.{Device}
+use Rattle.job_commands.specs.declared.command.Summary.{Summary}
+use Rattle.job_commands.specs.Reply.{Reply}
 use Rattle.tfm_core.specs.NamedBytes.{NamedBytes}
-use Rattle.state_core.proofs.KeptRest.{job_kept}
-use Rattle.job_core.proofs.Moves.{counted}
+use Rattle.job_machine.proofs.RunLaws.{files_kept}
 use Rattle.dvi_layout.specs.Layout.{whole}
-use Rattle.nest_core.specs.Checks.{first_of, checks}
-use Rattle.nest_core.specs.Machine.{Machine, first_machine}
-use Rattle.nest_core.specs.Runs.{Steps, Replies, LacksMemory, LosesDevice, Run, Finishes, Finished, Refuses, WantsMemory, LostDevice}
-use Rattle.job_core.specs.Jobs.{Seen, Holds, KeepsTo, RunsTo, FinishesTo}
+use Rattle.job_machine.specs.Machine.{Machine, first_machine}
+use Rattle.job_machine.specs.Runs.{Run, Finishes, Finished, Refuses, WantsMemory, LostDevice}
+use Rattle.job_core.specs.Jobs.{JobView, Represents, KeepsTo, RunsTo, FinishesTo}
 use Rattle.job_core.specs.Closing.{ClosesFile}
 use Rattle.job_core.specs.Shown.{FilesPages, GivesFiles}
 use Rattle.job_core.specs.Headline.{IsDone}
@@ -29,17 +27,17 @@ run_behind m n (c ∷ commands) (r ∷ replies) middle i more others next k run 
     (run.0, run.1, run.2, run_behind run.0 run.1 commands replies middle i more others next k run.3 later)
 
 pub runs_behind :
-    (old middle new : Seen) (commands more : List Command) (replies others : List Reply)
+    (old middle new : JobView) (commands more : List Command) (replies others : List Reply)
     → RunsTo old commands replies middle → RunsTo middle more others new → RunsTo old (commands ++ more) (replies ++ others) new
 runs_behind old middle new commands more replies others ran later m holds =
     let first = ran m holds in
     let last = later first.0 first.2 in
     (last.0, run_behind m old.failed commands replies first.0 middle.failed more others last.0 new.failed first.1 last.1, last.2)
 
-pub no_run : (job : Seen) → RunsTo job [] [] job
+pub no_run : (job : JobView) → RunsTo job [] [] job
 no_run job m holds = (m, (refl, refl), holds)
 
-pub one_run : (old new : Seen) (command : Command) (reply : Reply) → KeepsTo old command reply new → RunsTo old (command ∷ []) (reply ∷ []) new
+pub one_run : (old new : JobView) (command : Command) (reply : Reply) → KeepsTo old command reply new → RunsTo old (command ∷ []) (reply ∷ []) new
 one_run old new command reply keeps m holds =
     let next = keeps m holds in
     (next.0, (next.0, new.failed, next.1, (refl, refl)), next.2)
@@ -50,76 +48,36 @@ refused_with refusal = Err refusal
 same_refusal : {a b : Refusal} → refused_with a ≡ refused_with b → a ≡ b
 same_refusal e = cc
 
--- An end that is refused, but not since the device failed, is a run of no command.
+-- An end that is refused for another cause than the device is a run of no command.
 unfinished : (m next : Machine) (n k : ℕ) (refusal : Refusal) → refusal ≢ Device → Finishes m n (Err refusal) next k → Run m n [] [] next k
 unfinished m next n k refusal other (Finished summary says may pages goes counts) = cc
 unfinished m next n k refusal other (Refuses r says is goes counts) = (goes, counts)
 unfinished m next n k refusal other (WantsMemory says may some goes counts) = (goes, counts)
 unfinished m next n k refusal other (LostDevice says may some goes counts) = absurd (other (same_refusal says))
 
-pub refused_end : (old new : Seen) (refusal : Refusal) → refusal ≢ Device → FinishesTo old (Err refusal) new → RunsTo old [] [] new
+pub refused_end : (old new : JobView) (refusal : Refusal) → refusal ≢ Device → FinishesTo old (Err refusal) new → RunsTo old [] [] new
 refused_end old new refusal other finishes m holds =
     let next = finishes m holds in
     (next.0, unfinished m next.0 old.failed new.failed refusal other next.1, next.2)
 
--- The state of a machine counts its pages.
-abbrev pub AreCounted : Machine → Type 0
-AreCounted m = m.state.pages ≡ length m.pages
-
--- A command leaves the font files as they are.
-files_of : Machine → List NamedBytes
-files_of m = m.state.files
-
-one_keeps : (m : Machine) (n : ℕ) (command : Command) (reply : Reply) (next : Machine) (k : ℕ) → Steps m n command reply next k → files_of next ≡ files_of m
-unfolding files_of
-one_keeps m n command reply next k (Replies says goes counts) = ap files_of goes ∙ (job_kept m.state command).files
-one_keeps m n command reply next k (LacksMemory says takes may goes counts) = ap files_of goes
-one_keeps m n command reply next k (LosesDevice says ships may goes counts) = ap files_of goes
-
--- A run leaves the font files as they are.
-pub files_kept : (m : Machine) (n : ℕ) (commands : List Command) (replies : List Reply) (next : Machine) (k : ℕ) → Run m n commands replies next k → next.state.files ≡ m.state.files
-unfolding files_of
-files_kept m n [] [] next k run = ap files_of run.0
-files_kept m n [] (reply ∷ replies) next k run = absurd run
-files_kept m n (command ∷ commands) [] next k run = absurd run
-files_kept m n (command ∷ commands) (reply ∷ replies) next k run =
-    files_kept run.0 run.1 commands replies next k run.3 ∙ one_keeps m n command reply run.0 run.1 run.2
-
--- A step leaves as many pages as its state counts.
-one_counts :
-    (m : Machine) (n : ℕ) (command : Command) (reply : Reply) (next : Machine) (k : ℕ) → Steps m n command reply next k → AreCounted m → AreCounted next
-one_counts m n command reply next k (Replies says goes counts) count =
-    subst AreCounted (sym goes) (counted m.state command m.pages (first_of (checks m.state command)) refl count)
-one_counts m n command reply next k (LacksMemory says takes may goes counts) count = subst AreCounted (sym goes) count
-one_counts m n command reply next k (LosesDevice says ships may goes counts) count = subst AreCounted (sym goes) count
-
--- A run leaves as many pages as the state of its machine counts.
-pub pages_counted :
-    (m : Machine) (n : ℕ) (commands : List Command) (replies : List Reply) (next : Machine) (k : ℕ) → Run m n commands replies next k → AreCounted m → AreCounted next
-pages_counted m n [] [] next k run count = subst AreCounted (sym run.0) count
-pages_counted m n [] (reply ∷ replies) next k run count = absurd run
-pages_counted m n (command ∷ commands) [] next k run count = absurd run
-pages_counted m n (command ∷ commands) (reply ∷ replies) next k run count =
-    pages_counted run.0 run.1 commands replies next k run.3 (one_counts m n command reply run.0 run.1 run.2 count)
-
-sized : (result : Result Summary Refusal) (run ended : Seen) (m : Machine) → Holds run m
-    → IfOk result (λ summary. (m : Machine) → Holds run m → IfSome ended.told (λ bytes. summary.bytes ≡ length bytes))
-    → IfOk result (λ summary. IfSome ended.told (λ bytes. summary.bytes ≡ length bytes))
+sized : (result : Result Summary Refusal) (run ended : JobView) (m : Machine) → Represents run m
+    → IfOk result (λ summary. (m : Machine) → Represents run m → IfSome ended.bytes_written (λ bytes. summary.bytes ≡ length bytes))
+    → IfOk result (λ summary. IfSome ended.bytes_written (λ bytes. summary.bytes ≡ length bytes))
 sized (Ok summary) run ended m holds size = size m holds
 sized (Err refusal) run ended m holds size = tt
 
--- The bytes of the summary, for the machine that the job stands for.
-counted_bytes : (result : Result Summary Refusal) (run : Seen) (m : Machine) → Holds run m
-    → IfOk result (λ summary. (m : Machine) → Holds run m → summary.bytes ≡ length (whole m.state.fonts m.pages))
+-- The bytes of the summary, for the machine that the job represents.
+counted_bytes : (result : Result Summary Refusal) (run : JobView) (m : Machine) → Represents run m
+    → IfOk result (λ summary. (m : Machine) → Represents run m → summary.bytes ≡ length (whole m.state.fonts m.pages))
     → IfOk result (λ summary. summary.bytes ≡ length (whole m.state.fonts m.pages))
 counted_bytes (Ok summary) run m holds count = count m holds
 counted_bytes (Err refusal) run m holds count = tt
 
 pub done :
-    (files : List NamedBytes) (commands : List Command) (replies : List Reply) (result : Result Summary Refusal) (new run ended : Seen)
-    → Holds new (first_machine files) → RunsTo new commands replies run → FinishesTo run result ended → FilesPages run result ended → ClosesFile run result ended
-    → IfOk result (λ summary. (m : Machine) → Holds run m → IfSome ended.told (λ bytes. summary.bytes ≡ length bytes))
-    → IfOk result (λ summary. (m : Machine) → Holds run m → summary.bytes ≡ length (whole m.state.fonts m.pages))
+    (files : List NamedBytes) (commands : List Command) (replies : List Reply) (result : Result Summary Refusal) (new run ended : JobView)
+    → Represents new (first_machine files) → RunsTo new commands replies run → FinishesTo run result ended → FilesPages run result ended → ClosesFile run result ended
+    → IfOk result (λ summary. (m : Machine) → Represents run m → IfSome ended.bytes_written (λ bytes. summary.bytes ≡ length bytes))
+    → IfOk result (λ summary. (m : Machine) → Represents run m → summary.bytes ≡ length (whole m.state.fonts m.pages))
     → IsDone files commands replies result new run ended
 done files commands replies result new run ended begins runs finishes files_pages closes size count =
     let goes = runs (first_machine files) begins in

@@ -1,13 +1,12 @@
 -- How the finished file of a job ends (own).
 use Rattle.std.specs.Prelude.{◌≢◌, [], Result, OnOk, IfSome}
-use Rattle.command_core.specs.declared.command.Refusal.{Refusal}
-use Rattle.command_core.specs.declared.command.Summary.{Summary}
+use Rattle.job_commands.specs.declared.command.Refusal.{Refusal}
+use Rattle.job_commands.specs.declared.command.Summary.{Summary}
 use Rattle.dvi_layout.specs.Closing.{IsClosedFor}
-use Rattle.nest_core.specs.Machine.{Machine}
-use Rattle.job_core.specs.Jobs.{Seen, Holds}
+use Rattle.job_machine.specs.Machine.{Machine}
+use Rattle.job_core.specs.Jobs.{JobView, Represents}
 
--- Where the end succeeds, the bytes that the device has taken are closed for the pages of each machine that the job stood for, unless there are none
--- (own).
-abbrev pub ClosesFile : Seen → Result Summary Refusal → Seen → Type 0
+-- If the end succeeds, the bytes that the device has taken are closed for the pages of each machine that the job represented, unless there are none (own).
+abbrev pub ClosesFile : JobView → Result Summary Refusal → JobView → Type 0
 ClosesFile old result new =
-    (m : Machine) → Holds old m → m.pages ≢ [] → OnOk result (IfSome new.told (λ bytes. IsClosedFor m.state.fonts bytes m.pages))
+    (m : Machine) → Represents old m → m.pages ≢ [] → OnOk result (IfSome new.bytes_written (λ bytes. IsClosedFor m.state.fonts bytes m.pages))

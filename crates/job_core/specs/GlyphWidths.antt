@@ -5,10 +5,10 @@ use Rattle.node_core.specs.declared.tree.Glyph.{Glyph}
 use Rattle.node_core.specs.Items.{Leaf, IfGlyph, EachLeaf}
 use Rattle.dvi_layout.specs.declared.fonts.LoadedFont.{LoadedFont}
 use Rattle.dvi_layout.specs.Fonts.{font_in}
-use Rattle.ship_core.specs.Marks.{Page}
-use Rattle.nest_core.specs.State.{State}
+use Rattle.ship_core.specs.Marks.{ShippedPage}
+use Rattle.job_machine.specs.State.{State}
 
--- A glyph's slot has a font, whose name and size are those of widths that the font files give; and the glyph has its character's width.
+-- The slot of a glyph has a font, for whose name and size the font files give widths; and the glyph has the width of its character.
 pub record HasFileWidth (s : State) (g : Glyph) : Type 0 where
   pub loaded : LoadedFont
   pub slot : font_in s.fonts g.slot ≡ Some loaded
@@ -21,5 +21,5 @@ abbrev pub IsMeasured : State → Leaf → Type 0
 IsMeasured s x = IfGlyph (HasFileWidth s) x
 
 -- Each glyph of a page, in its inner boxes too, has the width that the font files give its character.
-abbrev pub IsMeasuredPage : State → Page → Type 0
+abbrev pub IsMeasuredPage : State → ShippedPage → Type 0
 IsMeasuredPage s page = EachLeaf (IsMeasured s) page.box_node.list

@@ -1,72 +1,73 @@
--- A job, and the machine that it stands for (own).
+-- A job, and the machine that it represents (own).
 use Rattle.std.specs.Prelude.{◌≡◌, ◌≢◌, ◌⊎◌, ◌++◌, [], ℕ, false, true, List, length, Option, Some, None, Result}
-use Rattle.command_core.specs.declared.command.Command.{Command}
-use Rattle.command_core.specs.declared.command.Refusal.{Refusal}
-use Rattle.command_core.specs.declared.command.Summary.{Summary}
-use Rattle.command_core.specs.Reply.{Reply}
-use Rattle.ship_core.specs.Marks.{Page}
-use Rattle.device_core.specs.Told.{grown, GrowsByFront}
-use Rattle.device_core.specs.Beginnings.{Beginning}
+use Rattle.job_commands.specs.declared.command.Command.{Command}
+use Rattle.job_commands.specs.declared.command.Refusal.{Refusal}
+use Rattle.job_commands.specs.declared.command.Summary.{Summary}
+use Rattle.job_commands.specs.Reply.{Reply}
+use Rattle.ship_core.specs.Marks.{ShippedPage}
+use Rattle.dvi_device.specs.Written.{written_then, GrowsByFront}
+use Rattle.dvi_device.specs.Beginnings.{Beginning}
 use Rattle.dvi_layout.specs.Layout.{front, whole}
-use Rattle.dvi_layout.specs.SoFar.{SoFar}
+use Rattle.dvi_layout.specs.SoFar.{ProgressView}
 use Rattle.dvi_write.specs.Writing.{Writing, HasWritten}
-use Rattle.nest_core.specs.State.{State}
-use Rattle.nest_core.specs.Checks.{checks, first_of}
-use Rattle.nest_core.specs.Effects.{new_pages}
-use Rattle.nest_core.specs.Machine.{Machine, state_by}
-use Rattle.nest_core.specs.Runs.{Steps, Run, Finishes}
+use Rattle.job_machine.specs.State.{State}
+use Rattle.job_machine.specs.Checks.{checks, first_refusal}
+use Rattle.job_machine.specs.Effects.{new_pages}
+use Rattle.job_machine.specs.Machine.{Machine, state_by}
+use Rattle.job_machine.specs.Runs.{StepsTo, Run, Finishes}
 
--- What a job is seen as: its kept state, what its writer keeps of the pages that were sent, and of its device the bytes that it tells, how often it
--- failed, and what was sent before it was made.
-pub record Seen : Type 0 where
+-- The view of a job: its state; what its writer keeps of the pages that were sent; and of its device the bytes that it has reported, the number of its
+-- failures, and what was sent before the device was made.
+pub record JobView : Type 0 where
   pub state : State
-  pub so_far : SoFar
-  pub told : Option (List ℕ)
+  pub so_far : ProgressView
+  pub bytes_written : Option (List ℕ)
   pub failed : ℕ
   pub began : Beginning
 
--- The writer of a job: its file is over where the job is.
-abbrev pub writing_of : Seen → Writing
-writing_of job = record { so_far = job.so_far; told = job.told; failed = job.failed; began = job.began; over = job.state.over }
+-- The writer of a job. Its file is over if and only if the job is.
+abbrev pub writing_of : JobView → Writing
+writing_of job = record { so_far = job.so_far; bytes_written = job.bytes_written; failed = job.failed; began = job.began; over = job.state.over }
 
--- What a device that tells these bytes told before it took one.
-abbrev pub untold : Option (List ℕ) → Option (List ℕ)
-untold None = None
-untold (Some bytes) = Some []
+-- What a device had reported before it took a byte, if it reports these bytes now.
+abbrev pub before_writing : Option (List ℕ) → Option (List ℕ)
+before_writing None = None
+before_writing (Some bytes) = Some []
 
--- The pages behind a command.
-abbrev pub pages_after : State → List Page → Command → List Page
-pages_after s pages command = state_by (first_of (checks s command)) pages (pages ++ new_pages s command)
+-- The pages after a command.
+abbrev pub pages_after : State → List ShippedPage → Command → List ShippedPage
+pages_after s pages command = state_by (first_refusal (checks s command)) pages (pages ++ new_pages s command)
 
--- What a writer has written goes on with the pages that a command adds.
-abbrev pub GoesOn : State → Command → Writing → Writing → Type 0
-GoesOn s command old new =
-    (before : Option (List ℕ)) (pages : List Page) → HasWritten s.fonts before old pages → HasWritten s.fonts before new (pages_after s pages command)
+-- What a writer has written continues with the pages that a command adds.
+abbrev pub AppendsPagesOf : State → Command → Writing → Writing → Type 0
+AppendsPagesOf s command old new =
+    (before : Option (List ℕ)) (pages : List ShippedPage) → HasWritten s.fonts before old pages → HasWritten s.fonts before new (pages_after s pages command)
 
--- What the device of a job that is over tells after what it told before: where no page was on its way, the file of the machine's pages or a beginning of it;
--- where one was, a beginning of the file up to the eop of that page.
+-- What the device of a job that is over has reported after what it reported before. If no page was being sent: the file of the machine's pages or a
+-- beginning of it. If one was: a beginning of the file up to the eop of that page.
 abbrev pub HasSent : Machine → Option (List ℕ) → Type 0
-HasSent m told =
-    ((m.flight ≡ []) × ((told ≡ grown (untold told) (whole m.state.fonts m.pages)) ⊎ GrowsByFront (untold told) told (whole m.state.fonts m.pages)))
-    ⊎ ((m.flight ≢ []) × GrowsByFront (untold told) told (front m.state.fonts (m.pages ++ m.flight)))
+HasSent m bytes_written =
+    ((m.flight ≡ []) × ((bytes_written ≡ written_then (before_writing bytes_written) (whole m.state.fonts m.pages)) ⊎ GrowsByFront (before_writing bytes_written) bytes_written (whole m.state.fonts m.pages)))
+    ⊎ ((m.flight ≢ []) × GrowsByFront (before_writing bytes_written) bytes_written (front m.state.fonts (m.pages ++ m.flight)))
 
--- A job stands for a machine: it keeps the machine's state, and until it is over it has written the machine's pages: what its device tells are all
--- bytes of them up to the last eop, and no other. Once it is over, no other than these went out, or than a beginning of the page that was on its way.
-pub record Holds (job : Seen) (m : Machine) : Type 0 where
+-- A job represents a machine: it has the machine's state, and until it is over it has written the machine's pages: its device reports all bytes of
+-- them up to the last eop, and no others. Once the job is over, no other bytes were sent than these, or than a beginning of the page that was being
+-- sent.
+pub record Represents (job : JobView) (m : Machine) : Type 0 where
   pub state : job.state ≡ m.state
   pub count : m.state.pages ≡ length m.pages
-  pub written : m.state.over ≡ false → HasWritten m.state.fonts (untold job.told) (writing_of job) m.pages
+  pub written : m.state.over ≡ false → HasWritten m.state.fonts (before_writing job.bytes_written) (writing_of job) m.pages
   pub none : m.state.over ≡ false → m.flight ≡ []
-  pub sent : m.state.over ≡ true → HasSent m job.told
+  pub sent : m.state.over ≡ true → HasSent m job.bytes_written
 
--- Each machine that the job stood for has stepped to one that it stands for.
-abbrev pub KeepsTo : Seen → Command → Reply → Seen → Type 0
-KeepsTo old command reply new = (m : Machine) → Holds old m → (next : Machine) × Steps m old.failed command reply next new.failed × Holds new next
+-- Each machine that the job represented has stepped to one that it represents.
+abbrev pub KeepsTo : JobView → Command → Reply → JobView → Type 0
+KeepsTo old command reply new = (m : Machine) → Represents old m → (next : Machine) × StepsTo m old.failed command reply next new.failed × Represents new next
 
--- Each machine that the job stood for has run to one that it stands for.
-abbrev pub RunsTo : Seen → List Command → List Reply → Seen → Type 0
-RunsTo old commands replies new = (m : Machine) → Holds old m → (next : Machine) × Run m old.failed commands replies next new.failed × Holds new next
+-- Each machine that the job represented has run to one that it represents.
+abbrev pub RunsTo : JobView → List Command → List Reply → JobView → Type 0
+RunsTo old commands replies new = (m : Machine) → Represents old m → (next : Machine) × Run m old.failed commands replies next new.failed × Represents new next
 
--- Each machine that the job stood for is finished as one that it stands for.
-abbrev pub FinishesTo : Seen → Result Summary Refusal → Seen → Type 0
-FinishesTo old result new = (m : Machine) → Holds old m → (next : Machine) × Finishes m old.failed result next new.failed × Holds new next
+-- Each machine that the job represented is finished as one that it represents.
+abbrev pub FinishesTo : JobView → Result Summary Refusal → JobView → Type 0
+FinishesTo old result new = (m : Machine) → Represents old m → (next : Machine) × Finishes m old.failed result next new.failed × Represents new next

@@ -1,33 +1,33 @@
 //! The job: commands are run, and each page goes to a device when it is shipped.
 
 ghost use Rattle.std.specs.Prelude.{◌≡◌, ◌≢◌, ◌<◌, ◌+◌, ◌^◌, ◌++◌, [], true, false, None, Err, List, length, IfOk, IfErr, OnOk, OnErr, IfSome};
-ghost use Rattle.command_core.specs.declared.command.Command.TheVariants as commands;
-ghost use Rattle.command_core.specs.declared.command.Refusal.{Refusal};
-ghost use Rattle.command_core.specs.Reply.{Reply as AReply};
-ghost use Rattle.device_core.specs.Told.{grown, GrowsByFront, IsFrontOf};
+ghost use Rattle.job_commands.specs.declared.command.Command.TheVariants as commands;
+ghost use Rattle.job_commands.specs.declared.command.Refusal.{Refusal};
+ghost use Rattle.job_commands.specs.Reply.{Reply as AReply};
+ghost use Rattle.dvi_device.specs.Written.{written_then, GrowsByFront, IsFrontOf};
 ghost use Rattle.dvi_layout.specs.Layout.{front, whole};
-ghost use Rattle.state_core.specs.Keeping.{unshipped};
-ghost use Rattle.state_core.specs.Loaded.{GivesNumbersFor};
-ghost use Rattle.nest_core.specs.Checks.{first_of};
-ghost use Rattle.nest_core.specs.Effects.{new_pages};
-ghost use Rattle.nest_core.specs.Machine.{Machine, first_machine, reply_to, state_after};
-ghost use Rattle.nest_core.specs.Runs.{IsShip, TakesMemory, early_checks};
-ghost use Rattle.job_core.specs.Jobs.{Holds, KeepsTo, RunsTo, FinishesTo, untold};
-ghost use Rattle.job_core.specs.Sound.{IsSound, refusal_for, seen_by};
+ghost use Rattle.job_state.specs.JobStateView.{before_shipping};
+ghost use Rattle.job_state.specs.Loaded.{GivesNumbersFor};
+ghost use Rattle.job_machine.specs.Checks.{first_refusal};
+ghost use Rattle.job_machine.specs.Effects.{new_pages};
+ghost use Rattle.job_machine.specs.Machine.{Machine, first_machine, reply_to, state_after};
+ghost use Rattle.job_machine.specs.Runs.{IsShip, MayRunOutOfMemory, early_checks};
+ghost use Rattle.job_core.specs.Jobs.{Represents, KeepsTo, RunsTo, FinishesTo, before_writing};
+ghost use Rattle.job_core.specs.Sound.{IsSound, refusal_for, view_of};
 ghost use Rattle.job_core.specs.Shown.{FilesPages};
 ghost use Rattle.job_core.specs.Closing.{ClosesFile};
 
-use command_core::{Answer, Command, Refusal, Register, Reply, Summary};
-use device_core::Device;
+use dvi_device::Device;
 use dvi_layout::WriteFault;
 use dvi_write::DviWriter;
+use job_commands::{Answer, Command, Refusal, Register, Reply, Summary};
+use job_state::job_state::JobState;
 use node_core::Node;
-use state_core::kept::Kept;
 use std::alloc::{AllocError, Global};
 use std::marker::Model;
 use tfm_core::FontFile;
 
-/// What a job replies where its writer does not take a page.
+/// The refusal of a job if its writer does not take a page.
 fn refusal_for(fault: WriteFault) -> Refusal
     ensures { result ≡ refusal_for fault }
 {
@@ -42,20 +42,21 @@ fn refusal_for(fault: WriteFault) -> Refusal
     }
 }
 
-/// Ships the box in a register: its page goes out, and the register is void then. The writer says why a page is not taken.
+/// Ships the box in a register: its page goes to the device, and then the register is void. After a refusal the register keeps its box. The writer decides why
+/// a page is refused, in the order of the machine's checks.
 fn ship_page<D: Device>(
-    kept: &mut Kept,
+    kept: &mut JobState,
     writer: &mut DviWriter<D>,
     alloc: Global,
     register: Register,
 ) -> Reply
     requires running { writer.old.over ≡ false }
-    requires sound { IsSound (unshipped kept.old) }
-    ensures keeps { KeepsTo (seen_by kept.old writer.old) (commands.Ship register) result (seen_by kept.new writer.new) }
-    ensures sound { IsSound (unshipped kept.new) }
-    ensures unsent { IfErr result (λ refusal. refusal ≢ Refusal.Device → writer.new.told ≡ writer.old.told) }
-    ensures part { result ≡ Err Refusal.Device → (m : Machine) → Holds (seen_by kept.old writer.old) m
-        → GrowsByFront (untold writer.old.told) writer.new.told (front m.state.fonts (m.pages ++ new_pages m.state (commands.Ship register))) }
+    requires sound { IsSound (before_shipping kept.old) }
+    ensures keeps { KeepsTo (view_of kept.old writer.old) (commands.Ship register) result (view_of kept.new writer.new) }
+    ensures sound { IsSound (before_shipping kept.new) }
+    ensures unsent { IfErr result (λ refusal. refusal ≢ Refusal.Device → writer.new.bytes_written ≡ writer.old.bytes_written) }
+    ensures part { result ≡ Err Refusal.Device → (m : Machine) → Represents (view_of kept.old writer.old) m
+        → GrowsByFront (before_writing writer.old.bytes_written) writer.new.bytes_written (front m.state.fonts (m.pages ++ new_pages m.state (commands.Ship register))) }
     ensures began { writer.new.began ≡ writer.old.began }
 {
     let Some(box_node) = kept.held(register) else {
@@ -70,14 +71,14 @@ fn ship_page<D: Device>(
     }
 }
 
-/// Does what a command says that ships nothing.
-fn obey(kept: &mut Kept, command: &Command) -> Result<Reply, AllocError>
+/// Runs a command that ships nothing.
+fn obey(kept: &mut JobState, command: &Command) -> Result<Reply, AllocError>
     requires { IsShip command.now → ⊥ }
-    ensures reply { IfOk result (λ reply. reply ≡ reply_to (unshipped kept.old) command.now) }
-    ensures state { OnOk result (unshipped kept.new ≡ state_after (unshipped kept.old) command.now) }
-    ensures numbers { IfOk result (λ reply. IfOk reply (λ answer. GivesNumbersFor (unshipped kept.old) command.now)) }
-    ensures takes { OnErr result (TakesMemory (unshipped kept.old) command.now) }
-    ensures early { OnErr result (first_of (early_checks (unshipped kept.old) command.now) ≡ None) }
+    ensures reply { IfOk result (λ reply. reply ≡ reply_to (before_shipping kept.old) command.now) }
+    ensures state { OnOk result (before_shipping kept.new ≡ state_after (before_shipping kept.old) command.now) }
+    ensures numbers { IfOk result (λ reply. IfOk reply (λ answer. GivesNumbersFor (before_shipping kept.old) command.now)) }
+    ensures takes { OnErr result (MayRunOutOfMemory (before_shipping kept.old) command.now) }
+    ensures early { OnErr result (first_refusal (early_checks (before_shipping kept.old) command.now) ≡ None) }
     ensures err { OnErr result (kept.new ≡ kept.old) }
 {
     match command {
@@ -105,53 +106,57 @@ fn obey(kept: &mut Kept, command: &Command) -> Result<Reply, AllocError>
     }
 }
 
-/// A job: what it keeps, and the writer of its file on the device.
+/// A job: its state, and the writer of its file over the device.
+///
+/// The proved link to the abstract machine of `job_lists` is `Represents`: the job represents a machine, and each call moves both together.
 #[derive(Drop)]
 pub struct Job<D: Device> {
     alloc: Global,
-    kept: Kept,
+    kept: JobState,
     writer: DviWriter<D>,
 }
 
 impl<D: Device> Model for Job<D> {
-    ghost use Rattle.state_core.specs.Keeping.{unshipped};
-    ghost use Rattle.job_core.specs.Jobs.{Seen};
-    ghost use Rattle.job_core.specs.Sound.{IsSound, seen_by};
+    ghost use Rattle.job_state.specs.JobStateView.{before_shipping};
+    ghost use Rattle.job_core.specs.Jobs.{JobView};
+    ghost use Rattle.job_core.specs.Sound.{IsSound, view_of};
     ghost use Rattle.job_core.specs.SeenCode.{coded_seen};
 
-    ghost Value = { Seen };
+    ghost Value = { JobView };
 
     ghost coded = { coded_seen };
 
-    ghost view = { λ job. seen_by job.kept job.writer };
+    ghost view = { λ job. view_of job.kept job.writer };
 
-    ghost invariant = { λ job. IsSound (unshipped job.kept) };
+    ghost invariant = { λ job. IsSound (before_shipping job.kept) };
 }
 
 impl<D: Device> Job<D> {
     ghost use Rattle.std.specs.Prelude.{◌≡◌, ◌≢◌, ◌<◌, ◌+◌, ◌^◌, ◌++◌, [], true, List, IfOk, IfErr, OnOk, OnErr, IfSome, Err, length};
-    ghost use Rattle.nest_core.specs.Effects.{new_pages};
-    ghost use Rattle.nest_core.specs.Machine.{Machine, first_machine};
+    ghost use Rattle.job_machine.specs.Effects.{new_pages};
+    ghost use Rattle.job_machine.specs.Machine.{Machine, first_machine};
     ghost use Rattle.dvi_layout.specs.Layout.{front, whole};
-    ghost use Rattle.device_core.specs.Told.{grown, GrowsByFront, IsFrontOf};
-    ghost use Rattle.command_core.specs.declared.command.Command.TheVariants as commands;
-    ghost use Rattle.command_core.specs.declared.command.Refusal.{Refusal};
-    ghost use Rattle.command_core.specs.Reply.{Reply as AReply};
-    ghost use Rattle.job_core.specs.Jobs.{Holds, KeepsTo, RunsTo, FinishesTo, untold};
+    ghost use Rattle.dvi_device.specs.Written.{written_then, GrowsByFront, IsFrontOf};
+    ghost use Rattle.job_commands.specs.declared.command.Command.TheVariants as commands;
+    ghost use Rattle.job_commands.specs.declared.command.Refusal.{Refusal};
+    ghost use Rattle.job_commands.specs.Reply.{Reply as AReply};
+    ghost use Rattle.job_core.specs.Jobs.{Represents, KeepsTo, RunsTo, FinishesTo, before_writing};
     ghost use Rattle.job_core.specs.Shown.{FilesPages};
     ghost use Rattle.job_core.specs.Closing.{ClosesFile};
 
-    /// A new job. It copies the font files. Where memory is refused, it hands the device back.
+    /// A new job with these font files, which it copies. The device must have reported no byte yet, so that the file of the job is all that it gets.
+    ///
+    /// If memory is refused, the error is the device, unchanged.
     pub fn new(alloc: Global, device: D, files: &[FontFile]) -> Result<Job<D>, D>
         requires countable { D.failed device + 1 < 2 ^ 64 }
-        requires fresh { IfSome (D.told device) (λ bytes. bytes ≡ []) }
-        ensures ok { IfOk result (λ job. Holds job (first_machine files.now)) }
+        requires fresh { IfSome (D.bytes_written device) (λ bytes. bytes ≡ []) }
+        ensures ok { IfOk result (λ job. Represents job (first_machine files.now)) }
         ensures failed { IfOk result (λ job. job.failed ≡ D.failed device) }
-        ensures told { IfOk result (λ job. job.told ≡ D.told device) }
+        ensures bytes_written { IfOk result (λ job. job.bytes_written ≡ D.bytes_written device) }
         ensures began { IfOk result (λ job. job.began ≡ D.began device) }
-        ensures back { IfErr result (λ back. back ≡ device) }
+        ensures device_returned { IfErr result (λ back. back ≡ device) }
     {
-        let Ok(kept) = Kept::new(alloc, files) else {
+        let Ok(kept) = JobState::new(alloc, files) else {
             return Err(device);
         };
         Ok(Job {
@@ -161,16 +166,16 @@ impl<D: Device> Job<D> {
         })
     }
 
-    /// Does what a command says, and answers it; or refuses it, and nothing has changed, but that the job is over after a Device. A job that is
-    /// over is left as it is, and so is its device.
+    /// Runs one command. A page goes to the device when it is shipped, and it is whole in memory before.
     ///
-    /// A page goes to the device when it is shipped. Where the device fails then, it has taken a beginning of the file up to this page.
+    /// A refusal has the cause that its text gives, and leaves the job as it was. Only Device differs: the device has then got a beginning of the file
+    /// up to this page, and the job is over. A job that is over refuses every command with JobOver.
     pub fn step(&mut self, command: &Command) -> Result<Answer, Refusal>
         ensures keeps { KeepsTo self.old command.now result self.new }
         ensures idle { self.old.state.over ≡ true → self.new ≡ self.old }
-        ensures unsent { IfErr result (λ refusal. refusal ≢ Refusal.Device → self.new.told ≡ self.old.told) }
-        ensures part { result ≡ Err Refusal.Device → (m : Machine) → Holds self.old m
-            → GrowsByFront (untold self.old.told) self.new.told (front m.state.fonts (m.pages ++ new_pages m.state command.now)) }
+        ensures unsent { IfErr result (λ refusal. refusal ≢ Refusal.Device → self.new.bytes_written ≡ self.old.bytes_written) }
+        ensures part { result ≡ Err Refusal.Device → (m : Machine) → Represents self.old m
+            → GrowsByFront (before_writing self.old.bytes_written) self.new.bytes_written (front m.state.fonts (m.pages ++ new_pages m.state command.now)) }
         ensures began { self.new.began ≡ self.old.began }
     {
         if self.writer.is_over() {
@@ -185,8 +190,9 @@ impl<D: Device> Job<D> {
         reply
     }
 
-    /// Does what the commands say, one after the other, and appends a reply for each. It makes room for all replies first: refused,
-    /// it has done nothing.
+    /// Runs the commands in order, and appends one reply for each. A refused command does not stop the run.
+    ///
+    /// The error is a refused growth: room for all replies is made first, so no command was run then, and `replies` is as before.
     pub fn run(&mut self, commands: &[Command], replies: &mut Vec<Reply>) -> Result<(), AllocError>
         ensures ran { OnOk result ((added : List AReply) × (replies.new.items ≡ replies.old.items ++ added) × RunsTo self.old commands.now added self.new) }
         ensures none { OnErr result (self.new ≡ self.old) }
@@ -204,22 +210,26 @@ impl<D: Device> Job<D> {
         Ok(())
     }
 
-    /// Ends the job: where there are pages, the end of their file goes to the device. All memory is taken before that. Refused with JobOver, ListsOpen
-    /// or OutOfMemory, it has changed nothing; with Device, the job is over.
+    /// Ends the job: if there are pages, the end of their file goes to the device, and all memory is taken before that. The summary reports
+    /// the pages and the bytes of the file. The job is over then.
+    ///
+    /// Refusals: JobOver if the job is over already, ListsOpen while a list is open, OutOfMemory for a refused growth: nothing has changed after these
+    /// three, so all shipped pages were sent, and no end of the file. Device if the device failed: the job is over, and the device has got a beginning
+    /// of the file.
     pub fn finish(&mut self) -> Result<Summary, Refusal>
         ensures finished { FinishesTo self.old result self.new }
         ensures idle { self.old.state.over ≡ true → self.new ≡ self.old }
-        ensures file { (m : Machine) → Holds self.old m → OnOk result (IfSome self.new.told (λ bytes. bytes ≡ whole m.state.fonts m.pages)) }
+        ensures file { (m : Machine) → Represents self.old m → OnOk result (IfSome self.new.bytes_written (λ bytes. bytes ≡ whole m.state.fonts m.pages)) }
         ensures dvi { FilesPages self.old result self.new }
         ensures end { ClosesFile self.old result self.new }
-        ensures size { IfOk result (λ summary. (m : Machine) → Holds self.old m → IfSome self.new.told (λ bytes. summary.bytes ≡ length bytes)) }
-        ensures count { IfOk result (λ summary. (m : Machine) → Holds self.old m → summary.bytes ≡ length (whole m.state.fonts m.pages)) }
-        ensures front { result ≡ Err Refusal.Device → (m : Machine) → Holds self.old m → IfSome self.new.told (λ bytes. IsFrontOf bytes (whole m.state.fonts m.pages)) }
+        ensures size { IfOk result (λ summary. (m : Machine) → Represents self.old m → IfSome self.new.bytes_written (λ bytes. summary.bytes ≡ length bytes)) }
+        ensures count { IfOk result (λ summary. (m : Machine) → Represents self.old m → summary.bytes ≡ length (whole m.state.fonts m.pages)) }
+        ensures front { result ≡ Err Refusal.Device → (m : Machine) → Represents self.old m → IfSome self.new.bytes_written (λ bytes. IsFrontOf bytes (whole m.state.fonts m.pages)) }
 
-        // What the device tells behind what it told before the job: the file, a beginning of it, or what it told already.
-        ensures sent { OnOk result ((m : Machine) → Holds self.old m → self.new.told ≡ grown (untold self.old.told) (whole m.state.fonts m.pages)) }
-        ensures part { result ≡ Err Refusal.Device → (m : Machine) → Holds self.old m → GrowsByFront (untold self.old.told) self.new.told (whole m.state.fonts m.pages) }
-        ensures unsent { IfErr result (λ refusal. refusal ≢ Refusal.Device → self.new.told ≡ self.old.told) }
+        // What the device has reported after what it reported before the job: the file, a beginning of it, or no more than before the call.
+        ensures sent { OnOk result ((m : Machine) → Represents self.old m → self.new.bytes_written ≡ written_then (before_writing self.old.bytes_written) (whole m.state.fonts m.pages)) }
+        ensures part { result ≡ Err Refusal.Device → (m : Machine) → Represents self.old m → GrowsByFront (before_writing self.old.bytes_written) self.new.bytes_written (whole m.state.fonts m.pages) }
+        ensures unsent { IfErr result (λ refusal. refusal ≢ Refusal.Device → self.new.bytes_written ≡ self.old.bytes_written) }
         ensures began { self.new.began ≡ self.old.began }
     {
         if self.writer.is_over() {
@@ -239,9 +249,18 @@ impl<D: Device> Job<D> {
         })
     }
 
-    /// The device.
+    /// Lends the device.
+    pub fn device(&self) -> &D
+        ensures bytes_written { D.bytes_written result.now ≡ self.now.bytes_written }
+        ensures failed { D.failed result.now ≡ self.now.failed }
+        ensures began { D.began result.now ≡ self.now.began }
+    {
+        self.writer.device()
+    }
+
+    /// Returns the device, and drops the rest of the job.
     pub fn into_device(self) -> D
-        ensures told { D.told result ≡ self.told }
+        ensures bytes_written { D.bytes_written result ≡ self.bytes_written }
         ensures failed { D.failed result ≡ self.failed }
         ensures began { D.began result ≡ self.began }
     {

@@ -1,32 +1,32 @@
--- Flags that are made from the last movement to the first, and taken back from the first to the last; and a turn of the pass that writes in place.
+-- Flags that are made from the last movement to the first, and consumed from the first to the last; and one step of the pass that writes in place.
 use Rattle.std.proofs.Common.{◌≡◌, ◌<◌, ◌+◌, ◌-◌, ◌∷◌, [], ◌++◌, List, ℕ, Bool, true, false, cond, Option, Some, None, refl, sym, ◌∙◌, ap, ap₂, reverse, length, get_or, set, take, drop, map, unwrap_or, arith}
 use Rattle.std.specs.Prelude.{option_to_list, MatchOption}
 use Rattle.std.proofs.lemmas.List.{append_assoc, drop_more, drop-set-lt, length-set, map-append, nil_from_length, reverse-append, take_more, take_more_set}
 use Rattle.dvi_ops.specs.Instruction.{Across, Downward, By, Set, Again, Move, Instruction, Do, Push, Pop}
-use Rattle.dvi_ops.specs.View.{view}
-use Rattle.dvi_ops.specs.declared.op.Op.{Op}
+use Rattle.dvi_ops.specs.View.{body_view}
+use Rattle.dvi_ops.specs.declared.body_op.BodyOp.{BodyOp}
 use Rattle.move_core.specs.Registers.{Known}
 use Rattle.move_core.specs.Passes.{Groups, again_in, entered, flags_of, is_move, known_behind, op_written, rewritten}
 
--- The instructions from the one in front of i.
-pub in_front : (ops : List Op) (i : ℕ) (d : Op) → 0 < i → i - 1 < length ops →
-    map view (drop (i - 1) ops) ≡ view (get_or ops (i - 1) d) ∷ map view (drop i ops)
+-- The instructions from the one before i on.
+pub in_front : (ops : List BodyOp) (i : ℕ) (d : BodyOp) → 0 < i → i - 1 < length ops →
+    map body_view (drop (i - 1) ops) ≡ body_view (get_or ops (i - 1) d) ∷ map body_view (drop i ops)
 in_front ops i d some within =
     let back : i - 1 + 1 ≡ i = omega arith in
-    ap (λ (ops : List Op). map view ops) (drop_more ops (i - 1) d within ∙ ap (λ (j : ℕ). get_or ops (i - 1) d ∷ drop j ops) back)
+    ap (λ (ops : List BodyOp). map body_view ops) (drop_more ops (i - 1) d within ∙ ap (λ (j : ℕ). get_or ops (i - 1) d ∷ drop j ops) back)
 
--- The instructions from the one at i.
-pub from_here : (ops : List Op) (i : ℕ) (d : Op) → i < length ops → map view (drop i ops) ≡ view (get_or ops i d) ∷ map view (drop (i + 1) ops)
-from_here ops i d within = ap (λ (ops : List Op). map view ops) (drop_more ops i d within)
+-- The instructions from the one at i on.
+pub from_here : (ops : List BodyOp) (i : ℕ) (d : BodyOp) → i < length ops → map body_view (drop i ops) ≡ body_view (get_or ops i d) ∷ map body_view (drop (i + 1) ops)
+from_here ops i d within = ap (λ (ops : List BodyOp). map body_view ops) (drop_more ops i d within)
 
--- The flags in front of a movement, and in front of any other instruction.
+-- The flags from a movement on, and from any other instruction on.
 pub flags_at_move : (i : Instruction) (rest : List Instruction) → is_move i ≡ true → flags_of (i ∷ rest) ≡ again_in i rest ∷ flags_of rest
 flags_at_move i rest e = rw e refl
 
 pub flags_at_other : (i : Instruction) (rest : List Instruction) → is_move i ≡ false → flags_of (i ∷ rest) ≡ flags_of rest
 flags_at_other i rest e = rw e refl
 
--- One flag more.
+-- One more flag.
 pub pushed_flag : (flags flags' : List Bool) (again : Bool) (i : Instruction) (rest : List Instruction) → is_move i ≡ true → flags' ≡ flags ++ again ∷ [] →
     again ≡ again_in i rest → reverse flags ≡ flags_of rest → reverse flags' ≡ flags_of (i ∷ rest)
 pushed_flag flags flags' again i rest move e here behind =
@@ -43,7 +43,7 @@ popped_flag flags flags' (Some again) i rest n n' move e l some all =
     sym (ap reverse e ∙ reverse-append flags' (again ∷ [])) ∙ (all ∙ flags_at_move i rest move) in
     (cc, cc)
 
--- A movement is written by what is known, and enters and leaves no group.
+-- A movement is written by the known values, and enters and leaves no group.
 pub written_move : (known known' : Known) (outer : List Known) (i written : Instruction) (again : Bool) (rest : List Instruction) → is_move i ≡ true →
     again ≡ again_in i rest → written ≡ op_written known i again → known' ≡ known_behind known i again →
     rewritten (i ∷ rest) (record { known = known; outer = outer }) ≡ written ∷ rewritten rest (record { known = known'; outer = outer })
@@ -52,7 +52,7 @@ written_move known known' outer (Do (Move axis (Set register n))) written again 
 written_move known known' outer (Do (Move axis (Again register))) written again rest move e w k = absurd (cc)
 written_move known known' outer i written again rest move e w k = absurd (cc)
 
--- Any other instruction stays, and changes nothing that is known but by entering or leaving a group.
+-- Any other instruction is unchanged, and changes the known values only where it enters or leaves a group.
 pub written_other : (g g' : Groups) (i : Instruction) (rest : List Instruction) → is_move i ≡ false → g' ≡ entered i g →
     rewritten (i ∷ rest) g ≡ i ∷ rewritten rest g'
 written_other g g' (Do (Move axis (By n))) rest other e = absurd (cc)
@@ -63,20 +63,20 @@ written_other g g' (Do (Move Downward (Again register))) rest other e = rw e ref
 written_other g g' (Do leaf) rest other e = rw e refl
 written_other g g' i rest other e = rw e refl
 
--- What stands in front of the next instruction, where the one at i is written anew in its place.
+-- The instructions before the next one, where the one at i was rewritten in place.
 front_more : (front : List Instruction) (i : Instruction) (rest made : List Instruction) → made ≡ i ∷ rest → (front ++ i ∷ []) ++ rest ≡ front ++ made
 front_more front i rest made e = append_assoc front (i ∷ []) rest ∙ ap (λ (is : List Instruction). front ++ is) (sym e)
 
-pub made_at : (ops : List Op) (i : ℕ) (op : Op) (rest made : List Instruction) → i < length ops → made ≡ view op ∷ rest →
-    map view (take (i + 1) (set ops i op)) ++ rest ≡ map view (take i ops) ++ made
+pub made_at : (ops : List BodyOp) (i : ℕ) (op : BodyOp) (rest made : List Instruction) → i < length ops → made ≡ body_view op ∷ rest →
+    map body_view (take (i + 1) (set ops i op)) ++ rest ≡ map body_view (take i ops) ++ made
 made_at ops i op rest made within e =
-    ap (λ (front : List Op). map view front ++ rest) (take_more_set ops i op within)
-    ∙ (ap (λ (front : List Instruction). front ++ rest) (map-append view (take i ops) (op ∷ []))
-    ∙ front_more (map view (take i ops)) (view op) rest made e)
+    ap (λ (front : List BodyOp). map body_view front ++ rest) (take_more_set ops i op within)
+    ∙ (ap (λ (front : List Instruction). front ++ rest) (map-append body_view (take i ops) (op ∷ []))
+    ∙ front_more (map body_view (take i ops)) (body_view op) rest made e)
 
-pub made_past : (ops : List Op) (i : ℕ) (d : Op) (rest made : List Instruction) → i < length ops → made ≡ view (get_or ops i d) ∷ rest →
-    map view (take (i + 1) ops) ++ rest ≡ map view (take i ops) ++ made
+pub made_past : (ops : List BodyOp) (i : ℕ) (d : BodyOp) (rest made : List Instruction) → i < length ops → made ≡ body_view (get_or ops i d) ∷ rest →
+    map body_view (take (i + 1) ops) ++ rest ≡ map body_view (take i ops) ++ made
 made_past ops i d rest made within e =
-    ap (λ (front : List Op). map view front ++ rest) (take_more ops i d within)
-    ∙ (ap (λ (front : List Instruction). front ++ rest) (map-append view (take i ops) (get_or ops i d ∷ []))
-    ∙ front_more (map view (take i ops)) (view (get_or ops i d)) rest made e)
+    ap (λ (front : List BodyOp). map body_view front ++ rest) (take_more ops i d within)
+    ∙ (ap (λ (front : List Instruction). front ++ rest) (map-append body_view (take i ops) (get_or ops i d ∷ []))
+    ∙ front_more (map body_view (take i ops)) (body_view (get_or ops i d)) rest made e)

@@ -1,4 +1,4 @@
--- Instructions without empty groups, which stay as they are.
+-- Instructions without empty groups, which are left unchanged.
 use Rattle.std.proofs.Common.{◌≡◌, ◌∙◌, ◌++◌, [], ◌∷◌, List, Bool, true, false, ◌||◌, refl, ap, sym, reverse, append-nil, append_assoc}
 use Rattle.std.proofs.lemmas.List.{reverse-append}
 use Rattle.dvi_ops.specs.Instruction.{Instruction, Push, Pop}
@@ -16,7 +16,7 @@ neither : (a b : Bool) → (a || b) ≡ false → a ≡ false
 neither false b none = refl
 neither true b none = none
 
--- An empty group ends at an instruction, or behind it.
+-- An empty group ends at an instruction, or after it.
 pub ends_here : (pushed : Bool) (i : Instruction) (rest : List Instruction) (all : Bool) → ends_empty_group pushed i ≡ true → has_empty_group pushed (i ∷ rest) ≡ all → true ≡ all
 ends_here pushed i rest all here is = first_true (ends_empty_group pushed i) (has_empty_group (is_push i) rest) all here is
 
@@ -43,6 +43,6 @@ kept_all (i ∷ rest) out none =
     ∙ (kept_all rest (i ∷ out) (ends_later (is_after_push out) i rest false here none)
     ∙ (ap (λ (front : List Instruction). front ++ rest) (reverse-append (i ∷ []) out) ∙ append_assoc (reverse out) (i ∷ []) rest))
 
--- They stay where there is none.
+-- The instructions are unchanged where there is no empty group.
 pub kept_whole : (is : List Instruction) → has_empty_group false is ≡ false → trimmed is [] ≡ is
 kept_whole is none = kept_all is [] none

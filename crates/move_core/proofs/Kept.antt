@@ -1,34 +1,34 @@
--- What is written for a body is no longer, can be written where the body can, and keeps the other instructions in order.
+-- The written body is no longer, can be written where the given one can, and keeps the other instructions in order.
 use Rattle.std.proofs.Common.{◌≡◌, ◌≤◌, ◌+◌, ◌++◌, ◌∷◌, List, length, ℕ, ℤ, Bool, true, false, refl, sym, ◌∙◌, ap, ap₂, arith, length-append}
 use Rattle.std.specs.List.{AllByRecursion}
 use Rattle.std.proofs.lemmas.Grind.{flat_map-append}
-use Rattle.dvi_ops.specs.Instruction.{Axis, Across, Downward, Register, First, Second, By, Leaf, Move, Instruction, Do, Push, Pop}
+use Rattle.dvi_ops.specs.Instruction.{Axis, Across, Downward, MoveRegister, First, Second, By, BodyLeaf, Move, Instruction, Do, Push, Pop}
 use Rattle.dvi_ops.specs.Spelling.{spelling, leaf_spelling}
 use Rattle.dvi_ops.specs.Layout.{bytes_of, IsWritable}
 use Rattle.dvi_ops.specs.Forest.{Forest, Empty, Then, Group, flat}
 use Rattle.dvi_ops.proofs.Appends.{all_append, all_front, all_back}
-use Rattle.move_core.specs.Registers.{Held, Known, written, other, set_in, choice, is_amount}
+use Rattle.move_core.specs.Registers.{RegisterPair, Known, written, other, set_in, choice, is_amount}
 use Rattle.move_core.specs.Reused.{has_move, comes_again, reused_from, grouped, pruned}
 use Rattle.move_core.specs.SamePage.{still_of, still}
 
-step_shorter : (axis : Axis) (first second again : Bool) (k : Held) (n : ℤ) →
+step_shorter : (axis : Axis) (first second again : Bool) (k : RegisterPair) (n : ℤ) →
     length (spelling (Do (Move axis (choice first second again k n).step))) ≤ length (spelling (Do (Move axis (By n))))
 unfolding spelling leaf_spelling
 step_shorter axis true second again k n = omega arith
 step_shorter axis false true again k n = omega arith
 step_shorter axis false false true k n = by_register (other k.last)
   where
-    by_register : (register : Register) → length (spelling (Do (Move axis (set_in register k n).step))) ≤ length (spelling (Do (Move axis (By n))))
+    by_register : (register : MoveRegister) → length (spelling (Do (Move axis (set_in register k n).step))) ≤ length (spelling (Do (Move axis (By n))))
     by_register First = omega arith
     by_register Second = omega arith
 step_shorter axis false false false k n = omega arith
 
-leaf_shorter : (k : Known) (leaf : Leaf) (again : Bool) → length (spelling (Do (written k leaf again).leaf)) ≤ length (spelling (Do leaf))
+leaf_shorter : (k : Known) (leaf : BodyLeaf) (again : Bool) → length (spelling (Do (written k leaf again).leaf)) ≤ length (spelling (Do leaf))
 leaf_shorter k (Move Across (By n)) again = step_shorter Across (is_amount k.across.first n) (is_amount k.across.second n) again k.across n
 leaf_shorter k (Move Downward (By n)) again = step_shorter Downward (is_amount k.down.first n) (is_amount k.down.second n) again k.down n
 leaf_shorter k leaf again = omega arith
 
--- How many bytes a group takes.
+-- The number of bytes of a group.
 group_length : (inner rest : Forest) → length (bytes_of (flat (Group inner rest)))
     ≡ length (spelling Push) + (length (bytes_of (flat inner)) + (length (spelling Pop) + length (bytes_of (flat rest))))
 group_length inner rest =
@@ -38,7 +38,7 @@ group_length inner rest =
     ∙ (length-append (bytes_of (flat inner)) (bytes_of (Pop ∷ flat rest))
     ∙ ap (λ (n : ℕ). length (bytes_of (flat inner)) + n) (length-append (spelling Pop) (bytes_of (flat rest)))))
 
--- No longer.
+-- The written body is no longer.
 pub reused_shorter : (k : Known) (f : Forest) → length (bytes_of (flat (reused_from k f))) ≤ length (bytes_of (flat f))
 reused_shorter k Empty = omega arith
 reused_shorter k (Then leaf rest) =
@@ -61,11 +61,11 @@ pruned_shorter (Then leaf rest) =
 pruned_shorter (Group inner rest) =
     omega (arith, grouped_shorter (pruned inner) (pruned rest), group_length (pruned inner) (pruned rest), group_length inner rest, pruned_shorter inner, pruned_shorter rest)
 
--- The other instructions of a group and of what stands behind it.
+-- The other instructions of a group and of the rest after it.
 group_still : (inner rest : Forest) → still (flat (Group inner rest)) ≡ still (flat inner) ++ still (flat rest)
 group_still inner rest = flat_map-append still_of (flat inner) (Pop ∷ flat rest)
 
-leaf_still : (k : Known) (leaf : Leaf) (again : Bool) → still_of (Do (written k leaf again).leaf) ≡ still_of (Do leaf)
+leaf_still : (k : Known) (leaf : BodyLeaf) (again : Bool) → still_of (Do (written k leaf again).leaf) ≡ still_of (Do leaf)
 leaf_still k (Move Across (By n)) again = refl
 leaf_still k (Move Downward (By n)) again = refl
 leaf_still k leaf again = refl
@@ -84,37 +84,37 @@ grouped_still (Group first inner) rest = refl
 
 pub pruned_still : (f : Forest) → still (flat (pruned f)) ≡ still (flat f)
 pruned_still Empty = refl
-pruned_still (Then leaf rest) = ap (λ (is : List Leaf). still_of (Do leaf) ++ is) (pruned_still rest)
+pruned_still (Then leaf rest) = ap (λ (is : List BodyLeaf). still_of (Do leaf) ++ is) (pruned_still rest)
 pruned_still (Group inner rest) =
     grouped_still (pruned inner) (pruned rest)
     ∙ (group_still (pruned inner) (pruned rest) ∙ (ap₂ ◌++◌ (pruned_still inner) (pruned_still rest) ∙ sym (group_still inner rest)))
 
-leaf_writable : (k : Known) (leaf : Leaf) (again : Bool) → IsWritable (Do leaf) → IsWritable (Do (written k leaf again).leaf)
+leaf_writable : (k : Known) (leaf : BodyLeaf) (again : Bool) → IsWritable (Do leaf) → IsWritable (Do (written k leaf again).leaf)
 leaf_writable k (Move Across (By n)) again (spelled, fit) = step_writable (is_amount k.across.first n) (is_amount k.across.second n) again k.across
   where
-    step_writable : (first second again : Bool) (k : Held) → IsWritable (Do (Move Across (choice first second again k n).step))
+    step_writable : (first second again : Bool) (k : RegisterPair) → IsWritable (Do (Move Across (choice first second again k n).step))
     step_writable true second again k = (tt, tt)
     step_writable false true again k = (tt, tt)
     step_writable false false true k = by_register (other k.last)
       where
-        by_register : (register : Register) → IsWritable (Do (Move Across (set_in register k n).step))
+        by_register : (register : MoveRegister) → IsWritable (Do (Move Across (set_in register k n).step))
         by_register First = (tt, fit)
         by_register Second = (tt, fit)
     step_writable false false false k = (tt, fit)
 leaf_writable k (Move Downward (By n)) again (spelled, fit) = step_writable (is_amount k.down.first n) (is_amount k.down.second n) again k.down
   where
-    step_writable : (first second again : Bool) (k : Held) → IsWritable (Do (Move Downward (choice first second again k n).step))
+    step_writable : (first second again : Bool) (k : RegisterPair) → IsWritable (Do (Move Downward (choice first second again k n).step))
     step_writable true second again k = (tt, tt)
     step_writable false true again k = (tt, tt)
     step_writable false false true k = by_register (other k.last)
       where
-        by_register : (register : Register) → IsWritable (Do (Move Downward (set_in register k n).step))
+        by_register : (register : MoveRegister) → IsWritable (Do (Move Downward (set_in register k n).step))
         by_register First = (tt, fit)
         by_register Second = (tt, fit)
     step_writable false false false k = (tt, fit)
 leaf_writable k leaf again h = h
 
--- What stands in a group and behind it.
+-- A property of all instructions of a group, inside it and after it.
 group_front : (P : Instruction → Type 0) (inner rest : Forest) → AllByRecursion P (flat (Group inner rest)) → AllByRecursion P (flat inner)
 group_front P inner rest (here, all) = all_front P (flat inner) (Pop ∷ flat rest) all
 

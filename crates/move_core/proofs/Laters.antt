@@ -1,4 +1,4 @@
--- The amounts that come later, in front of a pop and of a push.
+-- The amounts that come later, before a pop and before a push.
 use Rattle.std.proofs.Common.{◌≡◌, ◌+◌, ◌∷◌, [], ◌++◌, List, ℕ, ℤ, zero, suc, false, Option, Some, None, sym, ◌∙◌, ap, reverse, length, unwrap_or}
 use Rattle.std.specs.Prelude.{option_to_list, MatchOption}
 use Rattle.std.proofs.lemmas.List.{reverse-append, nil_from_length}
@@ -6,26 +6,26 @@ use Rattle.dvi_ops.specs.Instruction.{Axis, Instruction, Push, Pop}
 use Rattle.move_core.specs.declared.later.Amounts.{Amounts}
 use Rattle.move_core.specs.Passes.{has, held_at, comes}
 
--- The amounts that were met are those that come.
+-- The collected amounts are those that come.
 abbrev pub KnowsAt : Amounts → List Amounts → List Instruction → Type 0
 KnowsAt here outer rest = (pops : ℕ) → (axis : Axis) → (n : ℤ) → held_at (here ∷ reverse outer) pops axis n ≡ comes rest pops axis n
 
 abbrev pub HasNone : Amounts → Type 0
 HasNone amounts = (axis : Axis) (n : ℤ) → has amounts axis n ≡ false
 
--- Behind all instructions.
+-- After all instructions.
 pub knows_nothing : (here : Amounts) (outer : List Amounts) → HasNone here → outer ≡ [] → KnowsAt here outer []
 knows_nothing here outer none e zero axis n = none axis n
 knows_nothing here outer none e (suc pops) axis n = ap (λ (outer : List Amounts). held_at (reverse outer) pops axis n) e
 
--- In front of a pop.
+-- The amounts before a pop.
 pub knows_pop : (here fresh : Amounts) (outer outer' : List Amounts) (rest : List Instruction) → HasNone fresh → outer' ≡ outer ++ here ∷ [] →
     KnowsAt here outer rest → KnowsAt fresh outer' (Pop ∷ rest)
 knows_pop here fresh outer outer' rest none e knows zero axis n = none axis n
 knows_pop here fresh outer outer' rest none e knows (suc pops) axis n =
     ap (λ (outer : List Amounts). held_at outer pops axis n) (ap reverse e ∙ reverse-append outer (here ∷ [])) ∙ knows pops axis n
 
--- In front of a push.
+-- The amounts before a push.
 pub knows_push : (here fresh : Amounts) (outer outer' : List Amounts) (popped : Option Amounts) (rest : List Instruction) (n n' : ℕ) → HasNone fresh →
     outer ≡ outer' ++ option_to_list popped → length outer ≡ n → length outer' ≡ n' → MatchOption popped ((n ≡ 0) × (n' ≡ 0)) (λ _. n' + 1 ≡ n) →
     KnowsAt here outer rest → KnowsAt (unwrap_or popped fresh) outer' (Push ∷ rest)

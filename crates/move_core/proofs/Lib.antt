@@ -1,4 +1,4 @@
--- Lemmas on what is written for the body of a page.
+-- Lemmas about what is written for the body of a page.
 pub mod Choices
 pub mod Meanings
 pub mod Pruned

@@ -1,7 +1,7 @@
--- A body and what is written for it mean the same, from every state, and pass through the same places.
+-- A body and what is written for it mean the same from every state, and pass through the same places.
 use Rattle.std.proofs.Common.{◌≡◌, ◌++◌, ◌∷◌, List, ℤ, Option, Some, None, Bool, refl, ap, ap₂, ◌+ℤ◌}
-use Rattle.dvi_ops.specs.Instruction.{Across, Downward, By, Set, Again, Leaf, SetChar, PutChar, Move, Do}
-use Rattle.dvi_ops.specs.Body.{Mark, Registers, Place, State, Widths, Meaning, acts, only, glyph, glyph_of, set_glyph, put_glyph, held_after}
+use Rattle.dvi_ops.specs.Instruction.{Across, Downward, By, Set, Again, BodyLeaf, SetChar, PutChar, Move, Do}
+use Rattle.dvi_ops.specs.Body.{Mark, MoveRegisters, Position, DviState, Widths, Meaning, acts, only, glyph, glyph_of, set_glyph, put_glyph, held_after}
 use Rattle.dvi_ops.specs.Forest.{Forest, Empty, Then, Group, ahead, and_then, restored, meaning, points, points_then}
 use Rattle.dvi_ops.specs.Plain.{NamesNoRegister}
 use Rattle.move_core.specs.Registers.{Known, written, choose, is_amount}
@@ -10,26 +10,26 @@ use Rattle.move_core.specs.SamePage.{shown}
 use Rattle.move_core.proofs.Choices.{AgreeAll, goes_as_far, knows_on}
 
 -- A state with other registers.
-abbrev pub with_held : Registers → State → State
+abbrev pub with_held : MoveRegisters → DviState → DviState
 with_held r s = record { place = record { h = s.place.h; v = s.place.v; held = r }; font = s.font }
 
--- No instruction of a body names a register.
+-- No instruction of a body uses a register.
 abbrev pub IsPlain : Forest → Type 0
 IsPlain Empty = Unit {0}
 IsPlain (Then leaf rest) = NamesNoRegister (Do leaf) × IsPlain rest
 IsPlain (Group inner rest) = IsPlain inner × IsPlain rest
 
--- A meaning, and the one of what is written for an instruction: the same but for the registers, of which k is known.
+-- A meaning, and the meaning of what is written for an instruction: the same but for the registers, whose known values are k.
 pub Turned : Known → Meaning → Meaning → Type 0
 Turned k None m = m ≡ None
-Turned k (Some (marks, t)) m = (r : Registers) × AgreeAll k r × (m ≡ Some (marks, with_held r t))
+Turned k (Some (marks, t)) m = (r : MoveRegisters) × AgreeAll k r × (m ≡ Some (marks, with_held r t))
 
--- The same of a body, behind which nothing is said of the registers.
+-- The same for a body, without a claim about the registers after it.
 pub Follows : Meaning → Meaning → Type 0
 Follows None m = m ≡ None
-Follows (Some (marks, t)) m = (r : Registers) × (m ≡ Some (marks, with_held r t))
+Follows (Some (marks, t)) m = (r : MoveRegisters) × (m ≡ Some (marks, with_held r t))
 
-glyph_stays : (widths : Widths) (c : ℤ) (r : Registers) (p : Place) (font : Option ℤ) →
+glyph_stays : (widths : Widths) (c : ℤ) (r : MoveRegisters) (p : Position) (font : Option ℤ) →
     glyph widths c (record { h = p.h; v = p.v; held = r }) font ≡ glyph widths c p font
 glyph_stays widths c r p None = refl
 glyph_stays widths c r p (Some f) = by_width (widths f c)
@@ -38,20 +38,20 @@ glyph_stays widths c r p (Some f) = by_width (widths f c)
     by_width None = refl
     by_width (Some w) = refl
 
-set_turned : (k : Known) (g g' : Option (Mark × ℤ)) (r : Registers) (s : State) → g' ≡ g → AgreeAll k r →
+set_turned : (k : Known) (g g' : Option (Mark × ℤ)) (r : MoveRegisters) (s : DviState) → g' ≡ g → AgreeAll k r →
     Turned k (set_glyph g s) (set_glyph g' (with_held r s))
 unfolding Turned
 set_turned k None g' r s e h = ap (λ (g : Option (Mark × ℤ)). set_glyph g (with_held r s)) e
 set_turned k (Some (mark, width)) g' r s e h = (r, h, ap (λ (g : Option (Mark × ℤ)). set_glyph g (with_held r s)) e)
 
-put_turned : (k : Known) (g g' : Option (Mark × ℤ)) (r : Registers) (s : State) → g' ≡ g → AgreeAll k r →
+put_turned : (k : Known) (g g' : Option (Mark × ℤ)) (r : MoveRegisters) (s : DviState) → g' ≡ g → AgreeAll k r →
     Turned k (put_glyph g s) (put_glyph g' (with_held r s))
 unfolding Turned
 put_turned k None g' r s e h = ap (λ (g : Option (Mark × ℤ)). put_glyph g (with_held r s)) e
 put_turned k (Some (mark, width)) g' r s e h = (r, h, ap (λ (g : Option (Mark × ℤ)). put_glyph g (with_held r s)) e)
 
 -- One instruction and what is written for it.
-act_turned : (widths : Widths) (k : Known) (leaf : Leaf) (again : Bool) (r : Registers) (s : State) → NamesNoRegister (Do leaf) → AgreeAll k r →
+act_turned : (widths : Widths) (k : Known) (leaf : BodyLeaf) (again : Bool) (r : MoveRegisters) (s : DviState) → NamesNoRegister (Do leaf) → AgreeAll k r →
     Turned (written k leaf again).known (acts widths leaf s) (acts widths (written k leaf again).leaf (with_held r s))
 unfolding Turned
 act_turned widths k (SetChar c) again r s plain h = set_turned k _ _ r s (glyph_stays widths c r s.place s.font) h
@@ -79,22 +79,22 @@ unfolding Follows
 follows_ahead marks None m' e = ap (ahead marks) e
 follows_ahead marks (Some (more, t)) m' (r, e) = (r, ap (ahead marks) e)
 
--- What follows goes on from what is known.
-follows_then : (k : Known) (m m' : Meaning) (j j' : State → Meaning) → Turned k m m' →
-    ((t : State) (r : Registers) → AgreeAll k r → Follows (j t) (j' (with_held r t))) → Follows (and_then m j) (and_then m' j')
+-- The continuation starts from the known values.
+follows_then : (k : Known) (m m' : Meaning) (j j' : DviState → Meaning) → Turned k m m' →
+    ((t : DviState) (r : MoveRegisters) → AgreeAll k r → Follows (j t) (j' (with_held r t))) → Follows (and_then m j) (and_then m' j')
 unfolding Turned Follows
 follows_then k None m' j j' e next = ap (λ (m : Meaning). and_then m j') e
 follows_then k (Some (marks, t)) m' j j' (r, h, e) next =
     rw e (follows_ahead marks (j t) (j' (with_held r t)) (next t r h))
 
-restored_turned : (k : Known) (r : Registers) (p : Place) (m m' : Meaning) → Follows m m' → AgreeAll k r →
+restored_turned : (k : Known) (r : MoveRegisters) (p : Position) (m m' : Meaning) → Follows m m' → AgreeAll k r →
     Turned k (restored p m) (restored (record { h = p.h; v = p.v; held = r }) m')
 unfolding Turned Follows
 restored_turned k r p None m' e h = ap (restored (record { h = p.h; v = p.v; held = r })) e
 restored_turned k r p (Some (marks, t)) m' (q, e) h = (r, h, ap (restored (record { h = p.h; v = p.v; held = r })) e)
 
--- A body and what is written for it, where k is known of the registers.
-pub reused_follows : (widths : Widths) (k : Known) (f : Forest) (r : Registers) (s : State) → IsPlain f → AgreeAll k r →
+-- A body and what is written for it, where k are the known register values.
+pub reused_follows : (widths : Widths) (k : Known) (f : Forest) (r : MoveRegisters) (s : DviState) → IsPlain f → AgreeAll k r →
     Follows (meaning (acts widths) f s) (meaning (acts widths) (reused_from k f) (with_held r s))
 unfolding Follows
 reused_follows widths k Empty r s plain h = (r, refl)
@@ -110,20 +110,20 @@ reused_follows widths k (Group inner rest) r s (within, plain) h =
     (restored_turned k r s.place (meaning (acts widths) inner s) (meaning (acts widths) (reused_from k inner) (with_held r s)) (reused_follows widths k inner r s within h) h)
     (λ t q agree. reused_follows widths k rest q t plain agree)
 
--- It shows the same.
+-- Both meanings show the same.
 pub shown_follows : (m m' : Meaning) → Follows m m' → shown m' ≡ shown m
 unfolding Follows
 shown_follows None m' e = ap shown e
 shown_follows (Some (marks, s)) m' (r, e) = ap shown e
 
--- The same places.
-points_turned : (k : Known) (m m' : Meaning) (j j' : State → List (ℤ × ℤ)) → Turned k m m' →
-    ((t : State) (r : Registers) → AgreeAll k r → j' (with_held r t) ≡ j t) → points_then m' j' ≡ points_then m j
+-- Both pass through the same places.
+points_turned : (k : Known) (m m' : Meaning) (j j' : DviState → List (ℤ × ℤ)) → Turned k m m' →
+    ((t : DviState) (r : MoveRegisters) → AgreeAll k r → j' (with_held r t) ≡ j t) → points_then m' j' ≡ points_then m j
 unfolding Turned
 points_turned k None m' j j' e next = ap (λ (m : Meaning). points_then m j') e
 points_turned k (Some (marks, t)) m' j j' (r, h, e) next = rw e (ap (λ (ps : List (ℤ × ℤ)). (t.place.h, t.place.v) ∷ ps) (next t r h))
 
-pub reused_points : (widths : Widths) (k : Known) (f : Forest) (r : Registers) (s : State) → IsPlain f → AgreeAll k r →
+pub reused_points : (widths : Widths) (k : Known) (f : Forest) (r : MoveRegisters) (s : DviState) → IsPlain f → AgreeAll k r →
     points (acts widths) (reused_from k f) (with_held r s) ≡ points (acts widths) f s
 reused_points widths k Empty r s plain h = refl
 reused_points widths k (Then leaf rest) r s (here, plain) h =

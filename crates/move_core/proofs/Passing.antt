@@ -1,13 +1,13 @@
--- On the instructions of a body, the passes give the reused body.
+-- For the instructions of a body, the passes give the reused body.
 use Rattle.std.proofs.Common.{◌≡◌, ◌++◌, [], ◌∷◌, List, ℕ, ℤ, suc, Bool, false, ◌||◌, refl, sym, ◌∙◌, ap, append_assoc, append-nil, reverse}
 use Rattle.std.proofs.lemmas.List.{reverse-append}
-use Rattle.dvi_ops.specs.Instruction.{Axis, By, Set, Again, Leaf, Move, Instruction, Do, Push, Pop}
+use Rattle.dvi_ops.specs.Instruction.{Axis, By, Set, Again, BodyLeaf, Move, Instruction, Do, Push, Pop}
 use Rattle.dvi_ops.specs.Forest.{Forest, Empty, Then, Group, flat}
 use Rattle.move_core.specs.Registers.{Known, nothing_known, is_amount, written}
 use Rattle.move_core.specs.Reused.{along, plain_amount, has_move, comes_again, reused_from, grouped, pruned, reused}
-use Rattle.move_core.specs.Passes.{trimmed, comes, again_in, at_first, rewritten}
+use Rattle.move_core.specs.Passes.{trimmed, comes, again_in, outside_groups, rewritten}
 
--- A list, back to front, in front of another.
+-- A reversed list before another one.
 onto : List Instruction → List Instruction → List Instruction
 onto [] out = out
 onto (i ∷ is) out = onto is (i ∷ out)
@@ -27,13 +27,13 @@ IsNoPush : Instruction → Type 0
 IsNoPush Push = ⊥
 IsNoPush i = Unit {0}
 
--- Behind what is no push, a pop stays.
+-- After an instruction other than push, a pop stays.
 keeps_pop : (last : Instruction) (rest out : List Instruction) → IsNoPush last → trimmed (Pop ∷ rest) (last ∷ out) ≡ trimmed rest (Pop ∷ last ∷ out)
 unfolding IsNoPush
 keeps_pop Push rest out h = absurd h
 keeps_pop last rest out h = refl
 
--- The same behind a body that stands behind what is no push.
+-- The same after a body that follows an instruction other than push.
 body_keeps_pop : (f : Forest) (last : Instruction) (rest out : List Instruction) → IsNoPush last →
     trimmed (Pop ∷ rest) (onto (flat f) (last ∷ out)) ≡ trimmed rest (Pop ∷ onto (flat f) (last ∷ out))
 unfolding onto IsNoPush
@@ -44,7 +44,7 @@ body_keeps_pop (Group inner f) last rest out h =
     let e = onto-append (flat inner) (Pop ∷ flat f) (Push ∷ last ∷ out) in
     ap (λ (is : List Instruction). trimmed (Pop ∷ rest) is) e ∙ (body_keeps_pop f Pop rest behind tt ∙ sym (ap (λ (is : List Instruction). trimmed rest (Pop ∷ is)) e))
 
--- What is kept at the pop of a group that holds f: nothing of it, where f is empty.
+-- What is kept at the pop of a group with the body f: nothing of the group, where f is empty.
 closed : Forest → List Instruction → List Instruction
 closed Empty out = out
 closed f out = Pop ∷ onto (flat f) (Push ∷ out)
@@ -64,7 +64,7 @@ closed-grouped Empty g out = refl
 closed-grouped (Then leaf f) g out = sym (onto-append (flat (Then leaf f)) (Pop ∷ flat g) (Push ∷ out))
 closed-grouped (Group inner f) g out = sym (onto-append (flat (Group inner f)) (Pop ∷ flat g) (Push ∷ out))
 
--- The first pass over a body, and over what stands behind it.
+-- The first pass over a body and the rest after it.
 trimmed_forest : (f : Forest) (out rest : List Instruction) → trimmed (flat f ++ rest) out ≡ trimmed rest (onto (flat (pruned f)) out)
 unfolding onto
 trimmed_forest Empty out rest = refl
@@ -83,7 +83,7 @@ comes_deeper (Group inner f) rest pops axis n =
     ap (λ (is : List Instruction). comes is (suc (suc pops)) axis n) (append_assoc (flat inner) (Pop ∷ flat f) rest)
     ∙ (comes_deeper inner (Pop ∷ (flat f ++ rest)) (suc pops) axis n ∙ comes_deeper f rest pops axis n)
 
--- No movement comes before the end of the group that is open.
+-- No movement comes before the end of the open group.
 Ends : List Instruction → Type 0
 Ends rest = (axis : Axis) (n : ℤ) → comes rest 0 axis n ≡ false
 
@@ -99,13 +99,13 @@ comes_forest (Group inner f) rest axis n ends =
     ap (λ (is : List Instruction). comes is 1 axis n) (append_assoc (flat inner) (Pop ∷ flat f) rest)
     ∙ (comes_deeper inner (Pop ∷ (flat f ++ rest)) 0 axis n ∙ comes_forest f rest axis n ends)
 
-again_same : (leaf : Leaf) (f : Forest) (rest : List Instruction) → Ends rest → again_in (Do leaf) (flat f ++ rest) ≡ comes_again leaf (has_move f)
+again_same : (leaf : BodyLeaf) (f : Forest) (rest : List Instruction) → Ends rest → again_in (Do leaf) (flat f ++ rest) ≡ comes_again leaf (has_move f)
 again_same (Move axis (By n)) f rest ends = comes_forest f rest axis n ends
 again_same (Move axis (Set register n)) f rest ends = refl
 again_same (Move axis (Again register)) f rest ends = refl
 again_same leaf f rest ends = refl
 
--- The last pass over a body, and over what stands behind it.
+-- The last pass over a body and the rest after it.
 rewritten_forest : (f : Forest) (k : Known) (outer : List Known) (rest : List Instruction) → Ends rest →
     (q : Known) × (rewritten (flat f ++ rest) (record { known = k; outer = outer }) ≡ flat (reused_from k f) ++ rewritten rest (record { known = q; outer = outer }))
 unfolding Ends
@@ -128,12 +128,12 @@ rewritten_forest (Group inner f) k outer rest ends =
     )
 
 -- All passes over a body.
-pub passes_body : (f : Forest) → rewritten (trimmed (flat f) []) at_first ≡ flat (reused f)
+pub passes_body : (f : Forest) → rewritten (trimmed (flat f) []) outside_groups ≡ flat (reused f)
 unfolding onto Ends reused
 passes_body f =
     let kept = flat (pruned f) in
     let last = rewritten_forest (pruned f) nothing_known [] [] (λ axis n. refl) in
-    ap (λ (is : List Instruction). rewritten is at_first)
+    ap (λ (is : List Instruction). rewritten is outside_groups)
     (ap (λ (is : List Instruction). trimmed is []) (sym (append-nil (flat f)))
     ∙ (trimmed_forest f [] [] ∙ (reverse-onto kept [] ∙ sym (append-nil kept))))
     ∙ (last.1 ∙ append-nil (flat (reused_from nothing_known (pruned f))))

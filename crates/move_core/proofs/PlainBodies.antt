@@ -1,11 +1,11 @@
--- Which instructions are a body that names no register.
+-- The instructions that are a body without registers.
 use Rattle.std.proofs.Common.{◌≡◌, ◌++◌, [], ◌∷◌, List, ℕ, zero, suc, Bool, true, false, Some, None, refl, sym, ◌∙◌, ap, append_assoc, append-nil, subst, IsTrue, ◌↔◌, arith, ◌<◌, ◌+◌, ◌≤◌, nat_eq, length, get_or, map, drop}
 use Rattle.std.specs.List.{AllByRecursion}
 use Rattle.std.proofs.lemmas.List.{drop_all}
 use Rattle.std.proofs.lemmas.Bool.Decides.{nat_tests}
-use Rattle.dvi_ops.specs.Instruction.{By, Set, Again, Leaf, Move, Instruction, Do, Push, Pop}
-use Rattle.dvi_ops.specs.View.{view}
-use Rattle.dvi_ops.specs.declared.op.Op.{Op}
+use Rattle.dvi_ops.specs.Instruction.{By, Set, Again, BodyLeaf, Move, Instruction, Do, Push, Pop}
+use Rattle.dvi_ops.specs.View.{body_view}
+use Rattle.dvi_ops.specs.declared.body_op.BodyOp.{BodyOp}
 use Rattle.dvi_ops.specs.Forest.{Forest, Empty, Then, Group, flat}
 use Rattle.dvi_ops.specs.Plain.{NamesNoRegister}
 use Rattle.move_core.specs.SamePage.{IsPlainBody}
@@ -14,13 +14,13 @@ use Rattle.move_core.proofs.Meanings.{IsPlain}
 use Rattle.move_core.proofs.SameBody.{plain_forest}
 use Rattle.move_core.proofs.Flags.{from_here}
 
-leaf_after : (depth : ℕ) (leaf : Leaf) → NamesNoRegister (Do leaf) → depth_after depth (Do leaf) ≡ Some depth
+leaf_after : (depth : ℕ) (leaf : BodyLeaf) → NamesNoRegister (Do leaf) → depth_after depth (Do leaf) ≡ Some depth
 leaf_after depth (Move axis (By n)) plain = refl
 leaf_after depth (Move axis (Set register n)) plain = absurd plain
 leaf_after depth (Move axis (Again register)) plain = absurd plain
 leaf_after depth leaf plain = refl
 
--- A plain body leaves as many groups open.
+-- A plain body leaves the number of open groups as it was.
 body_after : (f : Forest) (rest : List Instruction) (depth : ℕ) → IsPlain f → closes_all (flat f ++ rest) (Some depth) ≡ closes_all rest (Some depth)
 body_after Empty rest depth plain = refl
 body_after (Then leaf f) rest depth (here, plain) = ap (closes_all (flat f ++ rest)) (leaf_after depth leaf here) ∙ body_after f rest depth plain
@@ -28,12 +28,12 @@ body_after (Group inner f) rest depth (within, plain) =
     ap (λ (is : List Instruction). closes_all is (Some (suc depth))) (append_assoc (flat inner) (Pop ∷ flat f) rest)
     ∙ (body_after inner (Pop ∷ (flat f ++ rest)) (suc depth) within ∙ body_after f rest depth plain)
 
--- Instructions that close so many groups, and what they open.
+-- Instructions that close that many groups and all groups that they open.
 Closes : ℕ → List Instruction → Type 0
 Closes zero is = (f : Forest) × (is ≡ flat f)
 Closes (suc depth) is = (f : Forest) × (rest : List Instruction) × (is ≡ flat f ++ Pop ∷ rest) × Closes depth rest
 
-then_closes : (depth : ℕ) (leaf : Leaf) (is : List Instruction) → Closes depth is → Closes depth (Do leaf ∷ is)
+then_closes : (depth : ℕ) (leaf : BodyLeaf) (is : List Instruction) → Closes depth is → Closes depth (Do leaf ∷ is)
 unfolding Closes
 then_closes zero leaf is (f, e) = (Then leaf f, ap (λ (is : List Instruction). Do leaf ∷ is) e)
 then_closes (suc depth) leaf is (f, rest, e, more) = (Then leaf f, rest, ap (λ (is : List Instruction). Do leaf ∷ is) e, more)
@@ -52,7 +52,7 @@ none_closes : (is : List Instruction) → closes_all is None ≡ true → ⊥
 none_closes [] e = cc
 none_closes (i ∷ is) e = cc
 
-leaf_plain : (depth : ℕ) (leaf : Leaf) (is : List Instruction) → PlainAt depth is → NamesNoRegister (Do leaf) → PlainAt depth (Do leaf ∷ is)
+leaf_plain : (depth : ℕ) (leaf : BodyLeaf) (is : List Instruction) → PlainAt depth is → NamesNoRegister (Do leaf) → PlainAt depth (Do leaf ∷ is)
 unfolding PlainAt
 leaf_plain depth leaf is (closes, all) here = (then_closes depth leaf is closes, (here, all))
 
@@ -87,16 +87,16 @@ nothing_closes : (is : List Instruction) → closes_all is None ≡ false
 nothing_closes [] = refl
 nothing_closes (i ∷ is) = refl
 
--- Where an instruction stands in no plain body, the list is none.
-pub stops : (ops : List Op) (i depth : ℕ) (d : Op) → i < length ops → depth_after depth (view (get_or ops i d)) ≡ None →
-    closes_all (map view (drop i ops)) (Some depth) ≡ false
+-- Where an instruction is in no plain body, the list is no plain body.
+pub stops : (ops : List BodyOp) (i depth : ℕ) (d : BodyOp) → i < length ops → depth_after depth (body_view (get_or ops i d)) ≡ None →
+    closes_all (map body_view (drop i ops)) (Some depth) ≡ false
 stops ops i depth d within none =
     ap (λ (is : List Instruction). closes_all is (Some depth)) (from_here ops i d within)
-    ∙ (ap (closes_all (map view (drop (i + 1) ops))) none ∙ nothing_closes (map view (drop (i + 1) ops)))
+    ∙ (ap (closes_all (map body_view (drop (i + 1) ops))) none ∙ nothing_closes (map body_view (drop (i + 1) ops)))
 
--- Behind all instructions, no group may be open.
-pub ends : (ops : List Op) (i depth : ℕ) → length ops ≤ i → nat_eq depth 0 ≡ closes_all (map view (drop i ops)) (Some depth)
-ends ops i depth past = by_depth depth ∙ sym (ap (λ (ops : List Op). closes_all (map view ops) (Some depth)) (drop_all i ops past))
+-- After all instructions, no group may be open.
+pub ends : (ops : List BodyOp) (i depth : ℕ) → length ops ≤ i → nat_eq depth 0 ≡ closes_all (map body_view (drop i ops)) (Some depth)
+ends ops i depth past = by_depth depth ∙ sym (ap (λ (ops : List BodyOp). closes_all (map body_view ops) (Some depth)) (drop_all i ops past))
   where
     by_depth : (depth : ℕ) → nat_eq depth 0 ≡ closes_all [] (Some depth)
     by_depth zero = refl

@@ -1,7 +1,7 @@
--- What leaving out empty groups keeps.
+-- What the removal of empty groups preserves.
 use Rattle.std.proofs.Common.{◌≡◌, ◌≤◌, ◌+◌, ◌++◌, max, [], ◌∷◌, List, ℤ, Some, None, Bool, true, false, ◌&&◌, refl, sym, ◌∙◌, ap, subst, Contains, ◌⊎◌, inl, inr, arith}
 use Rattle.std.proofs.lemmas.List.Elements.{Contains-append_left, Contains-append_right, Contains-append_cases}
-use Rattle.dvi_ops.specs.Body.{State, Meaning, Acts}
+use Rattle.dvi_ops.specs.Body.{DviState, Meaning, Acts}
 use Rattle.dvi_ops.specs.Forest.{Forest, Empty, Then, Group, ahead, and_then, restored, meaning, nests, points, points_then}
 use Rattle.dvi_ops.proofs.Forests.{and_then-same}
 use Rattle.move_core.specs.Reused.{grouped, pruned}
@@ -12,13 +12,13 @@ ahead-nil : (m : Meaning) → ahead [] m ≡ m
 ahead-nil None = refl
 ahead-nil (Some (marks, s)) = refl
 
-meaning-grouped : (does : Acts) (inner rest : Forest) (s : State) → meaning does (grouped inner rest) s ≡ meaning does (Group inner rest) s
+meaning-grouped : (does : Acts) (inner rest : Forest) (s : DviState) → meaning does (grouped inner rest) s ≡ meaning does (Group inner rest) s
 meaning-grouped does Empty rest s = sym (ahead-nil (meaning does rest s))
 meaning-grouped does (Then leaf inner) rest s = refl
 meaning-grouped does (Group first inner) rest s = refl
 
--- The same meaning, whatever the instructions do.
-pub meaning-pruned : (does : Acts) (f : Forest) (s : State) → meaning does (pruned f) s ≡ meaning does f s
+-- The meaning is the same, whatever the instructions do.
+pub meaning-pruned : (does : Acts) (f : Forest) (s : DviState) → meaning does (pruned f) s ≡ meaning does f s
 meaning-pruned does Empty s = refl
 meaning-pruned does (Then leaf rest) s = and_then-same (does leaf s) (λ t. meaning does (pruned rest) t) (λ t. meaning does rest t) (λ t. meaning-pruned does rest t)
 meaning-pruned does (Group inner rest) s =
@@ -26,7 +26,7 @@ meaning-pruned does (Group inner rest) s =
     ∙ (ap (λ m. and_then (restored s.place m) (λ t. meaning does (pruned rest) t)) (meaning-pruned does inner s)
     ∙ and_then-same (restored s.place (meaning does inner s)) (λ t. meaning does (pruned rest) t) (λ t. meaning does rest t) (λ t. meaning-pruned does rest t))
 
--- Each of these places is one of those.
+-- Each of these places is one of the others.
 abbrev pub Within : List (ℤ × ℤ) → List (ℤ × ℤ) → Type 0
 Within ps qs = (p : ℤ × ℤ) → Contains ps p → Contains qs p
 
@@ -40,17 +40,17 @@ within_append ps ps' qs qs' front back p c = by_part (Contains-append_cases ps q
 within_cons : (q : ℤ × ℤ) (ps qs : List (ℤ × ℤ)) → Within ps qs → Within (q ∷ ps) (q ∷ qs)
 within_cons q ps qs back = within_append (q ∷ []) (q ∷ []) ps qs (λ p c. c) back
 
-within_then : (m : Meaning) (j k : State → List (ℤ × ℤ)) → ((t : State) → Within (j t) (k t)) → Within (points_then m j) (points_then m k)
+within_then : (m : Meaning) (j k : DviState → List (ℤ × ℤ)) → ((t : DviState) → Within (j t) (k t)) → Within (points_then m j) (points_then m k)
 within_then None j k next p c = c
 within_then (Some (marks, s)) j k next p c = within_cons (s.place.h, s.place.v) (j s) (k s) (next s) p c
 
-points-grouped : (does : Acts) (inner rest : Forest) (s : State) → Within (points does (grouped inner rest) s) (points does (Group inner rest) s)
+points-grouped : (does : Acts) (inner rest : Forest) (s : DviState) → Within (points does (grouped inner rest) s) (points does (Group inner rest) s)
 points-grouped does Empty rest s p c = Contains-append_right ((s.place.h, s.place.v) ∷ []) (points does rest s) p c
 points-grouped does (Then leaf inner) rest s p c = c
 points-grouped does (Group first inner) rest s p c = c
 
--- No other place.
-pub points-pruned : (does : Acts) (f : Forest) (s : State) → Within (points does (pruned f) s) (points does f s)
+-- No other place is passed through.
+pub points-pruned : (does : Acts) (f : Forest) (s : DviState) → Within (points does (pruned f) s) (points does f s)
 points-pruned does Empty s p c = c
 points-pruned does (Then leaf rest) s p c =
     within_then (does leaf s) (λ t. points does (pruned rest) t) (λ t. points does rest t) (λ t. points-pruned does rest t) p c
@@ -68,7 +68,7 @@ nests-grouped Empty rest = omega arith
 nests-grouped (Then leaf inner) rest = omega arith
 nests-grouped (Group first inner) rest = omega arith
 
--- No deeper.
+-- The groups nest no deeper.
 pub nests-pruned : (f : Forest) → nests (pruned f) ≤ nests f
 nests-pruned Empty = omega arith
 nests-pruned (Then leaf rest) = nests-pruned rest
@@ -79,7 +79,7 @@ plain-grouped Empty rest a b = b
 plain-grouped (Then leaf inner) rest a b = (a, b)
 plain-grouped (Group first inner) rest a b = (a, b)
 
--- No register is named.
+-- No register is used.
 pub plain-pruned : (f : Forest) → IsPlain f → IsPlain (pruned f)
 plain-pruned Empty plain = tt
 plain-pruned (Then leaf rest) (here, plain) = (here, plain-pruned rest plain)

@@ -1,4 +1,4 @@
--- The reused body beside the body: all that `reuse` promises.
+-- The reused body and the given body: all clauses of `reuse`.
 use Rattle.std.proofs.Common.{◌≡◌, ◌≤◌, [], ◌∷◌, List, ℤ, Result, Ok, Err, length, sym, ◌∙◌, ap, subst, arith, Contains}
 use Rattle.std.specs.Result.{IfOk}
 use Rattle.std.specs.List.{AllByRecursion}
@@ -11,7 +11,7 @@ use Rattle.dvi_ops.proofs.Appends.{all_front, all_back}
 use Rattle.move_core.specs.Registers.{nothing_known}
 use Rattle.move_core.specs.Reused.{reused_from, pruned, reused}
 use Rattle.move_core.specs.SamePage.{IsPlainBody, AreBodies, shown, MeansTheSame, PassesThroughNoOther, NestsNoDeeper, HasNoHollow, unset, UsesStored, SetsAhead, still}
-use Rattle.move_core.specs.Passes.{trimmed, rewritten, at_first}
+use Rattle.move_core.specs.Passes.{trimmed, rewritten, outside_groups}
 use Rattle.move_core.proofs.Choices.{nothing_agrees}
 use Rattle.move_core.proofs.Meanings.{IsPlain, shown_follows, reused_follows, reused_points}
 use Rattle.move_core.proofs.Pruned.{meaning-pruned, points-pruned, nests-pruned, plain-pruned, no_hollow-pruned}
@@ -19,7 +19,7 @@ use Rattle.move_core.proofs.Tidy.{uses_stored, sets_ahead, no_hollow-reused, nes
 use Rattle.move_core.proofs.Passing.{passes_body}
 use Rattle.move_core.proofs.Kept.{reused_shorter, pruned_shorter, reused_still, pruned_still, reused_writable, pruned_writable}
 
--- A body whose instructions name no register.
+-- A body whose instructions use no register.
 pub plain_forest : (f : Forest) → AllByRecursion NamesNoRegister (flat f) → IsPlain f
 plain_forest Empty all = tt
 plain_forest (Then leaf rest) (here, all) = (here, plain_forest rest all)
@@ -72,25 +72,25 @@ pub reused_fits : (f : Forest) → AllByRecursion IsWritable (flat f) → AllByR
 unfolding reused
 reused_fits f all = reused_writable nothing_known (pruned f) (pruned_writable f all)
 
--- What is known of a result holds of what follows from it.
+-- A fact about a result gives a weaker one.
 pub if_ok : {T E : Type 0} (P Q : T → Type 0) (result : Result T E) → ((x : T) → P x → Q x) → IfOk result P → IfOk result Q
 if_ok P Q (Ok x) next p = next x p
 if_ok P Q (Err e) next p = tt
 
--- What the passes give for a body is the reused body.
-pub gives_reused : (is kept js : List Instruction) (f : Forest) → kept ≡ trimmed is [] → js ≡ rewritten kept at_first → is ≡ flat f → js ≡ flat (reused f)
+-- The passes give the reused body.
+pub gives_reused : (is kept js : List Instruction) (f : Forest) → kept ≡ trimmed is [] → js ≡ rewritten kept outside_groups → is ≡ flat f → js ≡ flat (reused f)
 gives_reused is kept js f trims writes body =
-    writes ∙ (ap (λ (is : List Instruction). rewritten is at_first) (trims ∙ ap (λ (is : List Instruction). trimmed is []) body) ∙ passes_body f)
+    writes ∙ (ap (λ (is : List Instruction). rewritten is outside_groups) (trims ∙ ap (λ (is : List Instruction). trimmed is []) body) ∙ passes_body f)
 
--- What holds of each body that names no register, and of its reused body, holds of what the passes are given and of what they give.
+-- A relation between each body without registers and its reused body holds between the input and the output of the passes.
 pub are_bodies : (Related : Forest → Forest → Type 0) (is kept js : List Instruction) → ((f : Forest) → IsPlain f → Related f (reused f)) →
-    IsPlainBody is → kept ≡ trimmed is [] → js ≡ rewritten kept at_first → AreBodies Related is js
+    IsPlainBody is → kept ≡ trimmed is [] → js ≡ rewritten kept outside_groups → AreBodies Related is js
 are_bodies Related is kept js holds (body, same, plain) trims writes f e =
     (reused f, gives_reused is kept js f trims writes e, holds f (plain_forest f (subst (AllByRecursion NamesNoRegister) e plain)))
 
--- The same of what is said of the two lists.
+-- The same for relations between the two lists.
 pub are_lists : (Related : List Instruction → List Instruction → Type 0) (is kept js : List Instruction) → ((f : Forest) → Related (flat f) (flat (reused f))) →
-    IsPlainBody is → kept ≡ trimmed is [] → js ≡ rewritten kept at_first → Related is js
+    IsPlainBody is → kept ≡ trimmed is [] → js ≡ rewritten kept outside_groups → Related is js
 are_lists Related is kept js holds (body, same, plain) trims writes =
     subst (λ (js : List Instruction). Related is js) (sym (gives_reused is kept js body trims writes same))
     (subst (λ (is : List Instruction). Related is (flat (reused body))) (sym same) (holds body))

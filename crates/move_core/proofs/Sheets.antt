@@ -1,11 +1,11 @@
--- What the writer of a file needs of the reused body: a page that can be written so shows the same, with h and v in signed 32 bits.
+-- What the writer of a file needs about the reused body: a good page shows the same with it, with h and v in signed 32 bits.
 use Rattle.std.proofs.Common.{◌≡◌, ◌++◌, [], ◌∷◌, List, ℤ, Some, None, IsSome, refl, sym, ◌∙◌, ap, subst, arith, Contains}
 use Rattle.std.specs.List.{flat_map, AllByRecursion}
 use Rattle.std.proofs.lemmas.List.Elements.{All-contains, All-weaker, All-contains_itself, All-from_recursion, recursion_from_All}
 use Rattle.dvi_ops.specs.Instruction.{Move, Instruction, Do, Definition}
-use Rattle.dvi_ops.specs.Body.{Mark, State, Widths, Meaning, acts, kept, start}
+use Rattle.dvi_ops.specs.Body.{Mark, DviState, Widths, Meaning, acts, kept, start}
 use Rattle.dvi_ops.specs.Forest.{Forest, flat, meaning, points, IsPoint}
-use Rattle.dvi_ops.specs.Fonts.{Metrics, definition_of, definitions, selection_of, selections, defined, font_in, known_after}
+use Rattle.dvi_ops.specs.Fonts.{WidthsByName, definitions_in, definitions, selection_of, selections, defined, widths_in, known_after}
 use Rattle.dvi_ops.specs.Layout.{Sheet, Table, IsGood, define, table_widths}
 use Rattle.dvi_ops.specs.Plain.{NamesNoRegister}
 use Rattle.dvi_ops.proofs.Ranges.{meaning-kept, kept-meaning}
@@ -19,10 +19,10 @@ selections-still (Do (Move axis step) ∷ is) = selections-still is
 selections-still (Do leaf ∷ is) = ap (λ (fonts : List ℤ). selection_of (Do leaf) ++ fonts) (selections-still is)
 selections-still (i ∷ is) = selections-still is
 
-definitions-still : (is : List Instruction) → definitions is ≡ flat_map (λ leaf. definition_of (Do leaf)) (still is)
+definitions-still : (is : List Instruction) → definitions is ≡ flat_map (λ leaf. definitions_in (Do leaf)) (still is)
 definitions-still [] = refl
 definitions-still (Do (Move axis step) ∷ is) = definitions-still is
-definitions-still (Do leaf ∷ is) = ap (λ (fonts : List Definition). definition_of (Do leaf) ++ fonts) (definitions-still is)
+definitions-still (Do leaf ∷ is) = ap (λ (fonts : List Definition). definitions_in (Do leaf) ++ fonts) (definitions-still is)
 definitions-still (i ∷ is) = definitions-still is
 
 -- The same fonts are selected, in the same order.
@@ -33,19 +33,19 @@ reused_selections f =
 -- The same fonts are defined, in the same order.
 pub reused_definitions : (f : Forest) → definitions (flat (reused f)) ≡ definitions (flat f)
 reused_definitions f =
-    definitions-still (flat (reused f)) ∙ (ap (flat_map (λ leaf. definition_of (Do leaf))) (reused_order f) ∙ sym (definitions-still (flat f)))
+    definitions-still (flat (reused f)) ∙ (ap (flat_map (λ leaf. definitions_in (Do leaf))) (reused_order f) ∙ sym (definitions-still (flat f)))
 
--- A meaning that shows what another does has its marks.
-shown_back : (m : Meaning) (marks : List Mark) (s : State) → shown m ≡ shown (Some (marks, s)) → (t : State) × (m ≡ Some (marks, t))
+-- A meaning that shows the same as another has the same marks.
+shown_back : (m : Meaning) (marks : List Mark) (s : DviState) → shown m ≡ shown (Some (marks, s)) → (t : DviState) × (m ≡ Some (marks, t))
 shown_back None marks s e = absurd cc
 shown_back (Some (others, t)) marks s e =
     let same : record { marks = others; h = t.place.h; v = t.place.v; font = t.font } ≡ record { marks = marks; h = s.place.h; v = s.place.v; font = s.font } = cc in
     (t, ap (λ (x : Shown). Some (x.marks, t)) same)
 
--- A body that shows marks from a place in signed 32 bits, with h and v in that range on the way, and its reused body.
-pub reused_kept : (widths : Widths) (f : Forest) (s : State) (marks : List Mark) (last : State) → AllByRecursion NamesNoRegister (flat f) →
+-- A body that shows marks from a place in signed 32 bits, with h and v in that range all the way, and its reused body.
+pub reused_kept : (widths : Widths) (f : Forest) (s : DviState) (marks : List Mark) (last : DviState) → AllByRecursion NamesNoRegister (flat f) →
     IsPoint (s.place.h, s.place.v) → meaning (kept (acts widths)) f s ≡ Some (marks, last) →
-    (t : State) × (meaning (kept (acts widths)) (reused f) s ≡ Some (marks, t))
+    (t : DviState) × (meaning (kept (acts widths)) (reused f) s ≡ Some (marks, t))
 reused_kept widths f s marks last names here e =
     let plain = plain_forest f names in
     let free = kept-meaning (acts widths) f s (marks, last) here e in
@@ -57,8 +57,8 @@ reused_kept widths f s marks last names here e =
     let found = shown_back (meaning (acts widths) (reused f) s) marks last (reused_meaning f plain widths s ∙ ap shown free.0) in
     (found.0, meaning-kept (acts widths) (reused f) s within ∙ found.1)
 
--- A page that may stand behind definitions may stand there with its reused body, and has the same marks.
-pub good_reused : (metrics : Metrics) (table : Table) (known : List Definition) (p : Sheet) (marks : List Mark) →
+-- A good page stays good with its reused body, and has the same marks.
+pub good_reused : (metrics : WidthsByName) (table : Table) (known : List Definition) (p : Sheet) (marks : List Mark) →
     AllByRecursion NamesNoRegister (flat p.body) → IsGood metrics table known p marks → IsGood metrics table known (record p { body = reused p.body }) marks
 good_reused metrics table known p marks names good =
     let fonts = sym (reused_selections p.body) in
@@ -70,7 +70,7 @@ good_reused metrics table known p marks names good =
       writable = reused_fits p.body good.writable;
       plain = reused_definitions p.body ∙ good.plain;
       chosen = subst (AllByRecursion (λ f. IsSome (defined f (known_after known (define p.fresh))))) fonts good.chosen;
-      measured = subst (AllByRecursion (λ f. IsSome (font_in metrics (table f)))) fonts good.measured;
+      measured = subst (AllByRecursion (λ f. IsSome (widths_in metrics (table f)))) fonts good.measured;
       shallow = omega (arith, good.shallow, reused_nests p.body);
       last = shows.0;
       shows = shows.1;

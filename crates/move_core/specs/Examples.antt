@@ -1,25 +1,25 @@
--- Bodies of pages, and what is written for them, to hold the definitions against (own).
+-- Bodies of pages and what is written for them, which a law compares with the definitions (own).
 use Rattle.std.specs.Prelude.{ℕ, pos}
-use Rattle.dvi_ops.specs.Instruction.{Axis, Across, Downward, First, Second, Step, By, Set, Again, SetChar, SetRule, FontNum, Move}
+use Rattle.dvi_ops.specs.Instruction.{Axis, Across, Downward, First, Second, Movement, By, Set, Again, SetChar, SetRule, FontNum, Move}
 use Rattle.dvi_ops.specs.Forest.{Forest, Empty, Then, Group}
 
--- A movement, and behind it a character.
-abbrev pub shown_at : Axis → Step → Forest → Forest
+-- A movement, and after it a character.
+abbrev pub shown_at : Axis → Movement → Forest → Forest
 shown_at axis step rest = Then (Move axis step) (Then (SetChar (pos 99)) rest)
 
--- A movement by an amount, and behind it a character.
+-- A movement by an amount, and after it a character.
 abbrev pub across : (amount : ℕ) → Forest → Forest
 across n rest = shown_at Across (By (pos n)) rest
 
--- The same downward.
+-- A movement down by an amount, and after it a character.
 abbrev pub down : (amount : ℕ) → Forest → Forest
 down n rest = shown_at Downward (By (pos n)) rest
 
--- Characters in a row behind 5, 5, in a group behind 5, 7, 7, and behind the group again behind 5 and 7.
+-- Characters after movements by 5, 5, in a group by 5, 7, 7, and after the group by 5 and 7.
 abbrev pub nested : Forest
 nested = across 5 (across 5 (Group (across 5 (across 7 (across 7 Empty))) (across 5 (across 7 Empty))))
 
--- w holds 5 in the group too. What the group does to x is gone behind it, and there 7 does not come again.
+-- The register w holds 5 in the group too. After the group x is unset again, and 7 does not come again there.
 abbrev pub nested_reused : Forest
 nested_reused =
     shown_at Across (Set First (pos 5)) (shown_at Across (Again First)
@@ -30,7 +30,7 @@ nested_reused =
 abbrev pub three_amounts : Forest
 three_amounts = across 5 (across 7 (across 9 (across 5 (across 7 (across 9 Empty)))))
 
--- 9 takes the place of 5 in w, since x was used last; so the second 5 is a right.
+-- The amount 9 replaces 5 in w, since x was used last; so the second 5 is a right.
 abbrev pub three_amounts_reused : Forest
 three_amounts_reused =
     shown_at Across (Set First (pos 5)) (shown_at Across (Set Second (pos 7)) (shown_at Across (Set First (pos 9))
@@ -40,40 +40,40 @@ three_amounts_reused =
 abbrev pub three_depths : Forest
 three_depths = down 5 (down 7 (down 9 (down 5 (down 7 (down 9 Empty)))))
 
--- The same with y and z.
+-- The same form with y and z.
 abbrev pub three_depths_reused : Forest
 three_depths_reused =
     shown_at Downward (Set First (pos 5)) (shown_at Downward (Set Second (pos 7)) (shown_at Downward (Set First (pos 9))
     (down 5 (shown_at Downward (Again Second) (shown_at Downward (Again First) Empty)))))
 
--- An amount across comes again only downward, and one downward only across.
+-- One amount across comes again only downward, and one downward only across.
 abbrev pub two_directions : Forest
 two_directions = across 5 (down 7 (down 5 (across 7 Empty)))
 
--- A group in a group, with nothing in it, and behind it 5 twice.
+-- A group in a group, with nothing in it, and after it 5 twice.
 abbrev pub empty_groups : Forest
 empty_groups = Group (Group Empty Empty) (across 5 (across 5 Empty))
 
--- Without those groups.
+-- The body without those groups.
 abbrev pub empty_groups_reused : Forest
 empty_groups_reused = shown_at Across (Set First (pos 5)) (shown_at Across (Again First) Empty)
 
--- A group with 7, 9, 7, 9 and 5, where w holds 5 in front of it and is used behind it.
+-- A group with 7, 9, 7, 9 and 5, where w holds 5 before the group and is used after it.
 abbrev pub set_in_a_group : Forest
 set_in_a_group = across 5 (Group (across 7 (across 9 (across 7 (across 9 (across 5 Empty))))) (across 5 Empty))
 
--- The group sets x and w. Behind it w holds 5 again.
+-- The group sets x and w. After it, w holds 5 again.
 abbrev pub set_in_a_group_reused : Forest
 set_in_a_group_reused =
     shown_at Across (Set First (pos 5))
     (Group (shown_at Across (Set Second (pos 7)) (shown_at Across (Set First (pos 9)) (shown_at Across (Again Second) (shown_at Across (Again First) (across 5 Empty)))))
     (shown_at Across (Again First) Empty))
 
--- An amount that comes again only in a group, and one in a group that comes again only behind it.
-abbrev pub apart : Forest
-apart = across 5 (Group (across 5 (across 7 Empty)) (across 7 Empty))
+-- An amount that comes again only in a group, and one in a group that comes again only after it.
+abbrev pub apart_amounts : Forest
+apart_amounts = across 5 (Group (across 5 (across 7 Empty)) (across 7 Empty))
 
--- The body of a page with two fonts, of which the second is selected in a group.
+-- The body of a page with two fonts; the second is selected in a group.
 abbrev pub fonts_in_nested_boxes : Forest
 fonts_in_nested_boxes =
     Then (Move Downward (By (pos 655360))) (Then (FontNum (pos 0)) (Then (SetChar (pos 99))

@@ -1,66 +1,67 @@
--- The rule by which movements are written with registers (own; the registers and what moves by them: DVItype, 14 and 15).
+-- The rule by which movements are written with registers (own; the registers and their movements: DVItype, 14 and 15). TeX chooses otherwise, so the
+-- bytes of a file differ from TeX's.
 use Rattle.std.specs.Prelude.{Option, Some, None, Bool, true, false, ℤ}
 use Rattle.std.specs.Ordering.{int_eq}
-use Rattle.dvi_ops.specs.Instruction.{Across, Downward, Register, First, Second, Step, By, Set, Again, Leaf, Move}
+use Rattle.dvi_ops.specs.Instruction.{Across, Downward, MoveRegister, First, Second, Movement, By, Set, Again, BodyLeaf, Move}
 
--- What is known of the two registers of a direction, w and x or y and z, and which of them was used last.
-pub record Held : Type 0 where
+-- The known values of the two registers of a direction, w and x or y and z, and which one was used last.
+pub record RegisterPair : Type 0 where
   pub first : Option ℤ
   pub second : Option ℤ
-  pub last : Register
+  pub last : MoveRegister
 
--- What is known of w and x, and of y and z.
+-- The known values of w and x, and of y and z.
 pub record Known : Type 0 where
-  pub across : Held
-  pub down : Held
+  pub across : RegisterPair
+  pub down : RegisterPair
 
--- Nothing is known of either register, and x or z counts as the last one.
-abbrev pub nothing : Held
+-- No value is known, and x or z counts as the register that was used last.
+abbrev pub nothing : RegisterPair
 nothing = record { first = None; second = None; last = Second }
 
--- Nothing is known of w, x, y and z.
+-- No value of w, x, y or z is known.
 abbrev pub nothing_known : Known
 nothing_known = record { across = nothing; down = nothing }
 
--- Whether that is the amount.
+-- Whether the value is known and is this amount.
 abbrev pub is_amount : Option ℤ → ℤ → Bool
 is_amount None n = false
 is_amount (Some m) n = int_eq m n
 
--- How a movement is written, and what is known of the registers behind it.
+-- The form of a movement, and the known values after it.
 pub record Choice : Type 0 where
-  pub step : Step
-  pub held : Held
+  pub step : Movement
+  pub held : RegisterPair
 
--- The register that is not this one.
-abbrev pub other : Register → Register
+-- The other register of the direction.
+abbrev pub other : MoveRegister → MoveRegister
 other First = Second
 other Second = First
 
--- A register is set.
-abbrev pub set_in : Register → Held → ℤ → Choice
+-- The choice to set a register.
+abbrev pub set_in : MoveRegister → RegisterPair → ℤ → Choice
 set_in First k n = record { step = Set First n; held = record k { first = Some n; last = First } }
 set_in Second k n = record { step = Set Second n; held = record k { second = Some n; last = Second } }
 
--- How a movement by an amount is written: by the first register, if that holds the amount; else by the second, if that does; else, where the
--- amount comes again, the register that is not the last one is set; else it names no register.
-abbrev pub choice : (in_first in_second again : Bool) → Held → ℤ → Choice
+-- The form of a movement by an amount: the first register, if it holds the amount; else the second, if it does; else, where the amount comes again,
+-- the register that was not used last is set to it; else no register is used.
+abbrev pub choice : (in_first in_second again : Bool) → RegisterPair → ℤ → Choice
 choice true in_second again k n = record { step = Again First; held = record k { last = First } }
 choice false true again k n = record { step = Again Second; held = record k { last = Second } }
 choice false false true k n = set_in (other k.last) k n
 choice false false false k n = record { step = By n; held = k }
 
--- The same, by what is known of the registers.
-abbrev pub choose : Held → ℤ → (again : Bool) → Choice
+-- The same choice, from the known values.
+abbrev pub choose : RegisterPair → ℤ → (again : Bool) → Choice
 choose k n again = choice (is_amount k.first n) (is_amount k.second n) again k n
 
--- What is written for an instruction, and what is known of the registers behind it.
-pub record Written : Type 0 where
-  pub leaf : Leaf
+-- What is written for an instruction, and the known values after it.
+pub record WrittenOp : Type 0 where
+  pub leaf : BodyLeaf
   pub known : Known
 
--- A movement to the right or down is written by what is known of the registers of its direction; any other instruction stays.
-abbrev pub written : Known → Leaf → (again : Bool) → Written
+-- A movement to the right or down is written by the known values of its direction. Any other instruction is unchanged.
+abbrev pub written : Known → BodyLeaf → (again : Bool) → WrittenOp
 written k (Move Across (By n)) again =
     record { leaf = Move Across (choose k.across n again).step; known = record k { across = (choose k.across n again).held } }
 written k (Move Downward (By n)) again =

@@ -1,51 +1,50 @@
--- The body of a page with its movements written by registers (own).
+-- The body of a page with its movements written with registers (own).
 use Rattle.std.specs.Prelude.{Option, Some, None, Bool, false, ◌||◌, ℤ}
-use Rattle.dvi_ops.specs.Instruction.{Axis, Across, Downward, Step, By, Leaf, Move}
+use Rattle.dvi_ops.specs.Instruction.{Axis, Across, Downward, Movement, By, BodyLeaf, Move}
 use Rattle.dvi_ops.specs.Forest.{Forest, Empty, Then, Group}
 use Rattle.move_core.specs.Registers.{Known, nothing_known, is_amount, written}
 
--- How an instruction moves in a direction, if it does.
-abbrev pub along : Axis → Leaf → Option Step
+-- The movement of an instruction in a direction, if it is one.
+abbrev pub along : Axis → BodyLeaf → Option Movement
 along Across (Move Across step) = Some step
 along Downward (Move Downward step) = Some step
 along axis leaf = None
 
--- The amount of a movement that names no register.
-abbrev pub plain_amount : Option Step → Option ℤ
+-- The amount of a movement without a register.
+abbrev pub plain_amount : Option Movement → Option ℤ
 plain_amount (Some (By n)) = Some n
 plain_amount step = None
 
--- Whether a movement by that amount in that direction stands in a body, and not in a group of it.
+-- Whether a movement by that amount in that direction is in a body, outside of its groups.
 abbrev pub has_move : Forest → Axis → ℤ → Bool
 has_move Empty axis n = false
 has_move (Then leaf rest) axis n = is_amount (plain_amount (along axis leaf)) n || has_move rest axis n
 has_move (Group inner rest) axis n = has_move rest axis n
 
--- Whether an instruction is a movement whose amount comes again, where `later` tells that of each amount.
-abbrev pub comes_again : Leaf → (later : Axis → ℤ → Bool) → Bool
+-- Whether an instruction is a movement whose amount comes again, where `later` is the test for each amount.
+abbrev pub comes_again : BodyLeaf → (later : Axis → ℤ → Bool) → Bool
 comes_again (Move axis (By n)) later = later axis n
 comes_again leaf later = false
 
--- Each movement is written by what is known of the registers in front of it. A group begins with what is known at its push, and behind its
--- pop that is known again.
+-- Each movement is written by the known values before it. A group begins with the values known at its push, and they are known again after its pop.
 abbrev pub reused_from : Known → Forest → Forest
 reused_from k Empty = Empty
 reused_from k (Then leaf rest) =
     Then (written k leaf (comes_again leaf (has_move rest))).leaf (reused_from (written k leaf (comes_again leaf (has_move rest))).known rest)
 reused_from k (Group inner rest) = Group (reused_from k inner) (reused_from k rest)
 
--- A group in front of a body, if there is something in it.
+-- A group before a body, if the group is not empty.
 abbrev pub grouped : Forest → Forest → Forest
 grouped Empty rest = rest
 grouped (Then leaf inner) rest = Group (Then leaf inner) rest
 grouped (Group first inner) rest = Group (Group first inner) rest
 
--- A body without the groups that hold nothing but such groups.
+-- A body without groups that are empty or consist of empty groups alone.
 abbrev pub pruned : Forest → Forest
 pruned Empty = Empty
 pruned (Then leaf rest) = Then leaf (pruned rest)
 pruned (Group inner rest) = grouped (pruned inner) (pruned rest)
 
--- A body without empty groups, with its movements written by registers of which nothing is known at first.
+-- A body without empty groups, with its movements written with registers; at first no value is known.
 unfoldable pub reused : Forest → Forest
 reused body = reused_from nothing_known (pruned body)

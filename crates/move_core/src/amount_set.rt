@@ -1,11 +1,11 @@
-//! Sets of amounts: most groups of a page have few, so the first sixteen stand in an array.
+//! Sets of amounts. Most groups of a page have few amounts, so the first sixteen are in an array.
 
 ghost use Rattle.std.specs.Prelude.{◌≡◌, ◌≤◌, ◌||◌, ℤ, false, not, IfOk, OnOk};
 
 use std::alloc::{AllocError, Global};
 use std::collections::BTreeSet;
 
-/// Amounts of movements: the first `count` of the array, and those of the set.
+/// A set of amounts of movements: the first `count` of the array, and those of the tree.
 #[derive(Debug, Drop)]
 pub struct AmountSet {
     pub first: [i32; 16],
@@ -18,7 +18,7 @@ impl AmountSet {
     ghost use Rattle.std.specs.Ordering.{int_eq};
     ghost use Rattle.move_core.specs.Passes.{has_amount};
 
-    /// No amount.
+    /// An empty set.
     #[tactic(auto, unfolding(crate::specs::Passes::has_amount))]
     pub fn new(alloc: Global) -> AmountSet
         ensures { (n : ℤ) → has_amount result n ≡ false }
@@ -30,7 +30,7 @@ impl AmountSet {
         }
     }
 
-    /// Adds an amount, and tells whether it was not there.
+    /// Adds an amount, and returns whether it is new.
     #[tactic(auto, unfolding(crate::specs::Passes::has_amount))]
     pub fn insert(&mut self, amount: i32) -> Result<bool, AllocError>
         ensures added { IfOk result (λ added. added ≡ not (has_amount self.old amount)) }
@@ -40,7 +40,7 @@ impl AmountSet {
             return Ok(false);
         }
         if self.count < 16 {
-            // (the set is empty as long as the array has room: to ask it is cheaper than to know it)
+            // The tree is empty while the array has room. A call that asks it is cheaper than an invariant that says so.
             let is_new = !self.others.contains(&amount);
             self.first[self.count] = amount;
             self.count += 1;

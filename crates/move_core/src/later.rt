@@ -1,12 +1,12 @@
-//! Which amounts come later, as the instructions of a page are gone over from the last to the first.
+//! The amounts that come later, in a pass over the instructions of a page from the last to the first.
 
 ghost use Rattle.std.specs.Prelude.{◌≡◌, ◌∷◌, [], List, ℤ, false, IfOk};
 ghost use Rattle.dvi_ops.specs.Instruction.{Axis, Instruction};
-ghost use Rattle.dvi_ops.specs.View.{view};
+ghost use Rattle.dvi_ops.specs.View.{body_view};
 ghost use Rattle.move_core.specs.Passes.{Knows, again_in, has};
 
 use crate::amount_set::AmountSet;
-use dvi_ops::Op;
+use dvi_ops::BodyOp;
 use std::alloc::{AllocError, Global};
 use std::mem::replace;
 
@@ -18,7 +18,7 @@ pub struct Amounts {
 }
 
 impl Amounts {
-    /// No amount.
+    /// Empty sets.
     fn new(alloc: Global) -> Amounts
         ensures { (axis : Axis) (n : ℤ) → has result axis n ≡ false }
     {
@@ -29,7 +29,8 @@ impl Amounts {
     }
 }
 
-/// The amounts that come later in the group that is gone over, and those that come behind it in the groups around it, the innermost last.
+/// The amounts that come later in the current group, and those after it in each enclosing group, the innermost last. The pass goes backward, so a pop
+/// enters a group and a push leaves it.
 #[derive(Debug, Drop)]
 pub struct Later {
     pub here: Amounts,
@@ -37,7 +38,7 @@ pub struct Later {
 }
 
 impl Later {
-    /// Behind all instructions.
+    /// The state after all instructions.
     pub fn new(alloc: Global) -> Later
         ensures { Knows result [] }
     {
@@ -47,20 +48,21 @@ impl Later {
         }
     }
 
-    /// Goes in front of one more instruction, and tells whether it is a movement whose amount comes again.
-    pub fn meet(&mut self, alloc: Global, op: Op<'_>) -> Result<bool, AllocError>
-        ensures again { IfOk result (λ again. (rest : List Instruction) → Knows self.old rest → again ≡ again_in (view op.entry) rest) }
-        ensures knows { IfOk result (λ again. (rest : List Instruction) → Knows self.old rest → Knows self.new (view op.entry ∷ rest)) }
+    /// Passes one more instruction, from the end to the start, and returns whether it is a movement whose amount comes again in its group. The given
+    /// body decides this, before any movement is written with a register; so flags do not depend on which registers are in use.
+    pub fn meet(&mut self, alloc: Global, op: BodyOp<'_>) -> Result<bool, AllocError>
+        ensures again { IfOk result (λ again. (rest : List Instruction) → Knows self.old rest → again ≡ again_in (body_view op.entry) rest) }
+        ensures knows { IfOk result (λ again. (rest : List Instruction) → Knows self.old rest → Knows self.new (body_view op.entry ∷ rest)) }
     {
         match op {
-            Op::Right(amount) => Ok(!self.here.across.insert(amount)?),
-            Op::Down(amount) => Ok(!self.here.down.insert(amount)?),
-            Op::Pop => {
+            BodyOp::Right(amount) => Ok(!self.here.across.insert(amount)?),
+            BodyOp::Down(amount) => Ok(!self.here.down.insert(amount)?),
+            BodyOp::Pop => {
                 let behind = replace(&mut self.here, Amounts::new(alloc));
                 self.outer.push(behind)?;
                 Ok(false)
             }
-            Op::Push => {
+            BodyOp::Push => {
                 self.here = self.outer.pop().unwrap_or(Amounts::new(alloc));
                 Ok(false)
             }

@@ -5,39 +5,39 @@ ghost use Rattle.std.specs.List.{AllByRecursion};
 ghost use Rattle.dvi_ops.specs.Instruction.{Axis};
 ghost use Rattle.dvi_ops.specs.Forest.{Forest, flat};
 ghost use Rattle.dvi_ops.specs.Layout.{IsWritable, bytes_of};
-ghost use Rattle.dvi_ops.specs.View.{view};
+ghost use Rattle.dvi_ops.specs.View.{body_view};
 ghost use Rattle.move_core.specs.Reused.{reused};
 ghost use Rattle.move_core.specs.SamePage.{AreBodies, HasNoHollow, IsPlainBody, MeansTheSame, NestsNoDeeper, PassesThroughNoOther, SetsAhead, UsesStored, still, unset};
 
 use crate::passes::{with_registers, without_empty_groups};
-use dvi_ops::Op;
+use dvi_ops::BodyOp;
 use std::alloc::AllocError;
 
-/// The body of a page, with its movements written by w, x, y and z where their amounts come again, and without empty groups. Where memory is
-/// refused, the list is gone.
-pub fn reuse<'a>(ops: Vec<Op<'a>>) -> Result<Vec<Op<'a>>, AllocError>
-    // The instructions are the body of a page, and none names w, x, y or z.
-    requires { IsPlainBody (map view ops.items) }
-    // From every state the same marks, the same end and the same font, and no meaning where there was none.
-    ensures meaning { IfOk result (λ written. AreBodies MeansTheSame (map view ops.entry.items) (map view written.items)) }
-    // No other (h, v) is passed through.
-    ensures points { IfOk result (λ written. AreBodies PassesThroughNoOther (map view ops.entry.items) (map view written.items)) }
+/// Writes the movements of a page body with w, x, y and z where their amounts come again, and removes empty groups. Where memory is refused, the list
+/// is dropped.
+pub fn reuse<'a>(ops: Vec<BodyOp<'a>>) -> Result<Vec<BodyOp<'a>>, AllocError>
+    // The instructions are the body of a page, and none sets or reads w, x, y or z.
+    requires { IsPlainBody (map body_view ops.items) }
+    // From every state: the same marks, the same place and font at the end, and no meaning where there was none.
+    ensures meaning { IfOk result (λ written. AreBodies MeansTheSame (map body_view ops.entry.items) (map body_view written.items)) }
+    // The written body passes through no place (h, v) that the given one does not.
+    ensures points { IfOk result (λ written. AreBodies PassesThroughNoOther (map body_view ops.entry.items) (map body_view written.items)) }
     // The groups nest no deeper.
-    ensures nesting { IfOk result (λ written. AreBodies NestsNoDeeper (map view ops.entry.items) (map view written.items)) }
-    // The bytes are no more.
-    ensures bytes { IfOk result (λ written. length (bytes_of (map view written.items)) ≤ length (bytes_of (map view ops.entry.items))) }
-    // All but movements and groups stands in the same order.
-    ensures order { IfOk result (λ written. still (map view written.items) ≡ still (map view ops.entry.items)) }
-    // What can be written where the list could.
-    ensures writable { IfOk result (λ written. AllByRecursion IsWritable (map view ops.entry.items) → AllByRecursion IsWritable (map view written.items)) }
-    // No group holds nothing but groups that hold nothing but such groups.
-    ensures full { IfOk result (λ written. AreBodies (λ f g. HasNoHollow g) (map view ops.entry.items) (map view written.items)) }
-    // No movement names an amount to which a register was set and which it still holds.
-    ensures held { IfOk result (λ written. AreBodies (λ f g. (axis : Axis) → UsesStored axis unset g) (map view ops.entry.items) (map view written.items)) }
-    // No movement that names no register goes as far as a later one of its group.
-    ensures ahead { IfOk result (λ written. AreBodies (λ f g. (axis : Axis) → SetsAhead axis unset g) (map view ops.entry.items) (map view written.items)) }
-    // It is the reused body.
-    ensures reused { IfOk result (λ written. (body : Forest) → map view ops.entry.items ≡ flat body → map view written.items ≡ flat (reused body)) }
+    ensures nesting { IfOk result (λ written. AreBodies NestsNoDeeper (map body_view ops.entry.items) (map body_view written.items)) }
+    // The body has no more bytes.
+    ensures bytes { IfOk result (λ written. length (bytes_of (map body_view written.items)) ≤ length (bytes_of (map body_view ops.entry.items))) }
+    // All instructions but movements, push and pop are the same, in the same order.
+    ensures order { IfOk result (λ written. still (map body_view written.items) ≡ still (map body_view ops.entry.items)) }
+    // Instructions that could be written can still be written.
+    ensures writable { IfOk result (λ written. AllByRecursion IsWritable (map body_view ops.entry.items) → AllByRecursion IsWritable (map body_view written.items)) }
+    // No group is empty or consists of empty groups alone.
+    ensures full { IfOk result (λ written. AreBodies (λ f g. HasNoHollow g) (map body_view ops.entry.items) (map body_view written.items)) }
+    // No movement has an amount as its operand that a register was set to and still holds.
+    ensures held { IfOk result (λ written. AreBodies (λ f g. (axis : Axis) → UsesStored axis unset g) (map body_view ops.entry.items) (map body_view written.items)) }
+    // No movement without a register goes as far as a later one of its group.
+    ensures ahead { IfOk result (λ written. AreBodies (λ f g. (axis : Axis) → SetsAhead axis unset g) (map body_view ops.entry.items) (map body_view written.items)) }
+    // The result is the reused body.
+    ensures reused { IfOk result (λ written. (body : Forest) → map body_view ops.entry.items ≡ flat body → map body_view written.items ≡ flat (reused body)) }
 {
     let kept = without_empty_groups(ops)?;
     with_registers(kept)

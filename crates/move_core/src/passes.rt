@@ -2,20 +2,20 @@
 
 ghost use Rattle.std.specs.Prelude.{◌≡◌, ◌<◌, [], ◌∷◌, List, false, length, map, reverse, IfOk, OnOk};
 ghost use Rattle.dvi_ops.specs.Instruction.{Instruction};
-ghost use Rattle.dvi_ops.specs.View.{view};
-ghost use Rattle.move_core.specs.Passes.{again_in, trimmed, ends_empty_group, is_push, has_empty_group, flags_of, is_move, rewritten, at_first, entered, groups_of, Turns};
+ghost use Rattle.dvi_ops.specs.View.{body_view};
+ghost use Rattle.move_core.specs.Passes.{again_in, trimmed, ends_empty_group, is_push, has_empty_group, flags_of, is_move, rewritten, outside_groups, entered, known_groups, RewritesOp};
 
 use crate::later::Later;
 use crate::registers::Known;
-use dvi_ops::Op;
+use dvi_ops::BodyOp;
 use std::alloc::{AllocError, Global};
 
-/// Keeps one more instruction; a pop takes away the push directly in front of it, and is not kept.
-fn keep<'a>(kept: &mut Vec<Op<'a>>, op: Op<'a>) -> Result<(), AllocError>
+/// Keeps one more instruction. A pop removes a push directly before it, and is not kept.
+fn keep<'a>(kept: &mut Vec<BodyOp<'a>>, op: BodyOp<'a>) -> Result<(), AllocError>
     ensures { OnOk result ((rest : List Instruction) →
-        trimmed rest (reverse (map view kept.new.items)) ≡ trimmed (view op.entry ∷ rest) (reverse (map view kept.old.items))) }
+        trimmed rest (reverse (map body_view kept.new.items)) ≡ trimmed (body_view op.entry ∷ rest) (reverse (map body_view kept.old.items))) }
 {
-    if matches!(op, Op::Pop) && matches!(kept.last(), Some(Op::Push)) {
+    if matches!(op, BodyOp::Pop) && matches!(kept.last(), Some(BodyOp::Push)) {
         kept.pop();
     } else {
         kept.push(op)?;
@@ -23,23 +23,23 @@ fn keep<'a>(kept: &mut Vec<Op<'a>>, op: Op<'a>) -> Result<(), AllocError>
     Ok(())
 }
 
-/// Whether an instruction ends an empty group, where `pushed` says whether a push stands directly in front of it.
-fn ends_empty_group(pushed: bool, op: &Op<'_>) -> bool
-    ensures { result ≡ ends_empty_group pushed (view op.now) }
+/// Whether an instruction ends an empty group, where `pushed` is whether the instruction before it is a push.
+fn ends_empty_group(pushed: bool, op: &BodyOp<'_>) -> bool
+    ensures { result ≡ ends_empty_group pushed (body_view op.now) }
 {
-    pushed && matches!(op, Op::Pop)
+    pushed && matches!(op, BodyOp::Pop)
 }
 
 /// Whether an instruction is a push.
-fn is_push(op: &Op<'_>) -> bool
-    ensures { result ≡ is_push (view op.now) }
+fn is_push(op: &BodyOp<'_>) -> bool
+    ensures { result ≡ is_push (body_view op.now) }
 {
-    matches!(op, Op::Push)
+    matches!(op, BodyOp::Push)
 }
 
-/// Whether a pop stands directly after a push.
-fn has_empty_group(ops: &[Op<'_>]) -> bool
-    ensures { result ≡ has_empty_group false (map view ops.now) }
+/// Whether some pop comes directly after a push.
+fn has_empty_group(ops: &[BodyOp<'_>]) -> bool
+    ensures { result ≡ has_empty_group false (map body_view ops.now) }
 {
     let mut pushed = false;
     for op in ops {
@@ -51,9 +51,10 @@ fn has_empty_group(ops: &[Op<'_>]) -> bool
     false
 }
 
-/// The instructions without the groups that hold nothing but such groups: where there is none, as they are.
-pub fn without_empty_groups<'a>(ops: Vec<Op<'a>>) -> Result<Vec<Op<'a>>, AllocError>
-    ensures { IfOk result (λ kept. map view kept.items ≡ trimmed (map view ops.entry.items) []) }
+/// The instructions without groups that are empty or consist of empty groups alone. Where there is none, the list is returned as it is, and takes no
+/// memory.
+pub fn without_empty_groups<'a>(ops: Vec<BodyOp<'a>>) -> Result<Vec<BodyOp<'a>>, AllocError>
+    ensures { IfOk result (λ kept. map body_view kept.items ≡ trimmed (map body_view ops.entry.items) []) }
 {
     if !has_empty_group(&ops) {
         return Ok(ops);
@@ -65,17 +66,17 @@ pub fn without_empty_groups<'a>(ops: Vec<Op<'a>>) -> Result<Vec<Op<'a>>, AllocEr
     Ok(kept)
 }
 
-/// Whether an instruction is a movement that names no register.
-fn is_move(op: &Op<'_>) -> bool
-    ensures { result ≡ is_move (view op.now) }
+/// Whether an instruction is a movement without a register.
+fn is_move(op: &BodyOp<'_>) -> bool
+    ensures { result ≡ is_move (body_view op.now) }
 {
-    matches!(op, Op::Right(_) | Op::Down(_))
+    matches!(op, BodyOp::Right(_) | BodyOp::Down(_))
 }
 
-/// Keeps the flag of an instruction, if it is such a movement.
-fn push_flag(flags: &mut Vec<bool>, op: &Op<'_>, again: bool) -> Result<(), AllocError>
-    ensures { OnOk result ((rest : List Instruction) → again ≡ again_in (view op.now) rest → reverse flags.old.items ≡ flags_of rest →
-        reverse flags.new.items ≡ flags_of (view op.now ∷ rest)) }
+/// Keeps the flag of an instruction, if it is a movement without a register.
+fn push_flag(flags: &mut Vec<bool>, op: &BodyOp<'_>, again: bool) -> Result<(), AllocError>
+    ensures { OnOk result ((rest : List Instruction) → again ≡ again_in (body_view op.now) rest → reverse flags.old.items ≡ flags_of rest →
+        reverse flags.new.items ≡ flags_of (body_view op.now ∷ rest)) }
 {
     if !is_move(op) {
         return Ok(());
@@ -84,9 +85,9 @@ fn push_flag(flags: &mut Vec<bool>, op: &Op<'_>, again: bool) -> Result<(), Allo
     Ok(())
 }
 
-/// For each movement that names no register, the last one first, whether its amount comes again.
-fn which_come_again(alloc: Global, ops: &[Op<'_>]) -> Result<Vec<bool>, AllocError>
-    ensures { IfOk result (λ flags. reverse flags.items ≡ flags_of (map view ops.now)) }
+/// For each movement without a register, from the last to the first, whether its amount comes again.
+fn which_come_again(alloc: Global, ops: &[BodyOp<'_>]) -> Result<Vec<bool>, AllocError>
+    ensures { IfOk result (λ flags. reverse flags.items ≡ flags_of (map body_view ops.now)) }
 {
     let mut later = Later::new(alloc);
     let mut flags = Vec::new(alloc);
@@ -97,27 +98,27 @@ fn which_come_again(alloc: Global, ops: &[Op<'_>]) -> Result<Vec<bool>, AllocErr
     Ok(flags)
 }
 
-/// What is known of the registers, what was known of them in front of each open group, the innermost last, and the flags of the movements that come,
-/// the next one last.
+/// The state of the last pass: the known register values, those before each open group with the innermost last, and the flags of the movements to
+/// come with the next one last.
 #[derive(Debug, Drop)]
-pub struct Pass {
+pub struct RegisterPass {
     pub known: Known,
     pub outer: Vec<Known>,
     pub flags: Vec<bool>,
 }
 
-impl Pass {
-    /// At a push, keeps what is known; at a pop, takes it back.
-    fn enter(&mut self, op: Op<'_>) -> Result<(), AllocError>
-        ensures groups { OnOk result (groups_of self.new ≡ entered (view op.entry) (groups_of self.old)) }
+impl RegisterPass {
+    /// Saves the known values at a push, and restores them at a pop.
+    fn enter(&mut self, op: BodyOp<'_>) -> Result<(), AllocError>
+        ensures groups { OnOk result (known_groups self.new ≡ entered (body_view op.entry) (known_groups self.old)) }
         ensures flags { OnOk result (self.new.flags ≡ self.old.flags) }
     {
         match op {
-            Op::Push => {
+            BodyOp::Push => {
                 self.outer.push(self.known)?;
                 Ok(())
             }
-            Op::Pop => {
+            BodyOp::Pop => {
                 self.known = self.outer.pop().unwrap_or(Known::nothing());
                 Ok(())
             }
@@ -125,10 +126,10 @@ impl Pass {
         }
     }
 
-    /// Meets instruction i, and writes it anew in its place where it is a movement.
-    fn turn<'a>(&mut self, ops: &mut Vec<Op<'a>>, i: usize) -> Result<(), AllocError>
+    /// Processes instruction i, and rewrites it in place where it is a movement.
+    fn turn<'a>(&mut self, ops: &mut Vec<BodyOp<'a>>, i: usize) -> Result<(), AllocError>
         requires { i < length ops.old.items }
-        ensures { OnOk result (Turns self.old ops.old.items i self.new ops.new.items) }
+        ensures { OnOk result (RewritesOp self.old ops.old.items i self.new ops.new.items) }
     {
         let op = ops[i];
         if is_move(&op) {
@@ -140,12 +141,12 @@ impl Pass {
     }
 }
 
-/// The instructions with their movements written by registers, each in its place.
-pub fn with_registers<'a>(mut ops: Vec<Op<'a>>) -> Result<Vec<Op<'a>>, AllocError>
-    ensures { IfOk result (λ written. map view written.items ≡ rewritten (map view ops.entry.items) at_first) }
+/// The instructions with their movements written with registers, each in its place.
+pub fn with_registers<'a>(mut ops: Vec<BodyOp<'a>>) -> Result<Vec<BodyOp<'a>>, AllocError>
+    ensures { IfOk result (λ written. map body_view written.items ≡ rewritten (map body_view ops.entry.items) outside_groups) }
 {
     let alloc = *ops.allocator();
-    let mut pass = Pass {
+    let mut pass = RegisterPass {
         known: Known::nothing(),
         outer: Vec::new(alloc),
         flags: which_come_again(alloc, &ops)?,

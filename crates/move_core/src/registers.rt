@@ -1,137 +1,138 @@
-//! What is known of the registers w, x, y and z, and how a movement is written by it.
+//! The known values of the registers w, x, y and z, and the choice of an instruction for a movement.
 
 ghost use Rattle.std.specs.Prelude.{◌≡◌};
 ghost use Rattle.dvi_ops.specs.Instruction.{Across, Downward, Do, Move};
-ghost use Rattle.dvi_ops.specs.View.{view};
+ghost use Rattle.dvi_ops.specs.View.{body_view};
 ghost use Rattle.move_core.specs.Registers.{nothing_known, choose, other};
 ghost use Rattle.move_core.specs.Passes.{register_view, step_view, held_view, known_view, op_written, known_behind};
 
-use dvi_ops::Op;
+use dvi_ops::BodyOp;
 
 /// A register of a direction: w or y is the first, x or z the second (DVItype, 14).
 #[derive(Clone, Copy, Debug, PartialEq, Eq)]
-pub enum Register {
+pub enum MoveRegister {
     First,
     Second,
 }
 
-/// How a movement is written.
+/// The form in which a movement is written.
 #[derive(Clone, Copy, Debug, PartialEq, Eq)]
-pub enum Step {
+pub enum Movement {
     /// By an amount: right, down.
     By(i32),
-    /// By an amount that a register keeps: w1..4, x1..4, y1..4, z1..4.
-    Set(Register, i32),
-    /// By what a register holds: w0, x0, y0, z0.
-    Again(Register),
+    /// By an amount that is stored in a register: w1..4, x1..4, y1..4, z1..4.
+    Set(MoveRegister, i32),
+    /// By the value of a register: w0, x0, y0, z0.
+    Again(MoveRegister),
 }
 
-/// What is known of the two registers of a direction, and which of them was used last.
+/// The known values of the two registers of a direction, and which register was used last.
 #[derive(Clone, Copy, Debug, PartialEq, Eq)]
-pub struct Held {
+pub struct RegisterPair {
     pub first: Option<i32>,
     pub second: Option<i32>,
-    pub last: Register,
+    pub last: MoveRegister,
 }
 
-/// What is known of w and x, and of y and z.
+/// The known values of w and x, and of y and z.
 #[derive(Clone, Copy, Debug, PartialEq, Eq)]
 pub struct Known {
-    pub across: Held,
-    pub down: Held,
+    pub across: RegisterPair,
+    pub down: RegisterPair,
 }
 
-/// The movement to the right that is written so.
-fn across_op(step: Step) -> Op<'static>
-    ensures { view result ≡ Do (Move Across (step_view step)) }
+/// The instruction for a movement to the right in this form.
+fn across_op(step: Movement) -> BodyOp<'static>
+    ensures { body_view result ≡ Do (Move Across (step_view step)) }
 {
     match step {
-        Step::By(amount) => Op::Right(amount),
-        Step::Set(Register::First, amount) => Op::W(amount),
-        Step::Set(Register::Second, amount) => Op::X(amount),
-        Step::Again(Register::First) => Op::W0,
-        Step::Again(Register::Second) => Op::X0,
+        Movement::By(amount) => BodyOp::Right(amount),
+        Movement::Set(MoveRegister::First, amount) => BodyOp::W(amount),
+        Movement::Set(MoveRegister::Second, amount) => BodyOp::X(amount),
+        Movement::Again(MoveRegister::First) => BodyOp::W0,
+        Movement::Again(MoveRegister::Second) => BodyOp::X0,
     }
 }
 
-/// The movement down that is written so.
-fn down_op(step: Step) -> Op<'static>
-    ensures { view result ≡ Do (Move Downward (step_view step)) }
+/// The instruction for a movement down in this form.
+fn down_op(step: Movement) -> BodyOp<'static>
+    ensures { body_view result ≡ Do (Move Downward (step_view step)) }
 {
     match step {
-        Step::By(amount) => Op::Down(amount),
-        Step::Set(Register::First, amount) => Op::Y(amount),
-        Step::Set(Register::Second, amount) => Op::Z(amount),
-        Step::Again(Register::First) => Op::Y0,
-        Step::Again(Register::Second) => Op::Z0,
+        Movement::By(amount) => BodyOp::Down(amount),
+        Movement::Set(MoveRegister::First, amount) => BodyOp::Y(amount),
+        Movement::Set(MoveRegister::Second, amount) => BodyOp::Z(amount),
+        Movement::Again(MoveRegister::First) => BodyOp::Y0,
+        Movement::Again(MoveRegister::Second) => BodyOp::Z0,
     }
 }
 
-impl Register {
-    /// The register that is not this one.
-    fn other(self) -> Register
+impl MoveRegister {
+    /// The other register of the direction.
+    fn other(self) -> MoveRegister
         ensures { register_view result ≡ other (register_view self) }
     {
         match self {
-            Register::First => Register::Second,
-            Register::Second => Register::First,
+            MoveRegister::First => MoveRegister::Second,
+            MoveRegister::Second => MoveRegister::First,
         }
     }
 }
 
-impl Held {
-    /// Nothing is known of either register, and x or z counts as the last one.
-    const NOTHING: Held = Held {
+impl RegisterPair {
+    /// No value is known, and x or z counts as the register that was used last.
+    const NOTHING: RegisterPair = RegisterPair {
         first: None,
         second: None,
-        last: Register::Second,
+        last: MoveRegister::Second,
     };
 
-    /// How a movement by that amount is written, where `again` tells whether the amount comes again; its register becomes the last one.
-    fn choose(&mut self, amount: i32, again: bool) -> Step
+    /// Chooses the form of a movement by that amount, where `again` is whether the amount comes again in its group. To set a register counts as a use
+    /// of it, so the other register is the next one to be set.
+    fn choose(&mut self, amount: i32, again: bool) -> Movement
         ensures step { step_view result ≡ (choose (held_view self.old) amount again).step }
         ensures held { held_view self.new ≡ (choose (held_view self.old) amount again).held }
     {
         if self.first == Some(amount) {
-            self.last = Register::First;
-            return Step::Again(Register::First);
+            self.last = MoveRegister::First;
+            return Movement::Again(MoveRegister::First);
         }
         if self.second == Some(amount) {
-            self.last = Register::Second;
-            return Step::Again(Register::Second);
+            self.last = MoveRegister::Second;
+            return Movement::Again(MoveRegister::Second);
         }
         if !again {
-            return Step::By(amount);
+            return Movement::By(amount);
         }
         let register = self.last.other();
         match register {
-            Register::First => self.first = Some(amount),
-            Register::Second => self.second = Some(amount),
+            MoveRegister::First => self.first = Some(amount),
+            MoveRegister::Second => self.second = Some(amount),
         }
         self.last = register;
-        Step::Set(register, amount)
+        Movement::Set(register, amount)
     }
 }
 
 impl Known {
-    /// Nothing is known of the registers.
+    /// No register value is known.
     pub fn nothing() -> Known
         ensures { known_view result ≡ nothing_known }
     {
         Known {
-            across: Held::NOTHING,
-            down: Held::NOTHING,
+            across: RegisterPair::NOTHING,
+            down: RegisterPair::NOTHING,
         }
     }
 
-    /// What is written for an instruction, where `again` tells whether it is a movement whose amount comes again.
-    pub fn write<'a>(&mut self, op: Op<'a>, again: bool) -> Op<'a>
-        ensures op { view result ≡ op_written (known_view self.old) (view op.entry) again }
-        ensures known { known_view self.new ≡ known_behind (known_view self.old) (view op.entry) again }
+    /// The instruction that is written for an instruction, where `again` is whether it is a movement whose amount comes again.
+    pub fn write<'a>(&mut self, op: BodyOp<'a>, again: bool) -> BodyOp<'a>
+        ensures op { body_view result ≡ op_written (known_view self.old) (body_view op.entry) again }
+        ensures known { known_view self.new ≡ known_behind (known_view self.old) (body_view op.entry) again }
     {
         match op {
-            Op::Right(amount) => across_op(self.across.choose(amount, again)),
-            Op::Down(amount) => down_op(self.down.choose(amount, again)),
+            BodyOp::Right(amount) => across_op(self.across.choose(amount, again)),
+            BodyOp::Down(amount) => down_op(self.down.choose(amount, again)),
             other => other,
         }
     }

@@ -1,4 +1,4 @@
--- Lists of nodes and items are the same thing, seen in two ways.
+-- Lists of nodes and items are two forms of the same thing.
 use Rattle.std.proofs.Common.{◌≡◌, ◌≢◌, ◌∙◌, ℕ, ℤ, ◌+◌, ◌<◌, ◌≤◌, max, List, [], ◌∷◌, ◌++◌, length, take, get_or, refl, ap, sym, arith, Result, Ok, Err, length-append}
 use Rattle.std.specs.Prelude.{OnOk, OnErr}
 use Rattle.std.proofs.lemmas.List.{take_more}
@@ -6,9 +6,9 @@ use Rattle.node_core.specs.declared.tree.Node.{Node}
 use Rattle.node_core.specs.declared.tree.Node.TheVariants.{Glyph, FontKern, Kern, Glue, Penalty, Rule, Special, Box}
 use Rattle.node_core.specs.declared.tree.BoxNode.{BoxNode}
 use Rattle.node_core.specs.Items.{Leaf, glyph, font_kern, kern, glue, penalty, rule, special, Items, none, leaf, box, items_count, items_depth, items_text}
-use Rattle.node_core.specs.Nodes.{most_nodes, items_of, node_of, nodes_of}
+use Rattle.node_core.specs.Nodes.{max_nodes, items_of, node_of, nodes_of}
 
--- A list of nodes is the nodes of its items.
+-- The nodes of the items of a list are its nodes.
 pub nodes_of-items_of : (nodes : List Node) → nodes_of (items_of nodes) ≡ nodes
 nodes_of-items_of [] = refl
 nodes_of-items_of ((Glyph g) ∷ rest) = ap (λ nodes. Glyph g ∷ nodes) (nodes_of-items_of rest)
@@ -36,18 +36,18 @@ items_of-nodes_of none = refl
 items_of-nodes_of (leaf x rest) = items_of-node_of x (nodes_of rest) ∙ ap (leaf x) (items_of-nodes_of rest)
 items_of-nodes_of (box shift frame inner rest) = ap (box shift frame inner) (items_of-nodes_of rest)
 
--- What the methods of a list and of a box use.
+-- The facts that the methods of a list and of a box need.
 pub ruleset nodes = (nodes_of-items_of, items_of-nodes_of)
 
--- Fewer nodes than may be, behind which one was put or none, are not too many.
+-- A list that had fewer nodes than the limit is within the limit after at most one node is appended.
 pub one_more_fits :
-    {E : Type 0} (result : Result (Unit {0}) E) (old new : List Node) (items : Items) (x : Node) → items_of old ≡ items → length (nodes_of items) < most_nodes
-    → OnOk result (new ≡ old ++ x ∷ []) → OnErr result (new ≡ old) → length new ≤ most_nodes
+    {E : Type 0} (result : Result (Unit {0}) E) (old new : List Node) (items : Items) (x : Node) → items_of old ≡ items → length (nodes_of items) < max_nodes
+    → OnOk result (new ≡ old ++ x ∷ []) → OnErr result (new ≡ old) → length new ≤ max_nodes
 one_more_fits (Ok u) old new items x is few ok err =
     omega (arith, few, ap (λ l. length (nodes_of l)) is, ap length (nodes_of-items_of old), ap length ok, length-append old (x ∷ []))
 one_more_fits (Err e) old new items x is few ok err = omega (arith, few, ap (λ l. length (nodes_of l)) is, ap length (nodes_of-items_of old), ap length err)
 
--- With one more node, what a list counts is more by what the node counts.
+-- With one more node, the count of a list grows by the count of the node.
 abbrev pub node_count : Node → ℕ
 node_count x = items_count (items_of (x ∷ []))
 
@@ -90,7 +90,7 @@ items_depth-append ((Rule sizes) ∷ rest) x = omega (arith, items_depth-append 
 items_depth-append ((Special text) ∷ rest) x = omega (arith, items_depth-append rest x)
 items_depth-append ((Box shift b) ∷ rest) x = omega (arith, items_depth-append rest x)
 
--- The same of one more node of a list that is passed.
+-- The same for the next node of a list that a loop passes over.
 pub items_count_more : (nodes : List Node) → (i : ℕ) → (x : Node) → i < length nodes → x ≡ get_or nodes i x →
     items_count (items_of (take (i + 1) nodes)) ≡ items_count (items_of (take i nodes)) + node_count x
 items_count_more nodes i x below is =
@@ -103,7 +103,7 @@ items_depth_more nodes i x below is =
     ap (λ front. items_depth (items_of front)) (take_more nodes i x below) ∙ items_depth-append (take i nodes) (get_or nodes i x)
     ∙ ap (λ y. max (items_depth (items_of (take i nodes))) (node_depth y)) (sym is)
 
--- What is no box holds no other items.
+-- A node that is no box holds no other items.
 pub leaf_count : (x : Node) → ((shift : ℤ) (b : BoxNode) → x ≢ Box shift b) → node_count x ≡ 1
 leaf_count (Glyph g) other = refl
 leaf_count (FontKern width) other = refl
@@ -130,7 +130,7 @@ items_text_more nodes i x below is =
     ap (λ front. items_text (items_of front)) (take_more nodes i x below) ∙ items_text-append (take i nodes) (get_or nodes i x)
     ∙ ap (λ y. items_text (items_of (take i nodes)) + node_text y) (sym is)
 
--- What is neither a box nor a special has no text.
+-- A node that is neither a box nor a special has no text.
 pub leaf_text : (x : Node) → ((shift : ℤ) (b : BoxNode) → x ≢ Box shift b) → ((text : List ℕ) → x ≢ Special text) → node_text x ≡ 0
 leaf_text (Glyph g) no_box other = refl
 leaf_text (FontKern width) no_box other = refl

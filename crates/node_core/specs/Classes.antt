@@ -1,5 +1,5 @@
--- What an item is to the breaking and the packing of lists (TeX: The Program, part 10, §148: precedes_break and non_discardable; kerns of a
--- font: part 39, §866 and §879; glue that shrinks in an infinite order: part 38, §825, and part 44, §976).
+-- What matters about an item when lists are broken and packed (TeX: The Program, part 10, §148: precedes_break and non_discardable; kerns of a font:
+-- part 39, §866 and §879; glue that shrinks in an infinite order: part 38, §825, and part 44, §976).
 use Rattle.std.specs.Prelude.{ℤ, pos, negsuc, zero, suc, Bool, true, false, not, ◌&&◌}
 use Rattle.node_core.specs.declared.tree.Kind.{Kind}
 use Rattle.node_core.specs.declared.tree.Kind.TheVariants.{Horizontal, Vertical}
@@ -30,7 +30,7 @@ is_discardable Kern = true
 is_discardable Penalty = true
 is_discardable Special = false
 
--- Items after which glue is a legal break: a box, a rule or a special; in a horizontal list a character or a kern of a font too.
+-- Items after which glue is a legal break: a box, a rule or a special, and in a horizontal list also a character or a kern of a font.
 abbrev pub precedes_break : Kind → ItemClass → Bool
 precedes_break kind BoxOrRule = true
 precedes_break Horizontal GlyphOrFontKern = true
@@ -49,7 +49,7 @@ is_box_or_rule Kern = false
 is_box_or_rule Penalty = false
 is_box_or_rule Special = false
 
--- Whether items of the class have no size and leave the depth of what is before them pending: penalties and specials.
+-- Whether items of the class have no size and do not affect the depth of the item before them: penalties and specials.
 abbrev pub is_sizeless : ItemClass → Bool
 is_sizeless BoxOrRule = false
 is_sizeless GlyphOrFontKern = false
@@ -64,14 +64,14 @@ is_zero (pos zero) = true
 is_zero (pos (suc n)) = false
 is_zero (negsuc n) = false
 
--- Whether an order is infinite: each but the normal one.
+-- Whether an order is infinite: every order except the normal one.
 abbrev pub is_infinite : Order → Bool
 is_infinite Normal = false
 is_infinite Fil = true
 is_infinite Fill = true
 is_infinite Filll = true
 
--- Whether an item is glue that shrinks in an infinite order. No list with such glue is broken into lines or split.
+-- Whether an item is glue that shrinks in an infinite order. A list with such glue is never broken into lines or split.
 abbrev pub shrinks_infinitely : Node → Bool
 shrinks_infinitely (nodes.Glue glue) = is_infinite glue.shrink_order && not (is_zero glue.shrink)
 shrinks_infinitely (nodes.Glyph glyph) = false

@@ -1,4 +1,4 @@
--- How the logic stores the items of a list (own; the model of `NodeList` alone, no public clause speaks of it).
+-- How the logic stores the items of a list (own; only the model of `NodeList` uses it, and no public clause speaks of it).
 use Rattle.std.proofs.Common.{◌≡◌, ◌≢◌, ◌⊎◌, ℕ, ℤ, List, refl, inl, inr, ap, arith}
 use Rattle.std.specs.Coded.{Coded, code_by, coded⊎, coded×, coded_ℕ, coded_ℤ, coded_list}
 use base.Stored.{Gv, gnil, gnum, gcons}
@@ -12,13 +12,13 @@ use Rattle.node_core.specs.contracts.tree.Glyph as a_glyph
 use Rattle.node_core.specs.contracts.tree.Kind as a_kind
 use Rattle.node_core.specs.contracts.tree.Rule as a_rule
 use Rattle.node_core.specs.contracts.tree.Setting as a_setting
-use Rattle.node_core.specs.Items.{Leaf, glyph, font_kern, kern, glue, penalty, rule, special, Frame, Items, none, leaf, box}
+use Rattle.node_core.specs.Items.{Leaf, glyph, font_kern, kern, glue, penalty, rule, special, BoxFrame, Items, none, leaf, box}
 
--- What a leaf is stored as: a number (of a kern of either kind, or of a penalty), or a glyph, glue, a rule, or the text of a special (own).
+-- The stored form of a leaf: a number (of a kern of either kind, or of a penalty), a glyph, glue, a rule, or the text of a special (own).
 abbrev pub Cases : Type 0
 Cases = (ℤ ⊎ (ℤ ⊎ ℤ)) ⊎ (Glyph ⊎ (Glue ⊎ (Rule ⊎ List ℕ)))
 
--- The case that a leaf is stored as (own).
+-- The stored case of a leaf (own).
 abbrev pub cases_of : Leaf → Cases
 cases_of (glyph g) = inr (inl g)
 cases_of (font_kern width) = inl (inl width)
@@ -28,7 +28,7 @@ cases_of (glue g) = inr (inr (inl g))
 cases_of (rule sizes) = inr (inr (inr (inl sizes)))
 cases_of (special text) = inr (inr (inr (inr text)))
 
--- The leaf that is stored as a case (own).
+-- The leaf of a stored case (own).
 abbrev pub leaf_of : Cases → Leaf
 leaf_of (inl (inl width)) = font_kern width
 leaf_of (inl (inr (inl width))) = kern width
@@ -38,7 +38,7 @@ leaf_of (inr (inr (inl g))) = glue g
 leaf_of (inr (inr (inr (inl sizes)))) = rule sizes
 leaf_of (inr (inr (inr (inr text)))) = special text
 
--- The leaf that is stored as the case of a leaf is this leaf (own).
+-- Storing a leaf and reading it back gives the same leaf (own).
 pub leaf_of-cases_of : (x : Leaf) → leaf_of (cases_of x) ≡ x
 leaf_of-cases_of (glyph g) = refl
 leaf_of-cases_of (font_kern width) = refl
@@ -55,19 +55,19 @@ coded_leaf =
     cases_of leaf_of leaf_of-cases_of
 
 -- How a frame is stored (own).
-abbrev pub coded_frame : Coded Frame
+abbrev pub coded_frame : Coded BoxFrame
 coded_frame =
     code_by ((Kind × Setting) × (ℤ × (ℤ × ℤ))) (coded× (coded× a_kind.the_row.coded a_setting.the_row.coded) (coded× coded_ℤ (coded× coded_ℤ coded_ℤ)))
     (λ f. ((f.kind, f.setting), (f.width, (f.height, f.depth))))
     (λ p. record { kind = p.0.0; setting = p.0.1; width = p.1.0; height = p.1.1.0; depth = p.1.1.1 }) (λ _. refl)
 
--- The first part of a stored pair; nothing where it is no pair (own).
+-- The first part of a stored pair, or nothing if it is no pair (own).
 abbrev pub head : Gv → Gv
 head gnil = gnil
 head (gnum n) = gnil
 head (gcons a b) = a
 
--- The second part of a stored pair; nothing where it is no pair (own).
+-- The second part of a stored pair, or nothing if it is no pair (own).
 abbrev pub tail : Gv → Gv
 tail gnil = gnil
 tail (gnum n) = gnil
@@ -80,11 +80,11 @@ items_code (leaf x rest) = gcons (gnum 1) (gcons (coded_leaf.code x) (items_code
 items_code (box shift frame inner rest) =
     gcons (gnum 2) (gcons (coded_ℤ.code shift) (gcons (coded_frame.code frame) (gcons (items_code inner) (items_code rest))))
 
--- Two stored items whose first numbers differ are not the same (own).
+-- Two stored items whose first numbers differ are different (own).
 pub apart : (m n : ℕ) {a b : Gv} → gcons (gnum m) a ≡ gcons (gnum n) b → m ≢ n → ⊥
 apart m n p other = other (cc)
 
--- Items that are stored alike are the same (own).
+-- Items with the same stored form are the same (own).
 pub items_inj : (x y : Items) → items_code x ≡ items_code y → x ≡ y
 items_inj none none p = refl
 items_inj none (leaf y rest) p = absurd (apart 0 1 p (omega arith))
@@ -99,6 +99,6 @@ items_inj (box shift frame inner rest) (box by other items more) p =
     λ i. box (coded_ℤ.inj shift by (ap (λ g. head (tail g)) p) i) (coded_frame.inj frame other (ap (λ g. head (tail (tail g))) p) i)
     (items_inj inner items (ap (λ g. head (tail (tail (tail g)))) p) i) (items_inj rest more (ap (λ g. tail (tail (tail (tail g)))) p) i)
 
--- Items, as they are stored (own).
+-- Items with their stored form (own).
 abbrev pub coded_items : Coded Items
 coded_items = record { code = items_code; inj = items_inj }

@@ -1,4 +1,4 @@
--- The trees that contracts see, how the logic stores them, the nodes that they are, and the classes of these.
+-- The trees that contracts speak of, their stored form, their nodes, and the classes of nodes.
 pub mod Items
 pub mod Codes
 pub mod Nodes

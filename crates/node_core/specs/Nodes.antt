@@ -1,24 +1,24 @@
--- A list of nodes and the items that it is seen as (own).
+-- Lists of nodes and the items that are their value in contracts (own).
 use Rattle.std.specs.Prelude.{ℕ, ◌+◌, ◌-◌, List, [], ◌∷◌, length, take, slice_get, Option, None, Some}
 use Rattle.node_core.specs.declared.tree.Node.{Node}
 use Rattle.node_core.specs.declared.tree.Node.TheVariants.{Glyph, FontKern, Kern, Glue, Penalty, Rule, Special, Box}
 use Rattle.node_core.specs.declared.tree.BoxNode.{BoxNode}
-use Rattle.node_core.specs.Items.{Leaf, glyph, font_kern, kern, glue, penalty, rule, special, Frame, Items, none, leaf, box, items_depth, items_count, items_text}
+use Rattle.node_core.specs.Items.{Leaf, glyph, font_kern, kern, glue, penalty, rule, special, BoxFrame, Items, none, leaf, box, items_depth, items_count, items_text}
 
--- A list has at most so many nodes (own).
-abbrev pub most_nodes : ℕ
-most_nodes = 131072
+-- The greatest number of nodes in a list (own).
+abbrev pub max_nodes : ℕ
+max_nodes = 131072
 
 -- A box without its list (own).
-abbrev pub frame_of : BoxNode → Frame
+abbrev pub frame_of : BoxNode → BoxFrame
 frame_of b = record { kind = b.kind; width = b.width; height = b.height; depth = b.depth; setting = b.setting }
 
--- The box of a frame and a list (own).
-abbrev pub box_of : Frame → Items → BoxNode
+-- The box with this frame and this list (own).
+abbrev pub box_of : BoxFrame → Items → BoxNode
 box_of frame items =
     record { kind = frame.kind; width = frame.width; height = frame.height; depth = frame.depth; setting = frame.setting; list = items }
 
--- The items that a list of nodes is (own).
+-- The items of a list of nodes (own).
 abbrev pub items_of : List Node → Items
 items_of [] = none
 items_of ((Glyph g) ∷ rest) = leaf (glyph g) (items_of rest)
@@ -30,7 +30,7 @@ items_of ((Rule sizes) ∷ rest) = leaf (rule sizes) (items_of rest)
 items_of ((Special text) ∷ rest) = leaf (special text) (items_of rest)
 items_of ((Box shift b) ∷ rest) = box shift (frame_of b) b.list (items_of rest)
 
--- The node that a leaf is (own).
+-- The node of a leaf (own).
 abbrev pub node_of : Leaf → Node
 node_of (glyph g) = Glyph g
 node_of (font_kern width) = FontKern width
@@ -40,13 +40,13 @@ node_of (penalty p) = Penalty p
 node_of (rule sizes) = Rule sizes
 node_of (special text) = Special text
 
--- The nodes that items are (own).
+-- The nodes of some items (own).
 abbrev pub nodes_of : Items → List Node
 nodes_of none = []
 nodes_of (leaf x rest) = node_of x ∷ nodes_of rest
 nodes_of (box shift frame inner rest) = Box shift (box_of frame inner) ∷ nodes_of rest
 
--- The depth of a box: 1 if no box stands in it (own).
+-- The depth of a box: 1 if there is no box in it (own).
 abbrev pub box_depth : BoxNode → ℕ
 box_depth b = items_depth b.list + 1
 
@@ -54,11 +54,11 @@ box_depth b = items_depth b.list + 1
 abbrev pub box_count : BoxNode → ℕ
 box_count b = items_count b.list + 1
 
--- How many bytes the texts of the specials in a box have (own).
+-- The number of bytes in the texts of the specials in a box (own).
 abbrev pub box_text : BoxNode → ℕ
 box_text b = items_text b.list
 
--- The box that a node is, if it is one (own).
+-- The box of a node, if the node is a box (own).
 abbrev pub box_in : Node → Option BoxNode
 box_in (Glyph g) = None
 box_in (FontKern width) = None
@@ -69,16 +69,16 @@ box_in (Rule sizes) = None
 box_in (Special text) = None
 box_in (Box shift b) = Some b
 
--- The box that a node is, if there is a node and it is a box (own).
+-- The box of a node, if there is a node and it is a box (own).
 abbrev pub box_at : Option Node → Option BoxNode
 box_at None = None
 box_at (Some x) = box_in x
 
--- The box at the end of a list, if the last node is one (own).
+-- The last node of a list, if it is a box (own).
 abbrev pub last_box : List Node → Option BoxNode
 last_box nodes = box_at (slice_get nodes (length nodes - 1))
 
--- The list without the box at its end, if there is one (own).
+-- The list without the box at its end, if there is one there (own).
 abbrev pub without : Option BoxNode → List Node → List Node
 without None nodes = nodes
 without (Some b) nodes = take (length nodes - 1) nodes

@@ -5,16 +5,17 @@ use Rattle.node_core.specs.declared.tree.Order.TheVariants.{Normal, Fil}
 use Rattle.node_core.specs.declared.params.Params.{Params}
 use Rattle.node_core.specs.declared.params.SplitParams.{SplitParams}
 
--- Glue of a width that neither stretches nor shrinks (own).
+-- Glue of this width that neither stretches nor shrinks (own).
 abbrev pub rigid : (width : ℤ) → Glue
 rigid width = record { width = width; stretch = pos 0; stretch_order = Normal; shrink = pos 0; shrink_order = Normal }
 
--- splitmaxdepth is the greatest dimension, and splittopskip 10pt.
+-- The initial parameters of splits: splitmaxdepth is the greatest dimension, and splittopskip is 10pt.
 abbrev pub first_split_params : SplitParams
 first_split_params = record { split_max_depth = pos 1073741823; split_top_skip = rigid (pos 655360) }
 
--- boxmaxdepth is the greatest dimension, baselineskip 12pt, lineskip 1pt, lineskiplimit 0pt and hsize 6.5in; no first line has a width of its own,
--- firstsize is 6.5in (both own), and parfillskip 0pt plus 1fil; then the numbers, hoffset and voffset 0pt, and the parameters of splits.
+-- The initial parameters: boxmaxdepth is the greatest dimension, baselineskip 12pt, lineskip 1pt, lineskiplimit 0pt and hsize 6.5in; no first line
+-- has a width of its own, and firstsize is 6.5in (both own); parfillskip is 0pt plus 1fil; then come the numbers, hoffset and voffset, which are 0pt,
+-- and the parameters of splits.
 abbrev pub first_params : Params
 first_params =
     record {

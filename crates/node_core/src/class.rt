@@ -1,11 +1,11 @@
-//! What an item is to the breaking and the packing of lists.
+//! The class of an item: what matters about it when lists are broken and packed.
 
 ghost use Rattle.std.specs.Prelude.{◌≡◌};
 ghost use Rattle.node_core.specs.Classes.{class_of, is_discardable, precedes_break, is_box_or_rule, is_sizeless, shrinks_infinitely};
 
 use crate::tree::{Kind, Node, Order};
 
-/// What an item is to the breaking and the packing of lists (TeX: The Program, part 10).
+/// The class of an item: what matters about it when lists are broken and packed (TeX: The Program, part 10).
 #[derive(Clone, Copy, Debug, PartialEq, Eq)]
 pub enum ItemClass {
     /// A box or a rule.
@@ -33,7 +33,7 @@ impl ItemClass {
         }
     }
 
-    /// Whether glue after an item of the class is a legal break, in a list of that kind.
+    /// Whether glue directly after an item of the class is a legal break, in a list of this kind.
     pub fn precedes_break(self, kind: Kind) -> bool
         ensures { result ≡ precedes_break kind self }
     {
@@ -54,7 +54,7 @@ impl ItemClass {
         }
     }
 
-    /// Whether items of the class have no size and leave the depth of what is before them pending: penalties and specials.
+    /// Whether items of the class have no size and do not affect the depth of the item before them: penalties and specials.
     pub fn is_sizeless(self) -> bool
         ensures { result ≡ is_sizeless self }
     {

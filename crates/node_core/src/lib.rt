@@ -10,7 +10,7 @@ pub mod special;
 pub mod tree;
 
 pub use class::ItemClass;
-pub use params::{FirstLines, Number, Params, SplitParams};
+pub use params::{FirstLines, IntParameter, Params, SplitParams};
 pub use special::SpecialText;
 pub use tree::{
     BoxNode, Glue, Glyph, Kind, Node, NodeList, Order, Rule, RuleSize, Setting, push_box,

@@ -1,35 +1,35 @@
-//! The limits of a job, and their numbers as a law. Each is written here alone: code and definitions take it from its constant.
+//! The limits of a job. Each number is written only here: code and definitions use these constants.
 
 ghost use Rattle.std.specs.Prelude.{◌≡◌};
 
-/// How many box registers there are.
+/// The number of box registers.
 pub const REGISTERS: usize = 32_768;
 
-/// How many slots for fonts there are.
+/// The number of font slots.
 pub const FONT_SLOTS: usize = 256;
 
-/// How many counts a page has.
+/// The number of counts of a page.
 pub const COUNTS: usize = 10;
 
-/// How many lists may be open at once.
+/// The greatest number of lists that are open at the same time.
 pub const MAX_OPEN_LISTS: usize = 64;
 
-/// How many items an open list may have.
+/// The greatest number of items in an open list.
 pub const MAX_ITEMS: usize = 65_536;
 
-/// How deep boxes may nest in a box, that box counted.
+/// The greatest depth to which boxes nest, including the outermost box.
 pub const MAX_DEPTH: u64 = 200;
 
-/// How many pages a job may ship.
+/// The greatest number of pages that a job ships.
 pub const MAX_PAGES: u32 = 65_535;
 
-/// How many nodes a job may ship, on all its pages together.
+/// The greatest number of nodes that a job ships, on all its pages together.
 pub const MAX_SHIPPED_NODES: u64 = 16_777_216;
 
-/// How many bytes the text of a special may have.
+/// The greatest number of bytes in the text of a special.
 pub const MAX_SPECIAL_TEXT: usize = 65_535;
 
-/// How many bytes of special texts a job may ship, on all its pages together.
+/// The greatest number of bytes of special texts that a job ships, on all its pages together.
 pub const MAX_SHIPPED_TEXT: u64 = 1_048_576;
 
 /// The limits of a job are these numbers.

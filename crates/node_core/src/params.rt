@@ -1,4 +1,4 @@
-//! The parameters of lists and boxes, and the numbers that they and penalties have (TeX: The Program, part 17).
+//! The parameters of lists and boxes, and the range of their numbers and of penalties (TeX: The Program, part 17).
 
 ghost use Rattle.std.specs.Prelude.{◌≡◌, ◌≤◌};
 ghost use Rattle.std.specs.Option.{SomeIff};
@@ -9,13 +9,13 @@ use crate::tree::{Glue, Order};
 use scaled_core::Dimen;
 use std::marker::Model;
 
-/// A whole number of absolute value at most 500,000,000: that of a penalty or of a parameter.
+/// A whole number with an absolute value of at most 500,000,000: the value of a penalty or of an integer parameter.
 #[derive(Clone, Copy, Debug, PartialEq, Eq)]
-pub struct Number {
+pub struct IntParameter {
     value: i32,
 }
 
-impl Model for Number {
+impl Model for IntParameter {
     ghost use Rattle.std.specs.Prelude.{ℤ};
     ghost use Rattle.scaled_core.specs.Dimensions.{Within};
 
@@ -28,9 +28,9 @@ impl Model for Number {
     ghost inverse = { λ z. record { value = z } };
 }
 
-impl Number {
-    /// The number of that value, or None exactly where it is out of the range.
-    pub fn try_new(value: i64) -> Option<Number>
+impl IntParameter {
+    /// The number with this value, or `None` exactly when it is out of range.
+    pub fn try_new(value: i64) -> Option<IntParameter>
         ensures { SomeIff result (Within 500000000 value) value }
     {
         if value < -500_000_000 {
@@ -39,21 +39,21 @@ impl Number {
         if value > 500_000_000 {
             return None;
         }
-        Some(Number {
+        Some(IntParameter {
             value: value as i32,
         })
     }
 
-    /// Its value.
+    /// The value of the number.
     pub fn get(self) -> i32
         ensures value { result ≡ self }
-        ensures small { Within 500000000 result }
+        ensures value_bounded { Within 500000000 result }
     {
         self.value
     }
 }
 
-/// How many of the first lines of a paragraph have a width of their own: at most 32.
+/// The number of first lines of a paragraph that have a width of their own, at most 32.
 #[derive(Clone, Copy, Debug, PartialEq, Eq)]
 pub struct FirstLines {
     count: usize,
@@ -72,7 +72,7 @@ impl Model for FirstLines {
 }
 
 impl FirstLines {
-    /// A number of first lines, or None exactly where it is above 32.
+    /// This number of first lines, or `None` exactly when it is above 32.
     pub fn try_new(count: usize) -> Option<FirstLines>
         ensures { SomeIff result (count ≤ 32) count }
     {
@@ -82,57 +82,57 @@ impl FirstLines {
         Some(FirstLines { count })
     }
 
-    /// The number.
+    /// The number of lines.
     pub fn get(self) -> usize
         ensures value { result ≡ self }
-        ensures few { result ≤ 32 }
+        ensures value_bounded { result ≤ 32 }
     {
         self.count
     }
 }
 
-/// The parameters.
+/// The parameters of a job.
 #[derive(Clone, Copy, Debug, PartialEq, Eq)]
 pub struct Params {
-    /// How deep a vbox may be, in scaled points: boxmaxdepth.
+    /// The greatest depth of a vbox, in scaled points: boxmaxdepth.
     pub box_max_depth: Dimen,
-    /// The glue that sets the baselines of two boxes apart, and how far apart they are: baselineskip.
+    /// The glue between two boxes of a vertical list; its width is the distance of their baselines: baselineskip.
     pub baseline_skip: Glue,
-    /// The glue between boxes that would come too near: lineskip.
+    /// The glue between boxes that would otherwise come too close: lineskip.
     pub line_skip: Glue,
-    /// How near boxes may come, in scaled points: lineskiplimit.
+    /// The smallest distance of boxes that are set apart by baselineskip, in scaled points: lineskiplimit.
     pub line_skip_limit: Dimen,
-    /// How wide the lines of a paragraph are, in scaled points: hsize.
+    /// The width of the lines of a paragraph, in scaled points: hsize.
     pub hsize: Dimen,
-    /// How many of the first lines of a paragraph have a width of their own: firstlines.
+    /// The number of first lines of a paragraph that have a width of their own: firstlines.
     pub first_lines: FirstLines,
-    /// How wide these first lines are, in scaled points: firstsize.
+    /// The width of these first lines, in scaled points: firstsize.
     pub first_size: Dimen,
     /// The glue at the end of a paragraph: parfillskip.
     pub par_fill_skip: Glue,
-    /// How bad a line may be in the first pass over a paragraph; below 0 there is no such pass: pretolerance.
-    pub pretolerance: Number,
-    /// How bad a line may be in the second pass: tolerance.
-    pub tolerance: Number,
-    /// What counts for each line beside its badness: linepenalty.
-    pub line_penalty: Number,
-    /// What a line costs that does not go with the line before: adjdemerits.
-    pub adj_demerits: Number,
-    /// The penalty behind the first line of a paragraph: clubpenalty.
-    pub club_penalty: Number,
-    /// The penalty behind the last line but one: widowpenalty.
-    pub widow_penalty: Number,
-    /// The penalty behind each line but the last: interlinepenalty.
-    pub interline_penalty: Number,
-    /// How far pages are moved to the right, in scaled points: hoffset.
+    /// The greatest badness of a line in the first pass over a paragraph; below 0 that pass is skipped: pretolerance.
+    pub pretolerance: IntParameter,
+    /// The greatest badness of a line in the second pass: tolerance.
+    pub tolerance: IntParameter,
+    /// What is added to the badness of each line: linepenalty.
+    pub line_penalty: IntParameter,
+    /// The demerits for a line that is visually incompatible with the line before: adjdemerits.
+    pub adj_demerits: IntParameter,
+    /// The penalty after the first line of a paragraph: clubpenalty.
+    pub club_penalty: IntParameter,
+    /// The penalty after the last line but one: widowpenalty.
+    pub widow_penalty: IntParameter,
+    /// The penalty after each line but the last: interlinepenalty.
+    pub interline_penalty: IntParameter,
+    /// How far pages are shifted to the right, in scaled points: hoffset.
     pub hoffset: Dimen,
-    /// How far pages are moved down, in scaled points: voffset.
+    /// How far pages are shifted down, in scaled points: voffset.
     pub voffset: Dimen,
-    /// The parameters of the splits of vertical lists.
+    /// The parameters for splitting vertical lists.
     pub split: SplitParams,
 }
 
-/// Glue of a width that neither stretches nor shrinks.
+/// Glue of this width that neither stretches nor shrinks.
 fn rigid(width: Dimen) -> Glue
     ensures { result ≡ rigid width }
 {
@@ -146,9 +146,9 @@ fn rigid(width: Dimen) -> Glue
 }
 
 impl Params {
-    /// The parameters of a new job: a vbox may be as deep as a dimension can be, baselines are 12pt apart, and boxes that would come nearer
-    /// than 0pt are 1pt apart. Lines are 6.5in wide, the first ones too, the last one is filled up with glue of order fil, and the numbers are those
-    /// of plain TeX. Pages are not moved.
+    /// The parameters of a new job: a vbox can be as deep as a dimension allows, baselines are 12pt apart, and boxes that would come closer than 0pt
+    /// are 1pt apart. All lines are 6.5in wide, the last one is filled with glue of order fil, and the numbers are those of plain TeX. Pages are not
+    /// shifted.
     pub fn first() -> Params
         ensures { result ≡ first_params }
     {
@@ -165,13 +165,13 @@ impl Params {
                 stretch_order: Order::Fil,
                 ..rigid(Dimen::ZERO)
             },
-            pretolerance: Number { value: 100 },
-            tolerance: Number { value: 200 },
-            line_penalty: Number { value: 10 },
-            adj_demerits: Number { value: 10_000 },
-            club_penalty: Number { value: 150 },
-            widow_penalty: Number { value: 150 },
-            interline_penalty: Number { value: 0 },
+            pretolerance: IntParameter { value: 100 },
+            tolerance: IntParameter { value: 200 },
+            line_penalty: IntParameter { value: 10 },
+            adj_demerits: IntParameter { value: 10_000 },
+            club_penalty: IntParameter { value: 150 },
+            widow_penalty: IntParameter { value: 150 },
+            interline_penalty: IntParameter { value: 0 },
             hoffset: Dimen::ZERO,
             voffset: Dimen::ZERO,
             split: SplitParams::first(),
@@ -179,17 +179,17 @@ impl Params {
     }
 }
 
-/// The parameters of the splits of vertical lists.
+/// The parameters for splitting vertical lists.
 #[derive(Clone, Copy, Debug, PartialEq, Eq)]
 pub struct SplitParams {
-    /// How deep the front of a list that is split may be, in scaled points: splitmaxdepth.
+    /// The greatest depth of the first part of a list that is split, in scaled points: splitmaxdepth.
     pub split_max_depth: Dimen,
     /// The glue at the top of the rest of a list that is split: splittopskip.
     pub split_top_skip: Glue,
 }
 
 impl SplitParams {
-    /// The parameters of a new job: the front may be as deep as a dimension can be, and the first baseline of the rest is 10pt below its top.
+    /// The parameters of a new job: the first part can be as deep as a dimension allows, and the first baseline of the rest is 10pt below its top.
     pub fn first() -> SplitParams
         ensures { result ≡ first_split_params }
     {

@@ -6,7 +6,7 @@ ghost use Rattle.node_core.specs.declared.limits.TheConstants.{MAX_SPECIAL_TEXT}
 use std::alloc::{AllocError, Global};
 use std::marker::Model;
 
-/// The text of a special, which is seen as its bytes: at most 65,535 of them (TeX: The Program, part 53; the limit is own).
+/// The text of a special: at most 65,535 bytes, which are also its value in contracts (TeX: The Program, part 53; the limit is own).
 #[derive(Debug, Drop)]
 pub struct SpecialText {
     bytes: Vec<u8>,
@@ -24,23 +24,23 @@ impl Model for SpecialText {
 }
 
 impl SpecialText {
-    /// A text of these bytes, at most 65,535. It takes no memory.
+    /// The text with these bytes, at most 65,535. Does not allocate.
     pub fn from_vec(bytes: Vec<u8>) -> SpecialText
-        requires short { length bytes.items ≤ MAX_SPECIAL_TEXT }
+        requires text_bounded { length bytes.items ≤ MAX_SPECIAL_TEXT }
         ensures { result ≡ bytes.items }
     {
         SpecialText { bytes }
     }
 
-    /// The bytes of the text, lent.
+    /// The bytes of the text.
     pub fn as_bytes(&self) -> &[u8]
         ensures bytes { result.now ≡ self.now }
-        ensures short { length self.now ≤ MAX_SPECIAL_TEXT }
+        ensures text_bounded { length self.now ≤ MAX_SPECIAL_TEXT }
     {
         &self.bytes
     }
 
-    /// An equal text in memory of its own; refused only where a growth is.
+    /// A copy of the text. The error is that memory was refused.
     pub fn copy(&self, alloc: Global) -> Result<SpecialText, AllocError>
         ensures { IfOk result (λ copy. copy ≡ self.now) }
     {

@@ -1,11 +1,11 @@
 //! Nodes, lists of nodes and boxes.
 //!
-//! A list is seen as its items, a tree without pointers and capacities; so two lists, nodes or boxes are equal in a clause exactly where they are
-//! the same tree. `nodes_of` gives the nodes of a list in order.
+//! In contracts the value of a list is the tree of its items, without pointers and capacities. So two lists, nodes or boxes are equal in a clause
+//! exactly when they are the same tree. `nodes_of` gives the nodes of a list in order.
 
 ghost use Rattle.std.specs.Prelude.{◌≡◌, ◌==◌, ◌<◌, ◌≤◌, ◌+◌, [], ◌∷◌, ◌++◌, length, take, OnOk, OnErr, IfOk, IfErr, min, max};
 ghost use Rattle.node_core.specs.Items.{Items, none, items_depth, items_count, items_text};
-ghost use Rattle.node_core.specs.Nodes.{most_nodes, items_of, nodes_of, box_depth, box_count, box_text, last_box, without};
+ghost use Rattle.node_core.specs.Nodes.{max_nodes, items_of, nodes_of, box_depth, box_count, box_text, last_box, without};
 
 use crate::special::SpecialText;
 use scaled_core::{Dimen, Ratio};
@@ -20,21 +20,21 @@ pub enum Node {
     Glyph(Glyph),
     /// A kern between two characters of a font.
     FontKern(Dimen),
-    /// An explicit kern: so much space, in scaled points; a negative one goes back.
+    /// An explicit kern: this much space, in scaled points; a negative kern moves back.
     Kern(Dimen),
-    /// Glue: space that may stretch and shrink.
+    /// Glue: space that can stretch and shrink.
     Glue(Glue),
-    /// A penalty: how little a break is wanted here.
+    /// A penalty: how undesirable a break is here.
     Penalty(i32),
     /// A rule: a filled rectangle.
     Rule(Rule),
-    /// A special: a text for whoever reads the page, without a size.
+    /// A special: a text for the program that reads the pages. It has no size.
     Special(SpecialText),
-    /// A box, and how far it is shifted: down in a horizontal list, to the right in a vertical one.
+    /// A box and its shift, in scaled points: down in a horizontal list, to the right in a vertical list.
     Box(Dimen, BoxNode),
 }
 
-/// A character of a font: the slot of the font, the code, and the sizes at the font's size, in scaled points.
+/// A character of a font: the slot of the font, the code, and the sizes in scaled points.
 #[derive(Clone, Copy, Debug, PartialEq, Eq)]
 pub struct Glyph {
     pub slot: u8,
@@ -44,7 +44,7 @@ pub struct Glyph {
     pub depth: Dimen,
 }
 
-/// How strongly glue stretches or shrinks (TeX: The Program, part 10).
+/// The order of the stretch or shrink of glue: higher orders are infinitely stronger (TeX: The Program, part 10).
 #[derive(Clone, Copy, Debug, PartialEq, Eq)]
 pub enum Order {
     Normal,
@@ -53,7 +53,7 @@ pub enum Order {
     Filll,
 }
 
-/// Glue: its natural width, and how much it stretches and shrinks, each in an order (TeX: The Program, part 10).
+/// Glue: its natural width, and how much it can stretch and shrink, each in an order (TeX: The Program, part 10).
 #[derive(Clone, Copy, Debug, PartialEq, Eq)]
 pub struct Glue {
     pub width: Dimen,
@@ -66,7 +66,7 @@ pub struct Glue {
 /// A size of a rule.
 #[derive(Clone, Copy, Debug, PartialEq, Eq)]
 pub enum RuleSize {
-    /// That of the box whose list the rule stands in.
+    /// The size of the box that contains the rule.
     Running,
     /// A size of its own, in scaled points.
     Fixed(Dimen),
@@ -76,13 +76,13 @@ pub enum RuleSize {
 #[derive(Clone, Copy, Debug, PartialEq, Eq)]
 pub struct Rule {
     pub width: RuleSize,
-    /// How far it goes above the baseline.
+    /// The distance from the baseline to the top of the rule.
     pub height: RuleSize,
-    /// How far it goes below the baseline.
+    /// The distance from the baseline to the bottom of the rule.
     pub depth: RuleSize,
 }
 
-/// Which way a list goes.
+/// The direction of a list.
 #[derive(Clone, Copy, Debug, PartialEq, Eq)]
 pub enum Kind {
     /// From left to right, as in an hbox.
@@ -91,11 +91,11 @@ pub enum Kind {
     Vertical,
 }
 
-/// How the glue of a box is set: glue of the order stretches or shrinks by the ratio times what it can, other glue stays natural (TeX: The
-/// Program, part 10; the ratio is exact).
+/// How the glue of a box is set: glue of the given order stretches or shrinks by the ratio times its stretch or shrink, and other glue keeps its
+/// natural width (TeX: The Program, part 10; the ratio is exact).
 #[derive(Clone, Copy, Debug, PartialEq, Eq)]
 pub enum Setting {
-    /// All glue is as wide as it is by itself.
+    /// All glue has its natural width.
     Natural,
     /// Glue stretches.
     Stretch { order: Order, ratio: Ratio },
@@ -103,15 +103,15 @@ pub enum Setting {
     Shrink { order: Order, ratio: Ratio },
 }
 
-/// A box: its sizes, in scaled points, and the list that is set in it (TeX: The Program, part 10).
+/// A box: its sizes, in scaled points, and the list in it (TeX: The Program, part 10).
 #[cycle(tree)]
 #[derive(Debug, Drop)]
 pub struct BoxNode {
     pub kind: Kind,
     pub width: Dimen,
-    /// How far it goes above its reference point.
+    /// The distance from the reference point to the top of the box.
     pub height: Dimen,
-    /// How far it goes below its reference point.
+    /// The distance from the reference point to the bottom of the box.
     pub depth: Dimen,
     pub setting: Setting,
     pub list: NodeList,
@@ -137,9 +137,9 @@ impl Model for NodeList {
     ghost view = { λ list. items_of list.nodes.items };
 
     ghost use Rattle.std.specs.Prelude.{◌≤◌, length};
-    ghost use Rattle.node_core.specs.Nodes.{most_nodes};
+    ghost use Rattle.node_core.specs.Nodes.{max_nodes};
 
-    ghost invariant = { λ list. length list.nodes.items ≤ most_nodes };
+    ghost invariant = { λ list. length list.nodes.items ≤ max_nodes };
 
     ghost size = { items_depth };
 
@@ -149,7 +149,7 @@ impl Model for NodeList {
 }
 
 impl NodeList {
-    /// The list without nodes. It takes no memory.
+    /// The empty list. Does not allocate.
     pub fn new(alloc: Global) -> NodeList
         ensures { result ≡ none }
     {
@@ -158,17 +158,17 @@ impl NodeList {
         }
     }
 
-    /// The list of these nodes, at most 131,072. It takes no memory.
+    /// The list of these nodes, at most 131,072. Does not allocate.
     #[tactic(auto, using(crate::proofs::NodeLemmas::nodes))]
     pub fn from_vec(nodes: Vec<Node>) -> NodeList
-        requires short { length nodes.items ≤ most_nodes }
+        requires list_bounded { length nodes.items ≤ max_nodes }
         ensures items { result ≡ items_of nodes.items }
         ensures nodes { nodes_of result ≡ nodes.items }
     {
         NodeList { nodes }
     }
 
-    /// The nodes of the list, as the vector that it kept.
+    /// The nodes of the list, in the vector that held them.
     #[tactic(auto, using(crate::proofs::NodeLemmas::nodes))]
     pub fn into_vec(self) -> Vec<Node>
         ensures { result.items ≡ nodes_of self }
@@ -177,25 +177,25 @@ impl NodeList {
         nodes
     }
 
-    /// The nodes of the list, lent.
+    /// The nodes of the list.
     #[tactic(auto, using(crate::proofs::NodeLemmas::nodes))]
     pub fn as_slice(&self) -> &[Node]
         ensures nodes { result.now ≡ nodes_of self.now }
-        ensures short { length (nodes_of self.now) ≤ most_nodes }
+        ensures list_bounded { length (nodes_of self.now) ≤ max_nodes }
     {
         &self.nodes
     }
 
-    /// The number of nodes, those in inner boxes not counted.
+    /// The number of nodes, without those in inner boxes.
     #[tactic(auto, using(crate::proofs::NodeLemmas::nodes))]
     pub fn len(&self) -> usize
         ensures count { result ≡ length (nodes_of self.now) }
-        ensures short { length (nodes_of self.now) ≤ most_nodes }
+        ensures list_bounded { length (nodes_of self.now) ≤ max_nodes }
     {
         self.nodes.len()
     }
 
-    /// Whether there is no node.
+    /// Whether the list is empty.
     #[tactic(auto, using(crate::proofs::NodeLemmas::nodes))]
     pub fn is_empty(&self) -> bool
         ensures { result ≡ (length (nodes_of self.now) == 0) }
@@ -203,36 +203,39 @@ impl NodeList {
         self.nodes.is_empty()
     }
 
-    /// Puts a node behind the others, which are fewer than 131,072. A refused growth hands it back and leaves the list as it was.
+    /// Appends a node to a list of fewer than 131,072 nodes. If memory is refused, the error returns the node, and the list is as it was before the
+    /// call.
     #[tactic(auto, using(crate::proofs::NodeLemmas::nodes))]
     pub fn push(&mut self, node: Node) -> Result<(), AllocFailed<Node>>
-        requires short { length (nodes_of self.old) < most_nodes }
+        requires list_bounded { length (nodes_of self.old) < max_nodes }
         ensures ok { OnOk result (self.new ≡ items_of (nodes_of self.old ++ node ∷ [])) }
         ensures nodes { OnOk result (nodes_of self.new ≡ nodes_of self.old ++ node ∷ []) }
         ensures err { OnErr result (self.new ≡ self.old) }
-        ensures back { IfErr result (λ failed. failed.value ≡ node) }
+        ensures node_returned { IfErr result (λ failed. failed.value ≡ node) }
     {
+        // `match` and not `?`: with `?` the check stops with "was not told which modules hold the type".
         match self.nodes.push(node) {
             Ok(()) => Ok(()),
             Err(failed) => Err(failed),
         }
     }
 
-    /// Puts a box behind the others, which are fewer than 131,072. A refused growth hands it back and leaves the list as it was.
+    /// Appends a box to a list of fewer than 131,072 nodes. If memory is refused, the error is the box, and the list is as it was before the call.
     #[tactic(auto, using(crate::proofs::NodeLemmas::nodes))]
     pub fn push_box(&mut self, shift: Dimen, box_node: BoxNode) -> Result<(), BoxNode>
-        requires short { length (nodes_of self.old) < most_nodes }
+        requires list_bounded { length (nodes_of self.old) < max_nodes }
         ensures ok { OnOk result (self.new ≡ items_of (nodes_of self.old ++ Node.Box shift box_node ∷ [])) }
         ensures err { OnErr result (self.new ≡ self.old) }
-        ensures back { IfErr result (λ back. back ≡ box_node) }
+        ensures box_returned { IfErr result (λ back. back ≡ box_node) }
     {
         push_box(&mut self.nodes, shift, box_node)
     }
 
-    /// Puts nodes behind the others, in order; together they are at most 131,072. A refused growth leaves the list as it was.
+    /// Appends nodes in order; the list then has at most 131,072. If memory is refused, the list is as it was before the call, and the nodes are
+    /// dropped.
     #[tactic(auto, using(crate::proofs::NodeLemmas::nodes))]
     pub fn extend(&mut self, mut nodes: Vec<Node>) -> Result<(), AllocError>
-        requires short { length (nodes_of self.old) + length nodes.items ≤ most_nodes }
+        requires list_bounded { length (nodes_of self.old) + length nodes.items ≤ max_nodes }
         ensures ok { OnOk result (self.new ≡ items_of (nodes_of self.old ++ nodes.items)) }
         ensures nodes { OnOk result (nodes_of self.new ≡ nodes_of self.old ++ nodes.items) }
         ensures err { OnErr result (self.new ≡ self.old) }
@@ -240,20 +243,20 @@ impl NodeList {
         self.nodes.append(&mut nodes)
     }
 
-    /// Puts the nodes of another list behind the others, in order; together they are at most 131,072. A refused growth leaves both lists as
-    /// they were.
+    /// Moves the nodes of another list to the end of this one, in order; together they are at most 131,072. If memory is refused, both lists are as
+    /// they were before the call.
     #[tactic(auto, using(crate::proofs::NodeLemmas::nodes))]
     pub fn append(&mut self, other: &mut NodeList) -> Result<(), AllocError>
-        requires short { length (nodes_of self.old) + length (nodes_of other.old) ≤ most_nodes }
+        requires list_bounded { length (nodes_of self.old) + length (nodes_of other.old) ≤ max_nodes }
         ensures ok { OnOk result (self.new ≡ items_of (nodes_of self.old ++ nodes_of other.old)) }
         ensures emptied { OnOk result (other.new ≡ none) }
         ensures err { OnErr result (self.new ≡ self.old) }
-        ensures back { OnErr result (other.new ≡ other.old) }
+        ensures list_returned { OnErr result (other.new ≡ other.old) }
     {
         self.nodes.append(&mut other.nodes)
     }
 
-    /// Keeps the first nodes, at most so many, and drops the others.
+    /// Keeps the first `count` nodes and drops the others.
     #[tactic(auto, using(crate::proofs::NodeLemmas::nodes))]
     pub fn truncate(&mut self, count: usize)
         ensures { self.new ≡ items_of (take count (nodes_of self.old)) }
@@ -261,7 +264,7 @@ impl NodeList {
         self.nodes.truncate(count);
     }
 
-    /// Takes the last node away, if it is a box; its shift is dropped.
+    /// Removes and returns the last node if it is a box; its shift is dropped. Otherwise the list does not change.
     #[tactic(auto, using(crate::proofs::NodeLemmas::nodes))]
     pub fn pop_box(&mut self) -> Option<BoxNode>
         ensures value { result ≡ last_box (nodes_of self.old) }
@@ -277,7 +280,7 @@ impl NodeList {
         }
     }
 
-    /// An equal list in memory of its own; refused only where a growth is.
+    /// A copy of the list. The error is that memory was refused.
     #[cycle(copying)]
     #[tactic(auto, using(crate::proofs::NodeLemmas::nodes))]
     pub fn copy(&self, alloc: Global) -> Result<NodeList, AllocError>
@@ -290,7 +293,7 @@ impl NodeList {
         Ok(NodeList { nodes })
     }
 
-    /// How deep boxes nest in the list, 0 for a list without boxes; cut at the greatest number. It takes no memory.
+    /// The depth to which boxes nest in the list, 0 for a list without boxes, or `u64::MAX` if it is greater. Does not allocate.
     #[tactic(auto, using(crate::proofs::NodeLemmas::nodes))]
     pub fn depth(&self) -> u64
         ensures { result ≡ min (items_depth self.now) u64.MAX }
@@ -304,7 +307,7 @@ impl NodeList {
         deepest
     }
 
-    /// The number of items, those of inner boxes and the boxes counted; cut at the greatest number. It takes no memory.
+    /// The number of items, including boxes and the items in inner boxes, or `u64::MAX` if it is greater. Does not allocate.
     #[tactic(auto, using(crate::proofs::NodeLemmas::nodes))]
     pub fn count(&self) -> u64
         ensures { result ≡ min (items_count self.now) u64.MAX }
@@ -318,7 +321,7 @@ impl NodeList {
         count
     }
 
-    /// How many bytes the texts of the specials have, those in inner boxes included; cut at the greatest number. It takes no memory.
+    /// The number of bytes in the texts of the specials, including those in inner boxes, or `u64::MAX` if it is greater. Does not allocate.
     #[tactic(auto, using(crate::proofs::NodeLemmas::nodes))]
     pub fn text_size(&self) -> u64
         ensures { result ≡ min (items_text self.now) u64.MAX }
@@ -335,11 +338,11 @@ impl NodeList {
     }
 }
 
-/// Puts a box behind nodes. A refused growth hands it back and leaves the nodes as they were.
+/// Appends a box to the nodes. If memory is refused, the error is the box, and the nodes are as they were before the call.
 pub fn push_box(nodes: &mut Vec<Node>, shift: Dimen, box_node: BoxNode) -> Result<(), BoxNode>
     ensures ok { OnOk result (nodes.new.items ≡ nodes.old.items ++ Node.Box shift box_node ∷ []) }
     ensures err { OnErr result (nodes.new.items ≡ nodes.old.items) }
-    ensures back { IfErr result (λ back. back ≡ box_node) }
+    ensures box_returned { IfErr result (λ back. back ≡ box_node) }
 {
     match nodes.push(Node::Box(shift, box_node)) {
         Ok(()) => Ok(()),
@@ -350,7 +353,6 @@ pub fn push_box(nodes: &mut Vec<Node>, shift: Dimen, box_node: BoxNode) -> Resul
     }
 }
 
-/// The greater of two numbers.
 fn greater(a: u64, b: u64) -> u64
     ensures { result ≡ max a b }
 {
@@ -358,7 +360,7 @@ fn greater(a: u64, b: u64) -> u64
 }
 
 impl Node {
-    /// An equal node in memory of its own; refused only where a growth is.
+    /// A copy of the node. The error is that memory was refused.
     #[cycle(copying)]
     pub fn copy(&self, alloc: Global) -> Result<Node, AllocError>
         ensures { IfOk result (λ copy. copy ≡ self.now) }
@@ -377,7 +379,7 @@ impl Node {
 }
 
 impl BoxNode {
-    /// An equal box in memory of its own; refused only where a growth is.
+    /// A copy of the box. The error is that memory was refused.
     #[cycle(copying)]
     pub fn copy(&self, alloc: Global) -> Result<BoxNode, AllocError>
         ensures { IfOk result (λ copy. copy ≡ self.now) }
@@ -393,21 +395,22 @@ impl BoxNode {
         })
     }
 
-    /// How deep boxes nest, 1 for a box without inner boxes; cut at the greatest number. It takes no memory.
+    /// The depth to which boxes nest, 1 for a box without inner boxes, or `u64::MAX` if it is greater. Does not allocate.
     pub fn depth(&self) -> u64
         ensures { result ≡ min (box_depth self.now) u64.MAX }
     {
         self.list.depth().saturating_add(1)
     }
 
-    /// The number of nodes: the box itself and every item in it, in its inner boxes too; cut at the greatest number. It takes no memory.
+    /// The number of nodes: the box itself and every item in it, including those in inner boxes, or `u64::MAX` if it is greater. Does not allocate.
     pub fn count(&self) -> u64
         ensures { result ≡ min (box_count self.now) u64.MAX }
     {
         self.list.count().saturating_add(1)
     }
 
-    /// How many bytes the texts of the specials in it have, those in its inner boxes included; cut at the greatest number. It takes no memory.
+    /// The number of bytes in the texts of the specials in the box, including those in inner boxes, or `u64::MAX` if it is greater. Does not
+    /// allocate.
     pub fn text_size(&self) -> u64
         ensures { result ≡ min (box_text self.now) u64.MAX }
     {

@@ -16,7 +16,7 @@ use Rattle.pack_core.specs.Totals.{total}
 use Rattle.pack_core.specs.Glue.{is_zero, highest, fraction, stretched, is_short, shrunk, stretch_totals, shrink_totals, setting_of, setting_badness, shrink_badness}
 use Rattle.pack_core.specs.Places.{share, place}
 
--- A product is the rounded quotient of itself.
+-- The rounded quotient of a multiple is exact.
 nearest-exact : (a d : ℕ) → 0 < d → nearest (a * d) d ≡ a
 nearest-exact a d positive = sym (nearest-only (a * d) d a positive (record { low = omega arith; high = omega arith }))
 
@@ -57,12 +57,12 @@ shrink-back amount (pos zero) not_zero = absurd (not_zero refl)
 shrink-back amount (pos (suc n)) not_zero = ap (λ (z : ℤ). rounded z (suc n)) (times-neg amount n) ∙ rounded-exact (neg_ℤ amount) n
 shrink-back amount (negsuc n) not_zero = rounded-exact (neg_ℤ amount) n
 
--- What shrinks takes part by a negative number.
+-- The share of glue that shrinks is negative.
 share-shrink : (order : Order) (ratio : Fraction) (nodes : List Node) → total (share (Shrink order ratio)) nodes ≡ neg_ℤ (total (shrink_in order) nodes)
 share-shrink order ratio [] = refl
 share-shrink order ratio (x ∷ xs) = omega (arith, ints, share-shrink order ratio xs)
 
--- The highest order has a total.
+-- The highest order has a total that is not 0.
 pub is_zero-false : (z : ℤ) → is_zero z ≡ false → z ≢ pos 0
 is_zero-false (pos zero) e = λ _. absurd (cc)
 is_zero-false (pos (suc n)) e = λ (h : pos (suc n) ≡ pos 0). absurd (omega (arith, ints))

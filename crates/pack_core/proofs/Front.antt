@@ -1,10 +1,10 @@
--- Penalties and specials in front of a vertical list change nothing of its vbox but its items.
+-- Penalties and specials at the front of a vertical list change only the items of its vbox.
 use Rattle.std.proofs.Common.{◌≡◌, ◌∙◌, ℕ, ◌&&◌, List, [], ◌∷◌, ◌++◌, Bool, true, false, refl, sym, ap, arith}
 use Rattle.std.specs.Prelude.{ℤ, pos, negsuc, zero, suc, ◌-ℤ◌, if◌then◌else◌}
 use Rattle.std.specs.List.{list_all}
 use Rattle.std.proofs.Math.Path.{fun_ext}
 use Rattle.std.proofs.lemmas.Int.{ints, clamps}
-use Rattle.node_core.specs.Items.{Frame}
+use Rattle.node_core.specs.Items.{BoxFrame}
 use Rattle.node_core.specs.declared.tree.Node.{Node}
 use Rattle.node_core.specs.declared.tree.Node.TheVariants as nodes
 use Rattle.node_core.specs.declared.tree.Order.{Order}
@@ -84,7 +84,7 @@ glue-front front xs all =
     let by : (Order → ℤ) → (Order → ℤ) → List ℤ = λ s t. s Normal ∷ s Fil ∷ s Fill ∷ s Filll ∷ t Normal ∷ t Fil ∷ t Fill ∷ t Filll ∷ [] in
     ap (λ (s : Order → ℤ). by s (shrink_totals (front ++ xs))) (stretch-front front xs all) ∙ ap (by (stretch_totals xs)) (shrink-front front xs all)
 
--- The numbers that have to fit are those of the list.
+-- They do not change the numbers that have to fit.
 pub numbers-front : (target : Target) (limit : ℤ) (front xs : List Node) → list_all is_sizeless front ≡ true → vbox_numbers target limit (front ++ xs) ≡ vbox_numbers target limit xs
 numbers-front target limit front xs all =
     rw (natural-front limit front xs all, pending-front front xs all, breadth-front front xs all, glue-front front xs all) refl
@@ -95,14 +95,14 @@ setting-front (pos zero) front xs all = refl
 setting-front (pos (suc n)) front xs all = ap (λ (totals : Order → ℤ). stretched (pos (suc n)) totals (highest totals)) (stretch-front front xs all)
 setting-front (negsuc n) front xs all = ap (λ (totals : Order → ℤ). shrunk (pos (suc n)) totals (highest totals)) (shrink-front front xs all)
 
--- So is the frame.
+-- They do not change the frame.
 pub frame-front : (target : Target) (limit : ℤ) (front xs : List Node) → list_all is_sizeless front ≡ true → vbox_frame target limit (front ++ xs) ≡ vbox_frame target limit xs
 frame-front target limit front xs all =
     let set : setting_of (vbox_excess target limit (front ++ xs)) (front ++ xs) ≡ setting_of (vbox_excess target limit xs) xs =
     ap (λ (e : ℤ). setting_of e (front ++ xs)) (excess-front target limit front xs all) ∙ setting-front (vbox_excess target limit xs) front xs all in
     rw (set, natural-front limit front xs all, pending-front front xs all, breadth-front front xs all) refl
 
--- So is the badness, where the list has items: without one it is 0.
+-- They do not change the badness, if the list has items; without items it is 0.
 setting_badness-front :
     (excess : ℤ) (front : List Node) (x : Node) (xs : List Node) → list_all is_sizeless front ≡ true → setting_badness excess (front ++ x ∷ xs) ≡ setting_badness excess (x ∷ xs)
 unfolding setting_badness
@@ -117,7 +117,7 @@ pub badness-front :
 badness-front target limit front x xs all =
     ap (λ (e : ℤ). setting_badness e (front ++ x ∷ xs)) (excess-front target limit front (x ∷ xs) all) ∙ setting_badness-front (vbox_excess target limit (x ∷ xs)) front x xs all
 
--- A vbox of its natural height is not bad.
+-- A vbox of its natural height has badness 0.
 setting_badness-zero : (xs : List Node) → setting_badness (pos zero) xs ≡ 0
 unfolding setting_badness
 setting_badness-zero [] = refl
@@ -128,13 +128,13 @@ badness-natural limit xs =
     let zero-is : vbox_excess Natural limit xs ≡ pos zero = omega (arith, ints) in
     ap (λ (e : ℤ). setting_badness e xs) zero-is ∙ setting_badness-zero xs
 
--- So is the shell.
+-- They do not change the shell.
 shell-by : (target : Target) (limit : ℤ) (xs ys : List Node) → vbox_frame target limit xs ≡ vbox_frame target limit ys → vbox_badness target limit xs ≡ vbox_badness target limit ys
     → vbox_shell target limit xs ≡ vbox_shell target limit ys
 unfolding vbox_shell
 shell-by target limit xs ys frame bad =
-    let by : Frame → ℕ → Shell = λ f b. record { kind = f.kind; width = f.width; height = f.height; depth = f.depth; setting = f.setting; badness = b } in
-    ap (λ (f : Frame). by f (vbox_badness target limit xs)) frame ∙ ap (by (vbox_frame target limit ys)) bad
+    let by : BoxFrame → ℕ → Shell = λ f b. record { kind = f.kind; width = f.width; height = f.height; depth = f.depth; setting = f.setting; badness = b } in
+    ap (λ (f : BoxFrame). by f (vbox_badness target limit xs)) frame ∙ ap (by (vbox_frame target limit ys)) bad
 
 pub shell-front :
     (target : Target) (limit : ℤ) (front : List Node) (x : Node) (xs : List Node) → list_all is_sizeless front ≡ true

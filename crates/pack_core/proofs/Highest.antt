@@ -53,7 +53,7 @@ at-normal totals filll fill fil h = record {
 pick : Bool → Bool → Bool → Bool → Option Order
 pick a b c d = if a then (if b then (if c then (if d then None else Some Normal) else Some Fil) else Some Fill) else Some Filll
 
--- The order that the four tests pick out is the highest with a total.
+-- The order that the four tests select is the highest with a total that is not 0.
 picked :
     (totals : Order → ℤ) (order : Order) (a b c d : Bool)
     → is_zero (totals Filll) ≡ a → is_zero (totals Fill) ≡ b → is_zero (totals Fil) ≡ c → is_zero (totals Normal) ≡ d
@@ -76,7 +76,7 @@ not-zero z h = elim (is_zero z) as (λ (b : Bool). is_zero z ≡ b → is_zero z
 zero-is : (z : ℤ) → z ≡ pos 0 → is_zero z ≡ true
 zero-is z h = rw h refl
 
--- The four tests pick out the highest order with a total.
+-- The four tests select the highest order with a total that is not 0.
 found-at : (totals : Order → ℤ) (order : Order) → IsHighest totals order → highest totals ≡ Some order
 unfolding highest
 found-at totals Filll h = rw (not-zero (totals Filll) h.not_zero) refl

@@ -1,4 +1,4 @@
--- What a walk over a horizontal list has measured, item by item.
+-- The measures of a walk over a horizontal list, item by item.
 use Rattle.std.proofs.Common.{◌≡◌, ◌∙◌, ℕ, ◌+◌, ◌<◌, ◌≤◌, List, length, take, get_or, refl, arith, sym}
 use Rattle.std.specs.Prelude.{ℤ, ◌+ℤ◌}
 use Rattle.std.proofs.lemmas.Int.{ints}
@@ -12,7 +12,7 @@ use Rattle.pack_core.specs.Measures.{HasPassed}
 use Rattle.pack_core.proofs.Sums.{total_more}
 use Rattle.pack_core.proofs.Passing.{within-more}
 
--- What is small after m items is small after more.
+-- What is small after m items is small after more items.
 pub passed-more : (m n : ℕ) (across : Across) → m ≤ n → HasPassed m across → HasPassed n across
 passed-more m n across less small = record {
   width = record { low = omega (arith, ints, small.width.low); high = omega (arith, ints, small.width.high) };
@@ -24,7 +24,7 @@ passed-more m n across less small = record {
   shrink = within-more _ _ across.shrink (omega arith) small.shrink;
 }
 
--- The amounts of one more item of a list that is passed.
+-- The amounts of the next item of a list that a loop passes over.
 pub amounts_more :
     (amount : Order → Node → ℤ) (nodes : List Node) (i : ℕ) (x : Node) → i < length nodes → x ≡ get_or nodes i x
     → plus (order_amounts (λ order. total (amount order) (take i nodes))) (λ order. amount order x) ≡ order_amounts (λ order. total (amount order) (take (i + 1) nodes))

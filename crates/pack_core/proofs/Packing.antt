@@ -1,4 +1,4 @@
--- The clauses of a packed list follow from what it is packed to.
+-- The clauses of a packed list follow from the result of packing it.
 use Rattle.std.proofs.Common.{◌≡◌, ◌≢◌, ℤ, length, take, Bool, true, false, refl, arith}
 use Rattle.std.specs.Prelude.{◌+ℤ◌, Ok, Err, IfOk, IfErr, if◌then◌else◌}
 use Rattle.std.specs.Result.{is_ok}
@@ -53,7 +53,7 @@ pub packed-vbox :
 unfolding vbox vbox_shell packed_of
 packed-vbox target limit items = refl
 
--- A fact of the packed box holds wherever the list is packed; and the list is packed exactly where all its numbers fit.
+-- A fact about the packed box holds whenever the list is packed, and the list is packed exactly when all its numbers fit.
 packed-ok :
     (fit : Bool) (packed : Packed) (items : Items) (P : Packed → Type 0)
     → P packed → IfOk {E = TooLarge} (if fit then Ok packed else Err (record { list = items })) P
@@ -71,7 +71,7 @@ packed-back false packed items = refl
 whole : (items : Items) → take (length (nodes_of items)) (nodes_of items) ≡ nodes_of items
 whole items = take_all (length (nodes_of items)) (nodes_of items) (omega arith)
 
--- The place behind the last item.
+-- The place after the last item.
 filled :
     (kind : Kind) (items : Items) (excess : ℤ)
     → setting_of excess (nodes_of items) ≢ Natural

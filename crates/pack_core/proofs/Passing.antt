@@ -25,7 +25,7 @@ plus-one :
     → plus (order_amounts (λ order. total (amount order) xs)) (λ order. amount order x) ≡ order_amounts (λ order. total (amount order) (xs ++ x ∷ []))
 plus-one amount xs x = rw (total-one (amount Normal) xs x, total-one (amount Fil) xs x, total-one (amount Fill) xs x, total-one (amount Filll) xs x) refl
 
--- One more item behind those that were passed.
+-- One more item after those that were passed.
 pub with_item-totals :
     (kind : Kind) (before : List Node) (node : Node) → with_item (totals_of kind before) node ≡ totals_of kind (before ++ node ∷ [])
 unfolding totals_of
@@ -41,7 +41,7 @@ totals-more kind nodes i node within is =
     ∙ ap (λ (x : Node). totals_of kind (take i nodes ++ x ∷ [])) is
     ∙ sym (ap (totals_of kind) (take_more nodes i node within))
 
--- One more item of a list that stands below another item.
+-- One more item of a list with another item above it.
 pub totals-more-below :
     (kind : Kind) (top : Node) (nodes : List Node) (i : ℕ) (node : Node) → i < length nodes → node ≡ get_or nodes i node
     → with_item (totals_of kind (top ∷ take i nodes)) node ≡ totals_of kind (top ∷ take (i + 1) nodes)
@@ -50,7 +50,7 @@ totals-more-below kind top nodes i node within is =
     ∙ ap (λ (x : Node). totals_of kind (top ∷ (take i nodes ++ x ∷ []))) is
     ∙ sym (ap (λ (xs : List Node). totals_of kind (top ∷ xs)) (take_more nodes i node within))
 
--- Amounts within a bound are within a greater one.
+-- Amounts within a bound are within a greater bound.
 pub within-more : (m n : ℕ) (amounts : OrderAmounts) → m ≤ n → AreWithin m amounts → AreWithin n amounts
 within-more m n amounts less small = record {
   normal = record { low = omega (arith, ints, small.normal.low); high = omega (arith, ints, small.normal.high) };
@@ -59,7 +59,7 @@ within-more m n amounts less small = record {
   filll = record { low = omega (arith, ints, small.filll.low); high = omega (arith, ints, small.filll.high) };
 }
 
--- What is no glue stretches and shrinks in no order.
+-- A node that is not glue stretches and shrinks in no order.
 abbrev pub IsNoGlue : Node → Type 0
 IsNoGlue node = (glue : Glue) → node ≢ nodes.Glue glue
 
@@ -83,7 +83,7 @@ no_shrink (nodes.Special text) other order = refl
 no_shrink (nodes.Rule rule) other order = refl
 no_shrink (nodes.Box shift b) other order = refl
 
--- Amounts to which nothing is added are the same.
+-- Adding 0 to each amount changes nothing.
 pub plus-nothing : (amounts : OrderAmounts) (more : Order → ℤ) → ((order : Order) → more order ≡ pos 0) → amounts ≡ plus amounts more
 plus-nothing amounts more none =
     let normal : amounts.normal ≡ amounts.normal +ℤ more Normal = omega (arith, ints, none Normal) in
@@ -92,7 +92,7 @@ plus-nothing amounts more none =
     let filll : amounts.filll ≡ amounts.filll +ℤ more Filll = omega (arith, ints, none Filll) in
     rw (← normal, ← fil, ← fill, ← filll) refl
 
--- What is no glue leaves the amounts as they are.
+-- A node that is not glue leaves the amounts as they are.
 pub with_item-no_glue :
     (totals : ListTotals) (node : Node) → IsNoGlue node
     → record totals { advance = totals.advance +ℤ advance totals.kind node; pending_depth = pending_behind totals.pending_depth node; passed = totals.passed + 1 }

@@ -1,4 +1,4 @@
--- The steps from the totals of a list to its box fit together.
+-- The steps from the totals of a list to its box agree with the definitions.
 use Rattle.std.proofs.Common.{◌≡◌, ◌∙◌, ℕ, ◌==◌, ◌&&◌, length, List, [], ◌∷◌, Bool, true, false, refl, sym, ap, arith}
 use Rattle.std.specs.Prelude.{◌-ℤ◌, ℤ, pos, negsuc, zero, suc, Option, Some, None, if◌then◌else◌}
 use Rattle.std.specs.List.{list_all}
@@ -27,7 +27,7 @@ use Rattle.std.proofs.lemmas.List.Folds.{list_all-append}
 use Rattle.pack_core.specs.Orders.{by_order, order_dimens, order_amounts, each_order}
 use Rattle.pack_core.specs.Steps.{dimens_of, shrink_ratio, shrink_setting, stretch_setting, set_to, stretching_badness, shrinking_badness, excess_badness, list_badness, glue_set, hbox_shell, vtop_shell}
 
--- A value where a test holds: it is there exactly where the test holds.
+-- A value under a test is there exactly when the test holds.
 pub some_if-true : {A : Type 0} (x : A) → some_if true x ≡ Some x
 unfolding some_if
 some_if-true x = refl
@@ -73,7 +73,7 @@ by_order-order totals Filll = refl
 pub by_order-totals : (totals : Order → ℤ) → by_order (order_dimens totals) ≡ totals
 by_order-totals totals = fun_ext (by_order-order totals)
 
--- Four totals that fit are dimensions; where one does not fit, none are.
+-- Four totals that fit are dimensions; if one does not fit, there are no dimensions.
 pub dimens-given :
     (amounts : OrderAmounts) (normal fil fill filll : ℤ)
     → dimension_of amounts.normal ≡ Some normal → dimension_of amounts.fil ≡ Some fil → dimension_of amounts.fill ≡ Some fill → dimension_of amounts.filll ≡ Some filll
@@ -114,7 +114,7 @@ shrink_setting-none amount totals e = ap (shrunk amount (by_order totals)) e
 
 pub ruleset steps = (some_if-true, some_if-false, some_if-some, some_if-none, dimension_found, dimension_missing, total-across, total-downward, shrink_setting-some, shrink_setting-none)
 
--- The setting by the totals of the four orders is the setting of the list.
+-- The setting computed from the totals of the four orders is the setting of the list.
 set_to-is : (excess : ℤ) (nodes : List Node) → set_to excess (order_dimens (stretch_totals nodes)) (order_dimens (shrink_totals nodes)) ≡ setting_of excess nodes
 unfolding set_to setting_of stretch_setting shrink_setting
 set_to-is (pos zero) nodes = refl
@@ -135,7 +135,7 @@ list_badness-is (pos zero) (x ∷ xs) = refl
 list_badness-is (pos (suc n)) (x ∷ xs) = ap (λ (totals : Order → ℤ). stretch_badness (pos (suc n)) totals) (by_order-totals (stretch_totals (x ∷ xs)))
 list_badness-is (negsuc n) (x ∷ xs) = ap (λ (totals : Order → ℤ). shrink_badness (pos (suc n)) totals) (by_order-totals (shrink_totals (x ∷ xs)))
 
--- A dimension is that of the number that it was made of.
+-- Equal numbers have the same dimension.
 pub dimension-same : (a b : ℤ) (found : Option ℤ) → found ≡ dimension_of a → a ≡ b → found ≡ dimension_of b
 dimension-same a b found e same = e ∙ ap dimension_of same
 
@@ -160,7 +160,7 @@ glue-given excess nodes stretch shrink setting badness can_stretch can_shrink se
     list_all-append fits (each_order (stretch_totals nodes)) (each_order (shrink_totals nodes)) ∙ rw (s.0, t.0) refl in
     rw (all, set-is, bad-is) (sym (some_if-true _))
 
--- Where a total of stretch or of shrink does not fit, no glue is set.
+-- If a total of stretch or of shrink does not fit, no glue is set.
 pub glue-refused-stretch : (excess : ℤ) (nodes : List Node) → dimens_of (order_amounts (stretch_totals nodes)) ≡ None → None ≡ some_if (list_all fits (glue_totals nodes)) (glue_set excess nodes)
 unfolding dimens_of
 glue-refused-stretch excess nodes refused =
@@ -176,7 +176,7 @@ glue-refused-shrink excess nodes refused =
     list_all-append fits (each_order (stretch_totals nodes)) (each_order (shrink_totals nodes)) ∙ rw some (and-false (list_all fits (each_order (stretch_totals nodes)))) in
     rw all (sym (some_if-false _))
 
--- Where one of some numbers does not fit, not all do.
+-- If one number does not fit, not all numbers fit.
 unfit-first : (a b : Bool) → a ≡ false → (a && b) ≡ false
 unfit-first a b unfit = ap (λ (x : Bool). x && b) unfit
 
@@ -225,7 +225,7 @@ hbox-given target nodes natural width height depth set n w h d s =
     let badness-is : hbox_badness target nodes ≡ set.badness = ap (λ (g : GlueSet). g.badness) set-is in
     rw (← h'.1, ← d'.1, ← width-is, ← setting-is, ← badness-is) (some_if-all _ _ all)
 
--- Where one of its numbers does not fit, there is no box.
+-- If one of its numbers does not fit, there is no box.
 some_if-none-of : {A : Type 0} (b : Bool) (x : A) → b ≡ false → None ≡ some_if b x
 some_if-none-of b x unfit = rw unfit (sym (some_if-false x))
 

@@ -1,4 +1,4 @@
--- Sums and greatest sizes over a list that has one more node.
+-- Sums and greatest sizes over a list with one more node.
 use Rattle.std.proofs.Common.{◌≡◌, ◌∙◌, ℕ, ◌+◌, ◌<◌, ◌&&◌, List, [], ◌∷◌, ◌++◌, length, take, get_or, ap, arith, sym, refl}
 use Rattle.std.specs.Prelude.{ℤ, pos, ◌+ℤ◌, ◌≤ℤ◌, Bool, true, false, if◌then◌else◌}
 use Rattle.std.specs.Int.{int_max}
@@ -66,7 +66,7 @@ pending-append [] (nodes.Box shift b) = refl
 pending-append (y ∷ ys) x =
     rw (penalties-append ys x, pending-append ys x) (choice (list_all is_sizeless ys) (is_sizeless x) (last_below y) (pending_depth ys) (last_below x))
 
--- Behind an item that is no penalty stand penalties alone.
+-- If only penalties and specials come after an item that is neither, the pending depth is that of the item.
 pub pending-last :
     (front : List Node) (item : Node) (penalties : List Node)
     → is_sizeless item ≡ false → list_all is_sizeless penalties ≡ true → pending_depth (front ++ item ∷ penalties) ≡ last_below item

@@ -8,6 +8,6 @@ use Rattle.pack_core.specs.Items.{breadth}
 use Rattle.pack_core.specs.Totals.{greatest}
 use Rattle.pack_core.proofs.Sums.{greatest_positive}
 
--- Glue is no wider than nothing.
+-- Glue does not change the breadth.
 pub breadth-below : (glue : Glue) (xs : List Node) → greatest breadth (nodes.Glue glue ∷ xs) ≡ greatest breadth xs
 breadth-below glue xs = omega (arith, ints, clamps, greatest_positive breadth xs)

@@ -17,7 +17,7 @@ use Rattle.pack_core.proofs.Passing.{IsNoGlue, no_stretch, no_shrink}
 total-one : (size : Node → ℤ) (xs : List Node) (x : Node) → total size xs +ℤ size x ≡ total size (xs ++ x ∷ [])
 total-one size xs x = omega (arith, ints, total-append size xs (x ∷ []))
 
--- One more item behind those that were passed.
+-- One more item after those that were passed.
 pub one_more-reached :
     (kind : Kind) (setting : Setting) (before : List Node) (node : Node)
     → one_more kind setting (reached kind setting before) node ≡ reached kind setting (before ++ node ∷ [])
@@ -26,7 +26,7 @@ one_more-reached kind setting before node =
     let n : length before + 1 ≡ length (before ++ node ∷ []) = omega (arith, length-append before (node ∷ [])) in
     rw (total-one (advance kind) before node, total-one (share setting) before node, n) refl
 
--- An item that takes no part in the setting moves a walk by what it advances.
+-- An item without a share in the setting moves a walk by its advance.
 pub moved_on-reached :
     (kind : Kind) (setting : Setting) (before : List Node) (node : Node) (distance : ℤ)
     → distance ≡ advance kind node → share setting node ≡ pos 0
@@ -36,7 +36,7 @@ moved_on-reached kind setting before node distance moves none =
     let shares : from.shares ≡ from.shares +ℤ share setting node = omega (arith, ints, none) in
     rw (moves, ← shares) refl ∙ one_more-reached kind setting before node
 
--- What is no glue takes no part in a setting.
+-- A node that is not glue has no share in a setting.
 pub no_share : (node : Node) → IsNoGlue node → (setting : Setting) → share setting node ≡ pos 0
 no_share node other Natural = refl
 no_share node other (Stretch order ratio) = no_stretch node other order

@@ -1,4 +1,4 @@
--- The packed boxes (TeX: The Program, part 33, §649 to §678; a vtop: part 47, §1087). Which numbers have to fit is own: TeX looks at none.
+-- The packed boxes (TeX: The Program, part 33, §649 to §678; a vtop: part 47, §1087). Which numbers have to fit is own: TeX tests none.
 use Rattle.std.specs.Prelude.{◌+ℤ◌, ◌-ℤ◌, ◌++◌, ℕ, ℤ, if◌then◌else◌, Bool, true, false, List, [], ◌∷◌, Option, Some, None, Result, Ok, Err}
 use Rattle.std.specs.List.{list_all}
 use Rattle.std.specs.Int.{int_min}
@@ -6,7 +6,7 @@ use Rattle.node_core.specs.declared.tree.Kind.TheVariants.{Horizontal, Vertical}
 use Rattle.node_core.specs.declared.tree.Order.TheVariants.{Normal, Fil, Fill, Filll}
 use Rattle.node_core.specs.declared.tree.Node.{Node}
 use Rattle.node_core.specs.declared.tree.BoxNode.{BoxNode}
-use Rattle.node_core.specs.Items.{Frame, Items}
+use Rattle.node_core.specs.Items.{BoxFrame, Items}
 use Rattle.node_core.specs.Nodes.{box_of, nodes_of}
 use Rattle.pack_core.specs.declared.pack.Target.{Target}
 use Rattle.pack_core.specs.declared.pack.Target.TheVariants.{Natural, To, Spread}
@@ -18,40 +18,41 @@ use Rattle.scaled_core.specs.Dimensions.{fits}
 use Rattle.pack_core.specs.Totals.{total, greatest, pending_depth, first_height}
 use Rattle.pack_core.specs.Glue.{stretch_totals, shrink_totals, setting_of, setting_badness}
 
--- The size that is wanted of a list of that natural size: the natural one, a given one, or so much more (TeX: The Program, part 33, §657 and §672).
+-- The target size of a list of this natural size: the natural size, a given size, or the natural size plus an amount (TeX: The Program, part 33, §657
+-- and §672).
 abbrev pub wanted : Target → (natural : ℤ) → ℤ
 wanted Natural natural = natural
 wanted (To size) natural = size
 wanted (Spread more) natural = natural +ℤ more
 
--- What a list is packed to, but for the list: the frame of its box, how bad the box is, and the numbers that have to fit (own).
+-- The result of packing without the list: the frame of the box, its badness, and the numbers that have to fit (own).
 pub record Packing : Type 0 where
-  pub frame : Frame
+  pub frame : BoxFrame
   pub badness : ℕ
   pub numbers : List ℤ
 
--- The list in its box, and how bad the box is; or the list comes back, where one of the numbers does not fit (own).
+-- The list in its box with its badness, or the list itself if one of the numbers does not fit (own).
 abbrev pub packed_by : Packing → Items → Result Packed TooLarge
 packed_by packing items =
     if list_all fits packing.numbers then Ok (record { box_node = box_of packing.frame items; badness = packing.badness })
     else Err (record { list = items })
 
--- The totals of stretch and of shrink of a list in each order, as numbers that have to fit (own).
+-- The totals of stretch and shrink of a list in each order, as numbers that have to fit (own).
 abbrev pub glue_totals : List Node → List ℤ
 glue_totals nodes =
     stretch_totals nodes Normal ∷ stretch_totals nodes Fil ∷ stretch_totals nodes Fill ∷ stretch_totals nodes Filll
     ∷ shrink_totals nodes Normal ∷ shrink_totals nodes Fil ∷ shrink_totals nodes Fill ∷ shrink_totals nodes Filll ∷ []
 
--- The width of an hbox: what is wanted of its natural width, the sum of the widths of its items (TeX: The Program, part 33, §657).
+-- The width of an hbox: the target size for its natural width, which is the sum of the widths of its items (TeX: The Program, part 33, §657).
 abbrev pub hbox_width : Target → List Node → ℤ
 hbox_width target nodes = wanted target (total across nodes)
 
--- How much more the width of an hbox is than its natural width: what its glue has to make up (TeX: The Program, part 33, §657).
+-- The width of an hbox minus its natural width: what its glue has to make up (TeX: The Program, part 33, §657).
 abbrev pub hbox_excess : Target → List Node → ℤ
 hbox_excess target nodes = hbox_width target nodes -ℤ total across nodes
 
--- The frame of an hbox: as wide as is wanted, as high and as deep as its highest and its deepest item (TeX: The Program, part 33, §649).
-abbrev pub hbox_frame : Target → List Node → Frame
+-- The frame of an hbox: it has the target width, and the height and depth of its highest and its deepest item (TeX: The Program, part 33, §649).
+abbrev pub hbox_frame : Target → List Node → BoxFrame
 hbox_frame target nodes =
     record {
       kind = Horizontal;
@@ -74,32 +75,32 @@ abbrev pub hbox_numbers : Target → List Node → List ℤ
 hbox_numbers target nodes =
     total across nodes ∷ hbox_width target nodes ∷ greatest above nodes ∷ greatest below nodes ∷ glue_totals nodes
 
--- What a horizontal list is packed to, but for the list.
+-- The result of packing a horizontal list, without the list.
 abbrev pub hbox_packing : Target → List Node → Packing
 hbox_packing target nodes = record { frame = hbox_frame target nodes; badness = hbox_badness target nodes; numbers = hbox_numbers target nodes }
 
--- What a horizontal list is packed to: its box and its badness; or the list comes back, where one of its numbers does not fit (own).
+-- The result of packing a horizontal list: its box and its badness, or the list itself if one of its numbers does not fit (own).
 unfoldable pub hpacked : Target → Items → Result Packed TooLarge
 hpacked target items = packed_by (hbox_packing target (nodes_of items)) items
 
--- The depth of a vbox: that of its last rule or box, but no more than the limit (TeX: The Program, part 33, §668).
+-- The depth of a vbox: that of its last rule or box, but at most the limit (TeX: The Program, part 33, §668).
 abbrev pub vbox_depth : (limit : ℤ) → List Node → ℤ
 vbox_depth limit nodes = int_min (pending_depth nodes) limit
 
--- The natural height of a vbox: all that is not depth; what is deeper than the limit counts as height (TeX: The Program, part 33, §668).
+-- The natural height of a vbox: everything that is not depth; depth above the limit counts as height (TeX: The Program, part 33, §668).
 abbrev pub natural_height : (limit : ℤ) → List Node → ℤ
 natural_height limit nodes = total downward nodes -ℤ vbox_depth limit nodes
 
--- The height of a vbox: what is wanted of its natural height (TeX: The Program, part 33, §672).
+-- The height of a vbox: the target size for its natural height (TeX: The Program, part 33, §672).
 abbrev pub vbox_height : Target → (limit : ℤ) → List Node → ℤ
 vbox_height target limit nodes = wanted target (natural_height limit nodes)
 
--- How much more the height of a vbox is than its natural height: what its glue has to make up (TeX: The Program, part 33, §672).
+-- The height of a vbox minus its natural height: what its glue has to make up (TeX: The Program, part 33, §672).
 abbrev pub vbox_excess : Target → (limit : ℤ) → List Node → ℤ
 vbox_excess target limit nodes = vbox_height target limit nodes -ℤ natural_height limit nodes
 
--- The frame of a vbox: as wide as its widest item, its baseline at the bottom (TeX: The Program, part 33, §668).
-abbrev pub vbox_frame : Target → (limit : ℤ) → List Node → Frame
+-- The frame of a vbox: it is as wide as its widest item, and its baseline is at the bottom (TeX: The Program, part 33, §668).
+abbrev pub vbox_frame : Target → (limit : ℤ) → List Node → BoxFrame
 vbox_frame target limit nodes =
     record {
       kind = Vertical;
@@ -122,21 +123,21 @@ abbrev pub vbox_numbers : Target → (limit : ℤ) → List Node → List ℤ
 vbox_numbers target limit nodes =
     natural_height limit nodes ∷ vbox_height target limit nodes ∷ vbox_depth limit nodes ∷ greatest breadth nodes ∷ glue_totals nodes
 
--- What a vertical list is packed to as a vbox, but for the list.
+-- The result of packing a vertical list into a vbox, without the list.
 abbrev pub vbox_packing : Target → (limit : ℤ) → List Node → Packing
 vbox_packing target limit nodes =
     record { frame = vbox_frame target limit nodes; badness = vbox_badness target limit nodes; numbers = vbox_numbers target limit nodes }
 
--- What a vertical list is packed to as a vbox: its box and its badness; or the list comes back, where one of its numbers does not fit (own).
+-- The result of packing a vertical list into a vbox: its box and its badness, or the list itself if one of its numbers does not fit (own).
 unfoldable pub vpacked : Target → (limit : ℤ) → Items → Result Packed TooLarge
 vpacked target limit items = packed_by (vbox_packing target limit (nodes_of items)) items
 
--- A value where a test holds, else none (own).
+-- A value if a test holds, and otherwise none (own).
 unfoldable pub some_if : {A : Type 0} → Bool → A → Option A
 some_if true x = Some x
 some_if false x = None
 
--- What a vertical list is packed to as a vbox, but for the list: the sizes of its box, how its glue is set, and how bad that is (own).
+-- The result of packing a vertical list into a vbox, without the list: the sizes of its box, the setting of its glue, and its badness (own).
 unfoldable pub vbox_shell : Target → (limit : ℤ) → List Node → Shell
 vbox_shell target limit nodes =
     let frame = vbox_frame target limit nodes in
@@ -149,7 +150,7 @@ vbox_shell target limit nodes =
       badness = vbox_badness target limit nodes;
     }
 
--- A list in a box that was without one, and how bad the box is (own).
+-- A list put into a box that was computed without it, with the badness of the box (own).
 unfoldable pub packed_of : Items → Shell → Packed
 packed_of items shell =
     record {
@@ -164,13 +165,13 @@ packed_of items shell =
       badness = shell.badness;
     }
 
--- The depth of a vtop: its height and its depth are together those of the vbox (TeX: The Program, part 47, §1087).
+-- The depth of a vtop: its height and its depth together are those of the vbox (TeX: The Program, part 47, §1087).
 abbrev pub vtop_depth : Target → (limit : ℤ) → List Node → ℤ
 vtop_depth target limit nodes = (vbox_depth limit nodes +ℤ vbox_height target limit nodes) -ℤ first_height nodes
 
--- The frame of a vtop: that of the vbox, but with its baseline at that of its first item, another border between height and depth
--- (TeX: The Program, part 47, §1087).
-abbrev pub vtop_frame : Target → (limit : ℤ) → List Node → Frame
+-- The frame of a vtop: that of the vbox, but with the baseline of its first item, which only moves the border between height and depth (TeX: The
+-- Program, part 47, §1087).
+abbrev pub vtop_frame : Target → (limit : ℤ) → List Node → BoxFrame
 vtop_frame target limit nodes = record (vbox_frame target limit nodes) { height = first_height nodes; depth = vtop_depth target limit nodes }
 
 -- A vertical list as a box whose baseline is that of its first item (TeX: The Program, part 47, §1087).
@@ -181,11 +182,11 @@ vtop_box target limit items = box_of (vtop_frame target limit (nodes_of items)) 
 abbrev pub vtop_numbers : Target → (limit : ℤ) → List Node → List ℤ
 vtop_numbers target limit nodes = vbox_numbers target limit nodes ++ first_height nodes ∷ vtop_depth target limit nodes ∷ []
 
--- What a vertical list is packed to as a vtop, but for the list.
+-- The result of packing a vertical list into a vtop, without the list.
 abbrev pub vtop_packing : Target → (limit : ℤ) → List Node → Packing
 vtop_packing target limit nodes =
     record { frame = vtop_frame target limit nodes; badness = vbox_badness target limit nodes; numbers = vtop_numbers target limit nodes }
 
--- What a vertical list is packed to as a vtop: its box and its badness; or the list comes back, where one of its numbers does not fit (own).
+-- The result of packing a vertical list into a vtop: its box and its badness, or the list itself if one of its numbers does not fit (own).
 unfoldable pub vtopped : Target → (limit : ℤ) → Items → Result Packed TooLarge
 vtopped target limit items = packed_by (vtop_packing target limit (nodes_of items)) items

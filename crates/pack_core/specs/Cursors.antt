@@ -1,39 +1,39 @@
--- How far a walk over the items of a box has come (own; the clauses `reached` of `Cursor` tie it to `place`).
+-- The state of a walk over the items of a box (own; the clauses `reached` of `Cursor` relate it to `place`).
 use Rattle.std.specs.Prelude.{◌+ℤ◌, ◌+◌, ◌*◌, ◌^◌, ◌≤◌, ℕ, ℤ, List, length}
 use Rattle.node_core.specs.declared.tree.Kind.{Kind}
 use Rattle.node_core.specs.declared.tree.Node.{Node}
 use Rattle.node_core.specs.declared.tree.Setting.{Setting}
-use Rattle.node_core.specs.Nodes.{most_nodes}
+use Rattle.node_core.specs.Nodes.{max_nodes}
 use Rattle.scaled_core.specs.Dimensions.{Within}
 use Rattle.pack_core.specs.Items.{advance}
 use Rattle.pack_core.specs.Totals.{total}
 use Rattle.pack_core.specs.Places.{share, set_by}
 
--- What a walk has reached: the sums of the advances and of the shares of the items passed, and how many those are.
+-- The state of a walk: the sums of the advances and of the shares of the items passed, and the number of these items.
 pub record Reached : Type 0 where
   pub natural : ℤ
   pub shares : ℤ
   pub passed : ℕ
 
--- No more items were passed than a list has, and so the sums are small.
+-- At most as many items were passed as a list has, and so the sums are small.
 pub record IsReachable (natural shares : ℤ) (passed : ℕ) : Type 0 where
   pub advances : Within (2 ^ 31 * passed) natural
   pub parts : Within (2 ^ 31 * passed) shares
-  pub few : passed ≤ most_nodes
+  pub few : passed ≤ max_nodes
 
--- What a walk has reached behind these items.
+-- The state of a walk after these items.
 unfoldable pub reached : Kind → Setting → (before : List Node) → Reached
 reached kind setting before = record { natural = total (advance kind) before; shares = total (share setting) before; passed = length before }
 
--- What a walk has reached behind one more item.
+-- The state of a walk after one more item.
 abbrev pub one_more : Kind → Setting → Reached → Node → Reached
 one_more kind setting from node =
     record { natural = from.natural +ℤ advance kind node; shares = from.shares +ℤ share setting node; passed = from.passed + 1 }
 
--- What a walk has reached after an item that advances by that much and takes no part in the setting.
+-- The state of a walk after an item that advances by this distance and has no share in the setting.
 abbrev pub moved_on : Reached → (distance : ℤ) → Reached
 moved_on from distance = record { natural = from.natural +ℤ distance; shares = from.shares; passed = from.passed + 1 }
 
--- The place behind the items passed, from the beginning of the list.
+-- The place after the items passed, measured from the beginning of the list.
 abbrev pub place_at : Setting → Reached → ℤ
 place_at setting at = at.natural +ℤ set_by setting at.shares

@@ -1,4 +1,4 @@
--- How the glue of a list is set, and how bad that is (TeX: The Program, part 33, §657 to §667 and §672 to §678).
+-- The setting of the glue of a list, and its badness (TeX: The Program, part 33, §657 to §667 and §672 to §678).
 use Rattle.std.specs.Prelude.{◌≡◌, ◌≢◌, ◌<◌, ℕ, ℤ, pos, negsuc, zero, suc, neg_ℤ, Bool, true, false, int_lt, if◌then◌else◌, List, [], ◌∷◌, Option, Some, None}
 use Rattle.node_core.specs.declared.tree.Node.{Node}
 use Rattle.node_core.specs.declared.tree.Order.{Order}
@@ -11,7 +11,7 @@ use Rattle.scaled_core.specs.Badness.{badness_of}
 use Rattle.pack_core.specs.Items.{stretch_in, shrink_in}
 use Rattle.pack_core.specs.Totals.{total}
 
--- How high an order is (TeX: The Program, part 10).
+-- The rank of an order (TeX: The Program, part 10).
 abbrev pub rank : Order → ℕ
 rank Normal = 0
 rank Fil = 1
@@ -23,7 +23,7 @@ pub record IsHighest (totals : Order → ℤ) (order : Order) : Type 0 where
   pub not_zero : totals order ≢ pos 0
   pub alone : (other : Order) → rank order < rank other → totals other ≡ pos 0
 
--- The highest order whose total is not 0, the one that `IsHighest` (law `highest_order_is_set`); none where all totals are 0.
+-- The highest order whose total is not 0, as in `IsHighest` (law `highest_order_is_set`); none if all totals are 0.
 unfoldable pub highest : (Order → ℤ) → Option Order
 highest totals =
     if is_zero (totals Filll)
@@ -35,39 +35,40 @@ abbrev pub fraction : (amount total : ℤ) → Fraction
 fraction amount (pos n) = record { num = amount; den = pos n }
 fraction amount (negsuc n) = record { num = neg_ℤ amount; den = pos (suc n) }
 
--- Glue is stretched by an amount above 0: that of the highest order by the amount as a fraction of the total
--- (TeX: The Program, part 33, §658 and §673).
+-- The setting of glue that is stretched by an amount above 0: the ratio of the highest order is the amount as a fraction of the total (TeX: The
+-- Program, part 33, §658 and §673).
 abbrev pub stretched : (amount : ℤ) → (totals : Order → ℤ) → Option Order → Setting
 stretched amount totals None = Natural
 stretched amount totals (Some order) = Stretch order (fraction amount (totals order))
 
--- What glue of normal order can shrink is less than the amount (TeX: The Program, part 33, §664 and §676).
+-- The total shrink of normal order is less than the amount (TeX: The Program, part 33, §664 and §676).
 abbrev pub is_short : (amount : ℤ) → (totals : Order → ℤ) → Bool
 is_short amount totals = int_lt (totals Normal) amount
 
--- Glue is shrunk by an amount above 0. Glue of normal order shrinks by no more than it can: the ratio is at most 1
--- (TeX: The Program, part 33, §664 and §676).
+-- The setting of glue that is shrunk by an amount above 0. Glue of normal order shrinks by at most its total: the ratio is at most 1 (TeX: The
+-- Program, part 33, §664 and §676).
 abbrev pub shrunk : (amount : ℤ) → (totals : Order → ℤ) → Option Order → Setting
 shrunk amount totals None = Natural
 shrunk amount totals (Some Normal) =
     Shrink Normal (if is_short amount totals then record { num = pos 1; den = pos 1 } else fraction amount (totals Normal))
 shrunk amount totals (Some order) = Shrink order (fraction amount (totals order))
 
--- How much the glue of a list can stretch together, in each order (TeX: The Program, part 33, §656 and §671).
+-- The total stretch of the glue of a list in each order (TeX: The Program, part 33, §656 and §671).
 abbrev pub stretch_totals : List Node → Order → ℤ
 stretch_totals nodes order = total (stretch_in order) nodes
 
--- How much the glue of a list can shrink together, in each order (TeX: The Program, part 33, §656 and §671).
+-- The total shrink of the glue of a list in each order (TeX: The Program, part 33, §656 and §671).
 abbrev pub shrink_totals : List Node → Order → ℤ
 shrink_totals nodes order = total (shrink_in order) nodes
 
--- The setting of a list with that much space too much (or, below 0, too little) (TeX: The Program, part 33, §657 and §672).
+-- The setting of a list with this excess, which is the size of its box minus its natural size: glue stretches if it is above 0, and shrinks if it is
+-- below 0 (TeX: The Program, part 33, §657 and §672).
 unfoldable pub setting_of : (excess : ℤ) → List Node → Setting
 setting_of (pos zero) nodes = Natural
 setting_of (pos (suc n)) nodes = stretched (pos (suc n)) (stretch_totals nodes) (highest (stretch_totals nodes))
 setting_of (negsuc n) nodes = shrunk (pos (suc n)) (shrink_totals nodes) (highest (shrink_totals nodes))
 
--- Whether the glue that is set is of normal order, or there is none to set.
+-- Whether the glue that is set is of normal order, or there is no glue to set.
 abbrev pub is_finite : Option Order → Bool
 is_finite None = true
 is_finite (Some Normal) = true
@@ -77,16 +78,16 @@ is_finite (Some order) = false
 abbrev pub overfull : ℕ
 overfull = 1000000
 
--- How bad it is to stretch by an amount: not at all where glue of an infinite order is set.
+-- The badness of stretching by an amount; 0 if glue of an infinite order is set.
 abbrev pub stretch_badness : (amount : ℤ) → (totals : Order → ℤ) → ℕ
 stretch_badness amount totals = if is_finite (highest totals) then badness_of amount (totals Normal) else 0
 
--- How bad it is to shrink by an amount: overfull where glue of normal order can't, and not at all where glue of an infinite order is set.
+-- The badness of shrinking by an amount: overfull if glue of normal order cannot shrink by that much, and 0 if glue of an infinite order is set.
 abbrev pub shrink_badness : (amount : ℤ) → (totals : Order → ℤ) → ℕ
 shrink_badness amount totals =
     if is_finite (highest totals) then (if is_short amount totals then overfull else badness_of amount (totals Normal)) else 0
 
--- The badness of a list with that much space too much (or, below 0, too little); of an empty list it is 0.
+-- The badness of a list with this excess, which is the size of its box minus its natural size; for an empty list it is 0.
 unfoldable pub setting_badness : (excess : ℤ) → List Node → ℕ
 setting_badness excess [] = 0
 setting_badness (pos zero) (x ∷ xs) = 0

@@ -1,4 +1,4 @@
--- What an item adds to the list that it stands in (TeX: The Program, part 33, §651 to §656 and §669 to §671).
+-- What an item adds to the list that contains it (TeX: The Program, part 33, §651 to §656 and §669 to §671).
 use Rattle.std.specs.Prelude.{◌+ℤ◌, ◌-ℤ◌, ℤ, pos, Bool, true, false, if◌then◌else◌}
 use Rattle.node_core.specs.declared.tree.Kind.{Kind}
 use Rattle.node_core.specs.declared.tree.Kind.TheVariants.{Horizontal, Vertical}
@@ -11,12 +11,12 @@ use Rattle.node_core.specs.Classes.{class_of, is_box_or_rule}
 use Rattle.node_core.specs.declared.tree.RuleSize.{RuleSize}
 use Rattle.node_core.specs.declared.tree.RuleSize.TheVariants.{Running, Fixed}
 
--- A size of a rule that counts when its list is packed: a running one does not.
+-- The size of a rule that counts when its list is packed: a running size counts as 0.
 abbrev pub own_size : RuleSize → ℤ
 own_size Running = pos 0
 own_size (Fixed size) = size
 
--- How wide an item is: its advance in a horizontal list.
+-- The width of an item, which is its advance in a horizontal list.
 abbrev pub across : Node → ℤ
 across (nodes.Glyph glyph) = glyph.width
 across (nodes.FontKern width) = width
@@ -27,7 +27,7 @@ across (nodes.Special text) = pos 0
 across (nodes.Rule rule) = own_size rule.width
 across (nodes.Box shift b) = b.width
 
--- How far an item stands above the baseline: a box that is shifted down, by its shift less.
+-- The height of an item above the baseline; for a box, minus its shift down.
 abbrev pub above : Node → ℤ
 above (nodes.Glyph glyph) = glyph.height
 above (nodes.FontKern width) = pos 0
@@ -38,7 +38,7 @@ above (nodes.Special text) = pos 0
 above (nodes.Rule rule) = own_size rule.height
 above (nodes.Box shift b) = b.height -ℤ shift
 
--- How far an item stands below the baseline: a box that is shifted down, by its shift more.
+-- The depth of an item below the baseline; for a box, plus its shift down.
 abbrev pub below : Node → ℤ
 below (nodes.Glyph glyph) = glyph.depth
 below (nodes.FontKern width) = pos 0
@@ -49,7 +49,8 @@ below (nodes.Special text) = pos 0
 below (nodes.Rule rule) = own_size rule.depth
 below (nodes.Box shift b) = b.depth +ℤ shift
 
--- The advance of an item in a vertical list: of a rule or a box height plus depth, of glue and kerns their width. A character does not stand in one.
+-- The advance of an item in a vertical list: height plus depth for a rule or a box, and the width for glue and kerns. Characters do not occur in
+-- vertical lists.
 abbrev pub downward : Node → ℤ
 downward (nodes.Glyph glyph) = pos 0
 downward (nodes.FontKern width) = width
@@ -60,7 +61,7 @@ downward (nodes.Special text) = pos 0
 downward (nodes.Rule rule) = own_size rule.height +ℤ own_size rule.depth
 downward (nodes.Box shift b) = b.height +ℤ b.depth
 
--- How far an item of a vertical list goes to the right: a box that is shifted to the right, by its shift more.
+-- The distance to the right edge of an item of a vertical list; for a box, plus its shift to the right.
 abbrev pub breadth : Node → ℤ
 breadth (nodes.Glyph glyph) = pos 0
 breadth (nodes.FontKern width) = pos 0
@@ -110,7 +111,7 @@ shrink_in order (nodes.Box shift b) = pos 0
 abbrev pub is_sizeless : Node → Bool
 is_sizeless node = classes.is_sizeless (class_of node)
 
--- How high an item is by itself, not shifted.
+-- The height of an item, without a shift.
 abbrev pub item_height : Node → ℤ
 item_height (nodes.Glyph glyph) = glyph.height
 item_height (nodes.FontKern width) = pos 0
@@ -121,7 +122,7 @@ item_height (nodes.Special text) = pos 0
 item_height (nodes.Rule rule) = own_size rule.height
 item_height (nodes.Box shift b) = b.height
 
--- How deep an item is by itself, not shifted.
+-- The depth of an item, without a shift.
 abbrev pub item_depth : Node → ℤ
 item_depth (nodes.Glyph glyph) = glyph.depth
 item_depth (nodes.FontKern width) = pos 0
@@ -132,11 +133,11 @@ item_depth (nodes.Special text) = pos 0
 item_depth (nodes.Rule rule) = own_size rule.depth
 item_depth (nodes.Box shift b) = b.depth
 
--- The height of an item that is a rule or a box, else 0: how far the first item of a vtop stands above its baseline
--- (TeX: The Program, part 47, §1087).
+-- The height of an item that is a rule or a box, and otherwise 0: for the first item of a vtop, its height above the baseline (TeX: The Program, part
+-- 47, §1087).
 abbrev pub first_above : Node → ℤ
 first_above node = if is_box_or_rule (class_of node) then item_height node else pos 0
 
--- The depth of an item that is a rule or a box, else 0: how far the last item of a vertical list hangs below its baseline.
+-- The depth of an item that is a rule or a box, and otherwise 0: for the last item of a vertical list, its depth below the baseline.
 abbrev pub last_below : Node → ℤ
 last_below node = if is_box_or_rule (class_of node) then item_depth node else pos 0

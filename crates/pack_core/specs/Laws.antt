@@ -1,17 +1,17 @@
--- Lists whose packed boxes are known (own).
+-- Lists for the laws about known boxes (own).
 use Rattle.std.specs.Prelude.{ℤ, pos}
 use Rattle.node_core.specs.declared.tree.Glue.{Glue}
 use Rattle.node_core.specs.declared.tree.Order.{Order}
 use Rattle.node_core.specs.declared.tree.Order.TheVariants.{Normal, Fil}
 use Rattle.node_core.specs.Items.{Items, none, leaf, glue, kern}
 
--- Glue of no width that stretches by that much in that order, and does not shrink.
+-- Glue of width 0 with this stretch in this order, and without shrink.
 abbrev pub stretching : ℤ → Order → Glue
 stretching stretch order = record { width = pos 0; stretch = stretch; stretch_order = order; shrink = pos 0; shrink_order = Normal }
 
--- Glue of no width that shrinks by that much in order normal, and does not stretch.
-abbrev pub shrinking : ℤ → Glue
-shrinking shrink = record { width = pos 0; stretch = pos 0; stretch_order = Normal; shrink = shrink; shrink_order = Normal }
+-- Glue of width 0 with this shrink in the normal order, and without stretch.
+abbrev pub shrinking_setting : ℤ → Glue
+shrinking_setting shrink = record { width = pos 0; stretch = pos 0; stretch_order = Normal; shrink = shrink; shrink_order = Normal }
 
 -- Three glues that stretch by 1sp each.
 abbrev pub three_stretching : Items
@@ -19,7 +19,7 @@ three_stretching = leaf (glue (stretching (pos 1) Normal)) (leaf (glue (stretchi
 
 -- Two glues that shrink by 1sp each.
 abbrev pub two_shrinking : Items
-two_shrinking = leaf (glue (shrinking (pos 1))) (leaf (glue (shrinking (pos 1))) none)
+two_shrinking = leaf (glue (shrinking_setting (pos 1))) (leaf (glue (shrinking_setting (pos 1))) none)
 
 -- A kern of 5pt, glue that stretches by 5pt, and glue that stretches by 1fil.
 abbrev pub kern_and_fil : Items

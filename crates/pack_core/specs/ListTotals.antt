@@ -1,4 +1,4 @@
--- The exact totals of a list, gathered item by item (TeX: The Program, part 33, §649 to §656 and §669 to §671; own: of any size).
+-- The exact totals of a list, added up item by item (TeX: The Program, part 33, §649 to §656 and §669 to §671; own: of any size).
 use Rattle.std.specs.Prelude.{◌+ℤ◌, ◌+◌, ◌*◌, ◌^◌, ◌<◌, ℕ, ℤ, if◌then◌else◌, List, length}
 use Rattle.node_core.specs.declared.tree.Kind.{Kind}
 use Rattle.node_core.specs.declared.tree.Node.{Node}
@@ -9,8 +9,8 @@ use Rattle.pack_core.specs.Glue.{stretch_totals, shrink_totals}
 use Rattle.pack_core.specs.Orders.{order_amounts, plus, AreWithin}
 use Rattle.pack_core.specs.declared.orders.OrderAmounts.{OrderAmounts}
 
--- The totals of a list of a kind: how far its items move, how much its glue can stretch and shrink in each order, the depth that is pending
--- at its end, and how many items it has.
+-- The totals of a list of a kind: the sum of the advances of its items, the stretch and shrink of its glue in each order, the pending depth at its
+-- end, and the number of its items.
 pub record ListTotals : Type 0 where
   pub kind : Kind
   pub advance : ℤ
@@ -31,11 +31,11 @@ totals_of kind nodes =
       passed = length nodes;
     }
 
--- The depth that is pending behind one more item: a penalty leaves it, every other item has one of its own.
+-- The pending depth after one more item: a penalty or a special leaves it as it is, and every other item sets it.
 abbrev pub pending_behind : ℤ → Node → ℤ
 pending_behind before node = if is_sizeless node then before else last_below node
 
--- The totals with one more item: each is more by what the item has.
+-- The totals with one more item, which adds what it has to each total.
 abbrev pub with_item : ListTotals → Node → ListTotals
 with_item totals node =
     record {
@@ -47,7 +47,7 @@ with_item totals node =
       passed = totals.passed + 1;
     }
 
--- Sums of so many items are small.
+-- The sums of this number of items are small.
 pub record AreSmall (passed : ℕ) (advance : ℤ) (stretch shrink : OrderAmounts) : Type 0 where
   pub moves : Within (2 ^ 31 * passed) advance
   pub stretches : AreWithin (2 ^ 31 * passed) stretch

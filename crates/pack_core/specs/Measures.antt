@@ -1,10 +1,10 @@
--- What a walk over a horizontal list has measured stays small (own; private calls alone, no public clause speaks of it).
+-- The measures of a walk over a horizontal list stay small (own; only private calls use it, and no public clause speaks of it).
 use Rattle.std.specs.Prelude.{◌*◌, ◌^◌, ◌≤ℤ◌, ℕ, pos}
 use Rattle.scaled_core.specs.Dimensions.{Within}
 use Rattle.pack_core.specs.declared.across.Across.{Across}
 use Rattle.pack_core.specs.Orders.{AreWithin}
 
--- After n items the sums and the greatest sizes are small.
+-- After n items, the sums and the greatest sizes are small.
 pub record HasPassed (n : ℕ) (across : Across) : Type 0 where
   pub width : Within (2 ^ 31 * n) across.width
   pub high : pos 0 ≤ℤ across.height

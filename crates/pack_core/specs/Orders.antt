@@ -6,7 +6,7 @@ use Rattle.scaled_core.specs.Dimensions.{Within}
 use Rattle.pack_core.specs.declared.orders.OrderAmounts.{OrderAmounts}
 use Rattle.pack_core.specs.declared.orders.OrderDimens.{OrderDimens}
 
--- The amount of an order, out of the dimensions of the four.
+-- The amount of an order, among the dimensions of the four.
 abbrev pub by_order : OrderDimens → Order → ℤ
 by_order dimens Normal = dimens.normal
 by_order dimens Fil = dimens.fil
@@ -25,7 +25,7 @@ order_amounts amounts = record { normal = amounts Normal; fil = amounts Fil; fil
 abbrev pub each_order : (Order → ℤ) → List ℤ
 each_order amounts = amounts Normal ∷ amounts Fil ∷ amounts Fill ∷ amounts Filll ∷ []
 
--- Each amount is more by another of its order.
+-- Each amount plus another amount of its order.
 abbrev pub plus : OrderAmounts → (Order → ℤ) → OrderAmounts
 plus amounts more =
     record {

@@ -1,5 +1,5 @@
--- Where the items of a set box stand (after TeX: The Program, part 32, §625 and §634, as later versions of TeX do it: the share of all glue before an
--- item is rounded once; own: by an exact ratio, where TeX has a floating-point one).
+-- The places of the items of a packed box (after TeX: The Program, part 32, §625 and §634, as later versions of TeX do it: the share of all glue
+-- before an item is rounded once; own: by an exact ratio, where TeX has a floating-point one).
 use Rattle.std.specs.Prelude.{◌+ℤ◌, ℕ, ℤ, pos, neg_ℤ, List, take}
 use Rattle.node_core.specs.declared.tree.Kind.{Kind}
 use Rattle.node_core.specs.declared.tree.Node.{Node}
@@ -11,22 +11,22 @@ use Rattle.scaled_core.specs.Fractions.{round_times}
 use Rattle.pack_core.specs.Items.{advance, stretch_in, shrink_in}
 use Rattle.pack_core.specs.Totals.{total}
 
--- How much an item takes part in a setting: by what it can stretch in the order of the setting, or by what it can shrink, as a negative number.
+-- The share of an item in a setting: its stretch in the order of the setting, or its shrink as a negative number.
 abbrev pub share : Setting → Node → ℤ
 share Natural node = pos 0
 share (Stretch order ratio) node = stretch_in order node
 share (Shrink order ratio) node = neg_ℤ (shrink_in order node)
 
--- How much a setting adds to a list whose items take part by that much together.
+-- How much a setting adds to items with this sum of shares.
 abbrev pub set_by : Setting → (shares : ℤ) → ℤ
 set_by Natural shares = pos 0
 set_by (Stretch order ratio) shares = round_times ratio shares
 set_by (Shrink order ratio) shares = round_times ratio shares
 
--- How far the place behind these items is from where the list begins.
+-- The distance from the beginning of the list to the place after these items.
 unfoldable pub place : Kind → Setting → (before : List Node) → ℤ
 place kind setting before = total (advance kind) before +ℤ set_by setting (total (share setting) before)
 
--- The place of item i of a box; that of the number of items is the place behind the last one.
+-- The place of item i of a box; for i equal to the number of items, it is the place after the last one.
 abbrev pub place_in : BoxNode → ℕ → ℤ
 place_in b i = place b.kind b.setting (take i (nodes_of b.list))

@@ -1,4 +1,5 @@
--- The steps from the totals of a list to its box, one word for each call (own; private calls alone, no public clause speaks of it).
+-- The steps from the totals of a list to its box, with one definition for each call (own; only private calls use them, and no public clause speaks of
+-- them).
 use Rattle.std.specs.Prelude.{◌+ℤ◌, ◌-ℤ◌, ℕ, ℤ, pos, negsuc, zero, suc, Bool, true, false, if◌then◌else◌, List, [], ◌∷◌}
 use Rattle.std.specs.Prelude.{Option, Some, None, Result, Ok, Err}
 use Rattle.std.specs.List.{list_all}
@@ -25,13 +26,13 @@ use Rattle.pack_core.specs.Glue.{highest, stretched, shrunk, fraction, is_short}
 use Rattle.pack_core.specs.Glue.{setting_of, setting_badness, stretch_badness, shrink_badness}
 use Rattle.pack_core.specs.Boxes.{some_if, hbox_width, hbox_excess, hbox_badness, packed_of}
 
--- Totals as dimensions, where all four fit.
+-- The totals as dimensions, if all four fit.
 unfoldable pub dimens_of : OrderAmounts → Option OrderDimens
 dimens_of amounts =
     some_if (list_all fits (amounts.normal ∷ amounts.fil ∷ amounts.fill ∷ amounts.filll ∷ []))
     (record { normal = amounts.normal; fil = amounts.fil; fill = amounts.fill; filll = amounts.filll })
 
--- The ratio by which glue of an order shrinks by an amount; glue of order normal by no more than it can, so that the ratio is at most 1.
+-- The ratio by which glue of an order shrinks by an amount. Glue of normal order shrinks by at most its total, so that its ratio is at most 1.
 unfoldable pub shrink_ratio : (amount : ℤ) → OrderDimens → Order → Fraction
 shrink_ratio amount totals Normal = if is_short amount (by_order totals) then record { num = pos 1; den = pos 1 } else fraction amount totals.normal
 shrink_ratio amount totals Fil = fraction amount totals.fil
@@ -46,32 +47,32 @@ stretch_setting amount totals = stretched amount (by_order totals) (highest (by_
 unfoldable pub shrink_setting : (amount : ℤ) → OrderDimens → Setting
 shrink_setting amount totals = shrunk amount (by_order totals) (highest (by_order totals))
 
--- The setting of glue with these totals for that much space too much (or, below 0, too little).
+-- The setting of glue with these totals for this excess: it stretches if the excess is above 0, and shrinks if it is below 0.
 unfoldable pub set_to : (excess : ℤ) → (stretch shrink : OrderDimens) → Setting
 set_to (pos zero) stretch shrink = settings.Natural
 set_to (pos (suc n)) stretch shrink = stretch_setting (pos (suc n)) stretch
 set_to (negsuc n) stretch shrink = shrink_setting (pos (suc n)) shrink
 
--- How bad it is to stretch glue with these totals by an amount.
+-- The badness of stretching glue with these totals by an amount.
 unfoldable pub stretching_badness : (amount : ℤ) → OrderDimens → ℕ
 stretching_badness amount totals = stretch_badness amount (by_order totals)
 
--- How bad it is to shrink glue with these totals by an amount.
+-- The badness of shrinking glue with these totals by an amount.
 unfoldable pub shrinking_badness : (amount : ℤ) → OrderDimens → ℕ
 shrinking_badness amount totals = shrink_badness amount (by_order totals)
 
--- How bad that much space too much (or, below 0, too little) is for glue with these totals.
+-- The badness of this excess for glue with these totals.
 unfoldable pub excess_badness : (excess : ℤ) → (stretch shrink : OrderDimens) → ℕ
 excess_badness (pos zero) stretch shrink = 0
 excess_badness (pos (suc n)) stretch shrink = stretching_badness (pos (suc n)) stretch
 excess_badness (negsuc n) stretch shrink = shrinking_badness (pos (suc n)) shrink
 
--- How bad a list is whose glue has these totals, with that much space too much (or, below 0, too little); 0 where it is empty.
+-- The badness of a list whose glue has these totals, for this excess; for an empty list it is 0.
 unfoldable pub list_badness : (empty : Bool) → (excess : ℤ) → (stretch shrink : OrderDimens) → ℕ
 list_badness true excess stretch shrink = 0
 list_badness false excess stretch shrink = excess_badness excess stretch shrink
 
--- How the glue of a list is set for that much space too much (or, below 0, too little), and how bad that is.
+-- The setting of the glue of a list for this excess, and its badness.
 unfoldable pub glue_set : (excess : ℤ) → List Node → GlueSet
 glue_set excess nodes = record { setting = setting_of excess nodes; badness = setting_badness excess nodes }
 
@@ -87,11 +88,11 @@ hbox_shell target nodes =
       badness = hbox_badness target nodes;
     }
 
--- A box without its list, with that height in the place of its own: height and depth are together what they were.
+-- A box without its list, with this height in place of its own; height and depth together stay the same.
 unfoldable pub vtop_shell : Shell → (height : ℤ) → Shell
 vtop_shell shell height = record shell { height = height; depth = (shell.depth +ℤ shell.height) -ℤ height }
 
--- A list in its box, or back where there is no box for it.
+-- The list in its box, or the list itself if there is no box for it.
 unfoldable pub boxed_list : Items → Option Shell → Result Packed TooLarge
 boxed_list items None = Err (record { list = items })
 boxed_list items (Some shell) = Ok (packed_of items shell)

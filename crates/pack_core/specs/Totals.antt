@@ -10,18 +10,18 @@ abbrev pub total : (Node → ℤ) → List Node → ℤ
 total size [] = pos 0
 total size (x ∷ xs) = size x +ℤ total size xs
 
--- The greatest of a size over a list, and at least 0.
+-- The greatest value of a size over a list, at least 0.
 abbrev pub greatest : (Node → ℤ) → List Node → ℤ
 greatest size [] = pos 0
 greatest size (x ∷ xs) = int_max (size x) (greatest size xs)
 
--- The depth of the last rule or box if only penalties follow it, else 0: the depth that is pending at the end
--- (TeX: The Program, part 33, §669 to §671).
+-- The pending depth at the end of a list: the depth of the last rule or box if only penalties and specials follow it, and otherwise 0 (TeX: The
+-- Program, part 33, §669 to §671).
 abbrev pub pending_depth : List Node → ℤ
 pending_depth [] = pos 0
 pending_depth (x ∷ xs) = if list_all is_sizeless xs then last_below x else pending_depth xs
 
--- The height of the first item if that is a rule or a box, else 0 (TeX: The Program, part 47, §1087).
+-- The height of the first item if it is a rule or a box, and otherwise 0 (TeX: The Program, part 47, §1087).
 abbrev pub first_height : List Node → ℤ
 first_height [] = pos 0
 first_height (x ∷ xs) = first_above x

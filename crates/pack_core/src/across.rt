@@ -1,8 +1,8 @@
-//! What a horizontal list measures, found in one walk.
+//! The measures of a horizontal list, found in one walk.
 
 ghost use Rattle.std.specs.Prelude.{◌≡◌, ◌≤◌, ◌+◌, ◌+ℤ◌, ℕ, pos, length};
 ghost use Rattle.std.specs.Int.{int_max};
-ghost use Rattle.node_core.specs.Nodes.{most_nodes};
+ghost use Rattle.node_core.specs.Nodes.{max_nodes};
 ghost use Rattle.pack_core.specs.Items.{across, above, below, stretch_in, shrink_in};
 ghost use Rattle.pack_core.specs.Totals.{total, greatest};
 ghost use Rattle.pack_core.specs.Glue.{stretch_totals, shrink_totals};
@@ -13,23 +13,23 @@ use crate::orders::{OrderAmounts, in_one_order, no_amounts, plus};
 use crate::sizes::{across_of, depth_of, height_of};
 use node_core::Node;
 
-/// What the items passed of a horizontal list measure.
+/// The measures of the items of a horizontal list that were passed, in scaled points.
 #[derive(Clone, Copy, Debug, PartialEq, Eq)]
 pub struct Across {
-    /// How wide they are together.
+    /// The sum of their widths.
     pub width: i64,
-    /// How far the highest reaches above the baseline, at least 0.
+    /// The greatest height above the baseline, at least 0.
     pub height: i64,
-    /// How far the deepest reaches below the baseline, at least 0.
+    /// The greatest depth below the baseline, at least 0.
     pub depth: i64,
-    /// How much their glue can stretch, in each order.
+    /// The total stretch of their glue, in each order.
     pub stretch: OrderAmounts,
-    /// How much their glue can shrink, in each order.
+    /// The total shrink of their glue, in each order.
     pub shrink: OrderAmounts,
 }
 
 impl Across {
-    /// What no items measure.
+    /// The measures of no items.
     fn new() -> Across
         ensures width { result.width ≡ pos 0 }
         ensures height { result.height ≡ pos 0 }
@@ -46,9 +46,9 @@ impl Across {
         }
     }
 
-    /// Passes one more item. Characters, glue and kerns have arms of their own, since nearly all items of a line are of these kinds.
+    /// Passes one more item. Characters, glue and kerns have match arms of their own for speed, since nearly all items of a line are of these kinds.
     fn pass(&mut self, node: &Node)
-        requires { HasPassed most_nodes self.old }
+        requires { HasPassed max_nodes self.old }
         ensures width { self.new.width ≡ self.old.width +ℤ across node.now }
         ensures height { self.new.height ≡ int_max self.old.height (above node.now) }
         ensures depth { self.new.depth ≡ int_max self.old.depth (below node.now) }
@@ -79,15 +79,15 @@ impl Across {
         }
     }
 
-    /// What the items of a list measure.
+    /// The measures of the items of a list.
     pub fn of(nodes: &[Node]) -> Across
-        requires { length nodes.now ≤ most_nodes }
+        requires { length nodes.now ≤ max_nodes }
         ensures width { result.width ≡ total across nodes.now }
         ensures height { result.height ≡ greatest above nodes.now }
         ensures depth { result.depth ≡ greatest below nodes.now }
         ensures stretch { result.stretch ≡ order_amounts (stretch_totals nodes.now) }
         ensures shrink { result.shrink ≡ order_amounts (shrink_totals nodes.now) }
-        ensures small { HasPassed most_nodes result }
+        ensures sums_bounded { HasPassed max_nodes result }
     {
         let mut across = Across::new();
         for node in nodes {

@@ -1,10 +1,10 @@
-//! The vbox of a vertical list below some glue, without a list that holds both.
+//! The vbox of a vertical list with some glue above it, found without building a list that holds both.
 
 ghost use Rattle.std.specs.Prelude.{◌≡◌, ◌≤◌, ◌∷◌, [], is_some, length};
 ghost use Rattle.std.specs.List.{list_all};
 ghost use Rattle.std.specs.Option.{IfSome};
 ghost use Rattle.scaled_core.specs.Dimensions.{fits};
-ghost use Rattle.node_core.specs.Nodes.{most_nodes};
+ghost use Rattle.node_core.specs.Nodes.{max_nodes};
 ghost use Rattle.pack_core.specs.ListTotals.{totals_of};
 ghost use Rattle.pack_core.specs.Boxes.{some_if, vbox_numbers, vbox_shell};
 
@@ -26,7 +26,7 @@ fn totals_of_glue(glue: &Glue) -> Totals
 
 /// The totals of some glue and of a vertical list below it.
 fn totals_below(glue: &Glue, nodes: &[Node]) -> Totals
-    requires { length nodes.now ≤ most_nodes }
+    requires { length nodes.now ≤ max_nodes }
     ensures { result ≡ totals_of Kind.Vertical (Node.Glue glue.now ∷ nodes.now) }
 {
     let mut totals = totals_of_glue(glue);
@@ -36,10 +36,10 @@ fn totals_below(glue: &Glue, nodes: &[Node]) -> Totals
     totals
 }
 
-/// The box to which `vpack` packs some glue and these nodes below it, at their natural height, without the list; none exactly where one of
-/// their numbers does not fit. It takes no memory.
+/// The box that `vpack` would make of some glue and these nodes below it, at their natural height, but without the list. `None` exactly when one of
+/// their numbers does not fit. Does not allocate.
 pub fn vbox_below(depth_limit: Dimen, glue: &Glue, nodes: &[Node]) -> Option<Shell>
-    requires { length nodes.now ≤ most_nodes }
+    requires { length nodes.now ≤ max_nodes }
     ensures value { result ≡ some_if (list_all fits (vbox_numbers Target.Natural depth_limit (Node.Glue glue.now ∷ nodes.now))) (vbox_shell Target.Natural depth_limit (Node.Glue glue.now ∷ nodes.now)) }
     ensures fits { is_some result ≡ list_all fits (vbox_numbers Target.Natural depth_limit (Node.Glue glue.now ∷ nodes.now)) }
     ensures shell { IfSome result (λ shell. shell ≡ vbox_shell Target.Natural depth_limit (Node.Glue glue.now ∷ nodes.now)) }
@@ -49,9 +49,9 @@ pub fn vbox_below(depth_limit: Dimen, glue: &Glue, nodes: &[Node]) -> Option<She
     vertical_shell(Target::Natural, depth_limit, width, false, &totals)
 }
 
-/// Whether `vpack` packs some glue and these nodes below it to their natural height: whether each of their numbers fits.
+/// Whether `vpack` would succeed for some glue and these nodes below it, at their natural height: whether each of their numbers fits.
 pub fn vbox_fits_below(depth_limit: Dimen, glue: &Glue, nodes: &[Node]) -> bool
-    requires { length nodes.now ≤ most_nodes }
+    requires { length nodes.now ≤ max_nodes }
     ensures { result ≡ list_all fits (vbox_numbers Target.Natural depth_limit (Node.Glue glue.now ∷ nodes.now)) }
 {
     vbox_below(depth_limit, glue, nodes).is_some()

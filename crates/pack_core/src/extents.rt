@@ -1,4 +1,4 @@
-//! How far the items of a vertical list go out.
+//! The extents of vertical lists.
 
 ghost use Rattle.std.specs.Prelude.{◌≡◌, ◌^◌};
 ghost use Rattle.scaled_core.specs.Dimensions.{Within};
@@ -9,10 +9,10 @@ use crate::sizes::{breadth_of, first_height_of};
 use node_core::Node;
 use scaled_core::Dimen;
 
-/// How far the widest item of a vertical list goes to the right, at least 0.
+/// The distance to the right edge of the widest item of a vertical list, at least 0.
 pub fn greatest_breadth(nodes: &[Node]) -> i64
     ensures value { result ≡ greatest breadth nodes.now }
-    ensures small { Within (2 ^ 31) result }
+    ensures value_bounded { Within (2 ^ 31) result }
 {
     let mut most: i64 = 0;
     for node in nodes {
@@ -21,7 +21,7 @@ pub fn greatest_breadth(nodes: &[Node]) -> i64
     most
 }
 
-/// The height of the first item if that is a rule or a box, else 0.
+/// The height of the first item if it is a rule or a box, and otherwise 0.
 pub fn first_height(nodes: &[Node]) -> Dimen
     ensures { result ≡ first_height nodes.now }
 {

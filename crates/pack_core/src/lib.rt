@@ -1,7 +1,7 @@
-//! Packing: lists become boxes, and the places of their items.
+//! Packing: lists become boxes, and their items get their places.
 //!
-//! A list is packed to its natural size, to a given size, or to one that is so much more; its glue stretches or shrinks by an exact
-//! fraction, and the places of the items are rounded once each, so that a box is filled exactly.
+//! A list is packed to its natural size, to a given size, or to its natural size plus a given amount. Its glue stretches or shrinks by an exact
+//! fraction, and the place of each item is rounded once, so that a box is filled exactly.
 #![tactic(auto)]
 
 mod across;

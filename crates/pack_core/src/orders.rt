@@ -8,7 +8,7 @@ ghost use Rattle.pack_core.specs.Orders.{by_order, order_dimens, order_amounts, 
 use node_core::Order;
 use scaled_core::Dimen;
 
-/// An amount of each order, in scaled points: an exact sum, which may be no dimension.
+/// An amount for each order, in scaled points. Each is an exact sum, which may be no dimension.
 #[derive(Clone, Copy, Debug, PartialEq, Eq)]
 pub struct OrderAmounts {
     pub normal: i128,
@@ -17,7 +17,7 @@ pub struct OrderAmounts {
     pub filll: i128,
 }
 
-/// A dimension of each order.
+/// A dimension for each order.
 #[derive(Clone, Copy, Debug, PartialEq, Eq)]
 pub struct OrderDimens {
     pub normal: Dimen,
@@ -26,7 +26,7 @@ pub struct OrderDimens {
     pub filll: Dimen,
 }
 
-/// No amount in any order.
+/// The amount 0 in each order.
 pub fn no_amounts() -> OrderAmounts
     ensures { result ≡ order_amounts (λ _. pos 0) }
 {
@@ -38,7 +38,7 @@ pub fn no_amounts() -> OrderAmounts
     }
 }
 
-/// An amount that is more by a dimension.
+/// The sum of an amount and a dimension.
 fn increased(amount: i128, by: Dimen) -> i128
     requires { Within (2 ^ 100) amount }
     ensures value { result ≡ amount +ℤ by }
@@ -47,7 +47,7 @@ fn increased(amount: i128, by: Dimen) -> i128
     amount + i128::from(by.get())
 }
 
-/// Each amount, more by the dimension of its order.
+/// Each amount plus the dimension of its order.
 pub fn plus(amounts: &OrderAmounts, more: &OrderDimens) -> OrderAmounts
     requires { AreWithin (2 ^ 100) amounts.now }
     ensures value { result ≡ plus amounts.now (by_order more.now) }
@@ -61,7 +61,7 @@ pub fn plus(amounts: &OrderAmounts, more: &OrderDimens) -> OrderAmounts
     }
 }
 
-/// A dimension in an order, and none in the others.
+/// A dimension in one order, and 0 in the others.
 pub fn in_one_order(order: Order, amount: Dimen) -> OrderDimens
     ensures { result ≡ order_dimens (λ other. if is_order other order then amount else pos 0) }
 {

@@ -6,7 +6,7 @@ ghost use Rattle.std.specs.Result.{is_ok};
 ghost use Rattle.std.specs.List.{list_all};
 ghost use Rattle.std.specs.Int.{int_min};
 ghost use Rattle.scaled_core.specs.Dimensions.{Fits, fits, dimension_of};
-ghost use Rattle.node_core.specs.Nodes.{most_nodes, nodes_of};
+ghost use Rattle.node_core.specs.Nodes.{max_nodes, nodes_of};
 ghost use Rattle.node_core.specs.declared.tree.Node.{Node};
 ghost use Rattle.pack_core.specs.Items.{breadth};
 ghost use Rattle.pack_core.specs.Totals.{greatest, first_height};
@@ -25,14 +25,14 @@ use node_core::{BoxNode, Kind, Node, NodeList, Setting};
 use scaled_core::Dimen;
 use thiserror::Error;
 
-/// How large a list is to be, in scaled points.
+/// The size to which a list is packed, in scaled points.
 #[derive(Clone, Copy, Debug, PartialEq, Eq)]
 pub enum Target {
-    /// As large as it is by itself.
+    /// The natural size.
     Natural,
-    /// So large.
+    /// This size.
     To(Dimen),
-    /// So much larger than it is by itself.
+    /// The natural size plus this amount.
     Spread(Dimen),
 }
 
@@ -40,25 +40,25 @@ pub enum Target {
 #[derive(Debug, Drop)]
 pub struct Packed {
     pub box_node: BoxNode,
-    /// How badly its glue is stretched or shrunk: 0 to 10000, or 1000000 where it is overfull.
+    /// How badly its glue is stretched or shrunk: 0 to 10000, or 1000000 if the box is overfull.
     pub badness: u32,
 }
 
-/// One of the numbers of a list does not fit; the list comes back.
+/// One of the numbers of a list does not fit. The list is returned.
 #[derive(Debug, Drop, Error)]
 #[error("a size of the box is too large")]
 pub struct TooLarge {
     pub list: NodeList,
 }
 
-/// The hbox of a horizontal list: as wide as the target says, as high and as deep as its highest and its deepest item. It is refused
-/// exactly where one of its numbers does not fit, and the list comes back. It takes no memory.
+/// Packs a horizontal list into an hbox: its width is given by the target, and its height and depth are those of its highest and its deepest item.
+/// `TooLarge` is returned exactly when one of its numbers does not fit, with the list unchanged. Does not allocate.
 #[tactic(auto, using(crate::proofs::Packing::packing))]
 pub fn hpack(list: NodeList, target: Target) -> Result<Packed, TooLarge>
     ensures value { result ≡ hpacked target list }
     ensures ok { IfOk result (λ p. (p.box_node ≡ hbox target list) × (p.badness ≡ hbox_badness target (nodes_of list))) }
     ensures fits { is_ok result ≡ list_all fits (hbox_numbers target (nodes_of list)) }
-    ensures back { IfErr result (λ e. e.list ≡ list) }
+    ensures list_returned { IfErr result (λ e. e.list ≡ list) }
     ensures edge { IfOk result (λ p. p.box_node.setting ≢ Setting.Natural → p.badness ≢ 1000000 →
         place_in p.box_node (length (nodes_of p.box_node.list)) ≡ p.box_node.width) }
 {
@@ -66,14 +66,14 @@ pub fn hpack(list: NodeList, target: Target) -> Result<Packed, TooLarge>
     boxed_list(list, shell)
 }
 
-/// The vbox of a vertical list: as high as the target says, its baseline at that of the last rule or box, but no deeper than the limit. It is
-/// refused exactly where one of its numbers does not fit, and the list comes back. It takes no memory.
+/// Packs a vertical list into a vbox: its height is given by the target, and its baseline is that of the last rule or box, but its depth is at most
+/// the limit. `TooLarge` is returned exactly when one of its numbers does not fit, with the list unchanged. Does not allocate.
 #[tactic(auto, using(crate::proofs::Packing::packing))]
 pub fn vpack(list: NodeList, target: Target, depth_limit: Dimen) -> Result<Packed, TooLarge>
     ensures value { result ≡ vpacked target depth_limit list }
     ensures ok { IfOk result (λ p. (p.box_node ≡ vbox target depth_limit list) × (p.badness ≡ vbox_badness target depth_limit (nodes_of list))) }
     ensures fits { is_ok result ≡ list_all fits (vbox_numbers target depth_limit (nodes_of list)) }
-    ensures back { IfErr result (λ e. e.list ≡ list) }
+    ensures list_returned { IfErr result (λ e. e.list ≡ list) }
     ensures edge { IfOk result (λ p. p.box_node.setting ≢ Setting.Natural → p.badness ≢ 1000000 →
         place_in p.box_node (length (nodes_of p.box_node.list)) ≡ p.box_node.height +ℤ p.box_node.depth) }
 {
@@ -81,7 +81,7 @@ pub fn vpack(list: NodeList, target: Target, depth_limit: Dimen) -> Result<Packe
     boxed_list(list, shell)
 }
 
-/// Whether `vpack` packs these nodes so: whether each of their numbers fits.
+/// Whether `vpack` would succeed for these nodes: whether each of their numbers fits.
 #[tactic(auto, using(crate::proofs::Steps::steps))]
 pub fn vbox_fits(target: Target, depth_limit: Dimen, nodes: &[Node]) -> bool
     ensures { result ≡ list_all fits (vbox_numbers target depth_limit nodes.now) }
@@ -89,14 +89,14 @@ pub fn vbox_fits(target: Target, depth_limit: Dimen, nodes: &[Node]) -> bool
     vbox_shell(target, depth_limit, nodes).is_some()
 }
 
-/// The vtop of a vertical list: the vbox with its baseline at that of its first item, where that is a rule or a box, and else at its top
-/// (TeX: The Program, part 47, §1087). It is refused exactly where one of its numbers does not fit, and the list comes back. It takes no memory.
+/// Packs a vertical list into a vtop: the vbox with its baseline at that of its first item, if it is a rule or a box, and otherwise at its top (TeX:
+/// The Program, part 47, §1087). `TooLarge` is returned exactly when one of its numbers does not fit, with the list unchanged. Does not allocate.
 #[tactic(auto, using(crate::proofs::Packing::packing))]
 pub fn vtop(list: NodeList, target: Target, depth_limit: Dimen) -> Result<Packed, TooLarge>
     ensures value { result ≡ vtopped target depth_limit list }
     ensures ok { IfOk result (λ p. (p.box_node ≡ vtop_box target depth_limit list) × (p.badness ≡ vbox_badness target depth_limit (nodes_of list))) }
     ensures fits { is_ok result ≡ list_all fits (vtop_numbers target depth_limit (nodes_of list)) }
-    ensures back { IfErr result (λ e. e.list ≡ list) }
+    ensures list_returned { IfErr result (λ e. e.list ≡ list) }
     ensures edge { IfOk result (λ p. p.box_node.setting ≢ Setting.Natural → p.badness ≢ 1000000 →
         place_in p.box_node (length (nodes_of p.box_node.list)) ≡ p.box_node.height +ℤ p.box_node.depth) }
 {
@@ -104,7 +104,7 @@ pub fn vtop(list: NodeList, target: Target, depth_limit: Dimen) -> Result<Packed
     boxed_list(list, shell)
 }
 
-/// A box without its list, and how bad it is.
+/// A box without its list, and its badness.
 #[derive(Clone, Copy, Debug, PartialEq, Eq)]
 pub struct Shell {
     pub kind: Kind,
@@ -115,7 +115,7 @@ pub struct Shell {
     pub badness: u32,
 }
 
-/// The size that is wanted of a list of that natural size, where it fits.
+/// The target size of a list of this natural size, if it fits.
 #[tactic(auto, using(scaled_core::proofs::Fitting::some_dimension))]
 fn wanted_size(target: Target, natural: Dimen) -> Option<Dimen>
     ensures { result ≡ dimension_of (wanted target natural) }
@@ -127,7 +127,7 @@ fn wanted_size(target: Target, natural: Dimen) -> Option<Dimen>
     }
 }
 
-/// The depth of a vbox: no more than the limit.
+/// The depth of a vbox: at most the limit.
 fn at_most(depth: Dimen, limit: Dimen) -> Dimen
     ensures value { result ≡ int_min depth limit }
     ensures fits { Fits result }
@@ -135,17 +135,17 @@ fn at_most(depth: Dimen, limit: Dimen) -> Dimen
     depth.min(limit).known_to_fit()
 }
 
-/// The natural height of a vertical list whose box is that deep, where it fits.
+/// The natural height of a vertical list whose box has this depth, if it fits.
 fn height_above(depth: Dimen, totals: &Totals) -> Option<Dimen>
     ensures { result ≡ dimension_of (totals.now.advance -ℤ depth) }
 {
     Dimen::from_wide(totals.advance() - i128::from(depth.get()))
 }
 
-/// The hbox of a list, without the list, where its numbers fit.
+/// The hbox of a list, without the list, if its numbers fit.
 #[tactic(auto, using(crate::proofs::Steps::steps))]
 fn hbox_shell(target: Target, nodes: &[Node]) -> Option<Shell>
-    requires { length nodes.now ≤ most_nodes }
+    requires { length nodes.now ≤ max_nodes }
     ensures { result ≡ some_if (list_all fits (hbox_numbers target nodes.now)) (hbox_shell target nodes.now) }
 {
     let across = Across::of(nodes);
@@ -165,7 +165,7 @@ fn hbox_shell(target: Target, nodes: &[Node]) -> Option<Shell>
     })
 }
 
-/// The vbox of a list of these totals and of that width, without the list, where the numbers of the list fit.
+/// The vbox of a list with these totals and this width, without the list, if the numbers of the list fit.
 #[tactic(auto, using(crate::proofs::Steps::steps))]
 pub fn vertical_shell(
     target: Target,
@@ -192,7 +192,7 @@ pub fn vertical_shell(
     })
 }
 
-/// The box to which `vpack` packs these nodes, without the list; none exactly where one of their numbers does not fit. It takes no memory.
+/// The box that `vpack` would make of these nodes, without the list; `None` exactly when one of their numbers does not fit. Does not allocate.
 #[tactic(auto, using(crate::proofs::Steps::steps))]
 pub fn vbox_shell(target: Target, depth_limit: Dimen, nodes: &[Node]) -> Option<Shell>
     ensures value { result ≡ some_if (list_all fits (vbox_numbers target depth_limit nodes.now)) (vbox_shell target depth_limit nodes.now) }
@@ -204,7 +204,7 @@ pub fn vbox_shell(target: Target, depth_limit: Dimen, nodes: &[Node]) -> Option<
     vertical_shell(target, depth_limit, width, nodes.is_empty(), &totals)
 }
 
-/// A box without its list, with that height in the place of its own, where its depth then fits.
+/// A box without its list, with this height in place of its own, if the depth then fits. Height and depth together stay the same.
 #[tactic(auto, using(crate::proofs::Steps::steps))]
 fn with_height(shell: &Shell, height: Dimen) -> Option<Shell>
     ensures value { result ≡ some_if (fits ((vtop_shell shell.now height).depth)) (vtop_shell shell.now height) }
@@ -222,7 +222,7 @@ fn with_height(shell: &Shell, height: Dimen) -> Option<Shell>
     })
 }
 
-/// The vtop of a list, without the list, where its numbers fit.
+/// The vtop of a list, without the list, if its numbers fit.
 #[tactic(auto, using(crate::proofs::Steps::steps))]
 fn vtop_shell_of(target: Target, limit: Dimen, nodes: &[Node]) -> Option<Shell>
     ensures { result ≡ some_if (list_all fits (vtop_numbers target limit nodes.now)) (vtop_shell (vbox_shell target limit nodes.now) (first_height nodes.now)) }
@@ -234,7 +234,7 @@ fn vtop_shell_of(target: Target, limit: Dimen, nodes: &[Node]) -> Option<Shell>
     }
 }
 
-/// The list in its box, or back where there is no box for it.
+/// The list in its box, or the list itself if there is no box for it.
 #[tactic(auto, unfolding(crate::specs::Steps::boxed_list))]
 fn boxed_list(list: NodeList, shell: Option<Shell>) -> Result<Packed, TooLarge>
     ensures { result ≡ boxed_list list shell }
@@ -245,7 +245,7 @@ fn boxed_list(list: NodeList, shell: Option<Shell>) -> Result<Packed, TooLarge>
     }
 }
 
-/// A list in a box that was without one, and how bad the box is. It takes no memory.
+/// Puts a list into a box that was computed without it. Does not allocate.
 #[tactic(auto, unfolding(crate::specs::Boxes::packed_of))]
 pub fn packed_of(list: NodeList, shell: &Shell) -> Packed
     ensures { result ≡ packed_of list shell.now }

@@ -1,4 +1,4 @@
-//! How the glue of a list is set (TeX: The Program, part 33, §657 to §667 and §672 to §678).
+//! Setting the glue of a list (TeX: The Program, part 33, §657 to §667 and §672 to §678).
 
 ghost use Rattle.std.specs.Prelude.{◌≡◌, ◌≢◌, ◌-ℤ◌, ◌≤ℤ◌, ◌==◌, ◌^◌, pos, List, length};
 ghost use Rattle.std.specs.Option.{IfSome};
@@ -15,14 +15,14 @@ use crate::orders::{OrderAmounts, OrderDimens};
 use node_core::{Order, Setting};
 use scaled_core::{Dimen, Ratio, badness};
 
-/// How glue is set, and how bad that is.
+/// The setting of glue, and its badness.
 #[derive(Clone, Copy, Debug, PartialEq, Eq)]
 pub struct GlueSet {
     pub setting: Setting,
     pub badness: u32,
 }
 
-/// Totals as dimensions, where they fit.
+/// The totals as dimensions, if they all fit.
 #[tactic(auto, using(crate::proofs::Steps::steps))]
 pub fn dimens_of(amounts: OrderAmounts) -> Option<OrderDimens>
     ensures { result ≡ dimens_of amounts }
@@ -39,7 +39,7 @@ pub fn dimens_of(amounts: OrderAmounts) -> Option<OrderDimens>
     })
 }
 
-/// The total of an order, out of those of all orders.
+/// The total of this order.
 fn in_order(totals: &OrderDimens, order: Order) -> Dimen
     ensures { result ≡ by_order totals.now order }
 {
@@ -51,7 +51,6 @@ fn in_order(totals: &OrderDimens, order: Order) -> Dimen
     }
 }
 
-/// Whether a dimension is 0.
 fn is_zero(amount: Dimen) -> bool
     ensures { result ≡ is_zero amount }
 {
@@ -79,7 +78,7 @@ fn highest_order(totals: &OrderDimens) -> Option<Order>
     None
 }
 
-/// The exact fraction of an amount and a total that is not 0.
+/// The exact fraction of an amount and a total that is not 0. Its denominator is above 0.
 fn fraction(amount: i64, total: Dimen) -> Ratio
     requires amount { Within (2 ^ 31) amount }
     requires total { total ≢ pos 0 }
@@ -92,7 +91,7 @@ fn fraction(amount: i64, total: Dimen) -> Ratio
     Ratio::new(amount, total)
 }
 
-/// How glue is stretched by an amount.
+/// The setting that stretches glue by an amount.
 #[tactic(auto, unfolding(crate::specs::Steps::stretch_setting))]
 fn stretch_setting(amount: i64, totals: &OrderDimens) -> Setting
     requires { Within (2 ^ 31) amount }
@@ -107,7 +106,7 @@ fn stretch_setting(amount: i64, totals: &OrderDimens) -> Setting
     }
 }
 
-/// The ratio by which glue of an order shrinks by an amount; glue of normal order by no more than it can.
+/// The ratio by which glue of an order shrinks by an amount. Glue of normal order shrinks by at most its total, so its ratio is at most 1.
 #[tactic(auto, unfolding(crate::specs::Steps::shrink_ratio))]
 fn shrink_ratio(amount: i64, totals: &OrderDimens, order: Order) -> Ratio
     requires amount { Within (2 ^ 31) amount }
@@ -128,7 +127,7 @@ fn shrink_ratio(amount: i64, totals: &OrderDimens, order: Order) -> Ratio
     }
 }
 
-/// How glue is shrunk by an amount.
+/// The setting that shrinks glue by an amount.
 #[tactic(auto, using(crate::proofs::Steps::steps))]
 fn shrink_setting(amount: i64, totals: &OrderDimens) -> Setting
     requires { Within (2 ^ 31) amount }
@@ -143,7 +142,8 @@ fn shrink_setting(amount: i64, totals: &OrderDimens) -> Setting
     }
 }
 
-/// The setting for that much space too much (or, below 0, too little).
+/// The setting for this excess, which is the size of the box minus the natural size of the list: glue stretches if it is above 0, and shrinks if it
+/// is below 0.
 #[tactic(auto, unfolding(crate::specs::Steps::set_to))]
 fn set_to(excess: i64, stretch: &OrderDimens, shrink: &OrderDimens) -> Setting
     requires { Within (2 ^ 31) excess }
@@ -158,7 +158,7 @@ fn set_to(excess: i64, stretch: &OrderDimens, shrink: &OrderDimens) -> Setting
     Setting::Natural
 }
 
-/// Whether the glue that is set is of normal order, or there is none.
+/// Whether the glue that is set is of normal order, or no glue is set.
 fn is_finite(order: Option<Order>) -> bool
     ensures { result ≡ is_finite order }
 {
@@ -169,7 +169,7 @@ fn is_finite(order: Option<Order>) -> bool
     }
 }
 
-/// How bad it is to stretch by an amount: not at all where glue of an infinite order is set.
+/// The badness of stretching by an amount; 0 if glue of an infinite order is set.
 #[tactic(auto, unfolding(crate::specs::Steps::stretching_badness))]
 fn stretching_badness(amount: i64, totals: &OrderDimens) -> u32
     requires { pos 0 ≤ℤ amount }
@@ -181,7 +181,8 @@ fn stretching_badness(amount: i64, totals: &OrderDimens) -> u32
     badness(amount, i64::from(totals.normal.get()))
 }
 
-/// How bad it is to shrink by an amount: overfull where glue of normal order can't, and not at all where glue of an infinite order is set.
+/// The badness of shrinking by an amount: 1000000, overfull, if glue of normal order cannot shrink by that much; 0 if glue of an infinite order is
+/// set.
 #[tactic(auto, unfolding(crate::specs::Steps::shrinking_badness))]
 fn shrinking_badness(amount: i64, totals: &OrderDimens) -> u32
     requires { pos 0 ≤ℤ amount }
@@ -198,7 +199,7 @@ fn shrinking_badness(amount: i64, totals: &OrderDimens) -> u32
     badness(amount, most)
 }
 
-/// How bad it is that a box has that much space too much (or, below 0, too little).
+/// The badness of this excess, which is the size of the box minus the natural size of the list.
 #[tactic(auto, unfolding(crate::specs::Steps::excess_badness))]
 fn excess_badness(excess: i64, stretch: &OrderDimens, shrink: &OrderDimens) -> u32
     requires { Within (2 ^ 31) excess }
@@ -213,7 +214,7 @@ fn excess_badness(excess: i64, stretch: &OrderDimens, shrink: &OrderDimens) -> u
     0
 }
 
-/// How bad a list is with that much space too much (or, below 0, too little): 0 where it is empty.
+/// The badness of a list with this excess, which is the size of the box minus the natural size of the list. An empty list has badness 0.
 #[tactic(auto, unfolding(crate::specs::Steps::list_badness))]
 fn list_badness(empty: bool, excess: i64, stretch: &OrderDimens, shrink: &OrderDimens) -> u32
     requires { Within (2 ^ 31) excess }
@@ -225,7 +226,7 @@ fn list_badness(empty: bool, excess: i64, stretch: &OrderDimens, shrink: &OrderD
     excess_badness(excess, stretch, shrink)
 }
 
-/// How glue that can stretch and shrink by these amounts is set for that size of a list of that natural size, where all the amounts fit.
+/// The setting and the badness of a list with this natural size that is packed to this size, if all amounts of stretch and shrink fit.
 #[tactic(auto, using(crate::proofs::Steps::steps))]
 pub fn set_glue(
     size: Dimen,

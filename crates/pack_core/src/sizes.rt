@@ -1,4 +1,4 @@
-//! What an item adds to the list that it stands in (TeX: The Program, part 33, §651 to §656 and §669 to §671).
+//! What an item adds to the list that contains it (TeX: The Program, part 33, §651 to §656 and §669 to §671).
 
 ghost use Rattle.std.specs.Prelude.{◌≡◌, ◌^◌};
 ghost use Rattle.scaled_core.specs.Dimensions.{Within};
@@ -9,7 +9,7 @@ ghost use Rattle.pack_core.specs.Places.{share};
 use node_core::{Kind, Node, Order, RuleSize, Setting};
 use scaled_core::Dimen;
 
-/// A size of a rule as it counts when its list is packed, in scaled points: a running one does not.
+/// The size of a rule that counts when its list is packed, in scaled points: a running size counts as 0.
 pub fn own_size(size: RuleSize) -> Dimen
     ensures { result ≡ own_size size }
 {
@@ -19,7 +19,7 @@ pub fn own_size(size: RuleSize) -> Dimen
     }
 }
 
-/// How wide an item is.
+/// The width of an item.
 pub fn width_of(node: &Node) -> Dimen
     ensures { result ≡ across node.now }
 {
@@ -34,10 +34,10 @@ pub fn width_of(node: &Node) -> Dimen
     }
 }
 
-/// How far an item stands above the baseline; a box that is shifted down, by its shift less.
+/// The height of an item above the baseline; for a box, minus its shift down.
 pub fn height_of(node: &Node) -> i64
     ensures value { result ≡ above node.now }
-    ensures small { Within (2 ^ 31) result }
+    ensures value_bounded { Within (2 ^ 31) result }
 {
     match node {
         Node::Glyph(glyph) => i64::from(glyph.height.get()),
@@ -47,10 +47,10 @@ pub fn height_of(node: &Node) -> i64
     }
 }
 
-/// How far an item stands below the baseline; a box that is shifted down, by its shift more.
+/// The depth of an item below the baseline; for a box, plus its shift down.
 pub fn depth_of(node: &Node) -> i64
     ensures value { result ≡ below node.now }
-    ensures small { Within (2 ^ 31) result }
+    ensures value_bounded { Within (2 ^ 31) result }
 {
     match node {
         Node::Glyph(glyph) => i64::from(glyph.depth.get()),
@@ -60,10 +60,10 @@ pub fn depth_of(node: &Node) -> i64
     }
 }
 
-/// How far an item of a vertical list goes to the right; a box that is shifted to the right, by its shift more.
+/// The distance to the right edge of an item of a vertical list; for a box, plus its shift to the right.
 pub fn breadth_of(node: &Node) -> i64
     ensures value { result ≡ breadth node.now }
-    ensures small { Within (2 ^ 31) result }
+    ensures value_bounded { Within (2 ^ 31) result }
 {
     match node {
         Node::Rule(rule) => i64::from(own_size(rule.width).get()),
@@ -72,7 +72,7 @@ pub fn breadth_of(node: &Node) -> i64
     }
 }
 
-/// How high an item is by itself, not shifted.
+/// The height of an item, without a shift.
 fn height_by_itself(node: &Node) -> Dimen
     ensures { result ≡ item_height node.now }
 {
@@ -84,7 +84,7 @@ fn height_by_itself(node: &Node) -> Dimen
     }
 }
 
-/// How deep an item is by itself, not shifted.
+/// The depth of an item, without a shift.
 pub fn depth_by_itself(node: &Node) -> Dimen
     ensures { result ≡ item_depth node.now }
 {
@@ -96,7 +96,7 @@ pub fn depth_by_itself(node: &Node) -> Dimen
     }
 }
 
-/// The height of an item that is a rule or a box, else 0.
+/// The height of an item if it is a rule or a box, and otherwise 0.
 pub fn first_height_of(node: &Node) -> Dimen
     ensures { result ≡ first_above node.now }
 {
@@ -106,18 +106,18 @@ pub fn first_height_of(node: &Node) -> Dimen
     Dimen::ZERO
 }
 
-/// How far an item of a horizontal list moves what follows it.
+/// The advance of an item of a horizontal list: how far it moves what follows it.
 pub fn across_of(node: &Node) -> i64
     ensures value { result ≡ across node.now }
-    ensures small { Within (2 ^ 31) result }
+    ensures value_bounded { Within (2 ^ 31) result }
 {
     i64::from(width_of(node).get())
 }
 
-/// How far an item of a vertical list moves what follows it.
+/// The advance of an item of a vertical list: how far it moves what follows it.
 fn downward_of(node: &Node) -> i64
     ensures value { result ≡ downward node.now }
-    ensures small { Within (2 ^ 31) result }
+    ensures value_bounded { Within (2 ^ 31) result }
 {
     match node {
         Node::Glyph(_) => 0,
@@ -130,10 +130,10 @@ fn downward_of(node: &Node) -> i64
     }
 }
 
-/// How far an item of a list of that kind moves what follows it, in scaled points.
+/// The advance of an item of a list of this kind, in scaled points: how far it moves what follows it.
 pub fn advance_of(kind: Kind, node: &Node) -> i64
     ensures value { result ≡ advance kind node.now }
-    ensures small { Within (2 ^ 31) result }
+    ensures value_bounded { Within (2 ^ 31) result }
 {
     match kind {
         Kind::Horizontal => across_of(node),
@@ -141,7 +141,6 @@ pub fn advance_of(kind: Kind, node: &Node) -> i64
     }
 }
 
-/// Whether two orders are the same.
 fn is_order(a: Order, b: Order) -> bool
     ensures { result ≡ is_order a b }
 {
@@ -170,7 +169,7 @@ pub fn stretch_of(order: Order, node: &Node) -> Dimen
     }
 }
 
-/// How much an item can shrink in an order.
+/// How much an item can shrink in an order: only glue of this order can.
 pub fn shrink_of(order: Order, node: &Node) -> Dimen
     ensures { result ≡ shrink_in order node.now }
 {
@@ -186,11 +185,10 @@ pub fn shrink_of(order: Order, node: &Node) -> Dimen
     }
 }
 
-/// How much an item takes part in a setting, in scaled points: by what it can stretch in the order of the setting, or by what it can shrink,
-/// as a negative number.
+/// The share of an item in a setting, in scaled points: its stretch in the order of the setting, or its shrink as a negative number.
 pub fn share_of(setting: &Setting, node: &Node) -> i64
     ensures value { result ≡ share setting.now node.now }
-    ensures small { Within (2 ^ 31) result }
+    ensures value_bounded { Within (2 ^ 31) result }
 {
     match setting {
         Setting::Natural => 0,

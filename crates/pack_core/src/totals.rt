@@ -15,8 +15,8 @@ use node_core::{ItemClass, Kind, Node};
 use scaled_core::Dimen;
 use std::marker::Model;
 
-/// The exact totals of the items passed of a list: how far they move, how much their glue can stretch and shrink in each order, and the
-/// depth that is pending behind them. No total is refused.
+/// The exact totals of the items of a list that were passed: the sum of their advances, the stretch and shrink of their glue in each order, and the
+/// pending depth after them. The sums do not overflow, and need not fit as dimensions.
 #[derive(Clone, Copy, Debug)]
 pub struct Totals {
     kind: Kind,
@@ -40,7 +40,7 @@ impl Model for Totals {
 }
 
 impl Totals {
-    /// The totals of no items, in a list of that kind.
+    /// The totals of no items, in a list of this kind.
     #[tactic(auto, unfolding(crate::specs::ListTotals::totals_of))]
     pub fn new(kind: Kind) -> Totals
         ensures { result ≡ totals_of kind [] }
@@ -55,7 +55,7 @@ impl Totals {
         }
     }
 
-    /// Passes one more item: each total is more by what the item has. There are fewer items before it than a list can hold.
+    /// Passes one more item, and adds what it has to each total. Fewer items were passed before than a list can hold.
     pub fn pass(&mut self, node: &Node)
         requires { self.old.passed < u64.MAX }
         ensures value { self.new ≡ with_item self.old node.now }
@@ -64,7 +64,7 @@ impl Totals {
         self.advance += i128::from(advance_of(self.kind, node));
         self.pending_depth = pending_behind(self.pending_depth, node);
         self.passed += 1;
-        // What is no glue leaves the amounts of the orders as they are: most items of a list are none.
+        // Only glue changes the amounts of the orders. Most items are not glue, so the additions are skipped for them.
         let Node::Glue(glue) = node else {
             return;
         };
@@ -74,7 +74,7 @@ impl Totals {
         self.shrink = plus(&self.shrink, &shrink);
     }
 
-    /// The totals of these items, in a list of that kind.
+    /// The totals of these items, in a list of this kind.
     #[tactic(auto, using(crate::proofs::Passing::passing))]
     pub fn of(kind: Kind, nodes: &[Node]) -> Totals
         ensures value { result ≡ totals_of kind nodes.now }
@@ -91,34 +91,34 @@ impl Totals {
         totals
     }
 
-    /// How far the items move.
+    /// The sum of the advances of the items.
     pub fn advance(&self) -> i128
         ensures value { result ≡ self.now.advance }
         ensures bound { Within (2 ^ 31 * self.now.passed) result }
-        ensures small { Within (2 ^ 95) result }
+        ensures total_bounded { Within (2 ^ 95) result }
     {
         self.advance
     }
 
-    /// How much the glue can stretch, in each order.
+    /// The total stretch of the glue, in each order.
     pub fn stretch(&self) -> OrderAmounts
         ensures value { result ≡ self.now.stretch }
         ensures bound { AreWithin (2 ^ 31 * self.now.passed) result }
-        ensures small { AreWithin (2 ^ 95) result }
+        ensures total_bounded { AreWithin (2 ^ 95) result }
     {
         self.stretch
     }
 
-    /// How much the glue can shrink, in each order.
+    /// The total shrink of the glue, in each order.
     pub fn shrink(&self) -> OrderAmounts
         ensures value { result ≡ self.now.shrink }
         ensures bound { AreWithin (2 ^ 31 * self.now.passed) result }
-        ensures small { AreWithin (2 ^ 95) result }
+        ensures total_bounded { AreWithin (2 ^ 95) result }
     {
         self.shrink
     }
 
-    /// The depth of the last rule or box if only penalties follow it, else 0.
+    /// The depth of the last rule or box if only penalties and specials follow it, and otherwise 0.
     pub fn pending_depth(&self) -> Dimen
         ensures { result ≡ self.now.pending_depth }
     {
@@ -126,7 +126,7 @@ impl Totals {
     }
 }
 
-/// The pending depth behind one more item.
+/// The pending depth after one more item.
 fn pending_behind(before: Dimen, node: &Node) -> Dimen
     ensures { result ≡ pending_behind before node.now }
 {

@@ -5,7 +5,7 @@ use Rattle.std.specs.Int.{w128, cast_signed, cast_unsigned}
 use Rattle.std.proofs.lemmas.Int.{ints}
 use Rattle.scaled_core.specs.Dimensions.{Within}
 use Rattle.std.proofs.lemmas.Bool.{cases_lt, lt-ltb, le-ltb, le-leb, lt-leb}
-use Rattle.raster_rows.specs.Words.{between}
+use Rattle.raster_core.specs.Words.{between}
 use Rattle.raster_core.specs.Pixels.{spans}
 
 not_below : (a x : ℕ) → leb a x ≡ not (ltb x a)
@@ -23,7 +23,7 @@ pub run_is : (start end x : ℕ) (first last : ℤ) → ltb x start ≡ int_lt (
 run_is start end x first last p q =
     ap (λ b. b && ltb x end) (not_below start x ∙ (ap not p ∙ sym (not_below_z first x))) ∙ ap (λ b. int_le first (pos x) && b) q
 
--- a number of 128 bits with a sign, as the code keeps it
+-- A number of 128 bits with a sign, as the code keeps it.
 abbrev kept : ℤ → ℤ
 kept z = cast_signed w128 (cast_unsigned w128 z)
 

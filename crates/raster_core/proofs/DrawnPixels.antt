@@ -5,13 +5,13 @@ use Rattle.std.proofs.lemmas.List.{get_or-replicate, length-replicate, get_or_pa
 use Rattle.std.proofs.lemmas.Nat.Bits.{bit_at-zero}
 use Rattle.std.specs.List.{range_with_len}
 use Rattle.std.proofs.lemmas.List.FromFn.{fill_by_all, length-map-range_with_len, get_or-map-range_with_len}
-use Rattle.raster_rows.specs.Words.{AreFull, in_rows, is_set}
-use Rattle.dvi_pass.specs.View.{mark_of}
-use Rattle.dvi_pass.specs.declared.page.Mark.{Mark as Seen}
+use Rattle.raster_core.specs.Words.{AreFull, in_rows, is_set}
+use Rattle.dvi_scan.specs.View.{mark_of}
+use Rattle.dvi_scan.specs.declared.page.Mark.{Mark as PassMark}
 use Rattle.raster_core.specs.Pixels.{Scale, is_covered}
-use Rattle.raster_core.specs.Pictures.{Picture, drawn, is_black, painted, white}
+use Rattle.raster_core.specs.Pictures.{PixelGrid, drawn, is_black, painted, white}
 
--- a row of a picture
+-- A row of a picture.
 abbrev pub row_of : (width : ℕ) → (black : ℕ → ℕ → Bool) → ℕ → List Bool
 row_of width black y = map (λ x. black x y) (range_with_len 0 width)
 
@@ -25,11 +25,11 @@ same_rows w h f g same =
     fill_by_all (row_of w g) (map (row_of w f) (range_with_len 0 h)) h [] (length-map-range_with_len (row_of w f) 0 h)
     (λ k l. get_or-map-range_with_len (row_of w f) 0 h k k [] l (omega arith) ∙ same_row w f g k (λ x j. same x k j l))
 
--- equal pixels, equal pictures
+-- Pictures with equal pixels are equal.
 pub same_drawn : (w h : ℕ) (f g : ℕ → ℕ → Bool) → ((x y : ℕ) → x < w → y < h → f x y ≡ g x y) → drawn w h f ≡ drawn w h g
 unfolding drawn
 same_drawn w h f g same =
-    let P : List (List Bool) → Picture = λ rows. record { width = w; height = h; rows = rows } in
+    let P : List (List Bool) → PixelGrid = λ rows. record { width = w; height = h; rows = rows } in
     ap P (same_rows w h f g same)
 
 pub drawn_pixel : (w h : ℕ) (f : ℕ → ℕ → Bool) (x y : ℕ) → x < w → y < h → is_black (drawn w h f) x y ≡ f x y
@@ -45,8 +45,8 @@ painted_is w h old new n black step =
     same_drawn w h (in_rows new n) (λ x y. is_black (drawn w h (in_rows old n)) x y || black x y)
     (λ x y a b. step x y a b ∙ ap (λ p. p || black x y) (sym (drawn_pixel w h (in_rows old n) x y a b)))
 
--- the pixels of a bitmap after its marks were painted, where its lists of words are those that the code has at hand
-pub repainted : (w h : ℕ) (words mask old before new after new_words new_mask : List ℕ) (s t : Scale) (marks seen : List Seen)
+-- The pixels of a bitmap after its marks were painted, where its lists of words are those of the code.
+pub repainted : (w h : ℕ) (words mask old before new after new_words new_mask : List ℕ) (s t : Scale) (marks seen : List PassMark)
     → new_words ≡ new → new_mask ≡ after → length after ≡ length before → old ≡ words → before ≡ mask → s ≡ t → seen ≡ marks
     → ((x y : ℕ) → x < w → y < h → in_rows new (length before) x y ≡ (in_rows old (length before) x y || is_covered s (map mark_of seen) x y))
     → drawn w h (in_rows new_words (length new_mask)) ≡ painted (is_covered t (map mark_of marks)) (drawn w h (in_rows words (length mask)))
@@ -69,7 +69,7 @@ no_word n i = go (cases_lt i n)
     go (inl h) = get_or-replicate n i 0 0 h
     go (inr h) = let l = length-replicate {A = ℕ} n 0 in get_or_past (zeros n) i 0 (omega (arith, l))
 
--- of bits that are 0 none says that a word is black
+-- Where all bits are 0, no word is marked as black.
 pub none_full : (n stride : ℕ) (full words : List ℕ) → full ≡ zeros n → AreFull full words stride
 unfolding in_rows
 none_full n stride full words cleared x y h is =
@@ -78,7 +78,7 @@ none_full n stride full words cleared x y h is =
     ∙ (ap (λ k. is_set k (x / 64 % 64)) (no_word n (y * 3 + x / 64 / 64)) ∙ ap (λ bit. bit == 1) (bit_at-zero (x / 64 % 64))) in
     let both : true ≡ false = sym is ∙ white in absurd cc
 
--- words that are 0 show a white picture
+-- Words that are 0 show a white picture.
 pub white_is : (w h n stride : ℕ) (words : List ℕ) → words ≡ zeros n → drawn w h (in_rows words stride) ≡ white w h
 unfolding in_rows
 white_is w h n stride words cleared =

@@ -1,5 +1,10 @@
+pub mod OredWords
+pub mod MaskBits
+pub mod RowSteps
+pub mod FullRows
 pub mod CutRuns
 pub mod PaintedMarks
 pub mod DrawnPixels
 pub mod TextRuns
 pub mod RowLines
+pub mod AheadLemmas

@@ -2,7 +2,7 @@
 use Rattle.std.proofs.Common.{◌≡◌, ◌≢◌, ℕ, zero, suc, ◌+◌, ◌-◌, ◌*◌, ◌<◌, ◌≤◌, ◌/◌, ◌%◌, ◌||◌, Bool, true, false, nat_eq, List, [], ◌∷◌, ◌++◌, length, take, drop, map, min, replicate, refl, sym, ap, ◌∙◌, arith}
 use Rattle.std.specs.Prelude.{slice_index}
 use Rattle.std.proofs.Math.Seq.{drop-append_seam, take-append_seam}
-use Rattle.raster_rows.specs.Words.{in_rows, is_set}
+use Rattle.raster_core.specs.Words.{in_rows, is_set}
 use Rattle.std.specs.List.{flat_map, range_with_len}
 use Rattle.std.proofs.lemmas.List.{append-nil, append_assoc, map-append}
 use Rattle.std.proofs.lemmas.Grind.{flat_map-append}
@@ -21,7 +21,7 @@ range_split a (suc n) m =
     let f : a + 1 + n ≡ a + suc n = omega arith in
     ap (range_with_len a) e ∙ ap (λ l. a ∷ l) (range_split (a + 1) n m ∙ ap (λ b. range_with_len (a + 1) n ++ range_with_len b m) f)
 
--- the digits of some columns, and of those behind them
+-- The digits of some columns, and of those after them.
 pub digits_split : (black : ℕ → Bool) (from n m : ℕ) → digits black from (n + m) ≡ digits black from n ++ digits black (from + n) m
 unfolding digits
 digits_split black from n m =
@@ -34,7 +34,7 @@ columns_split width black from n m =
     ap (flat_map (λ x. digit_text (black x) (ends_line width x))) (range_split from n m)
     ∙ flat_map-append (λ x. digit_text (black x) (ends_line width x)) (range_with_len from n) (range_with_len (from + n) m)
 
--- a column that is not the last of its line
+-- A column that is not the last of its line.
 inner : (w line k : ℕ) → k < 69 → 70 * line + k + 1 < w → ends_line w (70 * line + k) ≡ false
 inner w line k a b =
     let m : (70 * line + k + 1) % 70 ≡ k + 1 = omega arith in
@@ -42,7 +42,7 @@ inner w line k a b =
     let q : nat_eq (70 * line + k + 1) w ≡ false = grind (arith, b) in
     ap (λ e. e || nat_eq (70 * line + k + 1) w) p ∙ q
 
--- the last column of a line
+-- The last column of a line.
 last : (w line m : ℕ) → suc m ≡ min (w - 70 * line) 70 → ends_line w (70 * line + m) ≡ true
 last w line m e = go (nat_eq (70 * line + m + 1) w) refl
   where
@@ -54,7 +54,7 @@ last w line m e = go (nat_eq (70 * line + m + 1) w) refl
         let z : (70 * line + m + 1) % 70 ≡ 0 = omega (arith, f) in
         ap (λ n. nat_eq n 0 || nat_eq (70 * line + m + 1) w) z
 
--- digits of which the last one ends a line
+-- Digits whose last one ends a line.
 one_line : (w : ℕ) (black : ℕ → Bool) (from n : ℕ) → ((k : ℕ) → k < n → ends_line w (from + k) ≡ false) → ends_line w (from + n) ≡ true
     → columns_text w black from (suc n) ≡ digits black from (suc n) ++ 10 ∷ []
 unfolding columns_text digits
@@ -70,7 +70,7 @@ one_line w black from (suc n) none end =
     (λ k h. let s : from + 1 + k ≡ from + suc k = omega arith in ap (ends_line w) s ∙ none (suc k) (omega (arith, h)))
     (ap (ends_line w) next ∙ end))
 
--- a line is its digits and a line feed
+-- A line is its digits and a line feed.
 pub line_is : (w : ℕ) (black : ℕ → Bool) (line : ℕ) → 70 * line < w → line_text w black line ≡ digits black (70 * line) (min (w - 70 * line) 70) ++ 10 ∷ []
 unfolding line_text
 line_is w black line some = go (min (w - 70 * line) 70) refl
@@ -79,7 +79,7 @@ line_is w black line some = go (min (w - 70 * line) 70) refl
     go zero e = absurd (omega (arith, e, some))
     go (suc n) e = one_line w black (70 * line) n (λ k h. inner w line k (omega (arith, e, h)) (omega (arith, e, h))) (last w line n e)
 
--- the columns of some lines, and of the next one
+-- The columns of some lines, and of the next one.
 pub next_line : (w : ℕ) (black : ℕ → Bool) (line : ℕ) → 70 * line < w
     → columns_text w black 0 (min w (70 * (line + 1))) ≡ columns_text w black 0 (min w (70 * line)) ++ line_text w black line
 unfolding line_text
@@ -92,7 +92,7 @@ next_line w black line some =
     ∙ (ap (λ f. columns_text w black 0 (70 * line) ++ columns_text w black f (min (w - 70 * line) 70)) z
     ∙ ap (λ k. columns_text w black 0 k ++ columns_text w black (70 * line) (min (w - 70 * line) 70)) m))
 
--- As many digits as columns.
+-- There are as many digits as columns.
 pub length-digits : (black : ℕ → Bool) (from n : ℕ) → length (digits black from n) ≡ n
 unfolding digits
 length-digits black from zero = refl
@@ -110,7 +110,7 @@ same_digits f g a b (suc n) same =
     ∙ ap (λ (l : List ℕ). digit_of (g b) ∷ l) (same_digits f g (a + 1) (b + 1) n
     (λ i h. let s : a + 1 + i ≡ a + suc i = omega arith in let t : b + suc i ≡ b + 1 + i = omega arith in ap f s ∙ same (suc i) (omega (arith, h)) ∙ ap g t))
 
--- Some of the digits of a row.
+-- A part of the digits of a row.
 pub part_digits : (black : ℕ → Bool) (row : List ℕ) (from n : ℕ) → row ≡ digits black 0 (length row) → from + n ≤ length row → take n (drop from row) ≡ digits black from n
 part_digits black row from n is within =
     let m : ℕ = length row - (from + n) in
@@ -127,14 +127,14 @@ part_digits black row from n is within =
     ∙ ap (λ (k : ℕ). take k (part ++ digits black (from + n) m)) (sym (length-digits black from n))
     ∙ take-append_seam part (digits black (from + n) m)
 
--- One digit more.
+-- One more digit.
 pub one_digit : (black : ℕ → Bool) (i d : ℕ) (mid : List ℕ) → mid ≡ digits black 0 i → d ≡ digit_of (black i) → mid ++ d ∷ [] ≡ digits black 0 (i + 1)
 unfolding digits
 one_digit black i d mid is digit =
     let z : 0 + i ≡ i = omega arith in
     ap (λ (l : List ℕ). l ++ d ∷ []) is ∙ ap (λ (k : ℕ). digits black 0 i ++ k ∷ []) (digit ∙ ap (λ (k : ℕ). digit_of (black k)) (sym z)) ∙ sym (digits_split black 0 i 1)
 
--- Pixels that are all alike.
+-- Pixels that are all equal.
 pub even_digits : (black : ℕ → Bool) (all : Bool) (from n : ℕ) → ((i : ℕ) → black i ≡ all) → replicate n (digit_of all) ≡ digits black from n
 unfolding digits
 even_digits black all from zero same = refl
@@ -157,7 +157,7 @@ word_digits words stride y k =
     let bit : 0 + i ≡ (64 * k + i) % 64 = omega (arith, h) in
     ap (λ (n : ℕ). is_set (slice_index words (y * stride + k)) n) bit ∙ ap (λ (n : ℕ). is_set (slice_index words (y * stride + n)) ((64 * k + i) % 64)) at)
 
--- One word more of a row.
+-- One more word of a row.
 pub more_words :
     (words : List ℕ) (stride y k : ℕ) (mid part : List ℕ) → mid ≡ digits (λ x. in_rows words stride x y) 0 (64 * k)
     → part ≡ digits (is_set (slice_index words (y * stride + k))) 0 64 → mid ++ part ≡ digits (λ x. in_rows words stride x y) 0 (64 * (k + 1))
@@ -171,7 +171,7 @@ more_words words stride y k mid part is more =
     ∙ sym (digits_split black 0 (64 * k) 64)
     ∙ ap (digits black 0) n
 
--- the digits of a line, and a line feed
+-- The digits of a line, and a line feed.
 pub ended_line : (w : ℕ) (black : ℕ → Bool) (line n : ℕ) (old mid new : List ℕ) → 70 * line < w → n ≡ min (w - 70 * line) 70
     → mid ≡ old ++ digits black (70 * line) n → new ≡ mid ++ 10 ∷ [] → new ≡ old ++ line_text w black line
 ended_line w black line n old mid new some e a b =
@@ -180,7 +180,7 @@ ended_line w black line n old mid new some e a b =
     ∙ (append_assoc old (digits black (70 * line) n) (10 ∷ [])
     ∙ ap (λ l. old ++ l) (ap (λ k. digits black (70 * line) k ++ 10 ∷ []) e ∙ sym (line_is w black line some))))
 
--- no columns yet, one line more, and all columns
+-- No columns yet, one more line, and all columns.
 pub no_columns : (w : ℕ) (black : ℕ → Bool) (n : ℕ) (old : List ℕ) → n ≡ 0 → old ≡ old ++ columns_text w black 0 n
 unfolding columns_text
 no_columns w black n old e = sym (append-nil old) ∙ ap (λ k. old ++ columns_text w black 0 k) (sym e)

@@ -1,9 +1,10 @@
--- Texts that are put together piece by piece.
-use Rattle.std.proofs.Common.{◌≡◌, ℕ, zero, suc, ◌+◌, ◌<◌, ◌≤◌, Bool, List, ◌++◌, length, take, refl, sym, ap, ◌∙◌, arith}
+-- Texts that are built piece by piece.
+use Rattle.std.proofs.Common.{◌≡◌, ℕ, zero, suc, ◌+◌, ◌*◌, ◌<◌, Bool, List, ◌++◌, length, refl, sym, ap, ◌∙◌, arith}
 use Rattle.std.specs.List.{flat_map, range_with_len}
-use Rattle.std.proofs.lemmas.List.{append-nil, append_assoc, take-take, take_at, length-append, length-take}
-use Rattle.raster_rows.specs.Words.{in_rows}
-use Rattle.raster_core.specs.Pictures.{Picture, drawn, is_black}
+use Rattle.std.proofs.Math.Nat.{suc-mul}
+use Rattle.std.proofs.lemmas.List.{append-nil, append_assoc}
+use Rattle.raster_core.specs.Words.{in_rows}
+use Rattle.raster_core.specs.Pictures.{PixelGrid, drawn, is_black}
 use Rattle.raster_core.specs.PlainText.{digit_text, ends_line, header_text, pbm, row_text, rows_text}
 use Rattle.raster_core.proofs.DrawnPixels.{drawn_pixel}
 
@@ -13,7 +14,7 @@ flat_map_from f a (suc n) =
     ap (λ l. f a ++ l) (flat_map_from f (a + 1) n)
     ∙ (sym (append_assoc (f a) (flat_map f (range_with_len (a + 1) n)) (f (a + 1 + n))) ∙ ap (λ k. f a ++ flat_map f (range_with_len (a + 1) n) ++ f k) (omega arith))
 
--- one piece more
+-- One more piece.
 flat_map_next : (f : ℕ → List ℕ) (n : ℕ) → flat_map f (range_with_len 0 (n + 1)) ≡ flat_map f (range_with_len 0 n) ++ f n
 flat_map_next f n =
     let e : n + 1 ≡ suc n = omega arith in
@@ -28,17 +29,9 @@ appended_more f n old mid new piece a b c =
     ∙ (append_assoc old (flat_map f (range_with_len 0 n)) piece
     ∙ ap (λ l. old ++ l) (ap (λ l. flat_map f (range_with_len 0 n) ++ l) c ∙ sym (flat_map_next f n))))
 
--- what stood there before still does, after a piece more or a front of one
-pub front_kept : (old mid new more : List ℕ) → mid ≡ old ++ more → take (length mid) new ≡ mid → take (length old) new ≡ old
-front_kept old mid new more a b =
-    let n = length-append old more in
-    let le : length old ≤ length mid = omega (arith, ap length a) in
-    sym (take-take (length old) (length mid) new le) ∙ (ap (take (length old)) (b ∙ a) ∙ take_at old more (length old) refl)
-
-pub kept_on : (old mid new : List ℕ) → take (length old) mid ≡ old → take (length mid) new ≡ mid → take (length old) new ≡ old
-kept_on old mid new a b =
-    let le : length old ≤ length mid = omega (arith, ap (λ (l : List ℕ). length l) a, length-take (length old) mid) in
-    sym (take-take (length old) (length mid) new le) ∙ (ap (take (length old)) b ∙ a)
+-- One more row adds its bytes.
+pub row_more : (n size : ℕ) → (n + 1) * size ≡ n * size + size
+row_more n size = let e : n + 1 ≡ suc n = omega arith in ap (λ k. k * size) e ∙ suc-mul n size
 
 pub same_digit : (b c e f : Bool) → b ≡ c → e ≡ f → digit_text b e ≡ digit_text c f
 same_digit b c e f p q = ap (λ x. digit_text x e) p ∙ ap (digit_text c) q
@@ -55,16 +48,15 @@ same_rows_text w h f g same =
     (λ y b. same_from (λ x. digit_text (f x y) (ends_line w x)) (λ x. digit_text (g x y) (ends_line w x)) 0 w
     (λ x a. ap (λ d. digit_text d (ends_line w x)) (same x y (omega arith) (omega arith))))
 
--- the text of a picture that is drawn
+-- The text of a drawn picture.
 pub pbm_drawn : (w h : ℕ) (f : ℕ → ℕ → Bool) → header_text w h ++ rows_text w h f ≡ pbm (drawn w h f)
 unfolding drawn
 pbm_drawn w h f =
     ap (λ l. header_text w h ++ l) (same_rows_text w h f (is_black (drawn w h f)) (λ x y a b. sym (drawn_pixel w h f x y a b)))
 
-pub text_is : (w h : ℕ) (words mask seen : List ℕ) (stride : ℕ) (p : Picture) (old new : List ℕ) → seen ≡ words → stride ≡ length mask → drawn w h (in_rows words (length mask)) ≡ p
-    → new ≡ old ++ (header_text w h ++ rows_text w h (in_rows seen stride)) → new ≡ old ++ pbm p
-text_is w h words mask seen stride p old new a b c d =
-    d
-    ∙ (ap (λ l. old ++ (header_text w h ++ rows_text w h (in_rows l stride))) a
-    ∙ (ap (λ n. old ++ (header_text w h ++ rows_text w h (in_rows words n))) b
-    ∙ (ap (λ l. old ++ l) (pbm_drawn w h (in_rows words (length mask))) ∙ ap (λ q. old ++ pbm q) c)))
+pub text_is : (w h : ℕ) (words mask seen : List ℕ) (stride : ℕ) (p : PixelGrid) → seen ≡ words → stride ≡ length mask → drawn w h (in_rows words (length mask)) ≡ p
+    → header_text w h ++ rows_text w h (in_rows seen stride) ≡ pbm p
+text_is w h words mask seen stride p a b c =
+    ap (λ l. header_text w h ++ rows_text w h (in_rows l stride)) a
+    ∙ (ap (λ n. header_text w h ++ rows_text w h (in_rows words n)) b
+    ∙ (pbm_drawn w h (in_rows words (length mask)) ∙ ap pbm c))

@@ -1,18 +1,19 @@
--- What a bitmap shows by its words (own).
+-- The picture that a bitmap shows (own).
 use Rattle.std.specs.Prelude.{◌≤◌, ◌*◌, length}
 use Rattle.std.specs.Box.{boxed_slice_items}
-use Rattle.raster_rows.specs.Words.{in_rows}
-use Rattle.raster_core.specs.Pictures.{Picture, drawn}
+use Rattle.raster_core.specs.Words.{in_rows}
+use Rattle.raster_core.specs.Pictures.{PixelGrid, drawn}
 use Rattle.raster_core.specs.declared.painting.Bitmap.TheInside.{Inside}
 
--- The picture that a bitmap shows; its rows have as many words as its mask (own).
-abbrev pub picture : Inside → Picture
+-- The picture that a bitmap shows. Its rows have as many words as its mask (own).
+abbrev pub picture : Inside → PixelGrid
 picture b = drawn b.width b.height (in_rows (boxed_slice_items b.words) (length (boxed_slice_items b.mask)))
 
--- The words have room for the pixels, and for a bit for each word of a row, of which there are at most 192 (own).
+-- The words have room for the pixels, and for a bit for each word of a row; a row has at most 192 words (own).
 pub record IsBitmap (b : Inside) : Type 0 where
   pub some_columns : 1 ≤ b.width
   pub some_rows : 1 ≤ b.height
+  pub narrow : b.width ≤ 10000
   pub columns : b.width ≤ 64 * length (boxed_slice_items b.mask)
   pub rows : b.height * length (boxed_slice_items b.mask) ≤ length (boxed_slice_items b.words)
   pub full_rows : b.height * 3 ≤ length (boxed_slice_items b.full)

@@ -1,13 +1,20 @@
 //! Bitmaps: the rules of a page painted black, and the plain text of a bitmap.
 //!
-//! A bitmap is seen as its rows of pixels, from the top. The program that paints a page stands above it.
+//! A bitmap is seen as its rows of pixels, from the top. A row is machine words: `blacken` puts the mask of a row into many rows, by lanes.
 #![tactic(auto)]
 
 pub mod fault;
+mod lanes;
 pub mod laws;
+mod masks;
 mod painting;
 mod pixels;
 mod printing;
+mod rows;
+mod text;
+mod word_rows;
 
 pub use fault::BitmapFault;
 pub use painting::Bitmap;
+pub use text::{PbmText, ROW_TEXT};
+pub use word_rows::{blacken, is_set};

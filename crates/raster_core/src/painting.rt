@@ -3,24 +3,27 @@
 ghost use Rattle.std.specs.Prelude.{◌≡◌, ◌+◌, ◌*◌, ◌^◌, ◌<◌, ◌≤◌, ◌&&◌, ◌||◌, ℕ, length, map, if◌then◌else◌, IsTrue, IfOk, IfErr, OnOk, OnErr, ◌++◌};
 ghost use Rattle.dvi_ops.specs.File.{AreUnits};
 ghost use Rattle.dvi_ops.specs.View.{units as units_of};
-ghost use Rattle.dvi_pass.specs.View.{mark_of, page_of};
-ghost use Rattle.raster_rows.specs.Words.{AreFull, in_rows};
+ghost use Rattle.dvi_scan.specs.View.{mark_of, marked_page};
+ghost use Rattle.raster_core.specs.Words.{AreFull, in_rows};
 ghost use Rattle.raster_core.specs.Pixels.{covers, is_covered, scale_of};
 ghost use Rattle.raster_core.specs.Pictures.{is_size, painted, white};
-ghost use Rattle.raster_core.specs.PlainText.{pbm};
+ghost use Rattle.raster_core.specs.PlainText.{header_text, pbm, rows_text};
+ghost use Rattle.raster_core.specs.TextAhead.{pbm_text_ahead};
 
 use crate::fault::BitmapFault;
 use crate::pixels::Scale;
 use crate::printing::append_text;
+use crate::rows::Rows;
+use crate::text::PbmText;
+use crate::word_rows::blacken;
 use dvi_ops::Units;
-use dvi_pass::{Mark, Page};
-use raster_rows::blacken;
+use dvi_scan::{Mark, Page};
 use std::alloc::{AllocError, Global};
 use std::boxed::BoxedSlice;
 use std::marker::Model;
 
-/// A bitmap of black and white pixels, with room for the mask of one row, and for a bit for each word. Its memory is taken once: a boxed slice has
-/// no call that lets it grow.
+/// A bitmap of black and white pixels, with memory for the mask of one row, and for one bit for each word. Its memory is taken once, since no call of
+/// a boxed slice lets it grow.
 #[derive(Debug, Drop)]
 pub struct Bitmap {
     width: usize,
@@ -31,9 +34,9 @@ pub struct Bitmap {
 }
 
 impl Model for Bitmap {
-    ghost use Rattle.raster_core.specs.Pictures.{Picture};
+    ghost use Rattle.raster_core.specs.Pictures.{PixelGrid};
 
-    ghost Value = { Picture };
+    ghost Value = { PixelGrid };
 
     ghost use Rattle.raster_core.specs.Bitmaps.{IsBitmap, picture};
 
@@ -43,7 +46,8 @@ impl Model for Bitmap {
 }
 
 impl Bitmap {
-    /// A white bitmap of that many columns and rows, 1 to 10,000 each; other sizes are refused. It has all the memory that painting takes.
+    /// Makes a white bitmap with this number of columns and rows, 1 to 10,000 each. The fault is DimensionTooLarge for another size, and OutOfMemory
+    /// otherwise. It takes all memory that painting needs.
     pub fn new(alloc: Global, width: u32, height: u32) -> Result<Bitmap, BitmapFault>
         ensures ok { IfOk result (λ bitmap. bitmap ≡ white width height) }
         ensures fits { OnOk result (IsTrue (is_size width && is_size height)) }
@@ -59,14 +63,14 @@ impl Bitmap {
         }
     }
 
-    /// Makes black what the rules of a page cover, with positive units and at most 10,000 pixels to an inch. The pixel of column 0 and row 0 is that
-    /// of the page's origin, columns go to the right and rows downward; what lies outside is cut. A rule's bottom left corner falls on the nearest
-    /// pixel, halves away from zero, its sizes are rounded up (DVItype, pixel_round and rule_pixels), and neither glyphs nor specials are painted. It takes no memory,
-    /// and its time is that of the rows that the rules touch, and of the words that they make black.
+    /// Makes the pixels black that the rules of a page cover, for positive units and at most 10,000 pixels an inch. The pixel of column 0 and row 0
+    /// is that of the page's origin, columns go to the right and rows down, and what is outside of the bitmap is cut off. The bottom left corner of a
+    /// rule is rounded to the nearest pixel, halves away from zero, and its sizes are rounded up (DVItype, pixel_round and rule_pixels). Glyphs and
+    /// specials are not painted. It takes no memory. Its time is that of the rows that the rules touch, and of the words that they make black.
     pub fn paint(&mut self, page: &Page<'_>, units: Units, dpi: u32)
         requires units { AreUnits (units_of units) }
         requires dpi { dpi ≤ 10000 }
-        ensures { self.new ≡ painted (is_covered (scale_of (units_of units) dpi) (page_of page.now).marks) self.old }
+        ensures { self.new ≡ painted (is_covered (scale_of (units_of units) dpi) (marked_page page.now).marks) self.old }
     {
         let scale = Scale::new(units, dpi);
         paint_marks(
@@ -81,17 +85,31 @@ impl Bitmap {
     }
 
     /// Appends the text of the bitmap, a plain PBM file: `P1`, the width and the height, and the rows from the top, 1 for black and 0 for white, in
-    /// lines of at most 70 digits (Netpbm, plain PBM). Where memory is refused, `out` is as it was.
+    /// lines of at most 70 digits (Netpbm, plain PBM). Where memory is refused, `out` is unchanged.
     pub fn write_pbm(&self, out: &mut Vec<u8>) -> Result<(), AllocError>
         ensures ok { OnOk result (out.new.items ≡ out.old.items ++ pbm self.now) }
         ensures err { OnErr result (out.new.items ≡ out.old.items) }
     {
-        let held = out.len();
-        let written = append_text(out, &self.words, self.mask.len(), self.width, self.height);
-        if written.is_err() {
-            out.truncate(held);
+        append_text(out, self.rows())
+    }
+
+    /// The text of the bitmap, the same as `write_pbm` appends, to be taken in pieces. It takes no memory.
+    pub fn text(&self) -> PbmText<'_>
+        ensures { pbm_text_ahead result ≡ pbm self.now }
+    {
+        PbmText::new(self.rows())
+    }
+
+    /// The rows.
+    fn rows(&self) -> Rows<'_>
+        ensures { header_text result.width result.height ++ rows_text result.width result.height (in_rows result.words.now result.stride) ≡ pbm self.now }
+    {
+        Rows {
+            words: &self.words,
+            stride: self.mask.len(),
+            width: self.width,
+            height: self.height,
         }
-        written
     }
 }
 
@@ -114,7 +132,7 @@ fn white(alloc: Global, width: usize, height: usize) -> Result<Bitmap, AllocErro
     })
 }
 
-/// Paints a mark into the pixels of a bitmap of that size. A bit of `full` that is 1 says that a word is black.
+/// Paints a mark into the pixels of a bitmap of this size. A bit of `full` is 1 only where a word is black.
 fn paint_mark(
     words: &mut [u64],
     mask: &mut [u64],
@@ -126,7 +144,7 @@ fn paint_mark(
 )
     requires columns { width ≤ 64 * length mask.old }
     requires rows { height * length mask.old ≤ length words.old }
-    requires short { length mask.old ≤ 157 }
+    requires mask_bounded { length mask.old ≤ 157 }
     requires full_rows { height * 3 ≤ length full.old }
     requires full { AreFull full.old words.old (length mask.old) }
     ensures full { AreFull full.new words.new (length mask.old) }
@@ -146,7 +164,8 @@ fn paint_mark(
     }
 }
 
-/// Paints marks, one after the other. What it writes to are slices, so it cannot take memory. No word is known to be black at first.
+/// Paints marks in order. It writes to slices only, so it cannot take memory. The bits of `full` are cleared first, since the caller may have changed
+/// the pixels.
 fn paint_marks(
     words: &mut [u64],
     mask: &mut [u64],
@@ -158,7 +177,7 @@ fn paint_marks(
 )
     requires columns { width ≤ 64 * length mask.old }
     requires rows { height * length mask.old ≤ length words.old }
-    requires short { length mask.old ≤ 157 }
+    requires mask_bounded { length mask.old ≤ 157 }
     requires full_rows { height * 3 ≤ length full.old }
     ensures { (x y : ℕ) → x < width → y < height
         → in_rows words.new (length mask.old) x y ≡ (in_rows words.old (length mask.old) x y || is_covered scale (map mark_of marks.now) x y) }

@@ -4,7 +4,7 @@ ghost use Rattle.std.specs.Prelude.{◌≡◌, ◌+◌, ◌*◌, ◌^◌, ◌*�
 ghost use Rattle.scaled_core.specs.Dimensions.{Within};
 ghost use Rattle.dvi_ops.specs.File.{AreUnits};
 ghost use Rattle.dvi_ops.specs.View.{units as units_of};
-ghost use Rattle.raster_rows.specs.Words.{between};
+ghost use Rattle.raster_core.specs.Words.{between};
 ghost use Rattle.raster_core.specs.Pixels.{in_columns, in_rows, pixels, place, scale_of, spans};
 
 use dvi_ops::Units;
@@ -12,7 +12,7 @@ use scaled_core::rounded;
 use std::marker::Model;
 use std::ops::Range;
 
-/// How many pixels a DVI unit has, as the fraction `num / den`.
+/// The number of pixels of a DVI unit, as the fraction `num / den`.
 #[derive(Clone, Copy, Debug)]
 pub struct Scale {
     num: u128,
@@ -33,7 +33,7 @@ impl Model for Scale {
 }
 
 impl Scale {
-    /// The pixels of a DVI unit, with positive units and 1 to 10,000 pixels to an inch.
+    /// The scale for positive units and at most 10,000 pixels an inch. A scale of 0 pixels an inch is allowed.
     pub fn new(units: Units, dpi: u32) -> Scale
         requires units { AreUnits (units_of units) }
         requires dpi { dpi ≤ 10000 }
@@ -47,20 +47,20 @@ impl Scale {
         }
     }
 
-    /// A place in pixels: the nearest, halves away from zero.
+    /// A place in pixels, rounded to the nearest, halves away from zero.
     #[tactic(auto, unfolding(crate::specs::Pixels::place))]
     pub fn place(&self, at: i32) -> i128
         ensures value { result ≡ place self.now at }
-        ensures small { Within (2 ^ 126) result }
+        ensures value_bounded { Within (2 ^ 126) result }
     {
         rounded(times(at, self.num), self.den)
     }
 
-    /// A length of a rule in pixels, rounded up.
+    /// A length of a rule in pixels, rounded up. A length below 0 covers nothing, so painting is defined for every `Page`.
     #[tactic(auto, unfolding(crate::specs::Pixels::pixels))]
     pub fn pixels(&self, length: i32) -> u128
         ensures value { result ≡ pixels self.now length }
-        ensures small { result ≤ 2 ^ 107 }
+        ensures value_bounded { result ≤ 2 ^ 107 }
     {
         if length < 0 {
             return 0;
@@ -68,7 +68,7 @@ impl Scale {
         (length as u128 * self.num).div_ceil(u128::from(self.den))
     }
 
-    /// The columns of a rule with its corner at `h`, cut to those from 0 on and below `limit`.
+    /// The columns of a rule with its corner at `h`, cut to those from 0 and below `limit`.
     #[tactic(auto, unfolding(crate::specs::Pixels::in_columns))]
     pub fn columns(&self, h: i32, width: i32, limit: usize) -> Range<usize>
         ensures within { result.end ≤ limit }
@@ -78,7 +78,7 @@ impl Scale {
         cut(first, first + self.pixels(width) as i128 - 1, limit)
     }
 
-    /// The rows of a rule with its corner at `v`, cut to those from 0 on and below `limit`.
+    /// The rows of a rule with its corner at `v`, cut to those from 0 and below `limit`.
     #[tactic(auto, unfolding(crate::specs::Pixels::in_rows))]
     pub fn rows(&self, v: i32, height: i32, limit: usize) -> Range<usize>
         ensures within { result.end ≤ limit }
@@ -93,12 +93,12 @@ impl Scale {
 fn times(at: i32, num: u128) -> i128
     requires { num ≤ 2 ^ 76 }
     ensures value { result ≡ at *ℤ pos num }
-    ensures small { unsigned_abs result ≤ 2 ^ 126 }
+    ensures value_bounded { unsigned_abs result ≤ 2 ^ 126 }
 {
     i128::from(at) * num as i128
 }
 
-/// How many of the numbers from 0 on and below `limit` are below `place`.
+/// The count of the numbers from 0 and below `limit` that are below `place`.
 fn count_below(place: i128, limit: usize) -> usize
     ensures within { result ≤ limit }
     ensures exact { (x : ℕ) → x < limit → nat_lt x result ≡ int_lt (pos x) place }
@@ -112,7 +112,7 @@ fn count_below(place: i128, limit: usize) -> usize
     }
 }
 
-/// How many of the numbers from 0 on and below `limit` are at most `place`.
+/// The count of the numbers from 0 and below `limit` that are at most `place`.
 fn count_up_to(place: i128, limit: usize) -> usize
     ensures within { result ≤ limit }
     ensures exact { (x : ℕ) → x < limit → nat_lt x result ≡ int_le (pos x) place }
@@ -126,7 +126,7 @@ fn count_up_to(place: i128, limit: usize) -> usize
     }
 }
 
-/// The numbers from `first` to `last`, cut to those from 0 on and below `limit`.
+/// The numbers from `first` to `last` (included), cut to those from 0 and below `limit`.
 fn cut(first: i128, last: i128, limit: usize) -> Range<usize>
     ensures within { result.end ≤ limit }
     ensures exact { (x : ℕ) → x < limit → between result.start result.end x ≡ spans first last x }

@@ -1,4 +1,4 @@
--- A turn of a loop that appends what each item gives: what is appended in the end, and what stays at the front.
+-- A step of a loop that appends what each item gives: the items after the last step, and that the front of the list does not change.
 use Rattle.std.proofs.Common.{◌≡◌, ℕ, ◌+◌, ◌++◌, ◌<◌, List, length, drop, take, get_or, ap, sym, ◌∙◌, ◌≤◌, arith, append_assoc}
 use Rattle.std.specs.List.{flat_map}
 use Rattle.std.proofs.lemmas.List.{drop_more, length-take, take-append-le}

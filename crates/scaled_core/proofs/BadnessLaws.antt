@@ -1,4 +1,4 @@
--- There is one badness of each t not below 0 and each s, and it is the one that `badness_of` gives.
+-- For each t not below 0 and each s there is exactly one badness, the one that `badness_of` gives.
 use Rattle.std.proofs.Common.{◌≡◌, ℕ, ℤ, pos, negsuc, zero, suc, ◌*◌, ◌^◌, ◌<◌, ◌≤◌, ◌≤ℤ◌, ⊎_elim, refl, arith}
 use Rattle.std.proofs.lemmas.Bool.{cases_lt}
 use Rattle.std.proofs.lemmas.Bool.Decides.{nat_tests}

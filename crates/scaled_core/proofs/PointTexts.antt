@@ -1,4 +1,4 @@
--- Texts of points without a unit: with `pt` behind them they have the same parts.
+-- Texts of points without a unit have the same parts with `pt` after them.
 use Rattle.std.proofs.Common.{◌≡◌, ℕ, ◌==◌, ◌<◌, Bool, true, false, ◌&&◌, List, [], ◌∷◌, ◌++◌, length, take, drop, refl, ap, sym, ◌∙◌, arith, None, Some}
 use Rattle.std.specs.Prelude.{codes, if◌then◌else◌}
 use Rattle.std.specs.List.{prefix_len}
@@ -9,7 +9,7 @@ use Rattle.std.proofs.Math.Numerals.{one-add}
 use Rattle.scaled_core.specs.declared.units.LengthUnit.TheVariants.{Point}
 use Rattle.scaled_core.specs.ParsedTexts.{unit_named, is_negative, behind_sign, front_digits, behind_digits, point_digits, behind_fraction, parsed_value, written_value, dimension_value, read_dimension}
 
--- the unit that is left out
+-- The unit that is left out.
 abbrev pt : List ℕ
 pt = codes "pt"
 
@@ -29,7 +29,7 @@ behind_sign-points (c ∷ cs) =
     ap (λ (xs : List ℕ). if c == 45 then cs ++ pt else xs) (if-append (c == 43) cs (c ∷ cs) pt)
     ∙ if-append (c == 45) cs (if c == 43 then cs else c ∷ cs) pt
 
--- how many digits stand in front does not change
+-- The digits at the beginning do not change.
 front_step : (c : ℕ) (cs : List ℕ) (b : Bool) → is_ascii_digit c ≡ b
     → take (prefix_len is_ascii_digit (cs ++ pt)) (cs ++ pt) ≡ take (prefix_len is_ascii_digit cs) cs
     → take (prefix_len is_ascii_digit (c ∷ cs ++ pt)) (c ∷ cs ++ pt) ≡ take (prefix_len is_ascii_digit (c ∷ cs)) (c ∷ cs)
@@ -63,7 +63,7 @@ behind_fraction-points [] = refl
 behind_fraction-points (c ∷ cs) =
     ap (λ (xs : List ℕ). if c == 46 then xs else c ∷ cs ++ pt) (behind_digits-points cs) ∙ if-append (c == 46) (behind_digits cs) (c ∷ cs) pt
 
--- no unit has more than two letters
+-- No unit has more than two letters.
 and_false : (a b : Bool) → (a && (b && false)) ≡ false
 and_false true true = refl
 and_false true false = refl
@@ -79,7 +79,7 @@ not_unit (a ∷ []) long = absurd (omega (arith, long))
 not_unit (a ∷ b ∷ []) long = absurd (omega (arith, long))
 not_unit (a ∷ b ∷ c ∷ rest) long = simp longer
 
--- what stands in the place of the unit that is left out, with it, is no unit
+-- Anything in the place of the unit that is left out, with `pt` after it, is no unit.
 pub no_unit : (name : List ℕ) → 0 < length name → None ≡ unit_named (name ++ codes "pt")
 no_unit name some = sym (not_unit (name ++ pt) (omega (arith, some, length-append name pt)))
 
@@ -88,7 +88,7 @@ unfolding unit_named
 the_unit [] none = refl
 the_unit (c ∷ cs) none = absurd (omega (arith, none))
 
--- the parts of such a text give its value
+-- The parts of such a text give its value.
 pub read_dimension-points : (text : List ℕ) → read_dimension (text ++ codes "pt")
     ≡ parsed_value (written_value (is_negative text) (front_digits (behind_sign text)) (point_digits (behind_digits (behind_sign text))) (unit_named (behind_fraction (behind_digits (behind_sign text)) ++ codes "pt")))
 unfolding read_dimension dimension_value

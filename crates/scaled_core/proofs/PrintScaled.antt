@@ -1,10 +1,10 @@
--- TeX's turns print the digits of the shortest decimal that reads back.
+-- TeX's loop prints the digits of the shortest decimal that reads back.
 use Rattle.std.proofs.Common.{append_assoc, ◌≡◌, ℕ, ◌+◌, ◌-◌, ◌*◌, ◌/◌, ◌%◌, ◌<◌, ◌≤◌, zero, suc, cond, leb, List, [], ◌∷◌, ◌++◌, ⊎_elim, sym, ◌∙◌, ap, refl, arith}
 use Rattle.std.proofs.lemmas.Bool.{cases_lt, le-leb, lt-leb}
 use Rattle.scaled_core.specs.PrintedDimensions.{last_digits, print_scaled, shortest_fraction}
 use Rattle.scaled_core.proofs.PrintingLemmas.{IsPrinting, begins, goes, goes-digits, left, spread, stops}
 
--- what a turn prints, from what is left
+-- The digits that a turn and the turns after it print, from the remainder.
 abbrev turn_of : ℕ → ℕ → ℕ → List ℕ
 turn_of turns delta now = (48 + now / 65536) ∷ cond (leb (10 * (now % 65536)) (delta * 10)) [] (print_scaled turns (10 * (now % 65536)) (delta * 10))
 
@@ -21,15 +21,15 @@ turn_stops turns delta now h = rw (le-leb (10 * (now % 65536)) (delta * 10) h) r
 turn_goes : (turns delta now : ℕ) → delta * 10 < 10 * (now % 65536) → turn_of turns delta now ≡ (48 + now / 65536) ∷ print_scaled turns (10 * (now % 65536)) (delta * 10)
 turn_goes turns delta now h = rw (lt-leb (10 * (now % 65536)) (delta * 10) h) refl
 
--- the last turn
+-- The last turn.
 print_scaled-stops : (turns s delta : ℕ) → 10 * (left s delta % 65536) ≤ delta * 10 → print_scaled (suc turns) s delta ≡ (48 + left s delta / 65536) ∷ []
 print_scaled-stops turns s delta h = print_scaled-turn turns s delta ∙ turn_stops turns delta (left s delta) h
 
--- every other turn
+-- Every other turn.
 print_scaled-goes : (turns s delta : ℕ) → delta * 10 < 10 * (left s delta % 65536) → print_scaled (suc turns) s delta ≡ (48 + left s delta / 65536) ∷ print_scaled turns (10 * (left s delta % 65536)) (delta * 10)
 print_scaled-goes turns s delta h = print_scaled-turn turns s delta ∙ turn_goes turns delta (left s delta) h
 
--- from any turn on
+-- The rest of the digits, from any turn on.
 print_scaled-rest : (turns f places s delta : ℕ) → f < 65536 → 5 ≤ turns + places → IsPrinting f places s delta → last_digits places (spread places f / 655360) ++ print_scaled turns s delta ≡ shortest_fraction f
 print_scaled-rest zero f places s delta small e p = absurd (omega (arith, p.short))
 print_scaled-rest (suc turns) f places s delta small e p = ⊎_elim
@@ -42,6 +42,6 @@ print_scaled-rest (suc turns) f places s delta small e p = ⊎_elim
     ap (λ (xs : List ℕ). last_digits places (spread places f / 655360) ++ xs) (print_scaled-stops turns s delta stop) ∙ stops f places s delta small p stop)
     (cases_lt (delta * 10) (10 * (left s delta % 65536)))
 
--- TeX's digits are those of the shortest decimal that reads back
+-- TeX's digits are those of the shortest decimal that reads back.
 pub print_scaled-shortest : (turns f : ℕ) → 5 ≤ turns → f < 65536 → print_scaled turns (10 * f + 5) 10 ≡ shortest_fraction f
 print_scaled-shortest turns f enough small = print_scaled-rest turns f 0 (10 * f + 5) 10 small (omega arith) (begins f small)

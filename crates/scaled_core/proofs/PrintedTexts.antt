@@ -11,7 +11,7 @@ use Rattle.std.proofs.lemmas.Fmt.{decimal_is_IsNumeral}
 use Rattle.std.proofs.lemmas.List.{take_all}
 use Rattle.std.proofs.Math.Nat.{le-div_iff_mul-le, pow-suc}
 use Rattle.scaled_core.specs.Dimensions.{Fits}
-use Rattle.scaled_core.specs.DimensionTexts.{Sign, unsigned, minus, DimensionParts, signed, parts_text, parts_value, decimal_fraction}
+use Rattle.scaled_core.specs.DimensionTexts.{Sign, unsigned, minus, DimensionParts, with_sign, parts_text, parts_value, decimal_fraction}
 use Rattle.scaled_core.specs.ParsedTexts.{dimension_value, parsed_value, read_dimension}
 use Rattle.scaled_core.specs.PrintedDimensions.{last_digits, nearest_decimal, reads_back, fraction_places, shortest_fraction, size_text, dimension_text}
 use Rattle.scaled_core.specs.Rounding.{nearest}
@@ -34,7 +34,7 @@ digits-from_AllDigits (c ∷ cs) h =
     let r = digit_from_value c h.0 in
     and_from _ _ (digit_test c r.0 r.1) (digits-from_AllDigits cs h.1)
 
--- the decimal of a number is digits of that number
+-- The decimal text of a number consists of digits.
 pub decimal-digits : (n : ℕ) → n < 2 ^ 64 → all_ascii_digits (decimal n) ≡ true
 decimal-digits n h = digits-from_AllDigits (decimal n) (decimal_is_IsNumeral n h).0.1
 
@@ -48,7 +48,7 @@ digits_push : (ds : List ℕ) (c : ℕ) → all_ascii_digits ds ≡ true → is_
 digits_push [] c h e = and_from _ _ e refl
 digits_push (d ∷ ds) c h e = let p = and_parts (is_ascii_digit d) (all_ascii_digits ds) h in and_from _ _ p.0 (digits_push ds c p.1 e)
 
--- the last digits are digits, as many as were asked for
+-- The last digits of a number are digits, and their count is the one asked for.
 pub last_digits-digits : (count n : ℕ) → all_ascii_digits (last_digits count n) ≡ true
 last_digits-digits zero n = refl
 last_digits-digits (suc count) n = digits_push (last_digits count (n / 10)) (48 + n % 10) (last_digits-digits count (n / 10)) (digit_test (48 + n % 10) (omega arith) (omega arith))
@@ -57,7 +57,7 @@ pub length-last_digits : (count n : ℕ) → length (last_digits count n) ≡ co
 length-last_digits zero n = refl
 length-last_digits (suc count) n = length-append (last_digits count (n / 10)) ((48 + n % 10) ∷ []) ∙ (let e = length-last_digits count (n / 10) in omega arith)
 
--- and their number is n, if it has no more
+-- The number that they write is n, if n has no more digits.
 pub digits_value-last_digits : (count n : ℕ) → n < 10 ^ count → digits_value 10 (last_digits count n) ≡ n
 digits_value-last_digits zero n h = omega arith
 digits_value-last_digits (suc count) n h =
@@ -69,7 +69,7 @@ digits_value-last_digits (suc count) n h =
 
 -- The fraction.
 
--- the least number of places, from 1 to 5, with which f reads back
+-- The least number of places, from 1 to 5, with which f reads back.
 pub record IsFewest (f places : ℕ) : Type 0 where
   pub positive : 0 < places
   pub most : places ≤ 5
@@ -103,7 +103,7 @@ reads_back-nearest : (f places : ℕ) → reads_back f places ≡ true → neare
 unfolding reads_back
 reads_back-nearest f places h = eqb-true _ f h
 
--- a whole or more is at least 65536 of 65536ths
+-- A fraction of 1 or more is at least 65536 of 65536ths.
 nearest-large : (v d : ℕ) → 0 < d → d ≤ v → 65536 ≤ nearest (v * 65536) d
 unfolding nearest
 nearest-large v d positive h = (le-div_iff_mul-le {k = 2 * d} {x = 65536} {y = 2 * (v * 65536) + d} (omega arith)).1 (omega arith)
@@ -120,7 +120,7 @@ fraction_of_digits ds places v f short len value e =
     let whole : take 17 ds ≡ ds = take_all 17 ds (omega arith) in
     rw (whole, len, value) e
 
--- the printed fraction reads back
+-- The printed fraction reads back.
 pub decimal_fraction-shortest : (f : ℕ) → f < 65536 → decimal_fraction (shortest_fraction f) ≡ f
 unfolding shortest_fraction
 decimal_fraction-shortest f small =
@@ -147,13 +147,13 @@ of_points-whole n = omega arith
 size_by_parts : (n q f : ℕ) → q ≡ n / 65536 → f ≡ n % 65536 → of_points q f 1 1 ≡ n
 size_by_parts n q f e g = rw (e, g) (of_points-whole n)
 
-printed_value : (sign : Sign) (n : ℕ) → n < 2 ^ 64 → parts_value (printed_parts sign n) ≡ signed sign n
+printed_value : (sign : Sign) (n : ℕ) → n < 2 ^ 64 → parts_value (printed_parts sign n) ≡ with_sign sign n
 printed_value sign n small =
     let q = digits_value-decimal (n / 65536) (omega arith) in
     let f = decimal_fraction-shortest (n % 65536) (omega arith) in
-    ap (signed sign) (size_by_parts n (digits_value 10 (decimal (n / 65536))) (decimal_fraction (shortest_fraction (n % 65536))) q f)
+    ap (with_sign sign) (size_by_parts n (digits_value 10 (decimal (n / 65536))) (decimal_fraction (shortest_fraction (n % 65536))) q f)
 
-printed_reads : (sign : Sign) (n : ℕ) → n < 2 ^ 64 → dimension_value (parts_text (printed_parts sign n)) ≡ Some (signed sign n)
+printed_reads : (sign : Sign) (n : ℕ) → n < 2 ^ 64 → dimension_value (parts_text (printed_parts sign n)) ≡ Some (with_sign sign n)
 printed_reads sign n small =
     dimension_value-parts (printed_parts sign n) (decimal-digits (n / 65536) (omega arith)) (shortest_fraction-digits (n % 65536)) (omega (arith, decimal-some (n / 65536) (omega arith)))
     ∙ ap Some (printed_value sign n small)
@@ -162,13 +162,13 @@ size_text-parts : (n : ℕ) → size_text n ++ codes "pt" ≡ parts_text (printe
 unfolding size_text
 size_text-parts n = append_assoc (decimal (n / 65536)) (46 ∷ shortest_fraction (n % 65536)) (codes "pt")
 
--- a printed dimension has its own value
+-- A printed dimension has its own value.
 pub dimension_value-printed : (d : ℤ) → Fits d → dimension_value (dimension_text d ++ codes "pt") ≡ Some d
 unfolding dimension_text
 dimension_value-printed (pos n) fits = ap dimension_value (size_text-parts n) ∙ printed_reads unsigned n (omega (arith, ints, fits.high))
 dimension_value-printed (negsuc n) fits = ap (λ (xs : List ℕ). dimension_value (45 ∷ xs)) (size_text-parts (suc n)) ∙ printed_reads minus (suc n) (omega (arith, ints, fits.low))
 
--- and reads back as itself
+-- A printed dimension reads back as itself.
 pub read_dimension-printed : (d : ℤ) → Fits d → read_dimension (dimension_text d ++ codes "pt") ≡ Ok d
 unfolding read_dimension
 read_dimension-printed d fits = ap parsed_value (dimension_value-printed d fits) ∙ parsed_value-fits d fits
@@ -215,7 +215,7 @@ fewest_le f ds some fewer e =
     let not = w.fewest (length ds) some fewer in
     absurd (cc)
 
--- digits that read as f are no fewer than the printed ones
+-- Digits that read as f are no fewer than the printed ones.
 pub shortest-le : (f : ℕ) (ds : List ℕ) → 0 < length ds → decimal_fraction ds ≡ f → length (shortest_fraction f) ≤ length ds
 shortest-le f ds some e = ⊎_elim
     (λ (fewer : length ds < fraction_places f). absurd (fewest_le f ds some fewer e))

@@ -6,11 +6,11 @@ use Rattle.std.proofs.Math.Nat.{pow-suc, pow-le-pow_right}
 use Rattle.scaled_core.specs.Rounding.{nearest}
 use Rattle.scaled_core.specs.PrintedDimensions.{last_digits, nearest_decimal, reads_back, fraction_places, shortest_fraction}
 
--- f 65536ths and a half, with that many places, in units of a tenth of their last place times 65536
+-- The number f 65536ths and a half, with `places` digits taken, in tenths of the last place times 65536.
 abbrev pub spread : ℕ → ℕ → ℕ
 spread places f = 10 ^ places * (10 * f + 5)
 
--- five places always read back
+-- Five places always read back.
 pub reads_back-5 : (f : ℕ) → reads_back f 5 ≡ true
 unfolding reads_back nearest_decimal nearest
 reads_back-5 f = eq-eqb _ f (omega arith)
@@ -66,7 +66,7 @@ goes-4 f h = ne_eqb _ f (omega arith)
 spread-suc : (places f : ℕ) → spread (suc places) f ≡ 10 * spread places f
 spread-suc places f = rw (pow-suc 10 places) (omega arith)
 
--- one more digit
+-- Appending one digit.
 grow : (places t : ℕ) → last_digits places (t / 655360) ++ (48 + t % 655360 / 65536) ∷ [] ≡ last_digits (suc places) (10 * t / 655360)
 grow places t =
     let front : 10 * t / 655360 / 10 ≡ t / 655360 = omega arith in
@@ -81,7 +81,7 @@ rest-spread places f rest e = let s = spread-suc places f in omega arith
 
 -- The number of places.
 
--- no fewer places read back
+-- No number of places up to this one reads back.
 abbrev pub NoneUpTo : ℕ → ℕ → Type 0
 NoneUpTo places f = (fewer : ℕ) → 0 < fewer → fewer ≤ places → reads_back f fewer ≡ false
 
@@ -115,7 +115,7 @@ shortest_by : (f places decimal : ℕ) → fraction_places f ≡ places → near
 unfolding shortest_fraction
 shortest_by f places decimal e n = rw (e, n) refl
 
--- where what is left is small, the digits so far are those of the shortest decimal
+-- If the remainder is small, the digits so far are those of the shortest decimal.
 pub ends : (places f : ℕ) → places < 4 → NoneUpTo places f → spread (suc places) f % 655360 ≤ 10 ^ (suc (suc places)) → shortest_fraction f ≡ last_digits (suc places) (spread (suc places) f / 655360)
 ends zero f lt none h = shortest_by f 1 (spread 1 f / 655360) (places-1 f (reads-1 f h)) (stops-1 f h)
 ends (suc zero) f lt none h = shortest_by f 2 (spread 2 f / 655360) (places-2 f none (reads-2 f h)) (stops-2 f h)
@@ -123,7 +123,7 @@ ends (suc (suc zero)) f lt none h = shortest_by f 3 (spread 3 f / 655360) (place
 ends (suc (suc (suc zero))) f lt none h = shortest_by f 4 (spread 4 f / 655360) (places-4 f none (reads-4 f h)) (stops-4 f h)
 ends (suc (suc (suc (suc n)))) f lt none h = absurd (omega arith)
 
--- and where it is not, that many places do not read back
+-- If the remainder is not small, this number of places does not read back.
 pub passes : (places f : ℕ) → places < 4 → 10 ^ (suc (suc places)) < spread (suc places) f % 655360 → reads_back f (suc places) ≡ false
 passes zero f lt h = goes-1 f h
 passes (suc zero) f lt h = goes-2 f h
@@ -139,7 +139,7 @@ nearest-last : (f : ℕ) → 100000 < spread 4 f % 655360 → nearest_decimal f 
 unfolding nearest_decimal nearest
 nearest-last f above = omega arith
 
--- the fifth digit is rounded
+-- The fifth digit is rounded.
 fifth : (f : ℕ) → f < 65536 → 100000 < spread 4 f % 655360 → NoneUpTo 4 f → last_digits 4 (spread 4 f / 655360) ++ (48 + (spread 4 f % 655360 - 17232) / 65536) ∷ [] ≡ shortest_fraction f
 fifth f small above none =
     let front : nearest_decimal f 5 / 10 ≡ spread 4 f / 655360 = nearest-front f above in
@@ -148,7 +148,7 @@ fifth f small above none =
 
 -- The turns of the loop.
 
--- what is left after that many digits, and the unit of their last place, where fewer digits do not read back
+-- The remainder after `places` digits and the unit of the last place, while fewer digits do not read back.
 pub record IsPrinting (f places rest unit : ℕ) : Type 0 where
   pub short : places < 5
   pub unit_is : unit ≡ 10 ^ (places + 1)
@@ -156,7 +156,7 @@ pub record IsPrinting (f places rest unit : ℕ) : Type 0 where
   pub above : 0 < places → unit < rest
   pub none : NoneUpTo places f
 
--- what is left as the next digit is taken
+-- The remainder from which the next digit is taken.
 abbrev pub left : ℕ → ℕ → ℕ
 left rest unit = cond (ltb 65536 unit) (rest - 17232) rest
 
@@ -190,7 +190,7 @@ fifth_unit f places rest unit p late =
 left_fifth : (rest unit : ℕ) → unit ≡ 100000 → left rest unit ≡ rest - 17232
 left_fifth rest unit e = rw (lt-ltb 65536 unit (omega arith)) refl
 
--- a digit's rest stays below ten units
+-- The remainder stays below ten units.
 pub rest_most : (f places rest unit : ℕ) → IsPrinting f places rest unit → rest < 655360
 rest_most f places rest unit p = omega (arith, p.rest_is)
 
@@ -200,7 +200,7 @@ left_most f places rest unit p = ⊎_elim
     (λ (late : 4 ≤ places). omega (arith, left_fifth rest unit (fifth_unit f places rest unit p late).1, rest_most f places rest unit p))
     (cases_lt places 4)
 
--- the rounding of the fifth digit does not go below 0
+-- The rounding of the fifth digit does not go below 0.
 pub room : (f places rest unit : ℕ) → IsPrinting f places rest unit → 65536 < unit → 17232 ≤ rest
 room f places rest unit p above = ⊎_elim
     (λ (early : places < 4). absurd (omega (arith, unit_early f places rest unit p early)))
@@ -218,7 +218,7 @@ rest_next f places rest unit p early = rw (left_early f places rest unit p early
 digits_next : (f places rest unit : ℕ) → IsPrinting f places rest unit → places < 4 → last_digits places (spread places f / 655360) ++ (48 + left rest unit / 65536) ∷ [] ≡ last_digits (suc places) (spread (suc places) f / 655360)
 digits_next f places rest unit p early = rw (left_early f places rest unit p early) (grow-spread places f rest p.rest_is)
 
--- the last digit
+-- The loop stops at this digit.
 stops_early : (f places rest unit : ℕ) → IsPrinting f places rest unit → places < 4 → 10 * (left rest unit % 65536) ≤ unit * 10 → last_digits places (spread places f / 655360) ++ (48 + left rest unit / 65536) ∷ [] ≡ shortest_fraction f
 stops_early f places rest unit p early h =
     let small : spread (suc places) f % 655360 ≤ 10 ^ suc (suc places) = rw (← rest_next f places rest unit p early, ← unit_next f places rest unit p) h in
@@ -243,7 +243,7 @@ stops f places rest unit small p h = ⊎_elim
     (λ (late : 4 ≤ places). stops_late f places rest unit small p late)
     (cases_lt places 4)
 
--- one digit more
+-- The loop goes on to another digit.
 goes_early : (f places rest unit : ℕ) → IsPrinting f places rest unit → unit * 10 < 10 * (left rest unit % 65536) → places < 4
 goes_early f places rest unit p h = ⊎_elim
     (λ (early : places < 4). early)
@@ -268,14 +268,14 @@ goes-digits f places rest unit p h = rw (add-one places) (digits_next f places r
 joined : (old items digits more all new : List ℕ) → items ≡ old ++ digits → new ≡ items ++ more → digits ++ more ≡ all → new ≡ old ++ all
 joined old items digits more all new e n a = n ∙ ap (λ (xs : List ℕ). xs ++ more) e ∙ append_assoc old digits more ∙ ap (λ (xs : List ℕ). old ++ xs) a
 
--- what the last turn writes
+-- The text after the last turn.
 pub stops-items : (f places rest unit digit : ℕ) (old items new : List ℕ) → f < 65536 → IsPrinting f places rest unit → digit ≡ left rest unit → items ≡ old ++ last_digits places (spread places f / 655360) → new ≡ items ++ (48 + digit / 65536) ∷ [] → 10 * (digit % 65536) ≤ unit * 10 → new ≡ old ++ shortest_fraction f
 stops-items f places rest unit digit old items new small p d e n h =
     let h' : 10 * (left rest unit % 65536) ≤ unit * 10 = rw (← d) h in
     let n' : new ≡ items ++ (48 + left rest unit / 65536) ∷ [] = n ∙ ap (λ (x : ℕ). items ++ (48 + x / 65536) ∷ []) d in
     joined old items (last_digits places (spread places f / 655360)) ((48 + left rest unit / 65536) ∷ []) (shortest_fraction f) new e n' (stops f places rest unit small p h')
 
--- what every other turn leaves
+-- The invariant after every other turn.
 pub goes-on : (f places rest unit digit : ℕ) → IsPrinting f places rest unit → digit ≡ left rest unit → unit * 10 < 10 * (digit % 65536) → IsPrinting f (places + 1) (10 * (digit % 65536)) (unit * 10)
 goes-on f places rest unit digit p d h =
     let h' : unit * 10 < 10 * (left rest unit % 65536) = rw (← d) h in

@@ -1,4 +1,4 @@
--- What reading a text gives, case by case.
+-- The results of reading a text, case by case.
 use Rattle.std.proofs.Common.{◌≡◌, ℕ, ℤ, true, false, List, Option, Some, None, Result, Ok, Err, ◌⊎◌, ⊎_elim, inl, inr, ◌↔◌, subst, ◌∙◌, refl}
 use Rattle.std.specs.Result.{IfOk}
 use Rattle.std.proofs.lemmas.Bool.{cases_Bool}
@@ -10,7 +10,7 @@ use Rattle.scaled_core.specs.ParsedTexts.{dimension_value, parsed_value, read_di
 use Rattle.scaled_core.proofs.Fitting.{dimension_fits, fits_within}
 use Rattle.scaled_core.proofs.TextLaws.{dimension_value-from_text, IsDimensionText-from_value}
 
--- the text's dimension, which fits, is what was read
+-- The text writes a dimension that fits, and it was read.
 pub record ReadsDimension (text : List ℕ) (r : Result ℤ DimenFault) : Type 0 where
   pub value : ℤ
   pub written : IsDimensionText text value
@@ -36,7 +36,7 @@ parsed_value-no : (z : ℤ) → fits z ≡ false → parsed_value (Some z) ≡ E
 unfolding parsed_value
 parsed_value-no z e = rw e refl
 
--- a value that fits is read
+-- A value that fits is read.
 pub parsed_value-fits : (z : ℤ) → Fits z → parsed_value (Some z) ≡ Ok z
 parsed_value-fits z fit = parsed_value-yes z (dimension_fits z fit)
 
@@ -57,7 +57,7 @@ reads_by text r (Some z) e h = ⊎_elim
     })))
     (cases_Bool (fits z))
 
--- reading a text gives one of the three
+-- Reading a text has one of the three results.
 pub reads : (text : List ℕ) (r : Result ℤ DimenFault) → r ≡ read_dimension text → Reads text r
 unfolding read_dimension
 reads text r h = reads_by text r (dimension_value text) refl h
@@ -69,7 +69,7 @@ IfOk-by (Err e) P h = tt
 same_value : (text : List ℕ) (y z : ℤ) → IsDimensionText text y → IsDimensionText text z → y ≡ z
 same_value text y z p q = let a = dimension_value-from_text text y p in let b = dimension_value-from_text text z q in cc
 
--- a number that was read
+-- A number that was read.
 pub record IsRead (text : List ℕ) (z : ℤ) : Type 0 where
   pub written : IsDimensionText text z
   pub fits : Fits z
@@ -119,18 +119,18 @@ is_none text r n cases = ⊎_elim
     (λ (w : ReadsNothing text r). w.read) v)
     cases
 
--- what was read is the text's dimension
+-- What was read is the text's dimension.
 pub reads-ok : (text : List ℕ) (r : Result ℤ DimenFault) → r ≡ read_dimension text → IfOk r (λ d. IsDimensionText text d)
 reads-ok text r h = IfOk-by r (λ d. IsDimensionText text d) (λ z e. (was_read text r z e (reads text r h)).written)
 
--- and fits
+-- The dimension that was read fits.
 pub reads-fits : (text : List ℕ) (r : Result ℤ DimenFault) → r ≡ read_dimension text → IfOk r (λ d. Fits d)
 reads-fits text r h = IfOk-by r (λ d. Fits d) (λ z e. (was_read text r z e (reads text r h)).fits)
 
--- it is refused as too large exactly where its value does not fit
+-- A text is refused as too large exactly when its value does not fit.
 pub reads-too_large : (text : List ℕ) (r : Result ℤ DimenFault) → r ≡ read_dimension text → (r ≡ Err TooLarge) ↔ IsTooLargeText text
 reads-too_large text r h = (λ e. was_too_large text r e (reads text r h), λ t. is_too_large text r t (reads text r h))
 
--- and as no dimension exactly where it is none
+-- A text is refused as no dimension exactly when it is none.
 pub reads-not_a_dimension : (text : List ℕ) (r : Result ℤ DimenFault) → r ≡ read_dimension text → (r ≡ Err NotADimension) ↔ IsNoDimension text
 reads-not_a_dimension text r h = (λ e. was_none text r e (reads text r h), λ n. is_none text r n (reads text r h))

@@ -9,7 +9,7 @@ use Rattle.scaled_core.specs.declared.fault.DimenFault.TheVariants.{TooLarge, No
 use Rattle.scaled_core.specs.Units.{of_points, scaled_points}
 use Rattle.scaled_core.specs.ParsedTexts.{parsed_value, with_minus}
 
--- the sign does not change the size
+-- The sign does not change the size.
 pub unsigned_abs-with_minus : (negative : Bool) (size : ℕ) → unsigned_abs (with_minus negative size) ≡ size
 unsigned_abs-with_minus true zero = refl
 unsigned_abs-with_minus true (suc n) = refl
@@ -23,27 +23,27 @@ fitted_small : (value : ℤ) (size : ℕ) → unsigned_abs value ≡ size → si
 unfolding parsed_value
 fitted_small value size e h = grind (arith, nat_tests)
 
--- a size from 2 ^ 30 on does not fit
+-- A size from 2 ^ 30 on does not fit.
 pub parsed_value-large : (negative : Bool) (size : ℕ) → 2 ^ 30 ≤ size → parsed_value (Some (with_minus negative size)) ≡ Err TooLarge
 parsed_value-large negative size h = fitted_large _ size (unsigned_abs-with_minus negative size) h
 
--- and one below fits
+-- A size below 2 ^ 30 fits.
 pub parsed_value-small : (negative : Bool) (size : ℕ) → size ≤ 1073741823 → parsed_value (Some (with_minus negative size)) ≡ Ok (with_minus negative size)
 parsed_value-small negative size h = fitted_small _ size (unsigned_abs-with_minus negative size) h
 
--- what is no text of a dimension is refused as that
+-- A text without a value is refused as no dimension.
 pub parsed_value-none : parsed_value None ≡ Err NotADimension
 unfolding parsed_value
 parsed_value-none = refl
 
--- a unit of a point or more: n of them are no less than n scaled points
+-- A unit of a point or more: n of them are no less than n scaled points.
 pub of_points-le : (n f num den : ℕ) → 0 < den → den ≤ num → n ≤ of_points n f num den
 unfolding of_points
 of_points-le n f num den positive h =
     let scaled : n * den ≤ (65536 * n + f) * num = omega (arith, mul-le-mul {n₁ = n} {m₁ = den} {n₂ = 65536 * n + f} {m₂ = num} (omega arith) h) in
     (le-div_iff_mul-le {k = den} {x = n} {y = (65536 * n + f) * num} positive).1 scaled
 
--- n units are no less than n scaled points
+-- n units are no less than n scaled points.
 pub scaled_points-le : (unit : LengthUnit) (n f : ℕ) → n ≤ scaled_points unit n f
 scaled_points-le Point n f = of_points-le n f 1 1 (omega arith) (omega arith)
 scaled_points-le Inch n f = of_points-le n f 7227 100 (omega arith) (omega arith)
@@ -55,7 +55,7 @@ scaled_points-le DidotPoint n f = of_points-le n f 1238 1157 (omega arith) (omeg
 scaled_points-le Cicero n f = of_points-le n f 14856 1157 (omega arith) (omega arith)
 scaled_points-le ScaledPoint n f = omega arith
 
--- so the whole part can be cut at 2 ^ 30
+-- So the whole part can be cut at 2 ^ 30.
 pub parsed_value-capped : (negative : Bool) (unit : LengthUnit) (n f : ℕ) → parsed_value (Some (with_minus negative (scaled_points unit (min n (2 ^ 30)) f))) ≡ parsed_value (Some (with_minus negative (scaled_points unit n f)))
 parsed_value-capped negative unit n f = ⊎_elim
     (λ (low : n < 2 ^ 30). let e : min n (2 ^ 30) ≡ n = omega arith in rw e refl)

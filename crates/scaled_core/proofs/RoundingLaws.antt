@@ -1,4 +1,4 @@
--- There is one nearest whole number, and it is the one that `nearest`, or for signed numbers `rounded`, gives.
+-- There is exactly one nearest whole number, the one that `nearest` gives, or `rounded` for signed numbers.
 use Rattle.std.proofs.Common.{◌≡◌, ℕ, ℤ, pos, negsuc, neg_ℤ, zero, suc, ◌+◌, ◌*◌, ◌/◌, ◌<◌, ◌≤◌, ◌≤ℤ◌, sym, ap, refl, arith, unsigned_abs}
 use Rattle.std.proofs.Math.Nat.{div-eq_of_lt, div-eq_of_lt-le, le-div_iff_mul-le, lt-div-mul-add}
 use Rattle.std.proofs.lemmas.Int.{ints}

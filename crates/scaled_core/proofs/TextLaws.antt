@@ -11,14 +11,14 @@ use Rattle.std.proofs.Math.Seq.{drop-append_seam, take-append_seam}
 use Rattle.std.proofs.Math.Numerals.{one-add}
 use Rattle.scaled_core.specs.declared.units.LengthUnit.{LengthUnit}
 use Rattle.scaled_core.specs.declared.units.LengthUnit.TheVariants.{Point, Inch, Pica, Centimeter, Millimeter, BigPoint, DidotPoint, Cicero, ScaledPoint}
-use Rattle.scaled_core.specs.DimensionTexts.{Sign, unsigned, plus, minus, sign_text, signed, DimensionParts, fraction_digits, fraction_text, parts_text, parts_value, IsDimensionText, decimal_fraction}
+use Rattle.scaled_core.specs.DimensionTexts.{Sign, unsigned, plus, minus, sign_text, with_sign, DimensionParts, fraction_digits, fraction_text, parts_text, parts_value, IsDimensionText, decimal_fraction}
 use Rattle.scaled_core.specs.Units.{unit_text, scaled_points}
 use Rattle.scaled_core.specs.ParsedTexts.{behind_digits, behind_fraction, behind_sign, dimension_value, front_digits, is_negative, written_value, point_digits, unit_named, with_minus}
 use Rattle.scaled_core.proofs.DigitLemmas.{digit_code, front_are_digits}
 
--- Digits in front of what does not begin with one.
+-- Digits before a text that does not begin with one.
 
--- no digit stands first
+-- The text does not begin with a digit.
 abbrev NoDigitFirst : List ℕ → Type 0
 NoDigitFirst text = prefix_len is_ascii_digit text ≡ 0
 
@@ -31,12 +31,12 @@ prefix_len-digits (c ∷ cs) ys h none =
     let p = and_parts (is_ascii_digit c) (all_ascii_digits cs) h in
     prefix_len_step c (cs ++ ys) p.0 ∙ ap suc (prefix_len-digits cs ys p.1 none)
 
--- digits are read whole where no digit follows
+-- The digits are read as a whole if no digit follows.
 pub front_digits-append : (xs ys : List ℕ) → all_ascii_digits xs ≡ true → NoDigitFirst ys → front_digits (xs ++ ys) ≡ xs
 unfolding front_digits
 front_digits-append xs ys h none = rw (prefix_len-digits xs ys h none) (take-append_seam xs ys)
 
--- and what follows is left
+-- The text after them is the rest.
 pub behind_digits-append : (xs ys : List ℕ) → all_ascii_digits xs ≡ true → NoDigitFirst ys → behind_digits (xs ++ ys) ≡ ys
 unfolding behind_digits
 behind_digits-append xs ys h none = rw (prefix_len-digits xs ys h none) (drop-append_seam xs ys)
@@ -54,7 +54,7 @@ unit-no_digit DidotPoint = refl
 unit-no_digit Cicero = refl
 unit-no_digit ScaledPoint = refl
 
--- a unit's own name names it
+-- A unit's own name names it.
 pub unit_named-text : (u : LengthUnit) → unit_named (unit_text u) ≡ Some u
 unfolding unit_named
 unit_named-text Point = refl
@@ -109,7 +109,7 @@ behind_fraction-text (Some ds) u h = behind_digits-append ds (unit_text u) h (un
 
 -- The sign.
 
--- no sign stands first
+-- The text does not begin with a sign.
 pub record NoSignFirst (text : List ℕ) : Type 0 where
   pub behind : behind_sign text ≡ text
   pub negative : is_negative text ≡ false
@@ -140,7 +140,7 @@ body-no_sign (c ∷ cs) fraction u h =
     let r = digit_code c (and_parts (is_ascii_digit c) (all_ascii_digits cs) h).0 in
     no_sign c (cs ++ (fraction_text fraction ++ unit_text u)) (omega arith) (omega arith)
 
--- the sign is a minus
+-- The sign is a minus.
 abbrev is_minus : Sign → Bool
 is_minus unsigned = false
 is_minus plus = false
@@ -158,7 +158,7 @@ is_negative-text unsigned body h = h.negative
 is_negative-text plus body h = refl
 is_negative-text minus body h = refl
 
-with_minus-sign : (sign : Sign) (n : ℕ) → with_minus (is_minus sign) n ≡ signed sign n
+with_minus-sign : (sign : Sign) (n : ℕ) → with_minus (is_minus sign) n ≡ with_sign sign n
 with_minus-sign unsigned n = refl
 with_minus-sign plus n = refl
 with_minus-sign minus n = refl
@@ -171,7 +171,7 @@ written_value-some negative [] [] u h = absurd (omega arith)
 written_value-some negative [] (d ∷ ds) u h = rw (ne_eqb (suc (length ds)) 0 (omega arith)) refl
 written_value-some negative (c ∷ cs) fraction u h = rw (ne_eqb (suc (length cs)) 0 (omega arith)) refl
 
--- the text that parts write has their value
+-- The text with these parts has their value.
 pub dimension_value-parts : (p : DimensionParts) → all_ascii_digits p.whole ≡ true → all_ascii_digits (fraction_digits p.fraction) ≡ true → 0 < length p.whole + length (fraction_digits p.fraction) → dimension_value (parts_text p) ≡ Some (parts_value p)
 unfolding dimension_value
 dimension_value-parts p w f some =
@@ -186,13 +186,13 @@ dimension_value-parts p w f some =
     let unit : unit_named (behind_fraction (behind_digits (behind_sign (parts_text p)))) ≡ Some p.unit = ap unit_named (ap behind_fraction behind ∙ behind_fraction-text p.fraction p.unit f) ∙ unit_named-text p.unit in
     rw (is_negative-text p.sign body no_sign_first, front, points, unit) (written_value-some (is_minus p.sign) p.whole (fraction_digits p.fraction) p.unit some ∙ ap Some (with_minus-sign p.sign (scaled_points p.unit (digits_value 10 p.whole) (decimal_fraction (fraction_digits p.fraction)))))
 
--- a dimension text has the value that the function gives
+-- A dimension text has the value that the function gives.
 pub dimension_value-from_text : (text : List ℕ) (value : ℤ) → IsDimensionText text value → dimension_value text ≡ Some value
 dimension_value-from_text text value d = ap dimension_value d.text_is ∙ dimension_value-parts d.parts d.whole d.fraction d.some_digit ∙ ap Some (sym d.value_is)
 
 -- From the text to its parts.
 
--- the sign that stands first
+-- The sign at the beginning of a text.
 abbrev sign_of : List ℕ → Sign
 sign_of [] = unsigned
 sign_of (c ∷ cs) = cond (eqb c 45) minus (cond (eqb c 43) plus unsigned)
@@ -227,7 +227,7 @@ front_digits-digits : (text : List ℕ) → all_ascii_digits (front_digits text)
 unfolding front_digits
 front_digits-digits text = front_are_digits text
 
--- the point and its digits
+-- The point and its digits.
 abbrev fraction_at : List ℕ → Option (List ℕ)
 fraction_at [] = None
 fraction_at (c ∷ cs) = cond (eqb c 46) (Some (front_digits cs)) None
@@ -262,12 +262,12 @@ unfolding point_digits
 point_digits-digits [] = refl
 point_digits-digits (c ∷ cs) = point_are_step c cs (eqb c 46) refl
 
--- the name of a unit that was found is its text
+-- The name of a unit that was found is its text.
 named_text : (text : List ℕ) (u : LengthUnit) → unit_named text ≡ Some u → text ≡ unit_text u
 unfolding unit_named
 named_text text u h = grind (arith, bytes_eq-Decides)
 
--- a value has a digit and a unit
+-- A value has a digit and a unit.
 pub record IsMeasured (negative : Bool) (whole fraction : List ℕ) (unit : Option LengthUnit) (value : ℤ) : Type 0 where
   pub found : LengthUnit
   pub unit_is : unit ≡ Some found
@@ -295,10 +295,10 @@ measured_parts negative [] [] (Some u) value h = let e = written_value-no_digit 
 measured_parts negative [] (d ∷ ds) (Some u) value h = measured_value negative [] (d ∷ ds) u value (omega arith) h
 measured_parts negative (c ∷ cs) fraction (Some u) value h = measured_value negative (c ∷ cs) fraction u value (omega arith) h
 
-value_by_sign : (negative : Bool) (sign : Sign) (whole read written : List ℕ) (u : LengthUnit) → negative ≡ is_minus sign → read ≡ written → with_minus negative (scaled_points u (digits_value 10 whole) (decimal_fraction read)) ≡ signed sign (scaled_points u (digits_value 10 whole) (decimal_fraction written))
+value_by_sign : (negative : Bool) (sign : Sign) (whole read written : List ℕ) (u : LengthUnit) → negative ≡ is_minus sign → read ≡ written → with_minus negative (scaled_points u (digits_value 10 whole) (decimal_fraction read)) ≡ with_sign sign (scaled_points u (digits_value 10 whole) (decimal_fraction written))
 value_by_sign negative sign whole read written u e f = rw (e, f) (with_minus-sign sign (scaled_points u (digits_value 10 whole) (decimal_fraction written)))
 
--- where the function gives a value, the text is a dimension text of that value
+-- If the function gives a value, the text is a dimension text of that value.
 pub IsDimensionText-from_value : (text : List ℕ) (value : ℤ) → dimension_value text ≡ Some value → IsDimensionText text value
 unfolding dimension_value
 IsDimensionText-from_value text value h =

@@ -7,57 +7,57 @@ use Rattle.scaled_core.specs.Dimensions.{Fits}
 use Rattle.scaled_core.specs.Rounding.{nearest}
 use Rattle.scaled_core.specs.Units.{unit_text, scaled_points}
 
--- the fraction 0.DIGITS in 65536ths, to the nearest, halves upward (TeX: The Program, part 7, §102, round_decimals); digits after the 17th do not
--- count (TeX: The Program, part 26, §452)
+-- The fraction 0.DIGITS in 65536ths, rounded to the nearest, halves upward (TeX: The Program, part 7, §102, round_decimals). Digits after the 17th do
+-- not count (TeX: The Program, part 26, §452).
 unfoldable pub decimal_fraction : List ℕ → ℕ
 decimal_fraction digits = nearest (digits_value 10 (take 17 digits) * 65536) (10 ^ length (take 17 digits))
 
--- the sign of a dimension text, or none (TeX: The Program, part 26)
+-- The sign of a dimension text, if there is one (TeX: The Program, part 26).
 pub data Sign : Type 0 where
   unsigned : Sign
   plus : Sign
   minus : Sign
 
--- how a sign is written (TeX: The Program, part 26)
+-- How a sign is written (TeX: The Program, part 26).
 abbrev pub sign_text : Sign → List ℕ
 sign_text unsigned = []
 sign_text plus = codes "+"
 sign_text minus = codes "-"
 
--- the number of that sign and size (own)
-abbrev pub signed : Sign → ℕ → ℤ
-signed unsigned n = pos n
-signed plus n = pos n
-signed minus n = neg_ℤ (pos n)
+-- The number with this sign and absolute value (own).
+abbrev pub with_sign : Sign → ℕ → ℤ
+with_sign unsigned n = pos n
+with_sign plus n = pos n
+with_sign minus n = neg_ℤ (pos n)
 
--- the parts of a dimension text; with no fraction there is no point (TeX: The Program, part 26, §448)
+-- The parts of a dimension text; without a fraction there is no point (TeX: The Program, part 26, §448).
 pub record DimensionParts : Type 0 where
   pub sign : Sign
   pub whole : List ℕ
   pub fraction : Option (List ℕ)
   pub unit : LengthUnit
 
--- the digits behind the point, if there is one (own)
+-- The digits after the point, if there is one (own).
 abbrev pub fraction_digits : Option (List ℕ) → List ℕ
 fraction_digits None = []
 fraction_digits (Some digits) = digits
 
--- the point and the digits behind it (TeX: The Program, part 26, §452)
+-- The point and the digits after it (TeX: The Program, part 26, §452).
 abbrev pub fraction_text : Option (List ℕ) → List ℕ
 fraction_text None = []
 fraction_text (Some digits) = codes "." ++ digits
 
--- the text that the parts write (TeX: The Program, part 26, §448)
+-- The text with these parts (TeX: The Program, part 26, §448).
 abbrev pub parts_text : DimensionParts → List ℕ
 parts_text p = sign_text p.sign ++ (p.whole ++ (fraction_text p.fraction ++ unit_text p.unit))
 
--- the number of scaled points that the parts give (TeX: The Program, part 26, §448)
+-- The number of scaled points that the parts write (TeX: The Program, part 26, §448).
 abbrev pub parts_value : DimensionParts → ℤ
-parts_value p = signed p.sign (scaled_points p.unit (digits_value 10 p.whole) (decimal_fraction (fraction_digits p.fraction)))
+parts_value p = with_sign p.sign (scaled_points p.unit (digits_value 10 p.whole) (decimal_fraction (fraction_digits p.fraction)))
 
--- the text writes a dimension of that many scaled points, which may be too large to fit: an optional sign, digits with at most one point among them
--- and at least one digit, and a unit with no space before it (TeX: The Program, part 26, §448, scan_dimen; that no space, comma, second sign or other
--- unit is taken is own)
+-- The text writes a dimension of this number of scaled points, which may be too large to fit: an optional sign, digits with at most one point among
+-- them and at least one digit, and a unit with no space before it (TeX: The Program, part 26, §448, scan_dimen; that no space, comma, second sign or
+-- other unit is taken is own).
 pub record IsDimensionText (text : List ℕ) (value : ℤ) : Type 0 where
   pub parts : DimensionParts
   pub whole : IsTrue (all_ascii_digits parts.whole)
@@ -66,12 +66,12 @@ pub record IsDimensionText (text : List ℕ) (value : ℤ) : Type 0 where
   pub text_is : text ≡ parts_text parts
   pub value_is : value ≡ parts_value parts
 
--- the text writes a dimension that does not fit (own)
+-- The text writes a dimension that does not fit (own).
 pub record IsTooLargeText (text : List ℕ) : Type 0 where
   pub value : ℤ
   pub written : IsDimensionText text value
   pub misfit : Fits value → ⊥
 
--- the text writes no dimension (own)
+-- The text writes no dimension (own).
 abbrev pub IsNoDimension : List ℕ → Type 0
 IsNoDimension text = (value : ℤ) → IsDimensionText text value → ⊥

@@ -2,11 +2,11 @@
 use Rattle.std.specs.Prelude.{ℤ, ◌*ℤ◌, unsigned_abs}
 use Rattle.scaled_core.specs.Rounding.{rounded}
 
--- num / den, with den above 0 (own)
+-- The fraction num / den, with den above 0 (own).
 pub record Fraction : Type 0 where
   pub num : ℤ
   pub den : ℤ
 
--- a fraction of an amount, rounded to the nearest whole number, halves away from zero (own)
+-- A fraction times an amount, rounded to the nearest whole number, halves away from zero (own).
 unfoldable pub round_times : Fraction → ℤ → ℤ
 round_times f amount = rounded (f.num *ℤ amount) (unsigned_abs f.den)

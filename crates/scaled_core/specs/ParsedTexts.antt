@@ -1,4 +1,4 @@
--- The value of a text as a function: its parts from the left (own, after TeX: The Program, part 26, §448, scan_dimen).
+-- The value of a text as a function that takes its parts from left to right (own, after TeX: The Program, part 26, §448, scan_dimen).
 use Rattle.std.specs.Prelude.{◌==◌, ℕ, ℤ, pos, neg_ℤ, Bool, true, false, ◌&&◌, if◌then◌else◌, List, [], ◌∷◌, Option, None, Some, Result, Ok, Err, length, drop, option_map}
 use Rattle.std.specs.List.{find, prefix_len, take_while}
 use Rattle.std.specs.Char.{is_ascii_digit}
@@ -12,65 +12,65 @@ use Rattle.scaled_core.specs.Dimensions.{fits}
 use Rattle.scaled_core.specs.DimensionTexts.{decimal_fraction}
 use Rattle.scaled_core.specs.Units.{scaled_points, unit_text}
 
--- all units (TeX: The Program, part 26, §453 and §458)
+-- All units (TeX: The Program, part 26, §453 and §458).
 abbrev pub units : List LengthUnit
 units = Point ∷ Inch ∷ Pica ∷ Centimeter ∷ Millimeter ∷ BigPoint ∷ DidotPoint ∷ Cicero ∷ ScaledPoint ∷ []
 
--- the unit that is written so, if there is one (TeX: The Program, part 26, §453 and §458)
+-- The unit with this text, if there is one (TeX: The Program, part 26, §453 and §458).
 unfoldable pub unit_named : List ℕ → Option LengthUnit
 unit_named text = find (λ u. bytes_eq text (unit_text u)) units
 
--- a minus stands first (own)
+-- The text begins with a minus (own).
 unfoldable pub is_negative : List ℕ → Bool
 is_negative [] = false
 is_negative (c ∷ cs) = c == 45
 
--- the text behind an optional sign (own)
+-- The text after an optional sign (own).
 unfoldable pub behind_sign : List ℕ → List ℕ
 behind_sign [] = []
 behind_sign (c ∷ cs) = if c == 45 then cs else (if c == 43 then cs else c ∷ cs)
 
--- the digits from the front on (own)
+-- The digits at the beginning of the text (own).
 unfoldable pub front_digits : List ℕ → List ℕ
 front_digits text = take_while is_ascii_digit text
 
--- the text behind the digits at the front (own)
+-- The text after the digits at its beginning (own).
 unfoldable pub behind_digits : List ℕ → List ℕ
 behind_digits text = drop (prefix_len is_ascii_digit text) text
 
--- the digits behind a point that stands first, or none (own)
+-- The digits after a point at the beginning of the text, or none (own).
 unfoldable pub point_digits : List ℕ → List ℕ
 point_digits [] = []
 point_digits (c ∷ cs) = if c == 46 then front_digits cs else []
 
--- the text behind an optional point and its digits (own)
+-- The text after an optional point and its digits (own).
 unfoldable pub behind_fraction : List ℕ → List ℕ
 behind_fraction [] = []
 behind_fraction (c ∷ cs) = if c == 46 then behind_digits cs else c ∷ cs
 
--- the number of that size, with a minus or without (own)
+-- The number of this size, negative or not (own).
 abbrev pub with_minus : Bool → ℕ → ℤ
 with_minus true n = neg_ℤ (pos n)
 with_minus false n = pos n
 
--- the value of a number of that sign, those digits before and behind the point, and that unit; none where there is no digit or no unit
--- (TeX: The Program, part 26, §448)
+-- The value of a number with this sign, these digits before and after the point, and this unit; none if there is no digit or no unit (TeX: The
+-- Program, part 26, §448).
 unfoldable pub written_value : Bool → List ℕ → List ℕ → Option LengthUnit → Option ℤ
 written_value negative whole fraction unit =
     if (length whole == 0) && (length fraction == 0) then None
     else option_map (λ u. with_minus negative (scaled_points u (digits_value 10 whole) (decimal_fraction fraction))) unit
 
--- the number of scaled points that a dimension text writes; none exactly where the text is no dimension (TeX: The Program, part 26, §448, scan_dimen)
+-- The number of scaled points that a dimension text writes; none exactly when the text is no dimension (TeX: The Program, part 26, §448, scan_dimen).
 unfoldable pub dimension_value : List ℕ → Option ℤ
 dimension_value text =
     let number = behind_sign text in
     written_value (is_negative text) (front_digits number) (point_digits (behind_digits number)) (unit_named (behind_fraction (behind_digits number)))
 
--- the dimension of a value, or why there is none: no value, or one that does not fit (own)
+-- The dimension of a value, or why there is none: no value, or a value that does not fit (own).
 unfoldable pub parsed_value : Option ℤ → Result ℤ DimenFault
 parsed_value None = Err NotADimension
 parsed_value (Some value) = if fits value then Ok value else Err TooLarge
 
--- what reading a text gives: its dimension, or why there is none (own)
+-- What reading a text returns: its dimension, or why there is none (own).
 unfoldable pub read_dimension : List ℕ → Result ℤ DimenFault
 read_dimension text = parsed_value (dimension_value text)

@@ -3,39 +3,40 @@ use Rattle.std.specs.Prelude.{◌==◌, ℕ, ℤ, pos, negsuc, if◌then◌else�
 use Rattle.std.specs.List.{find}
 use Rattle.scaled_core.specs.Rounding.{nearest}
 
--- the last digits of n, that many of them (own)
+-- The last `count` digits of n (own).
 abbrev pub last_digits : ℕ → ℕ → List ℕ
 last_digits zero n = []
 last_digits (suc count) n = last_digits count (n / 10) ++ (48 + n % 10) ∷ []
 
--- the decimal with that many places nearest to f / 65536, halves upward, as a number of its last places (own)
+-- The decimal with this number of places nearest to f / 65536, halves upward, as a number of units of its last place (own).
 unfoldable pub nearest_decimal : ℕ → ℕ → ℕ
 nearest_decimal f places = nearest (f * 10 ^ places) 65536
 
--- whether the decimal with that many places nearest to f / 65536, read as a fraction, is f again (own)
+-- Whether the decimal with this number of places nearest to f / 65536 reads back as f (own).
 unfoldable pub reads_back : ℕ → ℕ → Bool
 reads_back f places = nearest (nearest_decimal f places * 65536) (10 ^ places) == f
 
--- the least number of places, from 1 on, with which f reads back; 5 always do (TeX: The Program, part 7, §103, print_scaled)
+-- The least number of places, from 1 on, with which f reads back; 5 places always do (TeX: The Program, part 7, §103, print_scaled).
 unfoldable pub fraction_places : ℕ → ℕ
 fraction_places f = unwrap_or (find (reads_back f) (1 ∷ 2 ∷ 3 ∷ 4 ∷ [])) 5
 
--- the digits behind the point of f 65536ths: the decimal nearest to them with the fewest places that reads back
--- (TeX: The Program, part 7, §103, print_scaled)
+-- The digits after the point of f 65536ths: the nearest decimal with the fewest places that reads back (TeX: The Program, part 7, §103,
+-- print_scaled).
 unfoldable pub shortest_fraction : ℕ → List ℕ
 shortest_fraction f = last_digits (fraction_places f) (nearest_decimal f (fraction_places f))
 
--- the text of n scaled points, in points and without its unit (TeX: The Program, part 7, §103, print_scaled)
+-- The text of n scaled points, in points and without the unit (TeX: The Program, part 7, §103, print_scaled).
 unfoldable pub size_text : ℕ → List ℕ
 size_text n = decimal (n / 65536) ++ (codes "." ++ shortest_fraction (n % 65536))
 
--- the printed text of a dimension, without its unit (TeX: The Program, part 7, §103, print_scaled)
+-- The printed text of a dimension, in points and without the unit (TeX: The Program, part 7, §103, print_scaled).
 unfoldable pub dimension_text : ℤ → List ℕ
 dimension_text (pos n) = size_text n
 dimension_text (negsuc n) = codes "-" ++ size_text (suc n)
 
--- TeX's own rule for the digits behind the point, so many turns at most, from what is left and a unit: the law `print_scaled_digits` says that
--- five turns are enough, and that they are those of `shortest_fraction` (TeX: The Program, part 7, §103, print_scaled)
+-- TeX's own loop for the digits after the point, cut off after a number of turns, from the remainder s and the unit delta. The law
+-- `print_scaled_digits` says that five turns are enough, and that its digits are those of `shortest_fraction` (TeX: The Program, part 7, §103,
+-- print_scaled).
 unfoldable pub print_scaled : ℕ → ℕ → ℕ → List ℕ
 print_scaled zero s delta = []
 print_scaled (suc turns) s delta =

@@ -3,7 +3,7 @@ use Rattle.std.specs.Prelude.{ℕ, ◌+◌, ◌*◌, ◌/◌, List, codes}
 use Rattle.scaled_core.specs.declared.units.LengthUnit.{LengthUnit}
 use Rattle.scaled_core.specs.declared.units.LengthUnit.TheVariants.{Point, Inch, Pica, Centimeter, Millimeter, BigPoint, DidotPoint, Cicero, ScaledPoint}
 
--- how a unit is written (TeX: The Program, part 26, §453 and §458)
+-- How a unit is written (TeX: The Program, part 26, §453 and §458).
 abbrev pub unit_text : LengthUnit → List ℕ
 unit_text Point = codes "pt"
 unit_text Inch = codes "in"
@@ -15,11 +15,11 @@ unit_text DidotPoint = codes "dd"
 unit_text Cicero = codes "cc"
 unit_text ScaledPoint = codes "sp"
 
--- n + f / 65536 units of num / den points each, in scaled points, rounded down (TeX: The Program, part 26, §458)
+-- The size of n + f / 65536 units of num / den points each, in scaled points, rounded down (TeX: The Program, part 26, §458).
 unfoldable pub of_points : ℕ → ℕ → ℕ → ℕ → ℕ
 of_points n f num den = (65536 * n + f) * num / den
 
--- n + f / 65536 units in scaled points, rounded down; of scaled points the fraction is dropped (TeX: The Program, part 26, §453 and §458)
+-- The size of n + f / 65536 units in scaled points, rounded down; for the unit sp the fraction is dropped (TeX: The Program, part 26, §453 and §458).
 abbrev pub scaled_points : LengthUnit → ℕ → ℕ → ℕ
 scaled_points Point n f = of_points n f 1 1
 scaled_points Inch n f = of_points n f 7227 100

@@ -26,7 +26,7 @@ impl Model for Dimen {
 }
 
 impl Dimen {
-    /// No length at all: 0 sp.
+    /// The length 0 sp.
     pub const ZERO: Dimen = Dimen { value: 0 };
 
     /// The greatest length: 1073741823 sp (TeX: The Program, part 26, `max_dimen`).
@@ -34,10 +34,10 @@ impl Dimen {
         value: 1_073_741_823,
     };
 
-    /// -1000pt: a depth that counts as none (TeX: The Program, part 16, `ignore_depth`).
+    /// -1000pt: a previous depth with this value suppresses interline glue (TeX: The Program, part 16, `ignore_depth`).
     pub const IGNORE_DEPTH: Dimen = Dimen { value: -65_536_000 };
 
-    /// So many points, of 65,536 sp each.
+    /// The dimension of `number` points, of 65,536 sp each.
     pub fn points(number: u8) -> Dimen
         ensures { result ≡ pos (65536 * number) }
     {
@@ -46,7 +46,7 @@ impl Dimen {
         }
     }
 
-    /// The dimension of that many scaled points, or None exactly where the number does not fit.
+    /// The dimension of `value` scaled points, or `None` exactly when the number does not fit.
     pub fn try_new(value: i64) -> Option<Dimen>
         ensures fits { SomeIff result (Fits value) value }
         ensures value { result ≡ dimension_of value }
@@ -54,7 +54,7 @@ impl Dimen {
         Dimen::from_wide(i128::from(value))
     }
 
-    /// The dimension of a sum of scaled points, or None exactly where the sum does not fit.
+    /// The dimension of `value` scaled points, where `value` is a wide sum, or `None` exactly when it does not fit.
     #[tactic(auto, using(crate::proofs::Fitting::dimensions))]
     pub fn from_wide(value: i128) -> Option<Dimen>
         ensures fits { SomeIff result (Fits value) value }
@@ -71,7 +71,7 @@ impl Dimen {
         })
     }
 
-    /// The dimension of that many scaled points, which fit.
+    /// The dimension of `value` scaled points, which fit.
     pub fn new(value: i64) -> Dimen
         requires { Fits value }
         ensures { result ≡ value }
@@ -89,7 +89,7 @@ impl Dimen {
         self.value
     }
 
-    /// The dimension itself, of which it is then known that it fits: a clause sees the number of scaled points alone.
+    /// The same dimension, with the fact that it fits. A contract sees only the number of scaled points; call this where a proof needs its range.
     pub fn known_to_fit(self) -> Dimen
         ensures value { result ≡ self }
         ensures fits { Fits result }
@@ -97,30 +97,30 @@ impl Dimen {
         Dimen { value: self.value }
     }
 
-    /// The sum of two dimensions, in scaled points; it may be no dimension.
+    /// The sum of two dimensions, in scaled points; the sum may be no dimension.
     pub fn exact_add(self, other: Dimen) -> i64
         ensures value { result ≡ self +ℤ other }
-        ensures small { Within (2 ^ 31) result }
+        ensures value_bounded { Within (2 ^ 31) result }
     {
         i64::from(self.get()) + i64::from(other.get())
     }
 
-    /// How much more a dimension is than another, in scaled points; it may be no dimension.
+    /// This dimension minus another, in scaled points; the difference may be no dimension.
     pub fn exact_sub(self, other: Dimen) -> i64
         ensures value { result ≡ self -ℤ other }
-        ensures small { Within (2 ^ 31) result }
+        ensures value_bounded { Within (2 ^ 31) result }
     {
         i64::from(self.get()) - i64::from(other.get())
     }
 
-    /// The sum of two dimensions, or None exactly where it does not fit.
+    /// The sum of two dimensions, or `None` exactly when it does not fit.
     pub fn checked_add(self, other: Dimen) -> Option<Dimen>
         ensures { result ≡ dimension_of (self +ℤ other) }
     {
         Dimen::try_new(self.exact_add(other))
     }
 
-    /// How much more a dimension is than another, or None exactly where that does not fit.
+    /// This dimension minus another, or `None` exactly when the difference does not fit.
     pub fn checked_sub(self, other: Dimen) -> Option<Dimen>
         ensures { result ≡ dimension_of (self -ℤ other) }
     {

@@ -8,7 +8,7 @@ pub enum DimenFault {
     /// The text is a dimension whose absolute value is above 2^30 - 1 scaled points.
     #[error("the dimension is too large")]
     TooLarge,
-    /// The text is no dimension.
+    /// The text is not a dimension: a digit or the unit is missing, or there is something else in it.
     #[error("this is not a dimension")]
     NotADimension,
 }

@@ -1,4 +1,4 @@
-//! Laws of the definitions, each on a function that does nothing; and the values of the named dimensions.
+//! Laws of the definitions. A law is a function that does nothing, whose `ensures` is the statement.
 
 ghost use Rattle.std.specs.Prelude.{◌≡◌, ◌↔◌, ◌++◌, ◌+◌, ◌*◌, ◌<◌, ◌≤◌, ◌≤ℤ◌, ℕ, ℤ, pos, negsuc, List, Some, Ok, true, codes, length};
 ghost use Rattle.scaled_core.specs.Dimensions.{Fits, fits};
@@ -10,12 +10,12 @@ ghost use Rattle.scaled_core.specs.Badness.{IsBadness, badness_of};
 
 use crate::dimen::Dimen;
 
-/// The test of a dimension says that a number fits.
+/// The test `fits` holds exactly for the numbers that fit.
 pub fn numbers_that_fit()
     ensures { (z : ℤ) → (fits z ≡ true ↔ Fits z) }
 {}
 
-/// The named dimensions: no length, the greatest one, and the depth that counts as none.
+/// The values of the named dimensions: 0 sp, the greatest dimension, and the previous depth that suppresses interline glue.
 pub fn named_dimensions() -> (Dimen, Dimen, Dimen)
     ensures zero { result.0 ≡ pos 0 }
     ensures greatest { result.1 ≡ pos 1073741823 }
@@ -24,27 +24,26 @@ pub fn named_dimensions() -> (Dimen, Dimen, Dimen)
     (Dimen::ZERO, Dimen::MAX, Dimen::IGNORE_DEPTH)
 }
 
-/// A text writes a dimension exactly where `dimension_value` gives one, and it is the one that it gives: each text has at most
-/// one value.
+/// A text writes a dimension exactly when `dimension_value` gives one, and it is the same one: each text has at most one value.
 pub fn value_of_a_text()
     ensures { (text : List ℕ) → (value : ℤ) →
         (IsDimensionText text value ↔ (dimension_value text ≡ Some value)) }
 {}
 
-/// A printed dimension, with `pt` behind it, is a text of that dimension and reads back as it.
+/// A printed dimension, with `pt` after it, is a text of that dimension and reads back as it.
 pub fn printed_reads_back()
     ensures text { (d : ℤ) → Fits d → IsDimensionText (dimension_text d ++ codes "pt") d }
     ensures read { (d : ℤ) → Fits d → read_dimension (dimension_text d ++ codes "pt") ≡ Ok d }
 {}
 
-/// The printed digits behind the point are the fewest: no fewer digits write the same fraction.
+/// The printed digits after the point are as few as possible: no shorter sequence of digits writes the same fraction.
 pub fn printed_is_shortest()
     ensures { (f : ℕ) → (digits : List ℕ) → 0 < length digits → decimal_fraction digits ≡ f →
         length (shortest_fraction f) ≤ length digits }
 {}
 
-/// The printed digits behind the point are those of TeX's own rule, however many turns it is given from five on: it has stopped by then
-/// (TeX: The Program, part 7, §103, print_scaled).
+/// The printed digits after the point are those of TeX's own loop. Five turns are always enough for it (TeX: The Program, part 7, §103,
+/// print_scaled).
 pub fn print_scaled_digits()
     ensures { (turns f : ℕ) → 5 ≤ turns → f < 65536 → print_scaled turns (10 * f + 5) 10 ≡ shortest_fraction f }
 {}
@@ -54,26 +53,26 @@ pub fn one_inch()
     ensures { dimension_value (codes "1in") ≡ Some (pos 4736286) }
 {}
 
-/// The first value of `hsize`.
+/// The initial value of `hsize`, 6.5in.
 pub fn six_and_a_half_inches()
     ensures { dimension_value (codes "6.5in") ≡ Some (pos 30785863) }
 {}
 
-/// The greatest dimension: its text rounds up to it, and its printed text has another last digit.
+/// The greatest dimension: 16383.99999pt rounds up to it, and its printed text ends with another digit.
 pub fn greatest_dimension()
     ensures read { dimension_value (codes "16383.99999pt") ≡ Some (pos 1073741823) }
     ensures printed { dimension_text (pos 1073741823) ≡ codes "16383.99998" }
 {}
 
-/// Few scaled points are printed with five digits behind the point, a whole point with one, and a minus stands first.
+/// A small number of scaled points is printed with five digits after the point, a whole number of points with one, and a minus comes first.
 pub fn printed_texts()
     ensures five { dimension_text (pos 10) ≡ codes "0.00015" }
     ensures one { dimension_text (pos 65536) ≡ codes "1.0" }
     ensures minus { dimension_text (negsuc 65535) ≡ codes "-1.0" }
 {}
 
-/// A whole number is nearest to a fraction exactly where it is the one that `nearest` or `rounded` gives: there is one, for each
-/// denominator above 0.
+/// A whole number is nearest to a fraction exactly when it is the one that `nearest` or `rounded` gives: there is exactly one, for each denominator
+/// above 0.
 pub fn nearest_number()
     ensures upward { (n : ℕ) → (d : ℕ) → (q : ℕ) → 0 < d → (IsNearest n d q ↔ (q ≡ nearest n d)) }
     ensures away_from_zero { (x : ℤ) → (d : ℕ) → (q : ℤ) → 0 < d → (IsRounded x d q ↔ (q ≡ rounded x d)) }
@@ -89,14 +88,13 @@ pub fn rounded_fractions()
     ensures minus_two_thirds { rounded (negsuc 1) 3 ≡ negsuc 0 }
 {}
 
-/// A number is the badness of `t` for `s` exactly where it is the one that `badness_of` gives: there is one, for each `t` not
-/// below 0.
+/// A number is the badness of `t` for `s` exactly when it is the one that `badness_of` gives: there is exactly one, for each `t` not below 0.
 pub fn one_badness()
     ensures { (t : ℤ) → (s : ℤ) → (b : ℕ) → pos 0 ≤ℤ t → (IsBadness t s b ↔ (b ≡ badness_of t s)) }
 {}
 
-/// Glue that is stretched by all that it can stretch has badness 100; where it cannot stretch, 10000. From 7230585 on, the ratio
-/// is a quotient by `s / 297`, and where `s` is too small for that, it is `t` itself.
+/// Glue that is stretched by all that it can stretch has badness 100; if it cannot stretch, 10000. For `t` from 7230585 on, the ratio is a quotient
+/// by `s / 297`, and if `s` is too small for that, it is `t` itself.
 #[tactic(auto, unfolding(crate::specs::Badness::badness_of, crate::specs::Badness::badness_ratio, crate::specs::Badness::ratio_badness, crate::specs::Rounding::nearest))]
 pub fn badness_values()
     ensures whole { badness_of (pos 65536) (pos 65536) ≡ 100 }

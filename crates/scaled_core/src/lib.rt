@@ -1,6 +1,6 @@
 //! Scaled arithmetic: dimensions and their texts, badness, and exact fractions.
 //!
-//! All quantities are whole numbers of scaled points, of which 65536 make a printer's point.
+//! All quantities are whole numbers of scaled points (sp); 65,536 sp make a printer's point.
 #![tactic(auto)]
 
 pub mod dimen;

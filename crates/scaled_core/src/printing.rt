@@ -7,9 +7,8 @@ use crate::dimen::Dimen;
 use itoa::Buffer;
 use std::alloc::AllocError;
 
-/// Appends the text of a dimension in points, without a unit: the decimal with the fewest places, at least one, that reads
-/// back as the same number of scaled points (TeX: The Program, part 7, §103, print_scaled). Where memory is refused, `out` is
-/// as it was.
+/// Appends the text of a dimension in points, without a unit: the decimal with the fewest places, at least one, that reads back as the same number of
+/// scaled points (TeX: The Program, part 7, §103, print_scaled). If memory is refused, `out` is as it was before the call.
 pub fn print_dimen(dimension: Dimen, out: &mut Vec<u8>) -> Result<(), AllocError>
     ensures ok { OnOk result (out.new.items ≡ out.old.items ++ dimension_text dimension) }
     ensures err { OnErr result (out.new.items ≡ out.old.items) }
@@ -22,7 +21,7 @@ pub fn print_dimen(dimension: Dimen, out: &mut Vec<u8>) -> Result<(), AllocError
     printed
 }
 
-/// Appends the text of that many scaled points, or a front of it.
+/// Appends the text of `value` scaled points; if memory is refused, only the beginning of it.
 #[tactic(auto, unfolding(crate::specs::PrintedDimensions::dimension_text))]
 fn push_dimension(value: i32, out: &mut Vec<u8>) -> Result<(), AllocError>
     ensures ok { OnOk result (out.new.items ≡ out.old.items ++ dimension_text value) }
@@ -34,7 +33,7 @@ fn push_dimension(value: i32, out: &mut Vec<u8>) -> Result<(), AllocError>
     push_size(value.unsigned_abs(), out)
 }
 
-/// Appends the text of that many scaled points, or a front of it.
+/// Appends the text of `size` scaled points; if memory is refused, only the beginning of it.
 #[tactic(auto, unfolding(crate::specs::PrintedDimensions::size_text))]
 fn push_size(size: u32, out: &mut Vec<u8>) -> Result<(), AllocError>
     ensures ok { OnOk result (out.new.items ≡ out.old.items ++ size_text size) }
@@ -46,8 +45,8 @@ fn push_size(size: u32, out: &mut Vec<u8>) -> Result<(), AllocError>
     push_fraction(size % 65536, out)
 }
 
-/// Appends the digits behind the point of that many 65536ths, or a front of them: digit by digit, until what is left is less
-/// than half a 65536th, and five at most.
+/// Appends the digits after the point of `fraction` 65536ths, at most five, and stops once the remainder is within half a 65536th. If memory is
+/// refused, only the first digits are appended.
 fn push_fraction(fraction: u32, out: &mut Vec<u8>) -> Result<(), AllocError>
     requires { fraction < 65536 }
     ensures ok { OnOk result (out.new.items ≡ out.old.items ++ shortest_fraction fraction) }
@@ -67,7 +66,7 @@ fn push_fraction(fraction: u32, out: &mut Vec<u8>) -> Result<(), AllocError>
     Ok(())
 }
 
-/// At the fifth digit, the last one, what is left is rounded.
+/// The remainder with TeX's rounding, which applies only to the fifth and last digit.
 fn rounded_last(rest: u32, unit: u32) -> u32
     requires rest { rest < 2 ^ 31 }
     requires room { 65536 < unit → 17232 ≤ rest }

@@ -1,4 +1,4 @@
-//! Exact fractions, by which glue is set.
+//! Exact fractions, used as glue ratios.
 
 ghost use Rattle.std.specs.Prelude.{◌≡◌, ◌*ℤ◌, ◌<ℤ◌, ◌≤◌, ◌^◌, pos, unsigned_abs, IfSome};
 ghost use Rattle.scaled_core.specs.Dimensions.{Within};
@@ -8,11 +8,11 @@ ghost use Rattle.scaled_core.specs.Fractions.{round_times};
 use crate::rounding::{rounded, rounded_small};
 use std::marker::Model;
 
-/// A product of two numbers of at most this size is doubled in 64 bits, and has room for a denominator beside it.
+/// A product of two numbers of at most this size can be doubled in 64 bits, with space for a denominator added to it.
 const SMALL: u64 = 1 << 31;
 
-/// The exact fraction `num / den`, with `den` above 0, which need not be in lowest terms (own: TeX keeps glue ratios in floating
-/// point). `==` compares the two parts, so 1/2 and 2/4 differ.
+/// The exact fraction `num / den`, with `den` above 0, which need not be in lowest terms (own: TeX keeps glue ratios in floating point). `==`
+/// compares numerators and denominators, so 1/2 and 2/4 differ.
 #[derive(Clone, Copy, Debug, PartialEq, Eq)]
 pub struct Ratio {
     /// The numerator, of either sign.
@@ -43,13 +43,13 @@ impl Ratio {
         Ratio { num, den }
     }
 
-    /// `num * amount / den`, rounded to the nearest whole number, halves away from zero. The product is exact for every amount, and
-    /// the answer is at most 2^126 in size. Takes no memory.
+    /// `num * amount / den`, rounded to the nearest whole number, halves away from zero. The product is exact for every amount, and the result is at
+    /// most 2^126 in absolute value. Does not allocate.
     #[tactic(auto, unfolding(crate::specs::Fractions::round_times))]
     pub fn round_times(&self, amount: i64) -> i128
         ensures nearest { IsRounded (self.now.num *ℤ amount) (unsigned_abs self.now.den) result }
         ensures value { result ≡ round_times self.now amount }
-        ensures small { Within (2 ^ 126) result }
+        ensures value_bounded { Within (2 ^ 126) result }
     {
         let den = self.den as u64;
         match small_product(self.num, amount) {
@@ -59,10 +59,11 @@ impl Ratio {
     }
 }
 
-/// The product of two numbers in 64 bits, where neither is above 2^31 in size: nearly all numerators and amounts of pages are not.
+/// The product of two numbers in 64 bits, or `None` if one of them is above 2^31 in absolute value. Nearly all numerators and amounts on pages are
+/// small enough, and 64-bit division is much faster.
 fn small_product(a: i64, b: i64) -> Option<i64>
     ensures value { IfSome result (λ product. product ≡ a *ℤ b) }
-    ensures small { IfSome result (λ product. unsigned_abs product ≤ 2 ^ 62) }
+    ensures value_bounded { IfSome result (λ product. unsigned_abs product ≤ 2 ^ 62) }
 {
     if a.unsigned_abs() <= SMALL && b.unsigned_abs() <= SMALL {
         return Some(a * b);
@@ -70,10 +71,10 @@ fn small_product(a: i64, b: i64) -> Option<i64>
     None
 }
 
-/// The product of two numbers.
+/// The product of two numbers in 128 bits.
 fn product(a: i64, b: i64) -> i128
     ensures value { result ≡ a *ℤ b }
-    ensures small { unsigned_abs result ≤ 2 ^ 126 }
+    ensures value_bounded { unsigned_abs result ≤ 2 ^ 126 }
 {
     i128::from(a) * i128::from(b)
 }

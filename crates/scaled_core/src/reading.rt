@@ -15,9 +15,10 @@ use crate::fault::DimenFault;
 use crate::rounding::nearest;
 use crate::units::LengthUnit;
 
-/// The dimension that a text writes: an optional sign, digits with at most one `.` among them (at least one digit) and, with
-/// no space before it, a unit of pt, in, pc, cm, mm, bp, dd, cc, sp (TeX: The Program, part 26, §448, scan_dimen). `NotADimension`
-/// comes exactly where the text is none, and `TooLarge` exactly where its value does not fit. Takes no memory.
+/// The dimension that a text writes: an optional sign, at least one digit with at most one `.` among the digits, and a unit with no space before it,
+/// one of pt, in, pc, cm, mm, bp, dd, cc, sp (TeX: The Program, part 26, §448, scan_dimen). Does not allocate.
+///
+/// `NotADimension` is returned exactly when the text has another form, and `TooLarge` exactly when its value does not fit.
 pub fn parse_dimen(text: &[u8]) -> Result<Dimen, DimenFault>
     ensures ok { IfOk result (λ d. IsDimensionText text.now d) }
     ensures fits { IfOk result (λ d. Fits d) }
@@ -31,7 +32,8 @@ pub fn parse_dimen(text: &[u8]) -> Result<Dimen, DimenFault>
     written_value(negative, whole, fraction, LengthUnit::from_name(name))
 }
 
-/// The dimension that a text writes in points where it leaves their unit out: as `parse_dimen` reads the text with `pt` behind it. Takes no memory.
+/// The dimension in points that a text without a unit writes: as `parse_dimen` reads the text with `pt` after it, with the same errors. Does not
+/// allocate.
 pub fn parse_points(text: &[u8]) -> Result<Dimen, DimenFault>
     ensures ok { IfOk result (λ d. IsDimensionText (text.now ++ codes "pt") d) }
     ensures fits { IfOk result (λ d. Fits d) }
@@ -45,7 +47,7 @@ pub fn parse_points(text: &[u8]) -> Result<Dimen, DimenFault>
     written_value(negative, whole, fraction, unit_of_points(name))
 }
 
-/// The unit of a number of points that stands without one: none where anything stands in its place.
+/// The unit of a number of points without a unit: points if nothing follows the number, and otherwise none.
 #[tactic(auto, using(crate::proofs::PointTexts::points))]
 fn unit_of_points(name: &[u8]) -> Option<LengthUnit>
     ensures { result ≡ unit_named (name.now ++ codes "pt") }
@@ -56,7 +58,7 @@ fn unit_of_points(name: &[u8]) -> Option<LengthUnit>
     None
 }
 
-/// The dimension of that sign, those digits before and behind the point, and that unit.
+/// The dimension of a number with this sign, these digits before and after the point, and this unit.
 #[tactic(auto, using(crate::proofs::ReadingLemmas::measuring), unfolding(crate::specs::ParsedTexts::written_value))]
 fn written_value(
     negative: bool,
@@ -80,7 +82,7 @@ fn written_value(
     }
 }
 
-/// Whether a minus stands first, and the text behind the sign.
+/// Whether the text begins with a minus, and the text after the sign.
 #[tactic(auto, unfolding(crate::specs::ParsedTexts::is_negative, crate::specs::ParsedTexts::behind_sign))]
 fn after_sign(text: &[u8]) -> (bool, &[u8])
     ensures sign { result.0 ≡ is_negative text.now }
@@ -93,7 +95,7 @@ fn after_sign(text: &[u8]) -> (bool, &[u8])
     }
 }
 
-/// The digits from the front on, and the text behind them.
+/// The digits at the beginning of the text, and the text after them.
 #[tactic(auto, using(crate::proofs::DigitLemmas::digits), unfolding(crate::specs::ParsedTexts::front_digits, crate::specs::ParsedTexts::behind_digits))]
 fn digits_first(text: &[u8]) -> (&[u8], &[u8])
     ensures digits { result.0.now ≡ front_digits text.now }
@@ -103,7 +105,7 @@ fn digits_first(text: &[u8]) -> (&[u8], &[u8])
     text.split_at(digit_count(text))
 }
 
-/// How many digits stand at the front.
+/// The number of digits at the beginning of the text.
 fn digit_count(text: &[u8]) -> usize
     ensures count { result ≡ prefix_len is_ascii_digit text.now }
     ensures within { result ≤ length text.now }
@@ -111,7 +113,7 @@ fn digit_count(text: &[u8]) -> usize
     text.iter().take_while(|c| c.is_ascii_digit()).count()
 }
 
-/// The digits behind a point that stands first, and the text behind them.
+/// The digits after a point at the beginning of the text, if there is one, and the text after them.
 #[tactic(auto, unfolding(crate::specs::ParsedTexts::point_digits, crate::specs::ParsedTexts::behind_fraction))]
 fn fraction_first(text: &[u8]) -> (&[u8], &[u8])
     ensures digits { result.0.now ≡ point_digits text.now }
@@ -124,7 +126,7 @@ fn fraction_first(text: &[u8]) -> (&[u8], &[u8])
     }
 }
 
-/// The number that digits write, or `most` where it is greater.
+/// The number that the digits write, or `most` if it is greater. The cut keeps the loop within 64 bits.
 #[tactic(auto, using(crate::proofs::DigitLemmas::digits))]
 fn digits_number(digits: &[u8], most: u64) -> u64
     requires digits { IsTrue (all_ascii_digits digits.now) }
@@ -138,29 +140,29 @@ fn digits_number(digits: &[u8], most: u64) -> u64
     value
 }
 
-/// The fraction that the digits behind a point write, in 65536ths.
+/// The fraction that the digits after a point write, in 65536ths.
 #[tactic(auto, using(crate::proofs::DigitLemmas::digits), unfolding(crate::specs::DimensionTexts::decimal_fraction))]
 fn fraction_value(digits: &[u8]) -> u64
     requires { IsTrue (all_ascii_digits digits.now) }
     ensures value { result ≡ decimal_fraction digits.now }
-    ensures small { result ≤ 65536 }
+    ensures value_bounded { result ≤ 65536 }
 {
     short_fraction(&digits[..usize::min(17, digits.len())])
 }
 
-/// The fraction that at most 17 digits behind a point write, in 65536ths.
+/// The fraction that at most 17 digits after a point write, in 65536ths.
 #[tactic(auto, using(crate::proofs::DigitLemmas::fractions))]
 fn short_fraction(digits: &[u8]) -> u64
     requires digits { IsTrue (all_ascii_digits digits.now) }
-    requires short { length digits.now ≤ 17 }
+    requires length_bounded { length digits.now ≤ 17 }
     ensures value { result ≡ nearest (digits_value 10 digits.now * 65536) (10 ^ length digits.now) }
-    ensures small { result ≤ 65536 }
+    ensures value_bounded { result ≤ 65536 }
 {
     let value = u128::from(digits_number(digits, 100_000_000_000_000_000));
     nearest(value * 65536, 10u128.pow(digits.len() as u32)) as u64
 }
 
-/// The dimension of that size and sign, if it fits.
+/// The dimension of this size and sign, if it fits.
 #[tactic(auto, using(crate::proofs::ReadingLemmas::fitting))]
 fn fitting(negative: bool, size: u64) -> Result<Dimen, DimenFault>
     requires { size < 2 ^ 62 }

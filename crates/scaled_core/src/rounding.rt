@@ -12,7 +12,7 @@ pub fn nearest(n: u128, d: u128) -> u128
     requires not_zero { 0 < d }
     ensures nearest { IsNearest n d result }
     ensures value { result ≡ nearest n d }
-    ensures small { result ≤ n }
+    ensures value_bounded { result ≤ n }
 {
     (2 * n + d) / (2 * d)
 }
@@ -24,7 +24,7 @@ pub fn rounded(x: i128, d: u64) -> i128
     requires d { 0 < d }
     ensures nearest { IsRounded x d result }
     ensures value { result ≡ rounded x d }
-    ensures small { Within (2 ^ 126) result }
+    ensures value_bounded { Within (2 ^ 126) result }
 {
     let size = nearest(x.unsigned_abs(), u128::from(d)) as i128;
     if x < 0 {
@@ -41,7 +41,7 @@ fn nearest_small(n: u64, d: u64) -> u64
     requires not_zero { 0 < d }
     ensures nearest { IsNearest n d result }
     ensures value { result ≡ nearest n d }
-    ensures small { result ≤ n }
+    ensures value_bounded { result ≤ n }
 {
     let twice = 2 * n + d;
     twice / (2 * d)
@@ -55,7 +55,7 @@ pub fn rounded_small(x: i64, d: u64) -> i64
     requires not_zero { 0 < d }
     ensures nearest { IsRounded x d result }
     ensures value { result ≡ rounded x d }
-    ensures small { Within (2 ^ 62) result }
+    ensures value_bounded { Within (2 ^ 62) result }
 {
     let size = nearest_small(x.unsigned_abs(), d) as i64;
     if x < 0 { -size } else { size }

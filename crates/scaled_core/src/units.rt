@@ -13,22 +13,22 @@ pub enum LengthUnit {
     Inch,
     /// `pc`: 12 points.
     Pica,
-    /// `cm`: 254 of them are 100 inches.
+    /// `cm`: 254 cm are 100 inches.
     Centimeter,
     /// `mm`: a tenth of a centimeter.
     Millimeter,
-    /// `bp`: 72 of them are an inch.
+    /// `bp`: 72 bp are an inch.
     BigPoint,
-    /// `dd`: 1157 of them are 1238 points.
+    /// `dd`: 1157 dd are 1238 points.
     DidotPoint,
     /// `cc`: 12 didot points.
     Cicero,
-    /// `sp`: 65536 of them are a point.
+    /// `sp`: 65536 sp are a point.
     ScaledPoint,
 }
 
 impl LengthUnit {
-    /// The unit of that name, or None.
+    /// The unit with this name, or `None`.
     #[tactic(auto, unfolding(crate::specs::ParsedTexts::unit_named))]
     pub fn from_name(name: &[u8]) -> Option<LengthUnit>
         ensures { result ≡ unit_named name.now }
@@ -47,12 +47,12 @@ impl LengthUnit {
         }
     }
 
-    /// That many units and 65536ths of a unit in scaled points, rounded down.
+    /// `whole` units and `fraction` 65536ths of a unit, in scaled points, rounded down.
     pub fn size(self, whole: u64, fraction: u64) -> u64
         requires whole { whole ≤ 2 ^ 30 }
         requires fraction { fraction ≤ 65536 }
         ensures size { result ≡ scaled_points self whole fraction }
-        ensures small { result < 2 ^ 62 }
+        ensures value_bounded { result < 2 ^ 62 }
     {
         match self {
             LengthUnit::Point => of_points(whole, fraction, 1, 1),
@@ -68,7 +68,7 @@ impl LengthUnit {
     }
 }
 
-/// `whole + fraction / 65536` units of `num / den` points each in scaled points, rounded down.
+/// The size of `whole + fraction / 65536` units of `num / den` points each, in scaled points, rounded down.
 #[tactic(auto, unfolding(crate::specs::Units::of_points))]
 fn of_points(whole: u64, fraction: u64, num: u64, den: u64) -> u64
     requires whole { whole ≤ 2 ^ 30 }
@@ -76,7 +76,7 @@ fn of_points(whole: u64, fraction: u64, num: u64, den: u64) -> u64
     requires num { num < 2 ^ 14 }
     requires den { 0 < den }
     ensures size { result ≡ of_points whole fraction num den }
-    ensures small { result < 2 ^ 62 }
+    ensures value_bounded { result < 2 ^ 62 }
 {
     (65536 * whole + fraction) * num / den
 }

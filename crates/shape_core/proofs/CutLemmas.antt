@@ -1,9 +1,9 @@
--- A text is cut into its parts in one way.
+-- There is only one way to cut a text into its parts.
 use Rattle.std.proofs.Common.{◌≡◌, ◌↔◌, ℕ, zero, suc, ◌+◌, ◌++◌, ◌<◌, ◌≤◌, ◌&&◌, Bool, true, false, not, List, [], ◌∷◌, length, take, drop, refl, ap, sym, ◌∙◌, subst, arith, length-drop}
 use Rattle.std.specs.List.{list_all, prefix_len}
 use Rattle.std.proofs.Math.Seq.{take-append_seam}
 use Rattle.std.proofs.lemmas.List.{take-append-drop}
-use Rattle.shape_core.specs.Texts.{IsCut, nothing, spaces_first, word_first, Part, spaces, word, is_other, is_space, parts_of}
+use Rattle.shape_core.specs.Texts.{IsCut, nothing, spaces_first, word_first, TextPart, spaces, word, is_other, is_space, parts_of}
 use Rattle.shape_core.proofs.TextLemmas.{drop_next, parts_of-space, parts_of-word, passes, stops, take_next}
 
 both : (a b : Bool) → (a && b) ≡ true → (a ≡ true) × (b ≡ true)
@@ -29,7 +29,7 @@ drop_all_of : (xs ys : List ℕ) → drop (length xs) (xs ++ ys) ≡ ys
 drop_all_of [] ys = refl
 drop_all_of (x ∷ xs) ys = drop_all_of xs ys
 
--- a run ends where the rest begins with another character
+-- A run ends where the rest begins with another character.
 run_length : (p q : ℕ → Bool) → ((d : ℕ) → q d ≡ true → p d ≡ false) → (xs rest : List ℕ) → list_all p xs ≡ true → list_all q (take 1 rest) ≡ true → prefix_len p (xs ++ rest) ≡ length xs
 run_length p q other [] [] h e = refl
 run_length p q other [] (d ∷ rest) h e = stops p d rest (other d (both _ _ e).0)
@@ -59,14 +59,14 @@ parts_of-whole (c ∷ w) rest some h e =
     ∙ ap (λ t. word (c ∷ take (length w) (w ++ rest)) ∷ parts_of t) (drop_all_of w rest)
     ∙ ap (λ v. word (c ∷ v) ∷ parts_of rest) (take-append_seam w rest)
 
-cut_is_parts : {text : List ℕ} {parts : List Part} → IsCut text parts → parts ≡ parts_of text
+cut_is_parts : {text : List ℕ} {parts : List TextPart} → IsCut text parts → parts ≡ parts_of text
 cut_is_parts nothing = refl
 cut_is_parts (spaces_first run rest some h e t later) =
     ap (λ p. spaces ∷ p) (cut_is_parts later) ∙ sym (parts_of-run run rest some h e) ∙ ap parts_of (sym t)
 cut_is_parts (word_first w rest some h e t later) =
     ap (λ p. word w ∷ p) (cut_is_parts later) ∙ sym (parts_of-whole w rest some h e) ∙ ap parts_of (sym t)
 
--- the run in front passes, and what follows does not begin with one that passes
+-- The characters of the run at the front pass the test, and the rest does not begin with one that passes.
 front_by : (p : ℕ → Bool) (c : ℕ) (text : List ℕ) (b : Bool) → p c ≡ b → list_all p (take (prefix_len p text) text) ≡ true → list_all p (take (prefix_len p (c ∷ text)) (c ∷ text)) ≡ true
 front_by p c text true e later =
     ap (λ n. list_all p (take n (c ∷ text))) (passes p c text e) ∙ ap (list_all p) (take_next (prefix_len p text) c text) ∙ together _ _ e later
@@ -112,7 +112,7 @@ cut_within zero (c ∷ text) h = absurd (omega arith)
 cut_within (suc fuel) (c ∷ text) h =
     cut_by c text (is_space c) refl (λ n. cut_within fuel (drop n text) (omega (arith, length-drop n text)))
 
--- the parts of a text are the one list that it is cut into
-pub IsCut-is : (text : List ℕ) (parts : List Part) → (IsCut text parts ↔ (parts ≡ parts_of text))
+-- The parts of a text are the only list into which it is cut.
+pub IsCut-is : (text : List ℕ) (parts : List TextPart) → (IsCut text parts ↔ (parts ≡ parts_of text))
 IsCut-is text parts =
     (λ cut. cut_is_parts cut, λ e. subst (λ ps. IsCut text ps) (sym e) (cut_within (length text) text (omega arith)))

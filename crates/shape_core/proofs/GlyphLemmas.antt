@@ -6,7 +6,7 @@ use Rattle.tfm_core.specs.declared.font.GlyphSize.{GlyphSize}
 use Rattle.tfm_core.specs.declared.font.Step.{Step}
 use Rattle.tfm_core.specs.declared.font.Step.TheVariants.{Kern, Ligature}
 use Rattle.shape_core.specs.Shaping.{IsGlyphOf, items_from, outcome_at, outcome_items, outcome_next, outcome_of, shaped_items, step_to}
-use Rattle.shape_core.specs.Texts.{Part, spaces, word, part_items, parts_of, text_items}
+use Rattle.shape_core.specs.Texts.{TextPart, spaces, word, part_items, parts_of, text_items}
 
 each_append : {A : Type 0} (P : A → Type 0) (xs ys : List A) → AllByRecursion P xs → AllByRecursion P ys → AllByRecursion P (xs ++ ys)
 each_append P [] ys all more = more
@@ -29,19 +29,19 @@ module _ (slot : ℕ) (sizes : ℕ → Option GlyphSize) (steps : ℕ → ℕ �
       (outcome_glyphs slot sizes c (sizes c) (step_to sizes steps c (Some d)) refl)
       (items_from-glyphs (outcome_next d (outcome_at sizes steps c (Some d))) text)
 
-  -- the glyphs of a word
+  -- The glyphs of a word.
   pub shaped_items-glyphs : (text : List ℕ) → AllByRecursion (IsGlyphOf slot sizes) (shaped_items slot sizes steps text)
   shaped_items-glyphs [] = tt
   shaped_items-glyphs (c ∷ text) = items_from-glyphs c text
 
-  parts-glyphs : (blank : Glue) (parts : List Part) → AllByRecursion (IsGlyphOf slot sizes) (flat_map (part_items slot sizes steps blank) parts)
+  parts-glyphs : (blank : Glue) (parts : List TextPart) → AllByRecursion (IsGlyphOf slot sizes) (flat_map (part_items slot sizes steps blank) parts)
   parts-glyphs blank [] = tt
   parts-glyphs blank (spaces ∷ parts) = (tt, parts-glyphs blank parts)
   parts-glyphs blank ((word w) ∷ parts) =
       each_append (IsGlyphOf slot sizes) (shaped_items slot sizes steps w) (flat_map (part_items slot sizes steps blank) parts) (shaped_items-glyphs w)
       (parts-glyphs blank parts)
 
-  -- the glyphs of a text
+  -- The glyphs of a text.
   pub text_items-glyphs : (blank : Glue) (text : List ℕ) → AllByRecursion (IsGlyphOf slot sizes) (text_items slot sizes steps blank text)
   unfolding text_items
   text_items-glyphs blank text = parts-glyphs blank (parts_of text)

@@ -1,4 +1,4 @@
--- Shaping, the relation and the function.
+-- The relation `Shaping` and the functions that compute it.
 use Rattle.std.proofs.Common.{◌≡◌, ◌↔◌, ℕ, ℤ, ◌+◌, ◌++◌, ◌<◌, ◌≤◌, List, [], ◌∷◌, Option, Some, None, Result, Ok, Err, length, drop, get_or, refl, ap, sym, ◌∙◌, subst, arith, append-nil, append_assoc}
 use Rattle.std.specs.List.{slice_get}
 use Rattle.std.specs.Result.{IfOk, OnOk}
@@ -13,7 +13,7 @@ use Rattle.tfm_core.specs.declared.font.Step.{Step}
 use Rattle.tfm_core.specs.declared.font.Step.TheVariants.{Kern, Ligature}
 use Rattle.shape_core.specs.Shaping.{Shaping, empty, missing, alone, kern, ligature, glyph_node, items_from, missing_from, outcome_at, outcome_items, outcome_missing, outcome_next, outcome_of, shaped_items, shaped_missing, step_to}
 
--- one turn of the loop
+-- One step of the loop.
 items_from-drop : (slot : ℕ) (sizes : ℕ → Option GlyphSize) (steps : ℕ → ℕ → Option Step) (c : ℕ) (rest word : List ℕ) (d : ℕ) → rest ≡ d ∷ word → items_from slot sizes steps c rest ≡ outcome_items slot c (outcome_at sizes steps c (Some d)) ++ items_from slot sizes steps (outcome_next d (outcome_at sizes steps c (Some d))) word
 items_from-drop slot sizes steps c rest word d e = ap (items_from slot sizes steps c) e
 
@@ -31,12 +31,12 @@ turn-items slot sizes steps c word i all held new o n h e eo en em =
 pub turn-missing : (sizes : ℕ → Option GlyphSize) (steps : ℕ → ℕ → Option Step) (c : ℕ) (word : List ℕ) (i all held m n : ℕ) (o : Outcome) → i < length word → all ≡ held + missing_from sizes steps c (drop i word) → o ≡ outcome_at sizes steps c (Some (get_or word i 0)) → m ≡ outcome_missing o → n ≡ outcome_next (get_or word i 0) o → all ≡ held + m + missing_from sizes steps n (drop (i + 1) word)
 turn-missing sizes steps c word i all held m n o h e eo em en = rw (em, en, eo) (omega (arith, e, missing_from-turn sizes steps c word i h))
 
--- what becomes of the last character
+-- What the last character becomes.
 pub last-outcome : (sizes : ℕ → Option GlyphSize) (steps : ℕ → ℕ → Option Step) (c : ℕ) (size : Option GlyphSize) (o : Outcome) → size ≡ sizes c → o ≡ outcome_of size None → o ≡ outcome_at sizes steps c None
 unfolding outcome_at
 last-outcome sizes steps c size o at is = is ∙ ap (λ (s : Option GlyphSize). outcome_of s None) at
 
--- the end of the word
+-- The end of the word.
 pub end-items : (slot : ℕ) (sizes : ℕ → Option GlyphSize) (steps : ℕ → ℕ → Option Step) (c : ℕ) (word : List ℕ) (i : ℕ) (all held new : List Node) (o : Outcome) → length word ≤ i → all ≡ held ++ items_from slot sizes steps c (drop i word) → o ≡ outcome_at sizes steps c None → new ≡ held ++ outcome_items slot c o → new ≡ all
 end-items slot sizes steps c word i all held new o past e eo en =
     en ∙ (ap (λ o. held ++ outcome_items slot c o) eo ∙ (sym (ap (λ xs. held ++ items_from slot sizes steps c xs) (drop_of_length-le word past)) ∙ sym e))
@@ -45,7 +45,7 @@ pub end-missing : (sizes : ℕ → Option GlyphSize) (steps : ℕ → ℕ → Op
 end-missing sizes steps c word i all held m o past e eo em =
     ap (λ n. held + n) (em ∙ ap outcome_missing eo) ∙ (sym (ap (λ xs. held + missing_from sizes steps c xs) (drop_of_length-le word past)) ∙ sym e)
 
--- what becomes of a character, by the cases of its shaping
+-- What a character becomes, by the cases of its shaping.
 Shaping-case : (slot : ℕ) (sizes : ℕ → Option GlyphSize) (steps : ℕ → ℕ → Option Step) (c d : ℕ) (word : List ℕ) (size : Option GlyphSize) (step : Option Step) → sizes c ≡ size → step_to sizes steps c (Some d) ≡ step → ((e : ℕ) → Shaping slot sizes steps (e ∷ word) (items_from slot sizes steps e word) (missing_from sizes steps e word)) → Shaping slot sizes steps (c ∷ d ∷ word) (outcome_items slot c (outcome_of size step) ++ items_from slot sizes steps (outcome_next d (outcome_of size step)) word) (outcome_missing (outcome_of size step) + missing_from sizes steps (outcome_next d (outcome_of size step)) word)
 Shaping-case slot sizes steps c d word None step at behind later =
     subst (λ n. Shaping slot sizes steps (c ∷ d ∷ word) (items_from slot sizes steps d word) n) (omega arith) (missing at (later d))
@@ -66,12 +66,12 @@ Shaping-from slot sizes steps c [] = Shaping-last slot sizes steps c (sizes c) r
 Shaping-from slot sizes steps c (d ∷ word) =
     Shaping-case slot sizes steps c d word (sizes c) (step_to sizes steps c (Some d)) refl refl (λ e. Shaping-from slot sizes steps e word)
 
--- the function gives a shaping
+-- The functions give a shaping.
 pub Shaping-shaped : (slot : ℕ) (sizes : ℕ → Option GlyphSize) (steps : ℕ → ℕ → Option Step) (word : List ℕ) → Shaping slot sizes steps word (shaped_items slot sizes steps word) (shaped_missing sizes steps word)
 Shaping-shaped slot sizes steps [] = empty
 Shaping-shaped slot sizes steps (c ∷ word) = Shaping-from slot sizes steps c word
 
--- the first character of a word that is shaped
+-- The first character of a word that is shaped.
 shaped-missing : (slot : ℕ) (sizes : ℕ → Option GlyphSize) (steps : ℕ → ℕ → Option Step) (c : ℕ) (word : List ℕ) → sizes c ≡ None → (shaped_items slot sizes steps (c ∷ word) ≡ shaped_items slot sizes steps word) × (shaped_missing sizes steps (c ∷ word) ≡ shaped_missing sizes steps word + 1)
 unfolding outcome_at
 shaped-missing slot sizes steps c [] at = (rw at refl, rw at refl)
@@ -91,7 +91,7 @@ shaped-ligature : (slot : ℕ) (sizes : ℕ → Option GlyphSize) (steps : ℕ �
 unfolding outcome_at
 shaped-ligature slot sizes steps c d e size word at behind = (rw (at, behind) refl, rw (at, behind) (omega arith))
 
--- a word has no other shaping
+-- A word has no other shaping.
 pub shaped-unique : (slot : ℕ) (sizes : ℕ → Option GlyphSize) (steps : ℕ → ℕ → Option Step) {word : List ℕ} {items : List Node} {n : ℕ} → Shaping slot sizes steps word items n → (items ≡ shaped_items slot sizes steps word) × (n ≡ shaped_missing sizes steps word)
 shaped-unique slot sizes steps empty = (refl, refl)
 shaped-unique slot sizes steps (missing {c = c} {word = word} at rest) =
@@ -119,7 +119,7 @@ pub Shaping-is : (slot : ℕ) (sizes : ℕ → Option GlyphSize) (steps : ℕ �
 Shaping-is slot sizes steps word items n =
     (λ s. shaped-unique slot sizes steps s, λ same. Shaping-at slot sizes steps word items n same.0 same.1)
 
--- what was appended is a shaping
+-- The appended items are a shaping.
 Shaping-grown : (slot : ℕ) (sizes : ℕ → Option GlyphSize) (steps : ℕ → ℕ → Option Step) (word : List ℕ) (old new : List Node) (n : ℕ) → new ≡ old ++ shaped_items slot sizes steps word → n ≡ shaped_missing sizes steps word → (items : List Node) × (new ≡ old ++ items) × Shaping slot sizes steps word items n
 Shaping-grown slot sizes steps word old new n e f =
     (shaped_items slot sizes steps word, e, Shaping-at slot sizes steps word (shaped_items slot sizes steps word) n refl f)
@@ -128,7 +128,7 @@ pub Shaping-ok : {E : Type 0} (slot : ℕ) (sizes : ℕ → Option GlyphSize) (s
 Shaping-ok slot sizes steps word old new (Ok m) e f = Shaping-grown slot sizes steps word old new m.characters e f
 Shaping-ok slot sizes steps word old new (Err x) e f = tt
 
--- nothing is a shaping of nothing
+-- No items are a shaping of the empty word.
 pub Shaping-nothing : (slot : ℕ) (sizes : ℕ → Option GlyphSize) (steps : ℕ → ℕ → Option Step) (word : List ℕ) (old : List Node) → length word ≡ 0 → (items : List Node) × (old ≡ old ++ items) × Shaping slot sizes steps word items 0
 Shaping-nothing slot sizes steps [] old e = ([], sym (append-nil old), empty)
 Shaping-nothing slot sizes steps (c ∷ word) old e = absurd (omega arith)

@@ -8,7 +8,7 @@ use Rattle.node_core.specs.declared.tree.Glue.{Glue}
 use Rattle.node_core.specs.declared.tree.Node.{Node}
 use Rattle.tfm_core.specs.declared.font.GlyphSize.{GlyphSize}
 use Rattle.tfm_core.specs.declared.font.Step.{Step}
-use Rattle.shape_core.specs.Texts.{Part, spaces, word, is_other, is_space, parts_with, part_items, part_length, part_missing, part_of, parts_of, text_items, text_missing}
+use Rattle.shape_core.specs.Texts.{TextPart, spaces, word, is_other, is_space, parts_with, part_items, part_length, part_missing, part_of, parts_of, text_items, text_missing}
 
 pub drop_next : {X : Type 0} (n : ℕ) (x : X) (xs : List X) → drop (1 + n) (x ∷ xs) ≡ drop n xs
 drop_next n x xs = let e : 1 + n ≡ suc n = omega arith in rw e refl
@@ -22,14 +22,14 @@ passes p c text e = ap (λ b. cond b (1 + prefix_len p text) 0) e
 pub stops : (p : ℕ → Bool) (c : ℕ) (text : List ℕ) → p c ≡ false → prefix_len p (c ∷ text) ≡ 0
 stops p c text e = ap (λ b. cond b (1 + prefix_len p text) 0) e
 
--- a space before a word
-before_word : (c d : ℕ) (parts : List Part) → parts_with c true (parts_with d false parts) ≡ spaces ∷ parts_with d false parts
+-- A space before a word.
+before_word : (c d : ℕ) (parts : List TextPart) → parts_with c true (parts_with d false parts) ≡ spaces ∷ parts_with d false parts
 before_word c d [] = refl
 before_word c d (spaces ∷ parts) = refl
 before_word c d ((word w) ∷ parts) = refl
 
--- a character before spaces
-before_spaces : (c d : ℕ) (parts : List Part) → parts_with c false (parts_with d true parts) ≡ word (c ∷ []) ∷ parts_with d true parts
+-- A character before spaces.
+before_spaces : (c d : ℕ) (parts : List TextPart) → parts_with c false (parts_with d true parts) ≡ word (c ∷ []) ∷ parts_with d true parts
 before_spaces c d [] = refl
 before_spaces c d (spaces ∷ parts) = refl
 before_spaces c d ((word w) ∷ parts) = refl
@@ -44,7 +44,7 @@ next_space c d text false h later =
     let parts : parts_of (d ∷ text) ≡ parts_with d false (parts_of text) = ap (λ b. parts_with d b (parts_of text)) h in
     ap (parts_with c true) parts ∙ before_word c d (parts_of text) ∙ ap (λ p. spaces ∷ p) (sym parts) ∙ ap (λ t. spaces ∷ parts_of t) (sym front)
 
--- a space begins a run of spaces
+-- A space begins a run of spaces.
 pub parts_of-space : (c : ℕ) (text : List ℕ) → is_space c ≡ true → parts_of (c ∷ text) ≡ spaces ∷ parts_of (drop (prefix_len is_space text) text)
 parts_of-space c [] e = ap (λ b. parts_with c b []) e
 parts_of-space c (d ∷ text) e =
@@ -64,7 +64,7 @@ next_other c d text false h later =
     ∙ ap (λ t. word (c ∷ take (1 + n) (d ∷ text)) ∷ parts_of t) (sym (drop_next n d text))
     ∙ ap (λ n. word (c ∷ take n (d ∷ text)) ∷ parts_of (drop n (d ∷ text))) (sym length_is)
 
--- another character begins a word
+-- Another character begins a word.
 pub parts_of-word : (c : ℕ) (text : List ℕ) → is_space c ≡ false → parts_of (c ∷ text) ≡ word (c ∷ take (prefix_len is_other text) text) ∷ parts_of (drop (prefix_len is_other text) text)
 parts_of-word c [] e = ap (λ b. parts_with c b []) e
 parts_of-word c (d ∷ text) e =
@@ -92,7 +92,7 @@ front-by c text false e =
     ∙ ap (λ t. part_of (take (1 + n) (c ∷ text)) ∷ parts_of t) (sym (drop_next n c text))
     ∙ ap (λ n. part_of (take n (c ∷ text)) ∷ parts_of (drop n (c ∷ text))) (sym (length-by c text false e))
 
--- the first part and the rest
+-- The first part and the rest.
 parts_of-front : (text : List ℕ) → 0 < length text → parts_of text ≡ part_of (take (part_length text) text) ∷ parts_of (drop (part_length text) text)
 parts_of-front [] h = absurd (omega arith)
 parts_of-front (c ∷ text) h = front-by c text (is_space c) refl
@@ -158,7 +158,7 @@ text_missing-none sizes steps (c ∷ text) h = absurd (omega arith)
 
 pub ruleset turns = (text_items-turn, text_items-none, text_missing-turn, text_missing-none)
 
--- one turn of the loop
+-- One step of the loop.
 pub text_items-part : (slot : ℕ) (sizes : ℕ → Option GlyphSize) (steps : ℕ → ℕ → Option Step) (blank : Glue) (text part rest : List ℕ) (k : ℕ) (all nodes new : List Node) → 0 < length text → k ≡ part_length text → part ≡ take k text → rest ≡ drop k text → new ≡ nodes ++ part_items slot sizes steps blank (part_of part) → all ≡ nodes ++ text_items slot sizes steps blank text → all ≡ new ++ text_items slot sizes steps blank rest
 text_items-part slot sizes steps blank text part rest k all nodes new h l p r e f =
     let turned : text_items slot sizes steps blank text ≡ part_items slot sizes steps blank (part_of part) ++ text_items slot sizes steps blank rest =
@@ -172,7 +172,7 @@ text_missing-part sizes steps text part rest k all n m h l p r e f =
     rw (p, r, l) (text_missing-turn sizes steps text h) in
     omega (arith, turned, e, f)
 
--- the end of the loop
+-- The end of the loop.
 pub text_items-end : (slot : ℕ) (sizes : ℕ → Option GlyphSize) (steps : ℕ → ℕ → Option Step) (blank : Glue) (text : List ℕ) (nodes all : List Node) → length text ≡ 0 → all ≡ nodes ++ text_items slot sizes steps blank text → nodes ≡ all
 text_items-end slot sizes steps blank text nodes all h e =
     sym (e ∙ ap (λ later. nodes ++ later) (text_items-none slot sizes steps blank text h) ∙ append-nil nodes)

@@ -9,7 +9,7 @@ use Rattle.tfm_core.specs.declared.font.GlyphSize.{GlyphSize}
 use Rattle.tfm_core.specs.declared.font.Step.{Step}
 use Rattle.tfm_core.specs.declared.font.Step.TheVariants.{Kern, Ligature}
 
--- the glyph of a character (own)
+-- The glyph of a character (own).
 abbrev pub glyph_node : ℕ → ℕ → GlyphSize → Node
 glyph_node slot code size = Glyph (record {
   slot = slot;
@@ -19,15 +19,15 @@ glyph_node slot code size = Glyph (record {
   depth = size.depth;
 })
 
--- what stands between a character and the one that follows it; nothing where none follows, and nothing where the one that follows is not
--- in the font (own)
+-- The kern or ligature between a character and the one that follows it; nothing if no character follows, or if the font does not have the following
+-- one (own).
 abbrev pub step_to : (ℕ → Option GlyphSize) → (ℕ → ℕ → Option Step) → ℕ → Option ℕ → Option Step
 step_to sizes steps c None = None
 step_to sizes steps c (Some d) = if is_some (sizes d) then steps c d else None
 
--- these are the items of a word, and so many of its characters are missing, by cases on the word:
--- it is empty; its first character is not in the font, is dropped and counted (own); nothing stands between the first character and the next one; a
--- kern stands there; a ligature's character stands for both (TeX: The Program, part 46, §1029 to §1045; TFtoPL, 13)
+-- The items of a word and the number n of its missing characters, by cases: the word is empty; the font does not have its first character, which is
+-- dropped and counted (own); there is nothing between the first character and the next one; there is a kern between them; a ligature's character
+-- takes the place of both (TeX: The Program, part 46, §1029 to §1045; TFtoPL, 13).
 pub data Shaping (slot : ℕ) (sizes : ℕ → Option GlyphSize) (steps : ℕ → ℕ → Option Step) : List ℕ → List Node → ℕ → Type 0 where
   empty : Shaping slot sizes steps [] [] 0
   missing : {c : ℕ} {word : List ℕ} {items : List Node} {n : ℕ} → sizes c ≡ None
@@ -42,61 +42,61 @@ pub data Shaping (slot : ℕ) (sizes : ℕ → Option GlyphSize) (steps : ℕ �
       → step_to sizes steps c (Some d) ≡ Some (Ligature e)
       → Shaping slot sizes steps (e ∷ word) items n → Shaping slot sizes steps (c ∷ d ∷ word) items n
 
--- What becomes of a character, by its sizes and what stands behind it; from here on the items of a word are given by functions (own).
+-- What a character becomes, by its sizes and the step after it. The functions from here on compute the items of a word (own).
 abbrev pub outcome_of : Option GlyphSize → Option Step → Outcome
 outcome_of None step = Dropped
 outcome_of (Some size) None = Alone size
 outcome_of (Some size) (Some (Kern width)) = Kerned size width
 outcome_of (Some size) (Some (Ligature e)) = Joined e
 
--- what becomes of a character before the one that follows it, if one does (own)
+-- What a character becomes before the one that follows it, if one follows (own).
 unfoldable pub outcome_at : (ℕ → Option GlyphSize) → (ℕ → ℕ → Option Step) → ℕ → Option ℕ → Outcome
 outcome_at sizes steps c following = outcome_of (sizes c) (step_to sizes steps c following)
 
--- the items that a character gives, by what becomes of it (own)
+-- The items of a character, by what it becomes (own).
 abbrev pub outcome_items : ℕ → ℕ → Outcome → List Node
 outcome_items slot c Dropped = []
 outcome_items slot c (Alone size) = glyph_node slot c size ∷ []
 outcome_items slot c (Kerned size width) = glyph_node slot c size ∷ FontKern width ∷ []
 outcome_items slot c (Joined e) = []
 
--- how many characters are missing by what becomes of a character (own)
+-- The number of missing characters, by what a character becomes (own).
 abbrev pub outcome_missing : Outcome → ℕ
 outcome_missing Dropped = 1
 outcome_missing (Alone size) = 0
 outcome_missing (Kerned size width) = 0
 outcome_missing (Joined e) = 0
 
--- the character that the rest is shaped with, where d follows (own)
+-- The character with which shaping goes on, if d follows (own).
 abbrev pub outcome_next : ℕ → Outcome → ℕ
 outcome_next d Dropped = d
 outcome_next d (Alone size) = d
 outcome_next d (Kerned size width) = d
 outcome_next d (Joined e) = e
 
--- the items of a character and the word behind it (own)
+-- The items of a character and of the word after it (own).
 abbrev pub items_from : ℕ → (ℕ → Option GlyphSize) → (ℕ → ℕ → Option Step) → ℕ → List ℕ → List Node
 items_from slot sizes steps c [] = outcome_items slot c (outcome_at sizes steps c None)
 items_from slot sizes steps c (d ∷ word) =
     outcome_items slot c (outcome_at sizes steps c (Some d)) ++ items_from slot sizes steps (outcome_next d (outcome_at sizes steps c (Some d))) word
 
--- how many characters are missing, of a character and the word behind it (own)
+-- The number of missing characters among a character and the word after it (own).
 abbrev pub missing_from : (ℕ → Option GlyphSize) → (ℕ → ℕ → Option Step) → ℕ → List ℕ → ℕ
 missing_from sizes steps c [] = outcome_missing (outcome_at sizes steps c None)
 missing_from sizes steps c (d ∷ word) =
     outcome_missing (outcome_at sizes steps c (Some d)) + missing_from sizes steps (outcome_next d (outcome_at sizes steps c (Some d))) word
 
--- the items of a word (own)
+-- The items of a word (own).
 abbrev pub shaped_items : ℕ → (ℕ → Option GlyphSize) → (ℕ → ℕ → Option Step) → List ℕ → List Node
 shaped_items slot sizes steps [] = []
 shaped_items slot sizes steps (c ∷ word) = items_from slot sizes steps c word
 
--- how many characters of a word are missing (own)
+-- The number of missing characters of a word (own).
 abbrev pub shaped_missing : (ℕ → Option GlyphSize) → (ℕ → ℕ → Option Step) → List ℕ → ℕ
 shaped_missing sizes steps [] = 0
 shaped_missing sizes steps (c ∷ word) = missing_from sizes steps c word
 
--- a glyph is one of this slot and has the sizes of its character; no box comes of characters (own)
+-- A node that comes from characters: a glyph has this slot and the sizes of its character, and specials and boxes do not occur (own).
 abbrev pub IsGlyphOf : ℕ → (ℕ → Option GlyphSize) → Node → Type 0
 IsGlyphOf slot sizes (Glyph g) = (g.slot ≡ slot) × (sizes g.code ≡ Some (record { width = g.width; height = g.height; depth = g.depth }))
 IsGlyphOf slot sizes (FontKern width) = Unit {0}

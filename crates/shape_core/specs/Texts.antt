@@ -8,31 +8,31 @@ use Rattle.shape_core.specs.Shaping.{shaped_items, shaped_missing}
 use Rattle.tfm_core.specs.declared.font.GlyphSize.{GlyphSize}
 use Rattle.tfm_core.specs.declared.font.Step.{Step}
 
--- a part of a text: a run of spaces, however long, or a word (own)
-pub data Part : Type 0 where
-  spaces : Part
-  word : List ℕ → Part
+-- A part of a text: a run of spaces of any length, or a word (own).
+pub data TextPart : Type 0 where
+  spaces : TextPart
+  word : List ℕ → TextPart
 
--- a space is the character 32 (own)
+-- A space is the character 32 (own).
 abbrev pub is_space : ℕ → Bool
 is_space c = c == 32
 
--- any other character: it stands in a word (own)
+-- Any other character is part of a word (own).
 abbrev pub is_other : ℕ → Bool
 is_other c = not (is_space c)
 
--- a text is cut into its parts: each is a space or more, or a word of a character or more, as long as it can be (own)
-pub data IsCut : List ℕ → List Part → Type 0 where
+-- A text is cut into its parts: each is a run of one or more spaces or a word of one or more characters, as long as possible (own).
+pub data IsCut : List ℕ → List TextPart → Type 0 where
   nothing : IsCut [] []
-  spaces_first : (run rest : List ℕ) {text : List ℕ} {parts : List Part} → 0 < length run
+  spaces_first : (run rest : List ℕ) {text : List ℕ} {parts : List TextPart} → 0 < length run
       → list_all is_space run ≡ true → list_all is_other (take 1 rest) ≡ true → text ≡ run ++ rest
       → IsCut rest parts → IsCut text (spaces ∷ parts)
-  word_first : (w rest : List ℕ) {text : List ℕ} {parts : List Part} → 0 < length w
+  word_first : (w rest : List ℕ) {text : List ℕ} {parts : List TextPart} → 0 < length w
       → list_all is_other w ≡ true → list_all is_space (take 1 rest) ≡ true → text ≡ w ++ rest
       → IsCut rest parts → IsCut text (word w ∷ parts)
 
--- the parts with a character before them: a space joins a run of spaces, and another character a word (own)
-abbrev pub parts_with : ℕ → Bool → List Part → List Part
+-- The parts after a character is put before them: a space joins a run of spaces, and another character joins a word (own).
+abbrev pub parts_with : ℕ → Bool → List TextPart → List TextPart
 parts_with c true [] = spaces ∷ []
 parts_with c true (spaces ∷ parts) = spaces ∷ parts
 parts_with c true ((word w) ∷ parts) = spaces ∷ word w ∷ parts
@@ -40,35 +40,35 @@ parts_with c false [] = word (c ∷ []) ∷ []
 parts_with c false (spaces ∷ parts) = word (c ∷ []) ∷ spaces ∷ parts
 parts_with c false ((word w) ∷ parts) = word (c ∷ w) ∷ parts
 
--- the parts of a text (own)
-abbrev pub parts_of : List ℕ → List Part
+-- The parts of a text (own).
+abbrev pub parts_of : List ℕ → List TextPart
 parts_of [] = []
 parts_of (c ∷ text) = parts_with c (is_space c) (parts_of text)
 
--- the items of a part: a run of spaces is one glue (own)
-abbrev pub part_items : ℕ → (ℕ → Option GlyphSize) → (ℕ → ℕ → Option Step) → Glue → Part → List Node
+-- The items of a part: a run of spaces becomes one glue (own).
+abbrev pub part_items : ℕ → (ℕ → Option GlyphSize) → (ℕ → ℕ → Option Step) → Glue → TextPart → List Node
 part_items slot sizes steps blank spaces = node.Glue blank ∷ []
 part_items slot sizes steps blank (word w) = shaped_items slot sizes steps w
 
--- how many characters of a part are missing (own)
-abbrev pub part_missing : (ℕ → Option GlyphSize) → (ℕ → ℕ → Option Step) → Part → ℕ
+-- The number of missing characters of a part (own).
+abbrev pub part_missing : (ℕ → Option GlyphSize) → (ℕ → ℕ → Option Step) → TextPart → ℕ
 part_missing sizes steps spaces = 0
 part_missing sizes steps (word w) = shaped_missing sizes steps w
 
--- the items of a text (own)
+-- The items of a text (own).
 unfoldable pub text_items : ℕ → (ℕ → Option GlyphSize) → (ℕ → ℕ → Option Step) → Glue → List ℕ → List Node
 text_items slot sizes steps blank text = flat_map (part_items slot sizes steps blank) (parts_of text)
 
--- how many characters of a text are missing (own)
+-- The number of missing characters of a text (own).
 unfoldable pub text_missing : (ℕ → Option GlyphSize) → (ℕ → ℕ → Option Step) → List ℕ → ℕ
 text_missing sizes steps text = sum_by (part_missing sizes steps) (parts_of text)
 
--- the part that a whole text is, by its first character: spaces, or a word (own)
-abbrev pub part_of : List ℕ → Part
+-- The part that consists of a whole text: spaces or a word, by its first character (own).
+abbrev pub part_of : List ℕ → TextPart
 part_of [] = spaces
 part_of (c ∷ text) = if is_space c then spaces else word (c ∷ text)
 
--- how long the first part of a text is (own)
+-- The length of the first part of a text (own).
 abbrev pub part_length : List ℕ → ℕ
 part_length [] = 0
 part_length (c ∷ text) = if is_space c then prefix_len is_space (c ∷ text) else prefix_len is_other (c ∷ text)

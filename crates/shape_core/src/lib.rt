@@ -1,4 +1,4 @@
-//! Words to items: glyphs, font kerns and ligatures (TeX: The Program, part 46, §1029 to §1045; TFtoPL, 13).
+//! Shaping: words become glyphs, font kerns and ligatures (TeX: The Program, part 46, §1029 to §1045; TFtoPL, 13).
 #![tactic(auto)]
 
 pub mod laws;

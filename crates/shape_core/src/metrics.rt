@@ -1,10 +1,10 @@
-//! What shaping asks of a font.
+//! What shaping needs from a font.
 
 use node_core::{Glue, Order};
 use tfm_core::{Font, GlyphSize, Step};
 
-/// A font as shaping sees it: the sizes of its characters, what stands between two of them, and its space. A ligature's character is
-/// there.
+/// The metrics of a font: the sizes of its characters, the kern or ligature between two of them, and its space. The character of a ligature is always
+/// in the font.
 pub trait Metrics {
     ghost use Rattle.std.specs.Prelude.{◌≡◌, ℕ, Option, Some, IsSome};
     ghost use Rattle.node_core.specs.declared.tree.Glue.{Glue};
@@ -18,15 +18,15 @@ pub trait Metrics {
 
     ghost blank: { Self → Glue };
 
-    /// The sizes of a character, or None where it is not there. Takes no memory.
+    /// The sizes of a character, or `None` if the font does not have it. Does not allocate.
     fn glyph(&self, code: u8) -> Option<GlyphSize>
         ensures { result ≡ sizes self.now code };
 
-    /// What stands between a character and the one that follows it. Takes no memory.
+    /// The kern or ligature between a character and the one that follows it. Does not allocate.
     fn step(&self, code: u8, following: u8) -> Option<Step>
         ensures { result ≡ steps self.now code following };
 
-    /// The glue that a run of spaces is. Takes no memory.
+    /// The glue for a run of spaces. Does not allocate.
     fn space(&self) -> Glue
         ensures { result ≡ blank self.now };
 

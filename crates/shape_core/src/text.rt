@@ -10,7 +10,7 @@ use crate::word::{Missing, push, shape};
 use node_core::Node;
 use std::alloc::AllocError;
 
-/// How many spaces a text begins with.
+/// The number of spaces at the beginning of a text.
 #[tactic(auto, using(crate::proofs::TextLemmas::prefixes))]
 fn space_count(text: &[u8]) -> usize
     ensures value { result ≡ prefix_len is_space text.now }
@@ -19,7 +19,7 @@ fn space_count(text: &[u8]) -> usize
     text.iter().take_while(|c| **c == b' ').count()
 }
 
-/// How many characters stand before the first space of a text.
+/// The number of characters before the first space of a text.
 #[tactic(auto, using(crate::proofs::TextLemmas::prefixes))]
 fn word_length(text: &[u8]) -> usize
     ensures value { result ≡ prefix_len is_other text.now }
@@ -28,7 +28,7 @@ fn word_length(text: &[u8]) -> usize
     text.iter().take_while(|c| **c != b' ').count()
 }
 
-/// How long the run of spaces or the word is that a text begins with.
+/// The length of the run of spaces or the word at the beginning of a text.
 #[tactic(auto, using(crate::proofs::TextLemmas::lengths))]
 fn part_length(text: &[u8]) -> usize
     requires { 0 < length text.now }
@@ -53,7 +53,7 @@ fn shape_part<M: Metrics>(
     requires { 0 < length part.now }
     ensures ok { OnOk result (nodes.new.items ≡ nodes.old.items ++ part_items slot (M.sizes metrics.now) (M.steps metrics.now) (M.blank metrics.now) (part_of part.now)) }
     ensures number { IfOk result (λ missing. missing.characters ≡ part_missing (M.sizes metrics.now) (M.steps metrics.now) (part_of part.now)) }
-    ensures few { IfOk result (λ missing. missing.characters ≤ length part.now) }
+    ensures missing_bounded { IfOk result (λ missing. missing.characters ≤ length part.now) }
     ensures err { OnErr result (nodes.new.items ≡ nodes.old.items) }
 {
     if part[0] == b' ' {
@@ -63,7 +63,7 @@ fn shape_part<M: Metrics>(
     shape(metrics, slot, part, nodes)
 }
 
-/// Appends the items of a text, or a front of them.
+/// Appends the items of a text; if memory is refused, only the first of them.
 #[tactic(auto, using(crate::proofs::TextLemmas::turns))]
 fn shape_parts<M: Metrics>(
     metrics: &M,
@@ -73,7 +73,7 @@ fn shape_parts<M: Metrics>(
 ) -> Result<Missing, AllocError>
     ensures ok { OnOk result (nodes.new.items ≡ nodes.old.items ++ text_items slot (M.sizes metrics.now) (M.steps metrics.now) (M.blank metrics.now) text.now) }
     ensures number { IfOk result (λ missing. missing.characters ≡ text_missing (M.sizes metrics.now) (M.steps metrics.now) text.now) }
-    ensures few { IfOk result (λ missing. missing.characters ≤ length text.now) }
+    ensures missing_bounded { IfOk result (λ missing. missing.characters ≤ length text.now) }
     ensures front { take (length nodes.old.items) nodes.new.items ≡ nodes.old.items }
 {
     let mut characters = 0;
@@ -85,8 +85,8 @@ fn shape_parts<M: Metrics>(
     Ok(Missing { characters })
 }
 
-/// Appends the items of a text in the font of that slot, and gives how many of its characters are missing: each run of spaces is one
-/// glue of the font, and the words between them are shaped. Where memory is refused, `nodes` is as it was.
+/// Appends the items of a text in the font of this slot, and returns how many of its characters the font does not have. Each run of spaces becomes
+/// one glue of the font, and the words between them are shaped. If memory is refused, `nodes` is as it was before the call.
 pub fn shape_text<M: Metrics>(
     metrics: &M,
     slot: u8,
@@ -95,7 +95,7 @@ pub fn shape_text<M: Metrics>(
 ) -> Result<Missing, AllocError>
     ensures ok { OnOk result (nodes.new.items ≡ nodes.old.items ++ text_items slot (M.sizes metrics.now) (M.steps metrics.now) (M.blank metrics.now) text.now) }
     ensures number { IfOk result (λ missing. missing.characters ≡ text_missing (M.sizes metrics.now) (M.steps metrics.now) text.now) }
-    ensures few { IfOk result (λ missing. missing.characters ≤ length text.now) }
+    ensures missing_bounded { IfOk result (λ missing. missing.characters ≤ length text.now) }
     ensures err { OnErr result (nodes.new.items ≡ nodes.old.items) }
 {
     let held = nodes.len();
@@ -106,8 +106,8 @@ pub fn shape_text<M: Metrics>(
     shaped
 }
 
-/// Appends the glyph of one character in the font of that slot; it is missing where the font does not have it. A space is a character
-/// like others. Where memory is refused, `nodes` is as it was.
+/// Appends the glyph of one character in the font of this slot; it counts as missing if the font does not have it. A space is treated like any other
+/// character. If memory is refused, `nodes` is as it was before the call.
 pub fn shape_character<M: Metrics>(
     metrics: &M,
     slot: u8,
@@ -116,7 +116,7 @@ pub fn shape_character<M: Metrics>(
 ) -> Result<Missing, AllocError>
     ensures ok { OnOk result (nodes.new.items ≡ nodes.old.items ++ shaped_items slot (M.sizes metrics.now) (M.steps metrics.now) (code ∷ [])) }
     ensures number { IfOk result (λ missing. missing.characters ≡ shaped_missing (M.sizes metrics.now) (M.steps metrics.now) (code ∷ [])) }
-    ensures few { IfOk result (λ missing. missing.characters ≤ 1) }
+    ensures missing_bounded { IfOk result (λ missing. missing.characters ≤ 1) }
     ensures err { OnErr result (nodes.new.items ≡ nodes.old.items) }
 {
     shape(metrics, slot, &[code], nodes)

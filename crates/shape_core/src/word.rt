@@ -10,22 +10,22 @@ use scaled_core::Dimen;
 use std::alloc::AllocError;
 use tfm_core::{GlyphSize, Step};
 
-/// How many characters of a word the font does not have.
+/// The number of characters of a word that the font does not have.
 #[derive(Clone, Copy, Debug, PartialEq, Eq)]
 pub struct Missing {
     pub characters: usize,
 }
 
-/// What becomes of a character of a word.
+/// What a character of a word becomes.
 #[derive(Clone, Copy, Debug, PartialEq, Eq)]
 pub enum Outcome {
-    /// It is not in the font, and is dropped.
+    /// The font does not have the character, and it is dropped.
     Dropped,
-    /// It is a glyph of these sizes.
+    /// A glyph of these sizes.
     Alone(GlyphSize),
-    /// It is a glyph of these sizes, and a kern of that width stands behind it.
+    /// A glyph of these sizes, with a kern of this width after it.
     Kerned(GlyphSize, Dimen),
-    /// That character stands for it and the one that follows.
+    /// This character takes the place of the character and the one that follows.
     Joined(u8),
 }
 
@@ -42,7 +42,7 @@ fn glyph_node(slot: u8, code: u8, size: GlyphSize) -> Node
     })
 }
 
-/// What becomes of a character that is in the font.
+/// What a character becomes that the font has.
 fn outcome_of(size: GlyphSize, step: Option<Step>) -> Outcome
     ensures { result ≡ outcome_of (Some size) step }
 {
@@ -55,7 +55,7 @@ fn outcome_of(size: GlyphSize, step: Option<Step>) -> Outcome
     }
 }
 
-/// What becomes of a character of these sizes before the one that follows, of which is known whether it is in the font.
+/// What a character of these sizes becomes before the one that follows. `is_there` says whether the font has the following character.
 #[tactic(auto, unfolding(crate::specs::Shaping::outcome_at))]
 fn outcome_before<M: Metrics>(
     metrics: &M,
@@ -77,7 +77,7 @@ fn outcome_before<M: Metrics>(
     outcome_of(size, metrics.step(code, following))
 }
 
-/// What becomes of a character of these sizes at the end of a word.
+/// What a character of these sizes becomes at the end of a word.
 #[tactic(auto, unfolding(crate::specs::Shaping::outcome_at))]
 fn last_outcome(size: Option<GlyphSize>) -> Outcome
     ensures { result ≡ outcome_of size None }
@@ -88,12 +88,12 @@ fn last_outcome(size: Option<GlyphSize>) -> Outcome
     }
 }
 
-/// Puts an item behind the others.
+/// Appends an item.
 pub(crate) fn push(node: Node, nodes: &mut Vec<Node>) -> Result<(), AllocError>
     ensures ok { OnOk result (nodes.new.items ≡ nodes.old.items ++ node ∷ []) }
     ensures err { OnErr result (nodes.new.items ≡ nodes.old.items) }
 {
-    // The proof of `push` needs each type that stands in a node, and finds only those that this function names.
+    // These two unused locals are for the prover: it needs each type that occurs in a node, and finds only the types that this function names.
     let _size: Option<RuleSize> = None;
     let _rule: Option<Rule> = None;
     nodes.push(node)?;
@@ -101,10 +101,10 @@ pub(crate) fn push(node: Node, nodes: &mut Vec<Node>) -> Result<(), AllocError>
 }
 
 impl Outcome {
-    /// How many characters are missing by what becomes of a character.
+    /// The number of missing characters: 1 if the character is dropped, and otherwise 0.
     fn missing(&self) -> usize
         ensures value { result ≡ outcome_missing self.now }
-        ensures small { result ≤ 1 }
+        ensures missing_bounded { result ≤ 1 }
     {
         match self {
             Outcome::Dropped => 1,
@@ -114,7 +114,7 @@ impl Outcome {
         }
     }
 
-    /// The character that the rest is shaped with.
+    /// The character with which shaping goes on.
     fn next(&self, following: u8) -> u8
         ensures { result ≡ outcome_next following self.now }
     {
@@ -126,7 +126,7 @@ impl Outcome {
         }
     }
 
-    /// The sizes of the character that the rest is shaped with, where those of the following one are known.
+    /// The sizes of the character with which shaping goes on; `ahead` has the sizes of the following character, which are not looked up again.
     fn next_size<M: Metrics>(&self, metrics: &M, ahead: Option<GlyphSize>) -> Option<GlyphSize>
         ensures { (following : ℕ) → ahead ≡ M.sizes metrics.now following → result ≡ M.sizes metrics.now (outcome_next following self.now) }
     {
@@ -138,7 +138,7 @@ impl Outcome {
         }
     }
 
-    /// Appends the items that a character gives, or a front of them.
+    /// Appends the items of a character; if memory is refused, only the first of them.
     fn append(&self, slot: u8, code: u8, nodes: &mut Vec<Node>) -> Result<(), AllocError>
         ensures ok { OnOk result (nodes.new.items ≡ nodes.old.items ++ outcome_items slot code self.now) }
         ensures front { take (length nodes.old.items) nodes.new.items ≡ nodes.old.items }
@@ -155,7 +155,7 @@ impl Outcome {
     }
 }
 
-/// Appends the items of a character and the word behind it, or a front of them.
+/// Appends the items of a character and of the word after it; if memory is refused, only the first of them.
 fn shape_from<M: Metrics>(
     metrics: &M,
     slot: u8,
@@ -165,7 +165,7 @@ fn shape_from<M: Metrics>(
 ) -> Result<Missing, AllocError>
     ensures ok { OnOk result (nodes.new.items ≡ nodes.old.items ++ items_from slot (M.sizes metrics.now) (M.steps metrics.now) code word.now) }
     ensures number { IfOk result (λ missing. missing.characters ≡ missing_from (M.sizes metrics.now) (M.steps metrics.now) code word.now) }
-    ensures few { IfOk result (λ missing. missing.characters ≤ length word.now + 1) }
+    ensures missing_bounded { IfOk result (λ missing. missing.characters ≤ length word.now + 1) }
     ensures front { take (length nodes.old.items) nodes.new.items ≡ nodes.old.items }
 {
     let mut characters = 0;
@@ -185,8 +185,8 @@ fn shape_from<M: Metrics>(
     })
 }
 
-/// Appends the items of a word in the font of that slot, and gives how many of its characters are missing
-/// (TeX: The Program, part 46, §1029 to §1045; TFtoPL, 13). Where memory is refused, `nodes` is as it was.
+/// Appends the items of a word in the font of this slot, and returns how many of its characters the font does not have (TeX: The Program, part 46,
+/// §1029 to §1045; TFtoPL, 13). If memory is refused, `nodes` is as it was before the call.
 #[tactic(auto, using(crate::proofs::ShapingLemmas::shapings))]
 pub fn shape<M: Metrics>(
     metrics: &M,
@@ -197,7 +197,7 @@ pub fn shape<M: Metrics>(
     ensures ok { OnOk result (nodes.new.items ≡ nodes.old.items ++ shaped_items slot (M.sizes metrics.now) (M.steps metrics.now) word.now) }
     ensures number { IfOk result (λ missing. missing.characters ≡ shaped_missing (M.sizes metrics.now) (M.steps metrics.now) word.now) }
     ensures shaping { IfOk result (λ missing. (items : List Node) × (nodes.new.items ≡ nodes.old.items ++ items) × Shaping slot (M.sizes metrics.now) (M.steps metrics.now) word.now items missing.characters) }
-    ensures few { IfOk result (λ missing. missing.characters ≤ length word.now) }
+    ensures missing_bounded { IfOk result (λ missing. missing.characters ≤ length word.now) }
     ensures err { OnErr result (nodes.new.items ≡ nodes.old.items) }
 {
     let Some((first, rest)) = word.split_first() else {

@@ -1,21 +1,21 @@
--- What the writer draws, as lists of instructions.
+-- The writer's drawing, as lists of instructions.
 use Rattle.std.proofs.Common.{◌≡◌, ℕ, zero, suc, List, [], ◌∷◌, ◌++◌, map, length, refl, append_assoc, ◌∙◌, ap, sym, arith}
 use Rattle.std.specs.Prelude.{ℤ, pos, negsuc, ◌+ℤ◌, ◌-ℤ◌, Bool, true, false, if◌then◌else◌, Option, Some, None, ◌==◌}
 use Rattle.std.specs.Option.{option_map}
 use Rattle.std.specs.Ordering.{int_eq}
 use Rattle.std.proofs.lemmas.List.{append-nil}
 use Rattle.dvi_ops.specs.Instruction.{Axis, Across, Downward, SetChar, FontNum, Xxx, Instruction, Do, Push, Pop}
-use Rattle.dvi_ops.specs.View.{view}
+use Rattle.dvi_ops.specs.View.{body_view}
 use Rattle.node_core.specs.Items.{Items, none, leaf, box}
 use Rattle.node_core.specs.Nodes.{nodes_of}
 use Rattle.node_core.specs.declared.tree.Kind.{Kind}
 use Rattle.dvi_ops.specs.Body as body
 use Rattle.dvi_ops.specs.Forest.{Forest, Then, flat}
 use Rattle.ship_core.specs.Drawing.{Picture, stroke, group, grouped, moved_by, selected, ruled, after_rule, font_after, drawn}
-use Rattle.ship_core.specs.declared.placing.Ink.{Ink}
-use Rattle.ship_core.specs.declared.placing.Ink.TheVariants as ink
+use Rattle.ship_core.specs.declared.placing.MarkKind.{MarkKind}
+use Rattle.ship_core.specs.declared.placing.MarkKind.TheVariants as ink
 use Rattle.ship_core.specs.declared.drawing.Drawing.{Drawing}
-use Rattle.ship_core.specs.Placing.{mark_with, movement, selection, inked, behind, makes, leaves}
+use Rattle.ship_core.specs.Placing.{mark_with, movement, selection, inked, h_after_mark, makes, leaves}
 use Rattle.ship_core.proofs.Places.{no_items}
 
 pub flat-moved_by : (axis : Axis) (z : ℤ) (rest : Forest) → flat (moved_by axis z rest) ≡ movement axis z ++ flat rest
@@ -60,7 +60,7 @@ flat-drawn_special kind h v current x y text by rest =
 
 pub ruleset movements = (flat-drawn_rule, flat-drawn_glyph, flat-drawn_special, append_assoc)
 
--- What stands when a special was drawn makes the same as before, for the strokes that follow.
+-- The drawing after a special makes the same as the one before it, for the strokes that follow.
 pub noted_mark :
     (kind : Kind) (before after : List Instruction) (h v : ℤ) (current left : Option ℤ) (x y : ℤ) (text : List ℕ) (end down : ℤ) (rest : Picture)
     → after ≡ ((before ++ movement Across (x -ℤ h)) ++ movement Downward (y -ℤ v)) ++ Do (Xxx text) ∷ [] → end ≡ x → down ≡ y → left ≡ current
@@ -68,54 +68,54 @@ pub noted_mark :
 noted_mark kind before after h v current left x y text end down rest is edge below font =
     rw (is, edge, below, font) (rw (flat-drawn_special kind h v current x y text (pos 0) rest) (simp append_assoc))
 
--- The selection that ink needs, and the font that it leaves.
-abbrev pub chosen : Option ℤ → Ink → List Instruction
+-- The selection that ink needs, and the font after the ink.
+abbrev pub chosen : Option ℤ → MarkKind → List Instruction
 chosen current (ink.Rule height) = []
 chosen current (ink.Glyph slot code) = selection current (pos slot)
 
-abbrev pub left_by : Option ℤ → Ink → Option ℤ
+abbrev pub left_by : Option ℤ → MarkKind → Option ℤ
 left_by current (ink.Rule height) = current
 left_by current (ink.Glyph slot code) = Some (pos slot)
 
 drawn_ink :
-    (kind : Kind) (before : List Instruction) (h v : ℤ) (current : Option ℤ) (x y width : ℤ) (i : Ink) (rest : Picture)
+    (kind : Kind) (before : List Instruction) (h v : ℤ) (current : Option ℤ) (x y width : ℤ) (i : MarkKind) (rest : Picture)
     → before ++ flat (drawn kind h v current (stroke (mark_with x y width i) width rest))
     ≡ ((((before ++ movement Across (x -ℤ h)) ++ movement Downward (y -ℤ v)) ++ chosen current i) ++ inked kind width i)
-    ++ flat (drawn kind (behind kind x width i) y (left_by current i) rest)
+    ++ flat (drawn kind (h_after_mark kind x width i) y (left_by current i) rest)
 drawn_ink kind before h v current x y width (ink.Rule height) rest =
     rw (flat-drawn_rule kind h v current x y height width width rest) (simp append_assoc)
 drawn_ink kind before h v current x y width (ink.Glyph slot code) rest =
     rw (flat-drawn_glyph kind h v current (pos slot) (pos code) x y width rest) (simp append_assoc)
 
--- What stands when a mark was drawn makes the same as before, for the strokes that follow.
+-- The drawing after a mark makes the same as the one before it, for the strokes that follow.
 pub drawn_mark :
-    (kind : Kind) (before after : List Instruction) (h v : ℤ) (current left : Option ℤ) (x y width end down : ℤ) (i : Ink) (rest : Picture)
+    (kind : Kind) (before after : List Instruction) (h v : ℤ) (current left : Option ℤ) (x y width end down : ℤ) (i : MarkKind) (rest : Picture)
     → after ≡ (((before ++ movement Across (x -ℤ h)) ++ movement Downward (y -ℤ v)) ++ chosen current i) ++ inked kind width i
-    → end ≡ behind kind x width i
+    → end ≡ h_after_mark kind x width i
     → left ≡ left_by current i
     → down ≡ y
     → before ++ flat (drawn kind h v current (stroke (mark_with x y width i) width rest)) ≡ after ++ flat (drawn kind end down left rest)
 drawn_mark kind before after h v current left x y width end down i rest is edge font below =
     rw (is, edge, font, below) (drawn_ink kind before h v current x y width i rest)
 
--- And it leaves the same font behind them.
+-- The font after the strokes that follow is the same too.
 pub left_font :
-    (current left : Option ℤ) (x y width : ℤ) (i : Ink) (rest : Picture) → left ≡ left_by current i
+    (current left : Option ℤ) (x y width : ℤ) (i : MarkKind) (rest : Picture) → left ≡ left_by current i
     → font_after current (stroke (mark_with x y width i) width rest) ≡ font_after left rest
 left_font current left x y width (ink.Rule height) rest font = rw font refl
 left_font current left x y width (ink.Glyph slot code) rest font = rw font refl
 
--- The instructions behind a selection, and where none is needed.
+-- The instructions after a selection, and where none is needed.
 pub selected_ops :
-    (after between moved : List Instruction) (here current : Option ℤ) (slot code : ℕ) (i : Ink) → i ≡ ink.Glyph slot code
+    (after between moved : List Instruction) (here current : Option ℤ) (slot code : ℕ) (i : MarkKind) → i ≡ ink.Glyph slot code
     → here ≡ current → between ≡ moved → after ≡ between ++ selection here (pos slot) → after ≡ moved ++ chosen current i
 selected_ops after between moved here current slot code i glyph same left is = rw (glyph, is, same, left) refl
 
 pub unselected_ops :
-    (after moved : List Instruction) (current : Option ℤ) (height : ℤ) (i : Ink) → i ≡ ink.Rule height → after ≡ moved → after ≡ moved ++ chosen current i
+    (after moved : List Instruction) (current : Option ℤ) (height : ℤ) (i : MarkKind) → i ≡ ink.Rule height → after ≡ moved → after ≡ moved ++ chosen current i
 unselected_ops after moved current height i rule is = rw (rule, is, append-nil moved) refl
 
--- From one drawing on, a picture makes and leaves the same as another picture from another drawing on.
+-- From one drawing, a picture makes the same instructions and leaves the same font as another picture from another drawing.
 abbrev pub Draws : Kind → Drawing → Picture → Drawing → Picture → Type 0
 Draws kind from picture to rest = (makes kind from picture ≡ makes kind to rest) × (leaves from picture ≡ leaves to rest)
 
@@ -129,7 +129,7 @@ same_picture kind d p q is = (ap (makes kind d) is, ap (leaves d) is)
 pub same_drawing : (kind : Kind) (d e : Drawing) (p : Picture) → e ≡ d → Draws kind d p e p
 same_drawing kind d e p is = (sym (ap (λ (x : Drawing). makes kind x p) is), sym (ap (λ (x : Drawing). leaves x p) is))
 
--- A box without items is no group, and one with items is one.
+-- A box without items is no group, and a box with items is one.
 pub grouped-none : (items : Items) (kind : Kind) (inner rest : Picture) → (length (nodes_of items) == 0) ≡ true → grouped items kind inner rest ≡ rest
 grouped-none items kind inner rest empty = ap (λ items. grouped items kind inner rest) (no_items items empty)
 
@@ -138,19 +138,19 @@ grouped-some none kind inner rest full = absurd (cc)
 grouped-some (leaf x items) kind inner rest full = refl
 grouped-some (box shift frame some items) kind inner rest full = refl
 
--- What stands when a box was drawn as a group makes the same as before it, for the picture that follows, and leaves the same font.
+-- The drawing after a box in a group makes the same as the one before it, for the picture that follows, and leaves the same font.
 pub drawn_group :
     (kind own : Kind) (before opened inside after : Drawing) (inner rest : Picture)
-    → map view opened.ops.items ≡ map view before.ops.items ++ Push ∷ []
+    → map body_view opened.ops.items ≡ map body_view before.ops.items ++ Push ∷ []
     → opened.h ≡ before.h → opened.v ≡ before.v → opened.font ≡ before.font
-    → map view inside.ops.items ≡ makes own opened inner
+    → map body_view inside.ops.items ≡ makes own opened inner
     → option_map pos inside.font ≡ leaves opened inner
-    → map view after.ops.items ≡ map view inside.ops.items ++ Pop ∷ []
+    → map body_view after.ops.items ≡ map body_view inside.ops.items ++ Pop ∷ []
     → after.h ≡ before.h → after.v ≡ before.v → after.font ≡ inside.font
     → Draws kind before (group own inner rest) after rest
 drawn_group kind own before opened inside after inner rest push h v font drawn left pop right down same =
     let current : leaves opened inner ≡ leaves before inner = ap (λ (f : Option ℕ). font_after (option_map pos f) inner) font in
-    let behind : option_map pos after.font ≡ leaves before inner = ap (option_map pos) same ∙ (left ∙ current) in (
-      rw (behind, right, down, pop, drawn, h, v, font, push) (simp append_assoc),
-      ap (λ (f : Option ℤ). font_after f rest) (sym behind),
+    let h_after_mark : option_map pos after.font ≡ leaves before inner = ap (option_map pos) same ∙ (left ∙ current) in (
+      rw (h_after_mark, right, down, pop, drawn, h, v, font, push) (simp append_assoc),
+      ap (λ (f : Option ℤ). font_after f rest) (sym h_after_mark),
     )

@@ -1,4 +1,4 @@
--- How many bytes the body of a page takes at most.
+-- The greatest number of bytes that the body of a page takes.
 use Rattle.std.proofs.Common.{◌≡◌, ℕ, zero, suc, ◌+◌, ◌*◌, ◌<◌, ◌≤◌, List, [], ◌∷◌, ◌++◌, length, refl, arith, length-append}
 use Rattle.std.specs.Prelude.{ℤ, pos, negsuc, ◌+ℤ◌, ◌-ℤ◌, Bool, true, false, nat_lt, if◌then◌else◌, Option, Some, None}
 use Rattle.std.specs.List.{AllByRecursion}
@@ -17,7 +17,7 @@ use Rattle.dvi_ops.specs.Layout.{bytes_of}
 use Rattle.dvi_ops.proofs.Layouts.{length-bytes_of-append}
 use Rattle.dvi_ops.proofs.Spelled.{operand_length}
 use Rattle.dvi_ops.proofs.Shortest.{brief_length, special_length, movement_length, one_byte}
-use Rattle.ship_core.specs.Marks.{Page, rule_below, rule_tall, rule_wide, mark_of, page_v}
+use Rattle.ship_core.specs.Marks.{ShippedPage, rule_below, rule_tall, rule_wide, marks_of_item, page_v}
 use Rattle.ship_core.specs.Drawing.{Picture, blank, stroke, group, width_in, moved_by, selected, ruled, after_rule, font_after, drawn, picture_of_page, body_of}
 use Rattle.ship_core.specs.Shown.{HasWidth}
 use Rattle.ship_core.proofs.DrawnMarks.{EachStroke, IsByte}
@@ -34,7 +34,7 @@ length-rule : (kind : Kind) (height width : ℤ) → length (spelling (Do (ruled
 length-rule Horizontal height width = brief_length (SetRule height width) tt
 length-rule Vertical height width = brief_length (PutRule height width) tt
 
--- The number of a font or of a character that is a byte takes one.
+-- The number of a font or of a character, where it is a byte, takes one byte.
 byte_size : (n : ℕ) → n < 256 → code_size (pos n) ≡ 1
 unfolding code_size
 byte_size n small = rw (lt-ltb n 256 small) refl
@@ -72,7 +72,7 @@ IsOfBytes kind (body.Rule x y height width) by = Unit {0}
 IsOfBytes kind (body.Glyph font code x y) by = IsByte font × IsByte code
 IsOfBytes kind (body.Special x y text) by = Unit {0}
 
--- A stroke takes at most 19 bytes beside the text of a special, and a group 2 more than what stands in it.
+-- A stroke takes at most 19 bytes and the text of its special, and a group takes 2 bytes more than its contents.
 pub drawing_bytes :
     (kind : Kind) (h v : ℤ) (current : Option ℤ) (p : Picture) → EachStroke IsOfBytes kind p → length (bytes_of (flat (drawn kind h v current p))) ≤ 19 * parts p + texts p
 drawing_bytes kind h v current blank all = omega arith
@@ -126,7 +126,7 @@ drawing_bytes kind h v current (group own inner rest) (within, all) =
 
 -- The strokes of a leaf whose font and character are bytes.
 leaf_bytes :
-    (widths : Widths) (b : BoxNode) (h v : ℤ) (x : Leaf) → HasWidth widths x → AllByRecursion (λ mark. IsOfBytes b.kind mark (width_in b x)) (mark_of b h v x)
+    (widths : Widths) (b : BoxNode) (h v : ℤ) (x : Leaf) → HasWidth widths x → AllByRecursion (λ mark. IsOfBytes b.kind mark (width_in b x)) (marks_of_item b h v x)
 leaf_bytes widths b h v (glyph g) (wide, small) = each_glyph (λ mark. IsOfBytes b.kind mark g.width) b.kind h v g small
 leaf_bytes widths b h v (font_kern width) wide = tt
 leaf_bytes widths b h v (kern width) wide = tt
@@ -136,9 +136,9 @@ leaf_bytes widths b h v (special text) wide = (tt, tt)
 leaf_bytes widths b h v (rule r) wide =
     each_rule (λ mark. IsOfBytes b.kind mark (rule_wide b.kind b r)) h (v +ℤ rule_below b.kind b r) (rule_tall b.kind b r) (rule_wide b.kind b r) tt
 
--- The body of a page takes at most 19 bytes for each item of its box, those of inner boxes included, beside the texts of its specials.
+-- The body of a page takes at most 19 bytes for each item of its box, those of inner boxes included, and the texts of its specials.
 pub body_bytes :
-    (widths : Widths) (page : Page) → EachLeaf (HasWidth widths) page.box_node.list
+    (widths : Widths) (page : ShippedPage) → EachLeaf (HasWidth widths) page.box_node.list
     → length (bytes_of (flat (body_of page))) ≤ 19 * items_count page.box_node.list + items_text page.box_node.list
 unfolding body_of
 body_bytes widths page all =

@@ -1,4 +1,4 @@
--- What is drawn for a picture has its marks, by the meaning of instructions, and can be spelled.
+-- The body drawn for a picture has the marks of the picture, by the meaning of instructions, and can be spelled.
 use Rattle.std.proofs.Common.{◌≡◌, ℕ, zero, suc, ◌+◌, ◌<◌, max, ◌^◌, List, [], ◌∷◌, ◌++◌, length, refl, ap, sym, ◌∙◌, arith}
 use Rattle.std.specs.Prelude.{ℤ, pos, negsuc, ◌+ℤ◌, ◌-ℤ◌, ◌≤ℤ◌, neg_ℤ, Bool, true, false, ◌&&◌, if◌then◌else◌, int_lt, Option, Some, None}
 use Rattle.std.specs.List.{list_all, AllByRecursion}
@@ -11,7 +11,7 @@ use Rattle.node_core.specs.declared.tree.Kind.{Kind}
 use Rattle.node_core.specs.declared.tree.Kind.TheVariants.{Horizontal, Vertical}
 use Rattle.dvi_ops.specs.Instruction.{Axis, Across, Downward, By, Move, SetChar, SetRule, PutRule, FontNum, Xxx, Instruction, Do, Push, Pop}
 use Rattle.dvi_ops.specs.Body as body
-use Rattle.dvi_ops.specs.Body.{Mark, Place, State, Registers, Meaning, Widths, acts, kept, in_range}
+use Rattle.dvi_ops.specs.Body.{Mark, Position, DviState, MoveRegisters, Meaning, Widths, acts, kept, in_range}
 use Rattle.dvi_ops.specs.Forest.{Forest, Then, flat, meaning, nests, ahead, and_then, restored}
 use Rattle.dvi_ops.specs.Spelling.{NumberFits}
 use Rattle.dvi_ops.specs.Layout.{IsWritable}
@@ -50,9 +50,9 @@ IsShort kind (body.Rule x y height width) by = Unit {0}
 IsShort kind (body.Glyph font code x y) by = Unit {0}
 IsShort kind (body.Special x y text) by = length text < 2 ^ 32
 
--- A meaning has these marks, and leaves that font.
+-- A meaning has these marks, and ends with that font.
 pub record Shows (m : Meaning) (marks : List Mark) (font : Option ℤ) : Type 0 where
-  pub last : State
+  pub last : DviState
   pub left : last.font ≡ font
   pub shows : m ≡ Some (marks, last)
 
@@ -91,7 +91,7 @@ byte_fits : (z : ℤ) → IsByte z → NumberFits z
 byte_fits (pos n) small = record { sfits = omega arith }
 byte_fits (negsuc n) small = absurd small
 
--- A rule of a list that can be drawn: its place and the place after it fit, and so do its sizes, which are positive.
+-- A rule that can be drawn: its place, the place after it and its sizes fit, and the sizes are positive.
 pub record IsSeen (kind : Kind) (x y height width : ℤ) : Type 0 where
   pub h : Within 1073741823 x
   pub v : Within 1073741823 y
@@ -123,7 +123,7 @@ ahead_none : (m : Meaning) → ahead [] m ≡ m
 ahead_none None = refl
 ahead_none (Some (marks, s)) = refl
 
-module _ (widths : Widths) (held : Registers) where
+module _ (widths : Widths) (held : MoveRegisters) where
   shown : Forest → ℤ → ℤ → Option ℤ → Meaning
   shown f h v font = meaning (kept (acts widths)) f (at h v held font)
 
@@ -185,13 +185,13 @@ module _ (widths : Widths) (held : Registers) where
   unfolding shown
   noted h v text font rest can = rw (point_within h can.h, point_within v can.v) refl
 
-  -- After a group, what follows begins at the place before it, with the font of its end.
+  -- After a group, the rest begins at the place before the group, with the font from its end.
   behind_group :
-      (m : Meaning) (p : Place) (marks : List Mark) (last : State) (font : Option ℤ) (next : State → Meaning) → m ≡ Some (marks, last) → last.font ≡ font
+      (m : Meaning) (p : Position) (marks : List Mark) (last : DviState) (font : Option ℤ) (next : DviState → Meaning) → m ≡ Some (marks, last) → last.font ≡ font
       → and_then (restored p m) next ≡ ahead marks (next (record { place = p; font = font }))
   behind_group m p marks last font next is left = rw (is, left) refl
 
-  -- What is drawn for a picture has its marks, and leaves its font.
+  -- The body drawn for a picture has its marks, and ends with its font.
   pub drawn_marks :
       (kind : Kind) (h v : ℤ) (current : Option ℤ) (p : Picture) → in_range v ≡ true → EachStroke (IsDrawn widths) kind p
       → Shows (meaning (kept (acts widths)) (drawn kind h v current p) (at h v held current)) (marks_in p) (font_after current p)
@@ -236,7 +236,7 @@ module _ (widths : Widths) (held : Registers) where
             ∙ ap (ahead (marks_in inner)) later.shows;
       }
 
--- It can be spelled, and the numbers fit their fields.
+-- The body can be spelled, and its numbers fit their fields.
 writable_movement : (axis : Axis) (z : ℤ) (rest : Forest) → NumberFits z → AllByRecursion IsWritable (flat rest) → AllByRecursion IsWritable (flat (moved_by axis z rest))
 writable_movement axis (pos zero) rest fit all = all
 writable_movement axis (pos (suc n)) rest fit all = ((tt, fit), all)
@@ -281,9 +281,9 @@ drawn_writable widths kind h v current (group own inner rest) right low (within,
       ((tt, tt), drawn_writable widths kind h v (font_after current inner) rest right low all short),
 )
 
--- What holds of movements, pushes and pops, and of what is made for each stroke, holds of each instruction that draws a picture.
+-- A property of movements, pushes and pops, and of what is made for each stroke, is one of each instruction that draws a picture.
 module _ (P : Instruction → Type 0) where
-  -- What is made for a mark: a rule; a character, and before it the selection of its font.
+  -- The instructions made for a mark: a rule, or the selection of a font and a character.
   abbrev pub IsInked : Kind → Mark → (by : ℤ) → Type 0
   IsInked kind (body.Rule x y height width) by = P (Do (ruled kind height width))
   IsInked kind (body.Glyph font code x y) by = P (Do (FontNum font)) × P (Do (SetChar code))
@@ -329,7 +329,7 @@ module _ (P : Instruction → Type 0) where
         (holds.pop, each_drawn holds kind h v (font_after current inner) rest all),
   )
 
-  -- What holds of all that is made holds of each instruction.
+  -- A property of all that is made is one of each instruction.
   pub record HoldsOfAll : Type 0 where
     pub between : HoldsBetween
     pub fonts : (font : ℤ) → P (Do (FontNum font))
@@ -348,7 +348,7 @@ module _ (P : Instruction → Type 0) where
       HoldsOfAll → (kind : Kind) (h v : ℤ) (current : Option ℤ) (p : Picture) → EachStroke IsShort kind p → AllByRecursion P (flat (drawn kind h v current p))
   all_drawn holds kind h v current p short = each_drawn holds.between kind h v current p (stroke_map IsShort IsInked (all_inked holds) kind p short)
 
--- How deep the groups of a picture nest; and what is drawn for it opens as many.
+-- The depth of the groups of a picture; the body drawn for it opens as many groups.
 abbrev pub groups : Picture → ℕ
 groups blank = 0
 groups (stroke mark by rest) = groups rest

@@ -1,4 +1,4 @@
--- Lemmas on what fits, on the items of a list gone over one by one, and on what is drawn for them.
+-- Lemmas about numbers that fit, the items of a list in order, and what is drawn for them.
 pub mod Drawings
 pub mod Walked
 pub mod Places

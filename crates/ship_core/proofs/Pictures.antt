@@ -1,4 +1,4 @@
--- The picture of a list: its marks, its strokes, how many they are, and how deep its groups nest.
+-- The picture of a list: its marks, its strokes and their number, and the depth of its groups.
 use Rattle.std.proofs.Common.{◌≡◌, ℕ, ◌+◌, ◌≤◌, max, List, [], ◌∷◌, ◌++◌, length, refl, ap, ◌∙◌, subst, arith}
 use Rattle.std.specs.Prelude.{ℤ, pos, ◌+ℤ◌, Bool, true, false, ◌&&◌, if◌then◌else◌, int_lt}
 use Rattle.std.specs.List.{AllByRecursion}
@@ -11,13 +11,13 @@ use Rattle.node_core.specs.declared.tree.Node.{Node}
 use Rattle.node_core.specs.declared.tree.Node.TheVariants as nodes
 use Rattle.node_core.specs.declared.tree.Node.TheVariants.{Box}
 use Rattle.node_core.specs.declared.tree.BoxNode.{BoxNode}
-use Rattle.node_core.specs.Items.{Leaf, glyph, font_kern, kern, glue, penalty, rule, special, Items, none, leaf, box, EachLeaf, items_count, items_depth, text_in, items_text}
+use Rattle.node_core.specs.Items.{Leaf, glyph, font_kern, kern, glue, penalty, rule, special, Items, none, leaf, box, EachLeaf, items_count, items_depth, text_size_in, items_text}
 use Rattle.node_core.specs.Nodes.{node_of, box_of}
 use Rattle.dvi_ops.specs.Body as body
 use Rattle.dvi_ops.specs.Body.{Mark, Widths}
 use Rattle.dvi_ops.proofs.Appends.{all_front, all_back}
 use Rattle.pack_core.specs.Items.{own_size}
-use Rattle.ship_core.specs.Marks.{right_at, rule_below, rule_tall, rule_wide, rule_mark, glyph_mark, mark_of, list_v, item_h, item_v, box_h, box_v, marks_behind, numbers_at, numbers_behind}
+use Rattle.ship_core.specs.Marks.{right_at, rule_below, rule_tall, rule_wide, rule_mark, glyph_mark, marks_of_item, list_v, item_h, item_v, box_h, box_v, marks_behind, numbers_at, numbers_behind}
 use Rattle.ship_core.specs.Drawing.{Picture, blank, stroke, group, width_in, in_front, grouped, picture_after, after_rule}
 use Rattle.ship_core.specs.Shown.{HasWidth}
 use Rattle.ship_core.proofs.Places.{reach}
@@ -38,7 +38,7 @@ marks-grouped c h v own (box shift frame inner items) rest = refl
 pub marks-picture : (b : BoxNode) (h v : ℤ) (before : List Node) (after : Items) → marks_in (picture_after b h v before after) ≡ marks_behind b h v before after
 marks-picture b h v before none = refl
 marks-picture b h v before (leaf x after) =
-    let here = mark_of b (item_h b h before) (item_v b v before) x in
+    let here = marks_of_item b (item_h b h before) (item_v b v before) x in
     marks-in_front here (width_in b x) (picture_after b h v (before ++ node_of x ∷ []) after)
     ∙ ap (λ marks. here ++ marks) (marks-picture b h v (before ++ node_of x ∷ []) after)
 marks-picture b h v before (box shift frame inner after) =
@@ -49,7 +49,7 @@ marks-picture b h v before (box shift frame inner after) =
     ∙ (ap (λ marks. marks ++ marks_in later) (marks-picture (box_of frame inner) x y [] inner)
     ∙ ap (λ marks. marks_behind (box_of frame inner) x y [] inner ++ marks) (marks-picture b h v (before ++ Box shift (box_of frame inner) ∷ []) after))
 
--- What holds of a rule of a box holds of its marks; so with a glyph.
+-- A property of a rule or a glyph of a box is one of its marks.
 module _ (P : Mark → Type 0) where
   pub each_rule : (h v height width : ℤ) → P (body.Rule h v height width) → AllByRecursion P (rule_mark h v height width)
   each_rule h v height width here = by_test (int_lt (pos 0) height && int_lt (pos 0) width)
@@ -62,7 +62,7 @@ module _ (P : Mark → Type 0) where
   each_glyph Horizontal h v g here = (here, tt)
   each_glyph Vertical h v g here = tt
 
--- Strokes in front of a picture, and the picture of a box.
+-- A property of strokes before a picture, and of the picture of a box.
 module _ (P : Kind → Mark → (by : ℤ) → Type 0) where
   each_in_front :
       (kind : Kind) (marks : List Mark) (by : ℤ) (rest : Picture) → AllByRecursion (λ mark. P kind mark by) marks → EachStroke P kind rest
@@ -76,13 +76,13 @@ module _ (P : Kind → Mark → (by : ℤ) → Type 0) where
   each_grouped kind own (leaf x items) inner rest within later = (within, later)
   each_grouped kind own (box shift frame more items) inner rest within later = (within, later)
 
-  -- What holds of the strokes of each leaf of a list holds of all.
+  -- A property of the strokes of each leaf of a list is one of all strokes.
   pub each_behind :
-      (Q : Leaf → Type 0) → ((b : BoxNode) (h v : ℤ) (x : Leaf) → Q x → AllByRecursion (λ mark. P b.kind mark (width_in b x)) (mark_of b h v x))
+      (Q : Leaf → Type 0) → ((b : BoxNode) (h v : ℤ) (x : Leaf) → Q x → AllByRecursion (λ mark. P b.kind mark (width_in b x)) (marks_of_item b h v x))
       → (b : BoxNode) (h v : ℤ) (before : List Node) (after : Items) → EachLeaf Q after → EachStroke P b.kind (picture_after b h v before after)
   each_behind Q each b h v before none all = tt
   each_behind Q each b h v before (leaf x after) (here, all) =
-      each_in_front b.kind (mark_of b (item_h b h before) (item_v b v before) x) (width_in b x) (picture_after b h v (before ++ node_of x ∷ []) after)
+      each_in_front b.kind (marks_of_item b (item_h b h before) (item_v b v before) x) (width_in b x) (picture_after b h v (before ++ node_of x ∷ []) after)
       (each b (item_h b h before) (item_v b v before) x here)
       (each_behind Q each b h v (before ++ node_of x ∷ []) after all)
   each_behind Q each b h v before (box shift frame inner after) (within, all) =
@@ -91,7 +91,7 @@ module _ (P : Kind → Mark → (by : ℤ) → Type 0) where
       (list_v frame.kind frame.height (box_v b.kind (item_v b v before) shift frame.height)) [] inner within)
       (each_behind Q each b h v (before ++ Box shift (box_of frame inner) ∷ []) after all)
 
--- Where h is behind a rule.
+-- The value of h after a rule.
 rule_end : (kind : Kind) (b : BoxNode) (h next_h : ℤ) (r : Rule) → next_h ≡ right_at kind h (own_size r.width) → next_h ≡ after_rule kind h (rule_wide kind b r)
 rule_end Horizontal b h next_h r is = is
 rule_end Vertical b h next_h r is = is
@@ -119,7 +119,7 @@ glyph_drawn widths Horizontal h v next_h g (wide, (slot, code)) edge left low ri
 leaf_drawn :
     (widths : Widths) (b : BoxNode) (h v : ℤ) (before : List Node) (x : Leaf) → HasWidth widths x
     → AllByRecursion (Within 1073741823) (numbers_at b h v before (node_of x))
-    → AllByRecursion (λ mark. IsDrawn widths b.kind mark (width_in b x)) (mark_of b (item_h b h before) (item_v b v before) x)
+    → AllByRecursion (λ mark. IsDrawn widths b.kind mark (width_in b x)) (marks_of_item b (item_h b h before) (item_v b v before) x)
 leaf_drawn widths b h v before (glyph g) wide (left, (low, (right, fit))) =
     glyph_drawn widths b.kind (item_h b h before) (item_v b v before) (item_h b h (before ++ nodes.Glyph g ∷ [])) g wide (reach b h before (nodes.Glyph g)) left low right
 leaf_drawn widths b h v before (font_kern width) wide fit = tt
@@ -139,7 +139,7 @@ strokes_drawn widths b h v before none wide fit = tt
 strokes_drawn widths b h v before (leaf x after) (here, wide) fit =
     let own = numbers_at b h v before (node_of x) in
     let rest = numbers_behind b h v (before ++ node_of x ∷ []) after in
-    each_in_front (IsDrawn widths) b.kind (mark_of b (item_h b h before) (item_v b v before) x) (width_in b x) (picture_after b h v (before ++ node_of x ∷ []) after)
+    each_in_front (IsDrawn widths) b.kind (marks_of_item b (item_h b h before) (item_v b v before) x) (width_in b x) (picture_after b h v (before ++ node_of x ∷ []) after)
     (leaf_drawn widths b h v before x here (all_front (Within 1073741823) own rest fit))
     (strokes_drawn widths b h v (before ++ node_of x ∷ []) after wide (all_back (Within 1073741823) own rest fit))
 strokes_drawn widths b h v before (box shift frame inner after) (within, wide) (left, (low, (right, (next, (across, (down, fit)))))) =
@@ -151,13 +151,13 @@ strokes_drawn widths b h v before (box shift frame inner after) (within, wide) (
     (strokes_drawn widths (box_of frame inner) x y [] inner within (all_front (Within 1073741823) own rest fit))
     (strokes_drawn widths b h v (before ++ Box shift (box_of frame inner) ∷ []) after wide (all_back (Within 1073741823) own rest fit))
 
--- How many strokes and groups a picture has.
+-- The number of strokes and groups of a picture.
 abbrev pub parts : Picture → ℕ
 parts blank = 0
 parts (stroke mark by rest) = parts rest + 1
 parts (group kind inner rest) = parts inner + 1 + parts rest
 
--- How many bytes the texts of the specials in a picture have.
+-- The number of bytes in the texts of the specials of a picture.
 abbrev pub texts : Picture → ℕ
 texts blank = 0
 texts (stroke (body.Rule x y height width) by rest) = texts rest
@@ -176,7 +176,7 @@ texts-in_glyph : (kind : Kind) (h v : ℤ) (g : Glyph) (by : ℤ) (rest : Pictur
 texts-in_glyph Horizontal h v g by rest = refl
 texts-in_glyph Vertical h v g by rest = refl
 
-texts-in_leaf : (b : BoxNode) (h v : ℤ) (x : Leaf) (rest : Picture) → texts (in_front (mark_of b h v x) (width_in b x) rest) ≡ text_in x + texts rest
+texts-in_leaf : (b : BoxNode) (h v : ℤ) (x : Leaf) (rest : Picture) → texts (in_front (marks_of_item b h v x) (width_in b x) rest) ≡ text_size_in x + texts rest
 texts-in_leaf b h v (glyph g) rest = omega (arith, texts-in_glyph b.kind h v g g.width rest)
 texts-in_leaf b h v (font_kern width) rest = omega arith
 texts-in_leaf b h v (kern width) rest = omega arith
@@ -191,7 +191,7 @@ texts-grouped none own inner rest = omega arith
 texts-grouped (leaf x items) own inner rest = omega arith
 texts-grouped (box shift frame more items) own inner rest = omega arith
 
--- The texts in the picture of a list are at most those of its specials.
+-- The texts in the picture of a list are no longer than those of its specials.
 pub few_texts : (b : BoxNode) (h v : ℤ) (before : List Node) (after : Items) → texts (picture_after b h v before after) ≤ items_text after
 few_texts b h v before none = omega arith
 few_texts b h v before (leaf x after) =
@@ -222,7 +222,7 @@ one_glyph : (kind : Kind) (h v : ℤ) (g : Glyph) → length (glyph_mark kind h 
 one_glyph Horizontal h v g = omega arith
 one_glyph Vertical h v g = omega arith
 
-one_mark : (b : BoxNode) (h v : ℤ) (x : Leaf) → length (mark_of b h v x) ≤ 1
+one_mark : (b : BoxNode) (h v : ℤ) (x : Leaf) → length (marks_of_item b h v x) ≤ 1
 one_mark b h v (glyph g) = one_glyph b.kind h v g
 one_mark b h v (font_kern width) = omega arith
 one_mark b h v (kern width) = omega arith
@@ -252,7 +252,7 @@ grouped_depth (box shift frame more items) own inner rest = omega arith
 pub few_parts : (b : BoxNode) (h v : ℤ) (before : List Node) (after : Items) → parts (picture_after b h v before after) ≤ items_count after
 few_parts b h v before none = omega arith
 few_parts b h v before (leaf x after) =
-    let here = mark_of b (item_h b h before) (item_v b v before) x in
+    let here = marks_of_item b (item_h b h before) (item_v b v before) x in
     omega (
       arith,
       parts-in_front here (width_in b x) (picture_after b h v (before ++ node_of x ∷ []) after),
@@ -274,7 +274,7 @@ few_parts b h v before (box shift frame inner after) =
 pub few_groups : (b : BoxNode) (h v : ℤ) (before : List Node) (after : Items) → groups (picture_after b h v before after) ≤ items_depth after
 few_groups b h v before none = omega arith
 few_groups b h v before (leaf x after) =
-    let here = mark_of b (item_h b h before) (item_v b v before) x in
+    let here = marks_of_item b (item_h b h before) (item_v b v before) x in
     omega (
       arith,
       groups-in_front here (width_in b x) (picture_after b h v (before ++ node_of x ∷ []) after),

@@ -1,4 +1,4 @@
--- The items of a list, gone over one by one: what stands behind the first ones.
+-- The items of a list in order: the state after the first ones.
 use Rattle.std.proofs.Common.{◌≡◌, ◌≢◌, ℕ, zero, suc, ◌+◌, ◌<◌, List, [], ◌∷◌, ◌++◌, length, take, drop, get_or, refl, ap, sym, ◌∙◌, add-one, drop-cons, ◌≤◌, arith}
 use Rattle.std.proofs.lemmas.List.{take_more, length-take-le}
 use Rattle.std.specs.Prelude.{ℤ, pos, ◌+ℤ◌, Bool, true, false, not, ◌&&◌, ◌==◌}
@@ -8,7 +8,7 @@ use Rattle.std.proofs.lemmas.Bool.{eqb-true}
 use Rattle.node_core.specs.declared.tree.Kind.{Kind}
 use Rattle.node_core.specs.declared.tree.Setting.{Setting}
 use Rattle.node_core.specs.Items.{Items, none, leaf, box, items_depth}
-use Rattle.node_core.specs.Nodes.{most_nodes, items_of, nodes_of}
+use Rattle.node_core.specs.Nodes.{max_nodes, items_of, nodes_of}
 use Rattle.node_core.proofs.NodeLemmas.{items_of-nodes_of}
 use Rattle.node_core.specs.declared.tree.Node.{Node}
 use Rattle.node_core.specs.declared.tree.Node.TheVariants as nodes
@@ -17,21 +17,21 @@ use Rattle.scaled_core.specs.Dimensions.{fits}
 use Rattle.pack_core.specs.Places.{place}
 use Rattle.pack_core.specs.Cursors.{Reached, reached, one_more, place_at}
 use Rattle.pack_core.proofs.Walks.{one_more-reached, place-reached, reached-passed}
-use Rattle.ship_core.specs.Marks.{Page, page_v, is_huge, right_at, down_at, list_v, item_h, item_v, box_h, box_v, numbers_at, numbers_behind}
+use Rattle.ship_core.specs.Marks.{ShippedPage, page_v, is_huge, right_at, down_at, list_v, item_h, item_v, box_h, box_v, numbers_at, numbers_behind}
 use Rattle.dvi_ops.specs.Body as body
 use Rattle.ship_core.specs.Drawing.{Picture, stroke, grouped, picture_after}
 use Rattle.ship_core.specs.Placing.{Reaches, numbers_between, strokes_of, strokes_at, reference_h, reference_v}
 use Rattle.ship_core.proofs.Walked.{reach_by}
 
--- What is left from place i on is the item there and what is left behind it.
+-- The items from place i on are the item there and those after it.
 pub left_at : (xs : List Node) (i : ℕ) (x : Node) → i < length xs → x ≡ get_or xs i x → drop i xs ≡ x ∷ drop (i + 1) xs
 left_at xs i x within is = rw (add-one, drop-cons xs i x) (ap (λ y. y ∷ drop (suc i) xs) (sym is))
 
--- The items up to the one at place i are those before it and that one.
+-- The items up to place i are those before it and the item there.
 pub taken_at : (xs : List Node) (i : ℕ) (x : Node) → i < length xs → x ≡ get_or xs i x → take i xs ++ x ∷ [] ≡ take (i + 1) xs
 taken_at xs i x within is = sym (take_more xs i x within ∙ ap (λ y. take i xs ++ y ∷ []) (sym is))
 
--- The items of an item that stands at (h, v), in front of a picture: of a box its picture, as a group; and their numbers.
+-- The items inside an item at (h, v), before a picture: for a box its picture, as a group; and their numbers.
 abbrev pub inside : BoxNode → (h v : ℤ) → Node → Picture → Picture
 inside b h v (nodes.Box shift inner) rest =
     grouped inner.list inner.kind
@@ -44,7 +44,7 @@ numbers_inside b h v (nodes.Box shift inner) =
     numbers_behind inner (box_h b.kind h shift) (list_v inner.kind inner.height (box_v b.kind v shift inner.height)) [] inner.list
 numbers_inside b h v other = []
 
--- What is seen of an item and of the items behind it, and their numbers, by cases on the item.
+-- The picture of an item and of the items after it, and their numbers, by cases on the item.
 pub picture-one :
     (b : BoxNode) (h v : ℤ) (before rest : List Node) (x : Node)
     → picture_after b h v before (items_of (x ∷ rest))
@@ -73,7 +73,7 @@ numbers-one b h v before rest (nodes.Special text) = refl
 numbers-one b h v before rest (nodes.Rule sizes) = refl
 numbers-one b h v before rest (nodes.Box shift inner) = refl
 
--- The picture of what is left, and its numbers.
+-- The picture of the items that are left, and their numbers.
 abbrev pub picture_left : BoxNode → (h v : ℤ) → List Node → ℕ → Picture
 picture_left b h v xs i = picture_after b h v (take i xs) (items_of (drop i xs))
 
@@ -101,7 +101,7 @@ numbers_more b h v xs i x within is =
     ∙ ap (λ before. numbers_at b h v (take i xs) x
     ++ (numbers_inside b (item_h b h (take i xs)) (item_v b v (take i xs)) x ++ numbers_behind b h v before (items_of (drop (i + 1) xs)))) (taken_at xs i x within is))
 
--- Whether the numbers of what is left fit.
+-- Whether the numbers of the items that are left fit.
 pub fits_more :
     (b : BoxNode) (h v : ℤ) (xs : List Node) (i : ℕ) (x : Node) → i < length xs → x ≡ get_or xs i x
     → list_all fits (numbers_left b h v xs i)
@@ -114,7 +114,7 @@ fits_more b h v xs i x within is =
     ap (list_all fits) (numbers_more b h v xs i x within is)
     ∙ (list_all-append fits here (inner ++ later) ∙ ap (λ rest. list_all fits here && rest) (list_all-append fits inner later))
 
--- The numbers and the marks of an item behind those that a walk has passed.
+-- The numbers and the marks of an item, from the state of a walk that has passed those before it.
 pub between-at :
     (b : BoxNode) (h v : ℤ) (before : List Node) (x : Node)
     → numbers_between b h v (place_at b.setting (reached b.kind b.setting before)) (place_at b.setting (one_more b.kind b.setting (reached b.kind b.setting before) x)) x
@@ -125,7 +125,7 @@ between-at b h v before x =
     (ap (place_at b.setting) (one_more-reached b.kind b.setting before x) ∙ place-reached b.kind b.setting (before ++ x ∷ []))
     ∙ ap (λ here. numbers_between b h v here next x) (place-reached b.kind b.setting before)
 
--- Where a walk stands that has passed those before an item.
+-- The place of a walk that has passed the items before an item.
 pub reached-place :
     (b : BoxNode) (before : List Node) (from : Reached) → from ≡ reached b.kind b.setting before → place_at b.setting from ≡ place b.kind b.setting before
 reached-place b before from at = ap (place_at b.setting) at ∙ place-reached b.kind b.setting before
@@ -150,7 +150,7 @@ second_of_three true true c all = refl
 second_of_three true false c all = cc
 second_of_three false b c all = cc
 
--- Whether the numbers of an item fit, as a walk that has passed those before it sees it.
+-- Whether the numbers of an item fit, from the state of a walk that has passed those before it.
 pub item_fits :
     (b : BoxNode) (h v : ℤ) (before : List Node) (x : Node) (from : Reached) (found : Bool) → from ≡ reached b.kind b.setting before
     → found ≡ list_all fits (numbers_between b h v (place_at b.setting from) (place_at b.setting (one_more b.kind b.setting from x)) x)
@@ -160,10 +160,10 @@ item_fits b h v before x from found at is =
     ∙ (ap (λ (r : Reached). list_all fits (numbers_between b h v (place_at b.setting r) (place_at b.setting (one_more b.kind b.setting r x)) x)) at
     ∙ ap (list_all fits) (between-at b h v before x))
 
--- A walk in front of an item has passed fewer than a list may have.
+-- A walk before an item has passed fewer items than the greatest length of a list.
 pub few_passed :
-    (kind : Kind) (setting : Setting) (xs : List Node) (i : ℕ) (from : Reached) → from ≡ reached kind setting (take i xs) → i < length xs → length xs ≤ most_nodes
-    → from.passed < most_nodes
+    (kind : Kind) (setting : Setting) (xs : List Node) (i : ℕ) (from : Reached) → from ≡ reached kind setting (take i xs) → i < length xs → length xs ≤ max_nodes
+    → from.passed < max_nodes
 few_passed kind setting xs i from at within short =
     omega (arith, ap (λ (r : Reached). r.passed) at, reached-passed kind setting (take i xs), length-take-le i xs (omega (arith, within)), within, short)
 
@@ -176,18 +176,18 @@ second_false false b c is = refl
 second_false true false c is = refl
 second_false true true c is = absurd (cc)
 
--- In front of all items.
+-- A walk before all items.
 pub reached-none : (kind : Kind) (setting : Setting) → record { natural = pos 0; shares = pos 0; passed = 0 } ≡ reached kind setting []
 unfolding reached
 reached-none kind setting = refl
 
--- The marks of an item and its reference point, as such a walk sees them.
+-- The marks of an item and its reference point, from the state of such a walk.
 pub item_strokes :
     (b : BoxNode) (h v : ℤ) (before : List Node) (x : Node) (from : Reached) (rest found : Picture) → from ≡ reached b.kind b.setting before
     → found ≡ strokes_at b h v (place_at b.setting from) x rest → found ≡ strokes_of b (item_h b h before) (item_v b v before) x rest
 item_strokes b h v before x from rest found at is = is ∙ ap (λ here. strokes_at b h v here x rest) (reached-place b before from at)
 
--- The item behind a glyph or a rule stands where h is behind it.
+-- The item after a glyph or a rule is where h is after it.
 pub reach : (b : BoxNode) (h : ℤ) (before : List Node) (x : Node) → Reaches b.kind (item_h b h before) (item_h b h (before ++ x ∷ [])) x
 reach b h before x =
     let from = reached b.kind b.setting before in
@@ -195,7 +195,7 @@ reach b h before x =
     reach_by b.kind b.setting from h (item_h b h before) (item_h b h (before ++ x ∷ [])) x (sym (ap (right_at b.kind h) (place-reached b.kind b.setting before)))
     (sym (ap (right_at b.kind h) next))
 
--- Where the list of an inner box begins, whose reference point is found by a walk that has passed the items before it.
+-- The start of the list of an inner box, whose reference point comes from a walk that has passed the items before it.
 pub inner_begin :
     (b inner : BoxNode) (h v : ℤ) (before : List Node) (x : Node) (shift : ℤ) (from : Reached) (at_h at_v begin_h begin_v : ℤ)
     → from ≡ reached b.kind b.setting before → x ≡ nodes.Box shift inner
@@ -263,7 +263,7 @@ leaf_picture b h v (nodes.Penalty p) rest other no_text = refl
 leaf_picture b h v (nodes.Special text) rest other no_text = absurd (no_text text refl)
 leaf_picture b h v (nodes.Rule sizes) rest other no_text = refl
 
--- A special that is found by a walk which has passed the items before it stands at its place.
+-- A special that a walk reaches after the items before it is at its place.
 pub special_picture :
     (b : BoxNode) (h v : ℤ) (before : List Node) (x : Node) (text : List ℕ) (from : Reached) (at_h at_v : ℤ) (rest : Picture)
     → from ≡ reached b.kind b.setting before → x ≡ nodes.Special text
@@ -300,8 +300,8 @@ inner_depth items xs i x shift inner within at all is =
     let whole : items_of xs ≡ items = ap items_of all ∙ items_of-nodes_of items in
     omega (arith, left_depth i xs, ap (λ nodes. items_depth (items_of nodes)) left, ap items_depth whole)
 
--- A page that reaches too far is huge; another one where the numbers of its items do not fit.
-pub ends_huge : (page : Page) → (fits (page.v +ℤ page.box_node.depth) && fits (page.h +ℤ page.box_node.width)) ≡ false → is_huge page ≡ true
+-- A page whose bottom or right edge does not fit is huge; another page is huge where the numbers of its items do not fit.
+pub ends_huge : (page : ShippedPage) → (fits (page.v +ℤ page.box_node.depth) && fits (page.h +ℤ page.box_node.width)) ≡ false → is_huge page ≡ true
 unfolding is_huge
 ends_huge page over =
     by_tests (fits (page.v +ℤ page.box_node.depth)) (fits (page.h +ℤ page.box_node.width))
@@ -313,7 +313,7 @@ ends_huge page over =
     by_tests false b c over = refl
 
 pub items_huge :
-    (page : Page) (fit : Bool) → (fits (page.v +ℤ page.box_node.depth) && fits (page.h +ℤ page.box_node.width)) ≡ true
+    (page : ShippedPage) (fit : Bool) → (fits (page.v +ℤ page.box_node.depth) && fits (page.h +ℤ page.box_node.width)) ≡ true
     → fit ≡ list_all fits (numbers_behind page.box_node page.h (page_v page) [] page.box_node.list) → is_huge page ≡ not fit
 unfolding is_huge
 items_huge page fit within is =
@@ -327,6 +327,6 @@ items_huge page fit within is =
     by_tests false b c within = absurd (cc)
 
 -- The numbers of the items of a page that is not huge fit.
-pub items_fit : (page : Page) → is_huge page ≡ false → list_all fits (numbers_behind page.box_node page.h (page_v page) [] page.box_node.list) ≡ true
+pub items_fit : (page : ShippedPage) → is_huge page ≡ false → list_all fits (numbers_behind page.box_node page.h (page_v page) [] page.box_node.list) ≡ true
 unfolding is_huge
 items_fit page small = last_of_three _ _ _ small

@@ -1,52 +1,52 @@
--- The most pushes that are open at once in a body is how deep its groups nest.
+-- The greatest number of pushes that are open at once in a body is the depth of its groups.
 use Rattle.std.proofs.Common.{◌≡◌, ℕ, ◌+◌, ◌-◌, ◌<◌, ◌≤◌, max, List, [], ◌∷◌, ◌++◌, length, map, drop, get_or, append_assoc, refl, ap, add-one, drop-cons, arith}
 use Rattle.std.proofs.lemmas.List.{append-nil, drop_all}
 use Rattle.dvi_ops.specs.Instruction.{Instruction, Do, Push, Pop, Bop, Eop, Pre, Post, PostPost}
 use Rattle.dvi_ops.specs.Forest.{Forest, Empty, Then, Group, flat, nests}
-use Rattle.dvi_ops.specs.View.{view}
-use Rattle.dvi_ops.specs.declared.op.Op.{Op}
-use Rattle.ship_core.specs.Pushes.{pushed_after, most_pushed}
+use Rattle.dvi_ops.specs.View.{body_view}
+use Rattle.dvi_ops.specs.declared.body_op.BodyOp.{BodyOp}
+use Rattle.ship_core.specs.Pushes.{pushed_after, max_pushed}
 
--- As many are open as before, at least.
-pushed_before : (pushed : ℕ) (is : List Instruction) → pushed ≤ most_pushed pushed is
+-- At least as many are open as before.
+pushed_before : (pushed : ℕ) (is : List Instruction) → pushed ≤ max_pushed pushed is
 pushed_before pushed [] = omega arith
 pushed_before pushed (i ∷ is) = omega arith
 
 popped : (pushed : ℕ) → pushed + 1 - 1 ≡ pushed
 popped pushed = omega arith
 
--- A body in front of others adds its depth, and leaves open what was open.
-most_pushed-flat : (pushed : ℕ) (body : Forest) (is : List Instruction) → most_pushed pushed (flat body ++ is) ≡ max (pushed + nests body) (most_pushed pushed is)
+-- A body before other instructions adds its depth, and leaves the number of open pushes as it was.
+most_pushed-flat : (pushed : ℕ) (body : Forest) (is : List Instruction) → max_pushed pushed (flat body ++ is) ≡ max (pushed + nests body) (max_pushed pushed is)
 most_pushed-flat pushed Empty is = omega (arith, pushed_before pushed is)
 most_pushed-flat pushed (Then i rest) is = omega (arith, most_pushed-flat pushed rest is)
 most_pushed-flat pushed (Group inner rest) is =
     let all = (flat inner ++ Pop ∷ flat rest) ++ is in
     let behind = flat rest ++ is in
-    let start : most_pushed pushed (flat (Group inner rest) ++ is) ≡ max pushed (most_pushed (pushed + 1) all) = refl in
-    let back : most_pushed (pushed + 1) (Pop ∷ behind) ≡ max (pushed + 1) (most_pushed pushed behind) =
-    ap (λ n. max (pushed + 1) (most_pushed n behind)) (popped pushed) in
+    let start : max_pushed pushed (flat (Group inner rest) ++ is) ≡ max pushed (max_pushed (pushed + 1) all) = refl in
+    let back : max_pushed (pushed + 1) (Pop ∷ behind) ≡ max (pushed + 1) (max_pushed pushed behind) =
+    ap (λ n. max (pushed + 1) (max_pushed n behind)) (popped pushed) in
     omega (
       arith,
       start,
-      ap (most_pushed (pushed + 1)) (append_assoc (flat inner) (Pop ∷ flat rest) is),
+      ap (max_pushed (pushed + 1)) (append_assoc (flat inner) (Pop ∷ flat rest) is),
       most_pushed-flat (pushed + 1) inner (Pop ∷ behind),
       back,
       most_pushed-flat pushed rest is,
     )
 
-pub depth-flat : (body : Forest) → most_pushed 0 (flat body) ≡ nests body
-depth-flat body = omega (arith, ap (most_pushed 0) (append-nil (flat body)), most_pushed-flat 0 body [])
+pub depth-flat : (body : Forest) → max_pushed 0 (flat body) ≡ nests body
+depth-flat body = omega (arith, ap (max_pushed 0) (append-nil (flat body)), most_pushed-flat 0 body [])
 
--- The rest adds to what was seen as all does from the start; and no more are open than instructions were seen.
-pub record IsSeen (ops : List Op) (index pushed deepest : ℕ) : Type 0 where
-  pub value : max deepest (most_pushed pushed (map view (drop index ops))) ≡ most_pushed 0 (map view ops)
+-- The rest, together with what was seen, has the depth of the whole; and at most as many are open as instructions were seen.
+pub record IsSeen (ops : List BodyOp) (index pushed deepest : ℕ) : Type 0 where
+  pub value : max deepest (max_pushed pushed (map body_view (drop index ops))) ≡ max_pushed 0 (map body_view ops)
   pub seen : pushed ≤ deepest
   pub few : pushed ≤ index
 
 -- The next instruction.
 most_pushed-more :
-    (pushed : ℕ) (xs : List Op) (i : ℕ) (d : Op) → i < length xs
-    → most_pushed pushed (map view (drop i xs)) ≡ max pushed (most_pushed (pushed_after pushed (view (get_or xs i d))) (map view (drop (i + 1) xs)))
+    (pushed : ℕ) (xs : List BodyOp) (i : ℕ) (d : BodyOp) → i < length xs
+    → max_pushed pushed (map body_view (drop i xs)) ≡ max pushed (max_pushed (pushed_after pushed (body_view (get_or xs i d))) (map body_view (drop (i + 1) xs)))
 most_pushed-more pushed xs i d within = rw (add-one, drop-cons xs i d) refl
 
 one_more : (pushed : ℕ) (i : Instruction) → pushed_after pushed i ≤ pushed + 1
@@ -60,24 +60,24 @@ one_more pushed (Post p) = omega arith
 one_more pushed (PostPost place id) = omega arith
 
 pub seen_more :
-    (ops : List Op) (i pushed deepest next deeper : ℕ) (d : Op) → i < length ops → IsSeen ops i pushed deepest → next ≡ pushed_after pushed (view (get_or ops i d))
+    (ops : List BodyOp) (i pushed deepest next deeper : ℕ) (d : BodyOp) → i < length ops → IsSeen ops i pushed deepest → next ≡ pushed_after pushed (body_view (get_or ops i d))
     → deeper ≡ max deepest next → IsSeen ops (i + 1) next deeper
 seen_more ops i pushed deepest next deeper d within before is most =
-    let rest = map view (drop (i + 1) ops) in
+    let rest = map body_view (drop (i + 1) ops) in
     record {
       value = omega (
         arith,
         most_pushed-more pushed ops i d within,
-        ap (λ n. most_pushed n rest) is,
+        ap (λ n. max_pushed n rest) is,
         pushed_before next rest,
         before.value,
         before.seen,
         most,
       );
       seen = omega (arith, most);
-      few = omega (arith, is, one_more pushed (view (get_or ops i d)), before.few);
+      few = omega (arith, is, one_more pushed (body_view (get_or ops i d)), before.few);
     }
 
-pub seen_all : (ops : List Op) (i pushed deepest : ℕ) → length ops ≤ i → IsSeen ops i pushed deepest → deepest ≡ most_pushed 0 (map view ops)
+pub seen_all : (ops : List BodyOp) (i pushed deepest : ℕ) → length ops ≤ i → IsSeen ops i pushed deepest → deepest ≡ max_pushed 0 (map body_view ops)
 seen_all ops i pushed deepest past before =
-    omega (arith, ap (λ (rest : List Op). most_pushed pushed (map view rest)) (drop_all i ops past), before.value, before.seen)
+    omega (arith, ap (λ (rest : List BodyOp). max_pushed pushed (map body_view rest)) (drop_all i ops past), before.value, before.seen)

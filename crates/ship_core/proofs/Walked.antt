@@ -1,5 +1,5 @@
 -- The items of a box between two places of its list.
-use Rattle.std.proofs.Common.{◌≡◌, ◌∙◌, ◌+◌, ℕ, List, [], ◌∷◌, refl, ap, ap₂, sym, arith}
+use Rattle.std.proofs.Common.{◌≡◌, ◌∙◌, ◌+◌, ℕ, List, [], ◌∷◌, refl, ap, ap₂, sym, subst, arith}
 use Rattle.std.specs.Prelude.{ℤ, pos, ◌+ℤ◌, Bool, true, false, ◌&&◌, if◌then◌else◌, Option, Some, None}
 use Rattle.std.specs.List.{list_all}
 use Rattle.std.proofs.lemmas.Int.{ints}
@@ -16,26 +16,26 @@ use Rattle.pack_core.specs.Items.{advance, own_size}
 use Rattle.scaled_core.specs.Dimensions.{fits}
 use Rattle.pack_core.specs.Places.{share, set_by}
 use Rattle.pack_core.specs.Cursors.{Reached, one_more, moved_on, place_at}
-use Rattle.ship_core.specs.declared.placing.Position.{Position}
-use Rattle.ship_core.specs.Marks.{right_at, down_at, rule_below, rule_tall, rule_wide, box_h, box_v, numbers_of}
+use Rattle.ship_core.specs.declared.placing.PagePosition.{PagePosition}
+use Rattle.ship_core.specs.Marks.{right_at, down_at, rule_below, rule_tall, rule_wide, box_h, box_v, points_and_sizes}
 use Rattle.ship_core.specs.Drawing.{Picture}
 use Rattle.ship_core.specs.declared.placing.PlacedItem.{PlacedItem}
-use Rattle.std.specs.Option.{IfSome}
+use Rattle.std.specs.Option.{IfSome, OnSome}
 use Rattle.ship_core.specs.Placing.{strokes_of, point, point_in, numbers_between, strokes_at, is_rigid, Reaches}
 
 -- A point is at its numbers.
-pub point-is : (h v : ℤ) (p : Position) → point h v ≡ Some p → (p.h ≡ h) × (p.v ≡ v)
+pub point-is : (h v : ℤ) (p : PagePosition) → point h v ≡ Some p → (p.h ≡ h) × (p.v ≡ v)
 point-is h v p is = by_test (fits h && fits v) is
   where
     by_test : (b : Bool) → (if b then Some (record { h = h; v = v }) else None) ≡ Some p → (p.h ≡ h) × (p.v ≡ v)
     by_test true is = (cc, cc)
     by_test false is = absurd (cc)
 
--- Where there is none, one of the numbers does not fit.
+-- Where there is no point, one of the numbers does not fit.
 no_point : (h v : ℤ) → point h v ≡ None → (fits h && fits v) ≡ false
 no_point h v is = by_test (record { h = h; v = v }) (fits h && fits v) is
   where
-    by_test : (p : Position) (b : Bool) → (if b then Some p else None) ≡ None → b ≡ false
+    by_test : (p : PagePosition) (b : Bool) → (if b then Some p else None) ≡ None → b ≡ false
     by_test p true is = absurd (cc)
     by_test p false is = refl
 
@@ -65,7 +65,7 @@ between-none b h v place next x is = by_node x
     y1 : ℤ
     y1 = down_at b.kind v next
 
-    by_node : (x : Node) → list_all fits (numbers_of b x0 y0 x1 y1 x) ≡ false
+    by_node : (x : Node) → list_all fits (points_and_sizes b x0 y0 x1 y1 x) ≡ false
     by_node (nodes.Glyph g) = third_fits x0 y0 x1 y1 [] (no_point x1 y1 is)
     by_node (nodes.FontKern w) = third_fits x0 y0 x1 y1 [] (no_point x1 y1 is)
     by_node (nodes.Kern w) = third_fits x0 y0 x1 y1 [] (no_point x1 y1 is)
@@ -75,21 +75,21 @@ between-none b h v place next x is = by_node x
     by_node (nodes.Rule r) = third_fits x0 y0 x1 y1 ((y0 +ℤ rule_below b.kind b r) ∷ rule_tall b.kind b r ∷ rule_wide b.kind b r ∷ []) (no_point x1 y1 is)
     by_node (nodes.Box shift inner) = third_fits x0 y0 x1 y1 (box_h b.kind x0 shift ∷ box_v b.kind y0 shift inner.height ∷ []) (no_point x1 y1 is)
 
--- And one whose two places fit.
+-- An item whose two places fit.
 pub between-points :
-    (b : BoxNode) (h v place next : ℤ) (at behind : Position) (x : Node) → point_in b h v place ≡ Some at → point_in b h v next ≡ Some behind
-    → numbers_between b h v place next x ≡ numbers_of b at.h at.v behind.h behind.v x
+    (b : BoxNode) (h v place next : ℤ) (at behind : PagePosition) (x : Node) → point_in b h v place ≡ Some at → point_in b h v next ≡ Some behind
+    → numbers_between b h v place next x ≡ points_and_sizes b at.h at.v behind.h behind.v x
 between-points b h v place next at behind x here there =
     let p = point-is (right_at b.kind h place) (down_at b.kind v place) at here in
     let q = point-is (right_at b.kind h next) (down_at b.kind v next) behind there in
     cc (p.0, p.1, q.0, q.1)
 
 pub strokes-point :
-    (b : BoxNode) (h v place : ℤ) (at : Position) (x : Node) (rest : Picture) → point_in b h v place ≡ Some at
+    (b : BoxNode) (h v place : ℤ) (at : PagePosition) (x : Node) (rest : Picture) → point_in b h v place ≡ Some at
     → strokes_at b h v place x rest ≡ strokes_of b at.h at.v x rest
 strokes-point b h v place at x rest here = let p = point-is (right_at b.kind h place) (down_at b.kind v place) at here in cc (p.0, p.1)
 
--- A glyph or a rule takes no part in a setting.
+-- A glyph or a rule is independent of the glue setting.
 share_glyph : (setting : Setting) (g : Glyph) → share setting (nodes.Glyph g) ≡ pos 0
 share_glyph settings.Natural g = refl
 share_glyph (settings.Stretch order ratio) g = refl
@@ -113,7 +113,7 @@ right_by :
     → x ≡ h +ℤ place_at setting from → y ≡ h +ℤ ((from.natural +ℤ by) +ℤ set_by setting (from.shares +ℤ part)) → y ≡ x +ℤ by
 right_by setting from h by part none x y here there = there ∙ (right_more setting from h by part none ∙ sym (ap (λ z. z +ℤ by) here))
 
--- So the item behind it stands where h is behind it.
+-- The item after it is therefore where h is after it.
 pub reach_by :
     (kind : Kind) (setting : Setting) (from : Reached) (h at behind : ℤ) (x : Node) → at ≡ right_at kind h (place_at setting from)
     → behind ≡ right_at kind h (place_at setting (one_more kind setting from x)) → Reaches kind at behind x
@@ -129,7 +129,7 @@ reach_by Vertical setting from h at behind (nodes.Rule r) first next = next ∙ 
 reach_by kind setting from h at behind (nodes.Box shift inner) first next = tt
 
 pub reaches :
-    (b : BoxNode) (h v : ℤ) (from : Reached) (at behind : Position) (x : Node) → point_in b h v (place_at b.setting from) ≡ Some at
+    (b : BoxNode) (h v : ℤ) (from : Reached) (at behind : PagePosition) (x : Node) → point_in b h v (place_at b.setting from) ≡ Some at
     → point_in b h v (place_at b.setting (one_more b.kind b.setting from x)) ≡ Some behind → Reaches b.kind at.h behind.h x
 reaches b h v from at behind x here there =
     let p = point-is (right_at b.kind h (place_at b.setting from)) (down_at b.kind v (place_at b.setting from)) at here in
@@ -137,7 +137,7 @@ reaches b h v from at behind x here there =
     let q = point-is (right_at b.kind h next) (down_at b.kind v next) behind there in
     reach_by b.kind b.setting from h at.h behind.h x p.0 q.0
 
--- An item that is no glue takes no part in a setting.
+-- An item other than glue is independent of the glue setting.
 share_rigid : (setting : Setting) (x : Node) → is_rigid x ≡ true → share setting x ≡ pos 0
 share_rigid setting (nodes.Glue g) is = absurd (cc)
 share_rigid settings.Natural (nodes.Glyph g) is = refl
@@ -165,7 +165,7 @@ share_rigid (settings.Shrink order ratio) (nodes.Box shift b) is = refl
 abbrev reaching : (natural shares : ℤ) (passed : ℕ) → Reached
 reaching natural shares passed = record { natural = natural; shares = shares; passed = passed }
 
--- So past such an item only the distance that was gone counts, and how many items were passed.
+-- After such an item only the distance of the walk and the number of passed items change.
 pub rigid_more :
     (kind : Kind) (setting : Setting) (from : Reached) (x : Node) (distance : ℤ) → is_rigid x ≡ true → distance ≡ advance kind x
     → moved_on from distance ≡ one_more kind setting from x
@@ -184,16 +184,23 @@ behind_by Vertical setting from h v x y by part none across down =
     let next = (from.natural +ℤ by) +ℤ set_by setting (from.shares +ℤ part) in
     ap (λ z. point x z) (sym (right_by setting from v by part none y (v +ℤ next) down refl)) ∙ ap (λ z. point z (v +ℤ next)) across
 
--- The position behind an item that takes no part in a setting is as far from its own as the item advances.
+-- The position after an item that is independent of the setting is its own plus the advance of the item.
 pub rigid_behind :
-    (b : BoxNode) (h v : ℤ) (from : Reached) (at : Position) (x : Node) → is_rigid x ≡ true → point_in b h v (place_at b.setting from) ≡ Some at
+    (b : BoxNode) (h v : ℤ) (from : Reached) (at : PagePosition) (x : Node) → is_rigid x ≡ true → point_in b h v (place_at b.setting from) ≡ Some at
     → point (right_at b.kind at.h (advance b.kind x)) (down_at b.kind at.v (advance b.kind x))
     ≡ point_in b h v (place_at b.setting (one_more b.kind b.setting from x))
 rigid_behind b h v from at x rigid here =
     let p = point-is (right_at b.kind h (place_at b.setting from)) (down_at b.kind v (place_at b.setting from)) at here in
     behind_by b.kind b.setting from h v at.h at.v (advance b.kind x) (share b.setting x) (share_rigid b.setting x rigid) p.0 p.1
 
--- What is known of an item that is found, said in another way.
+-- The facts about an item that was found, stated in another way.
 pub found_so : (P Q : PlacedItem → Type 0) → ((s : PlacedItem) → P s → Q s) → (result : Option PlacedItem) → IfSome result P → IfSome result Q
 found_so P Q so None is = tt
 found_so P Q so (Some s) is = so s is
+
+-- The facts about a place that was found.
+pub told : (P : PagePosition → Type 0) (found : Option PagePosition) (at : PagePosition) → found ≡ Some at → IfSome found P → P at
+told P found at is holds = subst (λ (f : Option PagePosition). IfSome f P) is holds
+
+pub told_on : (P : Type 0) (found : Option PagePosition) (at : PagePosition) → found ≡ Some at → OnSome found P → P
+told_on P found at is holds = subst (λ (f : Option PagePosition). OnSome f P) is holds

@@ -12,9 +12,9 @@ use Rattle.dvi_ops.specs.Instruction as instructions
 use Rattle.dvi_ops.specs.Instruction.{Axis, Across, Downward, By, Move, SetChar, SetRule, PutRule, FontNum, Xxx}
 use Rattle.dvi_ops.specs.Body.{Mark, Glyph, Rule, Special}
 use Rattle.dvi_ops.specs.Forest.{Forest, Empty, Then, Group}
-use Rattle.ship_core.specs.Marks.{Page, rule_wide, mark_of, item_h, item_v, box_h, box_v, list_v, page_v}
+use Rattle.ship_core.specs.Marks.{ShippedPage, rule_wide, marks_of_item, item_h, item_v, box_h, box_v, list_v, page_v}
 
--- How wide the mark of an item is.
+-- The width of an item's mark.
 abbrev pub width_in : BoxNode → Leaf → ℤ
 width_in b (glyph g) = g.width
 width_in b (font_kern width) = pos 0
@@ -24,28 +24,29 @@ width_in b (penalty p) = pos 0
 width_in b (special text) = pos 0
 width_in b (rule sizes) = rule_wide b.kind b sizes
 
--- What is seen of a list: strokes, each a mark and its width, and the pictures of boxes, each with the kind of its list.
+-- The picture of a list: strokes, each a mark and its width, and groups, which are the pictures of boxes, each with the kind of its list. A list of
+-- marks does not show where groups begin, and a tree does not show where marks are.
 pub data Picture : Type 0 where
   blank : Picture
   stroke : Mark → (width : ℤ) → Picture → Picture
   group : Kind → Picture → Picture → Picture
 
--- Marks of that width in front of a picture.
+-- Marks of that width, before a picture.
 abbrev pub in_front : List Mark → (width : ℤ) → Picture → Picture
 in_front [] width rest = rest
 in_front (mark ∷ marks) width rest = stroke mark width (in_front marks width rest)
 
--- The picture of a box in front of another; a box without items is not seen.
+-- The picture of a box before another picture. A box without items makes no group.
 abbrev pub grouped : Items → Kind → Picture → Picture → Picture
 grouped none kind inner rest = rest
 grouped (leaf x items) kind inner rest = group kind inner rest
 grouped (box shift frame more items) kind inner rest = group kind inner rest
 
--- The picture of the items `after`, which stand in the list of the box behind the items `before`; the list begins at (h, v).
+-- The picture of the items `after`, which follow the items `before` in the list of the box; the list begins at (h, v).
 abbrev pub picture_after : BoxNode → (h v : ℤ) → (before : List Node) → (after : Items) → Picture
 picture_after b h v before none = blank
 picture_after b h v before (leaf x after) =
-    in_front (mark_of b (item_h b h before) (item_v b v before) x) (width_in b x) (picture_after b h v (before ++ node_of x ∷ []) after)
+    in_front (marks_of_item b (item_h b h before) (item_v b v before) x) (width_in b x) (picture_after b h v (before ++ node_of x ∷ []) after)
 picture_after b h v before (box shift frame inner after) =
     grouped inner frame.kind
     (picture_after (box_of frame inner) (box_h b.kind (item_h b h before) shift)
@@ -64,16 +65,16 @@ selected None font rest = Then (FontNum font) rest
 selected (Some current) font rest = if int_eq font current then rest else Then (FontNum font) rest
 
 -- The instruction for a rule: in a horizontal list it moves to the right by its width, in a vertical one it moves nothing.
-abbrev pub ruled : Kind → (height width : ℤ) → instructions.Leaf
+abbrev pub ruled : Kind → (height width : ℤ) → instructions.BodyLeaf
 ruled Horizontal height width = SetRule height width
 ruled Vertical height width = PutRule height width
 
--- Where h is behind a rule of that width: further by the width in a horizontal list, and where it was in a vertical one.
+-- The value of h after a rule of that width: larger by the width in a horizontal list, the same in a vertical one.
 abbrev pub after_rule : Kind → (h width : ℤ) → ℤ
 after_rule Horizontal h width = h +ℤ width
 after_rule Vertical h width = h
 
--- The font behind a picture, where `current` is that in front of it.
+-- The font after a picture, where `current` is the font before it.
 abbrev pub font_after : (current : Option ℤ) → Picture → Option ℤ
 font_after current blank = current
 font_after current (stroke (Rule x y height width) by rest) = font_after current rest
@@ -81,9 +82,9 @@ font_after current (stroke (Glyph font code x y) by rest) = font_after (Some fon
 font_after current (stroke (Special x y text) by rest) = font_after current rest
 font_after current (group kind inner rest) = font_after (font_after current inner) rest
 
--- What draws a picture of a list of that kind where (h, v) is the place and `current` the font: before each mark, right and down by what is
--- missing, and before a glyph its font, if that is another one. A box is drawn between push and pop, from where the place is; behind it the
--- place is that from before it, and the font stays.
+-- The body that draws a picture of a list of that kind, where (h, v) is the place and `current` the font. Before each mark come the movements right
+-- and down to it, and before a glyph its font, unless it is the current one. A box is drawn between push and pop, from the current place; after it
+-- the place is the one before it, and the font stays.
 abbrev pub drawn : Kind → (h v : ℤ) → (current : Option ℤ) → Picture → Forest
 drawn kind h v current blank = Empty
 drawn kind h v current (stroke (Rule x y height width) by rest) =
@@ -98,9 +99,9 @@ drawn kind h v current (group own inner rest) =
     Group (drawn own h v current inner) (drawn kind h v (font_after current inner) rest)
 
 -- The picture of a page.
-abbrev pub picture_of_page : Page → Picture
+abbrev pub picture_of_page : ShippedPage → Picture
 picture_of_page page = picture_after page.box_node page.h (page_v page) [] page.box_node.list
 
 -- The body of a page, from its origin and without a font.
-unfoldable pub body_of : Page → Forest
+unfoldable pub body_of : ShippedPage → Forest
 body_of page = drawn page.box_node.kind (pos 0) (pos 0) None (picture_of_page page)

@@ -1,4 +1,4 @@
--- The marks of a page, and what draws them.
+-- The marks of a page, and the instructions that draw them.
 pub mod Marks
 pub mod Pages
 pub mod Drawing

@@ -1,4 +1,4 @@
--- What the shipping of a box goes through, one item after the other (own; private calls alone, no public clause speaks of it).
+-- The placing and drawing of a box, item by item (own; private calls alone, no public clause speaks of it).
 use Rattle.std.specs.Prelude.{◌≡◌, ◌+ℤ◌, ◌++◌, ◌&&◌, [], ◌∷◌, ℤ, pos, negsuc, zero, suc, if◌then◌else◌, Bool, true, false, List, map, Option, Some, None}
 use Rattle.std.specs.Ordering.{int_eq}
 use Rattle.std.specs.Option.{option_map}
@@ -11,41 +11,41 @@ use Rattle.dvi_ops.specs.Instruction.{Axis, Move, By, FontNum, SetChar, Instruct
 use Rattle.dvi_ops.specs.Body as body
 use Rattle.dvi_ops.specs.Body.{Mark}
 use Rattle.dvi_ops.specs.Forest.{flat}
-use Rattle.dvi_ops.specs.View.{view}
+use Rattle.dvi_ops.specs.View.{body_view}
 use Rattle.pack_core.specs.Items.{own_size}
 use Rattle.scaled_core.specs.Dimensions.{fits}
-use Rattle.ship_core.specs.Marks.{right_at, down_at, box_h, box_v, mark_of, numbers_of}
-use Rattle.ship_core.specs.declared.placing.Position.{Position}
-use Rattle.ship_core.specs.declared.placing.Ink.{Ink}
-use Rattle.ship_core.specs.declared.placing.Ink.TheVariants as ink
-use Rattle.ship_core.specs.declared.placing.MarkAt.{MarkAt}
+use Rattle.ship_core.specs.Marks.{right_at, down_at, box_h, box_v, marks_of_item, points_and_sizes}
+use Rattle.ship_core.specs.declared.placing.PagePosition.{PagePosition}
+use Rattle.ship_core.specs.declared.placing.MarkKind.{MarkKind}
+use Rattle.ship_core.specs.declared.placing.MarkKind.TheVariants as ink
+use Rattle.ship_core.specs.declared.placing.PlacedMark.{PlacedMark}
 use Rattle.ship_core.specs.declared.drawing.Drawing.{Drawing}
 use Rattle.ship_core.specs.Drawing.{Picture, stroke, width_in, in_front, ruled, after_rule, font_after, drawn}
 
 -- A point of a page, where both numbers fit.
-abbrev pub point : (h v : ℤ) → Option Position
+abbrev pub point : (h v : ℤ) → Option PagePosition
 point h v = if fits h && fits v then Some (record { h = h; v = v }) else None
 
--- The mark of ink at a place, of that width.
-abbrev pub mark_with : (h v width : ℤ) → Ink → Mark
+-- The mark of ink at a place, with that width.
+abbrev pub mark_with : (h v width : ℤ) → MarkKind → Mark
 mark_with h v width (ink.Rule height) = body.Rule h v height width
 mark_with h v width (ink.Glyph slot code) = body.Glyph (pos slot) (pos code) h v
 
--- A mark, if there is one, in front of a picture.
-abbrev pub strokes_in : Option MarkAt → Picture → Picture
+-- A mark, if there is one, before a picture.
+abbrev pub strokes_in : Option PlacedMark → Picture → Picture
 strokes_in None rest = rest
 strokes_in (Some m) rest = stroke (mark_with m.h m.v m.width m.ink) m.width rest
 
--- Where h is behind ink of that width.
-abbrev pub behind : Kind → (h width : ℤ) → Ink → ℤ
-behind kind h width (ink.Rule height) = after_rule kind h width
-behind kind h width (ink.Glyph slot code) = h +ℤ width
+-- The value of h after ink of that width.
+abbrev pub h_after_mark : Kind → (h width : ℤ) → MarkKind → ℤ
+h_after_mark kind h width (ink.Rule height) = after_rule kind h width
+h_after_mark kind h width (ink.Glyph slot code) = h +ℤ width
 
--- The end of a mark is where h is behind its ink.
-abbrev pub Ends : Kind → MarkAt → Type 0
-Ends kind m = m.end ≡ behind kind m.h m.width m.ink
+-- The end of a mark is the value of h after its ink.
+abbrev pub IsMarkEnd : Kind → PlacedMark → Type 0
+IsMarkEnd kind m = m.end ≡ h_after_mark kind m.h m.width m.ink
 
--- The item behind a glyph or a rule stands where h is behind it: no glue lies between.
+-- The item after a glyph or a rule is where h is after it, since no glue is between them.
 abbrev pub Reaches : Kind → (h next_h : ℤ) → Node → Type 0
 Reaches kind h next_h (nodes.Glyph glyph) = next_h ≡ right_at kind h glyph.width
 Reaches kind h next_h (nodes.FontKern width) = Unit {0}
@@ -56,7 +56,7 @@ Reaches kind h next_h (nodes.Special text) = Unit {0}
 Reaches kind h next_h (nodes.Rule rule) = next_h ≡ right_at kind h (own_size rule.width)
 Reaches kind h next_h (nodes.Box shift b) = Unit {0}
 
--- Whether an item takes no part in a setting: all but glue.
+-- Whether an item is independent of the glue setting: every item but glue.
 abbrev pub is_rigid : Node → Bool
 is_rigid (nodes.Glue glue) = false
 is_rigid (nodes.Glyph glyph) = true
@@ -67,7 +67,7 @@ is_rigid (nodes.Special text) = true
 is_rigid (nodes.Rule rule) = true
 is_rigid (nodes.Box shift b) = true
 
--- An instruction, unless an amount is 0.
+-- An instruction, unless its amount is 0.
 abbrev pub unless_zero : ℤ → Instruction → List Instruction
 unless_zero (pos zero) i = []
 unless_zero (pos (suc n)) i = i ∷ []
@@ -83,43 +83,43 @@ selection None font = Do (FontNum font) ∷ []
 selection (Some current) font = if int_eq font current then [] else Do (FontNum font) ∷ []
 
 -- The instruction for ink of that width.
-abbrev pub inked : Kind → (width : ℤ) → Ink → List Instruction
+abbrev pub inked : Kind → (width : ℤ) → MarkKind → List Instruction
 inked kind width (ink.Rule height) = Do (ruled kind height width) ∷ []
 inked kind width (ink.Glyph slot code) = Do (SetChar (pos code)) ∷ []
 
 -- The instructions so far, and those for the picture that follows.
 abbrev pub makes : Kind → Drawing → Picture → List Instruction
-makes kind d rest = map view d.ops.items ++ flat (drawn kind d.h d.v (option_map pos d.font) rest)
+makes kind d rest = map body_view d.ops.items ++ flat (drawn kind d.h d.v (option_map pos d.font) rest)
 
--- The font behind the picture that follows.
+-- The font after the picture that follows.
 abbrev pub leaves : Drawing → Picture → Option ℤ
 leaves d rest = font_after (option_map pos d.font) rest
 
--- The marks of an item that stands at (h, v), in front of a picture; specials and the items of a box do not count.
+-- The marks of an item at (h, v), before a picture. Specials and the items of a box are left out.
 abbrev pub strokes_of : BoxNode → (h v : ℤ) → Node → Picture → Picture
-strokes_of b h v (nodes.Glyph g) rest = in_front (mark_of b h v (items.glyph g)) (width_in b (items.glyph g)) rest
-strokes_of b h v (nodes.Rule sizes) rest = in_front (mark_of b h v (items.rule sizes)) (width_in b (items.rule sizes)) rest
+strokes_of b h v (nodes.Glyph g) rest = in_front (marks_of_item b h v (items.glyph g)) (width_in b (items.glyph g)) rest
+strokes_of b h v (nodes.Rule sizes) rest = in_front (marks_of_item b h v (items.rule sizes)) (width_in b (items.rule sizes)) rest
 strokes_of b h v other rest = rest
 
--- How far to the right the reference point is of a box that stands at h; of another item its place.
+-- The distance to the right of the reference point of a box at h; for another item, its place.
 abbrev pub reference_h : Kind → (h : ℤ) → Node → ℤ
 reference_h kind h (nodes.Box shift inner) = box_h kind h shift
 reference_h kind h other = h
 
--- How far down the reference point is of a box that stands at v; of another item its place.
+-- The distance down of the reference point of a box at v; for another item, its place.
 abbrev pub reference_v : Kind → (v : ℤ) → Node → ℤ
 reference_v kind v (nodes.Box shift inner) = box_v kind v shift inner.height
 reference_v kind v other = v
 
 -- The point at a place of the list of a box, which begins at (h, v), where both of its numbers fit.
-abbrev pub point_in : BoxNode → (h v place : ℤ) → Option Position
+abbrev pub point_in : BoxNode → (h v place : ℤ) → Option PagePosition
 point_in b h v place = point (right_at b.kind h place) (down_at b.kind v place)
 
 -- The numbers of an item between two places of the list.
 abbrev pub numbers_between : BoxNode → (h v place next : ℤ) → Node → List ℤ
 numbers_between b h v place next x =
-    numbers_of b (right_at b.kind h place) (down_at b.kind v place) (right_at b.kind h next) (down_at b.kind v next) x
+    points_and_sizes b (right_at b.kind h place) (down_at b.kind v place) (right_at b.kind h next) (down_at b.kind v next) x
 
--- The marks of an item at a place of the list, in front of a picture.
+-- The marks of an item at a place of the list, before a picture.
 abbrev pub strokes_at : BoxNode → (h v place : ℤ) → Node → Picture → Picture
 strokes_at b h v place x rest = strokes_of b (right_at b.kind h place) (down_at b.kind v place) x rest

@@ -9,4 +9,4 @@ mod pushes;
 
 pub use page_plan::{ShipFault, is_huge, plan, plan_with_room};
 pub use placing::PagePoint;
-pub use pushes::push_depth;
+pub use pushes::{push_depth, pushed_after};

@@ -1,18 +1,19 @@
-//! Where the items of a box stand on a page, and their marks.
+//! The places of the items of a box on a page, and their marks.
 
 ghost use Rattle.std.specs.Prelude.{◌≡◌, ◌+ℤ◌, ◌+◌, ◌^◌, [], ◌∷◌, pos, true, None, is_some, IfSome};
 ghost use Rattle.std.specs.List.{list_all};
 ghost use Rattle.scaled_core.specs.Dimensions.{Within, fits, dimension_of};
-ghost use Rattle.ship_core.specs.Marks.{size_in, right_at, down_at, rule_below, rule_tall, rule_wide, rule_mark, box_h, box_v, numbers_of};
+ghost use Rattle.ship_core.specs.Marks.{size_in, right_at, down_at, rule_below, rule_tall, rule_wide, rule_mark, box_h, box_v, points_and_sizes};
 ghost use Rattle.ship_core.specs.Drawing.{Picture, in_front};
-ghost use Rattle.ship_core.specs.Placing.{point, Reaches, Ends, strokes_in, strokes_of, reference_h, reference_v};
+ghost use Rattle.ship_core.specs.Placing.{point, Reaches, IsMarkEnd, strokes_in, strokes_of, reference_h, reference_v};
 ghost use Rattle.node_core.specs.declared.tree.Node.TheVariants as nodes;
 
 use node_core::{BoxNode, Glyph, Kind, Node, Rule, RuleSize};
 use pack_core::own_size;
 use scaled_core::Dimen;
 
-/// A point of a page, in scaled points to the right of its origin and below it. Each number is a dimension or the sum of two, and need not fit.
+/// A point of a page, in scaled points to the right of its origin and below it. Each number is a dimension or a sum of two, and need not fit as a
+/// dimension.
 #[derive(Clone, Copy, Debug, PartialEq, Eq)]
 pub struct PagePoint {
     pub h: i32,
@@ -20,7 +21,7 @@ pub struct PagePoint {
 }
 
 impl PagePoint {
-    /// The reference point of the page that a box makes: its height below the origin.
+    /// The reference point of a box on its page: the box's height below the origin.
     pub fn of_box(box_node: &BoxNode) -> PagePoint
         ensures { result ≡ record { h = pos 0; v = box_node.now.height } }
     {
@@ -33,12 +34,12 @@ impl PagePoint {
 
 /// A position on a page that fits, in scaled points to the right of its origin and below it.
 #[derive(Clone, Copy, Debug, PartialEq, Eq)]
-pub struct Position {
+pub struct PagePosition {
     pub h: Dimen,
     pub v: Dimen,
 }
 
-impl Position {
+impl PagePosition {
     /// The point of the page at a position.
     pub fn point(self) -> PagePoint
         ensures h { result.h ≡ self.h }
@@ -50,9 +51,10 @@ impl Position {
         }
     }
 
-    /// Both numbers of a position fit: dimensions always do. It does nothing.
+    /// Both numbers of a position fit, since each dimension fits. This is a fact for the proofs, and the call does nothing.
     #[tactic(auto, using(scaled_core::proofs::Fitting::dimension_fits))]
-    fn numbers_fit(&self)
+    #[inline(always)]
+    pub fn numbers_fit(&self)
         ensures h { fits self.now.h ≡ true }
         ensures v { fits self.now.v ≡ true }
     {
@@ -61,40 +63,40 @@ impl Position {
     }
 }
 
-/// What is seen: a rule of that height, or a character of the font in a slot.
+/// The kind of a mark: a rule of this height, or a character of the font in this slot.
 #[derive(Clone, Copy, Debug)]
-pub enum Ink {
+pub enum MarkKind {
     Rule(Dimen),
     Glyph { slot: u8, code: u8 },
 }
 
-/// A mark on a page: where its corner or its reference point is, how wide it is, and where h is behind it.
+/// A mark on a page: its corner or reference point, its width, and the value of h after it.
 #[derive(Clone, Copy, Debug)]
-pub struct MarkAt {
+pub struct PlacedMark {
     pub h: Dimen,
     pub v: Dimen,
     pub width: Dimen,
     pub end: Dimen,
-    pub ink: Ink,
+    pub ink: MarkKind,
 }
 
-/// An item on a page: its mark, if it has one, and its place; of a box that of its reference point.
+/// An item on a page: its mark, if it has one, and its position; for a box its reference point.
 #[derive(Clone, Copy, Debug)]
 pub struct PlacedItem {
-    pub mark: Option<MarkAt>,
-    pub at: Position,
+    pub mark: Option<PlacedMark>,
+    pub at: PagePosition,
 }
 
 /// The position with these numbers, where both fit.
-fn point(h: i128, v: i128) -> Option<Position>
+fn point(h: i128, v: i128) -> Option<PagePosition>
     ensures { result ≡ point h v }
 {
     let h = Dimen::from_wide(h)?;
     let v = Dimen::from_wide(v)?;
-    Some(Position { h, v })
+    Some(PagePosition { h, v })
 }
 
-/// The number behind another at a distance.
+/// A number plus a distance.
 fn number_behind(from: i64, distance: i128) -> i128
     requires { Within (2 ^ 126 + 2 ^ 63) distance }
     ensures { result ≡ from +ℤ distance }
@@ -102,8 +104,8 @@ fn number_behind(from: i64, distance: i128) -> i128
     i128::from(from) + distance
 }
 
-/// The position at a distance from where a list begins that goes that way.
-pub fn point_at(kind: Kind, h: i64, v: i64, distance: i128) -> Option<Position>
+/// The position at a distance from the start (h, v) of a list of that kind.
+pub fn point_at(kind: Kind, h: i64, v: i64, distance: i128) -> Option<PagePosition>
     requires { Within (2 ^ 126 + 2 ^ 63) distance }
     ensures { result ≡ point (right_at kind h distance) (down_at kind v distance) }
 {
@@ -113,28 +115,30 @@ pub fn point_at(kind: Kind, h: i64, v: i64, distance: i128) -> Option<Position>
     }
 }
 
-/// The number behind a dimension at a distance, where it fits.
+/// A dimension plus a distance, where the sum fits.
+#[inline(always)]
 fn dimension_behind(from: Dimen, distance: i64) -> Option<Dimen>
-    requires small { Within (2 ^ 31) distance }
+    requires distance_bounded { Within (2 ^ 31) distance }
     ensures { result ≡ dimension_of (from +ℤ distance) }
 {
     Dimen::try_new(i64::from(from.get()) + distance)
 }
 
-/// The position that lies behind another one at a distance, in a list of that kind.
+/// The position at a distance from another one, in a list of that kind.
 #[tactic(auto, using(scaled_core::proofs::Fitting::dimension_fits), unfolding(scaled_core::specs::Dimensions::dimension_of))]
-pub fn position_behind(kind: Kind, at: &Position, distance: i64) -> Option<Position>
-    requires small { Within (2 ^ 31) distance }
+#[inline(always)]
+pub fn position_behind(kind: Kind, at: &PagePosition, distance: i64) -> Option<PagePosition>
+    requires distance_bounded { Within (2 ^ 31) distance }
     ensures { result ≡ point (right_at kind at.now.h distance) (down_at kind at.now.v distance) }
 {
     let (h, v) = match kind {
         Kind::Horizontal => (dimension_behind(at.h, distance), Some(at.v)),
         Kind::Vertical => (Some(at.h), dimension_behind(at.v, distance)),
     };
-    Some(Position { h: h?, v: v? })
+    Some(PagePosition { h: h?, v: v? })
 }
 
-/// A size of a rule where it stands in a box.
+/// A size of a rule in a box, where a running size is the box's own.
 fn size_where(whole: Dimen, size: RuleSize) -> Dimen
     ensures { result ≡ size_in whole size }
 {
@@ -144,7 +148,7 @@ fn size_where(whole: Dimen, size: RuleSize) -> Dimen
     }
 }
 
-/// The sizes of a rule where it stands.
+/// The sizes of a rule in a box.
 #[derive(Clone, Copy, Debug)]
 struct RuleSizes {
     below: Dimen,
@@ -179,10 +183,10 @@ fn sizes_of(box_node: &BoxNode, rule: Rule) -> Option<RuleSizes>
     }
 }
 
-/// A rule of that height that is seen; None exactly where its height or its width is not positive.
-fn visible_rule(height: Dimen, h: Dimen, v: Dimen, width: Dimen, end: Dimen) -> Option<MarkAt>
+/// The mark of a rule; None exactly where its height or its width is not positive, since such a rule shows nothing.
+fn visible_rule(height: Dimen, h: Dimen, v: Dimen, width: Dimen, end: Dimen) -> Option<PlacedMark>
     ensures mark { (rest : Picture) → strokes_in result rest ≡ in_front (rule_mark h v height width) width rest }
-    ensures end { IfSome result (λ m. m ≡ record { h = h; v = v; width = width; end = end; ink = Ink.Rule height }) }
+    ensures end { IfSome result (λ m. m ≡ record { h = h; v = v; width = width; end = end; ink = MarkKind.Rule height }) }
 {
     if height.get() <= 0 {
         return None;
@@ -190,32 +194,32 @@ fn visible_rule(height: Dimen, h: Dimen, v: Dimen, width: Dimen, end: Dimen) -> 
     if width.get() <= 0 {
         return None;
     }
-    Some(MarkAt {
+    Some(PlacedMark {
         h,
         v,
         width,
         end,
-        ink: Ink::Rule(height),
+        ink: MarkKind::Rule(height),
     })
 }
 
-/// The reference point of a box that stands at a place of a list of that kind, where it fits.
+/// The reference point of a box at a position in a list of that kind, where it fits.
 #[tactic(auto, using(scaled_core::proofs::Fitting::dimension_fits), unfolding(scaled_core::specs::Dimensions::dimension_of))]
-fn reference_of(kind: Kind, at: Position, shift: Dimen, height: Dimen) -> Option<Position>
+fn reference_of(kind: Kind, at: PagePosition, shift: Dimen, height: Dimen) -> Option<PagePosition>
     ensures { result ≡ point (box_h kind at.h shift) (box_v kind at.v shift height) }
 {
     let (h, v) = match kind {
         Kind::Horizontal => (Some(at.h), at.v.checked_add(shift)),
         Kind::Vertical => (at.h.checked_add(shift), at.v.checked_add(height)),
     };
-    Some(Position { h: h?, v: v? })
+    Some(PagePosition { h: h?, v: v? })
 }
 
-/// A box at a place of the list of another; None exactly where its reference point does not fit.
+/// A box at a position in the list of another box; None exactly where its reference point does not fit.
 fn place_box(
     kind: Kind,
-    at: Position,
-    next: Position,
+    at: PagePosition,
+    next: PagePosition,
     shift: Dimen,
     inner: &BoxNode,
 ) -> Option<PlacedItem>
@@ -231,13 +235,18 @@ fn place_box(
     })
 }
 
-/// A rule at a place of the list of a box; None exactly where one of its numbers does not fit.
+/// A rule at a position in the list of a box; None exactly where one of its numbers does not fit.
 #[tactic(auto, unfolding(scaled_core::specs::Dimensions::dimension_of))]
-fn place_rule(box_node: &BoxNode, at: Position, next: Position, rule: Rule) -> Option<PlacedItem>
+fn place_rule(
+    box_node: &BoxNode,
+    at: PagePosition,
+    next: PagePosition,
+    rule: Rule,
+) -> Option<PlacedItem>
     requires { Reaches box_node.now.kind at.h next.h (nodes.Rule rule) }
-    ensures fits { is_some result ≡ list_all fits (numbers_of box_node.now at.h at.v next.h next.v (nodes.Rule rule)) }
+    ensures fits { is_some result ≡ list_all fits (points_and_sizes box_node.now at.h at.v next.h next.v (nodes.Rule rule)) }
     ensures mark { IfSome result (λ s. (rest : Picture) → strokes_in s.mark rest ≡ strokes_of box_node.now at.h at.v (nodes.Rule rule) rest) }
-    ensures end { IfSome result (λ s. IfSome s.mark (Ends box_node.now.kind)) }
+    ensures end { IfSome result (λ s. IfSome s.mark (IsMarkEnd box_node.now.kind)) }
     ensures at { IfSome result (λ s. s.at ≡ at) }
 {
     let sizes = sizes_of(box_node, rule)?;
@@ -248,20 +257,26 @@ fn place_rule(box_node: &BoxNode, at: Position, next: Position, rule: Rule) -> O
     })
 }
 
-/// The mark of a glyph at a place of the list of a box.
-fn place_glyph(box_node: &BoxNode, at: Position, next: Position, glyph: Glyph) -> Option<MarkAt>
+/// The mark of a glyph at a position in the list of a box. In a vertical list there is none.
+#[inline(always)]
+pub fn place_glyph(
+    box_node: &BoxNode,
+    at: PagePosition,
+    next: PagePosition,
+    glyph: Glyph,
+) -> Option<PlacedMark>
     requires { Reaches box_node.now.kind at.h next.h (nodes.Glyph glyph) }
     ensures mark { (rest : Picture) → strokes_in result rest ≡ strokes_of box_node.now at.h at.v (nodes.Glyph glyph) rest }
-    ensures end { IfSome result (Ends box_node.now.kind) }
+    ensures end { IfSome result (IsMarkEnd box_node.now.kind) }
 {
     match box_node.kind {
         Kind::Vertical => None,
-        Kind::Horizontal => Some(MarkAt {
+        Kind::Horizontal => Some(PlacedMark {
             h: at.h,
             v: at.v,
             width: glyph.width,
             end: next.h,
-            ink: Ink::Glyph {
+            ink: MarkKind::Glyph {
                 slot: glyph.slot,
                 code: glyph.code,
             },
@@ -269,17 +284,18 @@ fn place_glyph(box_node: &BoxNode, at: Position, next: Position, glyph: Glyph) -
     }
 }
 
-/// An item at a place of the list of a box; None exactly where one of its numbers does not fit. Those of its own items are not looked at.
+/// An item at a position in the list of a box; None exactly where one of its numbers does not fit. The items of an inner box are not tested.
+#[inline(always)]
 pub fn place_item(
     box_node: &BoxNode,
-    at: Position,
-    next: Position,
+    at: PagePosition,
+    next: PagePosition,
     node: &Node,
 ) -> Option<PlacedItem>
     requires { Reaches box_node.now.kind at.h next.h node.now }
-    ensures fits { is_some result ≡ list_all fits (numbers_of box_node.now at.h at.v next.h next.v node.now) }
+    ensures fits { is_some result ≡ list_all fits (points_and_sizes box_node.now at.h at.v next.h next.v node.now) }
     ensures mark { IfSome result (λ s. (rest : Picture) → strokes_in s.mark rest ≡ strokes_of box_node.now at.h at.v node.now rest) }
-    ensures end { IfSome result (λ s. IfSome s.mark (Ends box_node.now.kind)) }
+    ensures end { IfSome result (λ s. IfSome s.mark (IsMarkEnd box_node.now.kind)) }
     ensures h { IfSome result (λ s. s.at.h ≡ reference_h box_node.now.kind at.h node.now) }
     ensures v { IfSome result (λ s. s.at.v ≡ reference_v box_node.now.kind at.v node.now) }
 {

@@ -1,28 +1,29 @@
-//! How many pushes of a page are open at once.
+//! The number of pushes that are open at once.
 
 ghost use Rattle.std.specs.Prelude.{◌≡◌, ◌<◌, map};
 ghost use Rattle.dvi_ops.specs.Forest.{Forest, flat, nests};
-ghost use Rattle.dvi_ops.specs.View.{view};
-ghost use Rattle.ship_core.specs.Pushes.{most_pushed, pushed_after};
+ghost use Rattle.dvi_ops.specs.View.{body_view};
+ghost use Rattle.ship_core.specs.Pushes.{max_pushed, pushed_after};
 
-use dvi_ops::Op;
+use dvi_ops::BodyOp;
 
-/// How many pushes are open behind an instruction; a pop where none is open changes nothing.
-fn pushed_after(pushed: usize, op: &Op<'_>) -> usize
+/// The number of open pushes after an instruction. A pop without an open push changes nothing.
+#[inline(always)]
+pub fn pushed_after(pushed: usize, op: &BodyOp<'_>) -> usize
     requires { pushed < usize.MAX }
-    ensures { result ≡ pushed_after pushed (view op.now) }
+    ensures { result ≡ pushed_after pushed (body_view op.now) }
 {
     match op {
-        Op::Push => pushed + 1,
-        Op::Pop => pushed.saturating_sub(1),
+        BodyOp::Push => pushed + 1,
+        BodyOp::Pop => pushed.saturating_sub(1),
         _ => pushed,
     }
 }
 
-/// The most pushes that are open at once among instructions: in a body, how deep its groups nest.
-pub fn push_depth(ops: &[Op<'_>]) -> usize
-    ensures counted { result ≡ most_pushed 0 (map view ops.now) }
-    ensures value { (body : Forest) → map view ops.now ≡ flat body → result ≡ nests body }
+/// The greatest number of pushes that are open at once. In a body, it is the depth of its groups.
+pub fn push_depth(ops: &[BodyOp<'_>]) -> usize
+    ensures counted { result ≡ max_pushed 0 (map body_view ops.now) }
+    ensures value { (body : Forest) → map body_view ops.now ≡ flat body → result ≡ nests body }
 {
     let mut pushed: usize = 0;
     let mut deepest: usize = 0;

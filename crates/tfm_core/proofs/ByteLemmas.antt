@@ -32,7 +32,7 @@ with_width-same : (o : Option CharInfo) (c : CharInfo) → with_width o ≡ Some
 with_width-same None c h = absurd (cc)
 with_width-same (Some d) c h = (kept_test (eqb d.width 0) (Some d) c h).1
 
--- A character that is there stands in the table, which begins with the first code.
+-- A character that the font has is in the table, which begins with the first code.
 character_within : (first : ℕ) (characters : List CharInfo) (code : ℕ) (c : CharInfo) → character_at first characters code ≡ Some c → (first ≤ code) × (code - first < length characters)
 unfolding character_at
 character_within first characters code c at =

@@ -1,4 +1,4 @@
--- Sets of characters: what a character more changes.
+-- Inserting a character into a set.
 use Rattle.std.proofs.Common.{◌≡◌, ℕ, ◌*◌, ◌/◌, ◌%◌, ◌^◌, ◌<◌, ◌||◌, eqb, List, length, get_or, set, refl, arith, ⊎_elim}
 use Rattle.std.specs.Int.{bit_at, w64}
 use Rattle.std.specs.Prelude.{bit_or}
@@ -6,7 +6,7 @@ use Rattle.std.proofs.lemmas.Bool.{cases_eq, eq-eqb, ne_eqb}
 use Rattle.std.proofs.lemmas.List.{get_or-set_same, get_or-set_other}
 use Rattle.std.proofs.lemmas.Nat.Bits.{bit_at_set_same, bit_at_set_other}
 
--- the word of a character, with its bit set
+-- The word of a character, with its bit set.
 abbrev pub with_bit : List ℕ → ℕ → ℕ
 with_bit words c = bit_or (get_or words (c / 64) 0) (1 * 2 ^ (c % 64) % 2 ^ 64)
 
@@ -26,7 +26,7 @@ bit_other words c i within apart =
     (λ (other : i / 64 ≡ c / 64 → ⊥). rw (get_or-set_other words (c / 64) (i / 64) (with_bit words c) 0 other) refl)
     (cases_eq (i / 64) (c / 64))
 
--- a set with a character more has that one and those that it had
+-- After the insertion, a set has the new character and those that it had before.
 pub inserted : (words : List ℕ) (c i : ℕ) → c / 64 < length words →
     eqb (bit_at (get_or (set words (c / 64) (with_bit words c)) (i / 64) 0) (i % 64)) 1 ≡ (eqb i c || eqb (bit_at (get_or words (i / 64) 0) (i % 64)) 1)
 inserted words c i within =

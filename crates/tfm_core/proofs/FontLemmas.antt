@@ -15,7 +15,7 @@ pub and_true : (a b : Bool) → (a && b) ≡ true → (a ≡ true) × (b ≡ tru
 and_true true b h = (refl, h)
 and_true false b h = absurd (cc)
 
--- an element of a list passes the test of all
+-- An element of a list passes the test of all.
 pub list_all-at : {X : Type 0} (p : X → Bool) (xs : List X) (i : ℕ) (x : X) → list_all p xs ≡ true → slice_get xs i ≡ Some x → p x ≡ true
 list_all-at p [] i x h e = absurd (cc)
 list_all-at p (y ∷ ys) zero x h e = let same : y ≡ x = cc in subst (λ z. p z ≡ true) same (and_true _ _ h).0
@@ -33,7 +33,7 @@ with_width-is : (o : Option CharInfo) (c : CharInfo) → with_width o ≡ Some c
 with_width-is None c h = absurd (cc)
 with_width-is (Some d) c h = ap Some (kept_by (eqb d.width 0) d c h)
 
--- a character that is there passes the test of all
+-- A character that the font has passes the test of all.
 pub character_at-passes : (p : CharInfo → Bool) (first : ℕ) (characters : List CharInfo) (code : ℕ) (c : CharInfo) → list_all p characters ≡ true → character_at first characters code ≡ Some c → p c ≡ true
 unfolding character_at
 character_at-passes p first characters code c h e =
@@ -50,7 +50,7 @@ IsInTables-from_test font c h =
       depth = ltb-true _ _ p.1;
     }
 
--- a character that is there has its sizes in the tables
+-- The indices of a character that the font has are within the tables.
 pub IsInTables-from_character : (font : SizedFont) (code : ℕ) (found : Option CharInfo) → IsWhole font → found ≡ character_at font.first font.characters code → IfSome found (IsInTables font)
 IsInTables-from_character font code None w e = tt
 IsInTables-from_character font code (Some c) w e =
@@ -65,7 +65,7 @@ find-passes p [] x h = absurd (cc)
 find-passes p (y ∷ ys) x h =
     ⊎_elim (λ q. subst (λ z. p z ≡ true) q.1 q.0) (λ r. find-passes p ys x r) (find_split (p y) y x (find p ys) h)
 
--- the step that is found is one of the steps, and it is for the following character
+-- The step that is found is one of the steps, and it applies to the following character.
 pub first_for-parts : (steps : List LigKernStep) (following : ℕ) (ks : List ℕ) (s : LigKernStep) → first_for steps following ks ≡ Some s → (k : ℕ) × (slice_get steps k ≡ Some s) × (is_for following s ≡ true)
 unfolding first_for
 first_for-parts steps following ks s h =
@@ -79,7 +79,7 @@ given_by false true kerns i None r h e = absurd (cc)
 given_by false true kerns i (Some c) r h e = refl
 given_by false false kerns i char r h e = absurd (cc)
 
--- a step that names what is there gives a kern or a ligature
+-- A step that names what is there gives a kern or a ligature.
 action-given : (font : SizedFont) (s : LigKernStep) → names_absent_kern_or_character font.first font.characters (length font.kerns) s ≡ false → (eqb s.op 0 || leb 128 s.op) ≡ true → IsSome (action_of font s)
 unfolding action_of names_absent_kern_or_character
 action-given font s h e =

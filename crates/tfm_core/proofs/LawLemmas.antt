@@ -14,12 +14,12 @@ use Rattle.tfm_core.specs.Fonts.{SizedFont, action_of, font_at, glyph_of, matchi
 use Rattle.tfm_core.specs.MetricFile.{MetricFile}
 use Rattle.tfm_core.specs.Rules.{character_at}
 use Rattle.tfm_core.specs.Scaling.{kept_size, scaled}
-use Rattle.tfm_core.specs.Program.{Takes, past, last, next, taken_steps}
+use Rattle.tfm_core.specs.Program.{TakesSteps, past, last, next, taken_steps}
 use Rattle.tfm_core.proofs.ProgramLemmas.{taken_steps-past, taken_steps-last, taken_steps-next}
 
 -- The steps that are taken.
 
-taken_steps-unique : (steps : List LigKernStep) {k : ℕ} {ks : List ℕ} → Takes steps k ks → ks ≡ taken_steps steps k
+taken_steps-unique : (steps : List LigKernStep) {k : ℕ} {ks : List ℕ} → TakesSteps steps k ks → ks ≡ taken_steps steps k
 taken_steps-unique steps (past {k = k} h) = sym (taken_steps-past steps k (slice_get_past steps k h))
 taken_steps-unique steps (last {k = k} {s = s} h l) = sym (taken_steps-last steps k s h l)
 taken_steps-unique steps (next {k = k} {s = s} h l t) =
@@ -29,24 +29,24 @@ none_past : (steps : List LigKernStep) (k : ℕ) → slice_get steps k ≡ None 
 none_past steps k h =
     ⊎_elim (λ p. absurd (let e = p.2 in cc)) (λ q. q.0) (slice_get_cases steps k).1
 
-Takes-at : (steps : List LigKernStep) (k : ℕ) (o : Option LigKernStep) → slice_get steps k ≡ o → ((s : LigKernStep) → Takes steps (k + (s.skip + 1)) (taken_steps steps (k + (s.skip + 1)))) → Takes steps k (taken_steps steps k)
+Takes-at : (steps : List LigKernStep) (k : ℕ) (o : Option LigKernStep) → slice_get steps k ≡ o → ((s : LigKernStep) → TakesSteps steps (k + (s.skip + 1)) (taken_steps steps (k + (s.skip + 1)))) → TakesSteps steps k (taken_steps steps k)
 Takes-at steps k None h later = rw (taken_steps-past steps k h) (past (none_past steps k h))
 Takes-at steps k (Some s) h later =
     ⊎_elim (λ (l : s.skip < 128). rw (taken_steps-next steps k s h l) (next h l (later s))) (λ (l : 128 ≤ s.skip). rw (taken_steps-last steps k s h l) (last h l)) (cases_lt s.skip 128)
 
-Takes-within : (steps : List LigKernStep) (n k : ℕ) → length steps ≤ k + n → Takes steps k (taken_steps steps k)
+Takes-within : (steps : List LigKernStep) (n k : ℕ) → length steps ≤ k + n → TakesSteps steps k (taken_steps steps k)
 Takes-within steps zero k h =
     let over : length steps ≤ k = omega arith in
     rw (taken_steps-past steps k (slice_get_past steps k over)) (past over)
 Takes-within steps (suc n) k h =
     Takes-at steps k (slice_get steps k) refl (λ s. Takes-within steps n (k + (s.skip + 1)) (omega arith))
 
--- `Takes` holds of one list alone: that of the steps that are taken
-pub Takes-taken_steps : (steps : List LigKernStep) (k : ℕ) (ks : List ℕ) → (Takes steps k ks ↔ (ks ≡ taken_steps steps k))
+-- `TakesSteps` holds only for one list: the list of the steps that are taken.
+pub Takes-taken_steps : (steps : List LigKernStep) (k : ℕ) (ks : List ℕ) → (TakesSteps steps k ks ↔ (ks ≡ taken_steps steps k))
 Takes-taken_steps steps k ks =
-    (λ t. taken_steps-unique steps t, λ e. subst (λ js. Takes steps k js) (sym e) (Takes-within steps (length steps) k (omega arith)))
+    (λ t. taken_steps-unique steps t, λ e. subst (λ js. TakesSteps steps k js) (sym e) (Takes-within steps (length steps) k (omega arith)))
 
-first_taken : (steps : List LigKernStep) {k : ℕ} {ks : List ℕ} → Takes steps k ks → 0 < length ks → slice_index ks 0 ≡ k
+first_taken : (steps : List LigKernStep) {k : ℕ} {ks : List ℕ} → TakesSteps steps k ks → 0 < length ks → slice_index ks 0 ≡ k
 first_taken steps (past h) l = absurd (omega arith)
 first_taken steps (last h m) l = refl
 first_taken steps (next h m t) l = refl
@@ -57,13 +57,13 @@ increasing_cons k later above rest (suc i) h =
     let e : suc i + 1 ≡ suc (i + 1) = omega arith in
     rw e (rest i (omega arith))
 
-Takes-rising : (steps : List LigKernStep) {k : ℕ} {ks : List ℕ} → Takes steps k ks → IsStrictlyIncreasing ks
+Takes-rising : (steps : List LigKernStep) {k : ℕ} {ks : List ℕ} → TakesSteps steps k ks → IsStrictlyIncreasing ks
 Takes-rising steps (past h) i l = absurd (omega arith)
 Takes-rising steps (last h m) i l = absurd (omega arith)
 Takes-rising steps (next {k = k} {s = s} {later = later} h m t) i l =
     increasing_cons k later (λ some. let e = first_taken steps t some in omega arith) (Takes-rising steps t) i l
 
--- the numbers of the steps that are taken rise
+-- The numbers of the steps that are taken increase.
 pub taken_steps-rising : (steps : List LigKernStep) (k : ℕ) → IsStrictlyIncreasing (taken_steps steps k)
 taken_steps-rising steps k = Takes-rising steps (Takes-within steps (length steps) k (omega arith))
 
@@ -79,7 +79,7 @@ mapped_some : {X Y : Type 0} (f : X → Y) (o : Option X) → IsSome o → IsSom
 mapped_some f None h = absurd (cc)
 mapped_some f (Some x) h = refl
 
--- the characters of ligatures are there
+-- The characters of ligatures are in the font.
 pub ligature-there : (font : SizedFont) (code following e : ℕ) → step_of font code following ≡ Some (Ligature e) → IsSome (glyph_of font e)
 unfolding step_of action_of glyph_of
 ligature-there font code following e h =
@@ -112,7 +112,7 @@ map_same : {X Y : Type 0} (f g : X → Y) → ((x : X) → f x ≡ g x) → (o :
 map_same f g e None = refl
 map_same f g e (Some x) = ap Some (e x)
 
--- of a character: the scaled words
+-- The sizes of a character are the scaled words.
 pub glyph_of-font_at : (file : MetricFile) (size : ℤ) (code : ℕ) → glyph_of (font_at file size) code ≡ option_map (sizes_in file size) (character_at file.counts.first file.characters code)
 unfolding glyph_of font_at
 glyph_of-font_at file size code =

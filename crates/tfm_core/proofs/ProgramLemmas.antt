@@ -1,4 +1,4 @@
--- The steps that a program takes.
+-- The steps of a program that are taken.
 use Rattle.std.proofs.Common.{◌≡◌, ℕ, zero, suc, ◌+◌, ◌<◌, ◌≤◌, Bool, true, false, ◌||◌, cond, ltb, List, [], ◌∷◌, Option, Some, None, refl, ap, ◌∙◌, arith, ⊎_elim}
 use Rattle.std.specs.List.{slice_get}
 use Rattle.std.specs.Option.{is_some, option_and_then}
@@ -12,13 +12,13 @@ use Rattle.tfm_core.specs.FontView.{start_of, tag_start}
 use Rattle.tfm_core.specs.Program.{first_for, first_step, info_program, is_for, tag_program, taken_steps, taken_steps_from}
 use Rattle.tfm_core.specs.Rules.{character_at}
 
--- past the steps nothing is taken
+-- After the last step nothing is taken.
 taken_steps_from-past : (j k : ℕ) (steps : List LigKernStep) → slice_get steps k ≡ None → taken_steps_from j k steps ≡ []
 taken_steps_from-past j k [] h = refl
 taken_steps_from-past j zero (s ∷ rest) h = absurd (cc)
 taken_steps_from-past j (suc k) (s ∷ rest) h = taken_steps_from-past (j + 1) k rest h
 
--- a step, and what is taken behind it
+-- A step, and what is taken after it.
 taken_steps_from-step : (j k : ℕ) (steps : List LigKernStep) (s : LigKernStep) → slice_get steps k ≡ Some s → taken_steps_from j k steps ≡ (j + k) ∷ cond (ltb s.skip 128) (taken_steps_from j (k + (s.skip + 1)) steps) []
 taken_steps_from-step j k [] s h = absurd (cc)
 taken_steps_from-step j zero (t ∷ rest) s h =
@@ -32,7 +32,7 @@ taken_steps_from-step j (suc k) (t ∷ rest) s h =
     let behind : suc k + (s.skip + 1) ≡ suc (k + (s.skip + 1)) = omega arith in
     rw (here, behind) later
 
--- the steps that are taken from step k on, by the step that stands there
+-- The steps that are taken from step k on, by the step at k.
 pub taken_steps-past : (steps : List LigKernStep) (k : ℕ) → slice_get steps k ≡ None → taken_steps steps k ≡ []
 unfolding taken_steps
 taken_steps-past steps k h = taken_steps_from-past 0 k steps h
@@ -55,7 +55,7 @@ taken_steps-next steps k s h l =
 
 -- What is found among them.
 
--- nothing past the steps
+-- Nothing is found after the last step.
 pub first_for-past : (steps : List LigKernStep) (following k : ℕ) → slice_get steps k ≡ None → first_for steps following (taken_steps steps k) ≡ None
 unfolding first_for
 first_for-past steps following k h = rw (taken_steps-past steps k h) refl
@@ -65,7 +65,7 @@ unfolding first_for
 first_for-cons steps following k later s true h e = rw h (rw e (rw h refl))
 first_for-cons steps following k later s false h e = rw h (rw e refl)
 
--- the step itself, where it is for the following character
+-- The step itself is found, if it applies to the following character.
 pub first_for-here : (steps : List LigKernStep) (following k : ℕ) (s : LigKernStep) → slice_get steps k ≡ Some s → is_for following s ≡ true → first_for steps following (taken_steps steps k) ≡ Some s
 first_for-here steps following k s h e =
     ⊎_elim
@@ -77,17 +77,17 @@ pub first_for-none : (steps : List LigKernStep) (following : ℕ) → first_for 
 unfolding first_for
 first_for-none steps following = refl
 
--- nothing, where it is the last and not for it
+-- Nothing is found, if the step is the last and does not apply.
 pub first_for-last : (steps : List LigKernStep) (following k : ℕ) (s : LigKernStep) → slice_get steps k ≡ Some s → is_for following s ≡ false → 128 ≤ s.skip → first_for steps following (taken_steps steps k) ≡ None
 first_for-last steps following k s h e l =
     rw (taken_steps-last steps k s h l) (first_for-cons steps following k [] s false h e ∙ first_for-none steps following)
 
--- and else what is found later
+-- Otherwise the result is what is found later.
 pub first_for-later : (steps : List LigKernStep) (following k : ℕ) (s : LigKernStep) → slice_get steps k ≡ Some s → is_for following s ≡ false → s.skip < 128 → first_for steps following (taken_steps steps k) ≡ first_for steps following (taken_steps steps (k + (s.skip + 1)))
 first_for-later steps following k s h e l =
     rw (taken_steps-next steps k s h l) (first_for-cons steps following k (taken_steps steps (k + (s.skip + 1))) s false h e)
 
--- What is found among them, as the steps are gone over: `old` says that it was found before.
+-- What is found among them, while the loop passes over the steps: `old` says that it was found before.
 
 found_later : (b old : Bool) (s : LigKernStep) (rest : Option LigKernStep) → (b || old || is_some rest) ≡ (old || is_some (cond b (Some s) rest))
 found_later true true s rest = refl
@@ -120,7 +120,7 @@ found-next steps following k s old h l =
     let later = taken_steps steps (k + (s.skip + 1)) in
     rw (taken_steps-next steps k s h l, first_for-cons steps following k later s (is_for following s) h refl) (found_later (is_for following s) old s (first_for steps following later))
 
--- What is found among the steps from which a character's program is taken.
+-- What is found among the steps from the beginning of a character's program.
 
 from_tag : (steps : List LigKernStep) (following : ℕ) (tag : Tag) (k : ℕ) → Some k ≡ tag_start steps tag →
     first_for steps following (taken_steps steps k) ≡ first_for steps following (tag_program steps tag)
@@ -150,7 +150,7 @@ pub matching_step-from : (font : SizedFont) (code following k : ℕ) → Some k 
 unfolding matching_step start_of
 matching_step-from font code following k e = from_info font.steps following (character_at font.first font.characters code) k e
 
--- the step that is found from there is the one that matches
+-- The step that is found from there is the one that matches.
 pub step-from : (font : SizedFont) (code following start from : ℕ) (steps : List LigKernStep) (found : Option LigKernStep) → Some start ≡ start_of font code →
     steps ≡ font.steps → from ≡ start → found ≡ first_for steps following (taken_steps steps from) → found ≡ matching_step font code following
 step-from font code following start from steps found e s t h = h ∙ rw (s, t) (matching_step-from font code following start e)

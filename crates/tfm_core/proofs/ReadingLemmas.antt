@@ -1,4 +1,4 @@
--- What reading finds: the record, or the first broken rule.
+-- The result of reading: the record, or the first broken rule.
 use Rattle.std.proofs.Common.{◌≡◌, ℕ, ℤ, Bool, true, false, cond, List, Option, Some, None, Result, Ok, Err, refl, ap, ◌∙◌, sym, subst, inl, inr, ◌⊎◌, ⊎_elim}
 use Rattle.tfm_core.specs.declared.fault.TfmCause.{TfmCause}
 use Rattle.tfm_core.specs.declared.fault.TfmCause.TheVariants.{TooShort, Counts, DesignSize, CharInfo, FixWord, LigKern}
@@ -10,16 +10,16 @@ use Rattle.tfm_core.specs.Words.{signed_word}
 use Rattle.tfm_core.proofs.TableLemmas.{IsTable-table, table-unique}
 use Rattle.tfm_core.specs.Rules.{IsFirstBroken, IsMetricFile, KeepsRules, broken_in_front, broken_in_tables, breaks_char_info, breaks_design_size, breaks_fix_word, breaks_lig_kern, first_broken, is_broken, metric_file, record_unless}
 
--- the six tests in their order
+-- The six tests, in their order.
 abbrev chosen : Bool → Bool → Bool → Bool → Bool → Bool → Option TfmCause
 chosen a b c d e f =
     cond a (Some TooShort) (cond b (Some Counts) (cond c (Some DesignSize) (cond d (Some CharInfo) (cond e (Some FixWord) (cond f (Some LigKern) None)))))
 
--- the first three tests in their order
+-- The first three tests, in their order.
 abbrev front : Bool → Bool → Bool → Option TfmCause
 front a b c = cond a (Some TooShort) (cond b (Some Counts) (cond c (Some DesignSize) None))
 
--- the last three tests in their order
+-- The last three tests, in their order.
 abbrev back : Bool → Bool → Bool → Option TfmCause
 back d e f = cond d (Some CharInfo) (cond e (Some FixWord) (cond f (Some LigKern) None))
 
@@ -35,19 +35,19 @@ chosen-back false true c d e f h = absurd (cc)
 chosen-back false false true d e f h = absurd (cc)
 chosen-back false false false d e f h = refl
 
--- what is broken in front is the first broken rule
+-- A rule that needs no table and is broken is the first broken rule.
 pub first_broken-front : (bytes : List ℕ) (cause : TfmCause) → broken_in_front bytes ≡ Some cause → first_broken bytes ≡ Some cause
 unfolding first_broken broken_in_front
 first_broken-front bytes cause h =
     chosen-front (is_broken bytes TooShort) (is_broken bytes Counts) (is_broken bytes DesignSize) (is_broken bytes CharInfo) (is_broken bytes FixWord) (is_broken bytes LigKern) cause h
 
--- and where nothing is, it is that of the tables
+-- If no such rule is broken, the first broken rule is that of the tables.
 pub first_broken-tables : (bytes : List ℕ) → broken_in_front bytes ≡ None → first_broken bytes ≡ broken_in_tables (record_in bytes)
 unfolding first_broken broken_in_front broken_in_tables
 first_broken-tables bytes h =
     chosen-back (is_broken bytes TooShort) (is_broken bytes Counts) (is_broken bytes DesignSize) (is_broken bytes CharInfo) (is_broken bytes FixWord) (is_broken bytes LigKern) h
 
--- the record stands in the bytes
+-- The record is in the bytes.
 pub StandsIn-record_in : (bytes : List ℕ) → StandsIn bytes (record_in bytes)
 unfolding record_with
 StandsIn-record_in bytes = record {
@@ -83,14 +83,14 @@ made-whole : (a : MetricFile) → made a.counts a.check_sum a.design_word a.char
 unfolding made
 made-whole a = refl
 
--- records with the same entries are the same
+-- Records with the same entries are the same.
 same_file : (a b : MetricFile) → a.counts ≡ b.counts → a.check_sum ≡ b.check_sum → a.design_word ≡ b.design_word → a.characters ≡ b.characters → a.widths ≡ b.widths → a.heights ≡ b.heights → a.depths ≡ b.depths → a.italics ≡ b.italics → a.steps ≡ b.steps → a.kerns ≡ b.kerns → a.parameters ≡ b.parameters → a ≡ b
 same_file a b e0 e1 e2 e3 e4 e5 e6 e7 e8 e9 e10 =
     let p = made-whole a in
     let q = made-whole b in
     cc
 
--- no other record stands in the bytes
+-- No other record is in the bytes.
 pub record_in-unique : (bytes : List ℕ) (file : MetricFile) → StandsIn bytes file → file ≡ record_in bytes
 unfolding record_with
 record_in-unique bytes file h =
@@ -105,12 +105,12 @@ record_in-unique bytes file h =
     (table-unique signed_word bytes _ _ file.parameters h.parameters)
     ∙ ap (λ counts. record_with counts bytes) h.counts
 
--- one test that failed, and the tests behind it
+-- A test that failed, and the tests after it.
 none_split : (b : Bool) (x : TfmCause) (rest : Option TfmCause) → cond b (Some x) rest ≡ None → (b ≡ false) × (rest ≡ None)
 none_split true x rest h = absurd (cc)
 none_split false x rest h = (refl, h)
 
--- where there is no first broken rule, each is kept
+-- If there is no first broken rule, each rule is kept.
 pub kept-from_none : (bytes : List ℕ) → first_broken bytes ≡ None → (cause : TfmCause) → is_broken bytes cause ≡ false
 unfolding first_broken
 kept-from_none bytes h =
@@ -122,13 +122,13 @@ kept-from_none bytes h =
     let f = none_split _ _ _ e.1 in
     λ cause. elim cause as (λ x. is_broken bytes x ≡ false) [ TooShort ↦ a.0 | Counts ↦ b.0 | DesignSize ↦ c.0 | CharInfo ↦ d.0 | FixWord ↦ e.0 | LigKern ↦ f.0 ]
 
--- where each rule is kept, there is no first broken one
+-- If each rule is kept, there is no first broken rule.
 pub none-from_kept : (bytes : List ℕ) → ((cause : TfmCause) → is_broken bytes cause ≡ false) → first_broken bytes ≡ None
 unfolding first_broken
 none-from_kept bytes h =
     rw (h TooShort, h Counts, h DesignSize, h CharInfo, h FixWord, h LigKern) refl
 
--- the rule that is named is broken, and those before it are kept
+-- The named rule is broken, and those before it are kept.
 some_split : (b : Bool) (x y : TfmCause) (rest : Option TfmCause) → cond b (Some x) rest ≡ Some y → ((b ≡ true) × (x ≡ y)) ⊎ ((b ≡ false) × (rest ≡ Some y))
 some_split true x y rest h = inl (refl, cc)
 some_split false x y rest h = inr (refl, h)
@@ -162,9 +162,9 @@ first-from_IsFirstBroken bytes FixWord h = rw (h.kept.0, h.kept.1.0, h.kept.1.1.
 first-from_IsFirstBroken bytes LigKern h =
     rw (h.kept.0, h.kept.1.0, h.kept.1.1.0, h.kept.1.1.1.0, h.kept.1.1.1.1.0, h.broken) refl
 
--- What reading gives.
+-- The result of reading.
 
--- the record with the counts of the bytes is theirs
+-- The record with the counts of the bytes is the record in the bytes.
 pub held_tables : (bytes : List ℕ) (counts : Numbers) (file : MetricFile) (found : Option TfmCause) → counts ≡ counts_in bytes → file ≡ record_with counts bytes → None ≡ broken_in_front bytes → found ≡ broken_in_tables file → record_unless file found ≡ metric_file bytes
 unfolding metric_file
 held_tables bytes counts file found e r h t =
@@ -173,7 +173,7 @@ held_tables bytes counts file found e r h t =
     let P : MetricFile → Option TfmCause → Result MetricFile TfmCause = record_unless in
     ap (λ f. P f found) same ∙ ap (P (record_in bytes)) first
 
--- a record that was read keeps the rules, where none of them is broken
+-- A record that was read keeps the rules, if none of them is broken.
 pub KeepsRules-from_none : (bytes : List ℕ) (counts : Numbers) (file : MetricFile) → counts ≡ counts_in bytes → file ≡ record_with counts bytes → None ≡ broken_in_front bytes → None ≡ broken_in_tables file → KeepsRules file
 unfolding broken_in_front broken_in_tables record_with
 KeepsRules-from_none bytes counts file e r h t =
@@ -229,7 +229,7 @@ pub read-from_IsFirstBroken : (bytes : List ℕ) (cause : TfmCause) → IsFirstB
 unfolding metric_file
 read-from_IsFirstBroken bytes cause h = ap (record_unless (record_in bytes)) (first-from_IsFirstBroken bytes cause h)
 
--- bytes that break a rule hold no record
+-- Bytes that break a rule hold no record.
 pub no_record : (bytes : List ℕ) (cause : TfmCause) (file : MetricFile) → metric_file bytes ≡ Err cause → IsMetricFile bytes file → ⊥
 no_record bytes cause file h k = let e = read-from_IsMetricFile bytes file k in cc
 

@@ -1,4 +1,4 @@
--- The bits of a size that do not count, and the floor of the product.
+-- The bits of a size that are cleared, and the floor of the product.
 use Rattle.std.proofs.Common.{◌≡◌, ℕ, ℤ, pos, negsuc, ◌+◌, ◌^◌, ◌<◌, ◌≤◌, ◌+ℤ◌, ◌*ℤ◌, ◌≤ℤ◌, ◌<ℤ◌, ◌↔◌, ◌-◌, ◌%◌, ap, subst, refl, ⊎_elim, arith, unsigned_abs, ◌∙◌, to_z, of_z, SFits, w64}
 use Rattle.std.proofs.lemmas.Bool.{cases_lt, lt-ltb, le-ltb}
 use Rattle.std.proofs.lemmas.Int.{ints, to_z-of_z}
@@ -14,7 +14,7 @@ power_least size k i h p =
 cleared_from : (size j : ℕ) → size < 2 ^ (23 + j) → 2 ^ (22 + j) ≤ size → IsCleared size j
 cleared_from size j below above = record { below = below; least = λ i h. power_least size j i h above }
 
--- the number of bits by its table is the least
+-- The number of bits in the table is the least.
 pub IsCleared-cleared_bits : (size : ℕ) → size < 2 ^ 27 → IsCleared size (cleared_bits size)
 unfolding cleared_bits
 IsCleared-cleared_bits size fits =
@@ -32,12 +32,12 @@ IsCleared-cleared_bits size fits =
     (cases_lt size (2 ^ 24))))
     (cases_lt size (2 ^ 23))
 
--- of a font's size
+-- The same for a font's size.
 pub IsCleared-from_font_size : (size : ℤ) → IsFontSize size → IsCleared (unsigned_abs size) (cleared_bits (unsigned_abs size))
 IsCleared-from_font_size (pos n) h = IsCleared-cleared_bits n (omega (arith, ints, h.positive, h.below))
 IsCleared-from_font_size (negsuc n) h = absurd (omega (arith, ints, h.positive))
 
--- the floor of a quotient by 2^20
+-- The floor of a quotient by 2^20.
 pub floor_low : (a : ℤ) → ((int_div_euclid a (pos (2 ^ 20)) *ℤ pos (2 ^ 20)) ≤ℤ a)
 floor_low (pos n) = omega (arith, ints)
 floor_low (negsuc n) = omega (arith, ints)
@@ -46,7 +46,7 @@ pub floor_high : (a : ℤ) → (a <ℤ ((int_div_euclid a (pos (2 ^ 20)) +ℤ po
 floor_high (pos n) = omega (arith, ints)
 floor_high (negsuc n) = omega (arith, ints)
 
--- the floor of the definition is the one that `scaled` computes
+-- The floor of the definition is the one that `scaled` computes.
 pub IsScaled-scaled : (fix size : ℤ) → IsCleared (unsigned_abs size) (cleared_bits (unsigned_abs size)) → IsScaled fix size (scaled size fix)
 unfolding scaled kept_size
 IsScaled-scaled fix size cleared = record {
@@ -58,7 +58,7 @@ IsScaled-scaled fix size cleared = record {
   high = floor_high (fix *ℤ pos (kept_size size));
 }
 
--- a number of 64 bits that is the floor is the word at that size
+-- A number of 64 bits that is the floor is the word at that size.
 pub IsScaled-from_floor : (fix size q : ℤ) → SFits w64 q → q ≡ int_div_euclid (fix *ℤ pos (kept_size size)) (pos (2 ^ 20)) → IsCleared (unsigned_abs size) (cleared_bits (unsigned_abs size)) → IsScaled fix size (to_z w64 (of_z w64 q))
 unfolding scaled
 IsScaled-from_floor fix size q fits e cleared = rw (to_z-of_z w64 q fits) (rw e (IsScaled-scaled fix size cleared))
@@ -67,7 +67,7 @@ pub scaled-from_floor : (fix size q : ℤ) → SFits w64 q → q ≡ int_div_euc
 unfolding scaled
 scaled-from_floor fix size q fits e = to_z-of_z w64 q fits ∙ e
 
--- one number of bits is the least
+-- Only one number of bits is the least.
 one_least : (size j k : ℕ) → IsCleared size j → IsCleared size k → j ≡ k
 one_least size j k a b =
     ⊎_elim
@@ -78,12 +78,12 @@ one_least size j k a b =
     (cases_lt k j))
     (cases_lt j k)
 
--- a number has one floor
+-- A number has only one floor.
 one_floor : (a p q : ℤ) → (p *ℤ pos (2 ^ 20)) ≤ℤ a → a <ℤ ((p +ℤ pos 1) *ℤ pos (2 ^ 20)) → (q *ℤ pos (2 ^ 20)) ≤ℤ a
     → a <ℤ ((q +ℤ pos 1) *ℤ pos (2 ^ 20)) → p ≡ q
 one_floor a p q low high least most = omega (arith, ints, low, high, least, most)
 
--- the size of a word by a definition is the one that `scaled` computes
+-- The size of a word by a definition is the one that `scaled` computes.
 pub IsScaled-only : (fix size q : ℤ) → IsFontSize size → IsScaled fix size q → q ≡ scaled size fix
 unfolding scaled kept_size
 IsScaled-only fix size q font s =
@@ -95,7 +95,7 @@ IsScaled-only fix size q font s =
     (subst (λ z. (fix *ℤ z) <ℤ ((q +ℤ pos 1) *ℤ pos (2 ^ 20))) kept s.high)
     (floor_low (fix *ℤ pos (kept_size size))) (floor_high (fix *ℤ pos (kept_size size)))
 
--- `IsScaled` holds of one number alone: the one that `scaled` computes
+-- `IsScaled` holds only for one number: the one that `scaled` computes.
 pub IsScaled-is : (fix size q : ℤ) → IsFontSize size → (IsScaled fix size q ↔ (q ≡ scaled size fix))
 IsScaled-is fix size q font =
     (λ s. IsScaled-only fix size q font s, λ e. rw e (IsScaled-scaled fix size (IsCleared-from_font_size size font)))

@@ -9,7 +9,7 @@ use Rattle.tfm_core.specs.Fonts.{are_dimens_at, is_dimen_at, is_space_at, parame
 use Rattle.tfm_core.specs.Scaling.{scaled}
 use Rattle.tfm_core.proofs.FontLemmas.{and_true, list_all-at}
 
--- the test of a dimension says that it fits
+-- The test of a dimension holds exactly for the words whose size fits.
 pub is_dimen_at-fits : (size word : ℤ) → (is_dimen_at size word ≡ true ↔ Fits (scaled size word))
 unfolding is_dimen_at
 is_dimen_at-fits size word = (fits_within (scaled size word), dimension_fits (scaled size word))
@@ -17,7 +17,7 @@ is_dimen_at-fits size word = (fits_within (scaled size word), dimension_fits (sc
 pub Fits-from_test : (size word : ℤ) → is_dimen_at size word ≡ true → Fits (scaled size word)
 Fits-from_test size word h = (is_dimen_at-fits size word).0 h
 
--- a dimension is the same number in 64 bits
+-- A dimension is the same number in 64 bits.
 dimension_in_64 : (z : ℤ) → Fits z → FitsSigned w64 z
 dimension_in_64 (pos n) h = fits_signed_from_abs w64 (pos n) (omega (arith, ints, h.high))
 dimension_in_64 (negsuc n) h = fits_signed_from_abs w64 (negsuc n) (omega (arith, ints, h.low))
@@ -25,7 +25,7 @@ dimension_in_64 (negsuc n) h = fits_signed_from_abs w64 (negsuc n) (omega (arith
 pub Fits-in_64 : (z : ℤ) → Fits z → Fits (to_z w64 (of_z w64 z))
 Fits-in_64 z h = subst Fits (sym (to_z-of_z w64 z (dimension_in_64 z h))) h
 
--- where the test of some words holds, it holds of each of them
+-- If the test of some words holds, it holds for each of them.
 pub dimen-at : (size : ℤ) (words : List ℤ) (i : ℕ) (d : ℤ) → are_dimens_at size words ≡ true → i < length words → is_dimen_at size (get_or words i d) ≡ true
 unfolding are_dimens_at
 dimen-at size words i d h l =

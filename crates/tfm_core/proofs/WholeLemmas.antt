@@ -56,7 +56,7 @@ action_kept file size k s h =
     let far = leb (length file.steps) (256 * s.op + s.remainder) in
     rw (length-map file.kerns (scaled size)) (action_by restart past far (first_part restart past far (ltb s.skip 128 && leb (length file.steps) (k + s.skip + 1)) h))
 
--- a font of such a file is whole
+-- A font of such a file is whole.
 pub IsWhole-font_at : (file : MetricFile) (size : ℤ) → KeepsRules file → IsWhole (font_at file size)
 unfolding font_at breaks_char_info breaks_lig_kern
 IsWhole-font_at file size k = record {
@@ -67,7 +67,7 @@ IsWhole-font_at file size k = record {
 pub IsWhole-from_equal : (font : SizedFont) (file : MetricFile) (size : ℤ) → KeepsRules file → font ≡ font_at file size → IsWhole font
 IsWhole-from_equal font file size k e = subst (λ f. IsWhole f) (sym e) (IsWhole-font_at file size k)
 
--- All sizes fit where the font's do.
+-- All sizes fit if those of the font do.
 
 pub widths_fit : (file : MetricFile) (size : ℤ) → fits_at file size ≡ true → are_dimens_at size file.widths ≡ true
 unfolding fits_at

@@ -1,4 +1,4 @@
--- A font as its fields hold it (own; the models of `SizedFile` and `Font` alone, no public clause speaks of it).
+-- A font as its fields hold it (own; only the models of `SizedFile` and `Font` use it, and no public clause speaks of it).
 use Rattle.std.specs.Prelude.{◌≡◌, ◌==◌, ◌<◌, ◌/◌, ◌%◌, ℕ, Bool, List, [], Option, Some, None, is_some, length, get_or}
 use Rattle.std.specs.Int.{bit_at}
 use Rattle.std.specs.Option.{option_and_then}
@@ -14,7 +14,7 @@ use Rattle.tfm_core.specs.Fonts.{IsWhole, SizedFont, glyph_of, matching_step}
 use Rattle.tfm_core.specs.Program.{first_step}
 use Rattle.tfm_core.specs.Rules.{character_at}
 
--- the font that the fields of a file hold (own)
+-- The font in the fields of a file (own).
 abbrev pub file_view : Inside → SizedFont
 file_view f = record {
   size = f.size;
@@ -30,44 +30,44 @@ file_view f = record {
   space = f.space;
 }
 
--- the font that the fields hold is whole (own)
+-- The font in the fields is whole (own).
 abbrev pub file_is_whole : Inside → Type 0
 file_is_whole f = IsWhole (file_view f)
 
--- a character below 256 is in a set: bit c % 64 of word c / 64 is 1 (own)
+-- A character below 256 is in a set: bit c % 64 of word c / 64 is 1 (own).
 abbrev pub is_in : CharacterSet → ℕ → Bool
 is_in set c = bit_at (get_or set.words (c / 64) 0) (c % 64) == 1
 
--- the step from which a tag's program is taken, if it has one (TFtoPL, 11 and 13)
+-- The step at which a tag's program begins, if the tag has a program (TFtoPL, 11 and 13).
 abbrev pub tag_start : List LigKernStep → Tag → Option ℕ
 tag_start steps (Program k) = Some (first_step steps k)
 tag_start steps Plain = None
 tag_start steps (Larger c) = None
 tag_start steps (Recipe r) = None
 
--- the step from which a character's program is taken, if it has one (TFtoPL, 11 and 13)
+-- The step at which a character's program begins, if it has a program (TFtoPL, 11 and 13).
 unfoldable pub start_of : SizedFont → ℕ → Option ℕ
 start_of font code = option_and_then (λ (c : CharInfo). tag_start font.steps c.tag) (character_at font.first font.characters code)
 
--- a row says of a character what the font does (own)
-pub record IsRow (font : SizedFont) (code : ℕ) (row : FontRow) : Type 0 where
+-- A row agrees with the font about a character (own).
+pub record IsFontRow (font : SizedFont) (code : ℕ) (row : FontRow) : Type 0 where
   pub glyph : row.glyph ≡ glyph_of font code
   pub start : row.start ≡ start_of font code
   pub followers : (f : ℕ) → f < 256 → is_in row.followers f ≡ is_some (matching_step font code f)
 
--- a row of no character (own)
+-- The row that stands for a missing one (own).
 abbrev pub no_row : FontRow
 no_row = record { glyph = None; start = None; followers = record { words = [] } }
 
--- there is a row for each character (own)
+-- There is a row for each character (own).
 pub record AreRows (font : SizedFont) (rows : List FontRow) : Type 0 where
   pub count : length rows ≡ 256
-  pub each : (code : ℕ) → code < 256 → IsRow font code (get_or rows code no_row)
+  pub each : (code : ℕ) → code < 256 → IsFontRow font code (get_or rows code no_row)
 
--- the font that the fields hold (own)
+-- The font in the fields (own).
 abbrev pub font_view : FontInside → SizedFont
 font_view f = f.file
 
--- the rows of a font agree with its file (own)
+-- The rows of a font agree with its file (own).
 abbrev pub font_is_whole : FontInside → Type 0
 font_is_whole f = AreRows f.file f.rows.items

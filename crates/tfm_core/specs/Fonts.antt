@@ -16,15 +16,15 @@ use Rattle.tfm_core.specs.Program.{first_for, info_program}
 use Rattle.tfm_core.specs.Rules.{character_at, names_absent_kern_or_character}
 use Rattle.tfm_core.specs.Scaling.{IsFontSize, design_size_of, scaled}
 
--- the size that is asked for, or the design size (TeX: The Program, part 30, §568)
+-- The requested size, or the design size if none is requested (TeX: The Program, part 30, §568).
 abbrev pub chosen_size : MetricFile → Option ℤ → ℤ
 chosen_size file size = unwrap_or size (design_size_of file.design_word)
 
--- parameter n, which counts from 1; one that the file does not have counts as 0 (TeX: The Program, part 30, §575)
+-- Parameter n, which counts from 1; one that the file does not have counts as 0 (TeX: The Program, part 30, §575).
 abbrev pub parameter : ℕ → List ℤ → ℤ
 parameter n parameters = get_or parameters (n - 1) (pos 0)
 
--- a font: what a metric file says of its characters and steps, with its sizes in scaled points (TeX: The Program, part 30)
+-- A font: the characters and steps of a metric file, with all sizes in scaled points (TeX: The Program, part 30).
 pub record SizedFont : Type 0 where
   pub size : ℤ
   pub check_sum : ℤ
@@ -38,7 +38,7 @@ pub record SizedFont : Type 0 where
   pub kerns : List ℤ
   pub space : Space
 
--- the space between words at a size: parameters 2, 3 and 4 (TFtoPL, 15)
+-- The space between words at a size: parameters 2, 3 and 4 (TFtoPL, 15).
 unfoldable pub space_at : ℤ → List ℤ → Space
 space_at size parameters = record {
   width = scaled size (parameter 2 parameters);
@@ -46,7 +46,7 @@ space_at size parameters = record {
   shrink = scaled size (parameter 4 parameters);
 }
 
--- the metric file at that size (TeX: The Program, part 30)
+-- The metric file at this size (TeX: The Program, part 30).
 unfoldable pub font_at : MetricFile → ℤ → SizedFont
 font_at file size = record {
   size = size;
@@ -62,32 +62,32 @@ font_at file size = record {
   space = space_at size file.parameters;
 }
 
--- a word at a size fits as a dimension (own)
+-- The size of a word fits as a dimension (own).
 unfoldable pub is_dimen_at : ℤ → ℤ → Bool
 is_dimen_at size word = fits (scaled size word)
 
--- each of these words at a size fits as a dimension (own)
+-- The size of each of these words fits as a dimension (own).
 unfoldable pub are_dimens_at : ℤ → List ℤ → Bool
 are_dimens_at size words = list_all (is_dimen_at size) words
 
--- the sizes of the space at a size fit as dimensions (own)
+-- The sizes of the space at a size fit as dimensions (own).
 unfoldable pub is_space_at : ℤ → List ℤ → Bool
 is_space_at size parameters =
     is_dimen_at size (parameter 2 parameters) && is_dimen_at size (parameter 3 parameters) && is_dimen_at size (parameter 4 parameters)
 
--- each width, height, depth and kern of the font fits as a dimension, and so does its space (own)
+-- Each width, height, depth and kern of the font fits as a dimension, and so does its space (own).
 unfoldable pub fits_at : MetricFile → ℤ → Bool
 fits_at file size =
     are_dimens_at size file.widths && are_dimens_at size file.heights && are_dimens_at size file.depths
     && are_dimens_at size file.kerns && is_space_at size file.parameters
 
--- the numbers that a font definition has fit their fields (DVItype, 18)
+-- The numbers of a font definition fit their fields in a DVI file (DVItype, 18).
 pub record HasNumbers (font : SizedFont) : Type 0 where
   pub size : IsFontSize font.size
   pub design_size : IsFontSize font.design_size
   pub check_sum : FitsSigned w32 font.check_sum
 
--- the sizes that a character names (TFtoPL, 11)
+-- The sizes that a character names (TFtoPL, 11).
 abbrev pub sizes_of : SizedFont → CharInfo → GlyphSize
 sizes_of font c = record {
   width = get_or font.widths c.width (pos 0);
@@ -95,11 +95,11 @@ sizes_of font c = record {
   depth = get_or font.depths c.depth (pos 0);
 }
 
--- the sizes of a character, if it is there (TFtoPL, 11)
+-- The sizes of a character, if the font has it (TFtoPL, 11).
 unfoldable pub glyph_of : SizedFont → ℕ → Option GlyphSize
 glyph_of font code = option_map (sizes_of font) (character_at font.first font.characters code)
 
--- the words that a character names, at a size (TeX: The Program, part 30, §571)
+-- The sizes that a character of a metric file names, scaled by a size (TeX: The Program, part 30, §571).
 abbrev pub sizes_in : MetricFile → ℤ → CharInfo → GlyphSize
 sizes_in file size c = record {
   width = scaled size (get_or file.widths c.width (pos 0));
@@ -107,42 +107,42 @@ sizes_in file size c = record {
   depth = scaled size (get_or file.depths c.depth (pos 0));
 }
 
--- the first step of a character's program that is for the following character (TFtoPL, 13)
+-- The first step of a character's program that applies to the following character (TFtoPL, 13).
 unfoldable pub matching_step : SizedFont → ℕ → ℕ → Option LigKernStep
 matching_step font code following =
     first_for font.steps following (info_program font.steps (character_at font.first font.characters code))
 
--- what a step that is for the following character gives: with an operation of 128 or more the kern of that number, else the ligature,
--- whose character is there (TFtoPL, 13)
+-- The kern or ligature of a step that applies to the following character: with an operation of 128 or more the kern with that index, and otherwise
+-- the ligature, if its character is there (TFtoPL, 13).
 unfoldable pub action_of : SizedFont → LigKernStep → Option Step
 action_of font s =
     if nat_le 128 s.op then option_map Kern (slice_get font.kerns (256 * (s.op - 128) + s.remainder))
     else (if is_none (character_at font.first font.characters s.remainder) then None
     else Some (Ligature s.remainder))
 
--- what stands between two characters: a kern, or a ligature in their place (TFtoPL, 13)
+-- What comes between two characters: a kern, or a ligature in their place (TFtoPL, 13).
 unfoldable pub step_of : SizedFont → ℕ → ℕ → Option Step
 step_of font code following = option_and_then (action_of font) (matching_step font code following)
 
--- a character's indices are within their tables (own)
+-- A character's indices are within their tables (own).
 unfoldable pub is_in_tables : SizedFont → CharInfo → Bool
 is_in_tables font c = nat_lt c.width (length font.widths) && nat_lt c.height (length font.heights) && nat_lt c.depth (length font.depths)
 
--- a character's indices are within their tables: `is_in_tables` as facts (own)
+-- A character's indices are within their tables: `is_in_tables` as facts (own).
 pub record IsInTables (font : SizedFont) (c : CharInfo) : Type 0 where
   pub width : c.width < length font.widths
   pub height : c.height < length font.heights
   pub depth : c.depth < length font.depths
 
--- a step that may be for a character names a kern or a character that is there (own)
+-- A step that can apply to a character names a kern or a character that is there (own).
 unfoldable pub has_action : SizedFont → LigKernStep → Bool
 has_action font s = nat_lt 128 s.skip || not (names_absent_kern_or_character font.first font.characters (length font.kerns) s)
 
--- a step gives a kern or a ligature (own)
+-- A step gives a kern or a ligature (own).
 pub record HasAction (font : SizedFont) (s : LigKernStep) : Type 0 where
   pub given : IsSome (action_of font s)
 
--- all characters have sizes and all steps name what is there (own)
+-- All characters have sizes, and all steps name what is there (own).
 pub record IsWhole (font : SizedFont) : Type 0 where
   pub characters : list_all (is_in_tables font) font.characters ≡ true
   pub steps : list_all (has_action font) font.steps ≡ true

@@ -1,4 +1,4 @@
--- A metric file: its record, and where each entry of the record stands in the bytes (TFtoPL, 8 to 15).
+-- A metric file: its record, and the place of each entry in the bytes (TFtoPL, 8 to 15).
 use Rattle.std.specs.Prelude.{◌≡◌, ◌==◌, ◌+◌, ◌-◌, ◌*◌, ◌/◌, ◌%◌, ℕ, ℤ, List, length, ◌≤◌, if◌then◌else◌, slice_index}
 use Rattle.tfm_core.specs.declared.record.Counts.{Counts}
 use Rattle.tfm_core.specs.declared.record.CharInfo.{CharInfo}
@@ -6,9 +6,9 @@ use Rattle.tfm_core.specs.declared.record.LigKernStep.{LigKernStep}
 use Rattle.tfm_core.specs.declared.places.Places.{Places}
 use Rattle.tfm_core.specs.declared.record.Tag.{Tag}
 use Rattle.tfm_core.specs.declared.record.Tag.TheVariants.{Plain, Program, Larger, Recipe}
-use Rattle.tfm_core.specs.Words.{IsTable, table, from_word, halfword, signed_word}
+use Rattle.tfm_core.specs.Words.{IsWordTable, table, from_word, halfword, signed_word}
 
--- the twelve halfwords at the front: lf, lh, bc, ec, nw, nh, nd, ni, nl, nk, ne, np (TFtoPL, 8)
+-- The twelve halfwords at the front: lf, lh, bc, ec, nw, nh, nd, ni, nl, nk, ne, np (TFtoPL, 8).
 unfoldable pub counts_in : List ℕ → Counts
 counts_in bytes = record {
   file = halfword bytes 0;
@@ -25,7 +25,7 @@ counts_in bytes = record {
   parameters = halfword bytes 11;
 }
 
--- what the tag says; the remainder is the character's first step, its larger character or its recipe (TFtoPL, 11)
+-- The meaning of a tag; the remainder is the character's first step, its larger character or its recipe (TFtoPL, 11).
 abbrev pub tag_of : ℕ → ℕ → Tag
 tag_of tag remainder =
     if tag == 0 then Plain
@@ -33,7 +33,7 @@ tag_of tag remainder =
     else (if tag == 2 then Larger remainder
     else Recipe remainder))
 
--- the four bytes of a character: width index, height index * 16 + depth index, italic index * 4 + tag, remainder (TFtoPL, 11)
+-- The four bytes of a character: width index, height index * 16 + depth index, italic index * 4 + tag, remainder (TFtoPL, 11).
 abbrev pub char_info : List ℕ → CharInfo
 char_info bytes = record {
   width = slice_index bytes 0;
@@ -43,7 +43,7 @@ char_info bytes = record {
   tag = tag_of (slice_index bytes 2 % 4) (slice_index bytes 3);
 }
 
--- the four bytes of a step of the ligature/kern program (TFtoPL, 13)
+-- The four bytes of a step of the ligature/kern program (TFtoPL, 13).
 abbrev pub lig_kern_step : List ℕ → LigKernStep
 lig_kern_step bytes = record {
   skip = slice_index bytes 0;
@@ -52,7 +52,7 @@ lig_kern_step bytes = record {
   remainder = slice_index bytes 3;
 }
 
--- the record of a metric file; of the header the first two words, and no extensible recipes, which nothing uses (TFtoPL, 8 to 15)
+-- The record of a metric file; only the first two words of the header, and no extensible recipes, which nothing uses (TFtoPL, 8 to 15).
 pub record MetricFile : Type 0 where
   pub counts : Counts
   pub check_sum : ℤ
@@ -66,49 +66,47 @@ pub record MetricFile : Type 0 where
   pub kerns : List ℤ
   pub parameters : List ℤ
 
--- Where each table begins, in words: behind the twelve halfwords the header, then one table behind the other (TFtoPL, 8 and 9).
-
--- how many characters have a word: ec - bc + 1 (TFtoPL, 8)
+-- The number of characters that have a word: ec - bc + 1 (TFtoPL, 8).
 abbrev pub character_count : Counts → ℕ
 character_count c = c.last + 1 - c.first
 
--- where the characters begin: behind six words and the header (TFtoPL, 9)
+-- The word at which the characters begin: after six words and the header (TFtoPL, 9).
 abbrev pub characters_place : Counts → ℕ
 characters_place c = 6 + c.header
 
--- where the widths begin: behind the characters (TFtoPL, 9)
+-- The word at which the widths begin: after the characters (TFtoPL, 9).
 abbrev pub widths_place : Counts → ℕ
 widths_place c = characters_place c + character_count c
 
--- where the heights begin: behind the widths (TFtoPL, 9)
+-- The word at which the heights begin: after the widths (TFtoPL, 9).
 abbrev pub heights_place : Counts → ℕ
 heights_place c = widths_place c + c.widths
 
--- where the depths begin: behind the heights (TFtoPL, 9)
+-- The word at which the depths begin: after the heights (TFtoPL, 9).
 abbrev pub depths_place : Counts → ℕ
 depths_place c = heights_place c + c.heights
 
--- where the italic corrections begin: behind the depths (TFtoPL, 9)
+-- The word at which the italic corrections begin: after the depths (TFtoPL, 9).
 abbrev pub italics_place : Counts → ℕ
 italics_place c = depths_place c + c.depths
 
--- where the steps begin: behind the italic corrections (TFtoPL, 9)
+-- The word at which the steps begin: after the italic corrections (TFtoPL, 9).
 abbrev pub steps_place : Counts → ℕ
 steps_place c = italics_place c + c.italics
 
--- where the kerns begin: behind the steps (TFtoPL, 9)
+-- The word at which the kerns begin: after the steps (TFtoPL, 9).
 abbrev pub kerns_place : Counts → ℕ
 kerns_place c = steps_place c + c.steps
 
--- where the parameters begin: behind the kerns and the extensible recipes (TFtoPL, 9)
+-- The word at which the parameters begin: after the kerns and the extensible recipes (TFtoPL, 9).
 abbrev pub parameters_place : Counts → ℕ
 parameters_place c = kerns_place c + c.kerns + c.recipes
 
--- where the parameters, the last table, end: lf is this sum (TFtoPL, 8)
+-- The word after the parameters, the last table; it equals lf (TFtoPL, 8).
 abbrev pub end_place : Counts → ℕ
 end_place c = parameters_place c + c.parameters
 
--- where each table begins that is read, and where the last one ends (TFtoPL, 9)
+-- The word at which each table that is read begins, and the word after the last one (TFtoPL, 9).
 unfoldable pub places_of : Counts → Places
 places_of c = record {
   characters = characters_place c;
@@ -122,35 +120,35 @@ places_of c = record {
   end = end_place c;
 }
 
--- the bytes have room for the twelve numbers, the first two words of the header and all tables (TFtoPL, 8)
+-- The bytes are long enough for the twelve numbers, the first two words of the header and all tables (TFtoPL, 8).
 pub record HasTables (bytes : List ℕ) : Type 0 where
   pub numbers : 24 ≤ length bytes
   pub header : 2 ≤ (counts_in bytes).header
   pub tables : 4 * end_place (counts_in bytes) ≤ length bytes
 
--- the header's word 0: the check sum (TFtoPL, 10)
+-- Word 0 of the header: the checksum (TFtoPL, 10).
 abbrev pub check_sum_in : List ℕ → ℤ
 check_sum_in bytes = signed_word (from_word bytes 6)
 
--- the header's word 1: the design size in 2^20ths of a point (TFtoPL, 10)
+-- Word 1 of the header: the design size in 2^20ths of a point (TFtoPL, 10).
 abbrev pub design_word_in : List ℕ → ℤ
 design_word_in bytes = signed_word (from_word bytes 7)
 
--- each entry of the record is what stands at its place in the bytes (TFtoPL, 8 to 15)
+-- Each entry of the record is the one at its place in the bytes (TFtoPL, 8 to 15).
 pub record StandsIn (bytes : List ℕ) (file : MetricFile) : Type 0 where
   pub counts : file.counts ≡ counts_in bytes
   pub check_sum : file.check_sum ≡ check_sum_in bytes
   pub design_word : file.design_word ≡ design_word_in bytes
-  pub characters : IsTable char_info bytes (characters_place file.counts) (character_count file.counts) file.characters
-  pub widths : IsTable signed_word bytes (widths_place file.counts) file.counts.widths file.widths
-  pub heights : IsTable signed_word bytes (heights_place file.counts) file.counts.heights file.heights
-  pub depths : IsTable signed_word bytes (depths_place file.counts) file.counts.depths file.depths
-  pub italics : IsTable signed_word bytes (italics_place file.counts) file.counts.italics file.italics
-  pub steps : IsTable lig_kern_step bytes (steps_place file.counts) file.counts.steps file.steps
-  pub kerns : IsTable signed_word bytes (kerns_place file.counts) file.counts.kerns file.kerns
-  pub parameters : IsTable signed_word bytes (parameters_place file.counts) file.counts.parameters file.parameters
+  pub characters : IsWordTable char_info bytes (characters_place file.counts) (character_count file.counts) file.characters
+  pub widths : IsWordTable signed_word bytes (widths_place file.counts) file.counts.widths file.widths
+  pub heights : IsWordTable signed_word bytes (heights_place file.counts) file.counts.heights file.heights
+  pub depths : IsWordTable signed_word bytes (depths_place file.counts) file.counts.depths file.depths
+  pub italics : IsWordTable signed_word bytes (italics_place file.counts) file.counts.italics file.italics
+  pub steps : IsWordTable lig_kern_step bytes (steps_place file.counts) file.counts.steps file.steps
+  pub kerns : IsWordTable signed_word bytes (kerns_place file.counts) file.counts.kerns file.kerns
+  pub parameters : IsWordTable signed_word bytes (parameters_place file.counts) file.counts.parameters file.parameters
 
--- the record with these counts that stands in the bytes (TFtoPL, 8 to 15)
+-- The record in the bytes, for these counts (TFtoPL, 8 to 15).
 unfoldable pub record_with : Counts → List ℕ → MetricFile
 record_with counts bytes = record {
   counts = counts;
@@ -166,6 +164,6 @@ record_with counts bytes = record {
   parameters = table signed_word bytes (parameters_place counts) counts.parameters;
 }
 
--- the record that stands in the bytes (TFtoPL, 8 to 15)
+-- The record in the bytes (TFtoPL, 8 to 15).
 abbrev pub record_in : List ℕ → MetricFile
 record_in bytes = record_with (counts_in bytes) bytes

@@ -12,6 +12,6 @@ pub record IsFontName (name : List ℕ) : Type 0 where
   pub some : 0 < length name
   pub few : length name < 256
 
--- The first file of that name (own).
+-- The first file with this name (own).
 abbrev pub file_named : List ℕ → List NamedBytes → Option NamedBytes
 file_named name files = find (λ file. bytes_eq file.name name) files

@@ -7,54 +7,54 @@ use Rattle.tfm_core.specs.declared.record.LigKernStep.{LigKernStep}
 use Rattle.tfm_core.specs.declared.record.Tag.{Tag}
 use Rattle.tfm_core.specs.declared.record.Tag.TheVariants.{Plain, Program, Larger, Recipe}
 
--- the numbers of the steps that are taken from step k on, rising: a step whose skip is below 128 is followed by the one skip + 1 steps
--- later, one whose skip is 128 or more is the last, and so is one behind which there are no steps (TFtoPL, 13)
-pub data Takes (steps : List LigKernStep) : ℕ → List ℕ → Type 0 where
-  past : {k : ℕ} → length steps ≤ k → Takes steps k []
-  last : {k : ℕ} {s : LigKernStep} → slice_get steps k ≡ Some s → 128 ≤ s.skip → Takes steps k (k ∷ [])
+-- The numbers of the steps that are taken from step k on, in increasing order: a step whose skip is below 128 is followed by the one skip + 1 steps
+-- later; a step whose skip is 128 or more is the last, and so is a step after which there are no steps (TFtoPL, 13).
+pub data TakesSteps (steps : List LigKernStep) : ℕ → List ℕ → Type 0 where
+  past : {k : ℕ} → length steps ≤ k → TakesSteps steps k []
+  last : {k : ℕ} {s : LigKernStep} → slice_get steps k ≡ Some s → 128 ≤ s.skip → TakesSteps steps k (k ∷ [])
   next : {k : ℕ} {s : LigKernStep} {later : List ℕ} → slice_get steps k ≡ Some s → s.skip < 128
-      → Takes steps (k + (s.skip + 1)) later → Takes steps k (k ∷ later)
+      → TakesSteps steps (k + (s.skip + 1)) later → TakesSteps steps k (k ∷ later)
 
--- the numbers of the steps that are taken, where `pass` steps are passed over first and the steps in hand count from k (own)
+-- The numbers of the steps that are taken, after passing over the first `pass` steps of a list that is numbered from k (own).
 abbrev pub taken_steps_from : ℕ → ℕ → List LigKernStep → List ℕ
 taken_steps_from k pass [] = []
 taken_steps_from k zero (s ∷ rest) = k ∷ (if nat_lt s.skip 128 then taken_steps_from (k + 1) s.skip rest else [])
 taken_steps_from k (suc pass) (s ∷ rest) = taken_steps_from (k + 1) pass rest
 
--- the numbers of the steps that are taken from step k on (own)
+-- The numbers of the steps that are taken from step k on (own).
 unfoldable pub taken_steps : List LigKernStep → ℕ → List ℕ
 taken_steps steps k = taken_steps_from 0 k steps
 
--- the step from which the program is taken: a first step whose skip is above 128 names another one (TFtoPL, 13)
+-- The step at which the program begins: a first step whose skip is above 128 names another one (TFtoPL, 13).
 abbrev pub restart : ℕ → Option LigKernStep → ℕ
 restart k None = k
 restart k (Some s) = if nat_lt 128 s.skip then 256 * s.op + s.remainder else k
 
--- the step from which the program of step k is taken (TFtoPL, 13)
+-- The step at which the program of step k begins (TFtoPL, 13).
 unfoldable pub first_step : List LigKernStep → ℕ → ℕ
 first_step steps k = restart k (slice_get steps k)
 
--- the numbers of the steps of a tag's program, rising (TFtoPL, 11 and 13)
+-- The numbers of the steps of a tag's program, in increasing order (TFtoPL, 11 and 13).
 abbrev pub tag_program : List LigKernStep → Tag → List ℕ
 tag_program steps (Program k) = taken_steps steps (first_step steps k)
 tag_program steps Plain = []
 tag_program steps (Larger c) = []
 tag_program steps (Recipe r) = []
 
--- the numbers of the steps of a character's program, rising; none where the character is not there (TFtoPL, 11 and 13)
+-- The numbers of the steps of a character's program, in increasing order; none if the font does not have the character (TFtoPL, 11 and 13).
 abbrev pub info_program : List LigKernStep → Option CharInfo → List ℕ
 info_program steps None = []
 info_program steps (Some c) = tag_program steps c.tag
 
--- a step is for that following character: its skip is at most 128, and its operation is a ligature or a kern; with an operation of 1 to
--- 127 it is for none (own)
+-- A step applies to this following character: its skip is at most 128, and its operation is a ligature or a kern; with an operation of 1 to 127 it
+-- applies to none (own).
 unfoldable pub is_for : ℕ → LigKernStep → Bool
 is_for following s = (s.next == following) && nat_le s.skip 128 && ((s.op == 0) || nat_le 128 s.op)
 
--- step k is for that following character (own)
+-- Step k applies to this following character (own).
 abbrev pub is_step_for : List LigKernStep → ℕ → ℕ → Bool
 is_step_for steps following k = option_map_or (is_for following) (slice_get steps k) false
 
--- the first of these steps that is for the following character (TFtoPL, 13)
+-- The first of these steps that applies to the following character (TFtoPL, 13).
 unfoldable pub first_for : List LigKernStep → ℕ → List ℕ → Option LigKernStep
 first_for steps following ks = option_and_then (slice_get steps) (find (is_step_for steps following) ks)

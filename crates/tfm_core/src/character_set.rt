@@ -1,16 +1,16 @@
-//! Sets of characters, by which a font knows at once that there is no step for a following character.
+//! Sets of characters. With one of them a font rules out most pairs of characters without looking at a program.
 
 ghost use Rattle.std.specs.Prelude.{◌≡◌, ◌==◌, ◌||◌, ◌<◌, ℕ, false};
 ghost use Rattle.tfm_core.specs.FontView.{is_in};
 
-/// A set of characters: bit `c % 64` of word `c / 64` says whether character c is in it.
+/// A set of characters: bit `c % 64` of word `c / 64` is 1 if character c is in it.
 #[derive(Clone, Copy, Debug)]
 pub struct CharacterSet {
     words: [u64; 4],
 }
 
 impl CharacterSet {
-    /// No character.
+    /// The empty set.
     pub fn new() -> CharacterSet
         ensures { (c : ℕ) → is_in result c ≡ false }
     {
@@ -25,7 +25,7 @@ impl CharacterSet {
         self.words[word] |= 1 << (character % 64);
     }
 
-    /// Whether a character is in the set. Takes no memory.
+    /// Whether a character is in the set. Does not allocate.
     pub fn contains(&self, character: u8) -> bool
         ensures { result ≡ is_in self.now character }
     {

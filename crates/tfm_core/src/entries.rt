@@ -11,11 +11,11 @@ use byteorder::{BigEndian, ByteOrder};
 use std::alloc::{AllocError, Global};
 use std::marker::Model;
 
-/// An entry of a table: four bytes.
-trait Entry: Drop {
+/// An entry of a table of a metric file, of four bytes.
+trait TableEntry: Drop {
     ghost use Rattle.std.specs.Prelude.{◌≡◌, ◌≤◌, List, ℕ, length};
 
-    /// What four bytes say.
+    /// The entry that four bytes encode.
     ghost says: { List ℕ → Self };
 
     /// The entry of the first four bytes.
@@ -24,7 +24,7 @@ trait Entry: Drop {
         ensures { result ≡ says bytes.now };
 }
 
-impl Entry for i32 {
+impl TableEntry for i32 {
     ghost use Rattle.tfm_core.specs.Words.{signed_word};
 
     ghost says = { signed_word };
@@ -34,7 +34,7 @@ impl Entry for i32 {
     }
 }
 
-impl Entry for CharInfo {
+impl TableEntry for CharInfo {
     ghost use Rattle.tfm_core.specs.MetricFile.{char_info};
 
     ghost says = { char_info };
@@ -50,7 +50,7 @@ impl Entry for CharInfo {
     }
 }
 
-/// What a tag says with its remainder.
+/// The meaning of a tag with its remainder.
 fn tag(tag: u8, remainder: u8) -> Tag
     ensures { result ≡ tag_of tag remainder }
 {
@@ -62,7 +62,7 @@ fn tag(tag: u8, remainder: u8) -> Tag
     }
 }
 
-impl Entry for LigKernStep {
+impl TableEntry for LigKernStep {
     ghost use Rattle.tfm_core.specs.MetricFile.{lig_kern_step};
 
     ghost says = { lig_kern_step };
@@ -77,9 +77,9 @@ impl Entry for LigKernStep {
     }
 }
 
-/// The entries of `count` words, from word `place` on.
+/// The entries of `count` words, starting at word `place`.
 #[tactic(auto, using(crate::proofs::TableLemmas::tables))]
-fn table<E: Entry>(
+fn table<E: TableEntry>(
     alloc: Global,
     bytes: &[u8],
     place: usize,
@@ -104,7 +104,7 @@ pub fn word(bytes: &[u8], k: usize) -> i32
     BigEndian::read_i32(&bytes[4 * k..])
 }
 
-/// The record of a metric file, whose rules may be broken.
+/// The record of a metric file, which may break the rules.
 #[derive(Debug, Drop)]
 pub struct Entries {
     pub counts: Counts,
@@ -141,7 +141,7 @@ impl Model for Entries {
 }
 
 impl Entries {
-    /// The record that stands in the bytes, with these numbers at its front.
+    /// The record in the bytes, for the counts at their front.
     #[tactic(auto, unfolding(crate::specs::MetricFile::places_of, crate::specs::MetricFile::record_with))]
     pub fn read(alloc: Global, bytes: &[u8], counts: Counts) -> Result<Entries, AllocError>
         requires header { 2 ≤ counts.header }
@@ -165,7 +165,7 @@ impl Entries {
     }
 }
 
-/// The twelve numbers at the front.
+/// The twelve numbers at the front of the bytes.
 #[tactic(auto, unfolding(crate::specs::MetricFile::counts_in))]
 pub fn counts(bytes: &[u8]) -> Counts
     requires { 24 ≤ length bytes.now }

@@ -2,13 +2,13 @@
 
 use thiserror::Error;
 
-/// The first rule that bytes break, in the order in which the rules stand here.
+/// The first rule that the bytes break, in the order of the variants.
 #[derive(Clone, Copy, Debug, PartialEq, Eq, Error)]
 pub enum TfmCause {
-    /// There are fewer than 24 bytes, or fewer than the file says.
+    /// There are fewer than 24 bytes, or fewer than the file says that it has.
     #[error("the metric file is too short")]
     TooShort,
-    /// The twelve numbers at its front do not go together.
+    /// The twelve numbers at the front do not agree with each other.
     #[error("the metric file's sizes of tables do not go together")]
     Counts,
     /// The design size is below one point.
@@ -17,21 +17,21 @@ pub enum TfmCause {
     /// A character names an entry that is not in its table.
     #[error("the metric file's characters name what is not there")]
     CharInfo,
-    /// A width or the like is 16 design sizes or more, or a table does not begin with 0.
+    /// A width, height, depth, italic correction, kern or size of the space is 16 design sizes or more, or a table does not begin with 0.
     #[error("the metric file has a number that is too large")]
     FixWord,
-    /// A step names a step, a kern or a character that is not there.
+    /// A ligature or kern step names a step, a kern or a character that is not there.
     #[error("the metric file's ligature and kern steps name what is not there")]
     LigKern,
 }
 
-/// Why bytes give no metric file.
+/// Why bytes are no metric file.
 #[derive(Clone, Copy, Debug, PartialEq, Eq, Error)]
 pub enum TfmFault {
-    /// A growth was refused.
+    /// Out of memory: an allocation was refused.
     #[error("out of memory")]
     OutOfMemory,
-    /// The bytes break that rule.
+    /// The bytes break this rule.
     #[error("{0}")]
     Bad(TfmCause),
 }
@@ -39,10 +39,10 @@ pub enum TfmFault {
 /// Why a metric file gives no font at a size.
 #[derive(Clone, Copy, Debug, PartialEq, Eq, Error)]
 pub enum FontFault {
-    /// A width, height, depth, kern, or a size of the space is above 2^30 - 1 scaled points.
+    /// A width, height, depth, kern or size of the space is above 2^30 - 1 scaled points.
     #[error("a dimension of the font is too large")]
     DimensionTooLarge,
-    /// A growth was refused.
+    /// Out of memory: an allocation was refused.
     #[error("out of memory")]
     OutOfMemory,
 }

@@ -35,24 +35,24 @@ pub struct Space {
 /// What a font puts between two characters (TFtoPL, 13).
 #[derive(Clone, Copy, Debug, PartialEq, Eq)]
 pub enum Step {
-    /// A kern of that width.
+    /// A kern of this width.
     Kern(Dimen),
-    /// That character in the place of both.
+    /// This character, in place of both.
     Ligature(u8),
 }
 
-/// What a font says of a character, looked up once.
+/// The facts about a character of a font, computed once when the font is built.
 #[derive(Clone, Copy, Debug)]
 struct FontRow {
-    /// Its sizes, if it is there.
+    /// The sizes of the character, if the font has it.
     glyph: Option<GlyphSize>,
-    /// The step from which its program is taken, if it has one.
+    /// The step at which the character's program begins, if it has one.
     start: Option<u16>,
-    /// The following characters for which its program has a step: most pairs of characters have none.
+    /// The following characters for which the program has a step. Most pairs of characters have none, so this set answers them at once.
     followers: CharacterSet,
 }
 
-/// A font at a size: a metric file, and what it says of each of the 256 characters.
+/// A font at a size: a metric file, and the facts about each of the 256 characters.
 #[derive(Debug, Drop)]
 pub struct Font {
     file: SizedFile,
@@ -71,7 +71,7 @@ impl Model for Font {
     ghost invariant = { font_is_whole };
 }
 
-/// The size that is asked for, or the design size.
+/// The requested size, or the design size if none is requested.
 fn chosen_size(tfm: &Tfm, size: Option<FontSize>) -> FontSize
     ensures { result ≡ chosen_size tfm.now size }
 {
@@ -81,7 +81,7 @@ fn chosen_size(tfm: &Tfm, size: Option<FontSize>) -> FontSize
     }
 }
 
-/// What a file says of each character.
+/// The facts about each of the 256 characters.
 fn rows(alloc: Global, file: &SizedFile) -> Result<Vec<FontRow>, AllocError>
     ensures { IfOk result (λ rows. AreRows file.now rows.items) }
 {
@@ -99,7 +99,7 @@ fn rows(alloc: Global, file: &SizedFile) -> Result<Vec<FontRow>, AllocError>
     Ok(rows)
 }
 
-/// The font, whose sizes fit.
+/// The font at a size at which its dimensions fit.
 fn font_at(alloc: Global, file: &Entries, size: FontSize) -> Result<Font, AllocError>
     requires kept { KeepsRules file.now }
     requires fits { fits_at file.now size ≡ true }
@@ -112,10 +112,11 @@ fn font_at(alloc: Global, file: &Entries, size: FontSize) -> Result<Font, AllocE
 }
 
 impl Font {
-    /// The font of a metric file at that size, or at its design size (TeX: The Program, part 30).
+    /// The font of a metric file at this size, or at its design size (TeX: The Program, part 30). Allocates its tables.
     ///
-    /// `DimensionTooLarge` comes exactly where a width, height, depth, kern or a size of the space is not below 2^30 scaled points.
-    /// It takes memory for its tables.
+    /// `DimensionTooLarge` is returned exactly when a width, height, depth, kern or size of the space is 2^30 scaled points or more. All sizes are
+    /// tested before the font is built; otherwise this error could come after memory was refused. `OutOfMemory` is returned if an allocation is
+    /// refused.
     pub fn at_size(alloc: Global, tfm: &Tfm, size: Option<FontSize>) -> Result<Font, FontFault>
         ensures ok { IfOk result (λ font. font ≡ font_at tfm.now (chosen_size tfm.now size)) }
         ensures fits { OnOk result (fits_at tfm.now (chosen_size tfm.now size) ≡ true) }
@@ -132,43 +133,43 @@ impl Font {
         }
     }
 
-    /// The size in scaled points.
+    /// The size of the font, in scaled points.
     pub fn size(&self) -> FontSize
         ensures { result ≡ self.now.size }
     {
         self.file.size()
     }
 
-    /// The check sum of its metric file (TFtoPL, 10).
+    /// The checksum of its metric file (TFtoPL, 10).
     pub fn check_sum(&self) -> i32
         ensures { result ≡ self.now.check_sum }
     {
         self.file.check_sum()
     }
 
-    /// The design size of its metric file in scaled points (TFtoPL, 10).
+    /// The design size of its metric file, in scaled points (TFtoPL, 10).
     pub fn design_size(&self) -> FontSize
         ensures { result ≡ self.now.design_size }
     {
         self.file.design_size()
     }
 
-    /// The space between words. Takes no memory.
+    /// The space between words. Does not allocate.
     pub fn space(&self) -> Space
         ensures { result ≡ self.now.space }
     {
         self.file.space()
     }
 
-    /// The sizes of a character, or None exactly where it is not there (TFtoPL, 11). Takes no memory.
+    /// The sizes of a character, or `None` exactly when the font does not have it (TFtoPL, 11). Does not allocate.
     pub fn glyph(&self, code: u8) -> Option<GlyphSize>
         ensures { result ≡ glyph_of self.now code }
     {
         self.rows[usize::from(code)].glyph
     }
 
-    /// What stands between a character and the following one: the first step of its program that is for it; None where there is
-    /// none (TFtoPL, 13). Takes no memory.
+    /// The kern or ligature between a character and the following one: the first step of the character's program for the following character, or
+    /// `None` if there is none (TFtoPL, 13). Does not allocate.
     #[tactic(auto, unfolding(crate::specs::Fonts::step_of))]
     pub fn step(&self, code: u8, following: u8) -> Option<Step>
         ensures value { result ≡ step_of self.now code following }

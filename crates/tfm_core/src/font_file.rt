@@ -1,4 +1,4 @@
-//! Font files that are handed in by name.
+//! Font files, which the caller provides by name.
 
 ghost use Rattle.std.specs.Prelude.{◌≡◌, option_copied, IfOk};
 ghost use Rattle.std.specs.Option.{SomeIff};
@@ -25,7 +25,7 @@ impl Model for FontName {
 }
 
 impl FontName {
-    /// The name of these bytes, or None exactly where they are not 1 to 255.
+    /// The name with these bytes, or `None` exactly when there are not 1 to 255 of them.
     pub fn try_new(bytes: Vec<u8>) -> Option<FontName>
         ensures { SomeIff result (IsFontName bytes.items) bytes.items }
     {
@@ -38,7 +38,7 @@ impl FontName {
         Some(FontName { bytes })
     }
 
-    /// Its bytes.
+    /// The bytes of the name.
     pub fn as_bytes(&self) -> &[u8]
         ensures value { result.now ≡ self.now }
         ensures name { IsFontName self.now }
@@ -46,7 +46,7 @@ impl FontName {
         &self.bytes
     }
 
-    /// An equal name in memory of its own.
+    /// A copy of the name. The error is that memory was refused.
     pub fn copy(&self, alloc: Global) -> Result<FontName, AllocError>
         ensures { IfOk result (λ copy. copy ≡ self.now) }
     {
@@ -71,28 +71,28 @@ impl Model for FontFile {
 }
 
 impl FontFile {
-    /// The file of that name.
+    /// The file with this name and these bytes.
     pub fn new(name: FontName, bytes: Vec<u8>) -> FontFile
         ensures { result ≡ record { name = name; bytes = bytes.items } }
     {
         FontFile { name, bytes }
     }
 
-    /// Its name.
+    /// The name of the file.
     pub fn name(&self) -> &FontName
         ensures { result.now ≡ self.now.name }
     {
         &self.name
     }
 
-    /// Its bytes.
+    /// The bytes of the file.
     pub fn bytes(&self) -> &[u8]
         ensures { result.now ≡ self.now.bytes }
     {
         &self.bytes
     }
 
-    /// An equal file in memory of its own.
+    /// A copy of the file. The error is that memory was refused.
     pub fn copy(&self, alloc: Global) -> Result<FontFile, AllocError>
         ensures { IfOk result (λ copy. copy ≡ self.now) }
     {
@@ -102,7 +102,7 @@ impl FontFile {
     }
 }
 
-/// The first file of that name. Takes no memory.
+/// The first file with this name. Does not allocate.
 pub fn file_named<'a>(files: &'a [FontFile], name: &[u8]) -> Option<&'a FontFile>
     ensures { option_copied result ≡ file_named name.now files.now }
 {

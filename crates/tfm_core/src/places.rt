@@ -1,11 +1,11 @@
-//! Where the tables of a metric file begin.
+//! The places of the tables in a metric file.
 
 ghost use Rattle.std.specs.Prelude.{◌≡◌, ◌≤◌};
 ghost use Rattle.tfm_core.specs.MetricFile.{character_count, places_of};
 
 use crate::record::Counts;
 
-/// The words at which the tables begin, and the one behind the last of them.
+/// The word at which each table begins, and the word after the last table.
 #[derive(Clone, Copy, Debug)]
 pub struct Places {
     pub characters: usize,
@@ -19,10 +19,10 @@ pub struct Places {
     pub end: usize,
 }
 
-/// The number of codes from the first to the last.
+/// The number of codes from the first to the last character.
 pub fn character_count(counts: Counts) -> usize
     ensures value { result ≡ character_count counts }
-    ensures small { result ≤ 65536 }
+    ensures value_bounded { result ≤ 65536 }
 {
     (usize::from(counts.last) + 1).saturating_sub(usize::from(counts.first))
 }

@@ -7,14 +7,14 @@ ghost use Rattle.tfm_core.specs.Program.{first_for, first_step, is_for, taken_st
 use crate::character_set::CharacterSet;
 use crate::record::{KERN_FLAG, LigKernStep, STOP_FLAG, Tag};
 
-/// The step of that number.
+/// The step with this number, if there is one.
 fn step_at(steps: &[LigKernStep], k: usize) -> Option<LigKernStep>
     ensures { result ≡ slice_get steps.now k }
 {
     steps.get(k).copied()
 }
 
-/// The step from which the program is taken that begins at step k.
+/// The step at which a character's program begins, when its tag names step k: a first step with a high skip redirects to another one.
 #[tactic(auto, unfolding(crate::specs::Program::first_step))]
 fn first_step(steps: &[LigKernStep], k: u8) -> u16
     ensures { result ≡ first_step steps.now k }
@@ -28,7 +28,7 @@ fn first_step(steps: &[LigKernStep], k: u8) -> u16
     u16::from(k)
 }
 
-/// Whether a step is for that following character.
+/// Whether a step applies to this following character.
 #[tactic(auto, unfolding(crate::specs::Program::is_for))]
 fn is_for(following: u8, step: LigKernStep) -> bool
     ensures { result ≡ is_for following step }
@@ -36,7 +36,7 @@ fn is_for(following: u8, step: LigKernStep) -> bool
     step.next == following && step.skip <= STOP_FLAG && (step.op == 0 || KERN_FLAG <= step.op)
 }
 
-/// The first step for the following character, of those that are taken from step k on.
+/// The first step for the following character among those that are taken from step k on.
 #[tactic(auto, using(crate::proofs::ProgramLemmas::programs))]
 pub fn first_from(steps: &[LigKernStep], mut k: usize, following: u8) -> Option<LigKernStep>
     ensures { result ≡ first_for steps.now following (taken_steps steps.now k) }
@@ -53,7 +53,7 @@ pub fn first_from(steps: &[LigKernStep], mut k: usize, following: u8) -> Option<
     None
 }
 
-/// Adds the following character that a step is for, if it is for one.
+/// Adds the following character to which a step applies, if it applies to one.
 #[tactic(auto, unfolding(crate::specs::Program::is_for))]
 fn add_follower(followers: &mut CharacterSet, step: LigKernStep)
     ensures { (f : ℕ) → f < 256 → is_in followers.new f ≡ (is_for f step || is_in followers.old f) }
@@ -63,7 +63,7 @@ fn add_follower(followers: &mut CharacterSet, step: LigKernStep)
     }
 }
 
-/// The following characters for which there is a step, of those that are taken from step `at` on.
+/// The following characters for which there is a step among those that are taken from step `at` on.
 pub fn followers_from(steps: &[LigKernStep], mut at: usize) -> CharacterSet
     ensures { (f : ℕ) → f < 256 → is_in result f ≡ is_some (first_for steps.now f (taken_steps steps.now at)) }
 {
@@ -78,7 +78,7 @@ pub fn followers_from(steps: &[LigKernStep], mut at: usize) -> CharacterSet
     followers
 }
 
-/// The step from which a tag's program is taken, if it has one.
+/// The step at which a tag's program begins, if the tag has a program.
 pub fn start(steps: &[LigKernStep], tag: Tag) -> Option<u16>
     ensures { result ≡ tag_start steps.now tag }
 {

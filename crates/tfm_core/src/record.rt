@@ -3,33 +3,33 @@
 /// The twelve numbers at the front of a metric file (TFtoPL, 8).
 #[derive(Clone, Copy, Debug, PartialEq, Eq)]
 pub struct Counts {
-    /// lf: the words of the file, of four bytes each.
+    /// lf: the number of words in the file, of four bytes each.
     pub file: u16,
-    /// lh: the words of the header.
+    /// lh: the number of words in the header.
     pub header: u16,
     /// bc: the code of the first character.
     pub first: u16,
     /// ec: the code of the last character.
     pub last: u16,
-    /// nw: the widths.
+    /// nw: the number of widths.
     pub widths: u16,
-    /// nh: the heights.
+    /// nh: the number of heights.
     pub heights: u16,
-    /// nd: the depths.
+    /// nd: the number of depths.
     pub depths: u16,
-    /// ni: the italic corrections.
+    /// ni: the number of italic corrections.
     pub italics: u16,
-    /// nl: the steps of the ligature/kern program.
+    /// nl: the number of steps in the ligature/kern program.
     pub steps: u16,
-    /// nk: the kerns.
+    /// nk: the number of kerns.
     pub kerns: u16,
-    /// ne: the extensible recipes.
+    /// ne: the number of extensible recipes.
     pub recipes: u16,
-    /// np: the parameters.
+    /// np: the number of parameters.
     pub parameters: u16,
 }
 
-/// What a character has beside its sizes (TFtoPL, 11 and 12).
+/// What a character has besides its sizes (TFtoPL, 11 and 12).
 #[derive(Clone, Copy, Debug, PartialEq, Eq)]
 pub enum Tag {
     /// Nothing.
@@ -42,7 +42,7 @@ pub enum Tag {
     Recipe(u8),
 }
 
-/// What a metric file says of a character: indices into its tables. Where the width index is 0, the character is not there (TFtoPL, 11).
+/// The entry of a character in a metric file: indices into its tables. If the width index is 0, the font does not have the character (TFtoPL, 11).
 #[derive(Clone, Copy, Debug, PartialEq, Eq)]
 pub struct CharInfo {
     pub width: u8,
@@ -52,23 +52,23 @@ pub struct CharInfo {
     pub tag: Tag,
 }
 
-/// The last step of a program has this skip; a step with a higher one is no more than a place to go on from (TFtoPL, 13; TeX: The Program, part 30, §545,
+/// The last step of a program has this skip. A step with a higher skip only redirects to another step (TFtoPL, 13; TeX: The Program, part 30, §545,
 /// `stop_flag`).
 pub const STOP_FLAG: u8 = 128;
 
-/// A step with this operation or a higher one gives a kern (TFtoPL, 13; TeX: The Program, part 30, §545, `kern_flag`).
+/// A step with this operation or a higher one is a kern (TFtoPL, 13; TeX: The Program, part 30, §545, `kern_flag`).
 pub const KERN_FLAG: u8 = 128;
 
 /// A step of the ligature/kern program (TFtoPL, 13).
 #[derive(Clone, Copy, Debug, PartialEq, Eq)]
 pub struct LigKernStep {
-    /// How many steps are passed over to the next one; the program ends where it is `STOP_FLAG` or more, and above that the step
-    /// is no more than a place to go on from.
+    /// The number of steps to pass over before the next one. The program ends at `STOP_FLAG` or more; above that, the step only redirects to another
+    /// step.
     pub skip: u8,
-    /// The character that has to follow.
+    /// The following character to which the step applies.
     pub next: u8,
-    /// 0 for a ligature, `KERN_FLAG` and more for a kern; nothing else is used.
+    /// 0 for a ligature, `KERN_FLAG` or more for a kern; other values give nothing.
     pub op: u8,
-    /// The ligature's character, or the lower part of the kern's number.
+    /// The character of the ligature, or the low byte of the kern's index.
     pub remainder: u8,
 }

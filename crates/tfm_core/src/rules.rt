@@ -8,7 +8,7 @@ use crate::places::places_of;
 use crate::record::{CharInfo, Counts, KERN_FLAG, LigKernStep, STOP_FLAG, Tag};
 use crate::scaling::is_fix_word;
 
-/// Whether there are fewer bytes than the file says, or than its twelve numbers take.
+/// Whether there are fewer than 24 bytes, or fewer than the file says that it has.
 #[tactic(auto, unfolding(crate::specs::Rules::is_too_short))]
 pub fn is_too_short(bytes: &[u8]) -> bool
     ensures { result ≡ is_too_short bytes.now }
@@ -41,7 +41,7 @@ fn has_large_number(c: Counts) -> bool
     numbers.iter().any(|n| 32768 <= *n)
 }
 
-/// Whether the codes of the first and the last character are wrong.
+/// Whether the codes of the first and the last character are out of order or out of range.
 #[tactic(auto, unfolding(crate::specs::Rules::has_wrong_codes))]
 fn has_wrong_codes(c: Counts) -> bool
     ensures { result ≡ has_wrong_codes c }
@@ -49,7 +49,7 @@ fn has_wrong_codes(c: Counts) -> bool
     usize::from(c.last) + 1 < usize::from(c.first) || 255 < c.last
 }
 
-/// Whether the header has fewer than 2 words, or there is no width, height, depth or italic (TeX: The Program, part 30, §565 and §568).
+/// Whether the header has fewer than 2 words, or there is no width, height, depth or italic correction (TeX: The Program, part 30, §565 and §568).
 #[tactic(auto, unfolding(crate::specs::Rules::lacks_a_table))]
 fn lacks_a_table(c: Counts) -> bool
     ensures { result ≡ lacks_a_table c }
@@ -57,7 +57,7 @@ fn lacks_a_table(c: Counts) -> bool
     c.header < 2 || c.widths == 0 || c.heights == 0 || c.depths == 0 || c.italics == 0
 }
 
-/// Whether the twelve numbers do not go together.
+/// Whether the twelve numbers do not agree with each other.
 #[tactic(auto, unfolding(crate::specs::Rules::breaks_counts, crate::specs::MetricFile::places_of))]
 pub fn breaks_counts(c: Counts) -> bool
     ensures { result ≡ breaks_counts c }
@@ -76,7 +76,7 @@ pub fn breaks_design_size(word: i32) -> bool
     word < 0 || word.unsigned_abs() / 16 < 65536
 }
 
-/// Whether a program begins past the steps.
+/// Whether a program begins after the last step.
 fn begins_past_steps(steps: usize, tag: Tag) -> bool
     ensures { result ≡ begins_past_steps steps tag }
 {
@@ -104,7 +104,7 @@ fn begins_nonzero(words: &[i32]) -> bool
     }
 }
 
-/// The parameters 2, 3 and 4, as far as there are any.
+/// The parameters 2, 3 and 4, as far as the file has them.
 fn space_words(parameters: &[i32]) -> &[i32]
     ensures { result.now ≡ space_words parameters.now }
 {
@@ -114,7 +114,7 @@ fn space_words(parameters: &[i32]) -> &[i32]
     &parameters[1..usize::min(4, parameters.len())]
 }
 
-/// The character of that code, if it is there; the list begins with the first code.
+/// The character with this code, if the font has it; the list begins with the first code.
 #[tactic(auto, unfolding(crate::specs::Rules::character_at))]
 pub fn character_at(first: u16, characters: &[CharInfo], code: u8) -> Option<CharInfo>
     ensures { result ≡ character_at first characters.now code }
@@ -157,7 +157,7 @@ pub fn breaks_fix_word(file: &Entries) -> bool
         || some_table_begins_nonzero(file)
 }
 
-/// Whether a width, height, depth or italic is no fix word.
+/// Whether a width, height, depth or italic correction is no fix word.
 #[tactic(auto, unfolding(crate::specs::Rules::some_size_is_no_fix_word))]
 fn some_size_is_no_fix_word(file: &Entries) -> bool
     ensures { result ≡ some_size_is_no_fix_word file.now }
@@ -200,7 +200,7 @@ fn breaks_step(file: &Entries, k: usize, s: LigKernStep) -> bool
         || s.skip < STOP_FLAG && file.steps.len() <= k + usize::from(s.skip) + 1
 }
 
-/// Whether a step gives a kern past that many, or a ligature with a character that is not there.
+/// Whether a step names a kern or a ligature's character that is not there; `kerns` is the number of kerns.
 #[tactic(auto, unfolding(crate::specs::Rules::names_absent_kern_or_character))]
 fn names_absent_kern_or_character(
     first: u16,

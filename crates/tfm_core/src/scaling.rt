@@ -29,7 +29,7 @@ impl Model for FontSize {
 }
 
 impl FontSize {
-    /// The size of that many scaled points, or None exactly where the number is not 1 to 2^27 - 1.
+    /// The size of this number of scaled points, or `None` exactly when the number is not 1 to 2^27 - 1.
     pub fn try_new(size: i64) -> Option<FontSize>
         ensures { SomeIff result (IsFontSize size) size }
     {
@@ -42,7 +42,7 @@ impl FontSize {
         Some(FontSize { size: size as i32 })
     }
 
-    /// The size that the header of a metric file names (TFtoPL, 10).
+    /// The design size in the header of a metric file (TFtoPL, 10).
     pub(crate) fn from_design_word(word: i32) -> FontSize
         requires { breaks_design_size word ≡ false }
         ensures { result ≡ design_size_of word }
@@ -59,11 +59,11 @@ impl FontSize {
     }
 }
 
-/// How many of the lowest bits of a size do not count.
+/// The number of low bits of a size that are cleared before scaling: TeX keeps at most 23 bits.
 #[tactic(auto, unfolding(crate::specs::Scaling::cleared_bits))]
 fn cleared_bits(size: u32) -> u32
     ensures value { result ≡ cleared_bits size }
-    ensures small { result < 5 }
+    ensures value_bounded { result < 5 }
 {
     if size < 1 << 23 {
         return 0;
@@ -80,18 +80,18 @@ fn cleared_bits(size: u32) -> u32
     4
 }
 
-/// A size with the bits that do not count cleared.
+/// A size with its low bits cleared.
 #[tactic(auto, using(crate::proofs::ScalingLemmas::scaling), unfolding(crate::specs::Scaling::kept_size))]
 fn kept_size(size: FontSize) -> u32
     ensures value { result ≡ kept_size size }
-    ensures small { result < 2 ^ 27 }
+    ensures value_bounded { result < 2 ^ 27 }
     ensures cleared { IsCleared (unsigned_abs size) (cleared_bits (unsigned_abs size)) }
 {
     let size = size.get() as u32;
     size - size % (1 << cleared_bits(size))
 }
 
-/// Whether the first byte of a word is 0 or 255.
+/// Whether the first byte of a word is 0 or 255: then the number is within 16 design sizes.
 #[tactic(auto, unfolding(crate::specs::Scaling::is_fix_word))]
 pub fn is_fix_word(word: i32) -> bool
     ensures value { result ≡ is_fix_word word }
@@ -108,7 +108,7 @@ fn floor(fix: i32, kept: u32) -> i64
     (i64::from(fix) * i64::from(kept)).div_euclid(1 << 20)
 }
 
-/// A fix word at a size.
+/// The size of a fix word, in scaled points.
 #[tactic(auto, using(crate::proofs::ScalingLemmas::scaling))]
 pub fn scaled_fix(fix: i32, size: FontSize) -> i64
     ensures floor { IsScaled fix size result }
@@ -117,9 +117,9 @@ pub fn scaled_fix(fix: i32, size: FontSize) -> i64
     floor(fix, kept_size(size))
 }
 
-/// A word of a metric file at a size, in scaled points: the floor of fix * kept / 2^20, where `kept` is the size with its lowest
-/// j bits cleared, j the least number with size < 2^(23 + j) (TeX: The Program, part 30, §571 and §572). None exactly where the
-/// word's first byte is neither 0 nor 255. Takes no memory.
+/// The size of a word of a metric file, in scaled points: the floor of fix * kept / 2^20, where `kept` is the font's size with its lowest j bits
+/// cleared, and j is the least number with size < 2^(23 + j) (TeX: The Program, part 30, §571 and §572). `None` exactly when the word's first byte is
+/// neither 0 nor 255. Does not allocate.
 #[tactic(auto, unfolding(crate::specs::Scaling::scaled_word))]
 pub fn scaled(fix: i32, size: FontSize) -> Option<i64>
     ensures fits { IsSome result ↔ IsTrue (is_fix_word fix) }

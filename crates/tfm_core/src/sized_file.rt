@@ -1,4 +1,4 @@
-//! What a metric file says of a font at a size (TeX: The Program, part 30).
+//! The contents of a metric file at a size (TeX: The Program, part 30).
 
 ghost use Rattle.std.specs.Prelude.{◌≡◌, ◌≤◌, ◌<◌, ℕ, map, IfOk, IfSome, is_some, true};
 ghost use Rattle.tfm_core.specs.Fonts.{HasAction, HasNumbers, IsInTables, action_of, are_dimens_at, fits_at, font_at, glyph_of, is_dimen_at, is_space_at, matching_step, parameter, sizes_of, space_at};
@@ -45,7 +45,7 @@ impl Model for SizedFile {
     ghost invariant = { file_is_whole };
 }
 
-/// Whether a word at a size fits as a dimension.
+/// Whether the size of a word fits as a dimension.
 #[tactic(auto, unfolding(crate::specs::Fonts::is_dimen_at))]
 fn is_dimen_at(size: FontSize, word: i32) -> bool
     ensures { result ≡ is_dimen_at size word }
@@ -53,7 +53,7 @@ fn is_dimen_at(size: FontSize, word: i32) -> bool
     Dimen::try_new(scaled_fix(word, size)).is_some()
 }
 
-/// Whether each of these words at a size fits as a dimension.
+/// Whether the size of each of these words fits as a dimension.
 #[tactic(auto, unfolding(crate::specs::Fonts::are_dimens_at))]
 fn are_dimens_at(size: FontSize, words: &[i32]) -> bool
     ensures { result ≡ are_dimens_at size words.now }
@@ -61,7 +61,7 @@ fn are_dimens_at(size: FontSize, words: &[i32]) -> bool
     words.iter().all(|word| is_dimen_at(size, *word))
 }
 
-/// Parameter n, from 1 on, or 0 where the file does not have it (TeX: The Program, part 30, §575).
+/// Parameter n, which counts from 1, or 0 if the file does not have it (TeX: The Program, part 30, §575).
 fn parameter(n: usize, parameters: &[i32]) -> i32
     requires { 1 ≤ n }
     ensures { result ≡ parameter n parameters.now }
@@ -91,7 +91,7 @@ pub fn fits_at(file: &Entries, size: FontSize) -> bool
         && is_space_at(size, &file.parameters)
 }
 
-/// A word at a size, at which it fits.
+/// The size of a word that fits.
 #[tactic(auto, using(crate::proofs::SizeLemmas::dimensions))]
 fn dimension(size: FontSize, word: i32) -> Dimen
     requires { is_dimen_at size word ≡ true }
@@ -100,7 +100,7 @@ fn dimension(size: FontSize, word: i32) -> Dimen
     Dimen::new(scaled_fix(word, size))
 }
 
-/// Words at a size, at which each of them fits.
+/// The sizes of words that all fit.
 fn dimensions(alloc: Global, size: FontSize, words: &[i32]) -> Result<Vec<Dimen>, AllocError>
     requires { are_dimens_at size words.now ≡ true }
     ensures { IfOk result (λ dimensions. dimensions.items ≡ map (scaled_by size) words.now) }
@@ -112,7 +112,7 @@ fn dimensions(alloc: Global, size: FontSize, words: &[i32]) -> Result<Vec<Dimen>
     Ok(dimensions)
 }
 
-/// Parameter n at a size, at which it fits.
+/// The size of parameter n, which fits.
 #[tactic(auto, using(crate::proofs::SizeLemmas::tables))]
 fn parameter_at(size: FontSize, n: usize, parameters: &[i32]) -> Dimen
     requires number { 1 ≤ n }
@@ -122,7 +122,7 @@ fn parameter_at(size: FontSize, n: usize, parameters: &[i32]) -> Dimen
     dimension(size, parameter(n, parameters))
 }
 
-/// The space at a size, at which its sizes fit.
+/// The space at a size at which it fits.
 #[tactic(auto, using(crate::proofs::SizeLemmas::spaces), unfolding(crate::specs::Fonts::space_at))]
 fn space_at(size: FontSize, parameters: &[i32]) -> Space
     requires { is_space_at size parameters.now ≡ true }
@@ -136,7 +136,7 @@ fn space_at(size: FontSize, parameters: &[i32]) -> Space
 }
 
 impl SizedFile {
-    /// The file at that size, where its sizes fit.
+    /// The file at a size at which its dimensions fit.
     #[tactic(auto, using(crate::proofs::WholeLemmas::whole), unfolding(crate::specs::Fonts::font_at))]
     pub fn new(alloc: Global, file: &Entries, size: FontSize) -> Result<SizedFile, AllocError>
         requires kept { KeepsRules file.now }
@@ -159,21 +159,21 @@ impl SizedFile {
         })
     }
 
-    /// The size in scaled points.
+    /// The size of the font, in scaled points.
     pub fn size(&self) -> FontSize
         ensures { result ≡ self.now.size }
     {
         self.size
     }
 
-    /// The check sum (TFtoPL, 10).
+    /// The checksum (TFtoPL, 10).
     pub fn check_sum(&self) -> i32
         ensures { result ≡ self.now.check_sum }
     {
         self.check_sum
     }
 
-    /// The design size in scaled points (TFtoPL, 10).
+    /// The design size, in scaled points (TFtoPL, 10).
     pub fn design_size(&self) -> FontSize
         ensures { result ≡ self.now.design_size }
     {
@@ -187,7 +187,7 @@ impl SizedFile {
         self.space
     }
 
-    /// A character that is there.
+    /// The entry of a character, if the font has it.
     #[tactic(auto, using(crate::proofs::FontLemmas::glyphs))]
     fn character(&self, code: u8) -> Option<CharInfo>
         ensures value { result ≡ character_at self.now.first self.now.characters code }
@@ -196,7 +196,7 @@ impl SizedFile {
         character_at(self.first, &self.characters, code)
     }
 
-    /// The sizes that a character names.
+    /// The sizes that the entry of a character names.
     fn sizes(&self, info: CharInfo) -> GlyphSize
         requires { IsInTables self.now info }
         ensures { result ≡ sizes_of self.now info }
@@ -208,7 +208,7 @@ impl SizedFile {
         }
     }
 
-    /// The sizes of a character, or None exactly where it is not there (TFtoPL, 11).
+    /// The sizes of a character, or `None` exactly when the font does not have it (TFtoPL, 11).
     #[tactic(auto, unfolding(crate::specs::Fonts::glyph_of))]
     pub fn glyph(&self, code: u8) -> Option<GlyphSize>
         ensures { result ≡ glyph_of self.now code }
@@ -217,7 +217,7 @@ impl SizedFile {
         Some(self.sizes(info))
     }
 
-    /// The step from which a character's program is taken, if it has a program (TFtoPL, 13).
+    /// The step at which a character's program begins, if it has a program (TFtoPL, 13).
     #[tactic(auto, unfolding(crate::specs::FontView::start_of))]
     pub fn start(&self, code: u8) -> Option<u16>
         ensures { result ≡ start_of self.now code }
@@ -226,7 +226,7 @@ impl SizedFile {
         start(&self.steps, info.tag)
     }
 
-    /// The following characters for which a character's program, which is taken from step `start` on, has a step.
+    /// The following characters for which a character's program, which begins at step `start`, has a step.
     pub fn followers(&self, code: u8, start: Option<u16>) -> CharacterSet
         requires { start ≡ start_of self.now code }
         ensures { (f : ℕ) → f < 256 → is_in result f ≡ is_some (matching_step self.now code f) }
@@ -237,7 +237,7 @@ impl SizedFile {
         }
     }
 
-    /// The first step for the following character, of a character's program, which is taken from step `start` on.
+    /// The first step for the following character in a character's program, which begins at step `start`.
     pub fn step_from(&self, code: u8, start: u16, following: u8) -> Option<LigKernStep>
         requires { Some start ≡ start_of self.now code }
         ensures value { result ≡ matching_step self.now code following }
@@ -246,7 +246,7 @@ impl SizedFile {
         first_from(&self.steps, usize::from(start), following)
     }
 
-    /// What a step gives.
+    /// The kern or ligature of a step.
     #[tactic(auto, unfolding(crate::specs::Fonts::action_of))]
     pub fn action(&self, step: LigKernStep) -> Option<Step>
         ensures { result ≡ action_of self.now step }

@@ -14,7 +14,7 @@ use crate::scaling::FontSize;
 use std::alloc::{AllocError, Global};
 use std::marker::Model;
 
-/// A metric file that keeps its rules.
+/// A metric file that keeps all rules.
 #[derive(Debug, Drop)]
 pub struct Tfm {
     entries: Entries,
@@ -31,7 +31,7 @@ impl Model for Tfm {
     ghost invariant = { λ tfm. KeepsRules tfm.entries };
 }
 
-/// The first broken one of the rules that need no table.
+/// The first broken rule among those that need no table.
 #[tactic(auto, using(crate::proofs::RuleLemmas::room), unfolding(crate::specs::Rules::broken_in_front))]
 fn broken_in_front(bytes: &[u8]) -> Option<TfmCause>
     ensures value { result ≡ broken_in_front bytes.now }
@@ -49,7 +49,7 @@ fn broken_in_front(bytes: &[u8]) -> Option<TfmCause>
     None
 }
 
-/// The first broken one of the rules that need tables.
+/// The first broken rule among those that need tables.
 #[tactic(auto, unfolding(crate::specs::Rules::broken_in_tables))]
 fn broken_in_tables(file: &Entries) -> Option<TfmCause>
     ensures { result ≡ broken_in_tables file.now }
@@ -67,10 +67,10 @@ fn broken_in_tables(file: &Entries) -> Option<TfmCause>
 }
 
 impl Tfm {
-    /// The metric file that the bytes hold; bytes behind its last word are ignored (TFtoPL, 8 to 15).
+    /// The metric file in the bytes; bytes after its last word are ignored (TFtoPL, 8 to 15). Allocates its tables.
     ///
-    /// `Bad` names the first broken rule. It takes memory for its tables, and only where no rule is broken that needs no table: not TooShort, Counts
-    /// or DesignSize.
+    /// `Bad` is returned exactly when a rule is broken, and names the first one. `OutOfMemory` is returned if an allocation is refused. The rules
+    /// `TooShort`, `Counts` and `DesignSize` are tested before anything is allocated.
     #[tactic(auto, using(crate::proofs::ReadingLemmas::relations))]
     pub fn read(alloc: Global, bytes: &[u8]) -> Result<Tfm, TfmFault>
         ensures ok { IfOk result (λ tfm. IsMetricFile bytes.now tfm) }
@@ -89,21 +89,21 @@ impl Tfm {
 }
 
 impl Tfm {
-    /// The check sum: the header's word 0 (TFtoPL, 10).
+    /// The checksum: word 0 of the header (TFtoPL, 10).
     pub fn check_sum(&self) -> i32
         ensures { result ≡ self.now.check_sum }
     {
         self.entries.check_sum
     }
 
-    /// The design size in scaled points: a sixteenth of the header's word 1 (TFtoPL, 10).
+    /// The design size in scaled points: a sixteenth of word 1 of the header (TFtoPL, 10).
     pub fn design_size(&self) -> FontSize
         ensures { result ≡ design_size_of self.now.design_word }
     {
         FontSize::from_design_word(self.entries.design_word)
     }
 
-    /// The record, which keeps the rules.
+    /// The entries of the file, which keep the rules.
     pub(crate) fn entries(&self) -> &Entries
         ensures value { result.now ≡ self.now }
         ensures kept { KeepsRules self.now }
@@ -112,7 +112,7 @@ impl Tfm {
     }
 }
 
-/// What the bytes hold.
+/// The metric file in the bytes, or the first broken rule.
 #[tactic(auto, using(crate::proofs::ReadingLemmas::reading))]
 fn file_in(alloc: Global, bytes: &[u8]) -> Result<Result<Tfm, TfmCause>, AllocError>
     ensures held { IfOk result (λ held. held ≡ metric_file bytes.now) }

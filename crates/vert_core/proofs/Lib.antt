@@ -1,2 +1,13 @@
 -- Lemmas on lists that are shortened again.
+-- Lemmas on the items that lines keep and add.
 pub mod Shortened
+pub mod KeptItems
+pub mod Stacks
+pub mod Endings
+pub mod FewLines
+pub mod SetLists
+pub mod LeastLists
+pub mod Settings
+pub mod Unbroken
+pub mod Tried
+pub mod BadLines

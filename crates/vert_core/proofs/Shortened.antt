@@ -1,4 +1,4 @@
--- A list behind which a node was put, shortened to what it was.
+-- A list to which a node was appended, truncated to its old length.
 use Rattle.std.proofs.Common.{◌≡◌, ◌∙◌, ℕ, Result, Ok, Err, List, [], ◌∷◌, ◌++◌, length, take, false, ap}
 use Rattle.std.specs.Prelude.{OnOk}
 use Rattle.std.specs.Result.{is_err}

@@ -1,7 +1,7 @@
-//! Boxes are put behind a vertical list.
+//! Appending boxes to a vertical list.
 
 ghost use Rattle.std.specs.Prelude.{◌≡◌, ◌≤◌, ◌+◌, ◌++◌, [], ◌∷◌, is_ok, if◌then◌else◌, IsOk, OnOk, OnErr, IfOk, IfErr, length};
-ghost use Rattle.node_core.specs.Nodes.{most_nodes, items_of, nodes_of};
+ghost use Rattle.node_core.specs.Nodes.{max_nodes, items_of, nodes_of};
 ghost use Rattle.vert_core.specs.Interline.{interline, glue_of, appended};
 
 use crate::interline::{DimensionTooLarge, interline_glue};
@@ -12,15 +12,15 @@ use thiserror::Error;
 /// Why a box was not appended.
 #[derive(Clone, Copy, Debug, PartialEq, Eq, Error)]
 pub enum AppendFault {
-    /// The glue in front of it does not fit.
+    /// The width of the glue before the box does not fit.
     #[error("the distance between two boxes is too large")]
     DimensionTooLarge,
-    /// A growth of the list was refused.
+    /// Out of memory: an allocation was refused.
     #[error("out of memory")]
     OutOfMemory,
 }
 
-/// The box was not appended; it comes back.
+/// The box was not appended. It is returned.
 #[derive(Debug, Drop, Error)]
 #[error("the box was not appended: {fault}")]
 pub struct Unappended {
@@ -28,8 +28,9 @@ pub struct Unappended {
     pub fault: AppendFault,
 }
 
-/// Puts a box behind a vertical list whose last box is so deep, with the glue in front of it, and answers the depth that is then the
-/// previous one. Where the glue does not fit or memory is refused, the box comes back and the list is as it was.
+/// Appends a box to a vertical list, with the interline glue before it, and returns the new previous depth, which is the depth of the box.
+/// `previous_depth` is the depth of the last box of the list. If there is an error, it has the box, and the list is as it was before the call:
+/// `DimensionTooLarge` exactly if the width of the glue does not fit, and otherwise `OutOfMemory`.
 pub fn append_box(
     nodes: &mut Vec<Node>,
     box_node: BoxNode,
@@ -40,12 +41,12 @@ pub fn append_box(
     ensures ok { OnOk result (nodes.new.items ≡
         nodes.old.items ++ appended (glue_of (interline params.now previous_depth box_node.height)) shift box_node) }
     ensures depth { IfOk result (λ depth. depth ≡ box_node.depth) }
-    // The glue fits, and else this is the fault, even where memory would be refused too.
+    // The glue fits; otherwise this is the fault, even if memory would be refused too.
     ensures fits { OnOk result (IsOk (interline params.now previous_depth box_node.height)) }
     ensures fault { IfErr result (λ e. e.fault ≡
         (if is_ok (interline params.now previous_depth box_node.height) then AppendFault.OutOfMemory else AppendFault.DimensionTooLarge)) }
     ensures err { OnErr result (nodes.new.items ≡ nodes.old.items) }
-    ensures back { IfErr result (λ e. e.box_node ≡ box_node) }
+    ensures box_returned { IfErr result (λ e. e.box_node ≡ box_node) }
 {
     let depth = box_node.depth;
     match interline_glue(previous_depth, box_node.height, params) {
@@ -63,8 +64,8 @@ pub fn append_box(
     }
 }
 
-/// Puts glue, if there is some, and a box behind a list, which has room for two more nodes. Where a growth is refused, the box comes back
-/// and the list is as it was.
+/// Appends glue, if there is any, and a box to a list that has space for two more nodes. If memory is refused, the error is the box, and the list is
+/// as it was before the call. Glue whose box could not follow is removed with `truncate`, since a list has no `pop` for nodes other than boxes.
 #[tactic(auto, using(node_core::proofs::NodeLemmas::nodes))]
 pub fn append_with_glue(
     list: &mut NodeList,
@@ -72,10 +73,10 @@ pub fn append_with_glue(
     shift: Dimen,
     box_node: BoxNode,
 ) -> Result<(), BoxNode>
-    requires short { length (nodes_of list.old) + 2 ≤ most_nodes }
+    requires list_bounded { length (nodes_of list.old) + 2 ≤ max_nodes }
     ensures ok { OnOk result (list.new ≡ items_of (nodes_of list.old ++ appended glue shift box_node)) }
     ensures err { OnErr result (list.new ≡ list.old) }
-    ensures back { IfErr result (λ back. back ≡ box_node) }
+    ensures box_returned { IfErr result (λ back. back ≡ box_node) }
 {
     let Some(glue) = glue else {
         return list.push_box(shift, box_node);
@@ -93,7 +94,8 @@ pub fn append_with_glue(
     }
 }
 
-/// Puts glue, if there is some, and a box behind a list. Where a growth is refused, the box comes back and the list is as it was.
+/// Appends glue, if there is any, and a box to some nodes. If memory is refused, the error is the box, and the nodes are as they were before the
+/// call.
 fn push_with_glue(
     nodes: &mut Vec<Node>,
     glue: Option<Glue>,
@@ -102,7 +104,7 @@ fn push_with_glue(
 ) -> Result<(), BoxNode>
     ensures ok { OnOk result (nodes.new.items ≡ nodes.old.items ++ appended glue shift box_node) }
     ensures err { OnErr result (nodes.new.items ≡ nodes.old.items) }
-    ensures back { IfErr result (λ back. back ≡ box_node) }
+    ensures box_returned { IfErr result (λ back. back ≡ box_node) }
 {
     let Some(glue) = glue else {
         return push_box(nodes, shift, box_node);

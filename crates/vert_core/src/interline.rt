@@ -12,8 +12,8 @@ use thiserror::Error;
 #[error("a size is too large")]
 pub struct DimensionTooLarge;
 
-/// The glue in front of a box of that height, in a vertical list whose last box is so deep; none where that depth is -1000pt or less. It is
-/// refused exactly where baselineskip is to set the boxes apart and the distance between them is no dimension. It takes no memory.
+/// The glue before a box of this height in a vertical list whose last box has the depth `previous_depth`; `None` if that depth is -1000pt or less.
+/// The error is returned exactly when the glue is that of baselineskip and its width does not fit. Does not allocate.
 #[tactic(auto, unfolding(crate::specs::Interline::interline))]
 pub fn interline_glue(
     previous_depth: Dimen,
@@ -32,14 +32,14 @@ pub fn interline_glue(
     baseline_glue(apart, params)
 }
 
-/// Whether a depth counts as none: -1000pt or less.
+/// Whether a depth suppresses the glue: -1000pt or less.
 fn is_ignored(depth: Dimen) -> bool
     ensures { result ≡ int_le depth ignored_depth }
 {
     depth <= Dimen::IGNORE_DEPTH
 }
 
-/// Glue of that width, which stretches and shrinks as baselineskip does, where the width fits.
+/// Glue of this width that stretches and shrinks as baselineskip does, if the width fits.
 fn baseline_glue(width: i64, params: &Params) -> Result<Option<Glue>, DimensionTooLarge>
     ensures { result ≡ baseline_glue params.now width }
 {
@@ -52,7 +52,8 @@ fn baseline_glue(width: i64, params: &Params) -> Result<Option<Glue>, DimensionT
     }
 }
 
-/// How far apart two boxes are whose baselines are apart by baselineskip.
+/// The distance between two boxes whose baselines are baselineskip apart. It is an exact number, which need not be a dimension, because it is
+/// compared with lineskiplimit first; only the width of baselineskip glue has to fit.
 fn distance(previous_depth: Dimen, height: Dimen, params: &Params) -> i64
     ensures { result ≡ distance params.now previous_depth height }
 {

@@ -1,6 +1,6 @@
 use Rattle.std.proofs.Common.{◌≡◌, ◌+◌, ◌<◌, [], ◌∷◌, replicate, None}
 use Rattle.break_table.specs.Tables.{slots}
-use Rattle.break_core.specs.Active.{stops, pruned, groups_of, AreOver, IsFilled, IsCounted, AreKept}
+use Rattle.break_core.specs.Active.{stops, pruned, groups_of, AreOver, IsFilled, IsCounted, TrialsOnlyGrow}
 use Rattle.break_core.proofs.Counts.{start_group}
 use Rattle.break_core.proofs.filling.fill.Given as goal
 
@@ -10,7 +10,7 @@ invariant-loop-before g l = record {
   counted : IsCounted (stops (g.M.Meter.facts l.initial.meter) l.rules.params.now l.rules.ending) l.before (g.M.Meter.trials l.initial.meter) (g.M.Meter.trials l.meter);
   filled : IsFilled (pruned (g.M.Meter.facts l.initial.meter) l.rules.params.now l.rules.bound l.rules.ending) (stops (g.M.Meter.facts l.initial.meter) l.rules.params.now l.rules.ending) (l.before + 1) l.reached.table.items (groups_of l.reached.live.items);
   over : AreOver (g.M.Meter.facts l.initial.meter) l.rules.params.now (l.before + 1) l.reached.live.items;
-  kept : AreKept (g.M.Meter.trials l.initial.meter) (g.M.Meter.trials l.meter);
+  kept : TrialsOnlyGrow (g.M.Meter.trials l.initial.meter) (g.M.Meter.trials l.meter);
   begins : l.before ≡ 0 → groups_of l.reached.live.items ≡ start_group ∷ [];
   started : 0 < l.before → g.M.Meter.trials l.initial.meter 0 < g.M.Meter.trials l.meter 0;
   empty : l.offers.row.items ≡ replicate (slots l.rules.params.now.first_lines) None;

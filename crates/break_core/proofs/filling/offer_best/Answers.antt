@@ -1,5 +1,5 @@
 use Rattle.std.proofs.Common.{arith, ap}
-use Rattle.break_core.proofs.Best.{best_offered}
+use Rattle.break_core.proofs.ActiveNodes.{best_offered}
 use Rattle.break_core.proofs.filling.offer_best.Goals as goal
 
 pub put-requires-clause-counted : goal.put-requires-clause-counted

@@ -1,23 +1,23 @@
 use Rattle.std.proofs.Common.{◌≡◌, ◌∙◌, ap, subst}
 use Rattle.std.specs.Prelude.{◌&&◌}
-use Rattle.break_cost.specs.Sizes.{judgement}
+use Rattle.break_lines.specs.Sizes.{line_fits}
 use Rattle.break_core.specs.Filling.{IsOfferingUnless, IsOffering}
 use Rattle.break_core.proofs.Endings.{left_out, not_left_out}
 use Rattle.break_core.proofs.filling.offer_counted.Goals as goal
 
-pub judge_both-line-requires : goal.judge_both-line-requires
-judge_both-line-requires c = record { small = c.requires.can.small }
+pub fit_both-line-requires : goal.fit_both-line-requires
+fit_both-line-requires c = record { sums_bounded = c.requires.can.small }
 
 pub returns-then-left-clause-row : goal.returns-then-left-clause-row
 returns-then-left-clause-row c =
     left_out c.args.left c.args.table.now c.args.rules.now.params.now c.args.rules.now.bound c.args.group c.args.tried.now.place c.args.tried.now.penalty
-    (judgement c.args.rules.now.params.now c.args.tried.now.sums) c.args.row.now.items c.if-left.true c.requires.can.rises c.requires.can.entries
+    (line_fits c.args.rules.now.params.now c.args.tried.now.sums) c.args.row.now.items c.if-left.true c.requires.can.rises c.requires.can.entries
 
 pub returns-then-left-clause-wide : goal.returns-then-left-clause-wide
 returns-then-left-clause-wide c = c.requires.can.wide
 
 pub returns-then-left-clause-overfull : goal.returns-then-left-clause-overfull
-returns-then-left-clause-overfull c = c.is_overfull.ensures ∙ ap (λ j. j.first.overfull && j.rest.overfull) c.judge_both-line.ensures.value
+returns-then-left-clause-overfull c = c.is_overfull.ensures ∙ ap (λ j. j.first.overfull && j.rest.overfull) c.fit_both-line.ensures.value
 
 pub returns-clause-row : goal.returns-clause-row
 returns-clause-row c =
@@ -25,9 +25,9 @@ returns-clause-row c =
     let bound = c.args.rules.now.bound in
     let tried = c.args.tried.now in
     not_left_out c.args.left c.args.table.now params bound c.args.group tried.place tried.penalty
-    (judgement params tried.sums) c.args.row.now.items c.offer_each.new.row.items c.if-left.false
+    (line_fits params tried.sums) c.args.row.now.items c.offer_each.new.row.items c.if-left.false
     (subst (λ line. IsOffering c.args.table.now params bound c.args.group tried.place tried.penalty line c.args.group.start c.args.group.end c.args.row.now.items c.offer_each.new.row.items)
-    c.judge_both-line.ensures.value c.offer_each.ensures.row)
+    c.fit_both-line.ensures.value c.offer_each.ensures.row)
 
 pub returns-clause-overfull : goal.returns-clause-overfull
-returns-clause-overfull c = c.is_overfull-2.ensures ∙ ap (λ j. j.first.overfull && j.rest.overfull) c.judge_both-line.ensures.value
+returns-clause-overfull c = c.is_overfull-2.ensures ∙ ap (λ j. j.first.overfull && j.rest.overfull) c.fit_both-line.ensures.value

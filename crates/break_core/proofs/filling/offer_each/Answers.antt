@@ -4,29 +4,29 @@ use Rattle.std.proofs.lemmas.Int.{ints}
 use Rattle.std.proofs.lemmas.Option.{slice_get_read}
 use Rattle.break_table.specs.Ways.{since}
 use Rattle.break_table.specs.Tables.{slots}
-use Rattle.break_cost.specs.Costs.{line_of, after_class}
-use Rattle.break_cost.proofs.Parts.{alone_is}
-use Rattle.break_cost.specs.Sizes.{judged_after}
+use Rattle.break_lines.specs.Costs.{line_of, after_class}
+use Rattle.break_lines.proofs.Parts.{alone_is}
+use Rattle.break_lines.specs.Sizes.{fit_after}
 use Rattle.break_core.specs.Filling.{IsOffering}
 use Rattle.break_core.proofs.Filled.{none_offered}
 use Rattle.break_core.proofs.filling.offer_each.Goals as goal
 
 pub loop-index-init : goal.loop-index-init
-loop-index-init c = record { low = omega arith; wide = c.requires.can.wide; row = λ p cut late judged is. is }
+loop-index-init c = record { low = omega arith; wide = c.requires.can.wide; row = λ p cut late line_fit is. is }
 
-pub improve-requires-clause-wide : goal.improve-requires-clause-wide
-improve-requires-clause-wide c = c.loop-index.invariant.wide ∙ ap slots (sym c.get-cut.ensures.value)
+pub offer-requires-clause-wide : goal.offer-requires-clause-wide
+offer-requires-clause-wide c = c.loop-index.invariant.wide ∙ ap slots (sym c.get-cut.ensures.value)
 
-pub improve-requires-clause-counted : goal.improve-requires-clause-counted
-improve-requires-clause-counted c =
+pub offer-requires-clause-counted : goal.offer-requires-clause-counted
+offer-requires-clause-counted c =
     let table = c.args.table.now in
     let e = c.index-table-index.result in
     let stands = slice_get_read table (length table) c.loop-index.index e refl (omega (arith, c.requires.can.within)) c.index-table-index.is in
     subst (λ n. e.end.lines ≤ n) (sym c.get-cut.ensures.value)
     (c.requires.can.entries c.loop-index.index e c.loop-index.invariant.low c.loop-index-test.true stands).1
 
-pub improve-requires-clause-later : goal.improve-requires-clause-later
-improve-requires-clause-later c =
+pub offer-requires-clause-later : goal.offer-requires-clause-later
+offer-requires-clause-later c =
     let table = c.args.table.now in
     let e = c.index-table-index.result in
     let stands = slice_get_read table (length table) c.loop-index.index e refl (omega (arith, c.requires.can.within)) c.index-table-index.is in
@@ -45,13 +45,13 @@ loop-index-preserved c =
     let line = c.after-offered.ensures.value
     ∙ ap (λ s. after_class rules.params.now s.class (if nat_lt s.lines rules.params.now.first_lines then costs.first else costs.rest)) c.end-end.ensures.end
     ∙ alone_is rules.params.now rules.bound p c.args.line.now costs.first costs.rest e.end.lines e.end.class c.alone-costs.ensures.first c.alone-costs.ensures.rest
-    ∙ ap (λ x. line_of rules.params.now rules.bound x e.end.class (judged_after rules.params.now.first_lines e.end.lines c.args.line.now)) penalty in
+    ∙ ap (λ x. line_of rules.params.now rules.bound x e.end.class (fit_after rules.params.now.first_lines e.end.lines c.args.line.now)) penalty in
     record {
       low = omega (arith, c.loop-index.invariant.low);
-      wide = c.improve.ensures.wide ∙ ap slots c.get-cut.ensures.value;
-      row = λ p cut late judged is.
-          c.improve.ensures.row p table (cut ∙ sym c.get-cut.ensures.value) stands (subst (λ x. since p c.args.tried.now.place ≤ x) (sym place) late) (judged e.end place ∙ sym line)
-          (c.loop-index.invariant.row p cut late judged is);
+      wide = c.offer.ensures.wide ∙ ap slots c.get-cut.ensures.value;
+      row = λ p cut late line_fit is.
+          c.offer.ensures.row p table (cut ∙ sym c.get-cut.ensures.value) stands (subst (λ x. since p c.args.tried.now.place ≤ x) (sym place) late) (line_fit e.end place ∙ sym line)
+          (c.loop-index.invariant.row p cut late line_fit is);
     }
 
 pub returns-clause-row : goal.returns-clause-row
@@ -77,5 +77,5 @@ returns-then-is_none-clause-row c =
 pub alone-costs-requires-clause-penalty : goal.alone-costs-requires-clause-penalty
 alone-costs-requires-clause-penalty c = omega (arith, ints, c.requires.can.penalty)
 
-pub improve-requires-clause-places : goal.improve-requires-clause-places
-improve-requires-clause-places c = c.requires.can.places
+pub offer-requires-clause-places : goal.offer-requires-clause-places
+offer-requires-clause-places c = c.requires.can.places

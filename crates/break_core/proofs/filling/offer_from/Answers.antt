@@ -1,7 +1,7 @@
 use Rattle.std.proofs.Common.{◌≡◌, ◌∙◌, length, refl, ap, sym}
 use Rattle.std.proofs.lemmas.Option.{same_Some, slice_get_read}
 use Rattle.break_table.specs.Tables.{extended}
-use Rattle.break_cost.specs.Costs.{line_after}
+use Rattle.break_lines.specs.Costs.{line_after}
 use Rattle.break_core.specs.Filling.{offer_from}
 use Rattle.break_core.proofs.filling.offer_from.Goals as goal
 

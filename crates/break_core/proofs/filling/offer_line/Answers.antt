@@ -1,15 +1,15 @@
 use Rattle.std.proofs.Common.{◌≡◌, ◌∙◌, ◌≤◌, to_z, of_z, w32, length, ap, sym, subst, arith}
 use Rattle.std.proofs.lemmas.Int.{ints}
 use Rattle.break_table.specs.Tables.{slots}
-use Rattle.break_cost.specs.Costs.{line_alone}
-use Rattle.break_cost.specs.Sizes.{judgement}
+use Rattle.break_lines.specs.Costs.{line_alone}
+use Rattle.break_lines.specs.Sizes.{line_fits}
 use Rattle.break_core.specs.Filling.{IsOf}
-use Rattle.break_core.proofs.Best.{best_line, none_line, overfull_once}
+use Rattle.break_core.proofs.ActiveNodes.{best_line, none_line, overfull_once}
 use Rattle.break_core.proofs.Endings.{left_out}
 use Rattle.break_core.proofs.filling.offer_line.Goals as goal
 
-pub judge-line-requires : goal.judge-line-requires
-judge-line-requires c = record { small = c.requires.can.small }
+pub fit_line-line-requires : goal.fit_line-line-requires
+fit_line-line-requires c = record { sums_bounded = c.requires.can.small }
 
 pub line_alone-requires-clause-penalty : goal.line_alone-requires-clause-penalty
 line_alone-requires-clause-penalty c = omega (arith, ints, c.requires.can.penalty)
@@ -38,8 +38,8 @@ offer_best-requires-clause-places c = c.requires.can.places
 
 pub returns-then-left-clause-row : goal.returns-then-left-clause-row
 returns-then-left-clause-row c =
-    left_out c.args.left c.args.table.now c.args.rules.now.params.now c.args.rules.now.bound c.args.group c.args.tried.now.place c.args.tried.now.penalty
-    (judgement c.args.rules.now.params.now c.args.tried.now.sums) c.args.row.now.items c.if-left.true c.requires.can.rises c.requires.can.entries
+    left_out c.args.left c.args.table.now c.args.rules.now.params.now c.args.rules.now.bound c.args.group c.args.tried.place c.args.tried.penalty
+    (line_fits c.args.rules.now.params.now c.args.tried.sums) c.args.row.now.items c.if-left.true c.requires.can.rises c.requires.can.entries
 
 pub returns-then-left-clause-wide : goal.returns-then-left-clause-wide
 returns-then-left-clause-wide c = c.requires.can.wide
@@ -47,17 +47,17 @@ returns-then-left-clause-wide c = c.requires.can.wide
 pub returns-then-left-clause-overfull : goal.returns-then-left-clause-overfull
 returns-then-left-clause-overfull c =
     let none : c.args.rules.now.params.now.first_lines ≡ 0 = omega (arith, c.get.ensures.value) in
-    overfull_once c.args.rules.now.params.now c.args.tried.now.sums c.judge-line.result none c.judge-line.ensures.value
+    overfull_once c.args.rules.now.params.now c.args.tried.sums c.fit_line-line.result none c.fit_line-line.ensures.value
 
 pub returns-in_default-clause-row : goal.returns-in_default-clause-row
 returns-in_default-clause-row c =
     let rules = c.args.rules.now in
-    let tried = c.args.tried.now in
+    let tried = c.args.tried in
     let none : rules.params.now.first_lines ≡ 0 = omega (arith, c.get.ensures.value) in
     let penalty : to_z w32 (of_z w32 tried.penalty) ≡ tried.penalty = omega (arith, ints) in
     none_line c.args.left c.args.table.now rules.params.now rules.bound c.args.group tried.place tried.penalty tried.sums c.args.row.now.items none c.if-left.false
-    (sym c.in_default.is ∙ c.line_alone.ensures.value ∙ ap (λ x. line_alone rules.params.now rules.bound x c.judge-line.result) penalty
-    ∙ ap (line_alone rules.params.now rules.bound tried.penalty) c.judge-line.ensures.value)
+    (sym c.in_default.is ∙ c.line_alone.ensures.value ∙ ap (λ x. line_alone rules.params.now rules.bound x c.fit_line-line.result) penalty
+    ∙ ap (line_alone rules.params.now rules.bound tried.penalty) c.fit_line-line.ensures.value)
     c.requires.can.rises c.requires.can.entries
 
 pub returns-in_default-clause-wide : goal.returns-in_default-clause-wide
@@ -66,18 +66,18 @@ returns-in_default-clause-wide c = c.requires.can.wide
 pub returns-in_default-clause-overfull : goal.returns-in_default-clause-overfull
 returns-in_default-clause-overfull c =
     let none : c.args.rules.now.params.now.first_lines ≡ 0 = omega (arith, c.get.ensures.value) in
-    overfull_once c.args.rules.now.params.now c.args.tried.now.sums c.judge-line.result none c.judge-line.ensures.value
+    overfull_once c.args.rules.now.params.now c.args.tried.sums c.fit_line-line.result none c.fit_line-line.ensures.value
 
 pub returns-clause-row : goal.returns-clause-row
 returns-clause-row c =
     let rules = c.args.rules.now in
-    let tried = c.args.tried.now in
+    let tried = c.args.tried in
     let none : rules.params.now.first_lines ≡ 0 = omega (arith, c.get.ensures.value) in
     let penalty : to_z w32 (of_z w32 tried.penalty) ≡ tried.penalty = omega (arith, ints) in
     best_line c.args.left c.args.table.now rules.params.now rules.bound c.args.group tried.place tried.penalty tried.sums c.in-Some.alone
     c.args.row.now.items c.offer_best.new.row.items none c.if-left.false
-    (sym c.in-Some.is ∙ c.line_alone.ensures.value ∙ ap (λ x. line_alone rules.params.now rules.bound x c.judge-line.result) penalty
-    ∙ ap (line_alone rules.params.now rules.bound tried.penalty) c.judge-line.ensures.value)
+    (sym c.in-Some.is ∙ c.line_alone.ensures.value ∙ ap (λ x. line_alone rules.params.now rules.bound x c.fit_line-line.result) penalty
+    ∙ ap (line_alone rules.params.now rules.bound tried.penalty) c.fit_line-line.ensures.value)
     c.offer_best.ensures.row
 
 pub returns-clause-wide : goal.returns-clause-wide
@@ -88,4 +88,4 @@ returns-clause-wide c =
 pub returns-clause-overfull : goal.returns-clause-overfull
 returns-clause-overfull c =
     let none : c.args.rules.now.params.now.first_lines ≡ 0 = omega (arith, c.get.ensures.value) in
-    overfull_once c.args.rules.now.params.now c.args.tried.now.sums c.judge-line.result none c.judge-line.ensures.value
+    overfull_once c.args.rules.now.params.now c.args.tried.sums c.fit_line-line.result none c.fit_line-line.ensures.value

@@ -2,7 +2,7 @@ use Rattle.std.proofs.Common.{◌≡◌, ◌∙◌, ◌+◌, ◌≤◌, length, 
 use Rattle.std.proofs.lemmas.Int.{ints}
 use Rattle.std.proofs.lemmas.List.{length-map}
 use Rattle.std.proofs.lemmas.Option.{slice_get_within}
-use Rattle.break_cost.specs.Sizes.{least_width, judgement}
+use Rattle.break_lines.specs.Sizes.{least_width, line_fits}
 use Rattle.break_core.specs.declared.filling.Live.{Live}
 use Rattle.break_core.specs.Trials.{is_overfull}
 use Rattle.break_core.specs.Leaving.{is_long}
@@ -24,15 +24,15 @@ try_line-sums-requires-clause-later g c =
     let next = (next_live (g.M.Meter.facts c.args.meter.now) rules.params.now rules.bound rules.ending c.args.table.now c.args.place inv.at inv.low lives index c.loop-live-test.true inv.live).0 in
     next.group.earlier
 
-pub try_line-sums-requires-clause-few : goal.try_line-sums-requires-clause-few
-try_line-sums-requires-clause-few g c =
+pub try_line-sums-requires-clause-trials_bounded : goal.try_line-sums-requires-clause-trials_bounded
+try_line-sums-requires-clause-trials_bounded g c =
     let inv = c.loop-live.invariant in
     let rules = c.args.rules.now in
     let lives = c.args.lives.now in
     let index = c.loop-live.live-index in
     let next = (next_live (g.M.Meter.facts c.args.meter.now) rules.params.now rules.bound rules.ending c.args.table.now c.args.place inv.at inv.low lives index c.loop-live-test.true inv.live).0 in
     let place = (live_at lives index).group.place in
-    omega (arith, c.requires.few place, inv.fresh place next.later)
+    omega (arith, c.requires.trials_bounded place, inv.fresh place next.later)
 
 pub offer_line-overfull-requires : goal.offer_line-overfull-requires
 offer_line-overfull-requires g c =
@@ -50,8 +50,8 @@ offer_line-overfull-requires g c =
         places = c.requires.places;
         entries = group_of (pruned (g.M.Meter.facts c.args.meter.now) rules.params.now rules.bound rules.ending) c.args.table.now c.args.place (live_at lives index).group
             c.requires.filled.is_table next.group;
-        penalty = omega (arith, ints, c.place-at.ensures.small);
-        small = c.try_line-sums.ensures.small;
+        penalty = omega (arith, ints, c.place-at.ensures.penalty_bounded);
+        small = c.try_line-sums.ensures.sums_bounded;
       };
     }
 
@@ -89,7 +89,7 @@ loop-live-preserved g c =
     let h = g.M.Meter.facts c.loop-live.meter in
     let bound = c.args.rules.now.bound in
     let sums = c.try_line-sums.result in
-    let line = judgement params sums in
+    let line = line_fits params sums in
     let width = to_z w64 (of_z w64 c.least_width-width.result) in
     let exact : to_z w64 (of_z w64 c.least_width-width.result) ≡ c.least_width-width.result = omega (arith, ints) in
     let is_width : to_z w64 (of_z w64 c.least_width-width.result) ≡ least_width c.try_line-sums.result = exact ∙ c.least_width-width.ensures in

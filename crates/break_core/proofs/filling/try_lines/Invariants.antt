@@ -1,8 +1,8 @@
 use Rattle.std.proofs.Common.{◌≡◌, ◌+◌, ◌≤◌, ◌<◌, ℕ, length, drop, Some}
 use Rattle.std.specs.Prelude.{slice_get}
-use Rattle.break_table.specs.declared.group.Group.{Group}
+use Rattle.break_table.specs.declared.group.ActiveGroup.{ActiveGroup}
 use Rattle.break_table.specs.Tables.{slots, IsRow}
-use Rattle.break_core.specs.Active.{stops, pruned, groups_of, AreOver, IsActive, IsSwept, AreKept}
+use Rattle.break_core.specs.Active.{stops, pruned, groups_of, AreOver, IsActive, IsSwept, TrialsOnlyGrow}
 use Rattle.break_core.proofs.Active.{IsFront}
 use Rattle.break_core.proofs.filling.try_lines.Given as goal
 
@@ -11,8 +11,8 @@ invariant-loop-live g l = record {
   wide : length l.offers.row.items ≡ slots l.rules.params.now.first_lines;
   facts : g.M.Meter.facts l.meter ≡ g.M.Meter.facts l.initial.meter;
   swept : IsSwept (stops (g.M.Meter.facts l.initial.meter) l.rules.params.now l.rules.ending) l.place (g.M.Meter.trials l.initial.meter) (g.M.Meter.trials l.meter);
-  kept : AreKept (g.M.Meter.trials l.initial.meter) (g.M.Meter.trials l.meter);
-  tried : (k : ℕ) (h : Group) → k < l.live-index → slice_get (groups_of l.lives) k ≡ Some h → g.M.Meter.trials l.initial.meter h.place < g.M.Meter.trials l.meter h.place;
+  kept : TrialsOnlyGrow (g.M.Meter.trials l.initial.meter) (g.M.Meter.trials l.meter);
+  tried : (k : ℕ) (h : ActiveGroup) → k < l.live-index → slice_get (groups_of l.lives) k ≡ Some h → g.M.Meter.trials l.initial.meter h.place < g.M.Meter.trials l.meter h.place;
   at : ℕ;
   low : ℕ;
   fresh : (a : ℕ) → low ≤ a → g.M.Meter.trials l.meter a ≤ g.M.Meter.trials l.initial.meter a;

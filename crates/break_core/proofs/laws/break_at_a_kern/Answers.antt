@@ -1,5 +1,5 @@
 use Rattle.std.proofs.Common.{refl}
-use Rattle.line_meter.specs.Legal.{is_dropped, is_glue, is_break, is_legal}
+use Rattle.break_lines.specs.Legal.{is_dropped, is_glue, is_break, is_legal}
 use Rattle.break_core.proofs.laws.break_at_a_kern.Goals as goal
 
 pub returns-clause-places : goal.returns-clause-places

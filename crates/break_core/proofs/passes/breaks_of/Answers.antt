@@ -1,6 +1,6 @@
 use Rattle.std.proofs.Common.{sym, subst}
 use Rattle.break_core.specs.Passes.{bound_of}
-use Rattle.break_core.specs.Filling.{AreWithin}
+use Rattle.break_core.specs.Filling.{AreEndsInParagraph}
 use Rattle.break_core.proofs.Admitting.{answer_within}
 use Rattle.break_core.proofs.passes.breaks_of.Goals as goal
 
@@ -8,6 +8,6 @@ pub line_ends-requires : goal.line_ends-requires
 line_ends-requires g c =
     let is = answer_within (g.M.Meter.facts c.args.meter.now) c.args.params.now (bound_of c.args.params.now c.in_ok-pass.pass) c.in_ok-pass.least c.in_ok-pass.ensures.decided.answer in
     record {
-      within = subst (λ f. AreWithin f c.deref.result.now) (sym c.in_ok-pass.ensures.facts)
-          (subst (λ xs. AreWithin (g.M.Meter.facts c.args.meter.now) xs) (sym c.deref.ensures.value) is);
+      within = subst (λ f. AreEndsInParagraph f c.deref.result.now) (sym c.in_ok-pass.ensures.facts)
+          (subst (λ xs. AreEndsInParagraph (g.M.Meter.facts c.args.meter.now) xs) (sym c.deref.ensures.value) is);
     }

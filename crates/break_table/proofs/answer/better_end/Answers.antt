@@ -1,7 +1,7 @@
 use Rattle.std.proofs.Common.{◌<◌, ◌∙◌, length, refl, ap, sym, subst, rules}
 use Rattle.std.proofs.lemmas.Option.{slice_get_read, slice_get_within, same_Some, MatchOption-at_some, MatchOption-at_none}
 use Rattle.break_table.specs.Orders.{NotAfter}
-use Rattle.break_table.specs.Tables.{short, IsBestEnd, HasNoEnd}
+use Rattle.break_table.specs.Tables.{compared_numbers, IsBestEnd, HasNoEnd}
 use Rattle.break_table.proofs.BestEnds.{best_other, best_first, best_stays, best_taken}
 use Rattle.break_table.proofs.answer.better_end.Goals as goal
 
@@ -41,7 +41,7 @@ returns-then-is_not_after c =
     let old = slice_get_read table (length table) c.in-Some.old c.index-table-old.result refl (slice_get_within table c.in-Some.old best.entry best.stands) c.index-table-old.is in
     let same = same_Some c.index-table-old.result best.entry (sym old ∙ best.stands) in
     best_stays table c.args.place c.args.index c.in-Some.old c.index-table-index.result best stands
-    (subst (λ x. NotAfter (short x) (short c.index-table-index.result)) same (c.is_not_after.ensures.not_after c.if-is_not_after.true))
+    (subst (λ x. NotAfter (compared_numbers x) (compared_numbers c.index-table-index.result)) same (c.is_not_after.ensures.not_after c.if-is_not_after.true))
 
 pub returns : goal.returns
 returns c =
@@ -52,4 +52,4 @@ returns c =
     let same = same_Some c.index-table-old.result best.entry (sym old ∙ best.stands) in
     best_taken table c.args.place c.args.index c.in-Some.old c.index-table-index.result best stands
     (sym (ap (λ s. s.place) c.end.ensures.end) ∙ c.if-end-place.false)
-    (subst (λ x. NotAfter (short c.index-table-index.result) (short x)) same (c.is_not_after.ensures.after c.if-is_not_after.false))
+    (subst (λ x. NotAfter (compared_numbers c.index-table-index.result) (compared_numbers x)) same (c.is_not_after.ensures.after c.if-is_not_after.false))

@@ -1,7 +1,7 @@
 use Rattle.std.proofs.Common.{◌≡◌, ◌∙◌, ◌++◌, [], ◌∷◌, length, reverse, refl, ap, sym, subst, arith}
 use Rattle.std.proofs.lemmas.Option.{slice_get_read}
 use Rattle.std.proofs.lemmas.List.{reverse-reverse}
-use Rattle.break_table.specs.Tables.{IsReading, IsRead}
+use Rattle.break_table.specs.Tables.{AreEndsUpTo, AreEndsOf}
 use Rattle.break_table.proofs.Bellman.{read_none, read_more, read_all}
 use Rattle.break_table.proofs.answer.read_back.Goals as goal
 
@@ -9,7 +9,7 @@ pub loop-index-init : goal.loop-index-init
 loop-index-init c =
     record {
       within = c.requires.within;
-      read = subst (λ xs. IsReading c.args.table.now c.args.at c.args.at xs) (sym c.new-ends.ensures.items) (read_none c.args.table.now c.args.at);
+      read = subst (λ xs. AreEndsUpTo c.args.table.now c.args.at c.args.at xs) (sym c.new-ends.ensures.items) (read_none c.args.table.now c.args.at);
     }
 
 pub loop-index-smaller : goal.loop-index-smaller
@@ -30,14 +30,14 @@ loop-index-preserved c =
     c.in_ok-push.ensures.items ∙ ap (λ s. c.loop-index.ends.items ++ s ∷ []) c.end.ensures.end in
     record {
       within = omega (arith, best.earlier, c.index-index.ensures, c.loop-index.invariant.within);
-      read = subst (λ k. IsReading table c.args.at k c.push.new.self.items) (sym c.index-index.ensures)
-          (subst (λ xs. IsReading table c.args.at e.index xs) (sym items) more);
+      read = subst (λ k. AreEndsUpTo table c.args.at k c.push.new.self.items) (sym c.index-index.ensures)
+          (subst (λ xs. AreEndsUpTo table c.args.at e.index xs) (sym items) more);
     }
 
 pub returns : goal.returns
 returns c =
     let table = c.args.table.now in
     let none : c.loop-index.index ≡ 0 = omega (arith, c.loop-index-test.false) in
-    let all = read_all table c.args.at c.loop-index.ends.items (subst (λ k. IsReading table c.args.at k c.loop-index.ends.items) none c.loop-index.invariant.read) in
+    let all = read_all table c.args.at c.loop-index.ends.items (subst (λ k. AreEndsUpTo table c.args.at k c.loop-index.ends.items) none c.loop-index.invariant.read) in
     let back : reverse c.reverse.new.self.items ≡ c.loop-index.ends.items = ap reverse c.reverse.ensures.items ∙ reverse-reverse c.loop-index.ends.items in
-    subst (λ xs. IsRead table c.args.at xs) (sym back) all
+    subst (λ xs. AreEndsOf table c.args.at xs) (sym back) all

@@ -1,11 +1,11 @@
 use Rattle.std.proofs.Common.{◌<◌, length}
-use Rattle.break_table.specs.Tables.{IsReading}
+use Rattle.break_table.specs.Tables.{AreEndsUpTo}
 use Rattle.break_table.proofs.answer.read_back.Given as goal
 
 abbrev pub invariant-loop-index : goal.invariant-loop-index
 invariant-loop-index l = record {
   within : l.index < length l.table;
-  read : IsReading l.table l.at l.index l.ends.items;
+  read : AreEndsUpTo l.table l.at l.index l.ends.items;
 }
 
 abbrev pub decreases-loop-index : goal.decreases-loop-index

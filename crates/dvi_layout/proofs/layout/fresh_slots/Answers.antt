@@ -1,8 +1,6 @@
-use Rattle.std.proofs.Common.{◌∙◌, arith}
+use Rattle.std.proofs.Common.{◌∙◌, refl}
 use Rattle.dvi_layout.proofs.FreshFonts.{fresh-is}
 use Rattle.dvi_layout.proofs.layout.fresh_slots.Goals as goal
 
-pub returns : goal.returns
-returns c =
-    c.loop-slot.invariant
-    ∙ fresh-is _ _ _ _ c.loop-slot.slot (omega (arith, c.loop-slot-test.false, c.loop-slot.auto.slot-end)) c.selected_slots-selected.ensures
+pub returns-clause-slots : goal.returns-clause-slots
+returns-clause-slots c = c.in_ok-slots.ensures ∙ fresh-is _ _ _ _ 256 refl c.pass_over-passed.ensures.selected

@@ -1,4 +1,4 @@
--- What was read, by the laws of `read`.
+-- The facts about what was read, by the lemmas about `read`.
 use Rattle.std.proofs.Common.{◌≡◌, None, sym}
 use Rattle.dvi_ops.specs.Reading.{read}
 use Rattle.dvi_ops.specs.View.{view}

@@ -3,6 +3,6 @@ use Rattle.std.specs.List.{AllByRecursion}
 use Rattle.dvi_ops.specs.Spelling.{NumberFits}
 use Rattle.dvi_ops.proofs.spelling.counts_fit.Given as goal
 
--- the counts so far
+-- The counts read so far.
 abbrev pub invariant-loop-count : goal.invariant-loop-count
 invariant-loop-count l = AllByRecursion NumberFits (take l.count-index l.counts)

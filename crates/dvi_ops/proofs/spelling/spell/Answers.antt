@@ -1,4 +1,4 @@
--- What is written spells the instruction, since the numbers of an op fit their fields.
+-- The written bytes spell the instruction, since the numbers of an op fit their fields.
 use Rattle.std.proofs.Common.{rules}
 use Rattle.dvi_ops.specs.Spelling.{NumberFits}
 use Rattle.dvi_ops.specs.View.{view}

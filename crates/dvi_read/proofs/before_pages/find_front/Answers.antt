@@ -1,11 +1,11 @@
 use Rattle.std.proofs.Common.{List, refl}
-use Rattle.dvi_frame.proofs.ErrLemmas.{handed_on}
+use Rattle.dvi_scan.proofs.ErrLemmas.{handed_on}
 use Rattle.dvi_ops.specs.View.{postamble}
 use Rattle.dvi_read.specs.Opening.{AtTheEnd, InThePreamble, IsDviFault}
 use Rattle.dvi_read.proofs.OpenLemmas.{chain_refused}
-use Rattle.dvi_walk.specs.Faults.{of_frame}
-use Rattle.dvi_walk.specs.declared.fault.DviFault.{DviFault}
-use Rattle.dvi_walk.specs.declared.fault.DviFault.TheVariants.{Bad}
+use Rattle.dvi_read.specs.Faults.{of_frame}
+use Rattle.dvi_read.specs.declared.fault.DviFault.{DviFault}
+use Rattle.dvi_read.specs.declared.fault.DviFault.TheVariants.{Bad}
 use Rattle.tfm_core.specs.NamedBytes.{NamedBytes}
 use Rattle.dvi_read.proofs.before_pages.find_front.Goals as goal
 

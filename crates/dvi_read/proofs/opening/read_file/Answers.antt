@@ -1,11 +1,11 @@
 use Rattle.std.proofs.Common.{map, sym, ap, subst}
-use Rattle.dvi_frame.proofs.ErrLemmas.{handed_on}
+use Rattle.dvi_scan.proofs.ErrLemmas.{handed_on}
 use Rattle.dvi_ops.specs.View.{postamble}
-use Rattle.dvi_pass.specs.View.{page_of}
+use Rattle.dvi_scan.specs.View.{marked_page}
 use Rattle.dvi_read.specs.Opened.{Opened, IsReadFrom}
 use Rattle.dvi_read.specs.Opening.{IsDviFault}
 use Rattle.dvi_read.proofs.OpenLemmas.{finish_refused, read_kept}
-use Rattle.dvi_walk.specs.Steps.{so_far}
+use Rattle.dvi_read.specs.Steps.{so_far}
 use Rattle.dvi_read.proofs.opening.read_file.Goals as goal
 
 pub returns-in_err-ending-clause-bad : goal.returns-in_err-ending-clause-bad
@@ -32,5 +32,5 @@ returns-clause-ok c =
     let (ahead, selected, has) = c.in_ok-walk.ensures.ok in
     subst (λ (dvi : Opened). IsReadFrom c.args.files.now c.args.bytes.now dvi) (sym c.kept.ensures)
     (read_kept c.args.files.now c.args.bytes.now ending.post ending.behind ending.last (postamble ending.stop) front.chain.items front.from ahead
-    (so_far selected c.in_ok-walk.walk) (map page_of c.in_ok-walk.walk.done.items) (map page_of c.finish.new.walk.done.items) c.finish.new.walk.known has c.in_ok-finish.ensures.ended
-    c.in_ok-finish.ensures.closed (ap (λ pages. map page_of pages) c.in_ok-finish.ensures.done))
+    (so_far selected c.in_ok-walk.walk) (map marked_page c.in_ok-walk.walk.done.items) (map marked_page c.finish.new.walk.done.items) c.finish.new.walk.known has c.in_ok-finish.ensures.ended
+    c.in_ok-finish.ensures.closed (ap (λ pages. map marked_page pages) c.in_ok-finish.ensures.done))

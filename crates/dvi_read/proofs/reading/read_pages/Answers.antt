@@ -1,13 +1,13 @@
 use Rattle.std.proofs.Common.{refl}
 use Rattle.std.proofs.lemmas.Result.{IfErr-weaker, IfOk-weaker}
-use Rattle.dvi_frame.proofs.ErrLemmas.{handed_on}
+use Rattle.dvi_scan.proofs.ErrLemmas.{handed_on}
 use Rattle.dvi_ops.specs.View.{postamble}
 use Rattle.dvi_read.specs.Opening.{InThePages, IsDviFault, LookingAhead}
-use Rattle.dvi_read.specs.Parts.{HoldsPages}
+use Rattle.dvi_read.specs.OpeningParts.{HoldsPages}
 use Rattle.dvi_read.proofs.OpenLemmas.{starts_reached, strays}
-use Rattle.dvi_walk.specs.Stops.{IsWalkFault}
-use Rattle.dvi_walk.specs.Walks.{IsWalked}
-use Rattle.dvi_walk.specs.declared.fault.DviFault.TheVariants.{OutOfMemory}
+use Rattle.dvi_read.specs.Stops.{IsWalkFault}
+use Rattle.dvi_read.specs.Walks.{IsWalked}
+use Rattle.dvi_read.specs.declared.fault.DviFault.TheVariants.{OutOfMemory}
 use Rattle.tfm_core.specs.FileWidths.{file_widths}
 use Rattle.dvi_read.proofs.reading.read_pages.Goals as goal
 

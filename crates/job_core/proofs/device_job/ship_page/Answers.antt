@@ -1,21 +1,21 @@
 use Rattle.std.proofs.Common.{Ok, Err, refl, ap, sym, ◌∙◌, subst}
 use Rattle.std.specs.Option.{option_copied}
-use Rattle.command_core.specs.declared.command.Answer.TheVariants.{Done}
-use Rattle.command_core.specs.declared.command.Command.TheVariants.{Ship, Void}
-use Rattle.command_core.specs.declared.command.Refusal.{Refusal}
+use Rattle.job_commands.specs.declared.command.Answer.TheVariants.{Done}
+use Rattle.job_commands.specs.declared.command.Command.TheVariants.{Ship, Void}
+use Rattle.job_commands.specs.declared.command.Refusal.{Refusal}
 use Rattle.dvi_layout.specs.declared.progress.WriteFault.{WriteFault}
 use Rattle.dvi_layout.specs.Shippable.{page_with}
 use Rattle.dvi_write.specs.Writing.{Writing}
-use Rattle.state_core.specs.Keeping.{Keeping, unshipped}
+use Rattle.job_state.specs.JobStateView.{JobStateView, before_shipping}
 use Rattle.job_core.specs.Jobs.{KeepsTo}
-use Rattle.job_core.specs.Sound.{IsSound, seen_by}
+use Rattle.job_core.specs.Sound.{IsSound, view_of}
 use Rattle.job_core.proofs.Moves.{sound_after}
 use Rattle.job_core.proofs.Ships.{page_is, may_ship, void_refused, shipped, unshipped_for, part_of, is_lost, is_other}
 use Rattle.job_core.proofs.device_job.ship_page.Goals as goal
 
 pub page-requires : goal.page-requires
 page-requires g c =
-    rw c.fonts.ensures (may_ship (unshipped c.args.kept.now) c.args.register c.in-Some.box_node.now c.requires.sound (sym c.held.ensures ∙ ap option_copied c.in-Some.is))
+    rw c.fonts.ensures (may_ship (before_shipping c.args.kept.now) c.args.register c.in-Some.box_node.now c.requires.sound (sym c.held.ensures ∙ ap option_copied c.in-Some.is))
 
 pub returns-in_default-clause-keeps : goal.returns-in_default-clause-keeps
 returns-in_default-clause-keeps g c =
@@ -27,13 +27,13 @@ returns-in-Ok-clause-keeps g c =
     let b = c.in-Some.box_node.now in
     let page = page_with c.counts.result.now c.offsets.result b in
     let is = sym c.held.ensures ∙ ap option_copied c.in-Some.is in
-    let same = page_is (unshipped kept) c.counts.result.now c.offsets.result b c.counts.ensures c.offsets.ensures in
+    let same = page_is (before_shipping kept) c.counts.result.now c.offsets.result b c.counts.ensures c.offsets.ensures in
     shipped kept c.args.writer.now c.args.register b page is same c.empty.new.self c.page.new.self c.fonts.result.now c.empty.ensures c.in-Ok.ensures.kept c.requires.running
     c.in-Ok.ensures.running c.in-Ok.ensures.may c.pages.result c.pages.ensures c.in-Ok.ensures.stands (rw c.fonts.ensures at c.in-Ok.ensures.written)
 
 pub returns-in-Ok-clause-sound : goal.returns-in-Ok-clause-sound
 returns-in-Ok-clause-sound g c =
-    subst (λ (k : Keeping). IsSound (unshipped k)) (sym c.empty.ensures) (sound_after (unshipped c.args.kept.now) (Void c.args.register) (Ok Done) refl tt c.requires.sound)
+    subst (λ (k : JobStateView). IsSound (before_shipping k)) (sym c.empty.ensures) (sound_after (before_shipping c.args.kept.now) (Void c.args.register) (Ok Done) refl tt c.requires.sound)
 
 pub returns-in-Err-clause-keeps : goal.returns-in-Err-clause-keeps
 returns-in-Err-clause-keeps g c =
@@ -42,15 +42,15 @@ returns-in-Err-clause-keeps g c =
     let b = c.in-Some.box_node.now in
     let page = page_with c.counts.result.now c.offsets.result b in
     let is = sym c.held.ensures ∙ ap option_copied c.in-Some.is in
-    let same = page_is (unshipped kept) c.counts.result.now c.offsets.result b c.counts.ensures c.offsets.ensures in
-    subst (λ (x : Refusal). KeepsTo (seen_by kept w) (Ship c.args.register) (Err x) (seen_by kept c.page.new.self)) (sym c.refusal_for.ensures)
+    let same = page_is (before_shipping kept) c.counts.result.now c.offsets.result b c.counts.ensures c.offsets.ensures in
+    subst (λ (x : Refusal). KeepsTo (view_of kept w) (Ship c.args.register) (Err x) (view_of kept c.page.new.self)) (sym c.refusal_for.ensures)
     (unshipped_for kept w c.args.register b page is same c.page.new.self c.in-Err.fault c.in-Err.ensures.refused c.in-Err.ensures.same
     (λ lost. c.page.ensures.failed (c.in-Err.is ∙ ap (λ (f : WriteFault). Err f) lost)) (λ lost. c.page.ensures.over (c.in-Err.is ∙ ap (λ (f : WriteFault). Err f) lost))
     (λ lost. c.page.ensures.so_far (c.in-Err.is ∙ ap (λ (f : WriteFault). Err f) lost)) c.requires.running
     (λ lost. rw c.fonts.ensures at (c.page.ensures.part (c.in-Err.is ∙ ap (λ (f : WriteFault). Err f) lost))))
 
 pub returns-in-Err-clause-unsent : goal.returns-in-Err-clause-unsent
-returns-in-Err-clause-unsent g c = λ other. ap (λ (w : Writing). w.told) (c.in-Err.ensures.same (is_other c.in-Err.fault (λ lost. other (c.refusal_for.ensures ∙ lost))))
+returns-in-Err-clause-unsent g c = λ other. ap (λ (w : Writing). w.bytes_written) (c.in-Err.ensures.same (is_other c.in-Err.fault (λ lost. other (c.refusal_for.ensures ∙ lost))))
 
 pub returns-in-Err-clause-part : goal.returns-in-Err-clause-part
 returns-in-Err-clause-part g c =
@@ -58,7 +58,7 @@ returns-in-Err-clause-part g c =
     let b = c.in-Some.box_node.now in
     let page = page_with c.counts.result.now c.offsets.result b in
     let is = sym c.held.ensures ∙ ap option_copied c.in-Some.is in
-    let same = page_is (unshipped kept) c.counts.result.now c.offsets.result b c.counts.ensures c.offsets.ensures in
+    let same = page_is (before_shipping kept) c.counts.result.now c.offsets.result b c.counts.ensures c.offsets.ensures in
     λ replied.
     let lost = is_lost c.in-Err.fault (Err c.refusal_for.result) (ap (λ (x : Refusal). Err x) c.refusal_for.ensures) replied in
     part_of kept c.args.writer.now c.args.register b page is same c.page.new.self c.requires.running

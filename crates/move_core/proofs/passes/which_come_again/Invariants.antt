@@ -1,10 +1,10 @@
 use Rattle.std.proofs.Common.{◌≡◌, map, reverse, drop}
-use Rattle.dvi_ops.specs.View.{view}
+use Rattle.dvi_ops.specs.View.{body_view}
 use Rattle.move_core.specs.Passes.{Knows, flags_of}
 use Rattle.move_core.proofs.passes.which_come_again.Given as goal
 
 abbrev pub invariant-loop-i : goal.invariant-loop-i
 invariant-loop-i l = record {
-  knows : Knows l.later (map view (drop l.i l.ops));
-  flags : reverse l.flags.items ≡ flags_of (map view (drop l.i l.ops));
+  knows : Knows l.later (map body_view (drop l.i l.ops));
+  flags : reverse l.flags.items ≡ flags_of (map body_view (drop l.i l.ops));
 }

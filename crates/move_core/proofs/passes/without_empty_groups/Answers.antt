@@ -1,8 +1,8 @@
-use Rattle.std.proofs.Common.{◌+◌, ◌∙◌, ap, sym, map, drop, reverse, List, pos, false}
+use Rattle.std.proofs.Common.{◌+◌, ◌∙◌, ap, sym, map, drop, reverse, List, false}
 use Rattle.dvi_ops.specs.Instruction.{Instruction}
-use Rattle.dvi_ops.specs.View.{view}
-use Rattle.dvi_ops.specs.declared.op.Op.{Op}
-use Rattle.dvi_ops.specs.declared.op.Op.TheVariants as ops
+use Rattle.dvi_ops.specs.View.{body_view}
+use Rattle.dvi_ops.specs.declared.body_op.BodyOp.{BodyOp}
+use Rattle.dvi_ops.specs.declared.body_op.BodyOp.TheVariants as ops
 use Rattle.move_core.specs.Passes.{trimmed, has_empty_group}
 use Rattle.move_core.proofs.Flags.{from_here}
 use Rattle.move_core.proofs.FullGroups.{kept_whole}
@@ -10,11 +10,11 @@ use Rattle.move_core.proofs.passes.without_empty_groups.Goals as goal
 
 pub loop-op-preserved : goal.loop-op-preserved
 loop-op-preserved c =
-    c.in_ok-keep.ensures (map view (drop (c.loop-op.op-index + 1) c.deref-op-items.result.now))
-    ∙ (ap (λ (is : List Instruction). trimmed is (reverse (map view c.loop-op.kept.items)))
-    (sym (from_here c.deref-op-items.result.now c.loop-op.op-index (ops.SetChar (pos 0)) c.loop-op-test.true))
+    c.in_ok-keep.ensures (map body_view (drop (c.loop-op.op-index + 1) c.deref-op-items.result.now))
+    ∙ (ap (λ (is : List Instruction). trimmed is (reverse (map body_view c.loop-op.kept.items)))
+    (sym (from_here c.deref-op-items.result.now c.loop-op.op-index (ops.SetChar 0) c.loop-op-test.true))
     ∙ c.loop-op.invariant)
 
 pub returns-then-not-has_empty_group : goal.returns-then-not-has_empty_group
 returns-then-not-has_empty_group c =
-    sym (kept_whole (map view c.args.ops.items) (ap (λ (ops : List Op). has_empty_group false (map view ops)) (sym c.deref.ensures.value) ∙ (sym c.has_empty_group.ensures ∙ c.if-not-has_empty_group.true)))
+    sym (kept_whole (map body_view c.args.ops.items) (ap (λ (ops : List BodyOp). has_empty_group false (map body_view ops)) (sym c.deref.ensures.value) ∙ (sym c.has_empty_group.ensures ∙ c.if-not-has_empty_group.true)))

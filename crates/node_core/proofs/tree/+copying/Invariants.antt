@@ -1,4 +1,4 @@
--- The loop of copy: the copied nodes are the first of the list.
+-- The loop of `copy`: the copied nodes are the first nodes of the list.
 use Rattle.std.proofs.Common.{◌≡◌, take}
 use Rattle.node_core.proofs.tree.+copying.Given as goal
 

@@ -4,7 +4,7 @@ use Rattle.std.proofs.lemmas.Int.{ints}
 use Rattle.scaled_core.specs.Dimensions.{Within}
 use Rattle.pack_core.proofs.orders.plus.Goals as goal
 
--- A sum is within the bound of its first part and that of a dimension.
+-- A sum is within the bound of its first part plus that of a dimension.
 within-sum : (n : ℕ) (a b sum : ℤ) → sum ≡ a +ℤ b → Within n a → Within 1073741823 b → Within (n + 2 ^ 31) sum
 within-sum n a b sum is small fits = record { low = omega (arith, ints, small.low, fits.low); high = omega (arith, ints, small.high, fits.high) }
 

@@ -10,6 +10,6 @@ returns c =
       value = e;
       ok = rw e (hpacked-ok c.args.target c.args.list);
       fits = rw e (hpacked-fits c.args.target c.args.list);
-      back = rw e (hpacked-back c.args.target c.args.list);
+      list_returned = rw e (hpacked-back c.args.target c.args.list);
       edge = rw e (hpacked-edge c.args.target c.args.list);
     }

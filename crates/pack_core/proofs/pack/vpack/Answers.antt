@@ -10,6 +10,6 @@ returns c =
       value = e;
       ok = rw e (vpacked-ok c.args.target c.args.depth_limit c.args.list);
       fits = rw e (vpacked-fits c.args.target c.args.depth_limit c.args.list);
-      back = rw e (vpacked-back c.args.target c.args.depth_limit c.args.list);
+      list_returned = rw e (vpacked-back c.args.target c.args.depth_limit c.args.list);
       edge = rw e (vpacked-edge c.args.target c.args.depth_limit c.args.list);
     }

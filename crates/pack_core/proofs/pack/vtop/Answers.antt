@@ -10,6 +10,6 @@ returns c =
       value = e;
       ok = rw e (vtopped-ok c.args.target c.args.depth_limit c.args.list);
       fits = rw e (vtopped-fits c.args.target c.args.depth_limit c.args.list);
-      back = rw e (vtopped-back c.args.target c.args.depth_limit c.args.list);
+      list_returned = rw e (vtopped-back c.args.target c.args.depth_limit c.args.list);
       edge = rw e (vtopped-edge c.args.target c.args.depth_limit c.args.list);
     }

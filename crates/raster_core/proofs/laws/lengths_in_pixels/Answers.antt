@@ -4,7 +4,7 @@ use Rattle.std.proofs.lemmas.Nat.{div-add-mod', mod_below}
 use Rattle.raster_core.specs.Pixels.{pixels}
 use Rattle.raster_core.proofs.laws.lengths_in_pixels.Goals as goal
 
--- a quotient and a rest, rounded up
+-- A quotient with a remainder, rounded up.
 rounded_up : (m d q r : ℕ) → q * d + r ≡ m → r < d → (m ≤ d * (q + min 1 r)) × (d * (q + min 1 r) < m + d)
 rounded_up m d q r e h = go (cases_lt 0 r)
   where

@@ -1,5 +1,5 @@
 use Rattle.std.proofs.Common.{length, subst}
-use Rattle.raster_rows.specs.Words.{AreFull, in_rows}
+use Rattle.raster_core.specs.Words.{AreFull, in_rows}
 use Rattle.raster_core.proofs.DrawnPixels.{none_full}
 use Rattle.raster_core.proofs.PaintedMarks.{none_painted, painted_more}
 use Rattle.raster_core.proofs.painting.paint_marks.Goals as goal

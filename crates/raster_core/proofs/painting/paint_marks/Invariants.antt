@@ -1,6 +1,6 @@
 use Rattle.std.proofs.Common.{◌≡◌, ℕ, ◌<◌, ◌||◌, length, map, take}
-use Rattle.dvi_pass.specs.View.{mark_of}
-use Rattle.raster_rows.specs.Words.{AreFull, in_rows}
+use Rattle.dvi_scan.specs.View.{mark_of}
+use Rattle.raster_core.specs.Words.{AreFull, in_rows}
 use Rattle.raster_core.specs.Pixels.{is_covered}
 use Rattle.raster_core.proofs.painting.paint_marks.Given as goal
 

@@ -2,14 +2,14 @@ use Rattle.std.proofs.Common.{◌≡◌, ◌∙◌, ◌++◌, ◌+◌, ◌-◌, 
 use Rattle.raster_core.proofs.RowLines.{ended_line, part_digits}
 use Rattle.raster_core.proofs.printing.append_line.Goals as goal
 
-pub returns-clause-ok : goal.returns-clause-ok
-returns-clause-ok c =
+pub returns-clause-text : goal.returns-clause-text
+returns-clause-text c =
     let from = 70 * c.args.line in
     let n : ℕ = min (c.args.width - from) 70 in
     let many : from + c.min.result - from ≡ n = omega (arith, c.min.ensures) in
     let within = c.requires.within in
     λ black is.
-    ended_line c.args.width black c.args.line n c.args.out.now.items c.extend_from_slice.new.self.items c.push.new.self.items c.requires.within (omega arith)
-    (c.in_ok-extend_from_slice.ensures.items
+    ended_line c.args.width black c.args.line n c.args.out.now.items c.append_bytes.new.out.items c.append_bytes-2.new.out.items c.requires.within (omega arith)
+    (c.append_bytes.ensures.text
     ∙ ap (λ (l : List ℕ). c.args.out.now.items ++ l) (ap (λ (k : ℕ). take k (drop from c.args.row.now)) many ∙ part_digits black c.args.row.now from n is (omega (arith, c.requires.columns, within))))
-    c.in_ok-push.ensures.items
+    c.append_bytes-2.ensures.text

@@ -1,7 +1,7 @@
 use Rattle.std.proofs.Common.{◌≡◌, ◌∙◌, ◌+◌, ◌-◌, ◌*◌, ℕ, List, length, take, ap, refl, sym, arith}
 use Rattle.std.proofs.lemmas.List.{take_all}
 use Rattle.std.proofs.lemmas.Slice.{take-put_mid}
-use Rattle.raster_rows.specs.Words.{in_rows}
+use Rattle.raster_core.specs.Words.{in_rows}
 use Rattle.raster_core.specs.RowPieces.{digits}
 use Rattle.raster_core.proofs.RowLines.{length-digits, more_words}
 use Rattle.raster_core.proofs.printing.put_row.Goals as goal

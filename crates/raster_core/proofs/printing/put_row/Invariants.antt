@@ -1,5 +1,5 @@
 use Rattle.std.proofs.Common.{◌≡◌, ◌*◌, take}
-use Rattle.raster_rows.specs.Words.{in_rows}
+use Rattle.raster_core.specs.Words.{in_rows}
 use Rattle.raster_core.specs.RowPieces.{digits}
 use Rattle.raster_core.proofs.printing.put_row.Given as goal
 

@@ -1,5 +1,5 @@
 use Rattle.std.proofs.Common.{◌≡◌, length, take}
-use Rattle.raster_rows.specs.Words.{is_set}
+use Rattle.raster_core.specs.Words.{is_set}
 use Rattle.raster_core.specs.RowPieces.{digits}
 use Rattle.raster_core.proofs.printing.put_word.Given as goal
 

@@ -21,7 +21,7 @@ product_is : (a b wide_a wide_b : ℤ) → SFits w64 a → SFits w64 b → wide_
 product_is a b wide_a wide_b a_fits b_fits e f =
     rw (widened a wide_a a_fits e, widened b wide_b b_fits f) (to_z-of_z w128 (a *ℤ b) (product_fits a b a_fits b_fits))
 
--- src/ratio.rt:61:5
+-- The product in 128 bits.
 pub overflow_mul-result : goal.overflow_mul-result
 overflow_mul-result c =
     rw (widened c.args.a c.from.result c.ranges.a c.from.ensures, widened c.args.b c.from-2.result c.ranges.b c.from-2.ensures)
@@ -30,7 +30,7 @@ overflow_mul-result c =
 pub returns-clause-value : goal.returns-clause-value
 returns-clause-value c = product_is c.args.a c.args.b c.from.result c.from-2.result c.ranges.a c.ranges.b c.from.ensures c.from-2.ensures
 
-pub returns-clause-small : goal.returns-clause-small
-returns-clause-small c =
+pub returns-clause-value_bounded : goal.returns-clause-value_bounded
+returns-clause-value_bounded c =
     rw (product_is c.args.a c.args.b c.from.result c.from-2.result c.ranges.a c.ranges.b c.from.ensures c.from-2.ensures, unsigned_abs-mul c.args.a c.args.b)
     (mul-le (unsigned_abs c.args.a) (unsigned_abs c.args.b) (2 ^ 63) (2 ^ 63) (small c.args.a c.ranges.a) (small c.args.b c.ranges.b))

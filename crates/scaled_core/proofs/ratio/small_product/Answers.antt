@@ -15,9 +15,9 @@ pub returns-then-unsigned_abs-le-SMALL-2-clause-value :
 returns-then-unsigned_abs-le-SMALL-2-clause-value c =
     product_is c.args.a c.args.b c.ranges.a c.ranges.b (omega (arith, ints)) (omega (arith, ints))
 
-pub returns-then-unsigned_abs-le-SMALL-2-clause-small :
-    goal.returns-then-unsigned_abs-le-SMALL-2-clause-small
-returns-then-unsigned_abs-le-SMALL-2-clause-small c =
+pub returns-then-unsigned_abs-le-SMALL-2-clause-value_bounded :
+    goal.returns-then-unsigned_abs-le-SMALL-2-clause-value_bounded
+returns-then-unsigned_abs-le-SMALL-2-clause-value_bounded c =
     let a_small : unsigned_abs c.args.a ≤ 2 ^ 31 = omega (arith, ints) in
     let b_small : unsigned_abs c.args.b ≤ 2 ^ 31 = omega (arith, ints) in
     rw (product_is c.args.a c.args.b c.ranges.a c.ranges.b a_small b_small, unsigned_abs-mul c.args.a c.args.b)

@@ -4,7 +4,7 @@ use Rattle.scaled_core.specs.ParsedTexts.{dimension_value, read_dimension}
 use Rattle.scaled_core.proofs.ReadingCases.{reads-ok, reads-fits, reads-too_large, reads-not_a_dimension}
 use Rattle.scaled_core.proofs.reading.parse_dimen.Goals as goal
 
--- the parts give the value, and the other clauses follow from it
+-- The parts give the value, and the other clauses follow from it.
 pub returns-clause-value : goal.returns-clause-value
 unfolding read_dimension dimension_value
 returns-clause-value c = grind (arith, common_steps)

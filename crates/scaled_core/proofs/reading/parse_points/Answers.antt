@@ -5,7 +5,7 @@ use Rattle.scaled_core.proofs.PointTexts.{read_dimension-points}
 use Rattle.scaled_core.proofs.ReadingCases.{reads-ok, reads-fits, reads-too_large, reads-not_a_dimension}
 use Rattle.scaled_core.proofs.reading.parse_points.Goals as goal
 
--- the parts give the value, and the other clauses follow from it
+-- The parts give the value, and the other clauses follow from it.
 pub returns-clause-value : goal.returns-clause-value
 returns-clause-value c = rw (read_dimension-points c.args.text.now) (grind (arith, common_steps))
 

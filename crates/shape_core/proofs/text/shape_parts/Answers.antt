@@ -9,7 +9,7 @@ loop-text-preserved g c =
       text_items-part _ _ _ _ _ _ _ _ _ _ _ some c.part_length.ensures.value c.split_at.ensures.front c.split_at.ensures.back c.in_ok-characters.ensures.ok c.loop-text.invariant.0,
       text_missing-part _ _ _ _ _ _ _ _ _ some c.part_length.ensures.value c.split_at.ensures.front c.split_at.ensures.back c.in_ok-characters.ensures.number c.loop-text.invariant.1,
       front_kept _ _ _ _ c.loop-text.invariant.2 c.in_ok-characters.ensures.ok,
-      omega (arith, c.in_ok-characters.ensures.few, c.split_at.ensures.front_len, c.split_at.ensures.back_len, c.loop-text.invariant.3),
+      omega (arith, c.in_ok-characters.ensures.missing_bounded, c.split_at.ensures.front_len, c.split_at.ensures.back_len, c.loop-text.invariant.3),
     )
 
 pub returns-clause-ok : goal.returns-clause-ok

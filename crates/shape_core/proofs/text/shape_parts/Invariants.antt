@@ -2,7 +2,8 @@ use Rattle.std.proofs.Common.{◌≡◌, ◌+◌, ◌++◌, ◌≤◌, length, t
 use Rattle.shape_core.specs.Texts.{text_items, text_missing}
 use Rattle.shape_core.proofs.text.shape_parts.Given as goal
 
--- what is appended and what is left make the items; none is missing that was not passed; what was there stands in front
+-- The appended items and those of the rest of the text make up the items of the text; at most as many characters are missing as were passed; and the
+-- nodes from before the call come first.
 abbrev pub invariant-loop-text : goal.invariant-loop-text
 invariant-loop-text g l =
     (l.initial.nodes.items ++ text_items l.slot (g.M.Metrics.sizes l.metrics) (g.M.Metrics.steps l.metrics) (g.M.Metrics.blank l.metrics) l.initial.text ≡ l.nodes.items ++ text_items l.slot (g.M.Metrics.sizes l.metrics) (g.M.Metrics.steps l.metrics) (g.M.Metrics.blank l.metrics) l.text)
@@ -10,6 +11,6 @@ invariant-loop-text g l =
     × (take (length l.initial.nodes.items) l.nodes.items ≡ l.initial.nodes.items)
     × (l.characters + length l.text ≤ length l.initial.text)
 
--- the text gets shorter
+-- The rest of the text gets shorter.
 abbrev pub decreases-loop-text : goal.decreases-loop-text
 decreases-loop-text g l = length l.text

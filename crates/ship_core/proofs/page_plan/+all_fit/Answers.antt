@@ -25,10 +25,10 @@ loop-node-init t c = record {
   left = refl;
 }
 
-pub step-requires-clause-few : goal.step-requires-clause-few
-step-requires-clause-few t c =
+pub step-requires-clause-items_bounded : goal.step-requires-clause-items_bounded
+step-requires-clause-items_bounded t c =
     few_passed c.args.box_node.now.kind c.args.box_node.now.setting c.as_slice-node-items.result.now c.loop-node.node-index c.loop-node.walk.cursor
-    c.loop-node.invariant.cursor c.loop-node-test.true (rw c.as_slice-node-items.ensures.nodes c.as_slice-node-items.ensures.short)
+    c.loop-node.invariant.cursor c.loop-node-test.true (rw c.as_slice-node-items.ensures.nodes c.as_slice-node-items.ensures.list_bounded)
 
 pub returns-in_default : goal.returns-in_default
 returns-in_default t c =

@@ -1,5 +1,5 @@
 use Rattle.std.proofs.Common.{◌∙◌, ap}
-use Rattle.ship_core.specs.Pushes.{most_pushed}
+use Rattle.ship_core.specs.Pushes.{max_pushed}
 use Rattle.ship_core.proofs.PushDepth.{seen_more, seen_all, depth-flat}
 use Rattle.ship_core.proofs.pushes.push_depth.Goals as goal
 
@@ -11,4 +11,4 @@ loop-op-preserved c =
 pub returns-clause-value : goal.returns-clause-value
 returns-clause-value c body is =
     seen_all c.args.ops.now c.loop-op.op-index c.loop-op.pushed c.loop-op.deepest c.loop-op-test.false c.loop-op.invariant
-    ∙ (ap (most_pushed 0) is ∙ depth-flat body)
+    ∙ (ap (max_pushed 0) is ∙ depth-flat body)

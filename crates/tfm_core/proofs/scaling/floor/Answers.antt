@@ -3,7 +3,7 @@ use Rattle.std.proofs.Common.{ℤ, pos, ◌*ℤ◌, ◌≡◌, ◌^◌, ◌∙�
 use Rattle.std.proofs.lemmas.Int.{ints, fits_signed_mul, to_z-of_z}
 use Rattle.tfm_core.proofs.scaling.floor.Goals as goal
 
--- src/scaling.rt:106:5
+-- The product of a word and a size.
 pub overflow_mul-from : goal.overflow_mul-from
 overflow_mul-from c =
     fits_signed_mul w64 (to_z w64 (of_z w64 c.from.result)) (to_z w64 (of_z w64 c.from-2.result)) (2 ^ 31) (2 ^ 27) (omega (arith, ints)) (omega (arith, ints)) (omega arith)

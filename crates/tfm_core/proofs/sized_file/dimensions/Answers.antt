@@ -1,4 +1,4 @@
--- A turn of the loop: the word at the index fits, and its dimension is appended.
+-- A step of the loop: the word at the index fits, and its dimension is appended.
 use Rattle.std.proofs.Common.{◌≡◌, ◌∙◌, pos, get_or, w32, ap, refl, rules, SFits}
 use Rattle.std.proofs.lemmas.Int.{to_z-of_z}
 use Rattle.std.proofs.lemmas.List.{map_more}

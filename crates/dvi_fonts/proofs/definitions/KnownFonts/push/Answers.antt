@@ -5,7 +5,7 @@ use Rattle.dvi_ops.specs.Fonts.{AgreesWith}
 use Rattle.dvi_ops.specs.Instruction.{Definition}
 use Rattle.dvi_ops.specs.View.{definition}
 use Rattle.dvi_ops.specs.declared.op.FontDefinition.{FontDefinition}
-use Rattle.dvi_fonts.specs.Known.{AreKept}
+use Rattle.dvi_fonts.specs.Known.{HasFirstDefinitions}
 use Rattle.dvi_fonts.proofs.KnownLemmas.{kept_more}
 use Rattle.dvi_fonts.proofs.definitions.KnownFonts.push.Goals as goal
 
@@ -13,6 +13,6 @@ pub invariant_of-self-in-Ok : goal.invariant_of-self-in-Ok
 invariant_of-self-in-Ok c =
     let fonts = c.self.inside.all.items in
     let more : c.push.new.self.items ≡ fonts ++ c.args.font.now ∷ [] = search rules in
-    subst (λ (ds : List Definition). AreKept c.add_first.new.first ds) (sym (ap (λ (fonts : List FontDefinition). map definition fonts) more ∙ map-append definition fonts (c.args.font.now ∷ [])))
+    subst (λ (ds : List Definition). HasFirstDefinitions c.add_first.new.first ds) (sym (ap (λ (fonts : List FontDefinition). map definition fonts) more ∙ map-append definition fonts (c.args.font.now ∷ [])))
     (kept_more c.self.inside.first c.add_first.new.first (map definition fonts) c.args.font.now c.self.invariant
     (subst (λ (ds : List Definition). AllByRecursion (AgreesWith (definition c.args.font.now)) ds) (sym c.self.view_is) c.requires) c.in-Ok.ensures.ok)

@@ -21,13 +21,13 @@ pub returns-in_err-send-clause-part : goal.returns-in_err-send-clause-part
 returns-in_err-send-clause-part g c is =
     let some : c.self.inside.progress.pages ≢ 0 = λ none. c.if-pages-eq0.false (c.pages-pages.ensures ∙ none) in
     let front = rw (c.deref.ensures.value, c.in-Ok.ensures) at c.in_err-send.ensures.front in
-    rw (← c.self.view_is) (λ before pages written. ended_part c.args.fonts.now before c.send.new.self.told _ pages written some (rw (← c.self.view_is) at front))
+    rw (← c.self.view_is) (λ before pages written. ended_part c.args.fonts.now before c.send.new.self.bytes_written _ pages written some (rw (← c.self.view_is) at front))
 
 pub returns-clause-whole : goal.returns-clause-whole
 returns-clause-whole g c =
     let some : c.self.inside.progress.pages ≢ 0 = λ none. c.if-pages-eq0.false (c.pages-pages.ensures ∙ none) in
-    let told = rw (c.deref.ensures.value, c.in-Ok.ensures) at c.in_ok-send.ensures.told in
-    rw (← c.self.view_is) (λ before pages written. ended_all c.args.fonts.now before _ _ pages written some (ap (λ (w : Writing). w.told) c.self-2.view_is ∙ (rw (← c.self.view_is) at told)))
+    let bytes_written = rw (c.deref.ensures.value, c.in-Ok.ensures) at c.in_ok-send.ensures.bytes_written in
+    rw (← c.self.view_is) (λ before pages written. ended_all c.args.fonts.now before _ _ pages written some (ap (λ (w : Writing). w.bytes_written) c.self-2.view_is ∙ (rw (← c.self.view_is) at bytes_written)))
 
 pub returns-clause-size : goal.returns-clause-size
 returns-clause-size g c =

@@ -8,11 +8,11 @@ pub returns-in_err-send-clause-part : goal.returns-in_err-send-clause-part
 returns-in_err-send-clause-part g c is =
     let page = page_with c.args.counts.now c.args.offsets c.args.box_node.now in
     let front = rw (c.deref.ensures.value, c.in_ok-next.ensures.bytes) at c.in_err-send.ensures.front in
-    λ before pages written. part_more c.args.fonts.now before c.send.new.self.told c.args.self.now pages page written front
+    λ before pages written. part_more c.args.fonts.now before c.send.new.self.bytes_written c.args.self.now pages page written front
 
 pub returns-clause-written : goal.returns-clause-written
 returns-clause-written g c before pages written =
     let page = page_with c.args.counts.now c.args.offsets c.args.box_node.now in
-    let told = rw (c.deref.ensures.value, c.in_ok-next.ensures.bytes) at c.in_ok-send.ensures.told in
+    let bytes_written = rw (c.deref.ensures.value, c.in_ok-next.ensures.bytes) at c.in_ok-send.ensures.bytes_written in
     written_more c.args.fonts.now before c.args.self.now _ pages page written c.in_ok-next.ensures.right c.in_ok-next.ensures.behind
-    (ap (λ (w : Writing). w.told) c.self.view_is ∙ told) (ap (λ (w : Writing). w.over) c.self.view_is ∙ c.in_ok-send.ensures.running)
+    (ap (λ (w : Writing). w.bytes_written) c.self.view_is ∙ bytes_written) (ap (λ (w : Writing). w.over) c.self.view_is ∙ c.in_ok-send.ensures.running)

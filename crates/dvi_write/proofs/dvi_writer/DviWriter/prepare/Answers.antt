@@ -5,7 +5,7 @@ use Rattle.ship_core.specs.Pages.{page_at}
 use Rattle.dvi_layout.specs.Limits.{HasRoom, limit_of}
 use Rattle.dvi_layout.specs.Shippable.{IsRightPage, page_with}
 use Rattle.dvi_layout.proofs.Rooms.{few_text, room_next}
-use Rattle.dvi_write.specs.Writing.{Writing, Refuses, refusal_of}
+use Rattle.dvi_write.specs.Writing.{Writing, RefusesPage, refusal_of}
 use Rattle.dvi_write.proofs.Writings.{may_go, refused_by}
 use Rattle.dvi_write.proofs.dvi_writer.DviWriter.prepare.Goals as goal
 
@@ -45,4 +45,4 @@ returns-in-Err-clause-refused g c =
     let running : w.over ≡ false = sym (ap (λ (w : Writing). w.over) c.self.view_is) ∙ c.if-self.false in
     let page = page_at c.args.counts.now c.point_of-at.result.h c.point_of-at.result.v c.args.box_node.now in
     let limit = ap (λ (w : Writing). limit_of w.so_far page) (sym c.self.view_is) ∙ c.in_ok-load.ensures.ok c.args.counts.now c.point_of-at.result.h c.point_of-at.result.v in
-    subst (λ (at : PagePoint). Refuses w (page_at c.args.counts.now at.h at.v c.args.box_node.now) c.in-Err.fault) c.point_of-at.ensures (refused_by w page c.in-Err.fault running limit c.in-Err.ensures.err)
+    subst (λ (at : PagePoint). RefusesPage w (page_at c.args.counts.now at.h at.v c.args.box_node.now) c.in-Err.fault) c.point_of-at.ensures (refused_by w page c.in-Err.fault running limit c.in-Err.ensures.err)

@@ -4,7 +4,7 @@ use Rattle.dvi_layout.specs.Fonts.{Slots}
 use Rattle.dvi_layout.specs.Closing.{IsClosedFor}
 use Rattle.dvi_layout.specs.Layout.{whole}
 use Rattle.dvi_layout.specs.Shippable.{GivesFonts, IsFileOfPages}
-use Rattle.job_core.specs.Sound.{seen_by}
+use Rattle.job_core.specs.Sound.{view_of}
 use Rattle.job_core.proofs.Endings.{over_refused, open_refused, may_finish, has_written_by, fonts_are, sent_by, part_by, some_where, finished, losing, stopped, said, filed}
 use Rattle.job_core.proofs.device_job.Job.finish.Goals as goal
 
@@ -18,41 +18,41 @@ returns-then-is_open-clause-finished g c =
 pub returns-clause-finished : goal.returns-clause-finished
 returns-clause-finished g c =
     let running = sym c.is_over.ensures ∙ c.if-is_over.false in
-    let old = seen_by c.self.inside.kept c.self.inside.writer in
+    let old = view_of c.self.inside.kept c.self.inside.writer in
     rw (← c.self.view_is)
     (finished old _ _ (may_finish old.state running (sym c.is_open.ensures ∙ c.if-is_open.false))
     (stopped c.self.inside.kept c.self.inside.writer c.finish.new.self c.finish.ensures.so_far c.in-Ok.ensures.over)
     (λ m holds. c.in-Ok.ensures.pages _ m.pages (has_written_by old m c.fonts.result.now holds running c.fonts.ensures)) c.in-Ok.ensures.stands
     (λ m holds.
-    sent_by old m c.fonts.result.now c.finish.new.self.told holds c.fonts.ensures (c.in-Ok.ensures.whole _ m.pages (has_written_by old m c.fonts.result.now holds running c.fonts.ensures))))
+    sent_by old m c.fonts.result.now c.finish.new.self.bytes_written holds c.fonts.ensures (c.in-Ok.ensures.whole _ m.pages (has_written_by old m c.fonts.result.now holds running c.fonts.ensures))))
 
 pub returns-clause-dvi : goal.returns-clause-dvi
 returns-clause-dvi g c =
     let running = sym c.is_over.ensures ∙ c.if-is_over.false in
-    let old = seen_by c.self.inside.kept c.self.inside.writer in
+    let old = view_of c.self.inside.kept c.self.inside.writer in
     let fonts = c.fonts.result.now in
     rw (← c.self.view_is)
     (λ m metrics holds gives.
     let written = has_written_by old m fonts holds running c.fonts.ensures in
-    said c.self.inside.writer.told c.finish.new.self.told (whole fonts m.pages) (λ bytes. IsFileOfPages metrics bytes m.pages) (c.in-Ok.ensures.whole _ m.pages written)
+    said c.self.inside.writer.bytes_written c.finish.new.self.bytes_written (whole fonts m.pages) (λ bytes. IsFileOfPages metrics bytes m.pages) (c.in-Ok.ensures.whole _ m.pages written)
     (filed old m metrics (whole fonts m.pages) holds c.self.invariant.fonts gives
     (λ given. c.in-Ok.ensures.file _ m.pages metrics written (subst (GivesFonts metrics) (sym (fonts_are old m fonts holds c.fonts.ensures)) given))))
 
 pub returns-clause-end : goal.returns-clause-end
 returns-clause-end g c =
     let running = sym c.is_over.ensures ∙ c.if-is_over.false in
-    let old = seen_by c.self.inside.kept c.self.inside.writer in
+    let old = view_of c.self.inside.kept c.self.inside.writer in
     let fonts = c.fonts.result.now in
     rw (← c.self.view_is)
     (λ m holds some.
     let written = has_written_by old m fonts holds running c.fonts.ensures in
-    said c.self.inside.writer.told c.finish.new.self.told (whole fonts m.pages) (λ bytes. IsClosedFor m.state.fonts bytes m.pages) (c.in-Ok.ensures.whole _ m.pages written)
+    said c.self.inside.writer.bytes_written c.finish.new.self.bytes_written (whole fonts m.pages) (λ bytes. IsClosedFor m.state.fonts bytes m.pages) (c.in-Ok.ensures.whole _ m.pages written)
     (subst (λ (f : Slots). IsClosedFor f (whole fonts m.pages) m.pages) (fonts_are old m fonts holds c.fonts.ensures) (c.in-Ok.ensures.closed _ m.pages written some)))
 
 pub returns-in-Err-Device-clause-finished : goal.returns-in-Err-Device-clause-finished
 returns-in-Err-Device-clause-finished g c =
     let running = sym c.is_over.ensures ∙ c.if-is_over.false in
-    let old = seen_by c.self.inside.kept c.self.inside.writer in
+    let old = view_of c.self.inside.kept c.self.inside.writer in
     let lost = c.in-Err-Device.is ∙ ap (λ (f : WriteFault). Err f) c.in-Err-Device.field-0-is in
     let more = c.finish.ensures.failed lost in
     rw (← c.self.view_is)
@@ -60,4 +60,4 @@ returns-in-Err-Device-clause-finished g c =
     (some_where c.self.inside.writer _ running c.in-Err-Device.ensures.refused)
     (stopped c.self.inside.kept c.self.inside.writer c.finish.new.self c.finish.ensures.so_far (c.finish.ensures.lost lost)) more
     (λ m holds.
-    part_by old m c.fonts.result.now c.finish.new.self.told holds c.fonts.ensures (c.finish.ensures.part lost _ m.pages (has_written_by old m c.fonts.result.now holds running c.fonts.ensures))))
+    part_by old m c.fonts.result.now c.finish.new.self.bytes_written holds c.fonts.ensures (c.finish.ensures.part lost _ m.pages (has_written_by old m c.fonts.result.now holds running c.fonts.ensures))))

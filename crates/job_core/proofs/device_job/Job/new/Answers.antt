@@ -1,5 +1,5 @@
-use Rattle.nest_core.specs.State.{first_state}
-use Rattle.job_core.proofs.NewJobs.{new_told, new_holds, new_sound}
+use Rattle.job_machine.specs.State.{first_state}
+use Rattle.job_core.proofs.NewJobs.{new_written, new_holds, new_sound}
 use Rattle.job_core.proofs.device_job.Job.new.Goals as goal
 
 pub invariant_of-result : goal.invariant_of-result
@@ -8,9 +8,9 @@ invariant_of-result g c = new_sound c.args.files.now c.in-Ok.kept c.in-Ok.ensure
 pub returns-clause-ok : goal.returns-clause-ok
 returns-clause-ok g c =
     let fonts = (first_state c.args.files.now).fonts in
-    new_holds c.args.files.now (g.D.Device.told c.args.device) c.in-Ok.kept c.new-2.result c.requires.fresh c.in-Ok.ensures (c.new-2.ensures.written fonts)
+    new_holds c.args.files.now (g.D.Device.bytes_written c.args.device) c.in-Ok.kept c.new-2.result c.requires.fresh c.in-Ok.ensures (c.new-2.ensures.written fonts)
 
-pub returns-clause-told : goal.returns-clause-told
-returns-clause-told g c =
+pub returns-clause-bytes_written : goal.returns-clause-bytes_written
+returns-clause-bytes_written g c =
     let fonts = (first_state c.args.files.now).fonts in
-    new_told fonts (g.D.Device.told c.args.device) c.new-2.result (c.new-2.ensures.written fonts)
+    new_written fonts (g.D.Device.bytes_written c.args.device) c.new-2.result (c.new-2.ensures.written fonts)

@@ -1,8 +1,8 @@
 use Rattle.std.proofs.Common.{◌≡◌, ◌+◌, ◌++◌, ◌∷◌, [], take, ap, sym, ◌∙◌, subst, append_assoc, arith, List}
 use Rattle.std.proofs.lemmas.List.{take_more}
-use Rattle.command_core.specs.declared.command.Command.{Command}
-use Rattle.command_core.specs.Reply.{Reply}
-use Rattle.job_core.specs.Jobs.{Seen, RunsTo}
+use Rattle.job_commands.specs.declared.command.Command.{Command}
+use Rattle.job_commands.specs.Reply.{Reply}
+use Rattle.job_core.specs.Jobs.{JobView, RunsTo}
 use Rattle.job_core.proofs.Moves.{runs_more}
 use Rattle.job_core.proofs.device_job.Job.run.Goals as goal
 
@@ -25,7 +25,7 @@ loop-command-preserved g c =
       );
       idle = λ over.
           let same = c.loop-command.invariant.idle over in
-          c.step-reply.ensures.idle (ap (λ (job : Seen). job.state.over) same ∙ over) ∙ same;
+          c.step-reply.ensures.idle (ap (λ (job : JobView). job.state.over) same ∙ over) ∙ same;
       began = c.step-reply.ensures.began ∙ c.loop-command.invariant.began;
       room = omega (arith, c.in-Ok.ensures.len, c.in-Ok.ensures.capacity);
     }

@@ -1,6 +1,6 @@
 use Rattle.std.proofs.Common.{◌≡◌, true, ◌≤◌, ◌+◌, ◌-◌, ◌++◌, List, length, take, vec_len}
 use Rattle.std.specs.Prelude.{vec_capacity}
-use Rattle.command_core.specs.Reply.{Reply}
+use Rattle.job_commands.specs.Reply.{Reply}
 use Rattle.job_core.specs.Jobs.{RunsTo}
 use Rattle.job_core.proofs.device_job.Job.run.Given as goal
 

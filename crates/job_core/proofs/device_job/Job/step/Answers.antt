@@ -1,8 +1,8 @@
 use Rattle.std.proofs.Common.{refl, sym, subst, ◌∙◌, rules}
-use Rattle.nest_core.specs.Runs.{IsShip}
-use Rattle.state_core.specs.Keeping.{unshipped}
-use Rattle.job_core.specs.Sound.{IsSound, seen_by}
-use Rattle.job_core.proofs.Moves.{over_replies, obeyed, seen_reply, sound_after, never_device, told_stays, true_or_false}
+use Rattle.job_machine.specs.Runs.{IsShip}
+use Rattle.job_state.specs.JobStateView.{before_shipping}
+use Rattle.job_core.specs.Sound.{IsSound, view_of}
+use Rattle.job_core.proofs.Moves.{over_replies, obeyed, seen_reply, sound_after, never_device, written_stays, true_or_false}
 use Rattle.job_core.proofs.device_job.Job.step.Goals as goal
 
 pub returns-then-is_over-clause-keeps : goal.returns-then-is_over-clause-keeps
@@ -11,7 +11,7 @@ returns-then-is_over-clause-keeps g c = rw (← c.self.view_is) (over_replies _ 
 pub invariant_of-self-2 : goal.invariant_of-self-2
 invariant_of-self-2 g c =
     subst IsSound (sym c.in-Ok.ensures.state)
-    (sound_after (unshipped c.self.inside.kept) c.args.command.now c.in-Ok.reply c.in-Ok.ensures.reply c.in-Ok.ensures.numbers c.self.invariant)
+    (sound_after (before_shipping c.self.inside.kept) c.args.command.now c.in-Ok.reply c.in-Ok.ensures.reply c.in-Ok.ensures.numbers c.self.invariant)
 
 pub returns : goal.returns
 returns g c =
@@ -23,8 +23,8 @@ returns g c =
     (record {
       keeps = obeyed kept w c.args.command.now other running c.obey.new.kept c.in-Ok.reply c.in-Ok.ensures.reply c.in-Ok.ensures.state;
       idle = λ over. absurd (true_or_false over running);
-      unsent = told_stays c.in-Ok.reply w.told;
+      unsent = written_stays c.in-Ok.reply w.bytes_written;
       part = λ is.
-          absurd (never_device (seen_by kept w).state c.args.command.now c.in-Ok.reply (seen_reply kept w c.args.command.now other running c.in-Ok.reply c.in-Ok.ensures.reply) is);
+          absurd (never_device (view_of kept w).state c.args.command.now c.in-Ok.reply (seen_reply kept w c.args.command.now other running c.in-Ok.reply c.in-Ok.ensures.reply) is);
       began = refl;
     })

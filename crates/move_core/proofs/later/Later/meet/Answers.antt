@@ -1,7 +1,7 @@
 use Rattle.std.proofs.Common.{◌≡◌, ◌∷◌, [], ◌++◌, ◌∙◌, sym, ap, subst, arith}
 use Rattle.dvi_ops.specs.Instruction.{Push}
-use Rattle.dvi_ops.specs.View.{view}
-use Rattle.dvi_ops.specs.declared.op.Op.{Op}
+use Rattle.dvi_ops.specs.View.{body_view}
+use Rattle.dvi_ops.specs.declared.body_op.BodyOp.{BodyOp}
 use Rattle.move_core.specs.declared.later.Amounts.{Amounts}
 use Rattle.move_core.specs.Passes.{has}
 use Rattle.move_core.proofs.Laters.{HasNone, KnowsAt, knows_pop, knows_push}
@@ -14,13 +14,13 @@ returns-in_ok-push-in-Pop-clause-knows c rest knows =
     let outer = c.push.new.self.items in
     let none : HasNone fresh = λ axis n. ap (λ (a : Amounts). has a axis n) c.replace-behind.ensures.after ∙ c.new.ensures axis n in
     let pushed : outer ≡ self.outer.items ++ (self.here ∷ []) = cc (c.in_ok-push-in-Pop.ensures.items, c.replace-behind.ensures.value) in
-    subst (λ (op : Op). KnowsAt fresh outer (view op ∷ rest)) (sym c.in-Pop.is) (knows_pop self.here fresh self.outer.items outer rest none pushed knows)
+    subst (λ (op : BodyOp). KnowsAt fresh outer (body_view op ∷ rest)) (sym c.in-Pop.is) (knows_pop self.here fresh self.outer.items outer rest none pushed knows)
 
 pub returns-in-Push-clause-knows : goal.returns-in-Push-clause-knows
 returns-in-Push-clause-knows c rest knows =
     let self = c.args.self.now in
     let outer = c.pop.new.self.items in
-    subst (λ (op : Op). KnowsAt c.unwrap_or.result outer (view op ∷ rest)) (sym c.in-Push.is)
+    subst (λ (op : BodyOp). KnowsAt c.unwrap_or.result outer (body_view op ∷ rest)) (sym c.in-Push.is)
     (subst (λ (here : Amounts). KnowsAt here outer (Push ∷ rest)) (sym c.unwrap_or.ensures)
     (knows_push self.here c.new-in-Push.result self.outer.items outer c.pop.result rest self.outer.len c.pop.new.self.len c.new-in-Push.ensures c.pop.ensures.items
     (omega (arith, self.outer.ok)) (omega (arith, c.pop.new.self.ok)) c.pop.ensures.cases knows))

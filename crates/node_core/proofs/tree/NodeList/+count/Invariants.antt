@@ -1,4 +1,4 @@
--- The loop of count: the count of the nodes passed and one for each node to come, cut at the greatest number.
+-- The loop of `count`: the count of the nodes passed, plus one for each node that follows, or `u64::MAX` if that is greater.
 use Rattle.std.proofs.Common.{◌≡◌, ◌+◌, ◌-◌, length, min, take}
 use Rattle.node_core.specs.Items.{items_count}
 use Rattle.node_core.specs.Nodes.{items_of}

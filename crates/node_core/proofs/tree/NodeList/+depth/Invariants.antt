@@ -1,4 +1,4 @@
--- The loop of depth: how deep boxes nest in the nodes passed, cut at the greatest number.
+-- The loop of `depth`: the depth to which boxes nest in the nodes passed, or `u64::MAX` if it is greater.
 use Rattle.std.proofs.Common.{◌≡◌, min, take}
 use Rattle.node_core.specs.Items.{items_depth}
 use Rattle.node_core.specs.Nodes.{items_of}

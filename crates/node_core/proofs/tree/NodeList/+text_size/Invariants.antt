@@ -1,4 +1,4 @@
--- The loop of text_size: the size of the texts of the nodes passed, cut at the greatest number.
+-- The loop of `text_size`: the size of the texts of the nodes passed, or `u64::MAX` if it is greater.
 use Rattle.std.proofs.Common.{◌≡◌, min, take}
 use Rattle.node_core.specs.Items.{items_text}
 use Rattle.node_core.specs.Nodes.{items_of}

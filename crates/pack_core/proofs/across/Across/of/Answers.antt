@@ -1,7 +1,7 @@
 use Rattle.std.proofs.Common.{◌≡◌, ◌∙◌, ℤ, ◌+ℤ◌, take, ap, sym, arith}
 use Rattle.std.specs.Int.{int_max}
 use Rattle.std.proofs.lemmas.List.{take_all}
-use Rattle.node_core.specs.Nodes.{most_nodes}
+use Rattle.node_core.specs.Nodes.{max_nodes}
 use Rattle.pack_core.specs.declared.orders.OrderAmounts.{OrderAmounts}
 use Rattle.pack_core.specs.Items.{across, above, below, stretch_in, shrink_in}
 use Rattle.pack_core.specs.Totals.{total, greatest}
@@ -12,7 +12,7 @@ use Rattle.pack_core.proofs.Measured.{passed-more, amounts_more}
 use Rattle.pack_core.proofs.across.Across.of.Goals as goal
 
 pub pass-requires : goal.pass-requires
-pass-requires c = passed-more c.loop-node.node-index most_nodes c.loop-node.across (omega (arith, c.requires, c.loop-node-test.true)) c.loop-node.invariant.passed
+pass-requires c = passed-more c.loop-node.node-index max_nodes c.loop-node.across (omega (arith, c.requires, c.loop-node-test.true)) c.loop-node.invariant.passed
 
 pub loop-node-preserved : goal.loop-node-preserved
 loop-node-preserved c =
@@ -37,5 +37,5 @@ returns c =
       depth = c.loop-node.invariant.depth ∙ ap (greatest below) all;
       stretch = c.loop-node.invariant.stretch ∙ ap (λ xs. order_amounts (stretch_totals xs)) all;
       shrink = c.loop-node.invariant.shrink ∙ ap (λ xs. order_amounts (shrink_totals xs)) all;
-      small = passed-more c.loop-node.node-index most_nodes c.loop-node.across (omega (arith, c.requires, c.loop-node.auto.node-index-end)) c.loop-node.invariant.passed;
+      sums_bounded = passed-more c.loop-node.node-index max_nodes c.loop-node.across (omega (arith, c.requires, c.loop-node.auto.node-index-end)) c.loop-node.invariant.passed;
     }

@@ -87,7 +87,7 @@ returns-in-Kern-clause-bound c = λ n small. record {
   shrink = within-more _ _ _ (omega arith) small.shrink;
 }
 
--- Any other item, which is no glue.
+-- Any other item that is not glue.
 pub returns-in_default-clause-height : goal.returns-in_default-clause-height
 returns-in_default-clause-height c = omega (arith, ints, clamps)
 

@@ -9,7 +9,7 @@ use Rattle.pack_core.specs.ListTotals.{ListTotals, with_item}
 use Rattle.pack_core.proofs.Passing.{within-more, with_item-totals, with_item-no_glue}
 use Rattle.pack_core.proofs.totals.Totals.pass.Goals as goal
 
--- An item that is no glue.
+-- An item that is not glue.
 pub invariant_of-self : goal.invariant_of-self
 invariant_of-self c = record {
   moves = record { low = omega (arith, ints); high = omega (arith, ints) };

@@ -2,7 +2,7 @@ use Rattle.std.proofs.Common.{ap, ◌∙◌, map}
 use Rattle.std.specs.Vec.{with_items}
 use Rattle.std.proofs.lemmas.List.{with_items_is}
 use Rattle.dvi_ops.specs.View.{units as units_of}
-use Rattle.dvi_pass.specs.View.{mark_of}
+use Rattle.dvi_scan.specs.View.{mark_of}
 use Rattle.raster_core.specs.Pixels.{is_covered, scale_of}
 use Rattle.raster_core.specs.Pictures.{painted}
 use Rattle.raster_core.proofs.DrawnPixels.{repainted}

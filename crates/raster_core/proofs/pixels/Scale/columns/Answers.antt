@@ -11,4 +11,4 @@ returns-clause-exact c =
     λ x h.
     let corner = c.place-first.ensures.value ∙ ap (place c.args.self.now) (to_z-of_z w32 c.args.h c.ranges.h) in
     let size = c.pixels.ensures.value ∙ ap (pixels c.args.self.now) (to_z-of_z w32 c.args.width c.ranges.width) in
-    c.cut.ensures.exact x h ∙ columns_are x c.place-first.result _ c.pixels.result _ c.place-first.ensures.small c.pixels.ensures.small corner size
+    c.cut.ensures.exact x h ∙ columns_are x c.place-first.result _ c.pixels.result _ c.place-first.ensures.value_bounded c.pixels.ensures.value_bounded corner size

@@ -11,4 +11,4 @@ returns-clause-exact c =
     λ y h.
     let corner = c.place-last.ensures.value ∙ ap (place c.args.self.now) (to_z-of_z w32 c.args.v c.ranges.v) in
     let size = c.pixels.ensures.value ∙ ap (pixels c.args.self.now) (to_z-of_z w32 c.args.height c.ranges.height) in
-    c.cut.ensures.exact y h ∙ rows_are y c.place-last.result _ c.pixels.result _ c.place-last.ensures.small c.pixels.ensures.small corner size
+    c.cut.ensures.exact y h ∙ rows_are y c.place-last.result _ c.pixels.result _ c.place-last.ensures.value_bounded c.pixels.ensures.value_bounded corner size

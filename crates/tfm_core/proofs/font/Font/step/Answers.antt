@@ -1,4 +1,4 @@
--- Where the set has the following character there is a program.
+-- If the set has the following character, there is a program.
 use Rattle.std.proofs.Common.{sym}
 use Rattle.tfm_core.proofs.RowLemmas.{IsRow-at, has_start}
 use Rattle.tfm_core.proofs.font.Font.step.Goals as goal

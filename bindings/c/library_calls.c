@@ -1,0 +1,87 @@
+/* Makes each call of the library on inputs that are files, for tests/run --library; tests/steps/library_build.py builds and runs it.
+ *
+ *     library_calls [--refuse] run SCRIPT [NAME=TFM ..]
+ *     library_calls [--refuse] list DVI [NAME=TFM ..]
+ *     library_calls [--refuse] paint PAGE DPI WIDTH HEIGHT DVI [NAME=TFM ..]
+ *     library_calls [--refuse] fonts DVI
+ *     library_calls random COUNT SCRIPT DVI NAME=TFM
+ *     library_calls version
+ *
+ * It prints a line with the status and the sizes of both outputs, and then the outputs. With --refuse each growth of memory is refused in turn instead, and
+ * the ways in which the calls ended are counted. Where something is wrong, a line on standard error says so, and the status of the program is 1. */
+#include "random_inputs.h"
+#include "whole_calls.h"
+
+#include <stdio.h>
+#include <stdlib.h>
+#include <string.h>
+
+static void print_outputs(uint32_t status, const uint8_t *first, size_t first_size, const uint8_t *second, size_t second_size) {
+    printf("%u %zu %zu\n", status, first_size, second_size);
+    fwrite(first, 1, first_size, stdout);
+    fwrite(second, 1, second_size, stdout);
+}
+
+/* Prints the fonts of a DVI file, a line each: number, size, name. */
+static void print_fonts(const struct result *result) {
+    const struct boxglue_dvi_font *fonts = (const struct boxglue_dvi_font *)result->outputs[0].bytes;
+    size_t count = result->sizes[0] / sizeof *fonts;
+    printf("%u %zu %zu\n", result->status, count, result->sizes[1]);
+    for (size_t at = 0; at < count; at++) printf("%d %d %.*s\n", fonts[at].number, fonts[at].size, (int)fonts[at].name_size, result->outputs[1].bytes + fonts[at].name_start);
+    if (!count) fwrite(result->outputs[1].bytes, 1, result->sizes[1], stdout);
+}
+
+static void make_request(const struct request *request, int refuses) {
+    if (refuses) {
+        refuse_growths(request);
+        return;
+    }
+    struct result result = checked_call(request);
+    int is_written = result.status <= BOXGLUE_REFUSED || result.status == BOXGLUE_REFUSED_MEMORY;
+    if (!is_written) printf("%u 0 0\n", result.status);
+    else if (request->call == FONTS) print_fonts(&result);
+    else print_outputs(result.status, result.outputs[0].bytes, result.sizes[0], result.outputs[1].bytes, result.sizes[1]);
+    free_result(&result);
+}
+
+static uint32_t number(const char *word) {
+    char *end;
+    unsigned long long value = strtoull(word, &end, 10);
+    REQUIRE(*word && !*end && value <= UINT32_MAX, "not a number: %s", word);
+    return (uint32_t)value;
+}
+
+static void run_random(char **words, int count) {
+    REQUIRE(count == 4, "random needs COUNT SCRIPT DVI NAME=TFM");
+    struct samples samples = {read_file(words[1]), read_file(words[2]), read_fonts(words + 3, 1).all[0]};
+    try_random(&samples, number(words[0]));
+}
+
+/* The request of the words of a call. */
+static struct request read_request(enum call call, char **words, int count) {
+    struct request request = {.call = call};
+    if (call == PAINT) {
+        REQUIRE(count >= 4, "paint needs PAGE DPI WIDTH HEIGHT");
+        request.page = number(words[0]), request.dpi = number(words[1]), request.width = number(words[2]), request.height = number(words[3]);
+        words += 4, count -= 4;
+    }
+    REQUIRE(count >= 1, "a file is missing");
+    request.input = read_file(words[0]);
+    request.fonts = read_fonts(words + 1, count - 1);
+    return request;
+}
+
+int main(int count, char **words) {
+    static const char *const CALLS[] = {[RUN] = "run", [LIST] = "list", [PAINT] = "paint", [FONTS] = "fonts"};
+    int refuses = count > 1 && !strcmp(words[1], "--refuse");
+    words += 1 + refuses, count -= 1 + refuses;
+    REQUIRE(count >= 1, "the name of a call is missing");
+    REQUIRE(boxglue_version() == BOXGLUE_VERSION, "the library is version %u, and the header is for %d", boxglue_version(), BOXGLUE_VERSION);
+    if (!strcmp(words[0], "version")) return printf("%u\n", boxglue_version()) < 0;
+    if (!strcmp(words[0], "random")) return run_random(words + 1, count - 1), 0;
+    int call = RUN;
+    while (strcmp(words[0], CALLS[call])) REQUIRE(++call <= FONTS, "no call %s", words[0]);
+    struct request request = read_request((enum call)call, words + 1, count - 1);
+    make_request(&request, refuses);
+    return 0;
+}

@@ -1,0 +1,272 @@
+"""Boxglue from Python: scripts are run, and DVI files are listed and painted.
+
+    import boxglue
+
+    fonts = {"cmr10": open("cmr10.tfm", "rb").read()}
+    ran = boxglue.run("hbox into 0\\nrule 1pt 1pt 0pt\\nend\\nship 0\\n", fonts).check()
+    open("page.dvi", "wb").write(ran.dvi)
+
+It calls the shared object libboxglue.so, which `bindings/build` makes. It is looked for where the variable BOXGLUE_LIBRARY names a file; else in the folder
+of this module; else in crates/boxglue_c/out of the repository.
+
+Scripts and answers are those of docs/FORMATS.md, and the commands those of docs/COMMANDS.md. Fonts are a mapping from names to the bytes of metric files
+(TFM), or pairs of both; of several with one name the first counts. A `str` is handed over as UTF-8. Calls may run in several threads at once.
+"""
+from __future__ import annotations
+
+import ctypes
+import functools
+import os
+import re
+from ctypes import POINTER, Structure, byref, c_char, c_char_p, c_int32, c_size_t, c_uint32
+from dataclasses import dataclass
+from typing import Iterable, Mapping, NoReturn, Union
+
+__all__ = ["BadFontName", "Bitmap", "BoxglueError", "DviFont", "NoSuchPage", "OutOfMemory", "OutOfRange", "Refused", "Run", "fonts", "listing", "paint", "run",
+           "version"]
+
+Text = Union[str, bytes, bytearray, memoryview]
+Fonts = Union[Mapping[Text, bytes], Iterable["tuple[Text, bytes]"]]
+
+ACCEPTED, REFUSED, OUT_OF_MEMORY, BAD_FONT_NAME, BUFFER_TOO_SMALL, NO_SUCH_PAGE, OUT_OF_RANGE, REFUSED_MEMORY = range(8)
+# The sizes of the first buffers. Where an output needs more, the call is made again with what it needs.
+_TEXT_ROOM, _DVI_ROOM, _FONT_ROOM = 1 << 14, 1 << 16, 64
+_REFUSAL = re.compile(r"^(?:(\d+|end): )?refused (\d+) (\w+)(?: (.*))?$", re.M)
+
+
+class BoxglueError(Exception):
+    """What can go wrong in a call."""
+
+
+class Refused(BoxglueError):
+    """A command, a script or a DVI file was refused.
+
+    `name` and `number` are those of the refusal (docs/COMMANDS.md, section 2), such as "NoFont" and 4; `line` is the line of the command, or None where no
+    command was refused; `detail` is what follows the name, such as "74 Trailer" after "BadDvi".
+    """
+
+    def __init__(self, name: str, number: int, line: int | None = None, detail: str = "") -> None:
+        self.name, self.number, self.line, self.detail = name, number, line, detail
+        place = f"line {line}: " if line is not None else ""
+        super().__init__(f"{place}refused {number} {name} {detail}".rstrip())
+
+
+class OutOfMemory(BoxglueError, MemoryError):
+    """Memory was refused, and nothing was done."""
+
+
+class BadFontName(BoxglueError, ValueError):
+    """The name of a font has not 1 to 255 bytes."""
+
+
+class NoSuchPage(BoxglueError, IndexError):
+    """The DVI file is good and has no page of this number."""
+
+
+class OutOfRange(BoxglueError, ValueError):
+    """The number of a page, of pixels an inch, or of a bitmap's pixels is out of its range."""
+
+
+_ERRORS = {OUT_OF_MEMORY: OutOfMemory, BAD_FONT_NAME: BadFontName, NO_SUCH_PAGE: NoSuchPage, OUT_OF_RANGE: OutOfRange}
+
+
+def _fail(status: int) -> NoReturn:
+    error = _ERRORS.get(status)
+    raise error(error.__doc__) if error else BoxglueError(f"status {status}")
+
+
+def _refusals(text: str) -> list[Refused]:
+    found = _REFUSAL.finditer(text)
+    return [Refused(it[3], int(it[2]), int(it[1]) if it[1] and it[1] != "end" else None, it[4] or "") for it in found]
+
+
+@dataclass(frozen=True)
+class Run:
+    """A run: the answers to the commands, a line each, the bytes of the DVI file (none where no page was shipped), and whether nothing was refused."""
+    answers: str
+    dvi: bytes
+    accepted: bool
+
+    @property
+    def refusals(self) -> list[Refused]:
+        """The refusals among the answers, in order."""
+        return _refusals(self.answers)
+
+    def check(self) -> Run:
+        """Returns this, or raises the first refusal."""
+        if not self.accepted:
+            raise self.refusals[0]
+        return self
+
+
+@dataclass(frozen=True)
+class DviFont:
+    """A font that a DVI file defines: its number, its name, and its size in DVI units (scaled points in boxglue's own files)."""
+    number: int
+    name: str
+    size: int
+
+
+@dataclass(frozen=True)
+class Bitmap:
+    """A bitmap as plain PBM."""
+    pbm: str
+
+    @property
+    def rows(self) -> list[str]:
+        """The rows from the top, each with a "1" for a black pixel and a "0" for a white one."""
+        _, size, *lines = self.pbm.splitlines()
+        width, pixels = int(size.split()[0]), "".join(lines)  # a wide row has several lines
+        return [pixels[at:at + width] for at in range(0, len(pixels), width)]
+
+
+class _Font(Structure):
+    _fields_ = [("name", c_char_p), ("name_size", c_size_t), ("bytes", c_char_p), ("bytes_size", c_size_t)]
+
+
+class _Lengths(Structure):
+    _fields_ = [("answers", c_size_t), ("dvi", c_size_t)]
+
+
+class _DviFont(Structure):
+    _fields_ = [("number", c_int32), ("size", c_int32), ("name_start", c_size_t), ("name_size", c_size_t)]
+
+
+class _FontSizes(Structure):
+    _fields_ = [("fonts", c_size_t), ("text", c_size_t)]
+
+
+_INPUT, _OUTPUT, _SIZE = [c_char_p, c_size_t], [POINTER(c_char), c_size_t], [POINTER(c_size_t)]
+_GIVEN = [POINTER(_Font), c_size_t]
+_CALLS = {
+    "version": [],
+    "run": [*_INPUT, *_GIVEN, *_OUTPUT, *_OUTPUT, POINTER(_Lengths)],
+    "list": [*_INPUT, *_GIVEN, *_OUTPUT, *_SIZE],
+    "paint": [*_INPUT, *_GIVEN, *[c_uint32] * 4, *_OUTPUT, *_SIZE],
+    "fonts": [*_INPUT, POINTER(_DviFont), c_size_t, *_OUTPUT, POINTER(_FontSizes)],
+}
+
+
+def _library_path() -> str:
+    here = os.path.dirname(os.path.abspath(__file__))
+    places = [os.environ.get("BOXGLUE_LIBRARY"), f"{here}/libboxglue.so", f"{here}/../../crates/boxglue_c/out/libboxglue.so"]
+    for path in filter(None, places):
+        if os.path.exists(path) or path == places[0]:
+            return os.path.abspath(path)
+    raise BoxglueError("there is no libboxglue.so: make it with bindings/build, or name it in BOXGLUE_LIBRARY")
+
+
+@functools.lru_cache(None)
+def _library() -> ctypes.CDLL:
+    library = ctypes.CDLL(_library_path())
+    for name, types in _CALLS.items():
+        call = getattr(library, f"boxglue_{name}")
+        call.argtypes, call.restype = types, c_uint32
+    if library.boxglue_version() // 10_000 != 1:
+        raise BoxglueError(f"libboxglue.so has version {library.boxglue_version()}, and this module is for 1.x")
+    return library
+
+
+def _bytes(text: Text) -> bytes:
+    return text.encode("utf-8", "surrogateescape") if isinstance(text, str) else bytes(text)
+
+
+def _input(text: Text) -> tuple[bytes, int]:
+    data = _bytes(text)
+    return data, len(data)
+
+
+def _buffer(room: int) -> ctypes.Array:
+    # No pointer may be null, so that a buffer has at least a byte.
+    return (c_char * max(room, 1))()
+
+
+def _given(given: Fonts) -> tuple[ctypes.Array, int]:
+    pairs = list(given.items() if isinstance(given, Mapping) else given)
+    array = (_Font * max(len(pairs), 1))()
+    for at, (name, metrics) in enumerate(pairs):
+        array[at] = _Font(*_input(name), *_input(metrics))
+    if not pairs:
+        array[0] = _Font(b"", 0, b"", 0)
+    return array, len(pairs)
+
+
+def _one_text(call, room: int) -> str:
+    """The text of a call with one buffer, which is made again where the buffer is too small. A refusal is raised."""
+    size = c_size_t()
+    while True:
+        buffer = _buffer(room)
+        status = call(buffer, room, byref(size))
+        if status != BUFFER_TOO_SMALL:
+            break
+        room = size.value
+    if status > REFUSED:
+        _fail(status)
+    text = ctypes.string_at(buffer, size.value).decode("ascii")
+    if status == REFUSED:
+        raise _refusals(text)[0]
+    return text
+
+
+def version() -> str:
+    """The version of the library, such as "1.0.0"."""
+    number = _library().boxglue_version()
+    return f"{number // 10_000}.{number // 100 % 100}.{number % 100}"
+
+
+def run(script: Text, fonts: Fonts = ()) -> Run:
+    """Runs a script with these fonts.
+
+    A refused command is among the answers, and `accepted` is false then; `run(..).check()` raises it. Raises OutOfMemory or BadFontName.
+    """
+    lengths, text, given = _Lengths(), _input(script), _given(fonts)
+    rooms = _TEXT_ROOM, _DVI_ROOM
+    while True:
+        answers, dvi = map(_buffer, rooms)
+        status = _library().boxglue_run(*text, *given, answers, rooms[0], dvi, rooms[1], byref(lengths))
+        if status != BUFFER_TOO_SMALL:
+            break
+        rooms = lengths.answers, lengths.dvi
+    if status not in (ACCEPTED, REFUSED, REFUSED_MEMORY):
+        _fail(status)
+    said = ctypes.string_at(answers, lengths.answers).decode("ascii")
+    return Run(said, ctypes.string_at(dvi, lengths.dvi), status == ACCEPTED)
+
+
+def listing(dvi: bytes, fonts: Fonts = ()) -> str:
+    """The listing of the marks of all pages of a DVI file. Raises Refused, OutOfMemory or BadFontName."""
+    words = *_input(dvi), *_given(fonts)
+    return _one_text(lambda *room: _library().boxglue_list(*words, *room), _DVI_ROOM)
+
+
+def paint(dvi: bytes, fonts: Fonts = (), *, page: int = 1, dpi: int = 100, width: int = 850, height: int = 1100) -> Bitmap:
+    """Paints the rules of a page of a DVI file: a page counted from 1, pixels an inch, and the size of the bitmap in pixels, 1 to 10,000.
+
+    Raises Refused, NoSuchPage, OutOfRange, OutOfMemory or BadFontName.
+    """
+    if not all(0 <= it < 1 << 32 for it in (page, dpi, width, height)):
+        _fail(OUT_OF_RANGE)  # ctypes would cut it to 32 bits
+    words = *_input(dvi), *_given(fonts), page, dpi, width, height
+    room = len(f"P1\n{width} {height}\n") + (width + -(-width // 70)) * height if max(width, height) <= 10_000 else 0
+    return Bitmap(_one_text(lambda *buffer: _library().boxglue_paint(*words, *buffer), max(room, _TEXT_ROOM)))
+
+
+def fonts(dvi: bytes) -> list[DviFont]:
+    """The fonts that a DVI file defines after its pages, in the order of the file: their names are those that the other calls need.
+
+    It needs no metric files, and reads no page. Raises Refused or OutOfMemory.
+    """
+    given, sizes, rooms = _input(dvi), _FontSizes(), (_FONT_ROOM, _TEXT_ROOM)
+    while True:
+        rows, text = (_DviFont * max(rooms[0], 1))(), _buffer(rooms[1])
+        status = _library().boxglue_fonts(*given, rows, rooms[0], text, rooms[1], byref(sizes))
+        if status != BUFFER_TOO_SMALL:
+            break
+        rooms = sizes.fonts, sizes.text
+    if status > REFUSED:
+        _fail(status)
+    names = ctypes.string_at(text, sizes.text)
+    if status == REFUSED:
+        raise _refusals(names.decode("ascii"))[0]
+    name_of = lambda it: names[it.name_start:it.name_start + it.name_size].decode("utf-8", "surrogateescape")
+    return [DviFont(it.number, name_of(it), it.size) for it in rows[:sizes.fonts]]

@@ -1,0 +1,100 @@
+//! The typesetter for programs in C, and for languages that call C. Each function calls the one of its name in `boxglue_calls`, and states its clauses again;
+//! `include/boxglue.h` describes them for callers in C. A function has no `requires`: it returns a status for every input.
+#![tactic(auto)]
+
+ghost use Rattle.std.specs.Prelude.{◌≡◌, ◌↔◌, ◌⊎◌, false, true};
+ghost use Rattle.boxglue_calls.specs.Fonts.{are_named, files_of};
+ghost use Rattle.boxglue_calls.specs.FontTables.{HandsOverFonts};
+ghost use Rattle.boxglue_calls.specs.Pages.{HandsOverPages, is_in_range};
+ghost use Rattle.boxglue_calls.specs.Runs.{HandsOverRun, IsRun};
+ghost use Rattle.boxglue_print.specs.Outputs.{IsListed, IsPainted, LacksPage};
+
+use boxglue_calls::{DviFont, Font, FontSizes, Lengths};
+use std::alloc::Global;
+
+/// Runs a script with these fonts. The answers and the bytes of the DVI file go into the buffers, and the numbers of these bytes into `lengths`.
+#[unsafe(no_mangle)]
+pub extern "C" fn boxglue_run(
+    alloc: Global,
+    script: &[u8],
+    fonts: &[Font<'_>],
+    answers: &mut [u8],
+    dvi: &mut [u8],
+    lengths: &mut Lengths,
+) -> u32
+    ensures named { result ≡ 3 ↔ are_named fonts.now ≡ false }
+    ensures done { (result ≡ 2) ⊎ (result ≡ 3) ⊎ HandsOverRun (IsRun script.now (files_of fonts.now)) answers.old answers.new dvi.old dvi.new lengths.new result }
+    ensures answers { (result ≡ 2) ⊎ (result ≡ 3) → answers.new ≡ answers.old }
+    ensures dvi { (result ≡ 2) ⊎ (result ≡ 3) → dvi.new ≡ dvi.old }
+    ensures lengths { (result ≡ 2) ⊎ (result ≡ 3) → lengths.new ≡ lengths.old }
+{
+    boxglue_calls::run(alloc, script, fonts, answers, dvi, lengths)
+}
+
+/// Lists the marks of all pages of a DVI file with these fonts. The listing, or the line of the refusal, goes into `text`, and the number of its bytes into `size`.
+#[unsafe(no_mangle)]
+pub extern "C" fn boxglue_list(
+    alloc: Global,
+    dvi: &[u8],
+    fonts: &[Font<'_>],
+    text: &mut [u8],
+    size: &mut usize,
+) -> u32
+    ensures named { result ≡ 3 ↔ are_named fonts.now ≡ false }
+    ensures done { (result ≡ 2) ⊎ (result ≡ 3) ⊎ HandsOverPages (IsListed (files_of fonts.now) dvi.now) text.old text.new size.new result }
+    ensures text { (result ≡ 2) ⊎ (result ≡ 3) → text.new ≡ text.old }
+    ensures size { (result ≡ 2) ⊎ (result ≡ 3) → size.new ≡ size.old }
+{
+    boxglue_calls::list(alloc, dvi, fonts, text, size)
+}
+
+/// Paints the rules of a page of a DVI file with these fonts. Pages are counted from 1. The bitmap as plain PBM, or the line of the refusal, goes into `text`, and the
+/// number of its bytes into `size`.
+#[unsafe(no_mangle)]
+pub extern "C" fn boxglue_paint(
+    alloc: Global,
+    dvi: &[u8],
+    fonts: &[Font<'_>],
+    page: u32,
+    dpi: u32,
+    width: u32,
+    height: u32,
+    text: &mut [u8],
+    size: &mut usize,
+) -> u32
+    ensures named { result ≡ 3 ↔ are_named fonts.now ≡ false }
+    ensures range { result ≡ 6 ↔ ((are_named fonts.now ≡ true) × (is_in_range page dpi width height ≡ false)) }
+    ensures lacking { result ≡ 5 → LacksPage (files_of fonts.now) dvi.now page }
+    ensures found { LacksPage (files_of fonts.now) dvi.now page → are_named fonts.now ≡ true → is_in_range page dpi width height ≡ true → (result ≡ 2) ⊎ (result ≡ 5) }
+    ensures done { (result ≡ 2) ⊎ (result ≡ 3) ⊎ (result ≡ 5) ⊎ (result ≡ 6)
+        ⊎ HandsOverPages (IsPainted (files_of fonts.now) dvi.now page dpi width height) text.old text.new size.new result }
+    ensures text { (result ≡ 2) ⊎ (result ≡ 3) ⊎ (result ≡ 5) ⊎ (result ≡ 6) → text.new ≡ text.old }
+    ensures size { (result ≡ 2) ⊎ (result ≡ 3) ⊎ (result ≡ 5) ⊎ (result ≡ 6) → size.new ≡ size.old }
+{
+    boxglue_calls::paint(alloc, dvi, fonts, page, dpi, width, height, text, size)
+}
+
+/// Reads the fonts that a DVI file defines after its pages. They go into `fonts`, their names or the line of the refusal into `text`, and the numbers of both into `sizes`.
+#[unsafe(no_mangle)]
+pub extern "C" fn boxglue_fonts(
+    alloc: Global,
+    dvi: &[u8],
+    fonts: &mut [DviFont],
+    text: &mut [u8],
+    sizes: &mut FontSizes,
+) -> u32
+    ensures done { (result ≡ 2) ⊎ HandsOverFonts dvi.now fonts.old fonts.new text.old text.new sizes.new result }
+    ensures fonts { result ≡ 2 → fonts.new ≡ fonts.old }
+    ensures text { result ≡ 2 → text.new ≡ text.old }
+    ensures sizes { result ≡ 2 → sizes.new ≡ sizes.old }
+{
+    boxglue_calls::fonts(alloc, dvi, fonts, text, sizes)
+}
+
+/// The version of the library: 10,000 times the first of its three numbers, 100 times the second, and the third.
+#[unsafe(no_mangle)]
+pub extern "C" fn boxglue_version() -> u32
+    ensures { result ≡ 10000 }
+{
+    boxglue_calls::version()
+}

@@ -1,0 +1,135 @@
+-- The rows of fonts one after the other, and what a fault says of a file.
+use Rattle.std.proofs.Common.{◌≡◌, ◌≢◌, ◌<◌, ◌+◌, ◌-◌, ◌++◌, [], ◌∷◌, List, ℕ, Bool, false, get_or, length, map, take, inl, inr, Result, Ok, Err, IfOk, ap, ap₂, subst, ◌∙◌, sym, refl, arith, length-append, append-nil}
+use Rattle.std.proofs.lemmas.Grind.{flat_map-append}
+use Rattle.std.proofs.lemmas.List.{map_more}
+use Rattle.dvi_fonts.specs.Closing.{Closes, ClosesTo, IsClosingFault}
+use Rattle.dvi_fonts.proofs.ClosingLemmas.{broken_closing}
+use Rattle.dvi_scan.specs.declared.fault.FrameFault.{FrameFault}
+use Rattle.dvi_scan.specs.declared.fault.FrameFault.TheVariants as frames
+use Rattle.dvi_ops.proofs.Appends.{fonts_back}
+use Rattle.dvi_ops.specs.Fonts.{known_after}
+use Rattle.dvi_ops.specs.Instruction.{Definition}
+use Rattle.dvi_ops.specs.Tokens.{says}
+use Rattle.dvi_ops.specs.View.{definition, postamble}
+use Rattle.dvi_ops.specs.declared.op.FontDefinition.{FontDefinition}
+use Rattle.dvi_scan.proofs.KnownLemmas.{fonts_fewer, same_self}
+use Rattle.dvi_scan.proofs.PassedLemmas.{file_passed}
+use Rattle.boxglue_print.specs.Faults.{fault_line}
+use Rattle.dvi_read.proofs.FaultLemmas.{behind_within, no_fault}
+use Rattle.dvi_read.specs.Opened.{IsNoFile}
+use Rattle.dvi_read.specs.OpeningParts.{HasFront}
+use Rattle.dvi_read.specs.declared.before_pages.BeforePages.{BeforePages}
+use Rattle.dvi_read.specs.Faults.{of_frame}
+use Rattle.dvi_read.specs.declared.fault.DviFault.{DviFault}
+use Rattle.dvi_read.specs.declared.fault.DviFault.TheVariants.{OutOfMemory}
+use Rattle.tfm_core.specs.FileWidths.{file_widths}
+use Rattle.tfm_core.specs.NamedBytes.{NamedBytes}
+use Rattle.boxglue_calls.specs.Buffers.{HandsOverBoth}
+use Rattle.boxglue_calls.specs.FontTables.{BreaksFonts, DefinesFonts, HandsOverFonts, IsFontTable, names_of, row_at, rows_from}
+use Rattle.boxglue_calls.specs.Pages.{status_of}
+use Rattle.boxglue_calls.specs.declared.font_table.DviFont.{DviFont}
+use Rattle.boxglue_calls.specs.declared.font_table.FontSizes.{FontSizes}
+
+-- One font more.
+pub names_more : (fonts : List Definition) (font : Definition) → names_of (fonts ++ font ∷ []) ≡ names_of fonts ++ font.name
+names_more fonts font = flat_map-append (λ (d : Definition). d.name) fonts (font ∷ []) ∙ ap (λ (name : List ℕ). names_of fonts ++ name) (append-nil font.name)
+
+pub rows_more : (start : ℕ) (fonts : List Definition) (font : Definition) → rows_from start (fonts ++ font ∷ []) ≡ rows_from start fonts ++ row_at (start + length (names_of fonts)) font ∷ []
+rows_more start [] font =
+    let same : start ≡ start + 0 = omega arith in
+    ap (λ (n : ℕ). row_at n font ∷ []) same
+rows_more start (first ∷ rest) font =
+    let size = length-append first.name (names_of rest) in
+    let same : start + length first.name + length (names_of rest) ≡ start + length (first.name ++ names_of rest) = omega arith in
+    ap (λ (rows : List DviFont). row_at start first ∷ rows)
+    (rows_more (start + length first.name) rest font ∙ ap (λ (n : ℕ). rows_from (start + length first.name) rest ++ row_at n font ∷ []) same)
+
+-- One definition more.
+pub table_more : (fonts : List FontDefinition) (i : ℕ) (d : FontDefinition) → i < length fonts
+    → (rows_from 0 (map definition (take (i + 1) fonts))
+    ≡ rows_from 0 (map definition (take i fonts)) ++ row_at (length (names_of (map definition (take i fonts)))) (definition (get_or fonts i d)) ∷ [])
+    × (names_of (map definition (take (i + 1) fonts)) ≡ names_of (map definition (take i fonts)) ++ (get_or fonts i d).name.now)
+table_more fonts i d below =
+    let before = map definition (take i fonts) in
+    let here = definition (get_or fonts i d) in
+    let more = map_more definition fonts i d below in
+    let start : 0 + length (names_of before) ≡ length (names_of before) = omega arith in
+    (ap (λ (ds : List Definition). rows_from 0 ds) more ∙ (rows_more 0 before here ∙ ap (λ (n : ℕ). rows_from 0 before ++ row_at n here ∷ []) start), ap (λ (ds : List Definition). names_of ds) more ∙ names_more before here)
+
+pub table_step : (fonts : List FontDefinition) (i : ℕ) (d : FontDefinition) → i < length fonts → (rows rows_new : List DviFont) (names names_new : List ℕ)
+    → (rows ≡ rows_from 0 (map definition (take i fonts))) × (names ≡ names_of (map definition (take i fonts)))
+    → rows_new ≡ rows ++ row_at (length names) (definition (get_or fonts i d)) ∷ [] → names_new ≡ names ++ (get_or fonts i d).name.now
+    → (rows_new ≡ rows_from 0 (map definition (take (i + 1) fonts))) × (names_new ≡ names_of (map definition (take (i + 1) fonts)))
+table_step fonts i d below rows rows_new names names_new (rows_is, names_is) row name =
+    let more = table_more fonts i d below in
+    let here = definition (get_or fonts i d) in (
+      row ∙ (ap₂ (λ (before : List DviFont) (text : List ℕ). before ++ row_at (length text) here ∷ []) rows_is names_is ∙ sym more.0),
+      name ∙ (ap (λ (text : List ℕ). text ++ here.name) names_is ∙ sym more.1),
+    )
+
+-- The definitions after post, of which none was known before.
+pub defines : (bytes : List ℕ) (front : BeforePages) (old known fonts : List Definition) → old ≡ [] → HasFront bytes front → ClosesTo bytes front.ending.behind (front.ending.last - 5) old known → fonts ≡ known
+    → DefinesFonts bytes fonts
+defines bytes front old known fonts none starts closes same =
+    let all = subst (λ (ds : List Definition). ClosesTo bytes front.ending.behind (front.ending.last - 5) ds known) none closes in
+    record { front = front; starts = starts; closes = subst (λ (ds : List Definition). ClosesTo bytes front.ending.behind (front.ending.last - 5) [] ds) (sym same) all }
+
+pub breaks : (bytes : List ℕ) (front : BeforePages) (old new : List Definition) (frame : FrameFault) → old ≡ [] → HasFront bytes front
+    → IsClosingFault bytes front.ending.behind (front.ending.last - 5) old new frame → BreaksFonts bytes (of_frame frame)
+breaks bytes front old new frame none starts broken =
+    inr (front, new, frame, starts, subst (λ (ds : List Definition). IsClosingFault bytes front.ending.behind (front.ending.last - 5) ds new frame) none broken, refl)
+
+-- What is wrong after post.
+tail_fault : (files : List NamedBytes) (bytes : List ℕ) (front : BeforePages) (new : List Definition) (frame : FrameFault) (fault : DviFault) → fault ≢ OutOfMemory → HasFront bytes front
+    → IsClosingFault bytes front.ending.behind (front.ending.last - 5) [] new frame → fault ≡ of_frame frame → IsNoFile files bytes
+tail_fault files bytes front new frames.OutOfMemory fault other starts broken is pages f = other is
+tail_fault files bytes front new (frames.Bad bad) fault other starts broken is pages f =
+    let post = front.ending.post in
+    let behind = front.ending.behind in
+    let last = front.ending.last in
+    let stop = postamble front.ending.stop in
+    let framed = starts.chained.framed in
+    let passed = file_passed bytes post behind last stop front.chain.items framed (file_widths files) pages f in
+    let fonts = fonts_back [] (says passed.front) (says passed.tail) passed.fonts in
+    let closes : Closes bytes behind (last - 5) [] passed.tail =
+    record {
+      spelled = passed.tail_spelled;
+      whole = passed.tail_whole;
+      idle = passed.tail_is;
+      fonts = fonts_fewer (known_after [] (says passed.front)) [] (says passed.tail) passed.tail_is (λ d among. absurd among) fonts;
+    } in
+    broken_closing bytes behind (last - 5) [] new [] bad passed.tail (behind_within files bytes post behind last stop front.chain.items framed) (same_self []) broken closes
+
+-- A fault that is none of memory.
+pub no_file : (files : List NamedBytes) (bytes : List ℕ) (fault : DviFault) → fault ≢ OutOfMemory → BreaksFonts bytes fault → IsNoFile files bytes
+no_file files bytes fault other (inl broken) pages f = no_fault files bytes fault pages other (broken files) f
+no_file files bytes fault other (inr (front, new, frame, starts, broken, is)) pages f = tail_fault files bytes front new frame fault other starts broken is pages f
+
+-- The table of a file that is refused.
+pub refuses : (bytes : List ℕ) (rows : List DviFont) (text : List ℕ) (accepted : Bool) (fault : DviFault) → fault ≢ OutOfMemory → text ≡ fault_line fault → accepted ≡ false → rows ≡ []
+    → BreaksFonts bytes fault → IsFontTable bytes rows text accepted
+refuses bytes rows text accepted fault other text_is accepted_is rows_is broken =
+    inr (record { fault = fault; other = other; broken = broken; none = λ files. no_file files bytes fault other broken; text_is = text_is }, rows_is, accepted_is)
+
+-- A table that is handed over.
+pub handed_fonts : (bytes : List ℕ) (old new : List DviFont) (text_old text_new : List ℕ) (sizes : FontSizes) (done status : ℕ) (rows put : List DviFont) (text sent : List ℕ) (accepted : Bool)
+    → IsFontTable bytes rows text accepted → put ≡ rows → sent ≡ text → done ≡ status_of accepted → HandsOverBoth old new put text_old text_new sent done status
+    → sizes.fonts ≡ length rows → sizes.text ≡ length text → HandsOverFonts bytes old new text_old text_new sizes status
+handed_fonts bytes old new text_old text_new sizes done status rows put text sent accepted table put_is sent_is done_is handed fonts_size text_size =
+    record {
+      fonts = rows;
+      text = text;
+      accepted = accepted;
+      table = table;
+      handed =
+          subst (λ (items : List DviFont). HandsOverBoth old new items text_old text_new text (status_of accepted) status) put_is
+          (subst (λ (bytes : List ℕ). HandsOverBoth old new put text_old text_new bytes (status_of accepted) status) sent_is
+          (subst (λ (n : ℕ). HandsOverBoth old new put text_old text_new sent n status) done_is handed));
+      fonts_size = fonts_size;
+      text_size = text_size;
+    }
+
+-- What follows from what holds of the value in an Ok.
+pub then_of : {A E : Type 0} (r : Result A E) (P Q : A → Type 0) → ((x : A) → P x → Q x) → IfOk r P → IfOk r Q
+then_of (Ok x) P Q f p = f x p
+then_of (Err e) P Q f p = tt

@@ -1,0 +1,3 @@
+pub mod FontTableLaws
+pub mod PageLaws
+pub mod RunLaws

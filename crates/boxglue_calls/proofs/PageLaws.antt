@@ -1,0 +1,46 @@
+-- A file whose page is painted has that page, and what is handed over has a status that says so.
+use Rattle.std.proofs.Common.{◌≡◌, ◌⊎◌, ◌-◌, List, ℕ, Bool, true, false, length, ap, inl, inr, arith, ◌∙◌}
+use Rattle.std.proofs.lemmas.Option.{slice_get_within}
+use Rattle.dvi_ops.specs.File.{MarkedPage}
+use Rattle.dvi_ops.proofs.Frames.{one_list_of_pages}
+use Rattle.boxglue_print.specs.Outputs.{IsPainted, LacksPage}
+use Rattle.tfm_core.specs.FileWidths.{file_widths}
+use Rattle.tfm_core.specs.NamedBytes.{NamedBytes}
+use Rattle.boxglue_calls.specs.Buffers.{HandsOver}
+use Rattle.boxglue_calls.specs.Pages.{status_of}
+
+pub has_page : (files : List NamedBytes) (bytes : List ℕ) (page dpi width height : ℕ) (text : List ℕ) (accepted : Bool) → IsPainted files bytes page dpi width height text accepted
+    → LacksPage files bytes page → ⊥
+has_page files bytes page dpi width height text accepted (inl paints) lacks =
+    let same = ap (λ (pages : List MarkedPage). length pages) (one_list_of_pages (file_widths files) bytes paints.pages lacks.pages paints.file lacks.file) in
+    let within = slice_get_within paints.pages (page - 1) paints.shown paints.page_is in
+    let few = lacks.few in
+    absurd (omega arith)
+has_page files bytes page dpi width height text accepted (inr refuses) lacks = refuses.none lacks.pages lacks.file
+
+-- The status of what is handed over is 0, 1 or 4.
+done_small : (accepted : Bool) (done : ℕ) → done ≡ status_of accepted → (done ≡ 0) ⊎ (done ≡ 1)
+done_small true done is = inl is
+done_small false done is = inr is
+
+pub handed_status : (old new output : List ℕ) (accepted : Bool) (done status : ℕ) → done ≡ status_of accepted → HandsOver old new output done status → (status ≡ 0) ⊎ ((status ≡ 1) ⊎ (status ≡ 4))
+handed_status old new output accepted done status done_is (inr (few, kept, is)) = inr (inr is)
+handed_status old new output accepted done status done_is (inl (holds, is)) = by_done (done_small accepted done done_is)
+  where
+    by_done : (done ≡ 0) ⊎ (done ≡ 1) → (status ≡ 0) ⊎ ((status ≡ 1) ⊎ (status ≡ 4))
+    by_done (inl zero) = inl (is ∙ zero)
+    by_done (inr one) = inr (inl (is ∙ one))
+
+pub not_silent : (status : ℕ) → (status ≡ 0) ⊎ ((status ≡ 1) ⊎ (status ≡ 4)) → (status ≡ 2) ⊎ ((status ≡ 3) ⊎ ((status ≡ 5) ⊎ (status ≡ 6))) → ⊥
+not_silent status (inl a) (inl b) = absurd (omega arith)
+not_silent status (inl a) (inr (inl b)) = absurd (omega arith)
+not_silent status (inl a) (inr (inr (inl b))) = absurd (omega arith)
+not_silent status (inl a) (inr (inr (inr b))) = absurd (omega arith)
+not_silent status (inr (inl a)) (inl b) = absurd (omega arith)
+not_silent status (inr (inl a)) (inr (inl b)) = absurd (omega arith)
+not_silent status (inr (inl a)) (inr (inr (inl b))) = absurd (omega arith)
+not_silent status (inr (inl a)) (inr (inr (inr b))) = absurd (omega arith)
+not_silent status (inr (inr a)) (inl b) = absurd (omega arith)
+not_silent status (inr (inr a)) (inr (inl b)) = absurd (omega arith)
+not_silent status (inr (inr a)) (inr (inr (inl b))) = absurd (omega arith)
+not_silent status (inr (inr a)) (inr (inr (inr b))) = absurd (omega arith)

@@ -1,0 +1,19 @@
+-- What is read of the end of a file.
+use Rattle.std.proofs.Common.{map}
+use Rattle.dvi_scan.proofs.ErrLemmas.{handed_on}
+use Rattle.dvi_ops.specs.View.{definition}
+use Rattle.dvi_read.specs.Faults.{of_frame}
+use Rattle.boxglue_calls.specs.FontTables.{BreaksFonts}
+use Rattle.boxglue_calls.proofs.FontTableLaws.{breaks, defines}
+use Rattle.boxglue_calls.proofs.font_table.defined_fonts.Goals as goal
+
+pub returns-in_err-read_trailing_definitions-clause-bad : goal.returns-in_err-read_trailing_definitions-clause-bad
+returns-in_err-read_trailing_definitions-clause-bad c =
+    let frame = c.in_err-read_trailing_definitions.field-0.0 in
+    handed_on (BreaksFonts c.args.dvi.now) c.from_residual-in_err-read_trailing_definitions.result (of_frame frame) c.from_residual-in_err-read_trailing_definitions.ensures.1
+    (breaks c.args.dvi.now c.in_ok-ending.field-0 c.new-known.result c.read_trailing_definitions.new.known frame c.new-known.ensures c.in_ok-ending.ensures.ok c.in_err-read_trailing_definitions.ensures.bad)
+
+pub returns-clause-ok : goal.returns-clause-ok
+returns-clause-ok c =
+    defines c.args.dvi.now c.in_ok-ending.field-0 c.new-known.result c.read_trailing_definitions.new.known (map definition c.into_all.result.items) c.new-known.ensures c.in_ok-ending.ensures.ok c.in_ok-read_trailing_definitions.ensures.ok
+    c.into_all.ensures

@@ -1,0 +1,19 @@
+-- A page that is painted is there, and where one is painted the status is none of those that write nothing.
+use Rattle.std.proofs.Common.{Err, ap}
+use Rattle.boxglue_calls.specs.Fonts.{files_of}
+use Rattle.boxglue_calls.proofs.PageLaws.{handed_status, has_page, not_silent}
+use Rattle.boxglue_calls.proofs.pages.paint.Goals as goal
+
+pub returns-in-Ok-clause-found : goal.returns-in-Ok-clause-found
+returns-in-Ok-clause-found c =
+    let output = c.in-Ok.output in
+    λ lacks named range.
+    absurd (has_page (files_of c.args.fonts.now) c.args.dvi.now c.args.page c.args.dpi c.args.width c.args.height output.text.items output.accepted c.in-Ok.ensures.ok lacks)
+
+pub returns-in-Ok-clause-size : goal.returns-in-Ok-clause-size
+returns-in-Ok-clause-size c =
+    λ silent. absurd (not_silent c.hand_over.result (handed_status _ _ _ c.in-Ok.output.accepted _ c.hand_over.result c.file_status.ensures c.hand_over.ensures) silent)
+
+pub returns-in-Err-NoSuchPage-clause-lacking : goal.returns-in-Err-NoSuchPage-clause-lacking
+returns-in-Err-NoSuchPage-clause-lacking c =
+    λ five. c.in-Err-NoSuchPage.ensures.missing (ap (λ fault. Err fault) c.in-Err-NoSuchPage.field-0-is)

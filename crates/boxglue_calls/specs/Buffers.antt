@@ -1,0 +1,18 @@
+-- What goes into the buffers of a caller (own).
+use Rattle.std.specs.Prelude.{◌≡◌, ◌≤◌, ◌<◌, ◌⊎◌, ℕ, List, length, take, drop}
+
+-- The buffer begins with these items, and after them it is as it was.
+pub record Holds {A : Type 0} (old new items : List A) : Type 0 where
+  pub room : length items ≤ length old
+  pub front : take (length items) new ≡ items
+  pub rest : drop (length items) new ≡ drop (length items) old
+
+-- An output is handed over: the buffer holds it, and the status is that of the call; or the buffer is too small and as it was, and the status is 4.
+abbrev pub HandsOver : (old new output : List ℕ) → (done status : ℕ) → Type 0
+HandsOver old new output done status = (Holds old new output × (status ≡ done)) ⊎ ((length old < length output) × (new ≡ old) × (status ≡ 4))
+
+-- Two outputs are handed over: both buffers hold them, and the status is that of the call; or one buffer is too small, both are as they were, and the status is 4.
+abbrev pub HandsOverBoth : {A : Type 0} → (old new items : List A) → (text_old text_new text : List ℕ) → (done status : ℕ) → Type 0
+HandsOverBoth old new items text_old text_new text done status =
+    (Holds old new items × Holds text_old text_new text × (status ≡ done))
+    ⊎ (((length old < length items) ⊎ (length text_old < length text)) × (new ≡ old) × (text_new ≡ text_old) × (status ≡ 4))

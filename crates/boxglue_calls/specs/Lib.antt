@@ -1,0 +1,5 @@
+pub mod Buffers
+pub mod Fonts
+pub mod FontTables
+pub mod Pages
+pub mod Runs

@@ -1,0 +1,118 @@
+//! The pages of DVI files: their listing, and bitmaps of their rules.
+
+ghost use Rattle.std.specs.Prelude.{◌≡◌, ◌↔◌, ◌⊎◌, false, true, Err, IfOk};
+ghost use Rattle.boxglue_calls.specs.Fonts.{are_named, files_of};
+ghost use Rattle.boxglue_calls.specs.Pages.{HandsOverPages, is_in_range, status_of};
+ghost use Rattle.boxglue_print.specs.Outputs.{IsListed, IsPainted, LacksPage};
+ghost use Rattle.boxglue_print.specs.declared.output.PaintFault.TheVariants.{NoSuchPage};
+
+use crate::buffers::hand_over;
+use crate::given::{Font, are_named, font_files};
+use crate::status::{ACCEPTED, BAD_FONT_NAME, NO_SUCH_PAGE, OUT_OF_MEMORY, OUT_OF_RANGE, REFUSED};
+use boxglue_print::{Output, PaintFault, list_text, paint_text};
+use std::alloc::{AllocError, Global};
+
+/// The status of a DVI file that was read.
+pub(crate) fn file_status(accepted: bool) -> u32
+    ensures { result ≡ status_of accepted }
+{
+    if accepted { ACCEPTED } else { REFUSED }
+}
+
+/// The listing of a DVI file with these fonts, which have names, or the line of its refusal.
+fn listed(alloc: Global, dvi: &[u8], fonts: &[Font<'_>]) -> Result<Output, AllocError>
+    requires { are_named fonts.now ≡ true }
+    ensures { IfOk result (λ output. IsListed (files_of fonts.now) dvi.now output.text.items output.accepted) }
+{
+    let files = font_files(alloc, fonts)?;
+    list_text(alloc, dvi, &files)
+}
+
+/// Lists the marks of all pages of a DVI file with these fonts. The listing, or the line of the refusal, goes into `text`, and the number of its bytes into `size`.
+///
+/// Returns ACCEPTED or REFUSED, and then both are written; BUFFER_TOO_SMALL, and then `size` alone is written;
+/// OUT_OF_MEMORY or BAD_FONT_NAME, and then nothing is.
+pub fn list(alloc: Global, dvi: &[u8], fonts: &[Font<'_>], text: &mut [u8], size: &mut usize) -> u32
+    ensures named { result ≡ 3 ↔ are_named fonts.now ≡ false }
+    ensures done { (result ≡ 2) ⊎ (result ≡ 3) ⊎ HandsOverPages (IsListed (files_of fonts.now) dvi.now) text.old text.new size.new result }
+    ensures text { (result ≡ 2) ⊎ (result ≡ 3) → text.new ≡ text.old }
+    ensures size { (result ≡ 2) ⊎ (result ≡ 3) → size.new ≡ size.old }
+{
+    if !are_named(fonts) {
+        return BAD_FONT_NAME;
+    }
+    match listed(alloc, dvi, fonts) {
+        Ok(output) => {
+            *size = output.text.len();
+            hand_over(&output.text, text, file_status(output.accepted))
+        }
+        Err(AllocError) => OUT_OF_MEMORY,
+    }
+}
+
+/// Whether the numbers of a page are in their ranges: the page 1 or more, the pixels an inch at most 10,000, width and height 1 to 10,000.
+fn is_in_range(page: u32, dpi: u32, width: u32, height: u32) -> bool
+    ensures { result ≡ is_in_range page dpi width height }
+{
+    1 <= page && dpi <= 10_000 && 1 <= width && width <= 10_000 && 1 <= height && height <= 10_000
+}
+
+/// The bitmap of a page of a DVI file with these fonts, which have names, or the line of the file's refusal.
+fn painted(
+    alloc: Global,
+    dvi: &[u8],
+    fonts: &[Font<'_>],
+    page: u32,
+    dpi: u32,
+    width: u32,
+    height: u32,
+) -> Result<Output, PaintFault>
+    requires named { are_named fonts.now ≡ true }
+    requires range { is_in_range page dpi width height ≡ true }
+    ensures ok { IfOk result (λ output. IsPainted (files_of fonts.now) dvi.now page dpi width height output.text.items output.accepted) }
+    ensures missing { result ≡ Err NoSuchPage → LacksPage (files_of fonts.now) dvi.now page }
+{
+    let files = font_files(alloc, fonts)?;
+    paint_text(alloc, dvi, &files, page, dpi, width, height)
+}
+
+/// Paints the rules of a page of a DVI file with these fonts. Pages are counted from 1. The bitmap as plain PBM, or the line of the refusal, goes into `text`, and the
+/// number of its bytes into `size`.
+///
+/// Returns ACCEPTED or REFUSED, and then both are written; BUFFER_TOO_SMALL, and then `size` alone is written;
+/// OUT_OF_MEMORY, BAD_FONT_NAME, OUT_OF_RANGE or NO_SUCH_PAGE, and then nothing is.
+pub fn paint(
+    alloc: Global,
+    dvi: &[u8],
+    fonts: &[Font<'_>],
+    page: u32,
+    dpi: u32,
+    width: u32,
+    height: u32,
+    text: &mut [u8],
+    size: &mut usize,
+) -> u32
+    ensures named { result ≡ 3 ↔ are_named fonts.now ≡ false }
+    ensures range { result ≡ 6 ↔ ((are_named fonts.now ≡ true) × (is_in_range page dpi width height ≡ false)) }
+    ensures lacking { result ≡ 5 → LacksPage (files_of fonts.now) dvi.now page }
+    ensures found { LacksPage (files_of fonts.now) dvi.now page → are_named fonts.now ≡ true → is_in_range page dpi width height ≡ true → (result ≡ 2) ⊎ (result ≡ 5) }
+    ensures done { (result ≡ 2) ⊎ (result ≡ 3) ⊎ (result ≡ 5) ⊎ (result ≡ 6)
+        ⊎ HandsOverPages (IsPainted (files_of fonts.now) dvi.now page dpi width height) text.old text.new size.new result }
+    ensures text { (result ≡ 2) ⊎ (result ≡ 3) ⊎ (result ≡ 5) ⊎ (result ≡ 6) → text.new ≡ text.old }
+    ensures size { (result ≡ 2) ⊎ (result ≡ 3) ⊎ (result ≡ 5) ⊎ (result ≡ 6) → size.new ≡ size.old }
+{
+    if !are_named(fonts) {
+        return BAD_FONT_NAME;
+    }
+    if !is_in_range(page, dpi, width, height) {
+        return OUT_OF_RANGE;
+    }
+    match painted(alloc, dvi, fonts, page, dpi, width, height) {
+        Ok(output) => {
+            *size = output.text.len();
+            hand_over(&output.text, text, file_status(output.accepted))
+        }
+        Err(PaintFault::OutOfMemory) => OUT_OF_MEMORY,
+        Err(PaintFault::NoSuchPage) => NO_SUCH_PAGE,
+    }
+}

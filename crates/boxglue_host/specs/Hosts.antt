@@ -1,0 +1,47 @@
+-- What is known of a host, and the font files of a command line (own).
+use Rattle.std.specs.Prelude.{◌≡◌, ◌==◌, ◌++◌, ⊤, ℕ, not, List, [], ◌∷◌, Option, Some, None, if◌then◌else◌, Bool}
+use Rattle.tfm_core.specs.NamedBytes.{NamedBytes}
+use Rattle.boxglue_words.specs.declared.fonts.NamedPath.{NamedPath}
+use Rattle.boxglue_host.specs.Readings.{IsFileReading, IsUnreadableFile}
+use Rattle.boxglue_host.specs.declared.font_files.Unread.{Unread}
+use Rattle.boxglue_host.specs.declared.font_files.Unread.TheVariants.{OutOfMemory as WantsMemory, File}
+
+-- The bytes of a file that was just created: none, if they are known.
+abbrev pub begun : Option (List ℕ) → Option (List ℕ)
+begun None = None
+begun (Some bytes) = Some []
+
+-- What a file device reports: the bytes that the created file took; before its creation, no byte.
+abbrev pub written_to_file : Bool → Option (List ℕ) → Option (List ℕ)
+written_to_file is_open written = if is_open then written else begun written
+
+-- Whether a host has failed between two counts of its failures.
+abbrev pub has_failed : (before now : ℕ) → Bool
+has_failed before now = not (now == before)
+
+-- The file of a font: it has its name, and the bytes at its path.
+pub record IsFileOf (contents : List ℕ → Option (Option (List ℕ))) (font : NamedPath) (file : NamedBytes) : Type 0 where
+  pub name : file.name ≡ font.name
+  pub bytes : IsFileReading (contents font.path.now) file.bytes
+
+-- The files are those of the fonts, in order.
+abbrev pub AreFilesOf : (List ℕ → Option (Option (List ℕ))) → List NamedPath → List NamedBytes → Type 0
+AreFilesOf contents [] [] = ⊤
+AreFilesOf contents [] (file ∷ files) = ⊥
+AreFilesOf contents (font ∷ fonts) [] = ⊥
+AreFilesOf contents (font ∷ fonts) (file ∷ files) = IsFileOf contents font file × AreFilesOf contents fonts files
+
+-- The file of a font was not read: out of memory, or the file cannot be read and its path is named.
+abbrev pub IsUnreadOf : (List ℕ → Option (Option (List ℕ))) → NamedPath → Unread → Type 0
+IsUnreadOf contents font WantsMemory = ⊤
+IsUnreadOf contents font (File path) = (path.now ≡ font.path.now) × IsUnreadableFile (contents font.path.now)
+
+-- The file of a font was not read; those of the fonts before it were.
+pub record IsUnread (contents : List ℕ → Option (Option (List ℕ))) (fonts : List NamedPath) (fault : Unread) : Type 0 where
+  pub before : List NamedPath
+  pub files : List NamedBytes
+  pub font : NamedPath
+  pub after : List NamedPath
+  pub split : fonts ≡ before ++ (font ∷ after)
+  pub read : AreFilesOf contents before files
+  pub unread : IsUnreadOf contents font fault

@@ -1,0 +1,29 @@
+-- Readings of a host: each is whole, and ends at a limit (own).
+use Rattle.std.specs.Prelude.{◌≡◌, ◌≤◌, ◌<◌, ℕ, List, length, Option, Some, IfSome}
+use Rattle.boxglue_host.specs.declared.host.TheConstants.{READ_LIMIT}
+
+-- All bytes were read, if they are known, and they are not too many.
+pub record IsReading (contents : Option (List ℕ)) (bytes : List ℕ) : Type 0 where
+  pub all : IfSome contents (λ known. bytes ≡ known)
+  pub within : length bytes ≤ READ_LIMIT
+
+-- Nothing can be read: the bytes, if they are known, are too many.
+abbrev pub IsUnreadable : Option (List ℕ) → Type 0
+IsUnreadable contents = IfSome contents (λ known. READ_LIMIT < length known)
+
+-- All can be read: the bytes, if they are known, are not too many.
+abbrev pub IsReadable : Option (List ℕ) → Type 0
+IsReadable contents = IfSome contents (λ known. length known ≤ READ_LIMIT)
+
+-- A file was read: all its bytes, which are not too many. If the file is known, it exists.
+pub record IsFileReading (contents : Option (Option (List ℕ))) (bytes : List ℕ) : Type 0 where
+  pub all : IfSome contents (λ file. file ≡ Some bytes)
+  pub within : length bytes ≤ READ_LIMIT
+
+-- A file cannot be read: if it is known, it is missing or has too many bytes.
+abbrev pub IsUnreadableFile : Option (Option (List ℕ)) → Type 0
+IsUnreadableFile contents = IfSome contents IsUnreadable
+
+-- A file can be read: if it is known, it exists and does not have too many bytes.
+abbrev pub IsReadableFile : Option (Option (List ℕ)) → Type 0
+IsReadableFile contents = IfSome contents (λ file. (bytes : List ℕ) × (file ≡ Some bytes) × (length bytes ≤ READ_LIMIT))

@@ -1,0 +1,140 @@
+//! The device that writes a DVI file at a path.
+
+ghost use Rattle.std.specs.Prelude.{◌≡◌, ◌≢◌, ◌≤◌, ◌<◌, ◌+◌, [], false, true, length, take, IfOk, OnOk, OnErr};
+ghost use Rattle.std.specs.Option.{ForSome};
+ghost use Rattle.dvi_device.specs.Written.{written_then};
+ghost use Rattle.boxglue_host.specs.Hosts.{written_to_file};
+
+use crate::host::Host;
+use dvi_device::{Device, DeviceFault, Snapshot};
+
+/// A device that writes a file at a path of its host. It creates the file at its first write, so a script that ships nothing leaves an existing file alone.
+/// It fails exactly when its host does: when the file cannot be created or written.
+///
+/// The host is passed by value and returned by `into_host`: with a `&mut` inside the device no contract could speak of the caller's host afterwards.
+#[derive(Drop)]
+pub struct FileDevice<'a, H: Host> {
+    host: H,
+    start: Snapshot<H>,
+    path: &'a str,
+    is_open: bool,
+    failures: u64,
+    ghost used: { is_open ≡ true → failures ≡ 0 → ForSome (H.written host) (λ bytes. bytes ≢ []) },
+    ghost counted: { H.failures host ≡ H.failures start.seen + failures },
+}
+
+impl<'a, H: Host> FileDevice<'a, H> {
+    /// A device that has not created its file yet. It has reported no byte and has not failed.
+    pub fn new(host: H, path: &'a str) -> FileDevice<'a, H>
+        ensures host { result.host ≡ host }
+        ensures start { result.start.seen ≡ host }
+        ensures closed { result.is_open ≡ false }
+        ensures fine { result.failures ≡ 0 }
+    {
+        FileDevice {
+            start: Snapshot::of(&host),
+            host,
+            path,
+            is_open: false,
+            failures: 0,
+        }
+    }
+
+    /// Whether the file was created.
+    pub fn is_open(&self) -> bool
+        ensures { result ≡ self.now.is_open }
+    {
+        self.is_open
+    }
+
+    /// Returns the host, which has failed as often as the device. If the file was created and no write failed, the file has taken a byte.
+    pub fn into_host(self) -> H
+        ensures host { result ≡ self.entry.host }
+        ensures used { self.entry.is_open ≡ true → self.entry.failures ≡ 0 → ForSome (H.written result) (λ bytes. bytes ≢ []) }
+        ensures counted { H.failures result ≡ H.failures self.entry.start.seen + self.entry.failures }
+    {
+        self.host
+    }
+}
+
+/// Creates the file of a host, unless it was created before.
+fn open<H: Host>(host: &mut H, path: &str, is_open: &mut bool) -> Result<(), DeviceFault>
+    ensures bytes_written { written_to_file is_open.new (H.written host.new) ≡ written_to_file is_open.old (H.written host.old) }
+    ensures open { OnOk result (is_open.new ≡ true) }
+    ensures closed { is_open.new ≡ false → H.written host.new ≡ H.written host.old }
+    ensures stands { OnOk result (H.failures host.new ≡ H.failures host.old) }
+    ensures counted { OnErr result (H.failures host.new ≡ H.failures host.old + 1) }
+{
+    if *is_open {
+        return Ok(());
+    }
+    match host.create(path) {
+        Ok(()) => {
+            *is_open = true;
+            Ok(())
+        }
+        Err(_) => Err(DeviceFault),
+    }
+}
+
+/// Creates the file of a host, unless it was created before, and writes a piece.
+fn put<H: Host>(
+    host: &mut H,
+    path: &str,
+    is_open: &mut bool,
+    piece: &[u8],
+) -> Result<usize, DeviceFault>
+    requires some { 0 < length piece.now }
+    ensures within { IfOk result (λ n. (1 ≤ n) × (n ≤ length piece.now)) }
+    ensures taken { IfOk result (λ n. written_to_file is_open.new (H.written host.new) ≡ written_then (written_to_file is_open.old (H.written host.old)) (take n piece.now)) }
+    ensures none_taken { OnErr result (written_to_file is_open.new (H.written host.new) ≡ written_to_file is_open.old (H.written host.old)) }
+    ensures used { OnOk result (ForSome (H.written host.new) (λ bytes. bytes ≢ [])) }
+    ensures closed { is_open.new ≡ false → H.written host.new ≡ H.written host.old }
+    ensures stands { OnOk result (H.failures host.new ≡ H.failures host.old) }
+    ensures counted { OnErr result (H.failures host.new ≡ H.failures host.old + 1) }
+{
+    open(host, path, is_open)?;
+    match host.write(piece) {
+        Ok(count) => Ok(count),
+        Err(_) => Err(DeviceFault),
+    }
+}
+
+impl<H: Host> Device for FileDevice<'_, H> {
+    ghost use Rattle.std.specs.Prelude.{◌≡◌, ◌≤◌, ◌<◌, ◌+◌, ◌^◌, true, length, take, IfOk, OnOk, OnErr};
+    ghost use Rattle.dvi_device.specs.Beginnings.{begun_after};
+
+    ghost bytes_written = { λ device. written_to_file device.is_open (H.written device.host) };
+
+    ghost failed = { λ device. device.failures };
+
+    ghost began = { λ device. begun_after (H.failures device.start.seen) };
+
+    /// Fails exactly when its host does in this call: when it creates the file, or in the write. Until the file is created, the host reports of it what it
+    /// reported before.
+    fn write(&mut self, piece: &[u8]) -> Result<usize, DeviceFault>
+        requires some { 0 < length piece.now }
+        requires countable { self.old.failures + 1 < 2 ^ 64 }
+        ensures within { IfOk result (λ n. (1 ≤ n) × (n ≤ length piece.now)) }
+        ensures taken { IfOk result (λ n. written_to_file self.new.is_open (H.written self.new.host) ≡ written_then (written_to_file self.old.is_open (H.written self.old.host)) (take n piece.now)) }
+        ensures stands { OnOk result (self.new.failures ≡ self.old.failures) }
+        ensures none_taken { OnErr result (written_to_file self.new.is_open (H.written self.new.host) ≡ written_to_file self.old.is_open (H.written self.old.host)) }
+        ensures counted { OnErr result (self.new.failures ≡ self.old.failures + 1) }
+        ensures fine { OnOk result (H.failures self.new.host ≡ H.failures self.old.host) }
+        ensures blamed { OnErr result (H.failures self.new.host ≡ H.failures self.old.host + 1) }
+        ensures start { self.new.start ≡ self.old.start }
+        ensures closed { self.new.is_open ≡ false → H.written self.new.host ≡ H.written self.old.host }
+    {
+        match put(&mut self.host, self.path, &mut self.is_open, piece) {
+            Ok(count) => Ok(count),
+            Err(fault) => {
+                self.failures += 1;
+                Err(fault)
+            }
+        }
+    }
+
+    fn failures(&self) -> u64 {
+        self.failures
+    }
+}

@@ -1,0 +1,75 @@
+//! The font files that a command line names.
+
+ghost use Rattle.std.specs.Prelude.{◌++◌, ◌∷◌, [], List, IfOk, IfErr, OnOk};
+ghost use Rattle.boxglue_host.specs.Hosts.{AreFilesOf, IsFileOf, IsUnread, IsUnreadOf};
+
+use crate::host::{Host, HostFault};
+use boxglue_words::NamedPath;
+use std::alloc::Global;
+use tfm_core::FontFile;
+
+/// Why font files were not read.
+#[derive(Debug, Drop)]
+pub enum Unread<'a> {
+    /// A growth of memory was refused.
+    OutOfMemory,
+    /// The file at this path could not be read.
+    File(&'a str),
+}
+
+/// The file of a font.
+fn read_font<'a, H: Host>(
+    alloc: Global,
+    host: &H,
+    font: &NamedPath<'a>,
+) -> Result<FontFile, Unread<'a>>
+    ensures ok { IfOk result (IsFileOf (H.file host.now) font.now) }
+    ensures err { IfErr result (IsUnreadOf (H.file host.now) font.now) }
+{
+    let bytes = match host.read_file(alloc, font.path) {
+        Ok(bytes) => bytes,
+        Err(HostFault::OutOfMemory) => return Err(Unread::OutOfMemory),
+        Err(HostFault::Failed) => return Err(Unread::File(font.path)),
+    };
+    match font.name.copy(alloc) {
+        Ok(name) => Ok(FontFile::new(name, bytes)),
+        Err(_) => Err(Unread::OutOfMemory),
+    }
+}
+
+/// Appends the file of a font.
+fn push_font<'a, H: Host>(
+    alloc: Global,
+    host: &H,
+    font: &NamedPath<'a>,
+    files: &mut Vec<FontFile>,
+) -> Result<(), Unread<'a>>
+    ensures ok { (before : List NamedPath) → AreFilesOf (H.file host.now) before files.old.items → OnOk result (AreFilesOf (H.file host.now) (before ++ font.now ∷ []) files.new.items) }
+    ensures err { IfErr result (IsUnreadOf (H.file host.now) font.now) }
+{
+    let file = read_font(alloc, host, font)?;
+    let Ok(()) = files.push(file) else {
+        return Err(Unread::OutOfMemory);
+    };
+    Ok(())
+}
+
+/// Reads the files of fonts, in order.
+///
+/// Errors: File with the path of the first one that cannot be read, OutOfMemory for a refused growth. The files after it are not read.
+pub fn read_fonts<'a, H: Host>(
+    alloc: Global,
+    host: &H,
+    fonts: &[NamedPath<'a>],
+) -> Result<Vec<FontFile>, Unread<'a>>
+    ensures ok { IfOk result (λ files. AreFilesOf (H.file host.now) fonts.now files.items) }
+    ensures err { IfErr result (IsUnread (H.file host.now) fonts.now) }
+{
+    let mut files = Vec::new(alloc);
+    for font in fonts {
+        if let Err(fault) = push_font(alloc, host, font, &mut files) {
+            return Err(fault);
+        }
+    }
+    Ok(files)
+}

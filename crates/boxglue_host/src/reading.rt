@@ -1,0 +1,63 @@
+//! Reading to the end.
+
+ghost use Rattle.std.specs.Prelude.{◌≡◌, ◌≢◌, ◌≤◌, ◌<◌, ◌+◌, ◌++◌, length, IfOk, IfErr, OnOk};
+ghost use Rattle.std.specs.Io.KnownBytes.{Consumes, IsAtEnd};
+ghost use Rattle.std.specs.IoError.{error_kind};
+ghost use Rattle.boxglue_host.specs.declared.host.TheConstants.{READ_LIMIT};
+
+use crate::host::{HostFault, READ_LIMIT};
+use std::alloc::Global;
+use std::io::{Error, ErrorKind, Read};
+
+/// How many bytes one call asks for.
+const BUFFER: usize = 65_536;
+
+/// Reads all bytes that a reader has left. A call that was interrupted is made again.
+///
+/// Errors: Failed if a call fails, or if the end is not reached within `READ_LIMIT` bytes and as many calls, which bounds the loop; OutOfMemory for a
+/// refused growth.
+pub fn read_all<R: Read>(alloc: Global, reader: &mut R) -> Result<Vec<u8>, HostFault>
+    ensures all { IfOk result (λ bytes. Consumes (R.remaining reader.old) (R.remaining reader.new) bytes.items) }
+    ensures end { IfOk result (λ bytes. IsAtEnd (R.remaining reader.new)) }
+    ensures within { IfOk result (λ bytes. length bytes.items ≤ READ_LIMIT) }
+{
+    let mut bytes = Vec::new(alloc);
+    let mut buffer = [0u8; BUFFER];
+    for _ in 0..READ_LIMIT {
+        match reader.read(&mut buffer) {
+            Ok(0) => return Ok(bytes),
+            Ok(count) => push_piece(&mut bytes, &buffer[..count])?,
+            Err(fault) => refuse_unless_interrupted(&fault)?,
+        }
+    }
+    Err(HostFault::Failed)
+}
+
+/// Appends a piece to the bytes before it. Failed if that is too much, and then only; OutOfMemory if memory is refused.
+fn push_piece(bytes: &mut Vec<u8>, piece: &[u8]) -> Result<(), HostFault>
+    requires bytes_bounded { length bytes.old.items ≤ READ_LIMIT }
+    ensures ok { OnOk result (bytes.new.items ≡ bytes.old.items ++ piece.now) }
+    ensures within { OnOk result (length bytes.new.items ≤ READ_LIMIT) }
+    ensures failed { result ≡ Err HostFault.Failed → READ_LIMIT < length bytes.old.items + length piece.now }
+    ensures memory { result ≡ Err HostFault.OutOfMemory → length bytes.old.items + length piece.now ≤ READ_LIMIT }
+{
+    if piece.len() > READ_LIMIT - bytes.len() {
+        return Err(HostFault::Failed);
+    }
+    match bytes.extend_from_slice(piece) {
+        Ok(()) => Ok(()),
+        Err(_) => Err(HostFault::OutOfMemory),
+    }
+}
+
+/// Reports that a call failed, unless it was only interrupted.
+pub(crate) fn refuse_unless_interrupted(fault: &Error) -> Result<(), HostFault>
+    ensures again { OnOk result (error_kind fault.now ≡ ErrorKind.Interrupted) }
+    ensures refused { IfErr result (λ refusal. (refusal ≡ HostFault.Failed) × (error_kind fault.now ≢ ErrorKind.Interrupted)) }
+{
+    if fault.kind() == ErrorKind::Interrupted {
+        Ok(())
+    } else {
+        Err(HostFault::Failed)
+    }
+}

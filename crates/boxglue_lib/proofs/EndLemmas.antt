@@ -1,0 +1,227 @@
+-- Texts that are written one after the other, and messages after a task.
+use Rattle.std.proofs.Common.{◌≡◌, ◌⊎◌, ap, append_assoc, false, true, ◌++◌, ◌+◌, ℕ, Bool, List, length, take, Option, Some, None, Result, Ok, Err, OnOk, OnErr, inl, inr, refl, sym, ◌∙◌, subst, arith}
+use Rattle.std.proofs.Math.Seq.{take-append-add}
+use Rattle.std.proofs.lemmas.List.{take-append-le, length-append}
+use Rattle.std.specs.Borrow.{Bor}
+use Rattle.std.specs.Io.KnownBytes.{Appends, Keeps}
+use Rattle.std.specs.Prelude.{◌==◌, not, [], IfSome, IsSome}
+use Rattle.std.proofs.lemmas.Bool.{eq-eqb, eqb-true}
+use Rattle.dvi_device.specs.Beginnings.{Beginning, begun_after}
+use Rattle.boxglue_host.specs.Hosts.{AreFilesOf, has_failed, written_to_file}
+use Rattle.tfm_core.specs.NamedBytes.{NamedBytes}
+use Rattle.boxglue_host.specs.declared.font_files.Unread.{Unread}
+use Rattle.boxglue_host.specs.declared.font_files.Unread.TheVariants.{OutOfMemory as WantsMemory, File}
+use Rattle.boxglue_words.specs.declared.fonts.NamedPath.{NamedPath}
+use Rattle.boxglue_lib.specs.Inputs.{IsUnreadScript}
+use Rattle.boxglue_lib.specs.Parts.{TellsOutput, end_of}
+use Rattle.boxglue_host.specs.Readings.{IsReading}
+use Rattle.boxglue_lib.specs.Typesets.{HasTypeset, IsLeftAlone, IsLeftToFile, IsToFile, IsTypeset, IsUsed, TellsUnwritten}
+use Rattle.boxglue_program.specs.Runs.{IsUntouched, RanScript, RefusedScript, WasRunWhole, WritesFront, memory_line}
+use Rattle.boxglue_program.proofs.WritingLemmas.{appends_both, appends_keeps, keeps_appends, keeps_front}
+use Rattle.boxglue_lib.specs.Ends.{EndsOutput, EndsTask, TaskHasEnded, TakesText, TellsErrors, status_of}
+use Rattle.boxglue_lib.specs.declared.task_end.TaskEnd.{TaskEnd}
+use Rattle.boxglue_lib.specs.declared.task_end.TaskEnd.TheVariants.{Printed, Unwritten, OutOfMemory, Unreadable, NoSuchPage}
+
+pub ok_then : {A E : Type 0} {P Q : Type 0} (r : Result A E) → OnOk r P → (P → Q) → OnOk r Q
+ok_then (Ok x) h f = f h
+ok_then (Err e) h f = tt
+
+pub err_then : {A E : Type 0} {P Q : Type 0} (r : Result A E) → OnErr r P → (P → Q) → OnErr r Q
+err_then (Ok x) h f = tt
+err_then (Err e) h f = f h
+
+pub said_of_err : {A E : Type 0} {P : Type 0} (r : Result A E) → P → OnErr r P
+said_of_err (Ok x) h = tt
+said_of_err (Err e) h = h
+
+-- A beginning of a text is one of a longer text.
+pub front_more : (old new : Option (List ℕ)) (a b : List ℕ) → WritesFront old new a → WritesFront old new (a ++ b)
+front_more old new a b front = (
+  front.0,
+  omega (arith, length-append a b, front.1),
+  subst (λ (text : List ℕ). Appends old new text) (sym (take-append-le front.0 a b (omega (arith, front.1)))) front.2,
+)
+
+-- A beginning of a text, after another text.
+pub front_behind : (old mid new : Option (List ℕ)) (a b : List ℕ) → Appends old mid a → WritesFront mid new b → WritesFront old new (a ++ b)
+front_behind old mid new a b h front = (
+  length a + front.0,
+  omega (arith, length-append a b, front.1),
+  subst (λ (text : List ℕ). Appends old new text) (sym (take-append-add a b front.0)) (appends_both old mid new a (take front.0 b) h front.2),
+)
+
+-- A beginning of a piece, after what was written before it.
+pub front_of_pieces : (old mid new : Option (List ℕ)) (taken piece rest whole : List ℕ) → taken ++ (piece ++ rest) ≡ whole → Appends old mid taken → WritesFront mid new piece
+    → WritesFront old new whole
+front_of_pieces old mid new taken piece rest whole is before front =
+    subst (λ (text : List ℕ). WritesFront old new text) is (front_behind old mid new taken (piece ++ rest) before (front_more mid new piece rest front))
+
+-- A piece was written, and the rest is still to come.
+pub piece_written : (old mid new : Option (List ℕ)) (piece ahead rest whole : List ℕ) → ahead ≡ piece ++ rest → Appends mid new piece
+    → (taken : List ℕ) × Appends old mid taken × (taken ++ ahead ≡ whole) → (taken : List ℕ) × Appends old new taken × (taken ++ rest ≡ whole)
+piece_written old mid new piece ahead rest whole is written (taken, before, same) = (
+  taken ++ piece,
+  appends_both old mid new taken piece before written,
+  append_assoc taken piece rest ∙ (ap (λ (text : List ℕ). taken ++ text) (sym is) ∙ same),
+)
+
+-- Known bytes that stay twice.
+pub keeps_twice : (old mid new : Option (List ℕ)) → Keeps old mid → Keeps mid new → Keeps old new
+keeps_twice None mid new h i = tt
+keeps_twice (Some xs) None new h i = absurd h
+keeps_twice (Some xs) (Some ys) None h i = absurd i
+keeps_twice (Some xs) (Some ys) (Some zs) h i = i ∙ h
+
+-- A beginning of a text, and then nothing.
+pub front_keeps : (old mid new : Option (List ℕ)) (a : List ℕ) → WritesFront old mid a → Keeps mid new → WritesFront old new a
+front_keeps old mid new a front h = (front.0, front.1, appends_keeps old mid new (take front.0 a) front.2 h)
+
+-- Nothing, and then a text or a beginning of it.
+pub keeps_takes : (old mid new : Option (List ℕ)) (a : List ℕ) → Keeps old mid → TakesText mid new a → TakesText old new a
+keeps_takes old mid new a h (inl all) = inl (keeps_appends old mid new a h all)
+keeps_takes old mid new a h (inr front) = inr (keeps_front old mid new a h front)
+
+-- What a task has printed, and what the output takes after it.
+pub output_then : (IsAnswer : List ℕ → Bool → Type 0) (IsUnread : Bor (List ℕ) → Type 0) (LacksPage : Type 0) (end : TaskEnd) (old mid new : Option (List ℕ))
+    → EndsTask IsAnswer IsUnread LacksPage end old mid → TellsOutput end mid new → EndsOutput IsAnswer IsUnread LacksPage end old new
+output_then A U L (Printed fine) old mid new ended reported = (ended.0, ended.1, appends_keeps old mid new ended.0 ended.2 reported)
+output_then A U L Unwritten old mid new ended reported = (ended.0, ended.1, ended.2, front_keeps old mid new ended.0 ended.3 reported)
+output_then A U L OutOfMemory old mid new ended reported = keeps_takes old mid new memory_line ended reported
+output_then A U L (Unreadable path) old mid new ended reported = (ended.0, keeps_twice old mid new ended.1 reported)
+output_then A U L NoSuchPage old mid new ended reported = (ended.0, keeps_twice old mid new ended.1 reported)
+
+-- What is known of a device that writes a file, in terms of a script that was typeset.
+pub answered_to_file : (text : List ℕ) (files : List NamedBytes) (start : ℕ) (begun : Bool) (failures : ℕ) (back : Option (List ℕ)) (Same Kept : Type 0) (answer : List ℕ) (fine created done : Bool) (written : Option (List ℕ))
+    → start ≡ 0 → created ≡ begun → done ≡ (failures == 0) → written ≡ back → (Same → begun ≡ false) → (Same → failures ≡ 0) → (Same → Kept)
+    → IsUsed created done written → RanScript text files start failures (written_to_file begun back) answer fine ⊎ (RefusedScript text answer fine × Same) → IsToFile text files written Kept created done answer fine
+answered_to_file text files start begun failures back Same Kept answer fine created done written fresh opened counted kept closed none same used (inl ran) =
+    let at_start = subst (λ (n : ℕ). RanScript text files n failures (written_to_file begun back) answer fine) fresh ran in
+    let at_open = subst (λ (is : Bool). RanScript text files 0 failures (written_to_file is back) answer fine) (sym opened) at_start in
+    inl (failures, subst (λ (bytes : Option (List ℕ)). RanScript text files 0 failures (written_to_file created bytes) answer fine) (sym kept) at_open, counted, used)
+answered_to_file text files start begun failures back Same Kept answer fine created done written fresh opened counted kept closed none same used (inr refused) =
+    inr (
+      refused.0,
+      record { same = same refused.1; closed = opened ∙ closed refused.1; silent = counted ∙ ap (λ (n : ℕ). n == 0) (none refused.1) },
+    )
+
+-- What is known of such a device if memory was refused.
+pub left_to_file : (text : List ℕ) (files : List NamedBytes) (start : ℕ) (begun : Bool) (failures : ℕ) (back : Option (List ℕ)) (created done : Bool) (written : Option (List ℕ))
+    → start ≡ 0 → created ≡ begun → done ≡ (failures == 0) → written ≡ back → IsUsed created done written
+    → IsUntouched start failures (written_to_file begun back) ⊎ WasRunWhole text files start failures (written_to_file begun back) → IsLeftToFile text files written created done
+left_to_file text files start begun failures back created done written fresh opened counted kept used left =
+    let at_start = subst
+    (λ (n : ℕ). IsUntouched n failures (written_to_file begun back) ⊎ WasRunWhole text files n failures (written_to_file begun back)) fresh left in
+    let at_open = subst
+    (λ (is : Bool). IsUntouched 0 failures (written_to_file is back) ⊎ WasRunWhole text files 0 failures (written_to_file is back)) (sym opened) at_start in (
+      failures,
+      subst (λ (bytes : Option (List ℕ)). IsUntouched 0 failures (written_to_file created bytes) ⊎ WasRunWhole text files 0 failures (written_to_file created bytes)) (sym kept) at_open,
+      counted,
+      used,
+    )
+
+-- A task has ended, and its end was reported.
+pub has_ended : (IsAnswer : List ℕ → Bool → Type 0) (IsUnread : Bor (List ℕ) → Type 0) (LacksPage : Type 0) (end : TaskEnd) (old mid new errors errors' : Option (List ℕ)) (status : ℕ)
+    → EndsTask IsAnswer IsUnread LacksPage end old mid → TellsOutput end mid new → TellsErrors end errors errors' → status ≡ status_of end
+    → TaskHasEnded IsAnswer IsUnread LacksPage old new errors errors' status
+has_ended A U L end old mid new errors errors' status ended said reported is = record {
+  end = end;
+  printed = output_then A U L end old mid new ended said;
+  reported = reported;
+  status_is = is;
+}
+
+-- An answer under a weaker definition.
+pub ends_weaker : (A B : List ℕ → Bool → Type 0) (U V : Bor (List ℕ) → Type 0) (L : Type 0) (end : TaskEnd) (old new : Option (List ℕ))
+    → ((text : List ℕ) (fine : Bool) → A text fine → B text fine) → ((path : Bor (List ℕ)) → U path → V path) → EndsTask A U L end old new → EndsTask B V L end old new
+ends_weaker A B U V L (Printed fine) old new f u h = (h.0, f h.0 fine h.1, h.2)
+ends_weaker A B U V L Unwritten old new f u h = (h.0, h.1, f h.0 h.1 h.2, h.3)
+ends_weaker A B U V L OutOfMemory old new f u h = h
+ends_weaker A B U V L (Unreadable path) old new f u h = (u path h.0, h.1)
+ends_weaker A B U V L NoSuchPage old new f u h = h
+
+-- Files that were not read, and the report of it.
+pub unread_output : (A : List ℕ → Bool → Type 0) (reported : List ℕ → Option (Option (List ℕ))) (input : Option (List ℕ)) (fonts : List NamedPath) (fault : Unread) (Alone : Type 0) (old new : Option (List ℕ))
+    → Alone → IsUnreadScript reported input fonts fault → TellsOutput (end_of fault) old new
+    → EndsOutput A (λ path. IsUnreadScript reported input fonts (File path) × Alone) ⊥ (end_of fault) old new
+unread_output A reported input fonts WantsMemory Alone old new alone unread said = said
+unread_output A reported input fonts (File path) Alone old new alone unread said = ((unread, alone), said)
+
+-- Known bytes stay the same if nothing happens.
+pub keeps_same : (known : Option (List ℕ)) → Keeps known known
+keeps_same None = tt
+keeps_same (Some bytes) = refl
+
+-- A script was typeset, and its end was reported.
+pub typeset_ended : (reported : List ℕ → Option (Option (List ℕ))) (input : Option (List ℕ)) (fonts : List NamedPath) (out : List ℕ) (written : Option (List ℕ)) (has_failed : Bool) (Same : Type 0) (created done : Bool)
+    (text : List ℕ) (files : List NamedBytes) (end : TaskEnd) (old mid new errors between errors' : Option (List ℕ)) (status : ℕ)
+    → IsReading input text → AreFilesOf reported fonts files → EndsTask (IsToFile text files written Same created done) (λ path. ⊥) ⊥ end old mid
+    → (end ≡ OutOfMemory → IsLeftToFile text files written created done) → TellsUnwritten done out errors between → has_failed ≡ not done → TellsOutput end mid new → TellsErrors end between errors' → status ≡ status_of end
+    → HasTypeset reported input fonts out written has_failed Same old new errors errors' status
+typeset_ended reported input fonts out written has_failed Same created done text files end old mid new errors between errors' status read filed ended left unwritten blamed said end_written is =
+    let A : List ℕ → Bool → Type 0 = IsTypeset reported input fonts written Same created done in
+    let U : Bor (List ℕ) → Type 0 = λ path. IsUnreadScript reported input fonts (File path) × IsLeftAlone Same created done in
+    record {
+      end = end;
+      created = created;
+      done = done;
+      printed = output_then A U ⊥ end old mid new
+          (ends_weaker (IsToFile text files written Same created done) A (λ path. ⊥) U ⊥ end old mid
+          (λ answer fine to. (text, files, read, filed, to)) (λ path none. absurd none) ended) said;
+      wanting = λ wants. inr (text, files, read, filed, left wants);
+      middle = between;
+      unwritten = unwritten;
+      blamed = blamed;
+      contents_is = end_written;
+      status_is = is;
+    }
+
+-- Truth values that follow from each other are equal.
+same_truth : (a b : Bool) → (a ≡ true → b ≡ true) → (b ≡ true → a ≡ true) → a ≡ b
+same_truth true true f g = refl
+same_truth true false f g = sym (f refl)
+same_truth false true f g = g refl
+same_truth false false f g = refl
+
+-- A host has failed since a count if and only if its count has grown.
+grown_count : (start k : ℕ) → (start + k == start) ≡ (k == 0)
+grown_count start k =
+    same_truth (start + k == start) (k == 0) (λ is. eq-eqb k 0 (omega (arith, eqb-true (start + k) start is)))
+    (λ is. eq-eqb (start + k) start (omega (arith, eqb-true k 0 is)))
+
+-- A host that is as it was has not failed since.
+pub unfailed : (count : ℕ) → has_failed count count ≡ false
+unfailed count = ap not (eq-eqb count count refl)
+
+-- A file did not take all if its host has failed since its device was made.
+pub failed_since : (before now start k : ℕ) (done : Bool) (began : Beginning) → begun_after start ≡ began → began ≡ begun_after before → now ≡ start + k → done ≡ (k == 0)
+    → has_failed before now ≡ not done
+failed_since before now start k done began one other counted is =
+    let same : start ≡ before = ap (λ (b : Beginning). b.failed) (one ∙ other) in
+    ap (λ (n : ℕ). not (n == before)) (counted ∙ ap (λ (n : ℕ). n + k) same) ∙ (ap not (grown_count before k) ∙ ap not (sym is))
+
+-- The input of `typeset` was not read, and that was reported.
+pub not_typeset : (reported : List ℕ → Option (Option (List ℕ))) (input : Option (List ℕ)) (fonts : List NamedPath) (out : List ℕ) (written : Option (List ℕ)) (has_failed : Bool) (Same : Type 0)
+    (fault : Unread) (old new errors errors' : Option (List ℕ)) (status : ℕ)
+    → Same → has_failed ≡ false → IsUnreadScript reported input fonts fault → TellsOutput (end_of fault) old new → TellsErrors (end_of fault) errors errors' → status ≡ status_of (end_of fault)
+    → HasTypeset reported input fonts out written has_failed Same old new errors errors' status
+not_typeset reported input fonts out written has_failed Same fault old new errors errors' status same blamed unread said end_written is =
+    let alone : IsLeftAlone Same false true = record { same = same; closed = refl; silent = refl } in
+    record {
+      end = end_of fault;
+      created = false;
+      done = true;
+      printed = unread_output (IsTypeset reported input fonts written Same false true) reported input fonts fault (IsLeftAlone Same false true) old new alone unread said;
+      wanting = λ _. inl alone;
+      middle = errors;
+      unwritten = keeps_same errors;
+      blamed = blamed;
+      contents_is = end_written;
+      status_is = is;
+    }
+
+-- A file whose script made no page, or for which nothing was run, was not created, if it is known what it took and no write failed.
+pub not_created : (created done : Bool) (written : Option (List ℕ)) → IsUsed created done written → done ≡ true → IsSome written → IfSome (written_to_file created written) (λ bytes. bytes ≡ [])
+    → created ≡ false
+not_created false done written used fine reported empty = refl
+not_created true done None used fine reported empty = cc
+not_created true done (Some bytes) used fine reported empty = absurd (used refl fine bytes refl empty)

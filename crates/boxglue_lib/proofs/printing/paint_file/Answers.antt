@@ -1,0 +1,45 @@
+-- The line of the refusal, or the pieces of the bitmap: all of it, or a beginning.
+use Rattle.std.proofs.Common.{true, inl, inr, refl}
+use Rattle.raster_core.specs.PlainText.{pbm}
+use Rattle.boxglue_print.proofs.PrintLemmas.{paints, refuses}
+use Rattle.boxglue_lib.proofs.printing.paint_file.Goals as goal
+
+pub returns-in_err-write_text-in-Err-clause-unwritten : goal.returns-in_err-write_text-in-Err-clause-unwritten
+returns-in_err-write_text-in-Err-clause-unwritten g c said =
+    let refusal = c.in_ok-text-in-Err in
+    let output = refusal.field-0 in
+    let front = rw c.deref.ensures.value at c.in_err-write_text-in-Err.ensures.front in (
+      output.text.items,
+      output.accepted,
+      inr (refuses c.args.files.now c.args.dvi.now output.text.items c.in-Err.fault output.accepted refusal.ensures.other c.in-Err.ensures.bad c.in-Err.ensures.refused
+          refusal.ensures.text refusal.ensures.refused),
+      front,
+    )
+
+pub returns-in-Err-clause-painted : goal.returns-in-Err-clause-painted
+returns-in-Err-clause-painted g c =
+    let refusal = c.in_ok-text-in-Err in
+    let output = refusal.field-0 in
+    let written = rw c.deref.ensures.value at c.in_ok-write_text-in-Err.ensures.all in (
+      output.text.items,
+      inr (refuses c.args.files.now c.args.dvi.now output.text.items c.in-Err.fault output.accepted refusal.ensures.other c.in-Err.ensures.bad c.in-Err.ensures.refused
+          refusal.ensures.text refusal.ensures.refused),
+      written,
+    )
+
+pub returns-clause-painted : goal.returns-clause-painted
+returns-clause-painted g c = (
+  pbm c.in-Ok-page_bitmap.bitmap,
+  inl (paints c.args.files.now c.args.dvi.now c.args.sheet.page c.args.sheet.dpi c.args.sheet.width c.args.sheet.height c.in-Ok.opened c.in-Ok-page_bitmap.bitmap _
+      c.in-Ok.ensures.ok c.in-Ok.ensures.units c.in-Ok-page_bitmap.ensures.ok refl),
+  c.in_ok-write_bitmap.ensures.all,
+)
+
+pub returns-in_err-write_bitmap-clause-unwritten : goal.returns-in_err-write_bitmap-clause-unwritten
+returns-in_err-write_bitmap-clause-unwritten g c said = (
+  pbm c.in-Ok-page_bitmap.bitmap,
+  true,
+  inl (paints c.args.files.now c.args.dvi.now c.args.sheet.page c.args.sheet.dpi c.args.sheet.width c.args.sheet.height c.in-Ok.opened c.in-Ok-page_bitmap.bitmap _
+      c.in-Ok.ensures.ok c.in-Ok.ensures.units c.in-Ok-page_bitmap.ensures.ok refl),
+  c.in_err-write_bitmap.ensures.front,
+)

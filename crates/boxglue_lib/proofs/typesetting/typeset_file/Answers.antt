@@ -1,0 +1,56 @@
+-- What is known of the device that was returned.
+use Rattle.std.proofs.Common.{◌≡◌, ap}
+use Rattle.dvi_device.specs.Beginnings.{begun_after}
+use Rattle.boxglue_lib.proofs.EndLemmas.{answered_to_file, failed_since, left_to_file}
+use Rattle.boxglue_lib.proofs.typesetting.typeset_file.Goals as goal
+
+pub returns-in-Ok-clause-ends : goal.returns-in-Ok-clause-ends
+returns-in-Ok-clause-ends g c =
+    let done = rw (c.deref.ensures.value, c.deref-2.ensures.value) at c.in-Ok.ensures.answers in
+    rw c.end_with.ensures.end (
+      done.0,
+      answered_to_file c.args.inputs.now.bytes.items c.args.inputs.now.files.items c.new-device.result.failures c.in-Ok.device.is_open c.in-Ok.device.failures
+          (g.H.Host.written c.in-Ok.device.host) (c.in-Ok.device ≡ c.new-device.result) (c.end_with.result.host ≡ c.args.host) done.0 c.in-Ok.accepted c.end_with.result.created c.end_with.result.written
+          (g.H.Host.written c.end_with.result.host) c.new-device.ensures.fine c.end_with.ensures.created c.end_with.ensures.written (cc) (λ same. cc) (λ same. cc) (λ same. cc) c.end_with.ensures.used done.1,
+      done.2,
+    )
+
+pub returns-in-Err-Answers-clause-ends : goal.returns-in-Err-Answers-clause-ends
+returns-in-Err-Answers-clause-ends g c =
+    let left = rw c.in-Err-Answers.field-0-is at c.in-Err-Answers.ensures.left in
+    let done = rw (c.deref.ensures.value, c.deref-2.ensures.value) at left in
+    rw c.end_with-in-Err-Answers.ensures.end (
+      done.0,
+      done.1,
+      answered_to_file c.args.inputs.now.bytes.items c.args.inputs.now.files.items c.new-device.result.failures c.in-Err-Answers.device.is_open
+          c.in-Err-Answers.device.failures (g.H.Host.written c.in-Err-Answers.device.host) (c.in-Err-Answers.device ≡ c.new-device.result) (c.end_with-in-Err-Answers.result.host ≡ c.args.host) done.0 done.1
+          c.end_with-in-Err-Answers.result.created c.end_with-in-Err-Answers.result.written (g.H.Host.written c.end_with-in-Err-Answers.result.host)
+          c.new-device.ensures.fine c.end_with-in-Err-Answers.ensures.created c.end_with-in-Err-Answers.ensures.written (cc) (λ same. cc) (λ same. cc) (λ same. cc) c.end_with-in-Err-Answers.ensures.used done.2,
+      done.3,
+    )
+
+pub returns-in-Err-Memory-clause-left : goal.returns-in-Err-Memory-clause-left
+returns-in-Err-Memory-clause-left g c =
+    let left = rw c.in-Err-Memory.field-0-is at c.in-Err-Memory.ensures.left in
+    let lacks = rw (c.deref.ensures.value, c.deref-2.ensures.value) at left in
+    λ _. left_to_file c.args.inputs.now.bytes.items c.args.inputs.now.files.items c.new-device.result.failures c.in-Err-Memory.device.is_open
+    c.in-Err-Memory.device.failures (g.H.Host.written c.in-Err-Memory.device.host) c.end_with-in-Err-Memory.result.created
+    c.end_with-in-Err-Memory.result.written (g.H.Host.written c.end_with-in-Err-Memory.result.host) c.new-device.ensures.fine
+    c.end_with-in-Err-Memory.ensures.created c.end_with-in-Err-Memory.ensures.written (cc) c.end_with-in-Err-Memory.ensures.used lacks.device
+
+pub returns-in-Ok-clause-blamed : goal.returns-in-Ok-clause-blamed
+returns-in-Ok-clause-blamed g c =
+    failed_since (g.H.Host.failures c.args.host) (g.H.Host.failures c.end_with.result.host) (g.H.Host.failures c.in-Ok.device.start.seen) c.in-Ok.device.failures
+    c.end_with.result.written _ c.in-Ok.ensures.began (ap (λ (host : _). begun_after (g.H.Host.failures host)) c.new-device.ensures.start) c.end_with.ensures.counted c.end_with.ensures.written
+
+pub returns-in-Err-Answers-clause-blamed : goal.returns-in-Err-Answers-clause-blamed
+returns-in-Err-Answers-clause-blamed g c =
+    let kept = rw c.in-Err-Answers.field-0-is at c.in-Err-Answers.ensures.kept in
+    failed_since (g.H.Host.failures c.args.host) (g.H.Host.failures c.end_with-in-Err-Answers.result.host) (g.H.Host.failures c.in-Err-Answers.device.start.seen) c.in-Err-Answers.device.failures
+    c.end_with-in-Err-Answers.result.written _ kept (ap (λ (host : _). begun_after (g.H.Host.failures host)) c.new-device.ensures.start) c.end_with-in-Err-Answers.ensures.counted c.end_with-in-Err-Answers.ensures.written
+
+pub returns-in-Err-Memory-clause-blamed : goal.returns-in-Err-Memory-clause-blamed
+returns-in-Err-Memory-clause-blamed g c =
+    let kept = rw c.in-Err-Memory.field-0-is at c.in-Err-Memory.ensures.kept in
+    failed_since (g.H.Host.failures c.args.host) (g.H.Host.failures c.end_with-in-Err-Memory.result.host) (g.H.Host.failures c.in-Err-Memory.device.start.seen) c.in-Err-Memory.device.failures
+    c.end_with-in-Err-Memory.result.written _ kept (ap (λ (host : _). begun_after (g.H.Host.failures host)) c.new-device.ensures.start) c.end_with-in-Err-Memory.ensures.counted c.end_with-in-Err-Memory.ensures.written

@@ -1,0 +1,65 @@
+//! Reading the input of a task.
+
+ghost use Rattle.std.specs.Prelude.{◌≡◌, IfErr, IfOk};
+ghost use Rattle.boxglue_host.specs.Hosts.{AreFilesOf};
+ghost use Rattle.boxglue_host.specs.Readings.{IsFileReading, IsReading};
+ghost use Rattle.boxglue_lib.specs.Inputs.{IsUnreadDvi, IsUnreadScript};
+
+use boxglue_host::{Host, HostFault, Unread, read_fonts};
+use boxglue_program::FontFile;
+use boxglue_words::NamedPath;
+use std::alloc::Global;
+
+/// The bytes of a script or a DVI file, and the files of the fonts.
+#[derive(Drop)]
+pub struct Inputs {
+    pub bytes: Vec<u8>,
+    pub files: Vec<FontFile>,
+}
+
+/// Reads the files of fonts, in the order of their words, and then the script of standard input.
+///
+/// Errors: File with the path that could not be read, `-` for standard input; OutOfMemory for a refused growth. Nothing was run or created then.
+pub fn read_script_inputs<'a, H: Host>(
+    alloc: Global,
+    host: &H,
+    fonts: &[NamedPath<'a>],
+) -> Result<Inputs, Unread<'a>>
+    ensures script { IfOk result (λ read. IsReading (H.input host.now) read.bytes.items) }
+    ensures files { IfOk result (λ read. AreFilesOf (H.file host.now) fonts.now read.files.items) }
+    ensures err { IfErr result (IsUnreadScript (H.file host.now) (H.input host.now) fonts.now) }
+{
+    let files = match read_fonts(alloc, host, fonts) {
+        Ok(files) => files,
+        Err(fault) => return Err(fault),
+    };
+    match host.read_input(alloc) {
+        Ok(bytes) => Ok(Inputs { bytes, files }),
+        Err(HostFault::OutOfMemory) => Err(Unread::OutOfMemory),
+        Err(HostFault::Failed) => Err(Unread::File("-")),
+    }
+}
+
+/// Reads a DVI file, and then the files of fonts, in the order of their words.
+///
+/// Errors: File with the path that could not be read; OutOfMemory for a refused growth.
+pub fn read_dvi_inputs<'a, H: Host>(
+    alloc: Global,
+    host: &H,
+    dvi: &'a str,
+    fonts: &[NamedPath<'a>],
+) -> Result<Inputs, Unread<'a>>
+    ensures dvi { IfOk result (λ read. IsFileReading (H.file host.now dvi.entry.now) read.bytes.items) }
+    ensures files { IfOk result (λ read. AreFilesOf (H.file host.now) fonts.now read.files.items) }
+    ensures err { IfErr result (IsUnreadDvi (H.file host.now) dvi.entry.now fonts.now) }
+{
+    let bytes = match host.read_file(alloc, dvi) {
+        Ok(bytes) => bytes,
+        Err(HostFault::OutOfMemory) => return Err(Unread::OutOfMemory),
+        Err(HostFault::Failed) => return Err(Unread::File(dvi)),
+    };
+    match read_fonts(alloc, host, fonts) {
+        Ok(files) => Ok(Inputs { bytes, files }),
+        Err(fault) => Err(fault),
+    }
+}

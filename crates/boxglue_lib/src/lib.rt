@@ -1,0 +1,28 @@
+//! The tasks of the program: a command line is read, its task is done with the files of a host, and answers and messages are written to an output and to
+//! errors. Every caller has `typeset`, `list` and `paint` as single calls, and the whole program. The crate `boxglue`, above this one, adds the real host,
+//! standard output and the exit status.
+#![tactic(auto)]
+
+mod inputs;
+pub mod laws;
+mod printing;
+mod running;
+mod task_end;
+mod tasks;
+mod telling;
+mod typesetting;
+
+pub use boxglue_host::{
+    FailureCount, FileDevice, HeldFile, Host, HostFault, MemoryHost, READ_LIMIT, Unread, read_all,
+    read_fonts, write_some,
+};
+pub use boxglue_program::{
+    Cause, Device, DeviceFault, FontFile, FontName, Line, Memory, RunFault, ScriptFault, Unwritten,
+    read_script, refuse_memory, run_memory, run_script, write_text,
+};
+pub use boxglue_words::{NamedPath, PaintOptions, Task, VERSION_LINE, WordFault, read_words};
+pub use inputs::{Inputs, read_dvi_inputs, read_script_inputs};
+pub use printing::{PrintFault, list_file, paint_file};
+pub use running::program;
+pub use task_end::TaskEnd;
+pub use typesetting::{TypesetEnd, typeset_file};

@@ -1,0 +1,161 @@
+//! Printing the listing of a DVI file, or a page as a bitmap.
+
+ghost use Rattle.std.specs.Prelude.{◌≡◌, ◌≢◌, ◌≤◌, ℕ, Bool, List, vec_capacity, Err, IfOk, OnErr, OnOk};
+ghost use Rattle.std.specs.Io.KnownBytes.{Appends, Keeps};
+ghost use Rattle.dvi_read.specs.Listing.{listing};
+ghost use Rattle.dvi_read.specs.declared.part.TheConstants.{PART};
+ghost use Rattle.boxglue_print.specs.Outputs.{IsListed, IsPainted, LacksPage};
+ghost use Rattle.raster_core.specs.PlainText.{pbm};
+ghost use Rattle.raster_core.specs.declared.text.TheConstants.{ROW_TEXT};
+ghost use Rattle.boxglue_program.specs.Runs.{WritesFront};
+ghost use Rattle.boxglue_lib.specs.declared.printing.PrintFault.TheVariants.{OutOfMemory, Unwritten};
+
+use boxglue_print::{Bitmap, Dvi, Output, PaintFault, page_bitmap, refusal};
+use boxglue_program::{FontFile, Unwritten, write_text};
+use boxglue_words::PaintOptions;
+use std::alloc::{AllocError, Global};
+use std::io::Write;
+use thiserror::Error;
+
+/// Why the listing or the bitmap was not printed.
+#[derive(Clone, Copy, Debug, PartialEq, Eq, Error)]
+pub enum PrintFault {
+    /// A growth of memory was refused. Nothing was written.
+    #[error("a growth of memory was refused")]
+    OutOfMemory,
+    /// The writer took a beginning of the text, or nothing.
+    #[error("the text could not be written")]
+    Unwritten,
+    /// The file is accepted, and does not have this page. Nothing was written.
+    #[error("no such page")]
+    NoSuchPage,
+}
+
+impl From<AllocError> for PrintFault {
+    ghost from_gives = { λ _ fault. fault ≡ OutOfMemory };
+
+    fn from(_error: AllocError) -> PrintFault {
+        PrintFault::OutOfMemory
+    }
+}
+
+impl From<Unwritten> for PrintFault {
+    ghost from_gives = { λ _ fault. fault ≡ Unwritten };
+
+    fn from(_error: Unwritten) -> PrintFault {
+        PrintFault::Unwritten
+    }
+}
+
+/// The most bytes of a listing or a bitmap that are offered to a writer at once. It must be at least PART and ROW_TEXT, the longest line or row.
+const PIECE: usize = 65_536;
+
+/// Writes the listing of a file in pieces. All memory is taken before: a piece has room for PART bytes, so memory is never refused within the text.
+fn write_listing<W: Write>(
+    dvi: &Dvi<'_>,
+    piece: &mut Vec<u8>,
+    writer: &mut W,
+) -> Result<(), Unwritten>
+    requires { PART ≤ vec_capacity piece.old }
+    ensures all { OnOk result (Appends (W.contents writer.old) (W.contents writer.new) (listing dvi.now.pages)) }
+    ensures front { OnErr result (WritesFront (W.contents writer.old) (W.contents writer.new) (listing dvi.now.pages)) }
+{
+    let mut lines = dvi.lines();
+    while lines.next_piece(piece) {
+        write_text(writer, piece)?;
+    }
+    Ok(())
+}
+
+/// Writes the listing of a DVI file with these metric files, or the one line of its refusal, and nothing else. The result is true if the file is accepted.
+///
+/// Errors: OutOfMemory before anything is written; Unwritten if the writer did not take all.
+pub fn list_file<W: Write>(
+    alloc: Global,
+    dvi: &[u8],
+    files: &[FontFile],
+    writer: &mut W,
+) -> Result<bool, PrintFault>
+    ensures listed { IfOk result (λ fine. (text : List ℕ) × IsListed files.now dvi.now text fine × Appends (W.contents writer.old) (W.contents writer.new) text) }
+    ensures unwritten { result ≡ Err PrintFault.Unwritten → (text : List ℕ) × (fine : Bool) × IsListed files.now dvi.now text fine
+        × WritesFront (W.contents writer.old) (W.contents writer.new) text }
+    ensures silent { result ≡ Err PrintFault.OutOfMemory → Keeps (W.contents writer.old) (W.contents writer.new) }
+    ensures always { result ≢ Err PrintFault.NoSuchPage }
+{
+    let opened = match Dvi::open(alloc, dvi, files) {
+        Ok(opened) => opened,
+        Err(fault) => {
+            let Output { text, accepted } = refusal(alloc, fault)?;
+            write_text(writer, &text)?;
+            return Ok(accepted);
+        }
+    };
+    let mut piece = Vec::with_capacity(alloc, PIECE)?;
+    write_listing(&opened, &mut piece, writer)?;
+    Ok(true)
+}
+
+/// Writes the text of a bitmap in pieces. All memory is taken before: a piece has room for ROW_TEXT bytes, so memory is never refused within the text.
+fn write_bitmap<W: Write>(
+    bitmap: &Bitmap,
+    rows: &mut Vec<u8>,
+    writer: &mut W,
+) -> Result<(), Unwritten>
+    requires { ROW_TEXT ≤ vec_capacity rows.old }
+    ensures all { OnOk result (Appends (W.contents writer.old) (W.contents writer.new) (pbm bitmap.now)) }
+    ensures front { OnErr result (WritesFront (W.contents writer.old) (W.contents writer.new) (pbm bitmap.now)) }
+{
+    let mut text = bitmap.text();
+    while text.next_piece(rows) {
+        write_text(writer, rows)?;
+    }
+    Ok(())
+}
+
+/// Writes a page of a DVI file with these metric files as a bitmap in plain PBM, or the one line of the file's refusal, and nothing else. The page is
+/// counted from 1; sizes are in pixels. The result is true if the file is accepted.
+///
+/// Errors: NoSuchPage if the file has fewer pages, and OutOfMemory, both before anything is written; Unwritten if the writer did not take all. The
+/// whole file is checked first, so NoSuchPage means that it is accepted.
+pub fn paint_file<W: Write>(
+    alloc: Global,
+    dvi: &[u8],
+    files: &[FontFile],
+    sheet: PaintOptions,
+    writer: &mut W,
+) -> Result<bool, PrintFault>
+    requires page { 1 ≤ sheet.page }
+    requires dpi { sheet.dpi ≤ 10000 }
+    requires width { (1 ≤ sheet.width) × (sheet.width ≤ 10000) }
+    requires height { (1 ≤ sheet.height) × (sheet.height ≤ 10000) }
+    ensures painted { IfOk result (λ fine. (text : List ℕ) × IsPainted files.now dvi.now sheet.page sheet.dpi sheet.width sheet.height text fine
+        × Appends (W.contents writer.old) (W.contents writer.new) text) }
+    ensures unwritten { result ≡ Err PrintFault.Unwritten → (text : List ℕ) × (fine : Bool)
+        × IsPainted files.now dvi.now sheet.page sheet.dpi sheet.width sheet.height text fine × WritesFront (W.contents writer.old) (W.contents writer.new) text }
+    ensures silent { result ≡ Err PrintFault.OutOfMemory → Keeps (W.contents writer.old) (W.contents writer.new) }
+    ensures unpainted { result ≡ Err PrintFault.NoSuchPage → Keeps (W.contents writer.old) (W.contents writer.new) }
+    ensures missing { result ≡ Err PrintFault.NoSuchPage → LacksPage files.now dvi.now sheet.page }
+{
+    let PaintOptions {
+        page,
+        dpi,
+        width,
+        height,
+    } = sheet;
+    let opened = match Dvi::open(alloc, dvi, files) {
+        Ok(opened) => opened,
+        Err(fault) => {
+            let Output { text, accepted } = refusal(alloc, fault)?;
+            write_text(writer, &text)?;
+            return Ok(accepted);
+        }
+    };
+    let bitmap = match page_bitmap(alloc, &opened, page, dpi, width, height) {
+        Ok(bitmap) => bitmap,
+        Err(PaintFault::OutOfMemory) => return Err(PrintFault::OutOfMemory),
+        Err(PaintFault::NoSuchPage) => return Err(PrintFault::NoSuchPage),
+    };
+    let mut rows = Vec::with_capacity(alloc, PIECE)?;
+    write_bitmap(&bitmap, &mut rows, writer)?;
+    Ok(true)
+}

@@ -1,0 +1,16 @@
+//! The end of a task.
+
+/// How a task ended that prints a text to the output.
+#[derive(Clone, Copy, Debug)]
+pub enum TaskEnd<'a> {
+    /// The output took the whole text. The value is true if nothing was refused.
+    Printed(bool),
+    /// The output did not take the whole text, only a beginning of it.
+    Unwritten,
+    /// A growth of memory was refused, and nothing was printed.
+    OutOfMemory,
+    /// The file at this path could not be read, and nothing was printed; `-` is standard input.
+    Unreadable(&'a str),
+    /// The DVI file has no such page, and nothing was printed.
+    NoSuchPage,
+}

@@ -1,0 +1,134 @@
+//! The four tasks, with the files of a host.
+
+ghost use Rattle.std.specs.Prelude.{◌≡◌, ◌≤◌};
+ghost use Rattle.boxglue_host.specs.Hosts.{has_failed};
+ghost use Rattle.boxglue_host.specs.declared.font_files.Unread.TheVariants.{File};
+ghost use Rattle.boxglue_lib.specs.Ends.{EndsTask};
+ghost use Rattle.boxglue_lib.specs.Inputs.{IsUnreadDvi};
+ghost use Rattle.boxglue_lib.specs.Parts.{end_of};
+ghost use Rattle.boxglue_lib.specs.Printed.{HasNoPage, IsListing, IsPainting};
+ghost use Rattle.boxglue_lib.specs.Programs.{IsAnsweredInput, IsUnreadInput};
+ghost use Rattle.boxglue_lib.specs.Typesets.{HasTypeset, TellsUnwritten};
+
+use crate::inputs::{read_dvi_inputs, read_script_inputs};
+use crate::printing::{PrintFault, list_file, paint_file};
+use crate::task_end::TaskEnd;
+use crate::telling::{finish, tell};
+use crate::typesetting::{TypesetEnd, typeset_file};
+use boxglue_host::{Host, HostFault, Unread};
+use boxglue_program::{RunFault, run_memory};
+use boxglue_words::{NamedPath, PaintOptions};
+use std::alloc::Global;
+use std::io::Write;
+
+/// The end of a task whose files were not read.
+fn end_of(fault: Unread<'_>) -> TaskEnd<'_>
+    ensures { result ≡ end_of fault.entry }
+{
+    match fault {
+        Unread::OutOfMemory => TaskEnd::OutOfMemory,
+        Unread::File(path) => TaskEnd::Unreadable(path),
+    }
+}
+
+/// Runs the script of standard input on a device in memory, and writes its answers and the bytes of the device. It has no fonts.
+pub fn run_input<'a, H: Host, W: Write>(alloc: Global, host: &H, output: &mut W) -> TaskEnd<'a>
+    ensures { EndsTask (IsAnsweredInput (H.input host.now)) (IsUnreadInput (H.input host.now)) ⊥ result (W.contents output.old) (W.contents output.new) }
+{
+    let text = match host.read_input(alloc) {
+        Ok(text) => text,
+        Err(HostFault::OutOfMemory) => return TaskEnd::OutOfMemory,
+        Err(HostFault::Failed) => return TaskEnd::Unreadable("-"),
+    };
+    match run_memory(alloc, &text, &[], output) {
+        Ok(accepted) => TaskEnd::Printed(accepted),
+        Err(RunFault::Memory(_)) => TaskEnd::OutOfMemory,
+        Err(RunFault::Answers(_)) => TaskEnd::Unwritten,
+    }
+}
+
+/// Lists the DVI file at a path.
+pub fn list<'a, H: Host, W: Write>(
+    alloc: Global,
+    host: &H,
+    dvi: &'a str,
+    fonts: &[NamedPath<'a>],
+    output: &mut W,
+) -> TaskEnd<'a>
+    ensures { EndsTask (IsListing (H.file host.now) dvi.entry.now fonts.now) (λ path. IsUnreadDvi (H.file host.now) dvi.entry.now fonts.now (File path)) ⊥
+        result (W.contents output.old) (W.contents output.new) }
+{
+    let inputs = match read_dvi_inputs(alloc, host, dvi, fonts) {
+        Ok(inputs) => inputs,
+        Err(fault) => return end_of(fault),
+    };
+    match list_file(alloc, &inputs.bytes, &inputs.files, output) {
+        Ok(accepted) => TaskEnd::Printed(accepted),
+        Err(PrintFault::OutOfMemory) => TaskEnd::OutOfMemory,
+        Err(PrintFault::Unwritten) => TaskEnd::Unwritten,
+        Err(PrintFault::NoSuchPage) => TaskEnd::NoSuchPage,
+    }
+}
+
+/// Paints a page of the DVI file at a path.
+pub fn paint<'a, H: Host, W: Write>(
+    alloc: Global,
+    host: &H,
+    sheet: PaintOptions,
+    dvi: &'a str,
+    fonts: &[NamedPath<'a>],
+    output: &mut W,
+) -> TaskEnd<'a>
+    requires page { 1 ≤ sheet.page }
+    requires dpi { sheet.dpi ≤ 10000 }
+    requires width { (1 ≤ sheet.width) × (sheet.width ≤ 10000) }
+    requires height { (1 ≤ sheet.height) × (sheet.height ≤ 10000) }
+    ensures { EndsTask (IsPainting (H.file host.now) sheet dvi.entry.now fonts.now) (λ path. IsUnreadDvi (H.file host.now) dvi.entry.now fonts.now (File path))
+        (HasNoPage (H.file host.now) sheet dvi.entry.now fonts.now) result (W.contents output.old) (W.contents output.new) }
+{
+    let inputs = match read_dvi_inputs(alloc, host, dvi, fonts) {
+        Ok(inputs) => inputs,
+        Err(fault) => return end_of(fault),
+    };
+    match paint_file(alloc, &inputs.bytes, &inputs.files, sheet, output) {
+        Ok(accepted) => TaskEnd::Printed(accepted),
+        Err(PrintFault::OutOfMemory) => TaskEnd::OutOfMemory,
+        Err(PrintFault::Unwritten) => TaskEnd::Unwritten,
+        Err(PrintFault::NoSuchPage) => TaskEnd::NoSuchPage,
+    }
+}
+
+/// Reports a file that did not take all bytes.
+fn tell_unwritten<E: Write>(alloc: Global, written: bool, out: &str, errors: &mut E)
+    ensures { TellsUnwritten written out.now (E.contents errors.old) (E.contents errors.new) }
+{
+    if !written {
+        tell(alloc, errors, "boxglue: cannot write ", out);
+    }
+}
+
+/// Runs the script of standard input, and writes its pages to the file `out`. Returns the status and the host.
+pub fn typeset<H: Host, W: Write, E: Write>(
+    alloc: Global,
+    host: H,
+    out: &str,
+    fonts: &[NamedPath<'_>],
+    output: &mut W,
+    errors: &mut E,
+) -> (u8, H)
+    ensures { HasTypeset (H.file host) (H.input host) fonts.now out.now (H.written result.1) (has_failed (H.failures host) (H.failures result.1)) (result.1 ≡ host) (W.contents output.old)
+        (W.contents output.new) (E.contents errors.old) (E.contents errors.new) result.0 }
+{
+    let inputs = match read_script_inputs(alloc, &host, fonts) {
+        Ok(inputs) => inputs,
+        Err(fault) => return (finish(alloc, end_of(fault), output, errors), host),
+    };
+    let TypesetEnd {
+        end,
+        written,
+        host,
+        ..
+    } = typeset_file(alloc, host, out, &inputs, output);
+    tell_unwritten(alloc, written, out, errors);
+    (finish(alloc, end, output, errors), host)
+}

@@ -1,0 +1,64 @@
+//! `typeset`: a script is run, and its pages go to a file.
+
+ghost use Rattle.std.specs.Prelude.{◌≡◌, ◌+◌, ◌==◌, not};
+ghost use Rattle.boxglue_host.specs.Hosts.{has_failed};
+ghost use Rattle.boxglue_lib.specs.Ends.{EndsTask};
+ghost use Rattle.boxglue_lib.specs.Typesets.{IsLeftToFile, IsToFile, IsUsed};
+
+use crate::inputs::Inputs;
+use crate::task_end::TaskEnd;
+use boxglue_host::{FileDevice, Host};
+use boxglue_program::{Device, RunFault, run_script};
+use std::alloc::Global;
+use std::io::Write;
+
+/// How a script was typeset: the end of its answers, whether its file was created, whether the file took all that was written to it, and the host.
+#[derive(Debug, Drop)]
+pub struct TypesetEnd<'a, H> {
+    pub end: TaskEnd<'a>,
+    pub created: bool,
+    pub written: bool,
+    pub host: H,
+}
+
+/// Runs a script with these font files on a device that writes the file `out`, and then writes the texts of the answers, or the one line of a bad
+/// script. The file is created at its first write. `written` is false if and only if the host failed in this call.
+pub fn typeset_file<'a, H: Host, W: Write>(
+    alloc: Global,
+    host: H,
+    out: &str,
+    inputs: &Inputs,
+    writer: &mut W,
+) -> TypesetEnd<'a, H>
+    ensures ends { EndsTask (IsToFile inputs.now.bytes.items inputs.now.files.items (H.written result.host) (result.host ≡ host) result.created result.written)
+        (λ path. ⊥) ⊥ result.end (W.contents writer.old) (W.contents writer.new) }
+    ensures left { result.end ≡ TaskEnd.OutOfMemory
+        → IsLeftToFile inputs.now.bytes.items inputs.now.files.items (H.written result.host) result.created result.written }
+    ensures blamed { has_failed (H.failures host) (H.failures result.host) ≡ not result.written }
+{
+    let device = FileDevice::new(host, out);
+    match run_script(alloc, &inputs.bytes, &inputs.files, device, writer) {
+        Ok((accepted, device)) => end_with(TaskEnd::Printed(accepted), device),
+        Err(RunFault::Memory(device)) => end_with(TaskEnd::OutOfMemory, device),
+        Err(RunFault::Answers(device)) => end_with(TaskEnd::Unwritten, device),
+    }
+}
+
+/// The end of a call, with the state of the file.
+fn end_with<'a, H: Host>(end: TaskEnd<'a>, device: FileDevice<'_, H>) -> TypesetEnd<'a, H>
+    ensures end { result.end ≡ end.entry }
+    ensures created { result.created ≡ device.entry.is_open }
+    ensures written { result.written ≡ (device.entry.failures == 0) }
+    ensures host { result.host ≡ device.entry.host }
+    ensures used { IsUsed result.created result.written (H.written result.host) }
+    ensures counted { H.failures result.host ≡ H.failures device.entry.start.seen + device.entry.failures }
+{
+    let created = device.is_open();
+    let written = device.failures() == 0;
+    TypesetEnd {
+        end,
+        created,
+        written,
+        host: device.into_host(),
+    }
+}

@@ -1,0 +1,57 @@
+-- The texts for refused files, and for pages.
+use Rattle.std.proofs.Common.{◌≡◌, ℕ, Bool, true, false, List, ◌++◌, Result, Ok, Err, OnOk, IfOk, append_assoc, inr, refl, ◌∙◌, ap}
+use Rattle.std.specs.Prelude.{◌≢◌}
+use Rattle.std.specs.declared.alloc.AllocError.{AllocError}
+use Rattle.dvi_ops.specs.File.{IsFile}
+use Rattle.dvi_ops.specs.Instruction.{Units}
+use Rattle.boxglue_print.specs.Faults.{fault_line}
+use Rattle.boxglue_print.specs.Outputs.{IsListed, Paints, RefusesFile, ShowsPage}
+use Rattle.boxglue_print.specs.declared.output.Output.{Output}
+use Rattle.dvi_read.specs.Opened.{HasUnitsOf, IsNoFile, Opened}
+use Rattle.dvi_read.specs.Opening.{IsDviFault}
+use Rattle.dvi_read.specs.declared.fault.DviFault.{DviFault}
+use Rattle.dvi_read.specs.declared.fault.DviFault.TheVariants.{OutOfMemory}
+use Rattle.raster_core.specs.Pictures.{PixelGrid, painted, white}
+use Rattle.raster_core.specs.Pixels.{is_covered, scale_of}
+use Rattle.raster_core.specs.PlainText.{pbm}
+use Rattle.tfm_core.specs.FileWidths.{file_widths}
+use Rattle.tfm_core.specs.NamedBytes.{NamedBytes}
+
+-- The line of a refusal is printed for a file that is refused.
+pub refuses : (files : List NamedBytes) (bytes text : List ℕ) (fault : DviFault) (accepted : Bool) → fault ≢ OutOfMemory → IsDviFault files bytes fault
+    → (fault ≢ OutOfMemory → IsNoFile files bytes) → text ≡ fault_line fault → accepted ≡ false → RefusesFile files bytes text accepted
+refuses files bytes text fault accepted other broken none text_is accepted_is = record {
+  fault = fault;
+  other = other;
+  broken = broken;
+  none = none other;
+  text_is = text_is;
+  accepted_is = accepted_is;
+}
+
+-- The same where memory may be refused for the line.
+pub listed_refusal : (files : List NamedBytes) (bytes : List ℕ) (fault : DviFault) (r : Result Output AllocError) → IsDviFault files bytes fault
+    → (fault ≢ OutOfMemory → IsNoFile files bytes) → OnOk r (fault ≢ OutOfMemory) → IfOk r (λ output. output.text.items ≡ fault_line fault)
+    → IfOk r (λ output. output.accepted ≡ false) → IfOk r (λ output. IsListed files bytes output.text.items output.accepted)
+listed_refusal files bytes fault (Ok output) broken none other text accepted =
+    inr (refuses files bytes output.text.items fault output.accepted other broken none text accepted)
+listed_refusal files bytes fault (Err e) broken none other text accepted = tt
+
+-- The bitmap of a page is printed.
+pub paints : (files : List NamedBytes) (bytes : List ℕ) (page dpi width height : ℕ) (dvi : Opened) (picture : PixelGrid) (text : List ℕ)
+    → IsFile (file_widths files) bytes dvi.pages → HasUnitsOf bytes dvi → ShowsPage dvi page dpi width height picture
+    → text ≡ pbm picture → Paints files bytes page dpi width height text true
+paints files bytes page dpi width height dvi picture text file units shows text_is = record {
+  pages = dvi.pages;
+  file = file;
+  shown = shows.shown;
+  page_is = shows.page_is;
+  text_is = text_is ∙ (ap pbm shows.picture_is ∙ ap (λ (u : Units). pbm (painted (is_covered (scale_of u dpi) shows.shown.marks) (white width height))) (units file.frame));
+  accepted_is = refl;
+}
+
+-- Three texts appended to what is there.
+pub three_parts : {A E : Type 0} (r : Result A E) (old one two new a b c : List ℕ) → one ≡ old ++ a → two ≡ one ++ b → OnOk r (new ≡ two ++ c) → OnOk r (new ≡ old ++ (a ++ (b ++ c)))
+three_parts (Ok x) old one two new a b c h i j =
+    j ∙ (ap (λ (l : List ℕ). l ++ c) (i ∙ ap (λ (l : List ℕ). l ++ b) h) ∙ (append_assoc (old ++ a) b c ∙ append_assoc old a (b ++ c)))
+three_parts (Err e) old one two new a b c h i j = tt

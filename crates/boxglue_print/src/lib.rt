@@ -1,0 +1,11 @@
+//! The texts that `list` and `paint` print for a DVI file: the listing of its pages, a page as a bitmap in plain PBM, or the one line of a refusal.
+//! The program reads the files and writes the texts.
+#![tactic(auto)]
+
+mod faults;
+mod output;
+
+pub use dvi_read::{Dvi, DviFault, Lines, PART};
+pub use output::{Output, PaintFault, list_text, page_bitmap, paint_text, refusal};
+pub use raster_core::{Bitmap, PbmText, ROW_TEXT};
+pub use tfm_core::FontFile;

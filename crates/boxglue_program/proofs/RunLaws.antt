@@ -1,0 +1,236 @@
+-- A job that runs the commands of a script and is finished.
+use Rattle.std.proofs.Common.{◌≡◌, ◌+◌, ◌&&◌, ◌∷◌, inl, inr, ℕ, Bool, true, false, List, [], ◌++◌, length, take, Option, Some, None, IfSome, Result, Ok, Err, IfOk, OnOk, OnErr, is_err, is_ok, refl, sym, append_assoc, arith, ◌∙◌, ap, subst, ⊎_elim}
+use Rattle.job_commands.specs.declared.command.Command.{Command}
+use Rattle.job_commands.specs.declared.command.Refusal.{Refusal}
+use Rattle.job_commands.specs.declared.command.Refusal.TheVariants as refusals
+use Rattle.job_commands.specs.declared.command.Summary.{Summary}
+use Rattle.job_commands.specs.Reply.{Reply}
+use Rattle.tfm_core.specs.NamedBytes.{NamedBytes}
+use Rattle.dvi_device.specs.Written.{IsFrontOf}
+use Rattle.dvi_device.specs.Beginnings.{Beginning}
+use Rattle.dvi_device.specs.Resumed.{Resumed, written_by, began_by}
+use Rattle.dvi_layout.specs.Layout.{front, whole}
+use Rattle.job_core.specs.Shown.{GivesFiles, FilesPages}
+use Rattle.job_core.specs.Closing.{ClosesFile}
+use Rattle.job_machine.specs.Machine.{Machine, first_machine}
+use Rattle.job_core.specs.Jobs.{JobView, HasSent, Represents, KeepsTo, RunsTo, FinishesTo}
+use Rattle.job_core.proofs.Moves.{runs_more}
+use Rattle.dvi_device.specs.Held.{MemoryState}
+use Rattle.job_machine.proofs.RunLaws.{files_kept}
+use Rattle.job_core.proofs.Endings.{said}
+use Rattle.job_core.proofs.NewJobs.{front_none}
+use Rattle.job_core.proofs.RestsOfFiles.{beginning, completed}
+use Rattle.std.specs.Io.KnownBytes.{Keeps}
+use Rattle.std.proofs.lemmas.List.{append-nil, length-append}
+use Rattle.std.proofs.Math.Bool.{and-true}
+use Rattle.std.proofs.lemmas.List.Folds.{list_all-append}
+use Rattle.std.specs.List.{list_all}
+use Rattle.boxglue_script.specs.declared.script.Line.{Line}
+use Rattle.boxglue_program.specs.Texts.{hexadecimal_text, answer_line, answer_lines}
+use Rattle.boxglue_program.specs.Runs.{commands_of, line_numbers, IsSentPart, WasRun, IsUntouched, IsAnswered, RanScript, RefusedScript, IsAnsweredInMemory, LacksMemory, CompletesFile, IsAnswerOfRest}
+
+pub on_err : {A E : Type 0} {P : Type 0} (r : Result A E) → is_err r ≡ true → OnErr r P → P
+on_err (Ok x) e h = absurd (cc)
+on_err (Err x) e h = h
+
+pub on_ok : {A E : Type 0} {P : Type 0} (r : Result A E) → is_err r ≡ false → OnOk r P → P
+on_ok (Ok x) e h = h
+on_ok (Err x) e h = absurd (cc)
+
+-- A new job has reported nothing.
+pub new_untouched : (files : List NamedBytes) (job : JobView) (n k : ℕ) (bytes_written : Option (List ℕ)) → Represents job (first_machine files) → job.failed ≡ n → k ≡ job.failed → bytes_written ≡ job.bytes_written → IsUntouched n k bytes_written
+new_untouched files job n k bytes_written holds f g t = record {
+  silent = let P : Option (List ℕ) → Type 0 = λ o. IfSome o (λ bytes. bytes ≡ []) in
+      subst P (sym t) (said job.bytes_written job.bytes_written (front (first_machine files).state.fonts []) (λ bytes. bytes ≡ []) (holds.written refl).bytes_written (front_none (first_machine files).state.fonts));
+  failed_is = g ∙ f;
+}
+
+size_at : (end : Result Summary Refusal) (bytes_written : Option (List ℕ)) (run : JobView) (m : Machine) → Represents run m → IfOk end (λ summary. (m : Machine) → Represents run m → IfSome bytes_written (λ bytes. summary.bytes ≡ length bytes)) → IfOk end (λ summary. IfSome bytes_written (λ bytes. summary.bytes ≡ length bytes))
+size_at (Ok summary) bytes_written run m holds h = h m holds
+size_at (Err refusal) bytes_written run m holds h = h
+
+-- What a job that is over has sent, if its device reports it.
+sent_part : (m : Machine) (bytes_written : Option (List ℕ)) → HasSent m bytes_written → IfSome bytes_written (IsSentPart m)
+sent_part m bytes_written (inl (none, (inl is))) = said bytes_written bytes_written (whole m.state.fonts m.pages) (IsSentPart m) is (inl (none, inl refl))
+sent_part m bytes_written (inl (none, (inr (n, less, is)))) = said bytes_written bytes_written (take n (whole m.state.fonts m.pages)) (IsSentPart m) is (inl (none, inr (n, refl)))
+sent_part m bytes_written (inr (some, (n, less, is))) = said bytes_written bytes_written (take n (front m.state.fonts (m.pages ++ m.flight))) (IsSentPart m) is (inr (some, (n, refl)))
+
+count_at : (end : Result Summary Refusal) (run : JobView) (m : Machine) → Represents run m
+    → IfOk end (λ summary. (m : Machine) → Represents run m → summary.bytes ≡ length (whole m.state.fonts m.pages)) → IfOk end (λ summary. summary.bytes ≡ length (whole m.state.fonts m.pages))
+count_at (Ok summary) run m holds h = h m holds
+count_at (Err refusal) run m holds h = h
+
+pub was_run : (files : List NamedBytes) (commands : List Command) (replies : List Reply) (end : Result Summary Refusal) (job run done : JobView)
+    → Represents job (first_machine files) → RunsTo job commands replies run → FinishesTo run end done
+    → FilesPages run end done
+    → ((m : Machine) → Represents run m → OnOk end (IfSome done.bytes_written (λ bytes. bytes ≡ whole m.state.fonts m.pages)))
+    → IfOk end (λ summary. (m : Machine) → Represents run m → IfSome done.bytes_written (λ bytes. summary.bytes ≡ length bytes))
+    → IfOk end (λ summary. (m : Machine) → Represents run m → summary.bytes ≡ length (whole m.state.fonts m.pages))
+    → ClosesFile run end done
+    → (end ≡ Err refusals.Device → (m : Machine) → Represents run m → IfSome done.bytes_written (λ bytes. IsFrontOf bytes (whole m.state.fonts m.pages)))
+    → WasRun files job.failed commands replies end done.failed done.bytes_written
+was_run files commands replies end job run done holds runs finishes dvi file size count closed part =
+    let middle = runs (first_machine files) holds in
+    let last = finishes middle.0 middle.2 in
+    let same : middle.0.state.files ≡ files = files_kept (first_machine files) job.failed commands replies middle.0 run.failed middle.1 in
+    record {
+      middle = middle.0;
+      failed = run.failed;
+      ran = middle.1;
+      last = last.0;
+      finished = last.1;
+      dvi = λ metrics gives. dvi middle.0 metrics middle.2 (let P : List NamedBytes → Type 0 = λ all. GivesFiles metrics all in subst P (sym same) gives);
+      file = file middle.0 middle.2;
+      size = size_at end done.bytes_written run middle.0 middle.2 size;
+      count = count_at end run middle.0 middle.2 count;
+      closed = closed middle.0 middle.2;
+      front = λ e. part e middle.0 middle.2;
+      part = λ over. sent_part last.0 done.bytes_written (last.2.sent over);
+      sent = λ running. said done.bytes_written done.bytes_written (front last.0.state.fonts last.0.pages) (λ bytes. bytes ≡ front last.0.state.fonts last.0.pages) (last.2.written running).bytes_written refl;
+    }
+
+-- A run stays one if its numbers, lists and bytes are replaced by equal ones.
+pub same_run : (files : List NamedBytes) (n n' : ℕ) (commands commands' : List Command) (replies replies' : List Reply) (end : Result Summary Refusal) (k k' : ℕ) (bytes_written bytes_written' : Option (List ℕ))
+    → n' ≡ n → commands' ≡ commands → replies' ≡ replies → k' ≡ k → bytes_written' ≡ bytes_written → WasRun files n commands replies end k bytes_written → WasRun files n' commands' replies' end k' bytes_written'
+same_run files n n' commands commands' replies replies' end k k' bytes_written bytes_written' a b c d e h = rw (a, b, c, d, e) h
+
+-- All replies are those that a run added to none.
+pub added_to_none : (old new added : List Reply) → old ≡ [] → new ≡ old ++ added → new ≡ added
+added_to_none old new added e h = h ∙ (rw e refl)
+
+no_lines : hexadecimal_text [] ≡ []
+unfolding hexadecimal_text
+no_lines = refl
+
+-- The answers, and then the bytes of the memory.
+pub answered_in_memory : (text : List ℕ) (files : List NamedBytes) (start memory : MemoryState) (answer whole : List ℕ) (fine : Bool) → start ≡ record { bytes = []; capacity = 0; failures = 0 }
+    → IsAnswered {D = MemoryState} (λ m. Some m.bytes) (λ m. m.failures) text files start memory answer fine
+    → whole ≡ answer ++ hexadecimal_text memory.bytes → IsAnsweredInMemory text files memory whole fine
+answered_in_memory text files start memory answer whole fine fresh answered is = ⊎_elim
+    (λ (ran : RanScript text files start.failures memory.failures (Some memory.bytes) answer fine).
+    let P : ℕ → Type 0 = λ n. RanScript text files n memory.failures (Some memory.bytes) answer fine in
+    inl (record { answers = answer; ran = subst P (ap (λ (m : MemoryState). m.failures) fresh) ran; answer_is = is }))
+    (λ (refused : RefusedScript text answer fine × (memory ≡ start)).
+    let nothing : hexadecimal_text memory.bytes ≡ [] = ap (λ (m : MemoryState). hexadecimal_text m.bytes) (refused.1 ∙ fresh) ∙ no_lines in
+    let same : whole ≡ answer = is ∙ (ap (λ (more : List ℕ). answer ++ more) nothing ∙ append-nil answer) in
+    inr (record { number = refused.0.number; cause = refused.0.cause; bad = refused.0.bad; answer_is = same ∙ refused.0.answer_is; fine_is = refused.0.fine_is }))
+    answered
+
+-- If memory is refused after the run, the whole script was run, or it is bad and the device is new.
+pub lacking_in_memory : (text : List ℕ) (files : List NamedBytes) (start memory : MemoryState) (answer : List ℕ) (fine : Bool) (old : Option (List ℕ)) → start ≡ record { bytes = []; capacity = 0; failures = 0 }
+    → IsAnswered {D = MemoryState} (λ m. Some m.bytes) (λ m. m.failures) text files start memory answer fine
+    → LacksMemory text files 0 memory.failures (Some memory.bytes) old old
+lacking_in_memory text files start memory answer fine old fresh answered =
+    record {
+      device = ⊎_elim
+          (λ (ran : RanScript text files start.failures memory.failures (Some memory.bytes) answer fine).
+          let P : ℕ → Type 0 = λ n. WasRun files n (commands_of ran.lines) ran.replies ran.end memory.failures (Some memory.bytes) in
+          inr (ran.lines, ran.replies, ran.end, ran.script, subst P (ap (λ (m : MemoryState). m.failures) fresh) ran.run))
+          (λ (refused : RefusedScript text answer fine × (memory ≡ start)).
+          inl (record { silent = ap (λ (m : MemoryState). m.bytes) (refused.1 ∙ fresh); failed_is = ap (λ (m : MemoryState). m.failures) (refused.1 ∙ fresh) }))
+          answered;
+      silent = keeps_same old;
+    }
+  where
+    keeps_same : (old : Option (List ℕ)) → Keeps old old
+    keeps_same None = tt
+    keeps_same (Some bytes) = refl
+
+-- A script that was run over the rest of a file completes it.
+pub script_completes : (text : List ℕ) (files : List NamedBytes) (n k start_failed at_first : ℕ) (sent before : List ℕ) (start bytes_written inner : Option (List ℕ)) (answer : List ℕ) (fine : Bool) (began : Beginning)
+    → RanScript text files n k bytes_written answer fine → beginning sent start start_failed ≡ began → began ≡ beginning before (Some before) at_first
+    → ((whole : List ℕ) → IfSome bytes_written (λ bytes. bytes ≡ whole) → IsFrontOf sent whole → start ≡ Some sent → inner ≡ Some whole)
+    → CompletesFile text files before inner answer fine
+script_completes text files n k start_failed at_first sent before start bytes_written inner answer fine began ran is had got =
+    let m = ran.run.middle in
+    let all = whole m.state.fonts m.pages in
+    let sent_is : began.sent ≡ before = ap (λ (b : Beginning). b.sent) had in
+    let written_is : began.bytes_written ≡ Some began.sent = ap (λ (b : Beginning). b.bytes_written) had ∙ ap Some (sym sent_is) in
+    record {
+      lines = ran.lines;
+      replies = ran.replies;
+      end = ran.end;
+      script = ran.script;
+      before = n;
+      middle = m;
+      failed = ran.run.failed;
+      ran = ran.run.ran;
+      last = ran.run.last;
+      after = k;
+      finished = ran.run.finished;
+      answer_is = ran.answer_is;
+      fine_is = ran.fine_is;
+      file = λ front. completed ran.end bytes_written bytes_written start inner sent all start_failed began ran.run.file refl is written_is (subst (λ (s : List ℕ). IsFrontOf s all) (sym sent_is) front) (got all);
+    }
+
+-- The answer to a script that was run over a new device for the rest of a file.
+pub resumed : {D : Type 0} (bytes_written : D → Option (List ℕ)) (failed : D → ℕ) (text : List ℕ) (files : List NamedBytes) (device : D) (sent : List ℕ) (start rest : Resumed D) (inner : D)
+    (answer : List ℕ) (fine : Bool) → start ≡ record { device = device; start = device; sent = sent; met = 0; failures = 0 }
+    → IsAnswered (written_by bytes_written) (λ r. failed r.device + r.failures) text files start rest answer fine → began_by bytes_written failed rest ≡ began_by bytes_written failed start → bytes_written device ≡ Some sent
+    → inner ≡ rest.device
+    → ((whole : List ℕ) → IfSome (written_by bytes_written rest) (λ bytes. bytes ≡ whole) → IsFrontOf rest.sent whole → bytes_written rest.start ≡ Some rest.sent → bytes_written inner ≡ Some whole)
+    → IsAnswerOfRest text files sent (bytes_written inner) answer fine
+resumed bytes_written failed text files device sent start rest inner answer fine new (inl ran) began had same got =
+    let began_so : began_by bytes_written failed start ≡ beginning sent (Some sent) (failed device) =
+    ap (began_by bytes_written failed) new ∙ ap (λ (t : Option (List ℕ)). beginning sent t (failed device)) had in
+    inl (script_completes text files _ _ (failed rest.start) (failed device) rest.sent sent (bytes_written rest.start) (written_by bytes_written rest) (bytes_written inner) answer fine (began_by bytes_written failed start) ran
+    began began_so got)
+resumed {D = D} bytes_written failed text files device sent start rest inner answer fine new (inr (bad, back)) began had same got =
+    inr (bad, ap bytes_written (same ∙ ap (λ (r : Resumed D). r.device) (back ∙ new)) ∙ had)
+
+-- The file of no pages is empty.
+no_whole : (m : Machine) → m.pages ≡ [] → whole m.state.fonts m.pages ≡ []
+unfolding whole
+no_whole m none = rw none refl
+
+-- A run without a page has sent nothing, if its end succeeded.
+pub silent_run : (files : List NamedBytes) (n k : ℕ) (commands : List Command) (replies : List Reply) (end : Result Summary Refusal) (bytes_written : Option (List ℕ))
+    (run : WasRun files n commands replies end k bytes_written) → run.middle.pages ≡ [] → OnOk end (IfSome bytes_written (λ bytes. bytes ≡ []))
+silent_run files n k commands replies end bytes_written run none =
+    subst (λ (all : List ℕ). OnOk end (IfSome bytes_written (λ bytes. bytes ≡ all))) (no_whole run.middle none) run.file
+
+pub commands_more : (front : List Line) (line : Line) → commands_of (front ++ line ∷ []) ≡ commands_of front ++ line.command ∷ []
+commands_more [] line = refl
+commands_more (first ∷ front) line = ap (λ (rest : List Command). first.command ∷ rest) (commands_more front line)
+
+pub numbers_more : (front : List Line) (line : Line) → line_numbers (front ++ line ∷ []) ≡ line_numbers front ++ line.number ∷ []
+numbers_more [] line = refl
+numbers_more (first ∷ front) line = ap (λ (rest : List ℕ). first.number ∷ rest) (numbers_more front line)
+
+-- The text of one more answer.
+pub answers_more : (lines : List Line) (replies : List Reply) (line : Line) (reply : Reply) → length replies ≡ length lines
+    → answer_lines (line_numbers (lines ++ line ∷ [])) (replies ++ reply ∷ []) ≡ answer_lines (line_numbers lines) replies ++ answer_line line.number reply
+answers_more [] [] line reply h = append-nil (answer_line line.number reply)
+answers_more [] (first ∷ replies) line reply h = absurd (omega arith)
+answers_more (front ∷ lines) [] line reply h = absurd (omega arith)
+answers_more (front ∷ lines) (first ∷ replies) line reply h =
+    ap (λ (rest : List ℕ). answer_line front.number first ++ rest) (answers_more lines replies line reply (omega (arith, h)))
+    ∙ sym (append_assoc (answer_line front.number first) (answer_lines (line_numbers lines) replies) (answer_line line.number reply))
+
+all_more : (replies : List Reply) (reply : Reply) → list_all is_ok (replies ++ reply ∷ []) ≡ (list_all is_ok replies && is_ok reply)
+all_more replies reply = list_all-append is_ok replies (reply ∷ []) ∙ ap (λ (b : Bool). list_all is_ok replies && b) (and-true (is_ok reply))
+
+pub both : (a b c d : Bool) → a ≡ c → b ≡ d → (a && b) ≡ (c && d)
+both a b c d h k = ap (λ (x : Bool). x && b) h ∙ ap (λ (x : Bool). c && x) k
+
+pub accepted_one_more : (accepted fine : Bool) (replies : List Reply) (reply : Reply) → accepted ≡ list_all is_ok replies → fine ≡ is_ok reply
+    → (accepted && fine) ≡ list_all is_ok (replies ++ reply ∷ [])
+accepted_one_more accepted fine replies reply h k = both accepted fine (list_all is_ok replies) (is_ok reply) h k ∙ sym (all_more replies reply)
+
+-- A run with one more line.
+pub ran_one_more : (old now new : JobView) (front more : List Line) (line : Line) (replies : List Reply) (reply : Reply) → more ≡ front ++ line ∷ []
+    → RunsTo old (commands_of front) replies now → KeepsTo now line.command reply new → RunsTo old (commands_of more) (replies ++ reply ∷ []) new
+ran_one_more old now new front more line replies reply is ran keeps =
+    subst (λ (xs : List Command). RunsTo old xs (replies ++ reply ∷ []) new) (sym (ap commands_of is ∙ commands_more front line))
+    (runs_more old now new (commands_of front) replies line.command reply ran keeps)
+
+pub length_more : (front more : List Line) (line : Line) (replies : List Reply) (reply : Reply) → more ≡ front ++ line ∷ [] → length replies ≡ length front
+    → length (replies ++ reply ∷ []) ≡ length more
+length_more front more line replies reply is h = length-append replies (reply ∷ []) ∙ (ap (λ (n : ℕ). n + 1) h ∙ (sym (length-append front (line ∷ [])) ∙ ap length (sym is)))
+
+pub answers_one_more : {A : Type 0} (bytes : A → List ℕ) (front more : List Line) (line : Line) (replies : List Reply) (reply : Reply) (text : Option A) → more ≡ front ++ line ∷ []
+    → length replies ≡ length front → IfSome text (λ t. bytes t ≡ answer_lines (line_numbers front) replies ++ answer_line line.number reply)
+    → IfSome text (λ t. bytes t ≡ answer_lines (line_numbers more) (replies ++ reply ∷ []))
+answers_one_more bytes front more line replies reply text is h t =
+    subst (λ (all : List ℕ). IfSome text (λ t. bytes t ≡ all))
+    (sym (answers_more front replies line reply h) ∙ ap (λ (xs : List Line). answer_lines (line_numbers xs) (replies ++ reply ∷ [])) (sym is)) t

@@ -1,0 +1,31 @@
+-- The answers, and then the bytes of the device.
+use Rattle.std.proofs.Common.{sym, ◌∙◌, ap, ◌++◌, List, ℕ}
+use Rattle.boxglue_program.specs.Texts.{hexadecimal_text}
+use Rattle.boxglue_program.proofs.RunLaws.{on_ok, answered_in_memory, lacking_in_memory}
+use Rattle.boxglue_program.proofs.memory_run.run_memory.Goals as goal
+
+pub returns-in-Ok-write_text-clause-answers : goal.returns-in-Ok-write_text-clause-answers
+returns-in-Ok-write_text-clause-answers g c =
+    let done = c.in-Ok.done in
+    let pushed = on_ok c.push_hexadecimal.result (sym c.is_err.ensures.value ∙ c.if-is_err.false) c.push_hexadecimal.ensures in
+    let whole = c.deref.ensures.value ∙ (pushed ∙ ap (λ (bytes : List ℕ). done.text.items ++ hexadecimal_text bytes) c.bytes.ensures) in (
+      c.deref.result.now,
+      (done.device, answered_in_memory c.args.text.now c.args.files.now c.new.result done.device done.text.items c.deref.result.now done.accepted c.new.ensures c.in-Ok.ensures.answers whole),
+      c.in-Ok-write_text.ensures.all,
+    )
+
+pub returns-then-is_err-clause-left : goal.returns-then-is_err-clause-left
+returns-then-is_err-clause-left g c =
+    let done = c.in-Ok.done in
+    lacking_in_memory c.args.text.now c.args.files.now c.new.result done.device done.text.items done.accepted _ c.new.ensures c.in-Ok.ensures.answers
+
+pub returns-clause-left : goal.returns-clause-left
+returns-clause-left g c =
+    let done = c.in-Ok.done in
+    let pushed = on_ok c.push_hexadecimal.result (sym c.is_err.ensures.value ∙ c.if-is_err.false) c.push_hexadecimal.ensures in
+    let whole = c.deref.ensures.value ∙ (pushed ∙ ap (λ (bytes : List ℕ). done.text.items ++ hexadecimal_text bytes) c.bytes.ensures) in (
+      c.deref.result.now,
+      done.accepted,
+      answered_in_memory c.args.text.now c.args.files.now c.new.result done.device done.text.items c.deref.result.now done.accepted c.new.ensures c.in-Ok.ensures.answers whole,
+      c.in-Err-write_text.ensures.front,
+    )

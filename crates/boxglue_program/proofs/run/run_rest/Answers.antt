@@ -1,0 +1,16 @@
+-- The answers, and the file that the inner device then has.
+use Rattle.boxglue_program.proofs.RunLaws.{resumed}
+use Rattle.boxglue_program.proofs.run.run_rest.Goals as goal
+
+pub returns-in-Ok : goal.returns-in-Ok
+returns-in-Ok g c =
+    let rest = c.in-Ok.rest in
+    let answers = c.in-Ok.ensures.answers in
+    record {
+      whole = λ had. (
+        answers.0,
+        resumed g.D.Device.bytes_written g.D.Device.failed c.args.text.now c.args.files.now c.args.device c.args.sent.items c.new.result rest c.into_device.result answers.0 c.in-Ok.accepted
+            c.new.ensures.made answers.1 c.in-Ok.ensures.began had c.into_device.ensures.device c.into_device.ensures.whole,
+        answers.2,
+      );
+    }

@@ -1,0 +1,163 @@
+-- Runs of a script, and what is written of them (own).
+use Rattle.std.specs.Prelude.{◌≡◌, ◌≢◌, ◌<◌, ◌⊎◌, ◌&&◌, ◌++◌, ℕ, Bool, false, true, List, [], length, map, take, codes, Option, Some, IfSome, Result, Err, IfOk, OnOk, is_ok}
+use Rattle.std.specs.List.{list_all}
+use Rattle.std.specs.Io.KnownBytes.{Appends, Keeps}
+use Rattle.job_commands.specs.declared.command.Command.{Command}
+use Rattle.job_commands.specs.declared.command.Refusal.{Refusal}
+use Rattle.job_commands.specs.declared.command.Refusal.TheVariants as refusals
+use Rattle.job_commands.specs.declared.command.Summary.{Summary}
+use Rattle.job_commands.specs.Reply.{Reply}
+use Rattle.tfm_core.specs.NamedBytes.{NamedBytes}
+use Rattle.dvi_device.specs.Written.{IsFrontOf}
+use Rattle.dvi_ops.specs.Fonts.{WidthsByName}
+use Rattle.dvi_layout.specs.Layout.{front, whole}
+use Rattle.dvi_layout.specs.Shippable.{IsFileOfPages}
+use Rattle.job_core.specs.Shown.{GivesFiles}
+use Rattle.dvi_layout.specs.Closing.{IsClosedFor}
+use Rattle.dvi_device.specs.Held.{MemoryState}
+use Rattle.job_machine.specs.Machine.{Machine, first_machine}
+use Rattle.job_machine.specs.Runs.{Run, Finishes}
+use Rattle.boxglue_script.specs.declared.cause.Cause.{Cause}
+use Rattle.boxglue_script.specs.declared.script.Line.{Line}
+use Rattle.boxglue_program.specs.declared.run.RunFault.{RunFault}
+use Rattle.boxglue_program.specs.declared.run.RunFault.TheVariants.{Memory, Answers}
+use Rattle.boxglue_script.specs.Script.{IsScript, IsFirstBad}
+use Rattle.boxglue_program.specs.Texts.{answers_text, script_refusal_text, hexadecimal_text}
+
+-- The commands of some lines.
+abbrev pub commands_of : List Line → List Command
+commands_of lines = map (λ line. line.command) lines
+
+-- The numbers of some lines.
+abbrev pub line_numbers : List Line → List ℕ
+line_numbers lines = map (λ line. line.number) lines
+
+-- Nothing was refused.
+abbrev pub is_accepted : List Reply → Result Summary Refusal → Bool
+is_accepted replies end = list_all is_ok replies && is_ok end
+
+-- What a job that is over has sent. If no page was being sent: the file of its machine's pages or a beginning of it. If the device failed in a `ship`: a
+-- beginning of the file up to the eop of the page of that command.
+abbrev pub IsSentPart : Machine → List ℕ → Type 0
+IsSentPart m bytes =
+    ((m.flight ≡ []) × ((bytes ≡ whole m.state.fonts m.pages) ⊎ IsFrontOf bytes (whole m.state.fonts m.pages)))
+    ⊎ ((m.flight ≢ []) × IsFrontOf bytes (front m.state.fonts (m.pages ++ m.flight)))
+
+-- A new job with these font files ran these commands with these replies, and was then finished with this end. The count of failures of its device
+-- went from n to k, and the device then reported these bytes. If the end succeeded, they are a DVI file of exactly the machine's pages, by the
+-- definition of DVI files alone and by the widths that the font files give; they are the file that this writer lays out, and it ends as a file of
+-- these pages does. If the device failed in the end, they are a beginning of that file. If the job is not over because its end was refused, they are
+-- the bytes of all pages that were shipped. If the job is over, whatever failed, they are a beginning of the one file.
+pub record WasRun (files : List NamedBytes) (n : ℕ) (commands : List Command) (replies : List Reply) (end : Result Summary Refusal) (k : ℕ) (bytes_written : Option (List ℕ)) : Type 0 where
+  pub middle : Machine
+  pub failed : ℕ
+  pub ran : Run (first_machine files) n commands replies middle failed
+  pub last : Machine
+  pub finished : Finishes middle failed end last k
+  pub dvi : (metrics : WidthsByName) → GivesFiles metrics files → OnOk end (IfSome bytes_written (λ bytes. IsFileOfPages metrics bytes middle.pages))
+  pub file : OnOk end (IfSome bytes_written (λ bytes. bytes ≡ whole middle.state.fonts middle.pages))
+  pub size : IfOk end (λ summary. IfSome bytes_written (λ bytes. summary.bytes ≡ length bytes))
+  pub count : IfOk end (λ summary. summary.bytes ≡ length (whole middle.state.fonts middle.pages))
+  pub closed : middle.pages ≢ [] → OnOk end (IfSome bytes_written (λ bytes. IsClosedFor middle.state.fonts bytes middle.pages))
+  pub sent : last.state.over ≡ false → IfSome bytes_written (λ bytes. bytes ≡ front last.state.fonts last.pages)
+  pub front : end ≡ Err refusals.Device → IfSome bytes_written (λ bytes. IsFrontOf bytes (whole middle.state.fonts middle.pages))
+  pub part : last.state.over ≡ true → IfSome bytes_written (IsSentPart last)
+
+-- A script was run, and this is the text of its answers.
+pub record RanScript (text : List ℕ) (files : List NamedBytes) (n k : ℕ) (bytes_written : Option (List ℕ)) (answer : List ℕ) (fine : Bool) : Type 0 where
+  pub lines : List Line
+  pub replies : List Reply
+  pub end : Result Summary Refusal
+  pub script : IsScript text lines
+  pub run : WasRun files n (commands_of lines) replies end k bytes_written
+  pub answer_is : answer ≡ answers_text (line_numbers lines) replies end
+  pub fine_is : fine ≡ is_accepted replies end
+
+-- A script is bad, and this is its one line.
+pub record RefusedScript (text answer : List ℕ) (fine : Bool) : Type 0 where
+  pub number : ℕ
+  pub cause : Cause
+  pub bad : IsFirstBad text number cause
+  pub answer_is : answer ≡ script_refusal_text number cause
+  pub fine_is : fine ≡ false
+
+-- The answer to a script, and the device after it: the answers and the device on which the script was run; or the one line and the device as it was.
+abbrev pub IsAnswered : {D : Type 0} → (bytes_written : D → Option (List ℕ)) → (failed : D → ℕ) → List ℕ → List NamedBytes → (device back : D) → (answer : List ℕ) → (fine : Bool) → Type 0
+IsAnswered bytes_written failed text files device back answer fine =
+    RanScript text files (failed device) (failed back) (bytes_written back) answer fine ⊎ (RefusedScript text answer fine × (back ≡ device))
+
+-- A device that has reported no byte and failed as often as before: nothing was run on it.
+pub record IsUntouched (n k : ℕ) (bytes_written : Option (List ℕ)) : Type 0 where
+  pub silent : IfSome bytes_written (λ bytes. bytes ≡ [])
+  pub failed_is : k ≡ n
+
+-- A script was run, with some replies and some end.
+abbrev pub WasRunWhole : List ℕ → List NamedBytes → (n k : ℕ) → Option (List ℕ) → Type 0
+WasRunWhole text files n k bytes_written =
+    (lines : List Line) × (replies : List Reply) × (end : Result Summary Refusal) × IsScript text lines × WasRun files n (commands_of lines) replies end k bytes_written
+
+-- What was written is a beginning of a text, and not all of it.
+abbrev pub WritesFront : (old new : Option (List ℕ)) → List ℕ → Type 0
+WritesFront old new text = (count : ℕ) × (count < length text) × Appends old new (take count text)
+
+-- Memory was refused: nothing was run, or the whole script was; and nothing was written.
+pub record LacksMemory (text : List ℕ) (files : List NamedBytes) (n k : ℕ) (bytes_written old new : Option (List ℕ)) : Type 0 where
+  pub device : IsUntouched n k bytes_written ⊎ WasRunWhole text files n k bytes_written
+  pub silent : Keeps old new
+
+-- What is known if a run failed: memory was refused; or the writer took a beginning of the answer, once, and not all of it.
+abbrev pub IsLeft : {D : Type 0} → (bytes_written : D → Option (List ℕ)) → (failed : D → ℕ) → List ℕ → List NamedBytes → (device : D) → RunFault D → (old new : Option (List ℕ)) → Type 0
+IsLeft bytes_written failed text files device (Memory back) old new = LacksMemory text files (failed device) (failed back) (bytes_written back) old new
+IsLeft bytes_written failed text files device (Answers back) old new =
+    (answer : List ℕ) × (fine : Bool) × IsAnswered bytes_written failed text files device back answer fine × WritesFront old new answer
+
+-- A script was run on a device in memory: this text has its answers, and then the bytes that the device took.
+pub record RanInMemory (text : List ℕ) (files : List NamedBytes) (failed : ℕ) (bytes answer : List ℕ) (fine : Bool) : Type 0 where
+  pub answers : List ℕ
+  pub ran : RanScript text files 0 failed (Some bytes) answers fine
+  pub answer_is : answer ≡ answers ++ hexadecimal_text bytes
+
+-- The answer to a script whose device is in memory and then holds this; a bad script has its one line.
+abbrev pub IsAnsweredInMemory : List ℕ → List NamedBytes → MemoryState → (answer : List ℕ) → (fine : Bool) → Type 0
+IsAnsweredInMemory text files memory answer fine = RanInMemory text files memory.failures memory.bytes answer fine ⊎ RefusedScript text answer fine
+
+-- The answer to a script whose device is in memory, whatever the device then holds; a bad script has its one line.
+abbrev pub IsAnswerInMemory : List ℕ → List NamedBytes → (answer : List ℕ) → (fine : Bool) → Type 0
+IsAnswerInMemory text files answer fine = (memory : MemoryState) × IsAnsweredInMemory text files memory answer fine
+
+-- What is known if a run on a device in memory failed: memory was refused; or the writer took a beginning of the answer, and not all of it.
+abbrev pub IsLeftInMemory : List ℕ → List NamedBytes → RunFault MemoryState → (old new : Option (List ℕ)) → Type 0
+IsLeftInMemory text files (Memory memory) old new = LacksMemory text files 0 memory.failures (Some memory.bytes) old new
+IsLeftInMemory text files (Answers memory) old new =
+    (answer : List ℕ) × (fine : Bool) × IsAnsweredInMemory text files memory answer fine × WritesFront old new answer
+
+-- A script was run again over the rest of a file of which these bytes were sent before. If they are a beginning of the file of its machine's pages, and
+-- its end succeeded, the inner device then reports exactly this file.
+pub record CompletesFile (text : List ℕ) (files : List NamedBytes) (sent : List ℕ) (bytes_written : Option (List ℕ)) (answer : List ℕ) (fine : Bool) : Type 0 where
+  pub lines : List Line
+  pub replies : List Reply
+  pub end : Result Summary Refusal
+  pub script : IsScript text lines
+  pub before : ℕ
+  pub middle : Machine
+  pub failed : ℕ
+  pub ran : Run (first_machine files) before (commands_of lines) replies middle failed
+  pub last : Machine
+  pub after : ℕ
+  pub finished : Finishes middle failed end last after
+  pub answer_is : answer ≡ answers_text (line_numbers lines) replies end
+  pub fine_is : fine ≡ is_accepted replies end
+  pub file : IsFrontOf sent (whole middle.state.fonts middle.pages) → OnOk end (bytes_written ≡ Some (whole middle.state.fonts middle.pages))
+
+-- The answer to a script that is run again over the rest of a file of which these bytes were sent before; a bad script has its one line.
+abbrev pub IsAnswerOfRest : List ℕ → List NamedBytes → (sent : List ℕ) → (bytes_written : Option (List ℕ)) → (answer : List ℕ) → (fine : Bool) → Type 0
+IsAnswerOfRest text files sent bytes_written answer fine = CompletesFile text files sent bytes_written answer fine ⊎ (RefusedScript text answer fine × (bytes_written ≡ Some sent))
+
+-- The device that is returned if a run failed.
+abbrev pub device_of : {D : Type 0} → RunFault D → D
+device_of (Memory back) = back
+device_of (Answers back) = back
+
+-- The line for a refused growth of memory.
+abbrev pub memory_line : List ℕ
+memory_line = codes "refused 1 OutOfMemory\n"

@@ -1,0 +1,18 @@
+//! The running of scripts, for every caller: a script's text is read, run on a device, and answered in texts; with a device in memory the bytes of
+//! the file are written after the answers. This crate knows of no command line. Its users are the program `boxglue`, which has standard
+//! input and output, `rows_scripts`, which runs files of cases, and other callers.
+#![tactic(auto)]
+
+mod hexadecimal;
+pub mod laws;
+mod memory_run;
+mod run;
+mod texts;
+mod writing;
+
+pub use boxglue_script::{Cause, Line, ScriptFault, read_script};
+pub use job_core::{Device, DeviceFault, FontFile, FontName, Fuse, Memory, Rest};
+pub use memory_run::run_memory;
+pub use run::{RunFault, run_lines, run_rest, run_script};
+pub use texts::{script_refusal_text, with_end};
+pub use writing::{Unwritten, refuse_memory, write_text};

@@ -1,0 +1,368 @@
+//! The texts of answers.
+
+ghost use Rattle.std.specs.Prelude.{◌≡◌, ◌++◌, ◌+◌, ◌*◌, ◌<◌, ℕ, List, decimal, OnOk, OnErr, IfOk, IfSome};
+ghost use Rattle.std.specs.Fmt.{signed_decimal};
+ghost use Rattle.boxglue_program.specs.Texts.{refusal_row, metric_refusal_name, cause_name, kind_name, points_text, sizes_text, rest_text, lines_text, costs_text, refusal_text, answer_text, reply_text, answer_line, summary_text, end_line, script_refusal_text};
+
+use boxglue_script::Cause;
+use itoa::Buffer;
+use job_core::{Answer, Refusal, Reply, Sizes, Summary, TfmCause};
+use node_core::Kind;
+use scaled_core::{Dimen, print_dimen};
+use std::alloc::{AllocError, Global};
+
+/// The name of the refusal of a metric file, with its cause.
+fn metric_refusal_name(cause: TfmCause) -> &'static str
+    ensures { result.now ≡ metric_refusal_name cause }
+{
+    match cause {
+        TfmCause::TooShort => "BadTfm TooShort",
+        TfmCause::Counts => "BadTfm Counts",
+        TfmCause::DesignSize => "BadTfm DesignSize",
+        TfmCause::CharInfo => "BadTfm CharInfo",
+        TfmCause::FixWord => "BadTfm FixWord",
+        TfmCause::LigKern => "BadTfm LigKern",
+    }
+}
+
+/// The number and the name of a refusal. 2 is the number of a bad script, and 20 that of a DVI file that is refused.
+fn refusal_row(refusal: Refusal) -> (u32, &'static str)
+    ensures number { result.0 ≡ (refusal_row refusal).0 }
+    ensures name { result.1.now ≡ (refusal_row refusal).1 }
+{
+    match refusal {
+        Refusal::OutOfMemory => (1, "OutOfMemory"),
+        Refusal::DimensionTooLarge => (3, "DimensionTooLarge"),
+        Refusal::NoFont => (4, "NoFont"),
+        Refusal::BadTfm(cause) => (5, metric_refusal_name(cause)),
+        Refusal::SlotTaken => (6, "SlotTaken"),
+        Refusal::NoOpenList => (7, "NoOpenList"),
+        Refusal::WrongMode => (8, "WrongMode"),
+        Refusal::WrongKind => (9, "WrongKind"),
+        Refusal::ListTooLong => (10, "ListTooLong"),
+        Refusal::TooDeep => (11, "TooDeep"),
+        Refusal::InfiniteShrink => (12, "InfiniteShrink"),
+        Refusal::TooManyBreaks => (13, "TooManyBreaks"),
+        Refusal::HugePage => (14, "HugePage"),
+        Refusal::TooManyPages => (15, "TooManyPages"),
+        Refusal::TooMuchShipped => (16, "TooMuchShipped"),
+        Refusal::ListsOpen => (17, "ListsOpen"),
+        Refusal::Device => (18, "Device"),
+        Refusal::JobOver => (19, "JobOver"),
+        Refusal::VoidBox => (21, "VoidBox"),
+        Refusal::TooMuchSpecial => (22, "TooMuchSpecial"),
+    }
+}
+
+/// The name of the cause that makes a script bad.
+fn cause_name(cause: Cause) -> &'static str
+    ensures { result.now ≡ cause_name cause }
+{
+    match cause {
+        Cause::Byte => "Byte",
+        Cause::Word => "Word",
+        Cause::Missing => "Missing",
+        Cause::Extra => "Extra",
+        Cause::Number => "Number",
+        Cause::Dimension => "Dimension",
+        Cause::Name => "Name",
+    }
+}
+
+/// The word for a kind of box.
+fn kind_name(kind: Kind) -> &'static str
+    ensures { result.now ≡ kind_name kind }
+{
+    match kind {
+        Kind::Horizontal => "hbox",
+        Kind::Vertical => "vbox",
+    }
+}
+
+/// Appends a text. If memory is refused, nothing was appended.
+fn push_text(text: &str, out: &mut Vec<u8>) -> Result<(), AllocError>
+    ensures ok { OnOk result (out.new.items ≡ out.old.items ++ text.now) }
+    ensures err { OnErr result (out.new.items ≡ out.old.items) }
+{
+    out.extend_from_slice(text.as_bytes())
+}
+
+/// Appends a number in decimal. If memory is refused, nothing was appended.
+fn push_number(number: u64, out: &mut Vec<u8>) -> Result<(), AllocError>
+    ensures ok { OnOk result (out.new.items ≡ out.old.items ++ decimal number) }
+    ensures err { OnErr result (out.new.items ≡ out.old.items) }
+{
+    let mut buffer = Buffer::new();
+    out.extend_from_slice(buffer.format(number).as_bytes())
+}
+
+/// Appends a number in decimal, with a minus sign if it is negative. If memory is refused, nothing was appended.
+fn push_signed(number: i64, out: &mut Vec<u8>) -> Result<(), AllocError>
+    ensures ok { OnOk result (out.new.items ≡ out.old.items ++ signed_decimal number) }
+    ensures err { OnErr result (out.new.items ≡ out.old.items) }
+{
+    let mut buffer = Buffer::new();
+    out.extend_from_slice(buffer.format(number).as_bytes())
+}
+
+/// Appends a dimension in points. If memory is refused, here and in the functions below, a beginning of the text may have been appended.
+#[tactic(auto, unfolding(crate::specs::Texts::points_text))]
+fn push_points(dimension: Dimen, out: &mut Vec<u8>) -> Result<(), AllocError>
+    ensures { OnOk result (out.new.items ≡ out.old.items ++ points_text dimension) }
+{
+    print_dimen(dimension, out)?;
+    push_text("pt", out)
+}
+
+/// Appends width, height and depth.
+#[tactic(auto, unfolding(crate::specs::Texts::sizes_text))]
+fn push_sizes(sizes: &Sizes, out: &mut Vec<u8>) -> Result<(), AllocError>
+    ensures { OnOk result (out.new.items ≡ out.old.items ++ sizes_text sizes.now) }
+{
+    push_points(sizes.width, out)?;
+    push_text(" ", out)?;
+    push_points(sizes.height, out)?;
+    push_text(" ", out)?;
+    push_points(sizes.depth, out)
+}
+
+/// Appends a refusal with its number and name.
+#[tactic(auto, unfolding(crate::specs::Texts::refusal_text))]
+fn push_refusal(refusal: Refusal, out: &mut Vec<u8>) -> Result<(), AllocError>
+    ensures { OnOk result (out.new.items ≡ out.old.items ++ refusal_text refusal) }
+{
+    let (number, name) = refusal_row(refusal);
+    push_text("refused ", out)?;
+    push_number(u64::from(number), out)?;
+    push_text(" ", out)?;
+    push_text(name, out)
+}
+
+/// Appends the answer to a packed box: sizes and badness.
+#[tactic(auto, unfolding(crate::specs::Texts::answer_text))]
+fn push_packed(sizes: &Sizes, badness: u32, out: &mut Vec<u8>) -> Result<(), AllocError>
+    ensures { OnOk result (out.new.items ≡ out.old.items ++ answer_text (Answer.Packed sizes.now badness)) }
+{
+    push_text("packed ", out)?;
+    push_sizes(sizes, out)?;
+    push_text(" badness ", out)?;
+    push_number(u64::from(badness), out)
+}
+
+/// Appends the answer to a measured box: kind and sizes.
+#[tactic(auto, unfolding(crate::specs::Texts::answer_text))]
+fn push_measured(kind: Kind, sizes: &Sizes, out: &mut Vec<u8>) -> Result<(), AllocError>
+    ensures { OnOk result (out.new.items ≡ out.old.items ++ answer_text (Answer.Measured kind sizes.now)) }
+{
+    push_text("measured ", out)?;
+    push_text(kind_name(kind), out)?;
+    push_text(" ", out)?;
+    push_sizes(sizes, out)
+}
+
+/// Appends how many items characters added, and how many characters are missing in the font.
+#[tactic(auto, unfolding(crate::specs::Texts::answer_text))]
+fn push_shaped(items: usize, missing: usize, out: &mut Vec<u8>) -> Result<(), AllocError>
+    ensures { OnOk result (out.new.items ≡ out.old.items ++ answer_text (Answer.Shaped items missing)) }
+{
+    push_text("added ", out)?;
+    push_number(items as u64, out)?;
+    push_text(" missing ", out)?;
+    push_number(missing as u64, out)
+}
+
+/// Appends how many items were added.
+#[tactic(auto, unfolding(crate::specs::Texts::answer_text))]
+fn push_added(items: usize, out: &mut Vec<u8>) -> Result<(), AllocError>
+    ensures { OnOk result (out.new.items ≡ out.old.items ++ answer_text (Answer.Added items)) }
+{
+    push_text("added ", out)?;
+    push_number(items as u64, out)
+}
+
+/// Appends the number of lines of a paragraph.
+fn push_lines(lines: usize, out: &mut Vec<u8>) -> Result<(), AllocError>
+    ensures { OnOk result (out.new.items ≡ out.old.items ++ lines_text lines) }
+{
+    push_text("paragraph lines ", out)?;
+    push_number(lines as u64, out)
+}
+
+/// Appends the overhang and the demerits of a paragraph.
+#[tactic(auto, unfolding(crate::specs::Texts::costs_text))]
+fn push_costs(overhang: i64, demerits: i64, out: &mut Vec<u8>) -> Result<(), AllocError>
+    ensures { OnOk result (out.new.items ≡ out.old.items ++ costs_text overhang demerits) }
+{
+    push_text(" overhang ", out)?;
+    push_signed(overhang, out)?;
+    push_text(" demerits ", out)?;
+    push_signed(demerits, out)
+}
+
+/// Appends the answer to a broken paragraph: its lines, the pass that gave them, its overhang in scaled points and its demerits.
+#[tactic(auto, unfolding(crate::specs::Texts::answer_text))]
+fn push_paragraph(
+    lines: usize,
+    pass: u8,
+    overhang: i64,
+    demerits: i64,
+    out: &mut Vec<u8>,
+) -> Result<(), AllocError>
+    ensures { OnOk result (out.new.items ≡ out.old.items ++ answer_text (Answer.Paragraph lines pass overhang demerits)) }
+{
+    push_lines(lines, out)?;
+    push_text(" pass ", out)?;
+    push_number(u64::from(pass), out)?;
+    push_costs(overhang, demerits, out)
+}
+
+/// Appends the sizes of the rest of a split, or `void` if there is none.
+#[tactic(auto, unfolding(crate::specs::Texts::rest_text))]
+fn push_rest(rest: &Option<Sizes>, out: &mut Vec<u8>) -> Result<(), AllocError>
+    ensures { OnOk result (out.new.items ≡ out.old.items ++ rest_text rest.now) }
+{
+    match rest {
+        None => push_text("void", out),
+        Some(sizes) => push_sizes(sizes, out),
+    }
+}
+
+/// Appends the answer to a split: the sizes of the front, its badness, and the rest.
+#[tactic(auto, unfolding(crate::specs::Texts::answer_text))]
+fn push_split(
+    front: &Sizes,
+    badness: u32,
+    rest: &Option<Sizes>,
+    out: &mut Vec<u8>,
+) -> Result<(), AllocError>
+    ensures { OnOk result (out.new.items ≡ out.old.items ++ answer_text (Answer.Split front.now badness rest.now)) }
+{
+    push_text("split ", out)?;
+    push_sizes(front, out)?;
+    push_text(" badness ", out)?;
+    push_number(u64::from(badness), out)?;
+    push_text(" rest ", out)?;
+    push_rest(rest, out)
+}
+
+/// Appends the number of pages that were shipped.
+#[tactic(auto, unfolding(crate::specs::Texts::answer_text))]
+fn push_shipped(pages: u32, out: &mut Vec<u8>) -> Result<(), AllocError>
+    ensures { OnOk result (out.new.items ≡ out.old.items ++ answer_text (Answer.Shipped pages)) }
+{
+    push_text("shipped ", out)?;
+    push_number(u64::from(pages), out)
+}
+
+/// Appends an answer.
+#[tactic(auto, unfolding(crate::specs::Texts::answer_text))]
+fn push_answer(answer: &Answer, out: &mut Vec<u8>) -> Result<(), AllocError>
+    ensures { OnOk result (out.new.items ≡ out.old.items ++ answer_text answer.now) }
+{
+    match answer {
+        Answer::Done => push_text("ok", out),
+        Answer::Packed(sizes, badness) => push_packed(sizes, *badness, out),
+        Answer::Measured(kind, sizes) => push_measured(*kind, sizes, out),
+        Answer::MeasuredVoid => push_text("measured void", out),
+        Answer::Shaped { items, missing } => push_shaped(*items, *missing, out),
+        Answer::Added(items) => push_added(*items, out),
+        Answer::Paragraph {
+            lines,
+            pass,
+            overhang,
+            demerits,
+        } => push_paragraph(*lines, *pass, *overhang, *demerits, out),
+        Answer::Split {
+            front,
+            badness,
+            rest,
+        } => push_split(front, *badness, rest, out),
+        Answer::SplitVoid => push_text("split void", out),
+        Answer::Shipped(pages) => push_shipped(*pages, out),
+    }
+}
+
+/// Appends the reply of a job.
+fn push_reply(reply: &Reply, out: &mut Vec<u8>) -> Result<(), AllocError>
+    ensures { OnOk result (out.new.items ≡ out.old.items ++ reply_text reply.now) }
+{
+    match reply {
+        Ok(answer) => push_answer(answer, out),
+        Err(refusal) => push_refusal(*refusal, out),
+    }
+}
+
+/// Appends the line that answers the line of a script with this number. Most answers are `ok`, so this one is appended as one piece.
+#[tactic(auto, unfolding(crate::specs::Texts::answer_line, crate::specs::Texts::answer_text))]
+fn push_answer_line(number: usize, reply: &Reply, out: &mut Vec<u8>) -> Result<(), AllocError>
+    ensures { OnOk result (out.new.items ≡ out.old.items ++ answer_line number reply.now) }
+{
+    push_number(number as u64, out)?;
+    if let Ok(Answer::Done) = reply {
+        return push_text(": ok\n", out);
+    }
+    push_text(": ", out)?;
+    push_reply(reply, out)?;
+    push_text("\n", out)
+}
+
+/// Appends the result of the end of a job.
+fn push_summary(end: &Result<Summary, Refusal>, out: &mut Vec<u8>) -> Result<(), AllocError>
+    ensures { OnOk result (out.new.items ≡ out.old.items ++ summary_text end.now) }
+{
+    match end {
+        Ok(summary) => {
+            push_text("pages ", out)?;
+            push_number(u64::from(summary.pages), out)?;
+            push_text(" bytes ", out)?;
+            push_number(summary.bytes, out)
+        }
+        Err(refusal) => push_refusal(*refusal, out),
+    }
+}
+
+/// Appends the last line of the answers.
+#[tactic(auto, unfolding(crate::specs::Texts::end_line))]
+fn push_end_line(end: &Result<Summary, Refusal>, out: &mut Vec<u8>) -> Result<(), AllocError>
+    ensures { OnOk result (out.new.items ≡ out.old.items ++ end_line end.now) }
+{
+    push_text("end: ", out)?;
+    push_summary(end, out)?;
+    push_text("\n", out)
+}
+
+/// The text of the answers with one more line. None if memory is refused, or was refused before.
+pub fn with_answer(text: Option<Vec<u8>>, number: usize, reply: &Reply) -> Option<Vec<u8>>
+    ensures { (front : List ℕ) → IfSome text (λ old. old.items ≡ front) → IfSome result (λ new. new.items ≡ front ++ answer_line number reply.now) }
+{
+    let mut text = text?;
+    push_answer_line(number, reply, &mut text).ok()?;
+    Some(text)
+}
+
+/// The text of all answers with the last line. None if memory is refused, or was refused before.
+pub fn with_end(text: Option<Vec<u8>>, end: &Result<Summary, Refusal>) -> Option<Vec<u8>>
+    ensures { (front : List ℕ) → IfSome text (λ old. old.items ≡ front) → IfSome result (λ new. new.items ≡ front ++ end_line end.now) }
+{
+    let mut text = text?;
+    push_end_line(end, &mut text).ok()?;
+    Some(text)
+}
+
+/// The text for a bad script: the number of its first bad line, and the cause.
+#[tactic(auto, unfolding(crate::specs::Texts::script_refusal_text))]
+pub fn script_refusal_text(
+    alloc: Global,
+    number: usize,
+    cause: Cause,
+) -> Result<Vec<u8>, AllocError>
+    ensures { IfOk result (λ text. text.items ≡ script_refusal_text number cause) }
+{
+    let mut text = Vec::new(alloc);
+    push_text("refused 2 BadScript ", &mut text)?;
+    push_number(number as u64, &mut text)?;
+    push_text(" ", &mut text)?;
+    push_text(cause_name(cause), &mut text)?;
+    push_text("\n", &mut text)?;
+    Ok(text)
+}

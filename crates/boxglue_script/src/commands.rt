@@ -1,0 +1,381 @@
+//! The commands that the fields of a line give.
+
+ghost use Rattle.std.specs.Prelude.{◌≡◌, Ok, Err, IfOk, IfErr};
+ghost use Rattle.tfm_core.specs.NamedBytes.{IsFontName};
+ghost use Rattle.job_commands.specs.declared.command.Command.TheVariants as commands;
+ghost use Rattle.boxglue_script.specs.Grammar.{register_count};
+ghost use Rattle.boxglue_script.specs.ScriptLines.{fields_of};
+ghost use Rattle.boxglue_script.specs.Reading.{last_count, counting, counting_of, size_of_font, last_number, map_ok, chosen_size_of, font_of, last_penalty, last_amount, opening, opening_with_register, opening_into, opening_of, shift_of, append_of, unboxing, split_into, split_height, split_to, split_of, glue, shrink_of, last_shrink_of, parts_of, glue_of, parameter_of, rule_of, command_named, command_of};
+
+use crate::amounts::Amount;
+use crate::cause::Cause;
+use crate::fields::Fields;
+use crate::name::Name;
+use crate::parameter::{
+    names_first_lines, number_name, size_name, skip_name, with_number, with_size, with_skip,
+};
+use job_commands::{
+    AppendBox, BoxForm, Command, Counting, FontLoad, FontName, FontSize, Opening, Parameter,
+    Register, Splitting, Target, Transfer, Unboxing,
+};
+use node_core::{FirstLines, Glue, Kind, Rule};
+use scaled_core::Dimen;
+use std::alloc::{AllocError, Global};
+
+impl<'a> Fields<'a> {
+    /// What follows the name of a font: nothing, or `at` and a size.
+    #[tactic(auto, unfolding(crate::specs::Reading::chosen_size_of))]
+    fn chosen_size(&mut self) -> Result<Option<FontSize>, Cause>
+        ensures { result ≡ chosen_size_of (fields_of self.old.rest.now) }
+    {
+        match self.field() {
+            Ok(b"at") => {
+                let size = self.size_of_font()?;
+                self.end()?;
+                Ok(Some(size))
+            }
+            Ok(_) => Err(Cause::Word),
+            Err(_) => Ok(None),
+        }
+    }
+
+    /// The words after `font`, read.
+    #[tactic(auto, unfolding(crate::specs::Reading::font_of))]
+    fn font_words(&mut self) -> Result<FontWords<'a>, Cause>
+        ensures ok { IfOk result (λ words. font_of (fields_of self.old.rest.now) ≡ Ok (commands.LoadFont (record { slot = words.slot; name = words.name.now; size = words.size }))) }
+        ensures some { IfOk result (λ words. IsFontName words.name.now) }
+        ensures err { IfErr result (λ cause. font_of (fields_of self.old.rest.now) ≡ Err cause) }
+    {
+        let slot = self.slot()?;
+        let name = self.name()?;
+        let size = self.chosen_size()?;
+        Ok(FontWords { slot, name, size })
+    }
+
+    /// The command of what follows `font`. The error is a refused growth, for the name.
+    fn font(&mut self, alloc: Global) -> Result<Result<Command, Cause>, AllocError>
+        ensures { IfOk result (λ read. read ≡ font_of (fields_of self.old.rest.now)) }
+    {
+        match self.font_words() {
+            Ok(words) => Ok(Ok(Command::LoadFont(words.load(alloc)?))),
+            Err(cause) => Ok(Err(cause)),
+        }
+    }
+
+    /// What follows `hbox`, `vbox` or `vtop`: a size or none, and a register or none.
+    #[tactic(auto, unfolding(crate::specs::Reading::opening_of, crate::specs::Reading::opening_with_size))]
+    fn opening(&mut self, form: BoxForm) -> Result<Command, Cause>
+        ensures { result ≡ opening_of form (fields_of self.old.rest.now) }
+    {
+        match self.field() {
+            Ok(b"into") => self.opening_with_register(form, Target::Natural),
+            Ok(b"to") => {
+                let size = self.dimen()?;
+                self.opening_into(form, Target::To(size))
+            }
+            Ok(b"spread") => {
+                let more = self.dimen()?;
+                self.opening_into(form, Target::Spread(more))
+            }
+            Ok(_) => Err(Cause::Word),
+            Err(_) => Ok(opening(form, Target::Natural, None)),
+        }
+    }
+
+    /// The opening of a list, with nothing after its size, or with `into` and a register.
+    #[tactic(auto, unfolding(crate::specs::Reading::opening_into))]
+    fn opening_into(&mut self, form: BoxForm, target: Target) -> Result<Command, Cause>
+        ensures { result ≡ opening_into form target (fields_of self.old.rest.now) }
+    {
+        match self.field() {
+            Ok(b"into") => self.opening_with_register(form, target),
+            Ok(_) => Err(Cause::Word),
+            Err(_) => Ok(opening(form, target, None)),
+        }
+    }
+
+    /// The opening of a list, with a register as the last field.
+    #[tactic(auto, unfolding(crate::specs::Reading::opening_with_register))]
+    fn opening_with_register(&mut self, form: BoxForm, target: Target) -> Result<Command, Cause>
+        ensures { result ≡ opening_with_register form target (fields_of self.old.rest.now) }
+    {
+        let register = self.last_register()?;
+        Ok(opening(form, target, Some(register)))
+    }
+
+    /// What follows `box` or `copy`: a register, and a shift or none.
+    #[tactic(auto, unfolding(crate::specs::Reading::append_of))]
+    fn append(&mut self, taking: Transfer) -> Result<Command, Cause>
+        ensures { result ≡ append_of taking (fields_of self.old.rest.now) }
+    {
+        let register = self.register()?;
+        let shift = self.shift()?;
+        Ok(Command::Append(AppendBox {
+            register,
+            taking,
+            shift,
+        }))
+    }
+
+    /// What follows the register of a box: nothing, or `shift` and a dimension.
+    #[tactic(auto, unfolding(crate::specs::Reading::shift_of))]
+    fn shift(&mut self) -> Result<Dimen, Cause>
+        ensures { result ≡ shift_of (fields_of self.old.rest.now) }
+    {
+        match self.field() {
+            Ok(b"shift") => self.last_dimen(),
+            Ok(_) => Err(Cause::Word),
+            Err(_) => Ok(Dimen::ZERO),
+        }
+    }
+
+    /// What follows `unhbox`, `unhcopy`, `unvbox` or `unvcopy`: a register.
+    fn unboxing(&mut self, kind: Kind, taking: Transfer) -> Result<Command, Cause>
+        ensures { result ≡ map_ok (unboxing kind taking) (last_number register_count (fields_of self.old.rest.now)) }
+    {
+        let register = self.last_register()?;
+        Ok(Command::Unbox(Unboxing {
+            kind,
+            register,
+            taking,
+        }))
+    }
+
+    /// What follows `vsplit`: a register, `to` and a height, and `into` and a register.
+    #[tactic(auto, unfolding(crate::specs::Reading::split_of))]
+    fn split(&mut self) -> Result<Command, Cause>
+        ensures { result ≡ split_of (fields_of self.old.rest.now) }
+    {
+        let register = self.register()?;
+        self.split_to(register)
+    }
+
+    /// What follows the register of a split: `to`, and a height.
+    #[tactic(auto, unfolding(crate::specs::Reading::split_to))]
+    fn split_to(&mut self, register: Register) -> Result<Command, Cause>
+        ensures { result ≡ split_to register (fields_of self.old.rest.now) }
+    {
+        match self.field() {
+            Ok(b"to") => self.split_height(register),
+            Ok(_) => Err(Cause::Word),
+            Err(cause) => Err(cause),
+        }
+    }
+
+    /// The height of a split, and what follows it.
+    #[tactic(auto, unfolding(crate::specs::Reading::split_height))]
+    fn split_height(&mut self, register: Register) -> Result<Command, Cause>
+        ensures { result ≡ split_height register (fields_of self.old.rest.now) }
+    {
+        let height = self.dimen()?;
+        self.split_into(register, height)
+    }
+
+    /// What follows the height of a split: `into` and a register.
+    #[tactic(auto, unfolding(crate::specs::Reading::split_into))]
+    fn split_into(&mut self, register: Register, height: Dimen) -> Result<Command, Cause>
+        ensures { result ≡ split_into register height (fields_of self.old.rest.now) }
+    {
+        match self.field() {
+            Ok(b"into") => {
+                let into = self.last_register()?;
+                Ok(Command::Split(Splitting {
+                    register,
+                    height,
+                    into,
+                }))
+            }
+            Ok(_) => Err(Cause::Word),
+            Err(cause) => Err(cause),
+        }
+    }
+
+    /// The last fields as glue: its width, and its stretch, its shrink or both.
+    #[tactic(auto, unfolding(crate::specs::Reading::glue_of))]
+    fn glue(&mut self) -> Result<Glue, Cause>
+        ensures { result ≡ glue_of (fields_of self.old.rest.now) }
+    {
+        let width = self.dimen()?;
+        self.glue_parts(width)
+    }
+
+    /// What follows the width of a glue: nothing, or its stretch, its shrink or both.
+    #[tactic(auto, unfolding(crate::specs::Reading::parts_of))]
+    fn glue_parts(&mut self, width: Dimen) -> Result<Glue, Cause>
+        ensures { result ≡ parts_of width (fields_of self.old.rest.now) }
+    {
+        match self.field() {
+            Ok(b"plus") => {
+                let stretch = self.amount()?;
+                self.shrink(width, stretch)
+            }
+            Ok(b"minus") => self.last_shrink(width, Amount::none()),
+            Ok(_) => Err(Cause::Word),
+            Err(_) => Ok(glue(width, Amount::none(), Amount::none())),
+        }
+    }
+
+    /// What follows the stretch of a glue: nothing, or `minus` and its shrink.
+    #[tactic(auto, unfolding(crate::specs::Reading::shrink_of))]
+    fn shrink(&mut self, width: Dimen, stretch: Amount) -> Result<Glue, Cause>
+        ensures { result ≡ shrink_of width stretch (fields_of self.old.rest.now) }
+    {
+        match self.field() {
+            Ok(b"minus") => self.last_shrink(width, stretch),
+            Ok(_) => Err(Cause::Word),
+            Err(_) => Ok(glue(width, stretch, Amount::none())),
+        }
+    }
+
+    /// Glue of that width and stretch, with its shrink as the last field.
+    #[tactic(auto, unfolding(crate::specs::Reading::last_shrink_of))]
+    fn last_shrink(&mut self, width: Dimen, stretch: Amount) -> Result<Glue, Cause>
+        ensures { result ≡ last_shrink_of width stretch (fields_of self.old.rest.now) }
+    {
+        let shrink = self.last_amount()?;
+        Ok(glue(width, stretch, shrink))
+    }
+
+    /// What follows `set`: the name of a parameter and its value.
+    #[tactic(auto, unfolding(crate::specs::Reading::parameter_of))]
+    fn parameter(&mut self) -> Result<Parameter, Cause>
+        ensures { result ≡ parameter_of (fields_of self.old.rest.now) }
+    {
+        let word = self.field()?;
+        if let Some(name) = size_name(word) {
+            let size = self.last_dimen()?;
+            return Ok(with_size(name, size));
+        }
+        if let Some(name) = skip_name(word) {
+            let glue = self.glue()?;
+            return Ok(with_skip(name, glue));
+        }
+        if let Some(name) = number_name(word) {
+            let number = self.last_penalty()?;
+            return Ok(with_number(name, number));
+        }
+        if !names_first_lines(word) {
+            return Err(Cause::Word);
+        }
+        let lines = self.last_first_lines()?;
+        Ok(Parameter::FirstLines(lines))
+    }
+
+    /// What follows `count`: the number of a count, and its value.
+    #[tactic(auto, unfolding(crate::specs::Reading::counting_of))]
+    fn counting(&mut self) -> Result<Command, Cause>
+        ensures { result ≡ counting_of (fields_of self.old.rest.now) }
+    {
+        let count = self.count_number()?;
+        let value = self.last_count()?;
+        Ok(Command::Count(Counting { count, value }))
+    }
+
+    /// What follows `rule`.
+    #[tactic(auto, unfolding(crate::specs::Reading::rule_of))]
+    fn rule(&mut self) -> Result<Command, Cause>
+        ensures { result ≡ rule_of (fields_of self.old.rest.now) }
+    {
+        let width = self.size()?;
+        let height = self.size()?;
+        let depth = self.size()?;
+        self.end()?;
+        Ok(Command::Rule(Rule {
+            width,
+            height,
+            depth,
+        }))
+    }
+
+    /// The command of that name with the fields after it.
+    #[tactic(auto, unfolding(crate::specs::Reading::command_named))]
+    fn command_named(
+        &mut self,
+        alloc: Global,
+        name: Name,
+    ) -> Result<Result<Command, Cause>, AllocError>
+        ensures { IfOk result (λ read. read ≡ command_named name (fields_of self.old.rest.now)) }
+    {
+        match name {
+            Name::Font => self.font(alloc),
+            Name::Use => Ok(self.last_slot().map(Command::UseFont)),
+            Name::Open(form) => Ok(self.opening(form)),
+            Name::Paragraph => Ok(self.end().map(|()| Command::Paragraph)),
+            Name::End => Ok(self.end().map(|()| Command::End)),
+            Name::Character => Ok(self.last_character().map(Command::Character)),
+            Name::Rule => Ok(self.rule()),
+            Name::Kern => Ok(self.last_dimen().map(Command::Kern)),
+            Name::Glue => Ok(self.glue().map(Command::Glue)),
+            Name::Penalty => Ok(self.last_penalty().map(Command::Penalty)),
+            Name::Append(taking) => Ok(self.append(taking)),
+            Name::Unbox(kind, taking) => Ok(self.unboxing(kind, taking)),
+            Name::LastBox => Ok(self.last_register().map(Command::LastBox)),
+            Name::Split => Ok(self.split()),
+            Name::Measure => Ok(self.last_register().map(Command::Measure)),
+            Name::Void => Ok(self.last_register().map(Command::Void)),
+            Name::Set => Ok(self.parameter().map(Command::Set)),
+            Name::Count => Ok(self.counting()),
+            Name::Ship => Ok(self.last_register().map(Command::Ship)),
+        }
+    }
+
+    /// The command that the fields give, or the cause at the first bad field from the left. The error is a refused growth.
+    #[tactic(auto, unfolding(crate::specs::Reading::command_of))]
+    pub fn command(&mut self, alloc: Global) -> Result<Result<Command, Cause>, AllocError>
+        ensures { IfOk result (λ read. read ≡ command_of (fields_of self.old.rest.now)) }
+    {
+        let word = match self.field() {
+            Ok(word) => word,
+            Err(cause) => return Ok(Err(cause)),
+        };
+        match Name::of(word) {
+            Some(name) => self.command_named(alloc, name),
+            None => Ok(Err(Cause::Word)),
+        }
+    }
+}
+
+/// The words after `font`: a slot, a name, and a size or none.
+#[derive(Drop)]
+struct FontWords<'a> {
+    slot: u8,
+    name: &'a [u8],
+    size: Option<FontSize>,
+}
+
+impl<'a> FontWords<'a> {
+    /// The command's data, with a copy of the name.
+    fn load(&self, alloc: Global) -> Result<FontLoad, AllocError>
+        requires { IsFontName self.now.name.now }
+        ensures { IfOk result (λ load. load ≡ record { slot = self.now.slot; name = self.now.name.now; size = self.now.size }) }
+    {
+        let Some(name) = FontName::try_new(self.name.to_vec(alloc)?) else {
+            unreachable!()
+        };
+        Ok(FontLoad {
+            slot: self.slot,
+            name,
+            size: self.size,
+        })
+    }
+}
+
+/// The opening of a list of that form and size, for that register or for the enclosing list.
+fn opening(form: BoxForm, target: Target, into: Option<Register>) -> Command
+    ensures { result ≡ opening form target into }
+{
+    Command::Open(Opening { form, target, into })
+}
+
+/// Glue of that width, stretch and shrink.
+fn glue(width: Dimen, stretch: Amount, shrink: Amount) -> Glue
+    ensures { result ≡ glue width stretch shrink }
+{
+    Glue {
+        width,
+        stretch: stretch.size,
+        stretch_order: stretch.order,
+        shrink: shrink.size,
+        shrink_order: shrink.order,
+    }
+}

@@ -1,0 +1,54 @@
+//! Laws of the definitions, and known scripts that the definitions are compared with.
+
+ghost use Rattle.std.specs.Prelude.{◌≡◌, ℕ, List};
+ghost use Rattle.boxglue_script.specs.declared.cause.Cause.{Cause};
+ghost use Rattle.boxglue_script.specs.declared.cause.Cause.TheVariants as causes;
+ghost use Rattle.boxglue_script.specs.Causes.{IsFieldCause};
+ghost use Rattle.boxglue_script.specs.Rows.{OneRuleScript, UnitlessRow, TextScript, SpecialScript, NoSuchRegisterRow, NoSizeRow, StrokeInNameRow, TallBoxScript, NoRegisterRow, LateStretchRow};
+
+/// The script of the one-rule page gives its four commands.
+pub fn one_rule_script()
+    ensures { OneRuleScript }
+{}
+
+/// If the second line of a script has a dimension without a unit, it is the first bad line, with the cause Dimension.
+pub fn dimension_without_unit()
+    ensures { UnitlessRow }
+{}
+
+/// A script with a font at a size, a comment, a text with spaces at its beginning and its end, and a character gives its four commands.
+pub fn text_script()
+    ensures { TextScript }
+{}
+
+/// A script with a special that has spaces at its beginning and its end, one without a text, and the last register gives its three commands.
+pub fn special_script()
+    ensures { SpecialScript }
+{}
+
+/// After a special, a register after the last one has the cause Number.
+pub fn register_that_is_refused()
+    ensures { NoSuchRegisterRow }
+{}
+
+/// A font of size 0 has the cause Number, and a name with a byte that is not allowed the cause Name.
+pub fn fonts_that_are_refused()
+    ensures size { NoSizeRow }
+    ensures name { StrokeInNameRow }
+{}
+
+/// A script with a vertical box of a given size, with a stretch of order fil, a penalty and a parameter, gives its five commands.
+pub fn tall_box_script()
+    ensures { TallBoxScript }
+{}
+
+/// `into` without its register has the cause Missing, and glue with its stretch after its shrink the cause Extra.
+pub fn boxes_and_glue_that_are_refused()
+    ensures register { NoRegisterRow }
+    ensures stretch { LateStretchRow }
+{}
+
+/// If the cause Name holds of some fields, no other cause does.
+pub fn name_is_the_one_cause()
+    ensures { (fields : List (List ℕ)) → (cause : Cause) → IsFieldCause causes.Name fields → IsFieldCause cause fields → cause ≡ causes.Name }
+{}

@@ -1,0 +1,19 @@
+//! The script: a text is read into lines that give commands.
+//!
+//! A text with a bad line is refused whole, with the number of its first bad line, from 1, and a cause that holds of it. A bad line is a mistake in writing;
+//! a command that a job refuses is another thing, and the other commands still run.
+#![tactic(auto)]
+
+mod amounts;
+mod cause;
+mod commands;
+mod fields;
+pub mod laws;
+mod lines;
+mod name;
+mod parameter;
+mod script;
+mod values;
+
+pub use cause::Cause;
+pub use script::{Line, ScriptFault, read_script};

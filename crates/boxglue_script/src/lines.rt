@@ -1,0 +1,97 @@
+//! Lines of a text and fields of a line.
+
+ghost use Rattle.std.specs.Prelude.{◌≡◌, ◌∷◌, ◌<◌, ◌≤◌, length};
+ghost use Rattle.std.specs.List.{list_all, prefix_len};
+ghost use Rattle.std.specs.Str.Lines.{lines, strip_carriage_return};
+ghost use Rattle.boxglue_script.specs.ScriptLines.{is_passed_over, is_printable, is_space};
+ghost use Rattle.boxglue_script.specs.Reading.{in_line, in_field, front_field, behind_field, kept_text};
+
+/// The first line of a text that is not empty, without its end, and the text after it. A line ends with a line feed, which the last one need not have.
+#[tactic(auto, using(crate::proofs::LineLemmas::splitting))]
+pub fn first_line(text: &[u8]) -> (&[u8], &[u8])
+    requires { 0 < length text.now }
+    ensures lines { lines text.now ≡ result.0.now ∷ lines result.1.now }
+    ensures shorter { length result.1.now < length text.now }
+{
+    let (line, behind) = text.split_at(line_size(text));
+    match behind {
+        [] => (line, behind),
+        [_feed, rest @ ..] => (without_return(line), rest),
+    }
+}
+
+/// The number of bytes before the first line feed.
+fn line_size(text: &[u8]) -> usize
+    ensures size { result ≡ prefix_len in_line text.now }
+    ensures within { result ≤ length text.now }
+{
+    text.iter().take_while(|byte| **byte != b'\n').count()
+}
+
+/// The line without the one carriage return at its end, if there is one. Only one directly before a line feed is part of the line's end; any other one
+/// is a byte that is not printable.
+fn without_return(line: &[u8]) -> &[u8]
+    ensures { result.now ≡ strip_carriage_return line.now }
+{
+    match line {
+        [front @ .., b'\r'] => front,
+        _ => line,
+    }
+}
+
+/// Whether a line gives no command and is counted: it is empty, or it begins with `%`. Both hold of the raw line: in a line of spaces the command is
+/// missing (Missing), and a space and `%` is a bad word (Word). The bytes of a comment are not checked.
+pub fn is_passed_over(line: &[u8]) -> bool
+    ensures { result ≡ is_passed_over line.now }
+{
+    match line {
+        [] => true,
+        [first, ..] => *first == b'%',
+    }
+}
+
+/// Whether each byte of a line is printable ASCII, 32 to 126.
+pub fn is_printable(line: &[u8]) -> bool
+    ensures { result ≡ list_all is_printable line.now }
+{
+    line.iter().all(|byte| *byte >= 32 && *byte <= 126)
+}
+
+/// The first field of a line, empty if there is none, and the rest after it.
+#[tactic(auto, unfolding(crate::specs::Reading::front_field, crate::specs::Reading::behind_field))]
+pub fn first_field(line: &[u8]) -> (&[u8], &[u8])
+    ensures field { result.0.now ≡ front_field line.now }
+    ensures rest { result.1.now ≡ behind_field line.now }
+{
+    let line = &line[space_count(line)..];
+    line.split_at(field_size(line))
+}
+
+/// The first field of a line, and the text after it: all that follows the field and one space, unchanged, so that a text can begin or end with a space.
+/// The text is empty if the field ends the line.
+pub fn field_and_text(line: &[u8]) -> (&[u8], &[u8])
+    ensures field { result.0.now ≡ front_field line.now }
+    ensures text { result.1.now ≡ kept_text line.now }
+{
+    let (field, rest) = first_field(line);
+    match rest {
+        [] => (field, rest),
+        [_space, text @ ..] => (field, text),
+    }
+}
+
+/// The number of spaces at the beginning.
+fn space_count(line: &[u8]) -> usize
+    ensures count { result ≡ prefix_len is_space line.now }
+    ensures within { result ≤ length line.now }
+{
+    line.iter().take_while(|byte| **byte == b' ').count()
+}
+
+/// The number of bytes before the first space.
+fn field_size(line: &[u8]) -> usize
+    ensures size { result ≡ prefix_len in_field line.now }
+    ensures within { result ≤ length line.now }
+{
+    line.iter().take_while(|byte| **byte != b' ').count()
+}

@@ -1,0 +1,204 @@
+-- The tasks that command lines ask for.
+use Rattle.std.proofs.Common.{◌≡◌, ◌∙◌, ◌<◌, ◌≤◌, ◌^◌, [], ◌∷◌, List, ℕ, true, false, Option, Some, None, Result, Ok, Err, IfErr, refl, sym, ap, ap₂, subst, inl, inr, arith, codes}
+use Rattle.std.specs.Prelude.{option_map, is_some, unwrap_or}
+use Rattle.std.specs.Prelude.{Box}
+use Rattle.std.specs.Box.{box_value}
+use Rattle.std.specs.Str.Parse.{IsNumeral, digits_value, without_leading_plus}
+use Rattle.clap.specs.Matches.{has_subcommand, matched_of, one_text, raw_values, subcommand_name_of}
+use Rattle.clap.specs.Words.{Row, Text, fault_of, first_of, is_simple, is_simple_and_free, subcommand_of, subcommand_rows_of}
+use Rattle.clap.specs.Kinds.{HasKind, Kinds}
+use Rattle.clap.specs.declared.error.Error.{Error}
+use Rattle.clap.specs.Values.{kind_of}
+use Rattle.clap.specs.declared.error.kind.ErrorKind.TheVariants.{DisplayVersion, OutOfMemory}
+use Rattle.clap.specs.declared.parser.matches.ArgMatches.{ArgMatches}
+use Rattle.clap.specs.declared.parser.matches.ArgMatches.TheViews.{out-ArgMatches, out-SubCommand}
+use Rattle.clap.specs.declared.parser.matches.Found.{Found}
+use Rattle.clap.specs.declared.parser.matches.SubCommand.{SubCommand}
+use Rattle.clap.specs.Simple.{subcommand_rows}
+use Rattle.clap.specs.Walk.{rows_of as rows_in}
+use Rattle.clap.proofs.OnLiterals.{clap_on_literals}
+use Rattle.clap.proofs.WalkLemmas.{one_text-rows, raw_values-rows}
+use Rattle.boxglue_words.specs.declared.fonts.WordFault.{WordFault}
+use Rattle.boxglue_words.specs.declared.fonts.WordFault.TheVariants.{Line, Memory, NotPair, NameTwice}
+use Rattle.boxglue_words.specs.CommandLine.{boxglue}
+use Rattle.boxglue_words.specs.Pairs.{IsFaulty}
+use Rattle.boxglue_words.specs.declared.task.PaintOptions.{PaintOptions}
+use Rattle.boxglue_words.specs.declared.task.Task.{Task}
+use Rattle.boxglue_words.specs.declared.task.Task.TheVariants.{Version}
+use Rattle.boxglue_words.proofs.VersionLemmas.{alone_fault, has_version, only_version}
+use Rattle.boxglue_words.specs.Steps.{IsLine}
+use Rattle.boxglue_words.specs.Tasks.{Asks, AsksBy, IsNumber, IsRefused, IsRefusedBy, IsRequest, IsSheet, IsTask, IsTaskOf, Request, fonts_of, font_words, lists, nothing, paints, typesets, version}
+
+-- A faulty word NAME=TFM of a request.
+pub refused_fonts : (asked : Request → Type 0) (request : Request) (fault : WordFault) → asked request
+    → IsFaulty (fonts_of request) fault → IsRefusedBy asked fault
+refused_fonts asked request Memory h faulty = tt
+refused_fonts asked request (Line text) h faulty = absurd faulty.faulty
+refused_fonts asked request (NotPair word) h faulty = (request, h, faulty)
+refused_fonts asked request (NameTwice name) h faulty = (request, h, faulty)
+
+-- Nothing is asked for.
+pub refused_line : (asked : Request → Type 0) (fault : WordFault) → IsLine fault → ((request : Request) → asked request → ⊥) → IsRefusedBy asked fault
+refused_line asked Memory h none = tt
+refused_line asked (Line text) h none = none
+refused_line asked (NotPair word) h none = absurd h
+refused_line asked (NameTwice name) h none = absurd h
+
+-- Without its path a subcommand asks for nothing.
+pub no_typeset : (rows : List Row) → first_of (codes "OUT") rows ≡ None → (request : Request) → AsksBy (codes "typeset") rows request → ⊥
+no_typeset rows lacks version h = h
+no_typeset rows lacks nothing h = h
+no_typeset rows lacks (typesets out fonts) h = absurd (cc (lacks, h.1))
+no_typeset rows lacks (lists dvi fonts) h = absurd (cc h.0)
+no_typeset rows lacks (paints sheet dvi fonts) h = absurd (cc h.0)
+
+pub no_list : (rows : List Row) → first_of (codes "DVI") rows ≡ None → (request : Request) → AsksBy (codes "list") rows request → ⊥
+no_list rows lacks version h = h
+no_list rows lacks nothing h = h
+no_list rows lacks (typesets out fonts) h = absurd (cc h.0)
+no_list rows lacks (lists dvi fonts) h = absurd (cc (lacks, h.1))
+no_list rows lacks (paints sheet dvi fonts) h = absurd (cc h.0)
+
+pub no_painting : (rows : List Row) → first_of (codes "DVI") rows ≡ None → (request : Request) → AsksBy (codes "paint") rows request → ⊥
+no_painting rows lacks version h = h
+no_painting rows lacks nothing h = h
+no_painting rows lacks (typesets out fonts) h = absurd (cc h.0)
+no_painting rows lacks (lists dvi fonts) h = absurd (cc h.0)
+no_painting rows lacks (paints sheet dvi fonts) h = absurd (cc (lacks, h.2))
+
+-- Without its numbers `paint` asks for nothing either.
+pub no_sheet : (rows : List Row) → ((sheet : PaintOptions) → IsSheet rows sheet → ⊥) → (request : Request) → AsksBy (codes "paint") rows request → ⊥
+no_sheet rows lacks version h = h
+no_sheet rows lacks nothing h = h
+no_sheet rows lacks (typesets out fonts) h = absurd (cc h.0)
+no_sheet rows lacks (lists dvi fonts) h = absurd (cc h.0)
+no_sheet rows lacks (paints sheet dvi fonts) h = lacks sheet h.1
+
+-- The words NAME=TFM are the values of their argument.
+pub font_words-values : (f : Found) → unwrap_or (option_map raw_values (matched_of f (codes "NAME=TFM"))) [] ≡ font_words (rows_in f)
+font_words-values f = ap (λ o. unwrap_or o []) (raw_values-rows f (codes "NAME=TFM"))
+
+-- A text that is read as a number of 32 bits.
+abbrev pub IsRead : Text → Type 0
+IsRead text = IsNumeral 10 (without_leading_plus text) × (digits_value 10 (without_leading_plus text) < 2 ^ 32)
+
+-- An option whose text is not read has no number.
+pub no_number : (f : Found) (id : Text) (most : ℕ) → ((t : List ℕ) → one_text f id ≡ Some t → IsRead t → ⊥)
+    → most < 2 ^ 32 → (number : ℕ) → IsNumber most (rows_in f) id number → ⊥
+no_number f id most value fits number h =
+    let small : digits_value 10 (without_leading_plus h.text) < 2 ^ 32 = omega (arith, h.value, h.most_is) in
+    value h.text (one_text-rows f id ∙ h.given) (h.digits, small)
+
+-- The number of an option is the one that is read.
+pub same_number : (f : Found) (id : Text) (most n : ℕ)
+    → ((t : List ℕ) → one_text f id ≡ Some t → IsRead t × (n ≡ digits_value 10 (without_leading_plus t)))
+    → (number : ℕ) → IsNumber most (rows_in f) id number → number ≡ n
+same_number f id most n value number h = h.value ∙ sym (value h.text (one_text-rows f id ∙ h.given)).1
+
+-- A number that is read, from 1 to a greatest one.
+pub number_read : (f : Found) (id : Text) (most n : ℕ) → (one_text f id ≡ None → ◌≡◌ {A = Option ℕ} (Some n) None)
+    → ((t : List ℕ) → one_text f id ≡ Some t → IsRead t × (n ≡ digits_value 10 (without_leading_plus t)))
+    → 1 ≤ n → n ≤ most → IsNumber most (rows_in f) id n
+number_read f id most n none value least greatest = go (one_text f id) refl
+  where
+    go : (o : Option Text) → one_text f id ≡ o → IsNumber most (rows_in f) id n
+    go None e = absurd (cc (none e))
+    go (Some t) e = record {
+      text = t;
+      given = sym (one_text-rows f id) ∙ e;
+      digits = (value t e).0.0;
+      value = (value t e).1;
+      least = least;
+      most_is = greatest;
+    }
+
+-- No subcommand was found.
+pub none_met : (m : ArgMatches) → false ≡ has_subcommand m → subcommand_rows_of m ≡ None
+none_met m h = go (out-ArgMatches m).subcommand h
+  where
+    go : {Z : Type 0} (o : Option (Box SubCommand Z)) → false ≡ is_some o → subcommand_rows o ≡ None
+    go None e = refl
+    go (Some b) e = absurd (cc e)
+
+-- A subcommand that was found, by its name and its rows.
+pub some_met : (m : ArgMatches) (name : Text) (rows : List Row) → Some name ≡ subcommand_name_of m
+    → Some rows ≡ option_map (λ p. p.1) (subcommand_rows_of m) → subcommand_rows_of m ≡ Some (name, rows)
+some_met m name rows named found = go (out-ArgMatches m).subcommand named found
+  where
+    go : {Z : Type 0} (o : Option (Box SubCommand Z)) → Some name ≡ option_map (λ b. (out-SubCommand (box_value b)).name.now) o
+        → Some rows ≡ option_map (λ p. p.1) (subcommand_rows o) → subcommand_rows o ≡ Some (name, rows)
+    go None e h = absurd (cc e)
+    go (Some b) e h = sym (ap₂ (λ n r. Some (n, r)) (ap (λ o. unwrap_or o name) e) (ap (λ o. unwrap_or o rows) h))
+
+-- The command line of boxglue is one whose matches clap's definitions give.
+pub boxglue_is_simple : is_simple_and_free boxglue ≡ true
+unfolding clap_on_literals
+boxglue_is_simple = refl
+
+pub boxglue_has_matches : is_simple boxglue ≡ true
+unfolding clap_on_literals
+boxglue_has_matches = refl
+
+-- Matches do not ask for the version.
+none_asked : (met : Option (Text × List Row)) → Asks met version → ⊥
+none_asked None h = h
+none_asked (Some met) h = h
+
+-- The words ask for what their accepted matches ask for, and conversely.
+words_ask : (m : ArgMatches) (words : List Text) → fault_of boxglue words ≡ [] → subcommand_rows_of m ≡ subcommand_of boxglue words
+    → (request : Request) → Asks (subcommand_rows_of m) request → IsRequest words request
+words_ask m words accepted same version h = absurd (none_asked (subcommand_rows_of m) h)
+words_ask m words accepted same nothing h = record { accepted = accepted; asked = subst (λ o. Asks o nothing) same h }
+words_ask m words accepted same (typesets out fonts) h = record { accepted = accepted; asked = subst (λ o. Asks o (typesets out fonts)) same h }
+words_ask m words accepted same (lists dvi fonts) h = record { accepted = accepted; asked = subst (λ o. Asks o (lists dvi fonts)) same h }
+words_ask m words accepted same (paints sheet dvi fonts) h = record { accepted = accepted; asked = subst (λ o. Asks o (paints sheet dvi fonts)) same h }
+
+matches_ask : (m : ArgMatches) (words : List Text) → fault_of boxglue words ≡ [] → subcommand_rows_of m ≡ subcommand_of boxglue words
+    → (request : Request) → IsRequest words request → Asks (subcommand_rows_of m) request
+matches_ask m words accepted same version h = absurd (cc (h, accepted))
+matches_ask m words accepted same nothing h = subst (λ o. Asks o nothing) (sym same) h.asked
+matches_ask m words accepted same (typesets out fonts) h = subst (λ o. Asks o (typesets out fonts)) (sym same) h.asked
+matches_ask m words accepted same (lists dvi fonts) h = subst (λ o. Asks o (lists dvi fonts)) (sym same) h.asked
+matches_ask m words accepted same (paints sheet dvi fonts) h = subst (λ o. Asks o (paints sheet dvi fonts)) (sym same) h.asked
+
+pub task_of : (m : ArgMatches) (words : List Text) (task : Task) → fault_of boxglue words ≡ [] → subcommand_rows_of m ≡ subcommand_of boxglue words
+    → ((request : Request) × Asks (subcommand_rows_of m) request × IsTaskOf request task) → IsTask words task
+task_of m words task accepted same h = (h.0, words_ask m words accepted same h.0 h.1, h.2)
+
+pub refused_of : (m : ArgMatches) (words : List Text) (fault : WordFault) → fault_of boxglue words ≡ []
+    → subcommand_rows_of m ≡ subcommand_of boxglue words → IsRefusedBy (Asks (subcommand_rows_of m)) fault → IsRefused words fault
+refused_of m words Memory accepted same h = tt
+refused_of m words (Line text) accepted same h = λ request asked. h request (matches_ask m words accepted same request asked)
+refused_of m words (NotPair word) accepted same h = (h.0, words_ask m words accepted same h.0 h.1, h.2)
+refused_of m words (NameTwice name) accepted same h = (h.0, words_ask m words accepted same h.0 h.1, h.2)
+
+-- A fault other than out of memory is one of these kinds.
+pub has_fault : (kinds : Kinds) (e : Error) → HasKind kinds e → (kind_of e ≡ OutOfMemory → ⊥) → kinds ≡ [] → ⊥
+has_fault [] e h other none = elim h [ inl memory ↦ other memory | inr bad ↦ bad ]
+has_fault (k ∷ kinds) e h other none = absurd (cc none)
+
+-- An error whose kind is the version answers words that ask for it.
+pub version_asked : (words : List Text) (e : Error) → HasKind (fault_of boxglue words) e → kind_of e ≡ DisplayVersion → IsTask words Version
+version_asked words e h kind = (version, alone_fault boxglue words (has_version (fault_of boxglue words) e h kind), tt)
+
+-- Words that clap refuses, except with the version, are no command line.
+no_request : (words : List Text) (e : Error) → HasKind (fault_of boxglue words) e → (kind_of e ≡ OutOfMemory → ⊥) → (kind_of e ≡ DisplayVersion → ⊥)
+    → (request : Request) → IsRequest words request → ⊥
+no_request words e h silent other version asked = other (only_version (fault_of boxglue words) e h silent asked)
+no_request words e h silent other nothing asked = has_fault (fault_of boxglue words) e h silent asked.accepted
+no_request words e h silent other (typesets out fonts) asked = has_fault (fault_of boxglue words) e h silent asked.accepted
+no_request words e h silent other (lists dvi fonts) asked = has_fault (fault_of boxglue words) e h silent asked.accepted
+no_request words e h silent other (paints sheet dvi fonts) asked = has_fault (fault_of boxglue words) e h silent asked.accepted
+
+pub line_refused : (words : List Text) (e : Error) (fault : WordFault) → HasKind (fault_of boxglue words) e → IsLine fault
+    → (kind_of e ≡ OutOfMemory → fault ≡ Memory) → (kind_of e ≡ DisplayVersion → ⊥) → IsRefused words fault
+line_refused words e Memory h line silent other = tt
+line_refused words e (Line text) h line silent other = no_request words e h (λ memory. absurd (cc (silent memory))) other
+line_refused words e (NotPair word) h line silent other = absurd line
+line_refused words e (NameTwice name) h line silent other = absurd line
+
+-- The same for a result.
+pub error_refused : {T : Type 0} (words : List Text) (e : Error) (r : Result T WordFault) → HasKind (fault_of boxglue words) e → IfErr r IsLine
+    → IfErr r (λ fault. kind_of e ≡ OutOfMemory → fault ≡ Memory) → IfErr r (λ fault. kind_of e ≡ DisplayVersion → ⊥) → IfErr r (IsRefused words)
+error_refused words e (Ok task) h line silent other = tt
+error_refused words e (Err fault) h line silent other = line_refused words e fault h line silent other

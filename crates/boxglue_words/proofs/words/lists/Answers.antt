@@ -1,0 +1,26 @@
+-- What is asked for: the path and the fonts.
+use Rattle.std.proofs.Common.{◌≡◌, ◌∙◌, sym, refl, codes, Some, None}
+use Rattle.clap.specs.Matches.{found_of}
+use Rattle.clap.specs.Words.{first_of, rows_of}
+use Rattle.clap.proofs.WalkLemmas.{first_value-rows}
+use Rattle.boxglue_words.specs.Tasks.{AsksBy, font_words, lists}
+use Rattle.boxglue_words.proofs.TaskLemmas.{no_list, refused_fonts, refused_line}
+use Rattle.boxglue_words.proofs.words.lists.Goals as goal
+
+pub returns-in_default-clause-err : goal.returns-in_default-clause-err
+returns-in_default-clause-err c =
+    let rows = rows_of (found_of c.args.matches.now) in
+    let lacks : first_of (codes "DVI") rows ≡ None = sym (first_value-rows (found_of c.args.matches.now) (codes "DVI")) ∙ sym c.in_default.ensures in
+    refused_line _ _ c.no_line.ensures (no_list rows lacks)
+
+pub returns-in-Ok-clause-ok : goal.returns-in-Ok-clause-ok
+returns-in-Ok-clause-ok c =
+    let rows = rows_of (found_of c.args.matches.now) in
+    let given : first_of (codes "DVI") rows ≡ Some c.in-Some.dvi.now = sym (first_value-rows (found_of c.args.matches.now) (codes "DVI")) ∙ sym c.in-Some.ensures in
+    (lists c.in-Some.dvi.now (font_words rows), (refl, given, refl), (refl, c.in-Ok.ensures.ok))
+
+pub returns-in-Err-clause-err : goal.returns-in-Err-clause-err
+returns-in-Err-clause-err c =
+    let rows = rows_of (found_of c.args.matches.now) in
+    let given : first_of (codes "DVI") rows ≡ Some c.in-Some.dvi.now = sym (first_value-rows (found_of c.args.matches.now) (codes "DVI")) ∙ sym c.in-Some.ensures in
+    refused_fonts (AsksBy (codes "list") rows) (lists c.in-Some.dvi.now (font_words rows)) c.in-Err.fault (refl, given, refl) c.in-Err.ensures.err

@@ -1,0 +1,42 @@
+-- The words that boxglue accepts, in the terms of the kit's clap (own).
+use Rattle.std.specs.Prelude.{true, ℕ, pos, Some, codes}
+use Rattle.clap.specs.Lexer.{usize_max}
+use Rattle.clap.specs.Walk.{Rule, Text}
+use Rattle.clap.specs.Simple.{App, new_app, new_rule, with_rule, with_subcommand}
+use Rattle.clap.specs.declared.builder.ArgAction.TheVariants.{Append}
+use Rattle.clap.specs.declared.builder.value_parser.ValueParser.TheVariants as parsers
+
+-- A required path.
+abbrev pub path_rule : Text → Rule
+path_rule id = record (new_rule id) { required = true }
+
+-- Any number of words NAME=TFM.
+abbrev pub fonts_rule : Rule
+fonts_rule = record (new_rule (codes "NAME=TFM")) { action = Some Append; range = Some (record { start_inclusive = 0; end_inclusive = usize_max }) }
+
+-- A required option with a number from 1 to this one.
+abbrev pub number_rule : Text → ℕ → Rule
+number_rule id most = record (new_rule id) { long = Some id; value_names = 1; parser = Some (parsers.Signed (pos 1) (pos most)); required = true }
+
+-- `typeset OUT [NAME=TFM ..]`.
+abbrev pub typeset : App
+typeset = with_rule (with_rule (new_app (codes "typeset")) (path_rule (codes "OUT"))) fonts_rule
+
+-- `list DVI [NAME=TFM ..]`.
+abbrev pub lists : App
+lists = with_rule (with_rule (new_app (codes "list")) (path_rule (codes "DVI"))) fonts_rule
+
+-- `paint --page N --dpi N --width N --height N DVI [NAME=TFM ..]`.
+abbrev pub paint : App
+paint =
+    with_rule (with_rule
+    (with_rule (with_rule (with_rule (with_rule (new_app (codes "paint"))
+    (number_rule (codes "page") 4294967295)) (number_rule (codes "dpi") 10000)) (number_rule (codes "width") 10000)) (number_rule (codes "height") 10000))
+    (path_rule (codes "DVI"))) fonts_rule
+
+-- These three as subcommands, and a version. The words begin after the program's name.
+abbrev pub boxglue : App
+boxglue =
+    let alone = new_app (codes "boxglue") in
+    with_subcommand (with_subcommand (with_subcommand (record alone { top = record alone.top { no_binary_name = true; disable_help_subcommand = true; has_version = true } })
+    typeset.top) lists.top) paint.top

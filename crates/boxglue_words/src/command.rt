@@ -1,0 +1,117 @@
+//! The command line, built for clap.
+
+ghost use Rattle.std.specs.Prelude.{◌≡◌, ◌≤◌, false, pos, IfOk};
+ghost use Rattle.clap.specs.Words.{app_of, rule_of};
+ghost use Rattle.clap.specs.declared.builder.Command.TheViews.{out-Command};
+ghost use Rattle.clap.specs.declared.builder.value_parser.ValueParser.TheVariants.{Signed};
+ghost use Rattle.boxglue_words.specs.CommandLine.{boxglue, fonts_rule, lists, number_rule, paint, path_rule, typeset};
+
+use crate::task::VERSION_LINE;
+use clap::builder::ValueParser;
+use clap::{Arg, ArgAction, Command, value_parser};
+use std::alloc::{AllocError, Global};
+
+/// The four uses, each with an example; clap prints them at the end of the help.
+const USES: &str = "\
+Uses:
+  boxglue < page.box
+      runs a script; prints its answers, and then the bytes of its DVI file
+  boxglue typeset page.dvi cmr10=cmr10.tfm < page.box
+      runs a script that has the font cmr10; writes page.dvi and prints the answers
+  boxglue list page.dvi cmr10=cmr10.tfm
+      prints the pages of a DVI file and their marks
+  boxglue paint --page 1 --dpi 100 --width 850 --height 1100 page.dvi cmr10=cmr10.tfm > page.pbm
+      prints page 1 as a bitmap: its rules, without the shapes of glyphs";
+
+/// A required path.
+fn path<'a>(alloc: Global, id: &'static str, help: &'static str) -> Arg<'a>
+    ensures rule { rule_of result ≡ path_rule id.now }
+    ensures local { result.global ≡ false }
+{
+    Arg::new(alloc, id).help(help).required(true)
+}
+
+/// The words NAME=TFM, none or more.
+fn fonts<'a>(alloc: Global) -> Arg<'a>
+    ensures rule { rule_of result ≡ fonts_rule }
+    ensures local { result.global ≡ false }
+{
+    Arg::new(alloc, "NAME=TFM")
+        .help("a font that the text names, and its metric file")
+        .action(ArgAction::Append)
+        .num_args(0..)
+}
+
+/// Accepts the numbers from 1 to this one.
+fn numbers<'a>(most: u32) -> ValueParser<'a>
+    ensures { result ≡ Signed (pos 1) (pos most) }
+{
+    value_parser!(u32).range(1..=i64::from(most))
+}
+
+/// A required option with a number from 1 to this one.
+fn number<'a>(alloc: Global, id: &'static str, most: u32, help: &'static str) -> Arg<'a>
+    ensures rule { rule_of result ≡ number_rule id.now most }
+    ensures local { result.global ≡ false }
+{
+    Arg::new(alloc, id)
+        .long(id)
+        .value_name("N")
+        .help(help)
+        .value_parser(numbers(most))
+        .required(true)
+}
+
+/// The subcommand `typeset`.
+fn typeset<'a>(alloc: Global) -> Result<Command<'a>, AllocError>
+    ensures shape { IfOk result (λ command. app_of command ≡ typeset) }
+    ensures local { IfOk result (λ command. (out-Command command).has_globals ≡ false) }
+{
+    Command::new(alloc, "typeset")
+        .about("runs the script of standard input and writes the DVI file")
+        .arg(path(alloc, "OUT", "the DVI file that is written"))?
+        .arg(fonts(alloc))
+}
+
+/// The subcommand `list`.
+fn lists<'a>(alloc: Global) -> Result<Command<'a>, AllocError>
+    ensures shape { IfOk result (λ command. app_of command ≡ lists) }
+    ensures local { IfOk result (λ command. (out-Command command).has_globals ≡ false) }
+{
+    Command::new(alloc, "list")
+        .about("prints the pages of a DVI file and their marks")
+        .arg(path(alloc, "DVI", "the DVI file that is read"))?
+        .arg(fonts(alloc))
+}
+
+/// The subcommand `paint`.
+fn paint<'a>(alloc: Global) -> Result<Command<'a>, AllocError>
+    ensures shape { IfOk result (λ command. app_of command ≡ paint) }
+    ensures local { IfOk result (λ command. (out-Command command).has_globals ≡ false) }
+{
+    Command::new(alloc, "paint")
+        .about("prints a page of a DVI file as a bitmap in plain PBM")
+        .arg(number(alloc, "page", u32::MAX, "the page, from 1 on"))?
+        .arg(number(alloc, "dpi", 10_000, "pixels an inch"))?
+        .arg(number(alloc, "width", 10_000, "pixels across"))?
+        .arg(number(alloc, "height", 10_000, "pixels down"))?
+        .arg(path(alloc, "DVI", "the DVI file that is read"))?
+        .arg(fonts(alloc))
+}
+
+/// The command line of boxglue, for clap: no words, or `typeset`, `list` or `paint` with its own words. It has a version, so that clap knows
+/// `--version` and `-V`. The error is a refused growth of memory.
+pub fn command_line<'a>(alloc: Global) -> Result<Command<'a>, AllocError>
+    ensures { IfOk result (λ command. app_of command ≡ boxglue) }
+{
+    Command::new(alloc, "boxglue")
+        .bin_name("boxglue")?
+        .about("typesets scripts of boxes and glue into DVI files, and reads such files")
+        .version(VERSION_LINE)
+        .after_help(USES)
+        .no_binary_name(true)
+        .disable_help_subcommand(true)
+        .subcommand(typeset(alloc)?)?
+        .subcommand(lists(alloc)?)?
+        .subcommand(paint(alloc)?)
+}

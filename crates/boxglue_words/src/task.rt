@@ -1,0 +1,40 @@
+//! The task that a command line asks for.
+
+use crate::fonts::NamedPath;
+
+/// The line that `--version` prints: the program, its version, and the kit that proves it. No other place in the code has them.
+pub const VERSION_LINE: &str = "boxglue 1.0.0 (rattle-kit-13f)\n";
+
+/// How a page is painted: its number, counted from 1; the pixels per inch; and the width and height of the bitmap in pixels.
+#[derive(Clone, Copy, Debug, PartialEq, Eq)]
+pub struct PaintOptions {
+    pub page: u32,
+    pub dpi: u32,
+    pub width: u32,
+    pub height: u32,
+}
+
+/// The task that a command line asks for.
+#[derive(Debug, Drop)]
+pub enum Task<'a> {
+    /// Prints the version.
+    Version,
+    /// No words: runs the script of standard input on a device in memory.
+    Memory,
+    /// Runs the script of standard input, and writes the DVI file at this path.
+    Typeset {
+        out: &'a str,
+        fonts: Vec<NamedPath<'a>>,
+    },
+    /// Lists the pages of the DVI file at this path.
+    Listing {
+        dvi: &'a str,
+        fonts: Vec<NamedPath<'a>>,
+    },
+    /// Paints a page of the DVI file at this path.
+    Painting {
+        sheet: PaintOptions,
+        dvi: &'a str,
+        fonts: Vec<NamedPath<'a>>,
+    },
+}

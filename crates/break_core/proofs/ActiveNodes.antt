@@ -1,0 +1,199 @@
+-- The best offer of a group, if no lines are counted.
+use Rattle.std.proofs.Common.{◌≡◌, ◌∙◌, ℕ, ◌+◌, ◌<◌, ◌≤◌, Bool, true, false, cond, List, min, refl, ap, sym, subst, arith, Option, Some, None}
+use Rattle.std.specs.Prelude.{ℤ, nat_lt, slice_get, ◌&&◌}
+use Rattle.std.proofs.Math.Logic.{◌⊎◌, inl, inr}
+use Rattle.std.proofs.lemmas.Bool.{cases_Bool, cond-false}
+use Rattle.std.proofs.lemmas.Option.{same_Some}
+use Rattle.node_core.specs.declared.params.Params.{Params}
+use Rattle.break_table.specs.declared.group.ActiveGroup.{ActiveGroup}
+use Rattle.break_table.specs.declared.state.Fitness.{Fitness}
+use Rattle.break_table.specs.declared.state.LineCost.{LineCost}
+use Rattle.break_table.specs.declared.state.BreakState.{BreakState}
+use Rattle.break_table.specs.Orders.{NotAfter}
+use Rattle.break_table.specs.Problems.{Problem}
+use Rattle.break_table.specs.Ways.{since}
+use Rattle.break_table.specs.Tables.{Entry, extended, compared_numbers, offer, IsOffered, IsRow, IsKept, IsPut}
+use Rattle.break_table.proofs.Dictionary.{state_same, not_after_refl, not_after_trans}
+use Rattle.break_table.proofs.Reached.{offer_is}
+use Rattle.break_table.proofs.Rows.{row_best}
+use Rattle.break_lines.specs.declared.sums.Sums.{Sums}
+use Rattle.break_lines.specs.declared.cost.LineFit.{LineFit}
+use Rattle.break_lines.specs.declared.cost.Bound.{Bound}
+use Rattle.break_lines.specs.Costs.{line_fit, line_of, line_alone, line_after, after_class}
+use Rattle.break_lines.specs.Sizes.{line_fits, fit_after}
+use Rattle.break_lines.proofs.Parts.{parts}
+use Rattle.break_lines.proofs.Widths.{both_overfull, greatest_none}
+use Rattle.break_core.specs.Filling.{IsOf, IsOfferingUnless, offer_from, IsBestOffer, IsOfferingBest}
+use Rattle.break_core.proofs.Active.{row_passed}
+use Rattle.break_core.proofs.Overfull.{no_offer}
+
+-- The offer of an entry of the group.
+offers :
+    (p : Problem) (params : Params) (group : ActiveGroup) (place : ℕ) (alone : LineCost) (e : Entry) (k : ℕ)
+    → p.cut ≡ 0 → since p place ≤ group.place → ((s : BreakState) → s.place ≡ group.place → p.line s place ≡ Some (line_after params s.class alone))
+    → e.end.place ≡ group.place → offer p e k place ≡ Some (offer_from params e k place alone)
+offers p params group place alone e k cut late follow at =
+    offer_is p e k place (Some (line_after params e.end.class alone)) (subst (λ n. since p place ≤ n) (sym at) late) (follow e.end at)
+    ∙ ap Some (ap (λ n. extended n e k place (line_after params e.end.class alone)) cut)
+
+-- All offers of a group are for one state.
+one_end :
+    (params : Params) (place : ℕ) (alone : LineCost) (e f : Entry) (k j : ℕ)
+    → (offer_from params e k place alone).end ≡ (offer_from params f j place alone).end
+one_end params place alone e f k j =
+    let lines : min (e.end.lines + 1) 0 ≡ min (f.end.lines + 1) 0 = omega arith in
+    state_same (offer_from params e k place alone).end (offer_from params f j place alone).end refl lines refl
+
+-- The offer of the first entry.
+pub best_first :
+    (table : List Entry) (params : Params) (place : ℕ) (alone : LineCost) (start next : ℕ) (e best : Entry)
+    → slice_get table start ≡ Some e → next ≡ start + 1 → best ≡ offer_from params e start place alone
+    → IsBestOffer table params place alone start next best
+best_first table params place alone start next e best stands is_next is =
+    record { by = start; low = omega arith; high = omega (arith, is_next); entry = e; stands = stands; is = is; least = least }
+  where
+    least : (k : ℕ) (f : Entry) → start ≤ k → k < next → slice_get table k ≡ Some f → NotAfter (compared_numbers best) (compared_numbers (offer_from params f k place alone))
+    least k f low high at =
+        let same : start ≡ k = omega (arith, is_next) in
+        let one : e ≡ f = same_Some e f (sym stands ∙ ap (slice_get table) same ∙ at) in
+        subst (λ x. NotAfter (compared_numbers best) (compared_numbers x))
+        (is ∙ ap (λ n. offer_from params e n place alone) same ∙ ap (λ x. offer_from params x k place alone) one)
+        (not_after_refl (compared_numbers best))
+
+-- With one more entry, its offer is the best one, or is not better than the best one.
+best_taken :
+    (table : List Entry) (params : Params) (place : ℕ) (alone : LineCost) (from to : ℕ) (e best offered : Entry)
+    → IsBestOffer table params place alone from to best → from ≤ to → slice_get table to ≡ Some e → offered ≡ offer_from params e to place alone
+    → NotAfter (compared_numbers offered) (compared_numbers best) → IsBestOffer table params place alone from (to + 1) offered
+best_taken table params place alone from to e best offered is rises stands made before =
+    record { by = to; low = rises; high = omega arith; entry = e; stands = stands; is = made; least = least }
+  where
+    least : (k : ℕ) (f : Entry) → from ≤ k → k < to + 1 → slice_get table k ≡ Some f → NotAfter (compared_numbers offered) (compared_numbers (offer_from params f k place alone))
+    least k f low high at = which (cases_Bool (nat_lt k to))
+      where
+        which : (nat_lt k to ≡ true) ⊎ (nat_lt k to ≡ false) → NotAfter (compared_numbers offered) (compared_numbers (offer_from params f k place alone))
+        which (inl h) =
+            let less : k < to = grind arith in
+            not_after_trans (compared_numbers offered) (compared_numbers best) (compared_numbers (offer_from params f k place alone)) before (is.least k f low less at)
+        which (inr h) =
+            let most : to ≤ k = grind arith in
+            let same : to ≡ k = omega (arith, most) in
+            let one : e ≡ f = same_Some e f (sym stands ∙ ap (slice_get table) same ∙ at) in
+            subst (λ x. NotAfter (compared_numbers offered) (compared_numbers x))
+            (made ∙ ap (λ n. offer_from params e n place alone) same ∙ ap (λ x. offer_from params x k place alone) one)
+            (not_after_refl (compared_numbers offered))
+
+best_stays :
+    (table : List Entry) (params : Params) (place : ℕ) (alone : LineCost) (from to : ℕ) (e best offered : Entry)
+    → IsBestOffer table params place alone from to best → slice_get table to ≡ Some e → offered ≡ offer_from params e to place alone
+    → NotAfter (compared_numbers best) (compared_numbers offered) → IsBestOffer table params place alone from (to + 1) best
+best_stays table params place alone from to e best offered is stands made before =
+    record { by = is.by; low = is.low; high = omega (arith, is.high); entry = is.entry; stands = is.stands; is = is.is; least = least }
+  where
+    least : (k : ℕ) (f : Entry) → from ≤ k → k < to + 1 → slice_get table k ≡ Some f → NotAfter (compared_numbers best) (compared_numbers (offer_from params f k place alone))
+    least k f low high at = which (cases_Bool (nat_lt k to))
+      where
+        which : (nat_lt k to ≡ true) ⊎ (nat_lt k to ≡ false) → NotAfter (compared_numbers best) (compared_numbers (offer_from params f k place alone))
+        which (inl h) = let less : k < to = grind arith in is.least k f low less at
+        which (inr h) =
+            let most : to ≤ k = grind arith in
+            let same : to ≡ k = omega (arith, most) in
+            let one : e ≡ f = same_Some e f (sym stands ∙ ap (slice_get table) same ∙ at) in
+            subst (λ x. NotAfter (compared_numbers best) (compared_numbers x))
+            (made ∙ ap (λ n. offer_from params e n place alone) same ∙ ap (λ x. offer_from params x k place alone) one) before
+
+-- The better one of both is kept.
+pub best_more :
+    (table : List Entry) (params : Params) (place : ℕ) (alone : LineCost) (from to : ℕ) (e best offered kept : Entry)
+    → IsBestOffer table params place alone from to best → from ≤ to → slice_get table to ≡ Some e → offered ≡ offer_from params e to place alone
+    → IsKept (Some best) offered kept → IsBestOffer table params place alone from (to + 1) kept
+best_more table params place alone from to e best offered kept is rises stands made is_kept = which is_kept.is
+  where
+    which : (kept ≡ offered) ⊎ (Some best ≡ Some kept) → IsBestOffer table params place alone from (to + 1) kept
+    which (inl same) =
+        best_taken table params place alone from to e best kept is rises stands (same ∙ made) (is_kept.older best refl)
+    which (inr same) =
+        let one : best ≡ kept = same_Some best kept same in
+        subst (λ x. IsBestOffer table params place alone from (to + 1) x) one
+        (best_stays table params place alone from to e best offered is stands made
+        (subst (λ x. NotAfter (compared_numbers x) (compared_numbers offered)) (sym one) is_kept.offered))
+
+-- Putting only the best offer into its slot has the effect of all offers of the group.
+pub best_offered :
+    (table : List Entry) (params : Params) (group : ActiveGroup) (place : ℕ) (alone : LineCost) (best : Entry) (old new : List (Option Entry))
+    → IsOf 0 table group → IsBestOffer table params place alone group.start group.end best → IsPut best old new
+    → IsOfferingBest table params group place alone old new
+best_offered table params group place alone best old new of is put p cut late follow before =
+    subst (IsRow p table place group.end) (sym put.is)
+    (row_best p table place group.start group.end is.by best put.kept put.held old is.low is.high offered put.stood put.is_kept least before)
+  where
+    offered : IsOffered p table place is.by best
+    offered =
+        record {
+          by = is.entry;
+          stands = is.stands;
+          offers = offers p params group place alone is.entry is.by cut late follow (of is.by is.entry is.low is.high is.stands).0 ∙ ap Some (sym is.is);
+        }
+
+    least : (k : ℕ) (f : Entry) → group.start ≤ k → k < group.end → IsOffered p table place k f → (f.end ≡ best.end) × NotAfter (compared_numbers best) (compared_numbers f)
+    least k f low high o =
+        let made : offer_from params o.by k place alone ≡ f =
+        same_Some (offer_from params o.by k place alone) f
+        (sym (offers p params group place alone o.by k cut late follow (of k o.by low high o.stands).0) ∙ o.offers) in (
+          ap (λ x. x.end) (sym made) ∙ one_end params place alone o.by is.entry k is.by ∙ ap (λ x. x.end) (sym is.is),
+          subst (λ x. NotAfter (compared_numbers best) (compared_numbers x)) made (is.least k o.by low high o.stands),
+        )
+
+-- If no lines are counted, the lines to a place are the line that was judged once, with the demerits for the class of the line before it.
+fit_once :
+    (params : Params) (bound : Bound) (penalty : ℤ) (sums : Sums) (lines : ℕ) (before : Fitness) (found : Option LineCost)
+    → params.first_lines ≡ 0 → found ≡ line_alone params bound penalty (line_fit sums params.hsize)
+    → line_of params bound penalty before (fit_after params.first_lines lines (line_fits params sums)) ≡ after_class params before found
+unfolding line_fits
+fit_once params bound penalty sums lines before found none is =
+    ap (line_of params bound penalty before) rest ∙ sym (parts params bound penalty before (line_fit sums params.hsize)) ∙ ap (after_class params before) (sym is)
+  where
+    not_first : (nat_lt lines params.first_lines ≡ true) ⊎ (nat_lt lines params.first_lines ≡ false) → nat_lt lines params.first_lines ≡ false
+    not_first (inl h) = let less : lines < params.first_lines = grind arith in absurd (omega (arith, none))
+    not_first (inr h) = h
+
+    rest : fit_after params.first_lines lines (line_fits params sums) ≡ line_fit sums params.hsize
+    rest =
+        cond-false (nat_lt lines params.first_lines) (line_fits params sums).first (line_fits params sums).rest
+        (not_first (cases_Bool (nat_lt lines params.first_lines)))
+
+pub best_line :
+    (left : Bool) (table : List Entry) (params : Params) (bound : Bound) (group : ActiveGroup) (place : ℕ) (penalty : ℤ) (sums : Sums) (alone : LineCost)
+    (old new : List (Option Entry))
+    → params.first_lines ≡ 0 → left ≡ false → Some alone ≡ line_alone params bound penalty (line_fit sums params.hsize)
+    → IsOfferingBest table params group place alone old new
+    → IsOfferingUnless left table params bound group place penalty (line_fits params sums) old new
+unfolding after_class
+best_line left table params bound group place penalty sums alone old new none not_left is offering p cut late line_fit before =
+    offering p (cut ∙ none) late
+    (λ s at. line_fit s at
+    ∙ cond-false left None (line_of params bound penalty s.class (fit_after params.first_lines s.lines (line_fits params sums))) not_left
+    ∙ fit_once params bound penalty sums s.lines s.class (Some alone) none is)
+    before
+
+pub none_line :
+    (left : Bool) (table : List Entry) (params : Params) (bound : Bound) (group : ActiveGroup) (place : ℕ) (penalty : ℤ) (sums : Sums) (row : List (Option Entry))
+    → params.first_lines ≡ 0 → left ≡ false → None ≡ line_alone params bound penalty (line_fit sums params.hsize)
+    → group.start ≤ group.end → IsOf params.first_lines table group
+    → IsOfferingUnless left table params bound group place penalty (line_fits params sums) row row
+unfolding after_class
+none_line left table params bound group place penalty sums row none not_left is rises of p cut late line_fit before =
+    row_passed p table place group.start group.end row rises (λ k e low high at. no_offer p e k place (no_line e (of k e low high at).0)) before
+  where
+    no_line : (e : Entry) → e.end.place ≡ group.place → p.line e.end place ≡ None
+    no_line e at =
+        line_fit e.end at
+        ∙ cond-false left None (line_of params bound penalty e.end.class (fit_after params.first_lines e.end.lines (line_fits params sums))) not_left
+        ∙ fit_once params bound penalty sums e.end.lines e.end.class None none is
+
+pub overfull_once :
+    (params : Params) (sums : Sums) (line : LineFit)
+    → params.first_lines ≡ 0 → line ≡ line_fit sums params.hsize
+    → line.overfull ≡ ((line_fits params sums).first.overfull && (line_fits params sums).rest.overfull)
+overfull_once params sums line none is =
+    ap (λ j. j.overfull) is ∙ sym (both_overfull params sums ∙ ap (λ n. (line_fit sums n).overfull) (greatest_none params none))

@@ -1,5 +1,0 @@
--- Lemmas on the cost of a line.
-pub mod Costs
-pub mod Bounds
-pub mod Widths
-pub mod Parts

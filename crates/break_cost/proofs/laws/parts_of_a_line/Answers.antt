@@ -1,5 +1,0 @@
-use Rattle.break_cost.proofs.Parts.{parts}
-use Rattle.break_cost.proofs.laws.parts_of_a_line.Goals as goal
-
-pub returns : goal.returns
-returns c = parts

@@ -1,0 +1,217 @@
+-- One step of the walk that measures a list.
+use Rattle.std.proofs.Common.{◌≡◌, ◌≢◌, ◌∙◌, ℕ, zero, suc, ◌+◌, ◌<◌, ◌≤◌, Bool, true, false, List, [], ◌∷◌, ◌++◌, length, length-append, append_assoc, drop, drop_of_length-le, map, reverse, get_or, drop-cons, refl, ap, sym, subst, arith, Option, Some, None}
+use Rattle.std.specs.Prelude.{ℤ, negsuc, ◌+ℤ◌, slice_get, IsSome, nat_lt}
+use Rattle.std.specs.List.{filter, list_any}
+use Rattle.std.proofs.Math.Logic.{◌⊎◌, inl, inr}
+use Rattle.std.proofs.lemmas.Int.{ints}
+use Rattle.std.proofs.lemmas.Bool.{cases_eq, cases_lt}
+use Rattle.std.proofs.lemmas.Bool.Decides.{nat_tests}
+use Rattle.std.proofs.lemmas.List.{reverse-append, length-reverse}
+use Rattle.std.proofs.lemmas.Option.{same_Some, slice_get_past}
+use Rattle.node_core.specs.declared.tree.Node.{Node}
+use Rattle.node_core.specs.declared.tree.Node.TheVariants as nodes
+use Rattle.node_core.specs.declared.tree.Order.TheVariants.{Normal, Fil, Fill, Filll}
+use Rattle.node_core.specs.Classes.{shrinks_infinitely}
+use Rattle.pack_core.specs.Items.{across, stretch_in, shrink_in}
+use Rattle.pack_core.specs.Totals.{total}
+use Rattle.break_table.specs.Tables.{max_places}
+use Rattle.node_core.specs.Nodes.{max_nodes}
+use Rattle.break_lines.specs.declared.sums.Sums.{Sums}
+use Rattle.break_lines.specs.declared.mark.MeasuredBreak.{MeasuredBreak}
+use Rattle.break_lines.specs.Legal.{is_dropped, up_to, is_legal, is_break, node_before, legal_places, penalty_of}
+use Rattle.break_lines.specs.Kept.{sums_of, next_kept}
+use Rattle.break_lines.specs.Facts.{refusal}
+use Rattle.break_lines.specs.Marks.{amounts_of, plus, no_sums, measured_break}
+use Rattle.break_lines.specs.SmallMarks.{IsPrefix, IsSmallMark, AreSmallMarks}
+use Rattle.break_lines.proofs.Places.{filter_passed, filter_refused, count_passed, lead_dropped, lead_kept, lead_end}
+
+-- The items from an index on are the item there and the items after it.
+rest_is : (list : List Node) (i : ℕ) (x : Node) → i < length list → x ≡ get_or list i x → drop i list ≡ x ∷ drop (i + 1) list
+rest_is list i x within is =
+    let one : i + 1 ≡ suc i = omega arith in
+    drop-cons list i x within ∙ ap (λ y. y ∷ drop (suc i) list) (sym is) ∙ ap (λ n. x ∷ drop n list) (sym one)
+
+pub sums_back :
+    (list : List Node) (i : ℕ) (x : Node) → i < length list → x ≡ get_or list i x
+    → sums_of (drop i list) ≡ plus (sums_of (drop (i + 1) list)) (amounts_of x)
+unfolding sums_of
+sums_back list i x within is =
+    let same = rest_is list i x within is in
+    let of = λ (f : Node → ℤ). ap (total f) same in
+    let width : total across (drop i list) ≡ total across (drop (i + 1) list) +ℤ across x = omega (arith, ints, of across) in
+    let stretch : total (stretch_in Normal) (drop i list) ≡ total (stretch_in Normal) (drop (i + 1) list) +ℤ stretch_in Normal x = omega (arith, ints, of (stretch_in Normal)) in
+    let fil : total (stretch_in Fil) (drop i list) ≡ total (stretch_in Fil) (drop (i + 1) list) +ℤ stretch_in Fil x = omega (arith, ints, of (stretch_in Fil)) in
+    let fill : total (stretch_in Fill) (drop i list) ≡ total (stretch_in Fill) (drop (i + 1) list) +ℤ stretch_in Fill x = omega (arith, ints, of (stretch_in Fill)) in
+    let filll : total (stretch_in Filll) (drop i list) ≡ total (stretch_in Filll) (drop (i + 1) list) +ℤ stretch_in Filll x = omega (arith, ints, of (stretch_in Filll)) in
+    let shrink : total (shrink_in Normal) (drop i list) ≡ total (shrink_in Normal) (drop (i + 1) list) +ℤ shrink_in Normal x = omega (arith, ints, of (shrink_in Normal)) in
+    cc (width, stretch, fil, fill, filll, shrink)
+
+-- The index of the first item that is not dropped.
+pub next_dropped :
+    (list : List Node) (i : ℕ) (x : Node) → i < length list → x ≡ get_or list i x → is_dropped x ≡ true → next_kept list i ≡ next_kept list (i + 1)
+next_dropped list i x within is dropped = omega (arith, lead_dropped list i x within is dropped)
+
+pub next_here : (list : List Node) (i : ℕ) (x : Node) → i < length list → x ≡ get_or list i x → is_dropped x ≡ false → next_kept list i ≡ i
+next_here list i x within is kept = omega (arith, lead_kept list i x within is kept)
+
+-- An item that is not dropped is not a legal place, and not glue.
+no_break : (before behind : Option Node) (x : Node) → is_dropped x ≡ false → is_break before (Some x) behind ≡ false
+unfolding is_dropped is_break
+no_break before behind (nodes.Glyph glyph) kept = refl
+no_break before behind (nodes.FontKern width) kept = refl
+no_break before behind (nodes.Kern width) kept = absurd (cc)
+no_break before behind (nodes.Glue glue) kept = absurd (cc)
+no_break before behind (nodes.Penalty penalty) kept = absurd (cc)
+no_break before behind (nodes.Rule rule) kept = refl
+no_break before behind (nodes.Special text) kept = refl
+no_break before behind (nodes.Box shift b) kept = refl
+
+pub kept_finite : (x : Node) → is_dropped x ≡ false → shrinks_infinitely x ≡ false
+unfolding is_dropped
+kept_finite (nodes.Glyph glyph) kept = refl
+kept_finite (nodes.FontKern width) kept = refl
+kept_finite (nodes.Kern width) kept = absurd (cc)
+kept_finite (nodes.Glue glue) kept = absurd (cc)
+kept_finite (nodes.Penalty penalty) kept = absurd (cc)
+kept_finite (nodes.Rule rule) kept = refl
+kept_finite (nodes.Special text) kept = refl
+kept_finite (nodes.Box shift b) kept = refl
+
+get_some : (list : List Node) (i : ℕ) (x : Node) → i < length list → x ≡ get_or list i x → slice_get list i ≡ Some x
+get_some [] i x within is = absurd (omega arith)
+get_some (y ∷ list) zero x within is = ap Some (sym is)
+get_some (y ∷ list) (suc i) x within is = get_some list i x (omega arith) is
+
+pub kept_is_no_place :
+    (list : List Node) (i : ℕ) (x : Node) → i < length list → x ≡ get_or list i x → is_dropped x ≡ false → is_legal list i ≡ false
+unfolding is_legal
+kept_is_no_place list i x within is kept =
+    ap (λ here. is_break (node_before list i) here (slice_get list (i + 1))) (get_some list i x within is)
+    ∙ no_break (node_before list i) (slice_get list (i + 1)) x kept
+
+-- With one more item there is still no glue that shrinks in an infinite order.
+pub finite_more :
+    (list : List Node) (i : ℕ) (x : Node) → i < length list → x ≡ get_or list i x → shrinks_infinitely x ≡ false
+    → list_any shrinks_infinitely (drop (i + 1) list) ≡ false → list_any shrinks_infinitely (drop i list) ≡ false
+finite_more list i x within is finite rest =
+    let same = ap (list_any shrinks_infinitely) (rest_is list i x within is) in
+    cc
+
+-- The marks of the places from an index on, after one more item is passed.
+pub marks_stay :
+    (list : List Node) (i : ℕ) (later all : List MeasuredBreak) → is_legal list i ≡ false
+    → map (measured_break list) (filter (is_legal list) (up_to (i + 1))) ++ later ≡ all
+    → map (measured_break list) (filter (is_legal list) (up_to i)) ++ later ≡ all
+marks_stay list i later all other is = ap (λ ps. map (measured_break list) ps ++ later) (sym (filter_refused (is_legal list) i other)) ∙ is
+
+map-append : {A B : Type 0} (f : A → B) (xs ys : List A) → map f (xs ++ ys) ≡ map f xs ++ map f ys
+map-append f [] ys = refl
+map-append f (x ∷ xs) ys = ap (λ zs. f x ∷ zs) (map-append f xs ys)
+
+pub marks_more :
+    (list : List Node) (i : ℕ) (later now : List MeasuredBreak) (mark : MeasuredBreak) (all : List MeasuredBreak) → is_legal list i ≡ true → mark ≡ measured_break list i
+    → now ≡ later ++ mark ∷ [] → map (measured_break list) (filter (is_legal list) (up_to (i + 1))) ++ reverse later ≡ all
+    → map (measured_break list) (filter (is_legal list) (up_to i)) ++ reverse now ≡ all
+marks_more list i later now mark all legal here items is =
+    let f = measured_break list in
+    let earlier = filter (is_legal list) (up_to i) in
+    let both : map f (filter (is_legal list) (up_to (i + 1))) ≡ map f earlier ++ f i ∷ [] =
+    ap (map f) (filter_passed (is_legal list) i legal) ∙ map-append f earlier (i ∷ []) in
+    let one : reverse now ≡ f i ∷ reverse later =
+    ap reverse items ∙ reverse-append later (mark ∷ []) ∙ ap (λ m. m ∷ reverse later) here in
+    ap (λ ms. map f earlier ++ ms) one ∙ sym (append_assoc (map f earlier) (f i ∷ []) (reverse later))
+    ∙ ap (λ ms. ms ++ reverse later) (sym both) ∙ is
+
+-- The sums from the first item on that is not dropped.
+pub start_known :
+    (list : List Node) (i begin : ℕ) (sums before found : Sums) → (begin ≡ i → found ≡ sums) → (begin ≢ i → found ≡ before)
+    → sums ≡ sums_of (drop i list) → (begin ≢ i → before ≡ sums_of (drop begin list)) → found ≡ sums_of (drop begin list)
+start_known list i begin sums before found here later known old = cases (cases_eq begin i)
+  where
+    cases : (begin ≡ i) ⊎ (begin ≢ i) → found ≡ sums_of (drop begin list)
+    cases (inl same) = here same ∙ known ∙ ap (λ k. sums_of (drop k list)) (sym same)
+    cases (inr other) = later other ∙ old other
+
+pub start_small :
+    (i begin : ℕ) (sums before found : Sums) → (begin ≡ i → found ≡ sums) → (begin ≢ i → found ≡ before)
+    → IsPrefix max_nodes sums → IsPrefix max_nodes before → IsPrefix max_nodes found
+start_small i begin sums before found here later now old = cases (cases_eq begin i)
+  where
+    cases : (begin ≡ i) ⊎ (begin ≢ i) → IsPrefix max_nodes found
+    cases (inl same) = subst (IsPrefix max_nodes) (sym (here same)) now
+    cases (inr other) = subst (IsPrefix max_nodes) (sym (later other)) old
+
+pub small_more : (marks : List MeasuredBreak) (mark : MeasuredBreak) → IsSmallMark mark → AreSmallMarks (reverse marks) → AreSmallMarks (reverse (marks ++ mark ∷ []))
+small_more marks mark small are = subst AreSmallMarks (sym (reverse-append marks (mark ∷ []))) front
+  where
+    front : AreSmallMarks (mark ∷ reverse marks)
+    front zero m at = subst IsSmallMark (same_Some mark m at) small
+    front (suc k) m at = are k m at
+
+-- After the end there are no items.
+pub none_left : (list : List Node) → no_sums ≡ sums_of (drop (length list) list)
+unfolding sums_of
+none_left list = ap sums_of (sym (drop_of_length-le list (omega arith)))
+
+pub none_dropped : (list : List Node) → list_any shrinks_infinitely (drop (length list) list) ≡ false
+none_dropped list = ap (list_any shrinks_infinitely) (drop_of_length-le list (omega arith))
+
+-- The mark of the end.
+pub end_mark :
+    (list : List Node)
+    → record { position = length list; begin = length list + 1; penalty = negsuc 9999; from_position = no_sums; from_begin = no_sums }
+    ≡ measured_break list (length list)
+unfolding penalty_of sums_of
+end_mark list =
+    let n = length list in
+    let begin : n + 1 ≡ next_kept list (n + 1) = omega (arith, lead_end list (n + 1) (omega arith)) in
+    let penalty : negsuc 9999 ≡ penalty_of (slice_get list n) = ap penalty_of (sym (slice_get_past list n (omega arith))) in
+    let position : no_sums ≡ sums_of (drop n list) = ap sums_of (sym (drop_of_length-le list (omega arith))) in
+    let first : no_sums ≡ sums_of (drop (next_kept list (n + 1)) list) = ap sums_of (sym (drop_of_length-le list (omega (arith, begin)))) in
+    cc (begin, penalty, position, first)
+
+-- Lists that are refused.
+length-map : {A B : Type 0} (f : A → B) (xs : List A) → length (map f xs) ≡ length xs
+length-map f [] = refl
+length-map f (x ∷ xs) = ap suc (length-map f xs)
+
+refused : (glue many : Bool) (list : List Node) → list_any shrinks_infinitely list ≡ glue → nat_lt max_places (length (legal_places list)) ≡ many
+    → (glue ≡ true) ⊎ (many ≡ true) → IsSome (refusal list)
+refused true many list a b is = rw a refl
+refused false true list a b is = rw (a, b) refl
+refused false false list a b (inl is) = absurd (cc)
+refused false false list a b (inr is) = absurd (cc)
+
+pub too_many :
+    (list : List Node) (i : ℕ) (later : List MeasuredBreak) → is_legal list i ≡ true → max_places ≤ length later
+    → map (measured_break list) (filter (is_legal list) (up_to (i + 1))) ++ reverse later ≡ map (measured_break list) (legal_places list)
+    → IsSome (refusal list)
+too_many list i later legal many is =
+    let f = measured_break list in
+    let earlier = filter (is_legal list) (up_to (i + 1)) in
+    let front : length earlier ≡ length (filter (is_legal list) (up_to i)) + 1 = count_passed (is_legal list) i legal in
+    let all : length (map f earlier ++ reverse later) ≡ length (map f (legal_places list)) = ap length is in
+    let count : max_places < length (legal_places list) =
+    omega (arith, front, all, length-append (map f earlier) (reverse later), length-map f earlier, length-map f (legal_places list), length-reverse later, many) in
+    let test : nat_lt max_places (length (legal_places list)) ≡ true = grind (arith, nat_tests) in
+    refused _ true list refl test (inr refl)
+
+pub not_refused :
+    (list : List Node) (marks : List MeasuredBreak) → list_any shrinks_infinitely list ≡ false → length marks ≤ max_places
+    → reverse marks ≡ map (measured_break list) (legal_places list) → refusal list ≡ None
+not_refused list marks finite few is =
+    let count : length (legal_places list) ≤ max_places =
+    omega (arith, ap length is, length-map (measured_break list) (legal_places list), length-reverse marks, few) in
+    let test : nat_lt max_places (length (legal_places list)) ≡ false = grind (arith, nat_tests) in
+    rw (finite, test) refl
+
+-- A list that is not refused has at most 8,192 legal places.
+pub few_places : (list : List Node) → refusal list ≡ None → length (legal_places list) ≤ max_places
+few_places list fits = cases (cases_lt max_places (length (legal_places list)))
+  where
+    cases : (max_places < length (legal_places list)) ⊎ (length (legal_places list) ≤ max_places) → length (legal_places list) ≤ max_places
+    cases (inr few) = few
+    cases (inl many) =
+        let test : nat_lt max_places (length (legal_places list)) ≡ true = grind (arith, nat_tests) in
+        let some : IsSome (refusal list) = refused _ true list refl test (inr refl) in
+        absurd (cc)

@@ -1,0 +1,30 @@
+use Rattle.std.proofs.Common.{◌≡◌, ◌∙◌, length, sym, subst, ap, arith, rules}
+use Rattle.std.proofs.lemmas.List.{length-replicate}
+use Rattle.break_lines.specs.Marks.{IsMarked}
+use Rattle.break_lines.specs.SmallMarks.{AreSmallMarks}
+use Rattle.break_lines.proofs.Ends.{some_place}
+use Rattle.break_lines.proofs.Marked.{count_is}
+use Rattle.break_lines.proofs.Walks.{few_places}
+use Rattle.break_lines.proofs.list_meter.ListMeter.of.Goals as goal
+
+pub is_steady-steady-requires : goal.is_steady-steady-requires
+is_steady-steady-requires c =
+    let marked : IsMarked c.args.nodes.now c.in-Some.marks.items = rw c.in-Some.is at c.in_ok-marks.ensures in
+    record { marks_bounded = subst AreSmallMarks (sym c.deref.ensures.value) marked.small }
+
+pub invariant_of-result : goal.invariant_of-result
+invariant_of-result c =
+    let list = c.args.nodes.now in
+    let marks = c.in-Some.marks.items in
+    let marked : IsMarked list marks = rw c.in-Some.is at c.in_ok-marks.ensures in
+    let long : c.len.result ≡ length marks = search rules in
+    record {
+      short = c.requires.list_bounded;
+      marked = marked.marks;
+      some = some_place list;
+      few = omega (arith, count_is list marks marked.marks, few_places list marked.fits);
+      small = marked.small;
+      rises = λ rising. c.is_steady-steady.ensures.yes list (c.deref.ensures.value ∙ marked.marks) rising;
+      falls = λ steady. c.is_steady-steady.ensures.no list (c.deref.ensures.value ∙ marked.marks) steady;
+      counted = ap length c.in_ok-trials.ensures ∙ length-replicate c.len.result 0 ∙ long;
+    }

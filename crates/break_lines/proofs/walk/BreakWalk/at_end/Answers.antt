@@ -1,0 +1,30 @@
+use Rattle.std.proofs.Common.{◌≡◌, ◌∙◌, ◌+◌, ◌-◌, [], ◌∷◌, ◌++◌, length, reverse, ap, sym, subst, arith}
+use Rattle.std.specs.Prelude.{negsuc}
+use Rattle.std.proofs.lemmas.List.{append-nil}
+use Rattle.node_core.specs.Nodes.{max_nodes}
+use Rattle.break_lines.specs.declared.mark.MeasuredBreak.{MeasuredBreak}
+use Rattle.break_lines.specs.Marks.{no_sums}
+use Rattle.break_lines.specs.SmallMarks.{AreSmallMarks}
+use Rattle.break_lines.proofs.Ends.{end_is_legal}
+use Rattle.break_lines.proofs.Places.{lead_end}
+use Rattle.break_lines.proofs.Smalls.{none}
+use Rattle.break_lines.proofs.Walks.{marks_more, small_more, end_mark, none_left, none_dropped}
+use Rattle.break_lines.proofs.walk.BreakWalk.at_end.Goals as goal
+
+pub returns : goal.returns
+returns c =
+    let list = c.args.nodes.now in
+    let n = length list in
+    let mark : MeasuredBreak = record { position = n; begin = n + 1; penalty = negsuc 9999; from_position = no_sums; from_begin = no_sums } in
+    let items : c.push.new.self.items ≡ mark ∷ [] = c.in_ok-push.ensures.items ∙ ap (λ ms. ms ++ mark ∷ []) c.in_ok-marks.ensures.items in
+    record {
+      marks = marks_more list n [] c.push.new.self.items mark _ (end_is_legal list) (end_mark list) items (append-nil _);
+      few = omega (arith, ap length items);
+      small_marks = subst (λ ms. AreSmallMarks (reverse ms)) (sym items) (small_more [] mark (record { from_position = none max_nodes; from_begin = none max_nodes }) (λ k m at. absurd (cc)));
+      sums = none_left list;
+      small_sums = none (n - n);
+      begin = omega (arith, lead_end list n (omega arith));
+      from_begin = λ _. none_left list;
+      small_begin = none max_nodes;
+      finite = none_dropped list;
+    }

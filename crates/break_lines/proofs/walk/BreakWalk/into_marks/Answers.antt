@@ -1,0 +1,24 @@
+use Rattle.std.proofs.Common.{◌≡◌, ◌∙◌, ◌-◌, [], ◌∷◌, ◌++◌, length, reverse, ap, sym, subst, arith}
+use Rattle.std.specs.Prelude.{pos}
+use Rattle.std.proofs.lemmas.List.{reverse-append}
+use Rattle.break_lines.specs.declared.mark.MeasuredBreak.{MeasuredBreak}
+use Rattle.break_lines.specs.Marks.{start_mark}
+use Rattle.break_lines.specs.SmallMarks.{AreSmallMarks}
+use Rattle.break_lines.proofs.Smalls.{wide}
+use Rattle.break_lines.proofs.Walks.{small_more, not_refused}
+use Rattle.break_lines.proofs.walk.BreakWalk.into_marks.Goals as goal
+
+pub returns : goal.returns
+returns c =
+    let list = c.args.nodes.now in
+    let w = c.args.self in
+    let old = c.requires.walked in
+    let mark : MeasuredBreak = record { position = 0; begin = 0; penalty = pos 0; from_position = w.sums; from_begin = w.sums } in
+    let items : c.reverse.new.self.items ≡ reverse (w.marks.items ++ mark ∷ []) = c.reverse.ensures.items ∙ ap reverse c.in_ok-push.ensures.items in
+    let here : mark ≡ start_mark list = cc (old.sums) in
+    let small = wide (length list - 0) w.sums (omega (arith, c.requires.list_bounded)) old.small_sums in
+    record {
+      fits = not_refused list w.marks.items old.finite old.few old.marks;
+      marks = items ∙ reverse-append w.marks.items (mark ∷ []) ∙ ap (λ m. m ∷ reverse w.marks.items) here ∙ ap (λ ms. start_mark list ∷ ms) old.marks;
+      small = subst AreSmallMarks (sym items) (small_more w.marks.items mark (record { from_position = small; from_begin = small }) old.small_marks);
+    }

@@ -1,0 +1,13 @@
+-- The cost of a line: its badness, class, overhang and demerits.
+-- A list of nodes as the breaker needs it: its legal places, the items of a line and their sums, and why a list is refused.
+pub mod Costs
+pub mod SmallCosts
+pub mod Sizes
+pub mod Examples
+pub mod Legal
+pub mod Kept
+pub mod Facts
+pub mod SmallMarks
+pub mod Steady
+pub mod Divided
+pub mod Marks

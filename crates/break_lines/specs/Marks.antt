@@ -1,0 +1,86 @@
+-- The places of a list as its meter stores them, and the walk that finds them (own; no public clause speaks of it).
+use Rattle.std.specs.Prelude.{◌≡◌, ◌≢◌, ◌+◌, ◌-◌, ◌≤◌, ◌+ℤ◌, ◌++◌, ℕ, pos, false, nat_lt, List, ◌∷◌, length, map, filter, reverse, drop, slice_get, None, if◌then◌else◌}
+use Rattle.std.specs.List.{list_any}
+use Rattle.node_core.specs.declared.tree.Node.{Node}
+use Rattle.node_core.specs.Classes.{shrinks_infinitely}
+use Rattle.node_core.specs.declared.tree.Order.TheVariants.{Normal, Fil, Fill, Filll}
+use Rattle.node_core.specs.Nodes.{max_nodes}
+use Rattle.pack_core.specs.Items.{across, stretch_in, shrink_in}
+use Rattle.break_table.specs.Tables.{max_places}
+use Rattle.break_lines.specs.declared.sums.Sums.{Sums}
+use Rattle.break_lines.specs.declared.mark.MeasuredBreak.{MeasuredBreak}
+use Rattle.break_lines.specs.declared.walk.BreakWalk.{BreakWalk}
+use Rattle.break_lines.specs.Legal.{up_to, is_legal, legal_places, penalty_of}
+use Rattle.break_lines.specs.Kept.{sums_of, next_kept, minus}
+use Rattle.break_lines.specs.Facts.{refusal}
+use Rattle.break_lines.specs.SmallMarks.{IsPrefix, AreSmallMarks}
+
+-- What an item adds to the sums.
+abbrev pub amounts_of : Node → Sums
+amounts_of node =
+    record {
+      width = across node;
+      stretch = stretch_in Normal node;
+      fil = stretch_in Fil node;
+      fill = stretch_in Fill node;
+      filll = stretch_in Filll node;
+      shrink = shrink_in Normal node;
+    }
+
+-- The sum of two sums (own).
+abbrev pub plus : Sums → Sums → Sums
+plus a b =
+    record {
+      width = a.width +ℤ b.width;
+      stretch = a.stretch +ℤ b.stretch;
+      fil = a.fil +ℤ b.fil;
+      fill = a.fill +ℤ b.fill;
+      filll = a.filll +ℤ b.filll;
+      shrink = a.shrink +ℤ b.shrink;
+    }
+
+-- The mark of a legal place.
+abbrev pub measured_break : List Node → ℕ → MeasuredBreak
+measured_break list place =
+    record {
+      position = place;
+      begin = next_kept list (place + 1);
+      penalty = penalty_of (slice_get list place);
+      from_position = sums_of (drop place list);
+      from_begin = sums_of (drop (next_kept list (place + 1)) list);
+    }
+
+-- The mark of the start: the first line begins with the first item, even if it is an item that is dropped elsewhere.
+abbrev pub start_mark : List Node → MeasuredBreak
+start_mark list = record { position = 0; begin = 0; penalty = pos 0; from_position = sums_of list; from_begin = sums_of list }
+
+-- The marks of the start and of the legal places, in order.
+abbrev pub marks_of : List Node → List MeasuredBreak
+marks_of list = start_mark list ∷ map (measured_break list) (legal_places list)
+
+-- The sums over no items.
+abbrev pub no_sums : Sums
+no_sums = record { width = pos 0; stretch = pos 0; fil = pos 0; fill = pos 0; filll = pos 0; shrink = pos 0 }
+
+-- The sums over the items of the line from a place to a later one.
+abbrev pub line_between : (from to : MeasuredBreak) → Sums
+line_between from to = if nat_lt from.begin to.position then minus from.from_begin to.from_position else no_sums
+
+-- The measures of a list that is not refused.
+pub record IsMarked (list : List Node) (found : List MeasuredBreak) : Type 0 where
+  pub fits : refusal list ≡ None
+  pub marks : found ≡ marks_of list
+  pub small : AreSmallMarks found
+
+-- The state of a walk that has passed the items from an index on.
+pub record HasMeasuredFrom (list : List Node) (index : ℕ) (walk : BreakWalk) : Type 0 where
+  -- The marks of the places among these items, together with those of the places before them, are all marks.
+  pub marks : map (measured_break list) (filter (is_legal list) (up_to index)) ++ reverse walk.marks.items ≡ map (measured_break list) (legal_places list)
+  pub few : length walk.marks.items ≤ max_places
+  pub small_marks : AreSmallMarks (reverse walk.marks.items)
+  pub sums : walk.sums ≡ sums_of (drop index list)
+  pub small_sums : IsPrefix (length list - index) walk.sums
+  pub begin : walk.begin ≡ next_kept list index
+  pub from_begin : walk.begin ≢ index → walk.from_begin ≡ sums_of (drop walk.begin list)
+  pub small_begin : IsPrefix max_nodes walk.from_begin
+  pub finite : list_any shrinks_infinitely (drop index list) ≡ false

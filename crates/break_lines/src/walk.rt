@@ -1,0 +1,132 @@
+//! The walk that measures a list, from its end to its beginning.
+
+ghost use Rattle.std.specs.Prelude.{◌≡◌, ◌≢◌, ◌+◌, ◌<◌, ◌≤◌, true, false, length, get_or, IsSome, IfOk, MatchOption};
+ghost use Rattle.node_core.specs.Nodes.{max_nodes};
+ghost use Rattle.break_lines.specs.Facts.{refusal};
+ghost use Rattle.break_lines.specs.Marks.{HasMeasuredFrom, IsMarked};
+
+use crate::item_sums::{Sums, add_item};
+use crate::list::{MAX_PLACES, is_dropped, is_legal, penalty_at};
+use crate::mark::MeasuredBreak;
+use node_core::Node;
+use std::alloc::{AllocError, Global};
+
+/// The state of a walk over the items from some index to the end: the marks of the legal places there, in reverse order, the sums over these items,
+/// the index of the first of them that is not dropped at the beginning of a line, and the sums from that item on. `from_begin` is set only if an item
+/// before `begin` was passed.
+#[derive(Drop)]
+struct BreakWalk {
+    marks: Vec<MeasuredBreak>,
+    sums: Sums,
+    begin: usize,
+    from_begin: Sums,
+}
+
+impl BreakWalk {
+    /// The walk over no items: the end of the list is a legal place.
+    fn at_end(alloc: Global, nodes: &[Node]) -> Result<BreakWalk, AllocError>
+        requires list_bounded { length nodes.now ≤ max_nodes }
+        ensures { IfOk result (HasMeasuredFrom nodes.now (length nodes.now)) }
+    {
+        // In text about every seventh item is a legal place, so mostly this capacity is enough.
+        let mut marks = Vec::with_capacity(alloc, nodes.len() / 8 + 2)?;
+        marks.push(MeasuredBreak {
+            position: nodes.len(),
+            begin: nodes.len() + 1,
+            penalty: -10_000,
+            from_position: Sums::ZERO,
+            from_begin: Sums::ZERO,
+        })?;
+        Ok(BreakWalk {
+            marks,
+            sums: Sums::ZERO,
+            begin: nodes.len(),
+            from_begin: Sums::ZERO,
+        })
+    }
+
+    /// The sums over the items from the first one that is not dropped, for a line that begins after the item before `index`.
+    fn line_start(&self, index: usize) -> Sums
+        ensures here { self.now.begin ≡ index → result ≡ self.now.sums }
+        ensures later { self.now.begin ≢ index → result ≡ self.now.from_begin }
+    {
+        if self.begin == index {
+            return self.sums;
+        }
+        self.from_begin
+    }
+
+    /// Passes the item before those that were passed. Returns `false` if the list is refused.
+    fn pass(&mut self, nodes: &[Node], index: usize) -> Result<bool, AllocError>
+        requires list_bounded { length nodes.now ≤ max_nodes }
+        requires within { index < length nodes.now }
+        requires walked { HasMeasuredFrom nodes.now (index + 1) self.old }
+        ensures goes_on { IfOk result (λ goes_on. goes_on ≡ true → HasMeasuredFrom nodes.now index self.new) }
+        ensures stops { IfOk result (λ goes_on. goes_on ≡ false → IsSome (refusal nodes.now)) }
+    {
+        let node = &nodes[index];
+        if !is_dropped(node) {
+            add_item(&mut self.sums, node);
+            self.begin = index;
+            return Ok(true);
+        }
+        if node.shrinks_infinitely() {
+            return Ok(false);
+        }
+        self.from_begin = self.line_start(index + 1);
+        add_item(&mut self.sums, node);
+        if !is_legal(nodes, index) {
+            return Ok(true);
+        }
+        if self.marks.len() >= MAX_PLACES {
+            return Ok(false);
+        }
+        self.marks.push(MeasuredBreak {
+            position: index,
+            begin: self.begin,
+            penalty: penalty_at(nodes, index),
+            from_position: self.sums,
+            from_begin: self.from_begin,
+        })?;
+        Ok(true)
+    }
+
+    /// The marks of the start and of the legal places, in order, after a walk over all items.
+    fn into_marks(self, nodes: &[Node]) -> Result<Vec<MeasuredBreak>, AllocError>
+        requires list_bounded { length nodes.now ≤ max_nodes }
+        requires walked { HasMeasuredFrom nodes.now 0 self }
+        ensures { IfOk result (λ marks. IsMarked nodes.now marks.items) }
+    {
+        let BreakWalk {
+            mut marks,
+            sums,
+            ..
+        } = self;
+        marks.push(MeasuredBreak {
+            position: 0,
+            begin: 0,
+            penalty: 0,
+            from_position: sums,
+            from_begin: sums,
+        })?;
+        marks.reverse();
+        Ok(marks)
+    }
+}
+
+/// The marks of the start and of the legal places, in order, or `None` if the list is refused. The walk goes from the end to the beginning: after
+/// passing an item it knows where a line that starts before the item begins, so each mark is complete when it is made.
+pub fn marks_of(alloc: Global, nodes: &[Node]) -> Result<Option<Vec<MeasuredBreak>>, AllocError>
+    requires list_bounded { length nodes.now ≤ max_nodes }
+    ensures { IfOk result (λ found. MatchOption found (IsSome (refusal nodes.now)) (λ marks. IsMarked nodes.now marks.items)) }
+{
+    let mut walk = BreakWalk::at_end(alloc, nodes)?;
+    let mut index = nodes.len();
+    while index > 0 {
+        index -= 1;
+        if !walk.pass(nodes, index)? {
+            return Ok(None);
+        }
+    }
+    Ok(Some(walk.into_marks(nodes)?))
+}

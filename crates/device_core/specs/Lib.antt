@@ -1,5 +1,0 @@
-pub mod Told
-pub mod Held
-pub mod Fused
-pub mod Resumed
-pub mod Beginnings

@@ -1,0 +1,5 @@
+pub mod Written
+pub mod Held
+pub mod Fused
+pub mod Resumed
+pub mod Beginnings

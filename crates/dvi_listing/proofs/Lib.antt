@@ -1,3 +1,0 @@
-mod MarkLines
-mod NextLines
-mod PartLemmas

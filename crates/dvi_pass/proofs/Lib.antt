@@ -1,9 +1,0 @@
-pub mod KnownLemmas
-pub mod FontLemmas
-pub mod PartLemmas
-pub mod TurnLemmas
-pub mod PassedLemmas
-pub mod LeftLemmas
-pub mod ReachedLemmas
-pub mod StrayLemmas
-pub mod WidthLemmas

@@ -1,5 +1,0 @@
-use Rattle.dvi_pass.proofs.PassedLemmas.{passed_file}
-use Rattle.dvi_pass.proofs.files.passed_is_file.Goals as goal
-
-pub returns : goal.returns
-returns c = λ metrics bytes post behind last stop chain pages framed count p. passed_file bytes post behind last stop chain framed metrics pages count p

@@ -1,5 +1,0 @@
-use Rattle.dvi_pass.proofs.WidthLemmas.{one_width}
-use Rattle.dvi_pass.proofs.laws.one_width_is_asked.Goals as goal
-
-pub returns : goal.returns
-returns c = one_width

@@ -1,6 +1,0 @@
-use Rattle.std.proofs.Common.{[]}
-use Rattle.dvi_pass.proofs.PartLemmas.{passes-parts}
-use Rattle.dvi_pass.proofs.laws.parts_are_passed.Goals as goal
-
-pub returns : goal.returns
-returns c = λ does most parts pages e deep. passes-parts does most parts [] pages e deep

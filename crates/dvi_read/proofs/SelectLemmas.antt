@@ -1,0 +1,138 @@
+-- The font that a number selects.
+use Rattle.std.proofs.Common.{◌≡◌, ◌++◌, ◌||◌, [], ◌∷◌, List, length, ℕ, zero, suc, ℤ, Bool, true, false, Option, Some, None, refl, sym, ◌∙◌, ap, subst, subst₂, inl, inr, length-append, arith}
+use Rattle.std.specs.Prelude.{◌⊎◌, IsSome, cond, slice_get}
+use Rattle.std.proofs.Math.Seq.{get_or-append_seam}
+use Rattle.std.proofs.lemmas.Option.{slice_get_read}
+use Rattle.std.specs.BTreeMap.{Updates}
+use Rattle.std.specs.List.{AllByRecursion}
+use Rattle.std.specs.Ordering.{int_cmp, int_eq}
+use Rattle.std.proofs.lemmas.Bool.Decides.{Decides-int_eq}
+use Rattle.dvi_ops.specs.Fonts.{WidthsByName, defined, font, widths_in}
+use Rattle.dvi_ops.specs.Instruction.{Definition}
+use Rattle.dvi_scan.specs.Reached.{has_number}
+use Rattle.dvi_scan.proofs.FontLemmas.{defined_more, has_definition, some_definition}
+use Rattle.dvi_read.specs.Faults.{of_font}
+use Rattle.dvi_read.specs.ReadFonts.{AreSound, HasWidthsAt, FontIsRead, read_font_at, font_place}
+use Rattle.dvi_read.specs.declared.read_fonts.ReadFonts.{ReadFonts}
+use Rattle.dvi_read.specs.Steps.{IsSelectFault, Selects}
+use Rattle.dvi_fonts.specs.Widths.{HasBytes, IsFontRefusal}
+use Rattle.dvi_fonts.specs.declared.widths.FontRefusal.{FontRefusal}
+use Rattle.dvi_fonts.specs.declared.widths.FontRefusal.TheVariants as refusals
+use Rattle.tfm_core.specs.FileWidths.{file_widths, width_at}
+use Rattle.tfm_core.specs.Fonts.{SizedFont}
+use Rattle.tfm_core.specs.NamedBytes.{NamedBytes}
+
+-- The value of an option that is not None.
+pub some_is : {X : Type 0} (o : Option X) → IsSome o → (x : X) × (o ≡ Some x)
+some_is None some = absurd cc
+some_is (Some x) some = (x, refl)
+
+pub is_some : {X : Type 0} (o : Option X) (x : X) → o ≡ Some x → IsSome o
+is_some o x e = rw e refl
+
+-- An item of a list with one more item at its end.
+item_before : {X : Type 0} (xs : List X) (x y : X) (k : ℕ) → slice_get xs k ≡ Some y → slice_get (xs ++ x ∷ []) k ≡ Some y
+item_before [] x y k e = absurd cc
+item_before (z ∷ xs) x y zero e = e
+item_before (z ∷ xs) x y (suc k) e = item_before xs x y k e
+
+item_last : {X : Type 0} (xs : List X) (x : X) → slice_get (xs ++ x ∷ []) (length xs) ≡ Some x
+item_last xs x =
+    slice_get_read (xs ++ x ∷ []) (length (xs ++ x ∷ [])) (length xs) x refl (let size = length-append xs (x ∷ []) in omega (arith, size)) (sym (get_or-append_seam xs x [] x))
+
+item_back : {X : Type 0} (xs : List X) (x y : X) (k : ℕ) → slice_get (xs ++ x ∷ []) k ≡ Some y → (slice_get xs k ≡ Some y) ⊎ (x ≡ y)
+item_back [] x y zero e = inr cc
+item_back [] x y (suc k) e = absurd cc
+item_back (z ∷ xs) x y zero e = inl e
+item_back (z ∷ xs) x y (suc k) e = item_back xs x y k e
+
+-- The font was read before.
+pub selects_read : (metrics : WidthsByName) (ahead : List ℤ) (known : List Definition) (f : ℤ) (place : ℕ) (fonts new : ReadFonts) → AreSound metrics known fonts → has_number ahead f ≡ true
+    → font_place f fonts ≡ Some place → new ≡ record fonts { current = place } → Selects metrics ahead known f fonts new
+selects_read metrics ahead known f place fonts new sound named there is =
+    let (read, e, widths) = sound.widths f place there in
+    let chosen : Selects metrics ahead known f fonts (record fonts { current = place }) = record {
+      named = named;
+      widths = is_some (font metrics known f) (width_at read) widths;
+      current = there;
+      sound = record { widths = sound.widths; codes = sound.codes };
+      kept = λ g some. some;
+    } in
+    subst (λ (now : ReadFonts). Selects metrics ahead known f fonts now) (sym is) chosen
+
+-- A number has the place that was set for it, and each other number has its old place.
+by_number : (P : ℤ → ℕ → Type 0) (b : Bool) (f g : ℤ) (mine place : ℕ) (rest : Option ℕ) → int_eq f g ≡ b → P f mine → (rest ≡ Some place → P g place) → cond b (Some mine) rest ≡ Some place
+    → P g place
+by_number P true f g mine place rest same here later e = let one : mine ≡ place = cc in subst₂ P ((Decides-int_eq f g).0 same) one here
+by_number P false f g mine place rest same here later e = later e
+
+number_kept : (b : Bool) (mine : ℕ) (rest : Option ℕ) → IsSome rest → IsSome (cond b (Some mine) rest)
+number_kept true mine rest some = refl
+number_kept false mine rest some = some
+
+-- The font is read now.
+module _ (files : List NamedBytes) (ahead : List ℤ) (known : List Definition) (d : Definition) (f : ℤ) (old new : ReadFonts) (read : SizedFont) (sound : AreSound (file_widths files) known old)
+    (updates : Updates int_cmp old.places new.places f (Some (length old.all.items))) (all : new.all.items ≡ old.all.items ++ read ∷ []) where
+  before_it : (g : ℤ) (place : ℕ) → font_place g old ≡ Some place → HasWidthsAt (file_widths files) known new g place
+  before_it g place later =
+      let (other, e, w) = sound.widths g place later in
+      (other, ap (λ (fonts : List SizedFont). slice_get fonts place) all ∙ item_before old.all.items read other place e, w)
+
+  by_item : (place : ℕ) (other : SizedFont) → HasBytes read → (read_font_at old place ≡ Some other) ⊎ (read ≡ other) → HasBytes other
+  by_item place other codes (inl e) = sound.codes place other e
+  by_item place other codes (inr same) = subst HasBytes same codes
+
+  pub selects_new : has_number ahead f ≡ true → defined f known ≡ Some d → new.current ≡ length old.all.items → file_widths files d.name d.size ≡ Some (width_at read) → HasBytes read
+      → Selects (file_widths files) ahead known f old new
+  selects_new named there current given codes =
+      let metrics : WidthsByName = file_widths files in
+      let mine : ℕ = length old.all.items in
+      let widths : font metrics known f ≡ Some (width_at read) = ap (widths_in metrics) there ∙ given in
+      let last : read_font_at new mine ≡ Some read = ap (λ (fonts : List SizedFont). slice_get fonts mine) all ∙ item_last old.all.items read in
+      record {
+        named = named;
+        widths = is_some (font metrics known f) (width_at read) widths;
+        current = updates.1 ∙ ap (λ (n : ℕ). Some n) (sym current);
+        sound = record {
+          widths = λ g place at.
+              by_number (HasWidthsAt metrics known new) (int_eq f g) f g mine place (font_place g old) refl (read, last, widths) (before_it g place) (sym (updates.0 g) ∙ at);
+          codes = λ place other e.
+              by_item place other codes (item_back old.all.items read other place (sym (ap (λ (fonts : List SizedFont). slice_get fonts place) all) ∙ e));
+        };
+        kept = λ g some. subst (λ (o : Option ℕ). IsSome o) (sym (updates.0 g)) (number_kept (int_eq f g) mine (font_place g old) some);
+      }
+
+-- More definitions change no width of a font that was read.
+pub sound_more : (metrics : WidthsByName) (xs ys : List Definition) (fonts : ReadFonts) → AreSound metrics xs fonts → AreSound metrics (xs ++ ys) fonts
+sound_more metrics xs ys fonts sound =
+    record {
+      widths = λ f place at. (
+          let (read, there, widths) = sound.widths f place at in
+          let (d, e) = some_definition (defined f xs) (has_definition metrics xs f (is_some (font metrics xs f) (width_at read) widths)) in
+          (read, there, ap (widths_in metrics) (defined_more f xs ys d e ∙ sym e) ∙ widths));
+      codes = sound.codes;
+    }
+
+-- A font is refused, or memory is refused for it.
+pub lacks : (files : List NamedBytes) (ahead : List ℤ) (known : List Definition) (fonts : ReadFonts) (f : ℤ) (d : Definition) (refusal : FontRefusal) → has_number ahead f ≡ true → defined f known ≡ Some d
+    → font_place f fonts ≡ None → IsFontRefusal files d refusal → IsSelectFault files ahead known fonts f (of_font refusal)
+lacks files ahead known fonts f d refusals.OutOfMemory named found new file = record { named = named; new = new; font = d; found = found; file = file }
+lacks files ahead known fonts f d refusals.NoFont named found new file = record { named = named; font = d; found = found; other = λ e. absurd cc; refused = file }
+lacks files ahead known fonts f d (refusals.BadTfm cause) named found new file = record { named = named; font = d; found = found; other = λ e. absurd cc; refused = file }
+lacks files ahead known fonts f d refusals.DimensionTooLarge named found new file = record { named = named; font = d; found = found; other = λ e. absurd cc; refused = file }
+
+-- A font that was not read was not selected.
+or_both : (a b : Bool) → a ≡ false → b ≡ false → (a || b) ≡ false
+or_both true b one other = one
+or_both false b one other = other
+
+other_font : (f g : ℤ) (b : Bool) (fonts : ReadFonts) → int_eq f g ≡ b → font_place f fonts ≡ None → FontIsRead g fonts → int_eq f g ≡ false
+other_font f g false fonts is none some = is
+other_font f g true fonts is none some =
+    let here : FontIsRead f fonts = subst (λ (n : ℤ). FontIsRead n fonts) (sym ((Decides-int_eq f g).0 is)) some in
+    let nothing : Option ℕ = None in
+    let gone : IsSome nothing = subst (λ (o : Option ℕ). IsSome o) none here in absurd cc
+
+pub not_read : (f : ℤ) (fonts : ReadFonts) (selected : List ℤ) → font_place f fonts ≡ None → AllByRecursion (λ g. FontIsRead g fonts) selected → has_number selected f ≡ false
+not_read f fonts [] none all = refl
+not_read f fonts (g ∷ selected) none (here, all) = or_both (int_eq f g) (has_number selected f) (other_font f g (int_eq f g) fonts refl none here) (not_read f fonts selected none all)

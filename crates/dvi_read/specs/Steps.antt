@@ -1,0 +1,137 @@
+-- One instruction of the pages, as the code processes it (own). No clause of a call that other crates use to read a file reaches these definitions:
+-- they are about the values of the code.
+use Rattle.std.specs.Prelude.{◌≡◌, ◌++◌, ◌⊎◌, false, true, List, map, reverse, ℕ, ℤ, Option, Some, None}
+use Rattle.std.specs.List.{AllByRecursion}
+use Rattle.dvi_fonts.specs.Widths.{IsFontRefusal}
+use Rattle.dvi_fonts.specs.declared.widths.FontRefusal.TheVariants as refusals
+use Rattle.dvi_scan.specs.declared.fault.DviCause.TheVariants.{Font}
+use Rattle.dvi_ops.specs.Body.{acts, kept}
+use Rattle.dvi_ops.specs.Fonts.{WidthsByName, IsRightAfter, defined, definitions_in, selection_of, widths_of}
+use Rattle.dvi_ops.specs.Instruction.{Definition, FontDef, FontNum, Instruction, Do}
+use Rattle.dvi_ops.specs.Tokens.{bop_place}
+use Rattle.dvi_scan.specs.Drawing.{always}
+use Rattle.dvi_scan.specs.Pass.{PassStateView, execute}
+use Rattle.dvi_scan.specs.Reached.{HasWidths, Left, ReadSoFar, behind_bops, has_number}
+use Rattle.dvi_scan.specs.Execution.{BreaksTurn, TakesRoom, pass_at}
+use Rattle.dvi_scan.specs.View.{marked_page}
+use Rattle.dvi_read.specs.ReadFonts.{AreSound, Chooses, HasCurrent, IsCurrent, FontIsRead, asked_width, code_in, font_place}
+use Rattle.dvi_read.specs.declared.read_fonts.ReadFonts.{ReadFonts}
+use Rattle.dvi_read.specs.Stops.{BreaksRest, BreaksRule, FontIsUnread, SelectsUnread, InstructionAllocates}
+use Rattle.dvi_read.specs.declared.fault.StepFault.{StepFault}
+use Rattle.dvi_read.specs.declared.fault.StepFault.TheVariants.{OutOfMemory, Broken, Refused}
+use Rattle.dvi_read.specs.declared.walk.Walk.{Walk}
+use Rattle.tfm_core.specs.FileWidths.{file_widths}
+use Rattle.tfm_core.specs.NamedBytes.{NamedBytes}
+
+-- A font was selected: its number is defined after post, it has widths among the definitions before it, and it was read.
+pub record Selects (metrics : WidthsByName) (ahead : List ℤ) (known : List Definition) (f : ℤ) (old new : ReadFonts) : Type 0 where
+  pub named : has_number ahead f ≡ true
+  pub widths : HasWidths metrics known f
+  pub current : HasCurrent f new
+  pub sound : AreSound metrics known new
+  pub kept : (g : ℤ) → FontIsRead g old → FontIsRead g new
+
+-- The number of a selected font is not defined before the selection, or not after post.
+abbrev pub IsUndefined : (ahead : List ℤ) → (known : List Definition) → ℤ → Type 0
+IsUndefined ahead known f = (defined f known ≡ None) ⊎ (has_number ahead f ≡ false)
+
+-- Memory is refused for a font: it was not read before, and a file with its name was given that breaks no rule that needs no table.
+pub record LacksFont (files : List NamedBytes) (ahead : List ℤ) (known : List Definition) (f : ℤ) (fonts : ReadFonts) : Type 0 where
+  pub named : has_number ahead f ≡ true
+  pub new : font_place f fonts ≡ None
+  pub font : Definition
+  pub found : defined f known ≡ Some font
+  pub file : IsFontRefusal files font refusals.OutOfMemory
+
+-- Why a font was not selected, where these fonts were read.
+abbrev pub IsSelectFault : List NamedBytes → (ahead : List ℤ) → (known : List Definition) → ReadFonts → ℤ → StepFault → Type 0
+IsSelectFault files ahead known fonts f OutOfMemory = LacksFont files ahead known f fonts
+IsSelectFault files ahead known fonts f (Broken cause) = (cause ≡ Font) × IsUndefined ahead known f
+IsSelectFault files ahead known fonts f (Refused refusal) = FontIsUnread files ahead known f refusal
+
+-- The state of a walk in the pass.
+abbrev pub stand_of : Walk → PassStateView
+stand_of walk = pass_at (map marked_page walk.done.items) walk.stand
+
+-- The definitions that a walk knows, in the order of the file.
+abbrev pub known_of : Walk → List Definition
+known_of walk = walk.known
+
+-- The places left of the chain of pages.
+abbrev pub places_left : Walk → Left
+places_left walk = record { missed = walk.missed; places = reverse walk.left.items }
+
+-- What was read of a file, from the state of a walk and the selected fonts.
+abbrev pub so_far : (selected : List ℤ) → Walk → ReadSoFar
+so_far selected walk = record { pass = stand_of walk; known = known_of walk; selected = selected; left = places_left walk }
+
+-- Each of these fonts was read.
+abbrev pub FontsAreRead : ReadFonts → List ℤ → Type 0
+FontsAreRead fonts selected = AllByRecursion (λ f. FontIsRead f fonts) selected
+
+-- The effect of an instruction on pages and fonts is right and was recorded: a bop is among the places left of the chain, a definition was added, a
+-- selected font was read.
+pub record Notes (metrics : WidthsByName) (ahead : List ℤ) (at : ℕ) (i : Instruction) (old new : Walk) : Type 0 where
+  pub bop : behind_bops (bop_place at i) (places_left old) ≡ Some (places_left new)
+  pub right : IsRightAfter (known_of old) i
+  pub known_is : known_of new ≡ known_of old ++ definitions_in i
+  pub widths : AllByRecursion (HasWidths metrics (known_of old)) (selection_of i)
+  pub named : AllByRecursion (λ f. has_number ahead f ≡ true) (selection_of i)
+  pub read : AllByRecursion (λ f. FontIsRead f new.fonts) (selection_of i)
+  pub chosen : Chooses i old.fonts new.fonts
+  pub kept : (g : ℤ) → FontIsRead g old.fonts → FontIsRead g new.fonts
+  pub sound : AreSound metrics (known_of old) new.fonts
+  pub pages : map marked_page new.done.items ≡ map marked_page old.done.items
+  pub stand : new.stand ≡ old.stand
+
+-- Memory is refused for the effect of an instruction on fonts.
+abbrev pub LacksNote : List NamedBytes → (ahead : List ℤ) → Instruction → Walk → Type 0
+LacksNote files ahead (Do (FontDef d)) walk = IsRightAfter (known_of walk) (Do (FontDef d))
+LacksNote files ahead (Do (FontNum f)) walk = LacksFont files ahead (known_of walk) f walk.fonts
+LacksNote files ahead i walk = ⊥
+
+-- Why the effect of an instruction is not recorded.
+abbrev pub BreaksNote : List NamedBytes → (ahead : List ℤ) → (at : ℕ) → Instruction → Walk → StepFault → Type 0
+BreaksNote files ahead at i walk OutOfMemory = LacksNote files ahead i walk
+BreaksNote files ahead at i walk (Broken cause) = BreaksRest ahead (known_of walk) at (places_left walk) i cause
+BreaksNote files ahead at i walk (Refused refusal) = (f : ℤ) × (i ≡ Do (FontNum f)) × FontIsUnread files ahead (known_of walk) f refusal
+
+-- The width of the character that an instruction sets or puts, in the font that was selected last.
+abbrev pub asked_of : Walk → Instruction → Option ℤ
+asked_of walk i = asked_width walk.fonts (code_in i)
+
+-- The pass goes on, and the rest of the walk is unchanged.
+pub record PassesOn (most : ℕ) (i : Instruction) (old new : Walk) : Type 0 where
+  pub goes_on : execute (kept (acts (always (asked_of old i)))) most i (stand_of old) ≡ Some (stand_of new)
+  pub known : known_of new ≡ known_of old
+  pub fonts : new.fonts ≡ old.fonts
+  pub left : places_left new ≡ places_left old
+
+-- The pass does not go on, or memory is refused for it.
+abbrev pub BreaksPass : (most : ℕ) → Instruction → Walk → StepFault → Type 0
+BreaksPass most i walk OutOfMemory = TakesRoom (acts (always (asked_of walk i))) most i (stand_of walk)
+BreaksPass most i walk (Broken cause) = BreaksTurn (acts (always (asked_of walk i))) most i (stand_of walk) cause
+BreaksPass most i walk (Refused refusal) = ⊥
+
+-- One more instruction: the pass goes on, and the effect on pages and fonts is right and was recorded.
+pub record IsWalkStep (metrics : WidthsByName) (ahead : List ℤ) (most at : ℕ) (i : Instruction) (old new : Walk) : Type 0 where
+  pub goes_on : execute (kept (acts (widths_of metrics (known_of old)))) most i (stand_of old) ≡ Some (stand_of new)
+  pub bop : behind_bops (bop_place at i) (places_left old) ≡ Some (places_left new)
+  pub right : IsRightAfter (known_of old) i
+  pub known_is : known_of new ≡ known_of old ++ definitions_in i
+  pub widths : AllByRecursion (HasWidths metrics (known_of old)) (selection_of i)
+  pub named : AllByRecursion (λ f. has_number ahead f ≡ true) (selection_of i)
+  pub read : AllByRecursion (λ f. FontIsRead f new.fonts) (selection_of i)
+  pub kept : (g : ℤ) → FontIsRead g old.fonts → FontIsRead g new.fonts
+  pub sound : AreSound metrics (known_of new) new.fonts
+  pub current : IsCurrent new.fonts new.stand
+
+-- Why an instruction is not accepted.
+abbrev pub BreaksStep : List NamedBytes → (ahead : List ℤ) → (most at : ℕ) → ReadSoFar → Instruction → StepFault → Type 0
+BreaksStep files ahead most at s i OutOfMemory = InstructionAllocates files ahead most s i
+BreaksStep files ahead most at s i (Broken cause) = BreaksRule (file_widths files) ahead most at s i cause
+BreaksStep files ahead most at s i (Refused refusal) = (f : ℤ) × (i ≡ Do (FontNum f)) × SelectsUnread files ahead most s f refusal
+
+-- The same for a walk, for any fonts that may have been selected so far and were all read.
+abbrev pub StopsStep : List NamedBytes → (ahead : List ℤ) → (most at : ℕ) → Instruction → Walk → StepFault → Type 0
+StopsStep files ahead most at i walk fault = (selected : List ℤ) → FontsAreRead walk.fonts selected → BreaksStep files ahead most at (so_far selected walk) i fault

@@ -1,0 +1,118 @@
+-- Why the reading of the pages of a file stops (own): the rule that is broken at a place, where all instructions before it are right. The definitions
+-- are about the file and what was read of it so far.
+use Rattle.std.specs.Prelude.{◌≡◌, ◌≢◌, ◌≤◌, ◌<◌, ◌⊎◌, min, [], false, true, List, slice_index, ℕ, ℤ, Some, None, IsSome}
+use Rattle.dvi_fonts.specs.Widths.{IsFontRefusal}
+use Rattle.dvi_fonts.specs.declared.widths.FontRefusal.{FontRefusal}
+use Rattle.dvi_fonts.specs.declared.widths.FontRefusal.TheVariants as refusals
+use Rattle.dvi_scan.specs.Ends.{StandsAt}
+use Rattle.dvi_scan.specs.declared.fault.BadDvi.{BadDvi}
+use Rattle.dvi_scan.specs.declared.fault.DviCause.{DviCause}
+use Rattle.dvi_scan.specs.declared.fault.DviCause.TheVariants.{Opcode, Truncated, Pointer, Font}
+use Rattle.dvi_ops.specs.Body.{acts, kept}
+use Rattle.dvi_ops.specs.File.{MarkedPage}
+use Rattle.dvi_ops.specs.Fonts.{WidthsByName, IsRightAfter, defined, widths_of}
+use Rattle.dvi_ops.specs.Instruction.{Definition, FontDef, FontNum, Instruction, Do, Postamble}
+use Rattle.dvi_ops.specs.Tokens.{bop_place}
+use Rattle.dvi_scan.specs.Pass.{PassStateView, Between, execute}
+use Rattle.dvi_scan.specs.Reached.{IsReached, Left, ReadSoFar, all_left, behind_bops, has_number}
+use Rattle.dvi_scan.specs.Execution.{BreaksTurn, TakesRoom}
+use Rattle.dvi_read.specs.declared.fault.DviFault.{DviFault}
+use Rattle.dvi_read.specs.declared.fault.DviFault.TheVariants as faults
+use Rattle.tfm_core.specs.FileWidths.{file_widths}
+use Rattle.tfm_core.specs.NamedBytes.{NamedBytes}
+
+-- Why a selected font is refused, whose number is defined after post too, by its first definition, which is before the selection: no file with its
+-- name was given, or the file is bad, or a dimension at the size does not fit.
+pub record FontIsUnread (files : List NamedBytes) (ahead : List ℤ) (known : List Definition) (f : ℤ) (refusal : FontRefusal) : Type 0 where
+  pub named : has_number ahead f ≡ true
+  pub font : Definition
+  pub found : defined f known ≡ Some font
+  pub other : refusal ≢ refusals.OutOfMemory
+  pub refused : IsFontRefusal files font refusal
+
+-- Memory is refused for a selected font: it was not selected before, its number is defined after post too, and a file with the name in its first
+-- definition was given that breaks no rule that needs no table.
+pub record LacksMemoryForFont (files : List NamedBytes) (ahead : List ℤ) (s : ReadSoFar) (f : ℤ) : Type 0 where
+  pub named : has_number ahead f ≡ true
+  pub new : has_number s.selected f ≡ false
+  pub font : Definition
+  pub found : defined f s.known ≡ Some font
+  pub file : IsFontRefusal files font refusals.OutOfMemory
+
+-- The effect of an instruction on pages or fonts is wrong: a bop is not among the places left of the chain; a definition has no valid size or differs
+-- from an earlier one; a selected font is not defined before, or its number is not defined after post.
+abbrev pub BreaksRest : (ahead : List ℤ) → (known : List Definition) → (at : ℕ) → (left : Left) → Instruction → DviCause → Type 0
+BreaksRest ahead known at left i Pointer = behind_bops (bop_place at i) left ≡ None
+BreaksRest ahead known at left i Font = (IsRightAfter known i → ⊥) ⊎ (f : ℤ) × (i ≡ Do (FontNum f)) × (has_number ahead f ≡ false)
+BreaksRest ahead known at left i cause = ⊥
+
+-- Memory is refused for the effect of an instruction on fonts: for a right definition, or for a font that it selects.
+abbrev pub LacksRoom : List NamedBytes → (ahead : List ℤ) → ReadSoFar → Instruction → Type 0
+LacksRoom files ahead s (Do (FontDef d)) = IsRightAfter s.known (Do (FontDef d))
+LacksRoom files ahead s (Do (FontNum f)) = LacksMemoryForFont files ahead s f
+LacksRoom files ahead s i = ⊥
+
+-- The pass goes on with an instruction. The effect on pages and fonts is tested only then.
+abbrev pub PassContinues : WidthsByName → (most : ℕ) → ReadSoFar → Instruction → Type 0
+PassContinues metrics most s i = IsSome (execute (kept (acts (widths_of metrics s.known))) most i s.pass)
+
+-- A rule that an instruction breaks: one of the pass, or, where the pass goes on, one of the pages or of the fonts.
+abbrev pub BreaksRule : WidthsByName → (ahead : List ℤ) → (most at : ℕ) → ReadSoFar → Instruction → DviCause → Type 0
+BreaksRule metrics ahead most at s i cause =
+    BreaksTurn (acts (widths_of metrics s.known)) most i s.pass cause ⊎ PassContinues metrics most s i × BreaksRest ahead s.known at s.left i cause
+
+-- An instruction takes memory: in the pass, or, where that goes on, for its effect on fonts.
+abbrev pub InstructionAllocates : List NamedBytes → (ahead : List ℤ) → (most : ℕ) → ReadSoFar → Instruction → Type 0
+InstructionAllocates files ahead most s i =
+    TakesRoom (acts (widths_of (file_widths files) s.known)) most i s.pass ⊎ PassContinues (file_widths files) most s i × LacksRoom files ahead s i
+
+-- A font is selected where the pass goes on, and it has no widths.
+pub record SelectsUnread (files : List NamedBytes) (ahead : List ℤ) (most : ℕ) (s : ReadSoFar) (f : ℤ) (refusal : FontRefusal) : Type 0 where
+  pub goes_on : PassContinues (file_widths files) most s (Do (FontNum f))
+  pub unread : FontIsUnread files ahead s.known f refusal
+
+-- An instruction at a place before post breaks a rule.
+abbrev pub BreaksAt : WidthsByName → (ahead : List ℤ) → (bytes : List ℕ) → (most at post : ℕ) → ReadSoFar → DviCause → Type 0
+BreaksAt metrics ahead bytes most at post s cause = (i : Instruction) × StandsAt bytes at post i × BreaksRule metrics ahead most at s i cause
+
+-- A rule of the pages is broken at a place: a byte begins an instruction that is cut off by post; a byte begins none; or the instruction breaks the
+-- rule.
+abbrev pub BreaksPages : WidthsByName → (ahead : List ℤ) → (bytes : List ℕ) → (most at post : ℕ) → ReadSoFar → DviCause → Type 0
+BreaksPages metrics ahead bytes most at post s Truncated = (250 ≤ slice_index bytes at → ⊥) × ((i : Instruction) → StandsAt bytes at post i → ⊥)
+BreaksPages metrics ahead bytes most at post s Opcode =
+    (250 ≤ slice_index bytes at) × ((i : Instruction) → StandsAt bytes at post i → ⊥) ⊎ BreaksAt metrics ahead bytes most at post s Opcode
+BreaksPages metrics ahead bytes most at post s cause = BreaksAt metrics ahead bytes most at post s cause
+
+-- A font is selected at a place in a page, is defined before it and after post, and has no widths for this reason.
+abbrev pub LacksWidths : List NamedBytes → (ahead : List ℤ) → (bytes : List ℕ) → (most at post : ℕ) → ReadSoFar → FontRefusal → Type 0
+LacksWidths files ahead bytes most at post s refusal = (f : ℤ) × StandsAt bytes at post (Do (FontNum f)) × SelectsUnread files ahead most s f refusal
+
+-- A fault at a place. Memory is refused only for an instruction that is there.
+abbrev pub IsPagesFault : List NamedBytes → (ahead : List ℤ) → (bytes : List ℕ) → (most at post : ℕ) → ReadSoFar → DviFault → Type 0
+IsPagesFault files ahead bytes most at post s faults.OutOfMemory = (i : Instruction) × StandsAt bytes at post i × InstructionAllocates files ahead most s i
+IsPagesFault files ahead bytes most at post s (faults.Bad fault) = (fault.place ≡ at) × BreaksPages (file_widths files) ahead bytes most at post s fault.cause
+IsPagesFault files ahead bytes most at post s faults.NoFont = LacksWidths files ahead bytes most at post s refusals.NoFont
+IsPagesFault files ahead bytes most at post s (faults.BadTfm cause) = LacksWidths files ahead bytes most at post s (refusals.BadTfm cause)
+IsPagesFault files ahead bytes most at post s faults.DimensionTooLarge = LacksWidths files ahead bytes most at post s refusals.DimensionTooLarge
+
+-- Why the reading of the pages stops at a place before post, where all instructions before the place are right.
+pub record StopsAt (files : List NamedBytes) (ahead : List ℤ) (bytes : List ℕ) (stop : Postamble) (chain : List ℕ) (at post : ℕ) (fault : DviFault) : Type 0 where
+  pub before : at < post
+  pub seen : ReadSoFar
+  pub reached : IsReached (file_widths files) ahead bytes stop chain at seen
+  pub stops : IsPagesFault files ahead bytes (min 1024 stop.stack_depth) at post seen fault
+
+-- The same for a fault at some place.
+abbrev pub IsWalkFault : List NamedBytes → (ahead : List ℤ) → (bytes : List ℕ) → Postamble → (chain : List ℕ) → (post : ℕ) → DviFault → Type 0
+IsWalkFault files ahead bytes stop chain post fault = (at : ℕ) × StopsAt files ahead bytes stop chain at post fault
+
+-- At the place of post no page is open, no place of the chain is still to come, and none was missed.
+pub record PagesHaveEnded (p : PassStateView) (left : Left) (pages : List MarkedPage) : Type 0 where
+  pub between : p ≡ Between pages
+  pub none : left ≡ all_left []
+
+-- A page is open there, and the fault is Opcode; or none is open, some place of the chain was no bop, and the fault is Pointer.
+abbrev pub IsUnended : PassStateView → Left → (post : ℕ) → BadDvi → Type 0
+IsUnended p left post fault =
+    (fault.place ≡ post)
+    × ((fault.cause ≡ Opcode) × ((pages : List MarkedPage) → p ≡ Between pages → ⊥) ⊎ (fault.cause ≡ Pointer) × ((pages : List MarkedPage) × (p ≡ Between pages)) × (left ≢ all_left []))

@@ -1,0 +1,36 @@
+//! Laws of a walk over the pages of a file.
+
+ghost use Rattle.std.specs.Prelude.{◌≡◌, ◌≢◌, ◌≤◌, List, length, reverse, ℕ, ℤ};
+ghost use Rattle.dvi_scan.specs.Chain.{IsPageAt, Links};
+ghost use Rattle.dvi_scan.specs.declared.fault.BadDvi.{BadDvi};
+ghost use Rattle.dvi_scan.specs.declared.fault.DviCause.TheVariants.{Pointer};
+ghost use Rattle.dvi_ops.specs.File.{MarkedPage};
+ghost use Rattle.dvi_ops.specs.Fonts.{WidthsByName, definitions};
+ghost use Rattle.dvi_ops.specs.Instruction.{Postamble};
+ghost use Rattle.dvi_ops.specs.Tokens.{places, says};
+ghost use Rattle.dvi_scan.specs.Passed.{IsPassed};
+ghost use Rattle.dvi_scan.specs.Reached.{AreNumbersOf, IsIn, IsReached, ReadSoFar};
+ghost use Rattle.dvi_read.specs.Stops.{IsUnended, IsWalkFault};
+ghost use Rattle.dvi_read.specs.declared.fault.DviFault.{DviFault};
+ghost use Rattle.dvi_read.specs.declared.fault.DviFault.TheVariants.{Bad, OutOfMemory};
+ghost use Rattle.tfm_core.specs.FileWidths.{file_widths};
+ghost use Rattle.tfm_core.specs.NamedBytes.{NamedBytes};
+
+/// Where a walk stops for another reason than memory, the bytes are no file with these font files.
+pub fn no_walk_stops_in_a_file()
+    ensures { (files : List NamedBytes) (ahead : List ℤ) (bytes : List ℕ) (post behind last : ℕ) (stop : Postamble) (chain : List ℕ) (pages : List MarkedPage) (fault : DviFault)
+        → post ≤ length bytes → fault ≢ OutOfMemory → IsWalkFault files ahead bytes stop chain post fault
+        → (f : IsPassed (file_widths files) bytes post behind last stop chain pages) → AreNumbersOf ahead (definitions (says f.tail)) → ⊥ }
+{}
+
+/// Where a walk stops at a pointer, a bop that is not in the chain is there. Where the fault is at the place of post, the bops are not at the places
+/// of the chain.
+pub fn pointers_are_wrong()
+    ensures bop { (files : List NamedBytes) (ahead : List ℤ) (bytes : List ℕ) (stop : Postamble) (chain : List ℕ) (post : ℕ) (bad : BadDvi)
+        → bad.cause ≡ Pointer → IsWalkFault files ahead bytes stop chain post (Bad bad) → IsPageAt bytes bad.place post }
+    ensures stray { (files : List NamedBytes) (ahead : List ℤ) (bytes : List ℕ) (stop : Postamble) (chain : List ℕ) (post bound : ℕ) (pointer : ℤ) (bad : BadDvi)
+        → post ≤ length bytes → Links bytes bound pointer chain → bad.cause ≡ Pointer → IsWalkFault files ahead bytes stop chain post (Bad bad)
+        → IsIn bad.place (reverse chain) → ⊥ }
+    ensures unmet { (metrics : WidthsByName) (ahead : List ℤ) (bytes : List ℕ) (stop : Postamble) (chain : List ℕ) (post : ℕ) (s : ReadSoFar) (bad : BadDvi)
+        (r : IsReached metrics ahead bytes stop chain post s) → bad.cause ≡ Pointer → IsUnended s.pass s.left post bad → places 0 r.before ≢ reverse chain }
+{}

@@ -1,0 +1,112 @@
+//! The walk over the pages of a file, from the preamble to post (DVItype, 15 and 18).
+
+ghost use Rattle.std.specs.Prelude.{◌≡◌, ◌≤◌, ◌<◌, length, map, IfErr, IfOk, OnOk};
+ghost use Rattle.std.specs.List.{AllByRecursion};
+ghost use Rattle.dvi_ops.specs.Fonts.{IsFontSize};
+ghost use Rattle.dvi_ops.specs.View.{postamble};
+ghost use Rattle.dvi_scan.specs.Reached.{IsReached, before_pages};
+ghost use Rattle.dvi_scan.specs.View.{marked_page};
+ghost use Rattle.dvi_read.specs.ReadFonts.{AreSound, IsCurrent};
+ghost use Rattle.dvi_read.specs.Steps.{known_of, places_left, stand_of};
+ghost use Rattle.dvi_read.specs.Stops.{PagesHaveEnded, IsUnended, IsWalkFault};
+ghost use Rattle.dvi_read.specs.Walks.{IsBegun, IsWalked, Reads, StopsReading};
+ghost use Rattle.tfm_core.specs.FileWidths.{file_widths};
+
+use crate::fault::DviFault;
+use crate::read_fonts::ReadFonts;
+use crate::stepping::step;
+use crate::walk::{Source, Walk};
+use dvi_fonts::KnownFonts;
+use dvi_scan::{BadDvi, DviCause, PassState, read_at};
+use std::alloc::Global;
+
+/// Reads the instruction at a place before post, processes it, and returns the place after it.
+fn read_step<'a>(
+    alloc: Global,
+    source: &Source<'_, 'a>,
+    at: usize,
+    walk: &mut Walk<'a>,
+) -> Result<usize, DviFault>
+    requires low { at < source.now.ending.now.post }
+    requires high { source.now.ending.now.post ≤ length source.now.bytes.now }
+    requires sizes { AllByRecursion (λ d. IsFontSize d.size) (known_of walk.old) }
+    requires sound { AreSound (file_widths source.now.files.now) (known_of walk.old) walk.old.fonts }
+    requires current { IsCurrent walk.old.fonts walk.old.stand }
+    ensures ok { IfOk result (Reads (file_widths source.now.files.now) source.now.ahead.now.keys source.now.bytes.now (postamble source.now.ending.now.stop) at source.now.ending.now.post walk.old walk.new) }
+    ensures bad { IfErr result (StopsReading source.now.files.now source.now.ahead.now.keys source.now.bytes.now (postamble source.now.ending.now.stop) at source.now.ending.now.post walk.old) }
+{
+    let (op, next) = match read_at(source.bytes, at, source.ending.post) {
+        Ok(found) => found,
+        Err(fault) => {
+            return Err(DviFault::Bad(BadDvi {
+                place: at,
+                cause: DviCause::from(fault),
+            }));
+        }
+    };
+    match step(alloc, source, at, &op, walk) {
+        Ok(()) => Ok(next),
+        Err(fault) => Err(fault.at(at)),
+    }
+}
+
+/// A walk before the first page.
+fn walk_start<'a>(alloc: Global, left: Vec<usize>) -> Walk<'a>
+    ensures { IsBegun left.items result }
+{
+    Walk {
+        stand: PassState::Between,
+        done: Vec::new(alloc),
+        known: KnownFonts::new(alloc),
+        fonts: ReadFonts::new(alloc),
+        left,
+        missed: false,
+    }
+}
+
+/// Walks over the pages of a file, from the place after the preamble up to post. `left` has the places of the pages, the last one first (DVItype, 15
+/// and 18). The width of a character is that of the first definition of its font. It takes memory for pages, marks, places, definitions and fonts.
+///
+/// The fault is Bad with the first broken rule and its place; NoFont, BadTfm or DimensionTooLarge for a selected font without widths; or OutOfMemory.
+pub fn walk_pages<'a>(
+    alloc: Global,
+    source: &Source<'_, 'a>,
+    from: usize,
+    left: Vec<usize>,
+) -> Result<Walk<'a>, DviFault>
+    requires low { from ≤ source.now.ending.now.post }
+    requires high { source.now.ending.now.post ≤ length source.now.bytes.now }
+    requires reached { IsReached (file_widths source.now.files.now) source.now.ahead.now.keys source.now.bytes.now (postamble source.now.ending.now.stop) left.items from (before_pages left.items) }
+    // All instructions before post are right, and the walk has their pages and fonts.
+    ensures ok { IfOk result (IsWalked (file_widths source.now.files.now) source.now.ahead.now.keys source.now.bytes.now (postamble source.now.ending.now.stop) left.items source.now.ending.now.post) }
+    // All instructions before the place of a fault are right, and the rule that it names is broken there.
+    ensures bad { IfErr result (IsWalkFault source.now.files.now source.now.ahead.now.keys source.now.bytes.now (postamble source.now.ending.now.stop) left.items source.now.ending.now.post) }
+{
+    let mut walk = walk_start(alloc, left);
+    let mut at = from;
+    while at < source.ending.post {
+        at = read_step(alloc, source, at, &mut walk)?;
+    }
+    Ok(walk)
+}
+
+/// Tests that no page is open at the place of post, where the fault is Opcode, and that a bop was at each place of the chain, where the fault is
+/// Pointer. Both faults are at the place of post.
+pub fn pages_end(walk: &Walk<'_>, post: usize) -> Result<(), BadDvi>
+    ensures ok { OnOk result (PagesHaveEnded (stand_of walk.now) (places_left walk.now) (map marked_page walk.now.done.items)) }
+    ensures bad { IfErr result (IsUnended (stand_of walk.now) (places_left walk.now) post) }
+{
+    if let PassState::Inside(_) = walk.stand {
+        return Err(BadDvi {
+            place: post,
+            cause: DviCause::Opcode,
+        });
+    }
+    if walk.missed || !walk.left.is_empty() {
+        return Err(BadDvi {
+            place: post,
+            cause: DviCause::Pointer,
+        });
+    }
+    Ok(())
+}

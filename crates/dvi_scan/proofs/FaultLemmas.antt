@@ -1,0 +1,83 @@
+-- Bytes that break a rule of the end or of the chain are no file.
+use Rattle.std.proofs.Common.{◌≡◌, ◌+◌, ◌-◌, ◌%◌, ◌++◌, [], ◌∷◌, List, ℕ, ℤ, pos, negsuc, map, reverse, length, drop, slice_index, refl, sym, ◌∙◌, ap, subst, subst₂, append-nil, arith}
+use Rattle.std.proofs.lemmas.List.{length-reverse}
+use Rattle.std.specs.List.{AllByRecursion}
+use Rattle.dvi_ops.specs.Instruction.{Postamble, Post}
+use Rattle.dvi_ops.specs.Table.{signed}
+use Rattle.dvi_ops.specs.Tokens.{Token, IsSpelled, says, written, places, pointers}
+use Rattle.dvi_ops.specs.Body.{acts, kept}
+use Rattle.dvi_ops.specs.File.{Frame, IsFile, MarkedPage}
+use Rattle.dvi_ops.specs.Fonts.{WidthsByName, definitions, widths_of}
+use Rattle.dvi_ops.proofs.Appends.{length-places, length-pages}
+use Rattle.dvi_scan.specs.declared.fault.DviCause.{DviCause}
+use Rattle.dvi_scan.specs.declared.fault.DviCause.TheVariants.{Trailer, Version, Opcode, Pointer, Count}
+use Rattle.dvi_scan.specs.Ends.{StandsAt, HasPostamble, BreaksEnd}
+use Rattle.dvi_scan.specs.Chain.{Links, BreaksChain}
+use Rattle.dvi_scan.proofs.EndLemmas.{one_trail, one_end, frame_ends}
+use Rattle.dvi_scan.proofs.LinkLemmas.{linked_from, chained_from, one_chain, broken_chain}
+
+-- A broken rule of the end.
+breaks_end : (bytes : List ℕ) (place : ℕ) (cause : DviCause) (post e : ℕ) (stop : Postamble) → HasPostamble bytes post e stop → BreaksEnd bytes place cause → ⊥
+breaks_end bytes place Trailer post e stop ends (at, none) = none e ends.closed.trailed
+breaks_end bytes place Version post e stop ends (trailed, other) =
+    let same : place ≡ e = one_trail bytes place e trailed ends.closed.trailed in
+    other (subst (λ (n : ℕ). slice_index bytes n ≡ 2) (sym same) ends.closed.version)
+breaks_end bytes place Opcode post e stop ends (trailed, version, other) =
+    let same : place + 5 ≡ e = one_trail bytes (place + 5) e trailed ends.closed.trailed in
+    let back : e - 5 ≡ place = omega arith in
+    other (subst (λ (n : ℕ). slice_index bytes n ≡ 249) back ends.closed.opcode)
+breaks_end bytes place Pointer post e stop ends (closed, none) =
+    let same : place + 4 ≡ e = one_trail bytes (place + 4) e closed.trailed ends.closed.trailed in
+    let back : e - 4 ≡ place = omega arith in
+    let before : e - 5 ≡ place - 1 = omega arith in
+    none post stop (subst (λ (n : ℕ). signed 4 (drop n bytes) ≡ pos post) back ends.named) (subst (λ (n : ℕ). StandsAt bytes post n (Post stop)) before ends.stands)
+breaks_end bytes place cause post e stop ends broken = absurd broken
+
+pub end_fault : (bytes : List ℕ) (place : ℕ) (cause : DviCause) → BreaksEnd bytes place cause → Frame bytes → ⊥
+end_fault bytes place cause broken f =
+    let found = frame_ends bytes f in breaks_end bytes place cause (length (written f.front)) found.0 f.stop found.1 broken
+
+-- The chain from the first bop to the last.
+pub linked : (bytes : List ℕ) (front : List Token) (rest : List ℕ) (last : ℤ) → bytes ≡ written front ++ rest → AllByRecursion IsSpelled front
+    → pointers (says front) ++ last ∷ [] ≡ negsuc 0 ∷ map pos (places 0 front) → Links bytes (length (written front)) last (reverse (places 0 front))
+linked bytes front rest last whole spelled e =
+    let all = linked_from bytes [] front rest (negsuc 0) last [] whole spelled e refl in
+    let size : 0 + length (written front) ≡ length (written front) = omega arith in
+    subst₂ (λ (n : ℕ) (c : List ℕ). Links bytes n last c) size (append-nil (reverse (places 0 front))) all
+
+pub chained : (bytes : List ℕ) (front : List Token) (rest : List ℕ) (bound : ℕ) (last : ℤ) → bytes ≡ written front ++ rest → AllByRecursion IsSpelled front
+    → Links bytes bound last (reverse (places 0 front)) → pointers (says front) ++ last ∷ [] ≡ negsuc 0 ∷ map pos (places 0 front)
+chained bytes front rest bound last whole spelled links =
+    let found = chained_from bytes [] front rest bound last [] whole spelled (subst (λ (c : List ℕ). Links bytes bound last c) (sym (append-nil (reverse (places 0 front)))) links) in
+    let start : found.pointer ≡ negsuc 0 = found.links in
+    found.equation ∙ ap (λ (z : ℤ). z ∷ map pos (places 0 front)) start
+
+-- The chain of a file.
+pub file_chain : (metrics : WidthsByName) (bytes : List ℕ) (pages : List MarkedPage) (f : IsFile metrics bytes pages)
+    → Links bytes (length (written f.frame.front)) f.frame.stop.last_bop (reverse (places 0 f.frame.front))
+file_chain metrics bytes pages f = linked bytes f.frame.front _ f.frame.stop.last_bop f.frame.whole f.frame.front_spelled f.chain
+
+pub file_count : (metrics : WidthsByName) (bytes : List ℕ) (pages : List MarkedPage) (f : IsFile metrics bytes pages)
+    → f.frame.stop.pages ≡ length (places 0 f.frame.front) % 65536
+file_count metrics bytes pages f =
+    let bops = length-pages (kept (acts (widths_of metrics (definitions (says f.frame.tail))))) f.parts pages f.shows in
+    let same : length (places 0 f.frame.front) ≡ length pages = length-places 0 f.frame.front ∙ (ap (λ is. length (pointers is)) f.front_is ∙ bops) in
+    f.count ∙ ap (λ n. n % 65536) (sym same)
+
+-- A broken rule of the chain.
+pub chain_fault : (metrics : WidthsByName) (bytes : List ℕ) (pages : List MarkedPage) (post e place : ℕ) (stop : Postamble) (cause : DviCause)
+    → HasPostamble bytes post e stop → BreaksChain bytes post stop place cause → IsFile metrics bytes pages → ⊥
+chain_fault metrics bytes pages post e place stop cause ends broken f =
+    let found = frame_ends bytes f.frame in
+    let (last, posts, stops) = one_end bytes post e (length (written f.frame.front)) found.0 stop f.frame.stop ends found.1 in
+    let links : Links bytes post stop.last_bop (reverse (places 0 f.frame.front)) =
+    subst₂ (λ (n : ℕ) (s : Postamble). Links bytes n s.last_bop (reverse (places 0 f.frame.front))) (sym posts) (sym stops) (file_chain metrics bytes pages f) in
+    let count : stop.pages ≡ length (places 0 f.frame.front) % 65536 = ap (λ (s : Postamble). s.pages) stops ∙ file_count metrics bytes pages f in
+    by_cause cause broken links count
+  where
+    by_cause : (cause : DviCause) → BreaksChain bytes post stop place cause → Links bytes post stop.last_bop (reverse (places 0 f.frame.front)) → stop.pages ≡ length (places 0 f.frame.front) % 65536 → ⊥
+    by_cause Pointer broken links count = broken_chain bytes (post + 1) post stop.last_bop place (reverse (places 0 f.frame.front)) broken links
+    by_cause Count (at, chain, links', other) links count =
+        let same : chain ≡ reverse (places 0 f.frame.front) = one_chain bytes post post stop.last_bop chain (reverse (places 0 f.frame.front)) links' links in
+        other (count ∙ ap (λ n. n % 65536) (sym (ap (λ (c : List ℕ). length c) same ∙ length-reverse (places 0 f.frame.front))))
+    by_cause cause broken links count = absurd broken

@@ -1,0 +1,16 @@
+pub mod ErrLemmas
+pub mod PlaceLemmas
+pub mod OpLemmas
+pub mod ChainLemmas
+pub mod EndLemmas
+pub mod LinkLemmas
+pub mod FaultLemmas
+pub mod KnownLemmas
+pub mod FontLemmas
+pub mod PartLemmas
+pub mod TurnLemmas
+pub mod PassedLemmas
+pub mod LeftLemmas
+pub mod ReachedLemmas
+pub mod StrayLemmas
+pub mod WidthLemmas

@@ -1,0 +1,30 @@
+use Rattle.std.proofs.Common.{◌≡◌, ◌+◌, ◌-◌, List, ℕ, pos, drop, sym, subst, arith, refl}
+use Rattle.dvi_ops.specs.Instruction.{Post, Postamble}
+use Rattle.dvi_ops.specs.Table.{signed}
+use Rattle.dvi_scan.specs.Ends.{StandsAt, IsClosed}
+use Rattle.dvi_scan.proofs.ending.post_of.Goals as goal
+
+-- The pointer four bytes before the version.
+named : (bytes : List ℕ) (last : ℕ) → IsClosed bytes last → ((post : ℕ) (stop : Postamble) → signed 4 (drop (last - 4) bytes) ≡ pos post → StandsAt bytes post (last - 5) (Post stop) → ⊥)
+    → IsClosed bytes (last - 4 + 4) × ((post : ℕ) (stop : Postamble) → signed 4 (drop (last - 4) bytes) ≡ pos post → StandsAt bytes post (last - 4 - 1) (Post stop) → ⊥)
+named bytes last closed none =
+    let room = closed.trailed.room in
+    let back : last ≡ last - 4 + 4 = omega arith in
+    let before : last - 5 ≡ last - 4 - 1 = omega arith in
+    (subst (λ (e : ℕ). IsClosed bytes e) back closed, λ post stop names stands. none post stop names (subst (λ (bound : ℕ). StandsAt bytes post bound (Post stop)) (sym before) stands))
+
+-- The place that was read is the only one.
+only : (bytes : List ℕ) (at bound place : ℕ) → signed 4 (drop at bytes) ≡ pos place → ((stop : Postamble) → StandsAt bytes place bound (Post stop) → ⊥)
+    → (post : ℕ) (stop : Postamble) → signed 4 (drop at bytes) ≡ pos post → StandsAt bytes post bound (Post stop) → ⊥
+only bytes at bound place is none post stop names stands =
+    let same : post ≡ place = cc in none stop (subst (λ (post : ℕ). StandsAt bytes post bound (Post stop)) same stands)
+
+pub returns-in_default-post_at-clause-bad : goal.returns-in_default-post_at-clause-bad
+returns-in_default-post_at-clause-bad c =
+    named c.args.bytes.now c.args.last c.requires (only c.args.bytes.now (c.args.last - 4) (c.args.last - 5) c.in-Some.post c.in-Some.ensures.some (c.in_default-post_at.ensures.none refl))
+
+pub returns-clause-ok : goal.returns-clause-ok
+returns-clause-ok c =
+    let low = c.in-Some-post_at.ensures.low in
+    let high = c.in-Some-post_at.ensures.high in
+    record { closed = c.requires; named = c.in-Some.ensures.some; stands = (c.in-Some-post_at.behind - c.in-Some.post, omega arith, c.in-Some-post_at.ensures.some) }

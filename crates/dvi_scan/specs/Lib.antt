@@ -1,0 +1,10 @@
+pub mod Ends
+pub mod Chain
+pub mod Preamble
+pub mod Known
+pub mod Pass
+pub mod View
+pub mod Drawing
+pub mod Execution
+pub mod Passed
+pub mod Reached

@@ -1,0 +1,48 @@
+-- The instructions of a file, as a reader finds them that knows its end and the chain of its pages (own; laws connect this with the file).
+use Rattle.std.specs.Prelude.{◌≡◌, ◌≤◌, ◌+◌, ◌-◌, ◌++◌, min, [], ◌∷◌, List, drop, reverse, take, ℕ, Some}
+use Rattle.std.specs.List.{AllByRecursion}
+use Rattle.dvi_ops.specs.Instruction.{Postamble, Instruction, Pre, Post}
+use Rattle.dvi_ops.specs.Table.{Spells}
+use Rattle.dvi_ops.specs.Body.{Acts, acts, kept}
+use Rattle.dvi_ops.specs.Tokens.{Token, IsSpelled, says, written, places}
+use Rattle.dvi_ops.specs.Fonts.{WidthsByName, FontsAreRight, definitions, selections, widths_of}
+use Rattle.dvi_ops.specs.File.{MarkedPage, IsIdle, AreUnits}
+use Rattle.dvi_scan.specs.Ends.{HasPostamble}
+use Rattle.dvi_scan.specs.Chain.{Links}
+use Rattle.dvi_scan.specs.Pass.{Between, passes}
+use Rattle.dvi_scan.specs.Reached.{HasWidths, IsDefined}
+
+-- The places of the parts that a file names at its end, and its pages from the last one back, as found before the pass.
+pub record IsFramed (bytes : List ℕ) (post behind last : ℕ) (stop : Postamble) (chain : List ℕ) : Type 0 where
+  pub ends : HasPostamble bytes post last stop
+  pub spelled : Spells (Post stop) (take (behind - post) (drop post bytes))
+  pub low : post ≤ behind
+  pub high : behind + 5 ≤ last
+  pub links : Links bytes post stop.last_bop chain
+
+-- The effects of the instructions of a body, with these metric files and the fonts that these instructions define, each by its first definition.
+abbrev pub drawing_by : WidthsByName → List Token → Acts
+drawing_by metrics tokens = kept (acts (widths_of metrics (definitions (says tokens))))
+
+-- The pass over a file: its preamble, the instructions before post, and those between post and post_post.
+pub record IsPassed (metrics : WidthsByName) (bytes : List ℕ) (post behind last : ℕ) (stop : Postamble) (chain : List ℕ) (pages : List MarkedPage) : Type 0 where
+  pub front : List Token
+  pub tail : List Token
+  pub front_spelled : AllByRecursion IsSpelled front
+  pub tail_spelled : AllByRecursion IsSpelled tail
+  pub front_whole : written front ≡ take post bytes
+  pub tail_whole : written tail ≡ take (last - 5 - behind) (drop behind bytes)
+  -- A preamble of version 2 with the units of the postamble, which are positive; then the instructions of the pass.
+  pub comment : List ℕ
+  pub body : List Instruction
+  pub front_is : says front ≡ Pre 2 stop.units comment ∷ body
+  pub units : AreUnits stop.units
+  pub passed : passes (drawing_by metrics front) (min 1024 stop.stack_depth) body (Between []) ≡ Some (Between pages)
+  -- The places of the bops are those of the chain.
+  pub bops : places 0 front ≡ reverse chain
+  -- After post there are only nops and font definitions, and all definitions are right. Each selected font has widths, and its number is defined
+  -- after post too.
+  pub tail_is : AllByRecursion IsIdle (says tail)
+  pub fonts : FontsAreRight [] (says front ++ says tail)
+  pub closing : AllByRecursion (HasWidths metrics (definitions (says front))) (selections (says front))
+  pub named : AllByRecursion (IsDefined (definitions (says tail))) (selections (says front))

@@ -1,0 +1,21 @@
+-- The preamble of a file (DVItype, 17).
+use Rattle.std.specs.Prelude.{◌≡◌, ◌≤◌, List, take, ℕ}
+use Rattle.dvi_ops.specs.Instruction.{Postamble, Pre}
+use Rattle.dvi_ops.specs.Table.{Spells}
+use Rattle.dvi_ops.specs.File.{AreUnits}
+use Rattle.dvi_scan.specs.Ends.{StandsAt}
+use Rattle.dvi_scan.specs.declared.fault.BadDvi.{BadDvi}
+use Rattle.dvi_scan.specs.declared.fault.DviCause.TheVariants.{Preamble}
+
+-- The first bytes spell a preamble of version 2 with the units of the postamble, which are positive, and it ends at or before post.
+pub record HasPreamble (bytes : List ℕ) (post : ℕ) (stop : Postamble) (behind : ℕ) : Type 0 where
+  pub comment : List ℕ
+  pub spelled : Spells (Pre 2 stop.units comment) (take behind bytes)
+  pub within : behind ≤ post
+  pub units : AreUnits stop.units
+
+-- There is no such preamble, and the fault is Preamble at place 0.
+pub record IsPreambleFault (bytes : List ℕ) (post : ℕ) (stop : Postamble) (fault : BadDvi) : Type 0 where
+  pub place : fault.place ≡ 0
+  pub cause : fault.cause ≡ Preamble
+  pub none : (comment : List ℕ) → StandsAt bytes 0 post (Pre 2 stop.units comment) → AreUnits stop.units → ⊥

@@ -1,4 +1,0 @@
-pub mod SelectLemmas
-pub mod StepLemmas
-pub mod PointerLemmas
-pub mod WalkLemmas

@@ -1,5 +1,0 @@
-pub mod ReadFonts
-pub mod Faults
-pub mod Stops
-pub mod Steps
-pub mod Walks

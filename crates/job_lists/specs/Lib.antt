@@ -1,0 +1,3 @@
+pub mod ShortLists
+pub mod EmptiedNest
+pub mod Lending

@@ -1,0 +1,204 @@
+//! One open list: whether a box or its items fit at its end, how they are appended, and how it is packed.
+
+ghost use Rattle.std.specs.Prelude.{◌≡◌, ◌<◌, ◌≤◌, ◌+◌, ◌++◌, pos, max, length, None, OnOk, OnErr, IfOk, IfErr, IfSome, IsOk, Some, option_copied};
+ghost use Rattle.node_core.specs.Items.{none};
+ghost use Rattle.node_core.specs.Nodes.{max_nodes, items_of, nodes_of};
+ghost use Rattle.vert_core.specs.Interline.{interline, glue_of, appended};
+ghost use Rattle.job_machine.specs.State.{nodes_in};
+ghost use Rattle.job_machine.specs.OpenLists.{packed_by, glue_in, box_items, packed_as, packed_list};
+ghost use Rattle.job_machine.specs.Checks.{box_checks, inner_checks, first_refusal};
+ghost use Rattle.job_machine.specs.Effects.{list_with_box};
+
+use job_commands::{BoxForm, Refusal};
+use job_machine::{ListPurpose, OpenList, is_other};
+use node_core::limits::MAX_ITEMS;
+use node_core::{BoxNode, Glue, Kind, NodeList, Params};
+use pack_core::{Packed, Target, TooLarge, hpack, vpack, vtop};
+use scaled_core::Dimen;
+use std::alloc::{AllocError, Global};
+use std::mem::replace;
+use vert_core::{
+    DimensionTooLarge, SetParagraph, append_with_glue as append_to_items, interline_glue,
+};
+
+/// The box of a form and a target that a list becomes, or the list where a size does not fit.
+fn pack_as(
+    form: BoxForm,
+    target: Target,
+    params: &Params,
+    list: NodeList,
+) -> Result<Packed, TooLarge>
+    ensures value { result ≡ packed_as form params.now target list }
+    ensures list_returned { IfErr result (λ large. large.list ≡ list) }
+{
+    match form {
+        BoxForm::Hbox => hpack(list, target),
+        BoxForm::Vbox => vpack(list, target, params.box_max_depth),
+        BoxForm::Vtop => vtop(list, target, params.box_max_depth),
+    }
+}
+
+/// The box that a list becomes, or the list where a size does not fit. A paragraph becomes no box.
+fn pack_for(purpose: ListPurpose, params: &Params, list: NodeList) -> Result<Packed, TooLarge>
+    ensures value { result ≡ packed_by purpose params.now list }
+    ensures list_returned { IfErr result (λ large. large.list ≡ list) }
+{
+    match purpose {
+        ListPurpose::Box(opening) => pack_as(opening.form, opening.target, params, list),
+        ListPurpose::Paragraph => Err(TooLarge { list }),
+    }
+}
+
+/// The box of a list, which is then empty. None where a size does not fit, and the list is then unchanged.
+pub(crate) fn pack(open_list: &mut OpenList, alloc: Global, params: &Params) -> Option<Packed>
+    ensures value { result ≡ packed_list params.now (Some open_list.old) }
+    ensures some { IfSome result (λ packed. open_list.new ≡ record open_list.old { list = none }) }
+    ensures none { result ≡ None → open_list.new ≡ open_list.old }
+    ensures list { IfSome result (λ packed. packed.box_node.list ≡ open_list.old.list) }
+{
+    // Packing takes the list itself, so an empty one holds its place.
+    let list = replace(&mut open_list.list, NodeList::new(alloc));
+    match pack_for(open_list.purpose, params, list) {
+        Ok(packed) => Some(packed),
+        Err(large) => {
+            open_list.list = large.list;
+            None
+        }
+    }
+}
+
+/// The glue before a box of that height at the end of a list. None in a horizontal list, and in a vertical one without a previous depth.
+fn glue_before(
+    open_list: &OpenList,
+    height: Dimen,
+    params: &Params,
+) -> Result<Option<Glue>, DimensionTooLarge>
+    ensures { result ≡ glue_in params.now open_list.now height }
+{
+    match open_list.purpose.kind() {
+        Kind::Horizontal => Ok(None),
+        Kind::Vertical => interline_glue(open_list.previous_depth, height, params),
+    }
+}
+
+/// How many items a box adds to a list: 1, or 2 with the glue before it.
+///
+/// `DimensionTooLarge` where that glue does not fit, and else `ListTooLong` where the list would have more than `MAX_ITEMS` items.
+pub fn room_for_box(
+    open_list: &OpenList,
+    box_node: &BoxNode,
+    params: &Params,
+) -> Result<usize, Refusal>
+    ensures ok { OnOk result (first_refusal (box_checks params.now (Some open_list.now) box_node.now) ≡ None) }
+    ensures count { IfOk result (λ count. count ≡ length (box_items params.now open_list.now (pos 0) box_node.now)) }
+    ensures err { IfErr result (λ refusal. first_refusal (box_checks params.now (Some open_list.now) box_node.now) ≡ Some refusal) }
+{
+    let count = match glue_before(open_list, box_node.height, params) {
+        Err(_) => return Err(Refusal::DimensionTooLarge),
+        Ok(None) => 1,
+        Ok(Some(_)) => 2,
+    };
+    if open_list.list.len() + count > MAX_ITEMS {
+        return Err(Refusal::ListTooLong);
+    }
+    Ok(count)
+}
+
+/// How many items unboxing adds to a list, without the box itself. A void register adds none.
+///
+/// `WrongMode` where the list is not of the command's kind, else `WrongKind` where the box is not, else `ListTooLong` where the list would have
+/// more than `MAX_ITEMS` items.
+pub fn room_for_items(
+    open_list: &OpenList,
+    kind: Kind,
+    held: Option<&BoxNode>,
+) -> Result<usize, Refusal>
+    ensures ok { OnOk result (first_refusal (inner_checks kind (Some open_list.now) (option_copied held.entry)) ≡ None) }
+    ensures count { IfOk result (λ count. count ≡ length (nodes_in (option_copied held.entry))) }
+    ensures err { IfErr result (λ refusal. first_refusal (inner_checks kind (Some open_list.now) (option_copied held.entry)) ≡ Some refusal) }
+    ensures list_bounded { IfOk result (λ count. length (nodes_of open_list.now.list) + count ≤ max MAX_ITEMS (length (nodes_of open_list.now.list))) }
+{
+    let length = open_list.list.len();
+    if is_other(kind, open_list.purpose.kind()) {
+        return Err(Refusal::WrongMode);
+    }
+    let Some(box_node) = held else {
+        return Ok(0);
+    };
+    if is_other(kind, box_node.kind) {
+        return Err(Refusal::WrongKind);
+    }
+    let items = box_node.list.len();
+    if length + items > MAX_ITEMS {
+        return Err(Refusal::ListTooLong);
+    }
+    Ok(items)
+}
+
+/// Appends a box to a horizontal list.
+fn append_across(open_list: &mut OpenList, box_node: BoxNode, shift: Dimen) -> Result<(), BoxNode>
+    requires { length (nodes_of open_list.old.list) < max_nodes }
+    ensures ok { OnOk result (open_list.new ≡ record open_list.old { list = items_of (nodes_of open_list.old.list ++ appended None shift box_node); previous_depth = box_node.depth }) }
+    ensures err { OnErr result (open_list.new ≡ open_list.old) }
+    ensures box_returned { IfErr result (λ back. back ≡ box_node) }
+{
+    let depth = box_node.depth;
+    open_list.list.push_box(shift, box_node)?;
+    open_list.previous_depth = depth;
+    Ok(())
+}
+
+/// Appends a box to a vertical list, after the glue before it.
+fn append_down(
+    open_list: &mut OpenList,
+    box_node: BoxNode,
+    shift: Dimen,
+    params: &Params,
+) -> Result<(), BoxNode>
+    requires list_bounded { length (nodes_of open_list.old.list) + 2 ≤ max_nodes }
+    requires fits { IsOk (interline params.now open_list.old.previous_depth box_node.height) }
+    ensures ok { OnOk result (open_list.new ≡ record open_list.old { list = items_of (nodes_of open_list.old.list ++ appended (glue_of (interline params.now open_list.old.previous_depth box_node.height)) shift box_node); previous_depth = box_node.depth }) }
+    ensures err { OnErr result (open_list.new ≡ open_list.old) }
+    ensures box_returned { IfErr result (λ back. back ≡ box_node) }
+{
+    let depth = box_node.depth;
+    let Ok(glue) = interline_glue(open_list.previous_depth, box_node.height, params) else {
+        unreachable!()
+    };
+    append_to_items(&mut open_list.list, glue, shift, box_node)?;
+    open_list.previous_depth = depth;
+    Ok(())
+}
+
+/// Appends a box to a list, after the glue before it. The shift moves the box down in a horizontal list, right in a vertical one.
+///
+/// Where memory is refused the box comes back, and the list is unchanged.
+pub fn append_with_glue(
+    open_list: &mut OpenList,
+    box_node: BoxNode,
+    shift: Dimen,
+    params: &Params,
+) -> Result<(), BoxNode>
+    requires { first_refusal (box_checks params.now (Some open_list.old) box_node) ≡ None }
+    ensures ok { OnOk result (open_list.new ≡ list_with_box params.now shift box_node open_list.old) }
+    ensures err { OnErr result (open_list.new ≡ open_list.old) }
+    ensures box_returned { IfErr result (λ back. back ≡ box_node) }
+{
+    match open_list.purpose.kind() {
+        Kind::Horizontal => append_across(open_list, box_node, shift),
+        Kind::Vertical => append_down(open_list, box_node, shift, params),
+    }
+}
+
+/// Appends the lines of a paragraph, with their glue and penalties. The previous depth is then that of the last line.
+/// Where memory is refused, the list is unchanged.
+pub(crate) fn append_lines(open_list: &mut OpenList, set: SetParagraph) -> Result<(), AllocError>
+    requires { length (nodes_of open_list.old.list) + length (nodes_of set.items) ≤ max_nodes }
+    ensures ok { OnOk result (open_list.new ≡ record open_list.old { list = items_of (nodes_of open_list.old.list ++ nodes_of set.items); previous_depth = set.depth }) }
+    ensures err { OnErr result (open_list.new ≡ open_list.old) }
+{
+    let mut items = set.items;
+    open_list.list.append(&mut items)?;
+    open_list.previous_depth = set.depth;
+    Ok(())
+}

@@ -1,0 +1,125 @@
+//! Paragraphs are opened inside vertical lists, and end as lines in the list around them.
+
+ghost use Rattle.std.specs.Prelude.{◌≡◌, ◌++◌, ◌∷◌, [], None, Ok, IfOk, OnOk, OnErr};
+ghost use Rattle.job_machine.specs.State.{innermost, outer, items_in};
+ghost use Rattle.job_machine.specs.OpenLists.{opened_list};
+ghost use Rattle.job_machine.specs.Checks.{par_checks, first_refusal};
+ghost use Rattle.job_machine.specs.Machine.{reply_by, state_by};
+ghost use Rattle.job_machine.specs.Paragraphs.{pass_number, refusal_for, lines_checks, set_behind, paragraph_checks, early_paragraph_checks, paragraph_answer, with_paragraph};
+
+use crate::nest::Nest;
+use break_core::Pass;
+use job_commands::{Answer, Refusal, Reply};
+use job_machine::ListPurpose;
+use node_core::limits::{MAX_DEPTH, MAX_ITEMS, MAX_OPEN_LISTS};
+use node_core::{Kind, NodeList, Params};
+use std::alloc::AllocError;
+use vert_core::{ParagraphFault, SetParagraph};
+
+/// The number of the pass that found the breaks: 0 for an empty paragraph, which has none.
+fn pass_number(pass: Option<Pass>) -> u8
+    ensures { result ≡ pass_number pass }
+{
+    match pass {
+        None => 0,
+        Some(Pass::First) => 1,
+        Some(Pass::Second) => 2,
+        Some(Pass::Third) => 3,
+    }
+}
+
+/// The answer to `end` for a paragraph that was set.
+fn answer_of(set: &SetParagraph) -> Answer
+    ensures { result ≡ paragraph_answer (Ok set.now) }
+{
+    Answer::Paragraph {
+        lines: set.lines,
+        pass: pass_number(set.pass),
+        overhang: set.overhang,
+        demerits: set.demerits,
+    }
+}
+
+/// The refusal of a paragraph that is not set. None where memory was refused, which is no refusal of the machine's table.
+fn refusal_for(fault: ParagraphFault) -> Option<Refusal>
+    ensures { result ≡ refusal_for fault }
+{
+    match fault {
+        ParagraphFault::InfiniteShrink => Some(Refusal::InfiniteShrink),
+        ParagraphFault::TooManyBreaks => Some(Refusal::TooManyBreaks),
+        ParagraphFault::DimensionTooLarge => Some(Refusal::DimensionTooLarge),
+        ParagraphFault::OutOfMemory => None,
+    }
+}
+
+/// Why the lines of a paragraph may not be appended to a list of `count` items, if they may not: a line nests too deep, or else the list would be too long.
+fn refusal_of_lines(count: usize, items: &NodeList) -> Option<Refusal>
+    ensures { result ≡ first_refusal (lines_checks count items.now) }
+{
+    let length = items.len();
+    if items.depth() > MAX_DEPTH {
+        return Some(Refusal::TooDeep);
+    }
+    if count.saturating_add(length) > MAX_ITEMS {
+        return Some(Refusal::ListTooLong);
+    }
+    None
+}
+
+impl Nest {
+    /// Opens a paragraph inside the innermost list.
+    ///
+    /// `NoOpenList` where no list is open, else `WrongMode` in a horizontal list, else `TooDeep` where `MAX_OPEN_LISTS` are open.
+    /// Where it is refused, or memory is, nothing changes.
+    pub fn open_paragraph(&mut self) -> Result<Reply, AllocError>
+        ensures reply { IfOk result (λ reply. reply ≡ reply_by (first_refusal (par_checks self.old)) Answer.Done) }
+        ensures state { OnOk result (self.new ≡ state_by (first_refusal (par_checks self.old)) self.old (self.old ++ opened_list ListPurpose.Paragraph ∷ [])) }
+        ensures err { OnErr result (self.new ≡ self.old) }
+        ensures admitted { OnErr result (first_refusal (par_checks self.old) ≡ None) }
+    {
+        let Some(innermost) = self.innermost() else {
+            return Ok(Err(Refusal::NoOpenList));
+        };
+        if innermost.purpose.kind() == Kind::Horizontal {
+            return Ok(Err(Refusal::WrongMode));
+        }
+        if self.len() >= MAX_OPEN_LISTS {
+            return Ok(Err(Refusal::TooDeep));
+        }
+        self.begin(ListPurpose::Paragraph)?;
+        Ok(Ok(Answer::Done))
+    }
+
+    /// Sets the paragraph of the innermost list, appends its lines to the list around it, and drops the innermost list.
+    ///
+    /// `NoOpenList` where no list is around it, else the fault of a paragraph that is not set, else `TooDeep` or `ListTooLong` for its lines.
+    /// Where it is refused, or memory is, nothing changes. `AllocError` is returned only where a list is around it and it may be broken.
+    #[tactic(auto, using(crate::proofs::ParagraphEnds::only_memory, crate::proofs::ParagraphEnds::early_free))]
+    pub fn end_paragraph(&mut self, params: &Params) -> Result<Reply, AllocError>
+        ensures reply { IfOk result (λ reply. reply ≡ reply_by (first_refusal (paragraph_checks params.now (outer self.old) (items_in (innermost self.old)))) (paragraph_answer (set_behind params.now (outer self.old) (items_in (innermost self.old))))) }
+        ensures state { OnOk result (self.new ≡ state_by (first_refusal (paragraph_checks params.now (outer self.old) (items_in (innermost self.old)))) self.old (with_paragraph params.now (outer self.old) (items_in (innermost self.old)))) }
+        ensures err { OnErr result (self.new ≡ self.old) }
+        ensures early { OnErr result (first_refusal (early_paragraph_checks params.now (outer self.old) (items_in (innermost self.old))) ≡ None) }
+    {
+        let Some(around) = self.around() else {
+            return Ok(Err(Refusal::NoOpenList));
+        };
+        let depth = around.previous_depth;
+        let count = around.list.len();
+        let set = match self.set_innermost(depth, params) {
+            Ok(counted) => counted.set,
+            Err(fault) => {
+                return match refusal_for(fault) {
+                    Some(refusal) => Ok(Err(refusal)),
+                    None => Err(AllocError),
+                };
+            }
+        };
+        if let Some(refusal) = refusal_of_lines(count, &set.items) {
+            return Ok(Err(refusal));
+        }
+        let answer = answer_of(&set);
+        self.close_paragraph(set)?;
+        Ok(Ok(answer))
+    }
+}

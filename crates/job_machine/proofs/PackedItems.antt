@@ -1,0 +1,39 @@
+-- A packed box has the items of its list.
+use Rattle.std.proofs.Common.{◌≡◌, Bool, true, false, Result, Ok, Err, ap}
+use Rattle.std.specs.Prelude.{ℤ, if◌then◌else◌}
+use Rattle.node_core.specs.declared.params.Params.{Params}
+use Rattle.node_core.specs.Items.{Items}
+use Rattle.pack_core.specs.declared.pack.Target.{Target}
+use Rattle.pack_core.specs.declared.pack.Packed as packs
+use Rattle.pack_core.specs.declared.pack.TooLarge.{TooLarge}
+use Rattle.pack_core.specs.Boxes.{hbox, hpacked, vbox, vpacked, vtop_box, vtopped}
+use Rattle.job_commands.specs.declared.command.BoxForm.{BoxForm}
+use Rattle.job_machine.specs.declared.ListPurpose.{ListPurpose}
+use Rattle.job_machine.specs.declared.ListPurpose.TheVariants.{Box, Paragraph}
+use Rattle.job_commands.specs.declared.command.BoxForm.TheVariants.{Hbox, Vbox, Vtop}
+use Rattle.job_machine.specs.OpenLists.{packed_as, packed_by}
+
+items_packed : (b : Bool) (p q : packs.Packed) (items : Items) → if◌then◌else◌ {A = Result packs.Packed TooLarge} b (Ok p) (Err (record { list = items })) ≡ Ok q → p ≡ q
+items_packed true p q items is = cc
+items_packed false p q items is = cc
+
+hpacked_items : (target : Target) (items : Items) (q : packs.Packed) → hpacked target items ≡ Ok q → items ≡ q.box_node.list
+unfolding hpacked hbox
+hpacked_items target items q is = ap (λ (p : packs.Packed). p.box_node.list) (items_packed _ _ q items is)
+
+vpacked_items : (target : Target) (limit : ℤ) (items : Items) (q : packs.Packed) → vpacked target limit items ≡ Ok q → items ≡ q.box_node.list
+unfolding vpacked vbox
+vpacked_items target limit items q is = ap (λ (p : packs.Packed). p.box_node.list) (items_packed _ _ q items is)
+
+vtopped_items : (target : Target) (limit : ℤ) (items : Items) (q : packs.Packed) → vtopped target limit items ≡ Ok q → items ≡ q.box_node.list
+unfolding vtopped vtop_box vbox
+vtopped_items target limit items q is = ap (λ (p : packs.Packed). p.box_node.list) (items_packed _ _ q items is)
+
+packed_as_items : (form : BoxForm) (params : Params) (target : Target) (items : Items) (q : packs.Packed) → packed_as form params target items ≡ Ok q → items ≡ q.box_node.list
+packed_as_items Hbox params target items q is = hpacked_items target items q is
+packed_as_items Vbox params target items q is = vpacked_items target params.box_max_depth items q is
+packed_as_items Vtop params target items q is = vtopped_items target params.box_max_depth items q is
+
+pub packed_items : (purpose : ListPurpose) (params : Params) (items : Items) (q : packs.Packed) → packed_by purpose params items ≡ Ok q → items ≡ q.box_node.list
+packed_items (Box opening) params items q is = packed_as_items opening.form params opening.target items q is
+packed_items Paragraph params items q is = cc

@@ -1,0 +1,10 @@
+pub mod State
+pub mod NextPages
+pub mod FontSlots
+pub mod OpenLists
+pub mod Paragraphs
+pub mod Checks
+pub mod Answers
+pub mod Effects
+pub mod Machine
+pub mod Runs

@@ -1,0 +1,9 @@
+pub mod SplitRefusals
+pub mod SplitParts
+pub mod SplitBoxes
+pub mod SetLines
+pub mod EndedParagraphs
+pub mod SizedGlyphs
+pub mod LoadedFonts
+pub mod TakenBoxes
+pub mod ShapedItems

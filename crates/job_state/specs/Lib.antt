@@ -1,0 +1,5 @@
+pub mod SplitFaults
+pub mod JobStateView
+pub mod StateCode
+pub mod Sized
+pub mod Loaded

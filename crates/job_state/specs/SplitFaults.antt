@@ -1,0 +1,12 @@
+-- Why a box was not split, as a refusal (own; private calls alone, no public clause speaks of it).
+use Rattle.std.specs.Prelude.{Option, Some, None}
+use Rattle.vert_split.specs.declared.parts.SplitFault.{SplitFault}
+use Rattle.vert_split.specs.declared.parts.SplitFault.TheVariants as faults
+use Rattle.job_commands.specs.declared.command.Refusal.{Refusal}
+use Rattle.job_commands.specs.declared.command.Refusal.TheVariants.{InfiniteShrink, DimensionTooLarge}
+
+-- The refusal for a fault; None if memory was refused.
+abbrev pub refusal_for : SplitFault → Option Refusal
+refusal_for faults.InfiniteShrink = Some InfiniteShrink
+refusal_for faults.DimensionTooLarge = Some DimensionTooLarge
+refusal_for faults.OutOfMemory = None

@@ -1,0 +1,64 @@
+//! Splitting a box, with the refusals of a job.
+
+ghost use Rattle.std.specs.Prelude.{◌≡◌, None, Some, IfOk, IfErr, OnOk, IsSome};
+ghost use Rattle.node_core.specs.Nodes.{nodes_of};
+ghost use Rattle.vert_split.specs.Split.{front_of, rest_of};
+ghost use Rattle.job_machine.specs.Checks.{split_checks, first_refusal};
+ghost use Rattle.job_state.specs.SplitFaults.{refusal_for};
+
+use job_commands::Refusal;
+use job_machine::is_other;
+use node_core::{BoxNode, Kind, SplitParams};
+use scaled_core::Dimen;
+use vert_core::{Split, SplitFault, split_list};
+
+/// A box that was not split, and its refusal; None if memory was refused.
+#[derive(Debug, Drop)]
+pub struct UnsplitBox {
+    pub box_node: BoxNode,
+    pub refusal: Option<Refusal>,
+}
+
+/// The refusal for a fault; None if memory was refused.
+fn refusal_for(fault: SplitFault) -> Option<Refusal>
+    ensures { result ≡ refusal_for fault }
+{
+    match fault {
+        SplitFault::InfiniteShrink => Some(Refusal::InfiniteShrink),
+        SplitFault::DimensionTooLarge => Some(Refusal::DimensionTooLarge),
+        SplitFault::OutOfMemory => None,
+    }
+}
+
+/// Splits a vbox at that height, or returns it unchanged with the refusal.
+#[tactic(auto, using(crate::proofs::SplitRefusals::fault_refused))]
+pub fn split_box(
+    box_node: BoxNode,
+    height: Dimen,
+    params: &SplitParams,
+) -> Result<Split, UnsplitBox>
+    ensures front { IfOk result (λ parts. parts.front ≡ front_of params.now height (nodes_of box_node.list)) }
+    ensures rest { IfOk result (λ parts. parts.rest ≡ rest_of params.now height (nodes_of box_node.list)) }
+    ensures ok { OnOk result (first_refusal (split_checks params.now height (Some box_node)) ≡ None) }
+    ensures err { IfErr result (λ unsplit. unsplit.refusal ≡ first_refusal (split_checks params.now height (Some box_node))) }
+    // Only a split that leaves a rest takes memory.
+    ensures growth { IfErr result (λ unsplit. unsplit.refusal ≡ None → IsSome (rest_of params.now height (nodes_of box_node.list))) }
+    ensures box_returned { IfErr result (λ unsplit. unsplit.box_node ≡ box_node) }
+{
+    if is_other(Kind::Vertical, box_node.kind) {
+        return Err(UnsplitBox {
+            box_node,
+            refusal: Some(Refusal::WrongKind),
+        });
+    }
+    match split_list(box_node.list, height, params) {
+        Ok(parts) => Ok(parts),
+        Err(unsplit) => Err(UnsplitBox {
+            box_node: BoxNode {
+                list: unsplit.list,
+                ..box_node
+            },
+            refusal: refusal_for(unsplit.fault),
+        }),
+    }
+}

@@ -1,5 +1,0 @@
-use Rattle.paragraph_core.proofs.BadLines.{boxed_as_bad}
-use Rattle.paragraph_core.proofs.laws.boxes_are_as_bad_as_lines.Goals as goal
-
-pub returns : goal.returns
-returns c = boxed_as_bad

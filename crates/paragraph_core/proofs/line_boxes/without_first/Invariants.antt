@@ -1,6 +1,0 @@
-use Rattle.std.proofs.Common.{◌≡◌, drop}
-use Rattle.line_meter.specs.Kept.{without_first}
-use Rattle.paragraph_core.proofs.line_boxes.without_first.Given as goal
-
-abbrev pub invariant-loop-index : goal.invariant-loop-index
-invariant-loop-index l = without_first l.nodes ≡ without_first (drop l.index l.nodes)

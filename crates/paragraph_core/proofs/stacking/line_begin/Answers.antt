@@ -1,8 +1,0 @@
-use Rattle.std.proofs.Common.{sym, arith, ◌<◌}
-use Rattle.paragraph_core.proofs.Stacks.{begin_behind}
-use Rattle.paragraph_core.proofs.stacking.line_begin.Goals as goal
-
-pub returns : goal.returns
-returns c =
-    let some : 0 < c.args.line = omega arith in
-    sym (begin_behind c.args.ends.now c.args.line _ some c.requires)

@@ -1,8 +1,0 @@
--- What is there, and what the bytes ahead give.
-use Rattle.std.proofs.Common.{◌≡◌, ◌++◌, length, drop}
-use Rattle.program_core.specs.Texts.{bytes_text}
-use Rattle.program_core.proofs.hexadecimal.push_hexadecimal.Given as goal
-
-abbrev pub invariant-loop-index : goal.invariant-loop-index
-invariant-loop-index l =
-    l.text.items ++ bytes_text (length l.bytes) l.index (drop l.index l.bytes) ≡ l.initial.text.items ++ bytes_text (length l.bytes) 0 l.bytes

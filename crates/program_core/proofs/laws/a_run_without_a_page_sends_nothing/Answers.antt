@@ -1,5 +1,0 @@
-use Rattle.program_core.proofs.RunLaws.{silent_run}
-use Rattle.program_core.proofs.laws.a_run_without_a_page_sends_nothing.Goals as goal
-
-pub returns : goal.returns
-returns c = silent_run

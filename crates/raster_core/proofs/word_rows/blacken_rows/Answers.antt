@@ -1,0 +1,14 @@
+use Rattle.std.proofs.Common.{length, arith}
+use Rattle.raster_core.specs.Words.{between}
+use Rattle.raster_core.proofs.RowSteps.{rows_more}
+use Rattle.raster_core.proofs.word_rows.blacken_rows.Goals as goal
+
+pub loop-row-preserved : goal.loop-row-preserved
+loop-row-preserved c = record {
+  full = c.blacken_row.ensures.full;
+  pixels =
+      rows_more c.args.words.now c.loop-row.words c.blacken_row.new.words (length c.args.mask.now) c.args.top c.loop-row.row (between c.args.columns.start c.args.columns.end)
+      (omega arith)
+      c.loop-row.invariant.pixels
+      c.blacken_row.ensures.pixels;
+}

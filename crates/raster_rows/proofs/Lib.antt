@@ -1,4 +1,0 @@
-pub mod OredWords
-pub mod MaskBits
-pub mod RowSteps
-pub mod FullRows

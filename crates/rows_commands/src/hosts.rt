@@ -1,0 +1,132 @@
+//! Hosts, and runs of the program over them.
+
+use boxglue_lib::{FailureCount, HeldFile, Host, HostFault, MemoryHost, program, write_some};
+use std::alloc::Global;
+use std::io;
+use std::io::Write;
+
+/// Why a test failed: memory was refused, or a text is not as expected.
+pub type Fail = std::alloc::AllocError;
+
+/// The result of a run of the program: its status, its output, its errors, and its host.
+#[derive(Drop)]
+pub struct Ran<H> {
+    pub status: u8,
+    pub output: Vec<u8>,
+    pub errors: Vec<u8>,
+    pub host: H,
+}
+
+/// The value of a hexadecimal digit; 16 for other bytes.
+fn digit(byte: u8) -> u8 {
+    match byte {
+        b'0'..=b'9' => byte - b'0',
+        b'a'..=b'f' => byte - b'a' + 10,
+        _ => 16,
+    }
+}
+
+/// The bytes of lines of hexadecimal digits.
+pub fn bytes_of(alloc: Global, text: &str) -> Result<Vec<u8>, Fail> {
+    let mut bytes = Vec::new(alloc);
+    let mut high = None;
+    for byte in text.as_bytes() {
+        let value = digit(*byte);
+        if value < 16 {
+            match high {
+                None => high = Some(value),
+                Some(first) => {
+                    bytes.push(first << 4 | value)?;
+                    high = None;
+                }
+            }
+        }
+    }
+    Ok(bytes)
+}
+
+/// A host with this standard input and these files, each a path and its bytes in hexadecimal digits.
+pub fn host_of(alloc: Global, input: &str, files: &[(&str, &str)]) -> Result<MemoryHost, Fail> {
+    let mut held = Vec::new(alloc);
+    for (path, text) in files {
+        let path = Vec::from_slice(alloc, path.as_bytes())?;
+        held.push(HeldFile::new(path, bytes_of(alloc, text)?))?;
+    }
+    Ok(MemoryHost::new(alloc, held, Vec::from_slice(alloc, input.as_bytes())?))
+}
+
+/// Runs the program with these words.
+pub fn run<H: Host + Drop>(alloc: Global, words: &[&str], host: H) -> Result<Ran<H>, Fail> {
+    let mut owned = Vec::new(alloc);
+    for word in words {
+        owned.push(String::from_str(alloc, word)?)?;
+    }
+    let mut output = Vec::new(alloc);
+    let mut errors = Vec::new(alloc);
+    let (status, host) = program(alloc, &owned, host, &mut output, &mut errors);
+    Ok(Ran {
+        status,
+        output,
+        errors,
+        host,
+    })
+}
+
+/// A writer that takes 0 bytes.
+#[derive(Drop)]
+struct Closed;
+
+impl Write for Closed {
+    fn write(&mut self, _piece: &[u8]) -> io::Result<usize> {
+        Ok(0)
+    }
+
+    fn flush(&mut self) -> io::Result<()> {
+        Ok(())
+    }
+}
+
+/// A host whose files cannot be created, or, once created, take 0 bytes.
+#[derive(Drop)]
+pub struct Unwritable {
+    pub inner: MemoryHost,
+    pub creates: bool,
+    pub failures: FailureCount,
+}
+
+impl Host for Unwritable {
+    ghost use Rattle.std.specs.Prelude.{None};
+
+    ghost file = { λ host path. None };
+
+    ghost input = { λ host. None };
+
+    ghost written = { λ host. None };
+
+    ghost failures = { λ host. host.failures.count };
+
+    fn read_file(&self, alloc: Global, path: &str) -> Result<Vec<u8>, HostFault> {
+        self.inner.read_file(alloc, path)
+    }
+
+    fn read_input(&self, alloc: Global) -> Result<Vec<u8>, HostFault> {
+        self.inner.read_input(alloc)
+    }
+
+    fn create(&mut self, _path: &str) -> Result<(), HostFault> {
+        if self.creates {
+            Ok(())
+        } else {
+            self.failures.raise();
+            Err(HostFault::Failed)
+        }
+    }
+
+    fn write(&mut self, piece: &[u8]) -> Result<usize, HostFault> {
+        let written = write_some(&mut Closed, piece);
+        if written.is_err() {
+            self.failures.raise();
+        }
+        written
+    }
+}

@@ -1,9 +1,0 @@
--- The rows.
-use Rattle.script_core.proofs.RowLaws.{no_register_named, late_stretch_named}
-use Rattle.script_core.proofs.laws.boxes_and_glue_that_are_refused.Goals as goal
-
-pub returns-clause-register : goal.returns-clause-register
-returns-clause-register c = no_register_named
-
-pub returns-clause-stretch : goal.returns-clause-stretch
-returns-clause-stretch c = late_stretch_named

@@ -1,9 +1,0 @@
--- The rows.
-use Rattle.script_core.proofs.RowLaws.{no_size_named, stroke_named}
-use Rattle.script_core.proofs.laws.fonts_that_are_refused.Goals as goal
-
-pub returns-clause-size : goal.returns-clause-size
-returns-clause-size c = no_size_named
-
-pub returns-clause-name : goal.returns-clause-name
-returns-clause-name c = stroke_named

@@ -1,6 +1,0 @@
-use Rattle.std.proofs.Common.{◌∙◌}
-use Rattle.split_core.proofs.Rests.{taken}
-use Rattle.split_core.proofs.rest.take_rest.Goals as goal
-
-pub returns-clause-rest : goal.returns-clause-rest
-returns-clause-rest c = c.prune_top.ensures ∙ taken c.args.nodes.now.items c.in_ok-left.left.items c.args.rest.now c.in_ok-left.ensures.tail c.requires

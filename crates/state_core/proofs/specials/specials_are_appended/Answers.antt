@@ -1,5 +1,0 @@
-use Rattle.state_core.proofs.AppendedSpecials.{special_answer, special_last}
-use Rattle.state_core.proofs.specials.specials_are_appended.Goals as goal
-
-pub returns : goal.returns
-returns c = record { answer = special_answer; list = special_last }

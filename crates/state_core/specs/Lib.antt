@@ -1,4 +1,0 @@
-pub mod Keeping
-pub mod StateCode
-pub mod Sized
-pub mod Loaded

@@ -1,8 +1,0 @@
--- The end that it is.
-use Rattle.task_core.proofs.telling.finish.Goals as goal
-
-pub returns-in-OutOfMemory-clause-output : goal.returns-in-OutOfMemory-clause-output
-returns-in-OutOfMemory-clause-output g c = rw c.in-OutOfMemory.is c.say.ensures
-
-pub returns-in-Unreadable-clause-errors : goal.returns-in-Unreadable-clause-errors
-returns-in-Unreadable-clause-errors g c = rw c.in-Unreadable.is c.tell.ensures

@@ -1,5 +1,0 @@
-use Rattle.program_core.proofs.WritingLemmas.{either_way}
-use Rattle.task_core.proofs.telling.say.Goals as goal
-
-pub returns : goal.returns
-returns g c = either_way c.write_text.result c.write_text.ensures.all c.write_text.ensures.front

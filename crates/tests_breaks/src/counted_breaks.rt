@@ -1,0 +1,155 @@
+//! The number of lines that `active_breaks` tries.
+
+use crate::paragraphs::{finished, glue, narrow, points, rule};
+use break_core::{ListMeter, Meter, Pass, active_breaks};
+use node_core::{IntParameter, Node, Params};
+use std::alloc::Global;
+use std::process::Abort;
+
+/// Lines of 40pt with any badness, in the second pass.
+fn very_narrow(rt: &impl Abort) -> Params {
+    let mut params = narrow(rt);
+    params.pretolerance = IntParameter::try_new(-1).expect(rt, "it fits");
+    params.tolerance = IntParameter::try_new(10_000).expect(rt, "it fits");
+    params
+}
+
+/// 8,192 words of 1pt with glue between them, which have 8,191 legal places and the end. If `kerned`, each word begins with a kern of -1pt.
+fn words(rt: &impl Abort, alloc: Global, kerned: bool) -> Vec<Node> {
+    let mut items = Vec::new(alloc);
+    for word in 0..8_192 {
+        if word > 0 {
+            let between = items.push(glue(rt, 0, 1));
+            between.ok().expect(rt, "there is memory");
+        }
+        if kerned {
+            let kern = items.push(Node::Kern(points(rt, -1)));
+            kern.ok().expect(rt, "there is memory");
+        }
+        let shown = items.push(rule(rt, if kerned { 2 } else { 1 }));
+        shown.ok().expect(rt, "there is memory");
+    }
+    items
+}
+
+/// Asserts the number of lines into which 8,192 words are broken, and how many lines were tried from each place and together.
+fn expect_counts(
+    rt: &impl Abort,
+    alloc: Global,
+    kerned: bool,
+    lines: usize,
+    each: u64,
+    trials: u128,
+) {
+    let params = very_narrow(rt);
+    let nodes = finished(rt, words(rt, alloc, kerned), &params);
+    assert!(rt; nodes.len() <= 131_072);
+    let mut meter = ListMeter::new(alloc, &nodes).expect(rt, "not refused");
+    let found = active_breaks(alloc, &mut meter, &params);
+    let found = found.ok().expect(rt, "there is memory");
+    assert_eq!(rt; found.lines.len(), lines);
+    assert!(rt; found.pass == Pass::Second && found.overhang == 0);
+    assert_eq!(rt;
+        found.demerits,
+        i64::try_from(lines).unwrap_or(0).saturating_mul(100)
+    );
+    assert_eq!(rt; meter.trials(0), 41);
+    for place in 1..8_193 {
+        assert!(rt; meter.trials(place) <= each);
+    }
+    assert_eq!(rt; meter.all_trials(), trials);
+    assert!(rt; trials <= 335_872);
+}
+
+#[test]
+fn many_words(rt: HostRuntime) {
+    // Without kerns there are 41 trials from each of 8,192 places, except for the last 40. With kerns there are 41 from the start and 40 from the
+    // other places, except for the last 39.
+    expect_counts(&rt, rt.alloc(), false, 205, 41, 335_052);
+    expect_counts(&rt, rt.alloc(), true, 211, 40, 326_901);
+}
+
+/// Asserts the number of lines that are tried from the start and from each place of a list, and whether the list is steady.
+fn expect_trials(rt: &impl Abort, alloc: Global, items: Vec<Node>, steady: bool, trials: &[u64]) {
+    let params = narrow(rt);
+    let nodes = finished(rt, items, &params);
+    assert!(rt; nodes.len() <= 131_072);
+    let mut meter = ListMeter::new(alloc, &nodes).expect(rt, "not refused");
+    assert!(rt; meter.steady() == steady);
+    let found = active_breaks(alloc, &mut meter, &params);
+    assert!(rt; found.is_ok());
+    for (place, wanted) in trials.iter().enumerate() {
+        assert_eq!(rt; meter.trials(place), *wanted);
+    }
+}
+
+#[test]
+fn trials_of_each_place(rt: HostRuntime) {
+    let alloc = rt.alloc();
+    // An overfull word: trying lines stops after it in two passes, and at the end in the third. In those two passes no list of breaks ends at the
+    // places after the start.
+    let items = [
+        rule(&rt, 10),
+        glue(&rt, 5, 15),
+        rule(&rt, 50),
+        glue(&rt, 5, 15),
+        rule(&rt, 10),
+    ];
+    let items = Vec::from_array(alloc, items).expect(&rt, "there is memory");
+    expect_trials(&rt, alloc, items, true, &[7, 2, 1, 0, 0]);
+    // Words after an overfull one: in the third pass, trying lines from the start stops at the second place of five, since the line to it has more
+    // overhang than the first one.
+    let mut items = Vec::new(alloc);
+    let wide = items.push(rule(&rt, 50));
+    wide.ok().expect(&rt, "there is memory");
+    for _ in 0..4 {
+        let between = items.push(glue(&rt, 5, 15));
+        between.ok().expect(&rt, "there is memory");
+        let word = items.push(rule(&rt, 10));
+        word.ok().expect(&rt, "there is memory");
+    }
+    expect_trials(&rt, alloc, items, true, &[4, 4, 3, 2, 1, 0]);
+    // A negative kern after an overfull line: there is one pass with lines to all later places, but no line is tried from the end of the overfull
+    // line.
+    let items = [
+        rule(&rt, 50),
+        glue(&rt, 0, 0),
+        Node::Kern(points(&rt, -15)),
+        rule(&rt, 5),
+        glue(&rt, 0, 0),
+        rule(&rt, 10),
+    ];
+    let items = Vec::from_array(alloc, items).expect(&rt, "there is memory");
+    expect_trials(&rt, alloc, items, false, &[3, 0, 1, 0, 0]);
+}
+
+/// 8,192 words of 7pt with glue between them that cannot stretch.
+fn rigid_words(rt: &impl Abort, alloc: Global) -> Vec<Node> {
+    let mut items = Vec::new(alloc);
+    for word in 0..8_192 {
+        if word > 0 {
+            let between = items.push(glue(rt, 0, 0));
+            between.ok().expect(rt, "there is memory");
+        }
+        let shown = items.push(rule(rt, 7));
+        shown.ok().expect(rt, "there is memory");
+    }
+    items
+}
+
+#[test]
+fn last_pass_over_many_words(rt: HostRuntime) {
+    // Five words fit into 40pt, the line of six is overfull, and the line of seven has more overhang, so no further line is tried. In the first two
+    // passes no line is good enough, and six are tried, all from the start. So there are 7 trials from each of 8,185 places, 6 to 1 from the next
+    // ones, and 19 from the start.
+    let params = narrow(&rt);
+    let nodes = finished(&rt, rigid_words(&rt, rt.alloc()), &params);
+    assert!(rt; nodes.len() <= 131_072);
+    let mut meter = ListMeter::new(rt.alloc(), &nodes).expect(&rt, "not refused");
+    let found = active_breaks(rt.alloc(), &mut meter, &params);
+    let found = found.ok().expect(&rt, "there is memory");
+    assert!(rt; found.pass == Pass::Third && found.overhang == 0);
+    assert_eq!(rt; meter.trials(0), 19);
+    assert_eq!(rt; meter.trials(8_185), 7);
+    assert_eq!(rt; meter.all_trials(), 57_335);
+}

@@ -1,0 +1,9 @@
+//! Worked values of the calls of the library for C, as tests.
+#![tactic(auto)]
+
+#[cfg(test)]
+mod dvi_files;
+#[cfg(test)]
+mod samples;
+#[cfg(test)]
+mod scripts;

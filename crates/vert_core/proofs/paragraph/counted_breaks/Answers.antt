@@ -1,0 +1,24 @@
+use Rattle.std.proofs.Common.{◌≡◌, ◌∙◌, ℕ, length, get_or, ap, subst, sym, arith}
+use Rattle.std.specs.Int.{sum_through}
+use Rattle.break_lines.specs.Facts.{Facts, facts_of}
+use Rattle.break_lines.specs.Legal.{legal_places}
+use Rattle.break_core.specs.Trials.{passes_run, AreBounded}
+use Rattle.vert_core.specs.Tried.{TrialsAreBounded}
+use Rattle.vert_core.proofs.Tried.{first_of_all, few_together}
+use Rattle.vert_core.proofs.paragraph.counted_breaks.Goals as goal
+
+pub returns-in-Ok-clause-trials : goal.returns-in-Ok-clause-trials
+returns-in-Ok-clause-trials c =
+    let facts : Facts = facts_of c.args.nodes.now in
+    let trials : ℕ → ℕ = λ from. get_or c.active_breaks.new.meter.trials.items from 0 in
+    let passes = passes_run c.args.params.now c.in-Ok.breaks.pass in
+    let old : facts_of c.in_ok-meter.meter.nodes.now ≡ facts = ap facts_of c.in_ok-meter.ensures.nodes in
+    let places : length (legal_places c.active_breaks.new.meter.nodes.now) ≡ facts.places = ap (λ (f : Facts). f.places) (c.in-Ok.ensures.facts ∙ old) in
+    let all : c.all_trials.result ≡ sum_through trials facts.places = c.all_trials.ensures ∙ ap (sum_through trials) places in
+    let few = few_together facts c.args.params.now passes trials (subst (λ (f : Facts). AreBounded f c.args.params.now passes trials) old c.in-Ok.ensures.run) in
+    subst (λ (n : ℕ). TrialsAreBounded facts c.args.params.now passes n) (sym all) few
+
+pub returns-in-Ok-clause-tried : goal.returns-in-Ok-clause-tried
+returns-in-Ok-clause-tried c =
+    let trials : ℕ → ℕ = λ from. get_or c.active_breaks.new.meter.trials.items from 0 in
+    omega (arith, c.all_trials.ensures, c.in-Ok.ensures.tried, first_of_all trials (length (legal_places c.active_breaks.new.meter.nodes.now)))

@@ -1,0 +1,31 @@
+use Rattle.std.proofs.Common.{◌≡◌, ◌∙◌, ◌<◌, length, IfErr, Result, Ok, Err, ap, rules, subst}
+use Rattle.std.specs.Prelude.{ℤ, List}
+use Rattle.node_core.specs.declared.params.Params.{Params}
+use Rattle.node_core.specs.declared.tree.Node.{Node}
+use Rattle.node_core.specs.Nodes.{items_of, nodes_of}
+use Rattle.node_core.proofs.NodeLemmas.{items_of-nodes_of}
+use Rattle.vert_core.specs.declared.paragraph.CountedParagraph.{CountedParagraph}
+use Rattle.vert_core.specs.declared.paragraph.ParagraphFault.{ParagraphFault}
+use Rattle.vert_core.specs.Finished.{finished}
+use Rattle.vert_core.specs.Paragraphs.{IsUnsetList, IsUnset}
+use Rattle.vert_core.proofs.Settings.{unset_some}
+use Rattle.vert_core.proofs.paragraph.set_paragraph.Goals as goal
+
+unset_so :
+    (list : List Node) (params : Params) (previous : ℤ) (result : Result CountedParagraph ParagraphFault) → 0 < length list
+    → IfErr result (IsUnsetList (finished list params.par_fill_skip) params previous) → IfErr result (IsUnset list params previous)
+unset_so list params previous (Ok counted) some is = is
+unset_so list params previous (Err fault) some is = unset_some list params previous fault some is
+
+pub returns-clause-refused : goal.returns-clause-refused
+returns-clause-refused c =
+    let is : c.into_vec-nodes.result.items ≡ nodes_of c.args.list.now = c.into_vec-nodes.ensures ∙ ap nodes_of c.replace.ensures.value in
+    let some : 0 < length (nodes_of c.args.list.now) = search rules in
+    unset_so (nodes_of c.args.list.now) c.args.params.now c.args.previous_depth c.set_items-set.result some
+    (subst (λ l. IfErr c.set_items-set.result (IsUnsetList (finished l c.args.params.now.par_fill_skip) c.args.params.now c.args.previous_depth)) is
+    c.set_items-set.ensures.refused)
+
+pub returns-clause-same : goal.returns-clause-same
+returns-clause-same c =
+    let is : c.into_vec-nodes.result.items ≡ nodes_of c.args.list.now = c.into_vec-nodes.ensures ∙ ap nodes_of c.replace.ensures.value in
+    c.from_vec.ensures.items ∙ (ap items_of (c.set_items-set.ensures.same ∙ is) ∙ items_of-nodes_of c.args.list.now)

@@ -1,0 +1,13 @@
+use Rattle.std.proofs.Common.{◌≡◌, true}
+use Rattle.std.specs.Prelude.{flat_map}
+use Rattle.std.specs.List.{list_all}
+use Rattle.break_lines.specs.Legal.{up_to}
+use Rattle.vert_core.specs.Lines.{broken_list, depth_before, brought_by, line_fits}
+use Rattle.vert_core.proofs.stacking.stack_lines.Given as goal
+
+abbrev pub invariant-loop-line : goal.invariant-loop-line
+invariant-loop-line l = record {
+  items : l.list.items ≡ flat_map (brought_by (broken_list l.nodes l.ends l.params l.fn.previous_depth)) (up_to l.line);
+  depth : l.depth ≡ depth_before (broken_list l.nodes l.ends l.params l.fn.previous_depth) l.line;
+  fit : list_all (line_fits (broken_list l.nodes l.ends l.params l.fn.previous_depth)) (up_to l.line) ≡ true;
+}

@@ -1,0 +1,152 @@
+//! The boxes of the lines of a paragraph.
+
+ghost use Rattle.std.specs.Prelude.{◌≡◌, ◌≤◌, ◌+◌, ◌++◌, ◌∷◌, [], true, false, length, drop, slice_get, IfOk, IfErr, OnOk};
+ghost use Rattle.std.specs.List.{cons_option};
+ghost use Rattle.std.specs.Result.{is_ok};
+ghost use Rattle.node_core.specs.Nodes.{max_nodes, items_of, nodes_of};
+ghost use Rattle.break_lines.specs.Kept.{at_break, without_first, kept};
+ghost use Rattle.vert_core.specs.Lines.{boxed_line, items_fit};
+
+use node_core::{BoxNode, Node, NodeList};
+use pack_core::{Target, hpack};
+use scaled_core::Dimen;
+use std::alloc::{AllocError, Global};
+use thiserror::Error;
+
+/// Why the lines of a paragraph were not stacked.
+#[derive(Clone, Copy, Debug, PartialEq, Eq, Error)]
+pub enum LinesFault {
+    /// A number of the box of a line does not fit, or the glue before it does not.
+    #[error("a size of a line is too large")]
+    DimensionTooLarge,
+    /// Out of memory: an allocation was refused.
+    #[error("out of memory")]
+    OutOfMemory,
+}
+
+/// The items of a list without those that are dropped at the beginning of a line.
+fn without_first(nodes: &[Node]) -> &[Node]
+    ensures { result.now ≡ without_first nodes.now }
+{
+    for index in 0..nodes.len() {
+        if !nodes[index].class().is_discardable() {
+            return &nodes[index..];
+        }
+    }
+    &[]
+}
+
+/// The items after a place.
+fn behind(nodes: &[Node], place: usize) -> &[Node]
+    ensures { result.now ≡ drop (place + 1) nodes.now }
+{
+    if place >= nodes.len() {
+        return &[];
+    }
+    &nodes[place + 1..]
+}
+
+/// The items that a line keeps before the place where it ends.
+fn front_of(nodes: &[Node], begin: Option<usize>, end: usize) -> &[Node]
+    ensures { result.now ++ at_break (slice_get nodes.now end) ≡ kept nodes.now begin end }
+{
+    let front = &nodes[..end.min(nodes.len())];
+    match begin {
+        None => front,
+        Some(begin) => without_first(behind(front, begin)),
+    }
+}
+
+/// What a line keeps of the item at its end, if anything.
+fn kept_at(nodes: &[Node], end: usize) -> Option<Node>
+    ensures { cons_option result [] ≡ at_break (slice_get nodes.now end) }
+{
+    match nodes.get(end) {
+        Some(Node::Kern(_)) => Some(Node::Kern(Dimen::ZERO)),
+        Some(Node::Penalty(penalty)) => Some(Node::Penalty(*penalty)),
+        _ => None,
+    }
+}
+
+/// Appends a copy of a node. The items that are most frequent in lines are copied here, without a call.
+fn push_copy(alloc: Global, nodes: &mut Vec<Node>, node: &Node) -> Result<(), AllocError>
+    ensures { OnOk result (nodes.new.items ≡ nodes.old.items ++ node.now ∷ []) }
+{
+    match node {
+        Node::Glyph(glyph) => nodes.push(Node::Glyph(*glyph))?,
+        Node::FontKern(width) => nodes.push(Node::FontKern(*width))?,
+        Node::Glue(glue) => nodes.push(Node::Glue(*glue))?,
+        _ => nodes.push(node.copy(alloc)?)?,
+    }
+    Ok(())
+}
+
+/// Copies of the nodes.
+fn copies(alloc: Global, nodes: &[Node]) -> Result<Vec<Node>, AllocError>
+    ensures { IfOk result (λ copies. copies.items ≡ nodes.now) }
+{
+    let mut copies = Vec::with_capacity(alloc, nodes.len())?;
+    for node in nodes {
+        push_copy(alloc, &mut copies, node)?;
+    }
+    Ok(copies)
+}
+
+/// Appends a node, if there is one.
+fn push_some(nodes: &mut Vec<Node>, node: Option<Node>) -> Result<(), AllocError>
+    ensures { OnOk result (nodes.new.items ≡ nodes.old.items ++ cons_option node []) }
+{
+    if let Some(node) = node {
+        nodes.push(node)?;
+    }
+    Ok(())
+}
+
+/// Copies of the items that a line keeps.
+#[tactic(auto, using(crate::proofs::KeptItems::length_kept))]
+fn line_list(
+    alloc: Global,
+    nodes: &[Node],
+    begin: Option<usize>,
+    end: usize,
+) -> Result<NodeList, AllocError>
+    requires { length nodes.now ≤ max_nodes }
+    ensures { IfOk result (λ list. list ≡ items_of (kept nodes.now begin end)) }
+{
+    let mut items = copies(alloc, front_of(nodes, begin, end))?;
+    push_some(&mut items, kept_at(nodes, end))?;
+    Ok(NodeList::from_vec(items))
+}
+
+/// The box of a line of this width.
+#[tactic(auto, using(node_core::proofs::NodeLemmas::nodes), unfolding(crate::specs::Lines::boxed_line, crate::specs::Lines::items_fit))]
+fn pack_line(list: NodeList, size: Dimen) -> Result<BoxNode, LinesFault>
+    ensures ok { IfOk result (λ line. line ≡ boxed_line size (nodes_of list)) }
+    ensures fits { is_ok result ≡ items_fit size (nodes_of list) }
+    ensures fault { IfErr result (λ fault. fault ≡ LinesFault.DimensionTooLarge) }
+{
+    match hpack(list, Target::To(size)) {
+        Ok(packed) => Ok(packed.box_node),
+        Err(_) => Err(LinesFault::DimensionTooLarge),
+    }
+}
+
+/// The box of the line of this width from one place to another.
+#[tactic(auto, using(node_core::proofs::NodeLemmas::nodes))]
+pub fn set_line(
+    alloc: Global,
+    nodes: &[Node],
+    begin: Option<usize>,
+    end: usize,
+    size: Dimen,
+) -> Result<BoxNode, LinesFault>
+    requires { length nodes.now ≤ max_nodes }
+    ensures ok { IfOk result (λ line. line ≡ boxed_line size (kept nodes.now begin end)) }
+    ensures fits { OnOk result (items_fit size (kept nodes.now begin end) ≡ true) }
+    ensures refused { IfErr result (λ fault. fault ≡ LinesFault.DimensionTooLarge → items_fit size (kept nodes.now begin end) ≡ false) }
+{
+    match line_list(alloc, nodes, begin, end) {
+        Ok(list) => pack_line(list, size),
+        Err(_) => Err(LinesFault::OutOfMemory),
+    }
+}

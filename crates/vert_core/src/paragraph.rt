@@ -1,0 +1,197 @@
+//! Setting paragraphs: they are finished, broken into lines, and stacked as in a vertical list.
+
+ghost use Rattle.std.specs.Prelude.{◌≡◌, ◌≤◌, ◌+◌, ◌<◌, ℤ, length, None, IfOk, IfErr, OnOk};
+ghost use Rattle.std.specs.Option.{unwrap_or};
+ghost use Rattle.node_core.specs.Nodes.{max_nodes, nodes_of};
+ghost use Rattle.break_lines.specs.Facts.{facts_of, refusal};
+ghost use Rattle.break_core.specs.Passes.{IsBroken};
+ghost use Rattle.break_core.specs.Trials.{passes_run};
+ghost use Rattle.vert_core.specs.Finished.{finished};
+ghost use Rattle.vert_core.specs.Paragraphs.{set_empty, unbroken, IsSet, IsSetParagraph, IsUnsetList, IsUnset};
+ghost use Rattle.vert_core.specs.Tried.{TrialsAreBounded, AreFewTrials};
+
+use crate::finishing::{finish_paragraph, refusal_of_finished, unfinish_paragraph};
+use crate::line_boxes::LinesFault;
+use crate::stacking::lines;
+use break_core::{BreakFault, Breaks, ListMeter, Pass, active_breaks};
+use node_core::{Node, NodeList, Params};
+use scaled_core::Dimen;
+use std::alloc::Global;
+use std::mem::replace;
+use thiserror::Error;
+
+/// A paragraph that was set.
+#[derive(Debug, Drop)]
+pub struct SetParagraph {
+    /// The items that its lines add to the vertical list.
+    pub items: NodeList,
+    /// The new previous depth.
+    pub depth: Dimen,
+    /// The number of its lines.
+    pub lines: usize,
+    /// The pass that admitted its breaks, or `None` if the paragraph is empty.
+    pub pass: Option<Pass>,
+    /// The total overhang of the overfull lines, in scaled points.
+    pub overhang: i64,
+    pub demerits: i64,
+}
+
+/// Why a paragraph was not set.
+#[derive(Clone, Copy, Debug, PartialEq, Eq, Error)]
+pub enum ParagraphFault {
+    /// Some glue shrinks in an infinite order.
+    #[error("glue of a paragraph shrinks without end")]
+    InfiniteShrink,
+    /// There are more than 8,192 legal places.
+    #[error("a paragraph has too many places for breaks")]
+    TooManyBreaks,
+    /// A number of the box of a line does not fit, or the glue before it does not.
+    #[error("a size of a line is too large")]
+    DimensionTooLarge,
+    /// Out of memory: an allocation was refused.
+    #[error("out of memory")]
+    OutOfMemory,
+}
+
+/// A paragraph that was set, and the number of lines that were tried for it.
+#[derive(Debug, Drop)]
+pub struct CountedParagraph {
+    pub set: SetParagraph,
+    pub trials: u128,
+}
+
+/// A paragraph without items has no lines.
+fn set_empty(alloc: Global, previous_depth: Dimen) -> CountedParagraph
+    ensures set { result.set ≡ set_empty previous_depth }
+    ensures trials { result.trials ≡ 0 }
+{
+    let set = SetParagraph {
+        items: NodeList::new(alloc),
+        depth: previous_depth,
+        lines: 0,
+        pass: None,
+        overhang: 0,
+        demerits: 0,
+    };
+    CountedParagraph { set, trials: 0 }
+}
+
+/// Why a paragraph was not set whose list could not be finished: it cannot be broken, or otherwise memory was refused.
+fn unfinished_fault(nodes: &[Node], params: &Params) -> ParagraphFault
+    requires { length nodes.now ≤ max_nodes }
+    ensures { (previous : ℤ) → IsUnsetList (finished nodes.now params.now.par_fill_skip) params.now previous result }
+{
+    match refusal_of_finished(nodes, params.par_fill_skip) {
+        None => ParagraphFault::OutOfMemory,
+        Some(BreakFault::InfiniteShrink) => ParagraphFault::InfiniteShrink,
+        Some(BreakFault::TooManyBreaks) => ParagraphFault::TooManyBreaks,
+        Some(BreakFault::OutOfMemory) => unreachable!(),
+    }
+}
+
+/// The breaks of a finished list of at most 131,072 nodes, which are those of `breaks` in break_core, and the number of lines that were tried, which
+/// is small.
+fn counted_breaks(
+    alloc: Global,
+    nodes: &[Node],
+    params: &Params,
+) -> Result<(Breaks, u128), BreakFault>
+    requires list_bounded { length nodes.now ≤ max_nodes }
+    ensures broken { IfOk result (λ counted. IsBroken (facts_of nodes.now) params.now counted.0) }
+    ensures tried { IfOk result (λ counted. 0 < counted.1) }
+    ensures trials { IfOk result (λ counted. TrialsAreBounded (facts_of nodes.now) params.now (passes_run params.now counted.0.pass) counted.1) }
+    ensures fits { OnOk result (refusal nodes.now ≡ None) }
+    ensures fault { IfErr result (λ fault. fault ≡ unwrap_or (refusal nodes.now) BreakFault.OutOfMemory) }
+{
+    let mut meter = ListMeter::new(alloc, nodes)?;
+    match active_breaks(alloc, &mut meter, params) {
+        Ok(breaks) => Ok((breaks, meter.all_trials())),
+        Err(_) => Err(BreakFault::OutOfMemory),
+    }
+}
+
+/// Sets a finished list of at most 131,072 nodes.
+fn set_finished(
+    alloc: Global,
+    nodes: &[Node],
+    params: &Params,
+    previous_depth: Dimen,
+) -> Result<CountedParagraph, ParagraphFault>
+    requires { length nodes.now ≤ max_nodes }
+    ensures ok { IfOk result (λ counted. IsSet nodes.now params.now previous_depth counted.set) }
+    ensures fits { OnOk result (refusal nodes.now ≡ None) }
+    ensures trials { IfOk result (λ counted. AreFewTrials (facts_of nodes.now) params.now counted.set.pass counted.trials) }
+    ensures refused { IfErr result (IsUnsetList nodes.now params.now previous_depth) }
+{
+    let (breaks, trials) = match counted_breaks(alloc, nodes, params) {
+        Ok(counted) => counted,
+        Err(BreakFault::InfiniteShrink) => return Err(ParagraphFault::InfiniteShrink),
+        Err(BreakFault::TooManyBreaks) => return Err(ParagraphFault::TooManyBreaks),
+        Err(BreakFault::OutOfMemory) => return Err(ParagraphFault::OutOfMemory),
+    };
+    match lines(alloc, nodes, &breaks, params, previous_depth) {
+        Ok(items) => {
+            let set = SetParagraph {
+                items: NodeList::from_vec(items.nodes),
+                depth: items.depth,
+                lines: breaks.lines.len(),
+                pass: Some(breaks.pass),
+                overhang: breaks.overhang,
+                demerits: breaks.demerits,
+            };
+            Ok(CountedParagraph { set, trials })
+        }
+        Err(LinesFault::DimensionTooLarge) => Err(ParagraphFault::DimensionTooLarge),
+        Err(LinesFault::OutOfMemory) => Err(ParagraphFault::OutOfMemory),
+    }
+}
+
+/// Sets a list of at most 131,070 items. The list is finished for this, and then restored.
+fn set_items(
+    alloc: Global,
+    nodes: &mut Vec<Node>,
+    params: &Params,
+    previous_depth: Dimen,
+) -> Result<CountedParagraph, ParagraphFault>
+    requires { length nodes.old.items + 2 ≤ max_nodes }
+    ensures ok { IfOk result (λ counted. IsSet (finished nodes.old.items params.now.par_fill_skip) params.now previous_depth counted.set) }
+    ensures fits { OnOk result (refusal (finished nodes.old.items params.now.par_fill_skip) ≡ None) }
+    ensures trials { IfOk result (λ counted. AreFewTrials (facts_of (finished nodes.old.items params.now.par_fill_skip)) params.now counted.set.pass counted.trials) }
+    ensures refused { IfErr result (IsUnsetList (finished nodes.old.items params.now.par_fill_skip) params.now previous_depth) }
+    ensures same { nodes.new.items ≡ nodes.old.items }
+{
+    let Ok(replaced) = finish_paragraph(nodes, params.par_fill_skip) else {
+        return Err(unfinished_fault(nodes, params));
+    };
+    let set = set_finished(alloc, nodes, params, previous_depth);
+    unfinish_paragraph(nodes, replaced);
+    set
+}
+
+/// Sets a paragraph of at most 131,070 items after a previous depth, and leaves its list as it was.
+///
+/// The fault is `InfiniteShrink` exactly when glue of the finished list shrinks in an infinite order, and `TooManyBreaks` exactly when there is no
+/// such glue but more than 8,192 legal places; refused memory hides neither. Otherwise it is `DimensionTooLarge` if a line does not fit, or
+/// `OutOfMemory` if an allocation is refused before all lines are packed. For a paragraph with items at least one line is tried, and at most as many
+/// lines as there are places after each place up to the place where trying stops.
+pub fn set_paragraph(
+    alloc: Global,
+    list: &mut NodeList,
+    params: &Params,
+    previous_depth: Dimen,
+) -> Result<CountedParagraph, ParagraphFault>
+    requires list_bounded { length (nodes_of list.old) + 2 ≤ max_nodes }
+    ensures ok { IfOk result (λ counted. IsSetParagraph (nodes_of list.old) params.now previous_depth counted.set) }
+    ensures fits { OnOk result (unbroken (nodes_of list.old) params.now.par_fill_skip ≡ None) }
+    ensures trials { IfOk result (λ counted. AreFewTrials (facts_of (finished (nodes_of list.old) params.now.par_fill_skip)) params.now counted.set.pass counted.trials) }
+    ensures refused { IfErr result (IsUnset (nodes_of list.old) params.now previous_depth) }
+    ensures same { list.new ≡ list.old }
+{
+    if list.is_empty() {
+        return Ok(set_empty(alloc, previous_depth));
+    }
+    let mut nodes = replace(list, NodeList::new(alloc)).into_vec();
+    let set = set_items(alloc, &mut nodes, params, previous_depth);
+    *list = NodeList::from_vec(nodes);
+    set
+}

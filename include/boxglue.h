@@ -1,0 +1,140 @@
+/* boxglue.h: the typesetter as a library for C.
+ *
+ * The functions work on bytes in memory. They keep nothing between two calls, start no thread and take no lock, so several threads may call them at once.
+ * docs/LIBRARY.md shows how to link a program, and has callers in C, Python and Rust.
+ *
+ * Rules for all calls; the library checks none of them:
+ *
+ * - The caller owns all memory. The library reads its inputs and writes its outputs during the call, and keeps no pointer after it.
+ *   What it allocates by malloc, realloc and free during a call it frees before the call returns.
+ * - No pointer is null, not even where its length is 0. Use the address of any byte or struct then. Pointers to structs are aligned as C aligns them.
+ * - No output overlaps another output or an input. Inputs may overlap each other.
+ * - Each length is below 2^63 bytes.
+ * - The stack has room. Boxes 200 deep, the deepest there are, ran with 256 KiB left, and most calls need far less.
+ * - No call comes from a signal handler, or from the child of a process with threads after fork.
+ *
+ * Each function but boxglue_version returns a status, one of enum boxglue_status. Its comment names the statuses that it can return.
+ * Every input has a status: what a script, a DVI file or a font file holds may be any bytes.
+ */
+#ifndef BOXGLUE_H
+#define BOXGLUE_H
+
+#include <stddef.h>
+#include <stdint.h>
+
+#ifdef __cplusplus
+extern "C" {
+#endif
+
+/* What boxglue_version returns for the library that this header describes, 1.0.0: 10,000 times the first number, 100 times the second, and the third. */
+#define BOXGLUE_VERSION 10000
+
+enum boxglue_status {
+    /* All was accepted. The outputs are written. */
+    BOXGLUE_ACCEPTED = 0,
+    /* The script, one of its commands or the DVI file was refused. The text says why. The outputs are written. */
+    BOXGLUE_REFUSED = 1,
+    /* Memory was refused, and there is no result. The buffers are as they were. */
+    BOXGLUE_OUT_OF_MEMORY = 2,
+    /* The name of a font has not 1 to 255 bytes. This is tested first. The buffers are as they were. */
+    BOXGLUE_BAD_FONT_NAME = 3,
+    /* A buffer is too small. The sizes say what is needed. The buffers are as they were. */
+    BOXGLUE_BUFFER_TOO_SMALL = 4,
+    /* The DVI file is good and has no page of this number. The buffers are as they were. */
+    BOXGLUE_NO_SUCH_PAGE = 5,
+    /* A number is out of its range. The buffers are as they were. */
+    BOXGLUE_OUT_OF_RANGE = 6,
+    /* The script was run, and a command of it, or the end of the job, was refused as OutOfMemory. The outputs are written. Where memory is refused for the bytes
+     * of the DVI file alone, the answer is Device (docs/COMMANDS.md, section 7), the job is over, and the status is 1. */
+    BOXGLUE_REFUSED_MEMORY = 7
+};
+
+/* A font that the caller hands in: the name by which scripts and DVI files mean it, 1 to 255 bytes, and the bytes of its metric file (TFM).
+ * Where several have one name, the first one counts. */
+struct boxglue_font {
+    const uint8_t *name;
+    size_t name_size;
+    const uint8_t *bytes;
+    size_t bytes_size;
+};
+
+/* The sizes of the outputs of boxglue_run, in bytes. */
+struct boxglue_lengths {
+    size_t answers;
+    size_t dvi;
+};
+
+/* A font that a DVI file defines. */
+struct boxglue_dvi_font {
+    /* The number by which pages select it, and which a listing shows. */
+    int32_t number;
+    /* The size at which it is used, in DVI units: 1 to 2^27 - 1. A DVI unit of boxglue's own files is a scaled point, 1/65536 of a point. */
+    int32_t size;
+    /* Where its name begins in the text, and how many bytes the name has, 0 to 255. */
+    size_t name_start;
+    size_t name_size;
+};
+
+/* The sizes of the outputs of boxglue_fonts: the number of fonts, and the number of bytes of the text. */
+struct boxglue_font_sizes {
+    size_t fonts;
+    size_t text;
+};
+
+/* Runs a script with these fonts.
+ *
+ * answers takes the answers to the commands, one line each (docs/FORMATS.md), or the one line of a script that is refused as a whole.
+ * dvi takes the bytes of the DVI file. There are none where no page was shipped.
+ * *lengths takes the sizes of both. The rest of each buffer is as it was.
+ *
+ * Returns 0, 1, 2, 3, 4 or 7. At 4 *lengths says what both buffers need, and no byte of them is written: the script was run, and a second call runs
+ * it again, so begin with buffers that usually suffice. At 2 and 3 *lengths is as it was. */
+uint32_t boxglue_run(const uint8_t *script, size_t script_size,
+                     const struct boxglue_font *fonts, size_t font_count,
+                     uint8_t *answers, size_t answers_room,
+                     uint8_t *dvi, size_t dvi_room,
+                     struct boxglue_lengths *lengths);
+
+/* Lists the marks of all pages of a DVI file.
+ *
+ * text takes the listing (docs/FORMATS.md), or the line of the refusal, and *size the number of its bytes. The rest of the buffer is as it was.
+ *
+ * Returns 0, 1, 2, 3 or 4. At 4 *size says what the buffer needs. At 2 and 3 *size is as it was. */
+uint32_t boxglue_list(const uint8_t *dvi, size_t dvi_size,
+                      const struct boxglue_font *fonts, size_t font_count,
+                      uint8_t *text, size_t text_room,
+                      size_t *size);
+
+/* Paints the rules of a page of a DVI file.
+ *
+ * page is counted from 1. dpi is the number of pixels an inch, 0 to 10000. width and height are those of the bitmap in pixels, 1 to 10000.
+ * text takes the bitmap as plain PBM (docs/FORMATS.md), or the line of the refusal, and *size the number of its bytes. The rest of the buffer is as it was.
+ *
+ * Returns 0 to 6. The names are tested first, then the numbers. At 4 *size says what the buffer needs. At 2, 3, 5 and 6 *size is as it was. */
+uint32_t boxglue_paint(const uint8_t *dvi, size_t dvi_size,
+                       const struct boxglue_font *fonts, size_t font_count,
+                       uint32_t page, uint32_t dpi, uint32_t width, uint32_t height,
+                       uint8_t *text, size_t text_room,
+                       size_t *size);
+
+/* Reads the fonts that a DVI file defines after its pages, where each font that a page selects is defined. It needs no metric files, so it says which
+ * names the other calls need. It checks the beginning and the end of the file and the chain of its pages, and does not read the pages.
+ *
+ * fonts takes the fonts in the order of the file. A font that is defined twice comes twice.
+ * text takes their names, one after the other, or the line of the refusal, and then there are no fonts.
+ * *sizes takes the numbers of both. The rest of each buffer is as it was.
+ *
+ * Returns 0, 1, 2 or 4. At 4 *sizes says what both buffers need. At 2 *sizes is as it was. */
+uint32_t boxglue_fonts(const uint8_t *dvi, size_t dvi_size,
+                       struct boxglue_dvi_font *fonts, size_t font_room,
+                       uint8_t *text, size_t text_room,
+                       struct boxglue_font_sizes *sizes);
+
+/* Returns the version of the library, as BOXGLUE_VERSION counts it. A program compares the two. */
+uint32_t boxglue_version(void);
+
+#ifdef __cplusplus
+}
+#endif
+
+#endif

@@ -1,0 +1,89 @@
+"""Callers of the library for C: those of docs/LIBRARY.md, in C, Python and Rust, compile and give the page of one rule; the tests of the binding for Python pass;
+and the client of examples/markdown makes a page."""
+import os
+import re
+import shutil
+import subprocess
+import tempfile
+from functools import partial
+
+from steps.library_build import build_shared, built, compile_c, heap_archive, lacking, python_words
+from steps.outcome import Skipped
+from steps.plain_font import metric_file
+from steps.texts import last_lines
+
+TITLE = "callers of the library for C: docs/LIBRARY.md, bindings/python, examples/markdown"
+PROGRAM = "library"
+NEEDS_PROGRAM = True
+LIMIT = 120
+SECTION = "## 7. From C"
+WANTED = b"1: ok\n2: ok\n3: packed 1.0pt 1.0pt 0.0pt badness 0\n4: shipped 1\nend: pages 1 bytes 116\n"
+
+
+def block(root, language):
+    """The block of docs/LIBRARY.md in a language."""
+    with open(f"{root}/docs/LIBRARY.md", encoding="utf-8") as it:
+        section = it.read().partition(f"{SECTION}\n")[2].split("\n## ")[0]
+    return re.search(rf"^```{language}\n(.*?)^```$", section, flags=re.M | re.S)[1]
+
+
+def write(path, text):
+    with open(path, "w", encoding="utf-8") as it:
+        it.write(text)
+
+
+def run_wrong(words, env=None, wanted=WANTED, folder=None):
+    """Runs a command, and says what is wrong, or returns None."""
+    ran = subprocess.run(words, capture_output=True, env=env, cwd=folder, timeout=LIMIT)
+    if ran.returncode:
+        return f"the status is {ran.returncode}: {last_lines(ran.stderr)}"
+    return None if wanted is None or ran.stdout == wanted else f"it prints {ran.stdout[:200]!r}"
+
+
+def caller_in_c(root, archive, folder):
+    write(f"{folder}/caller.c", block(root, "c"))
+    return compile_c(root, archive, [f"{folder}/caller.c"], f"{folder}/caller", []) or run_wrong([f"{folder}/caller"], folder=folder)
+
+
+def caller_in_python(root, archive, folder):
+    write(f"{folder}/caller.py", block(root, "python"))
+    words, env = python_words(root, archive, [f"{folder}/caller.py"])
+    return run_wrong(words, env)
+
+
+def caller_in_rust(root, archive, folder):
+    if not shutil.which("rustc"):
+        return Skipped("there is no rustc on the path")
+    write(f"{folder}/caller.rs", block(root, "rs"))
+    shutil.copy(archive, f"{folder}/libboxglue_c.a")  # the name by which rustc finds it
+    paths = [f"-Lnative={it}" for it in (folder, os.path.dirname(heap_archive()))]
+    words = ["rustc", "--edition", "2021", "-O", *paths, "-lstatic=boxglue_c", "-lstatic=libc_c", "-o", f"{folder}/caller", f"{folder}/caller.rs"]
+    return run_wrong(words, wanted=None) or run_wrong([f"{folder}/caller"])
+
+
+def binding(root, archive, folder):
+    words, env = python_words(root, archive, ["-m", "unittest", "-q", "test_boxglue"])
+    return run_wrong(words, env, wanted=b"", folder=folder)
+
+
+def client(root, archive, folder):
+    with open(f"{folder}/plain.tfm", "wb") as it:
+        it.write(metric_file())
+    fonts = [f"--{name}={folder}/plain.tfm" for name in ("text", "bold", "italic", "code")]
+    words, env = python_words(root, archive, [f"{root}/examples/markdown/markdown_page.py", *fonts, f"{root}/examples/markdown/page.md", f"{folder}/page.dvi"])
+    return run_wrong(words, env, wanted=b"") or (None if os.path.getsize(f"{folder}/page.dvi") > 1000 else "the file has no page")
+
+
+def outcome(call, root, archive=None, *_programs):
+    """Runs a case in a folder of its own."""
+    if lacking():
+        return lacking()
+    built(build_shared, root, archive)
+    with tempfile.TemporaryDirectory(prefix="boxglue-library-") as folder:
+        return call(root, archive, folder)
+
+
+def cases(programs, root):
+    """The callers."""
+    calls = {"LIBRARY.md in C": caller_in_c, "LIBRARY.md in Python": caller_in_python, "LIBRARY.md in Rust": caller_in_rust, "test_boxglue.py": binding, "examples/markdown": client}
+    return [(name, partial(outcome, call, root, *programs)) for name, call in calls.items()]

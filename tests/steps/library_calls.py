@@ -1,0 +1,80 @@
+"""The library for C, called from C and from Python on all examples and on cases of crates/rows_scripts: the bytes are those of the program, or of the case file."""
+import re
+import tempfile
+from functools import partial
+
+from steps.library_build import build_calls, built, lacking, python_words
+from steps.library_inputs import SHEET, Printed, Room, all_inputs, printed_by
+from steps.outcome import Skipped
+from steps.part import Part
+from steps.texts import first_difference, last_lines
+
+TITLE = "the library for C, called from C and Python, against the program"
+ONE_SHEET = [it for it in SHEET if it.isdigit()]
+
+
+def command_in_c(root, archive, words):
+    """The command that makes a call from C, and its environment."""
+    return [built(build_calls, root, archive), *words], {}
+
+
+def command_in_python(root, archive, words):
+    """The command that makes a call from Python, and its environment."""
+    return python_words(root, archive, [f"{root}/tests/steps/python_calls.py", *words])
+
+
+def printed(ran):
+    """What a call printed, or what is wrong with it."""
+    line, _, rest = ran.stdout.partition(b"\n")
+    if ran.returncode or not re.fullmatch(rb"\d+ \d+ \d+", line):
+        return f"the status is {ran.returncode}: {last_lines(ran.stderr)}"
+    status, first, second = map(int, line.split())
+    return Printed(status, rest[:first], rest[first:]) if len(rest) == first + second else f"{len(rest)} bytes are printed, and not {first} and {second}"
+
+
+def differs(call, found, wanted):
+    """What is wrong with a call, or None."""
+    if isinstance(found, str):
+        return f"{call}: {found}"
+    if found.status != wanted.status:
+        return f"{call}: the status is {found.status} and not {wanted.status}"
+    return first_difference(f"{call}: the text", found.text, wanted.text) or first_difference(f"{call}: the file", found.dvi, wanted.dvi)
+
+
+def calls_of(room, wanted):
+    """The calls that are made, each with its words and with what it has to give."""
+    script = wanted["run"]
+    yield "run", ["run", "script", *room.fonts], script
+    if "list" in wanted:
+        room.write("out.dvi", script.dvi)
+        yield "list", ["list", "out.dvi", *room.fonts], wanted["list"]
+        yield "paint", ["paint", *ONE_SHEET, "out.dvi", *room.fonts], wanted["paint"]
+
+
+def outcome(command, given, root, archive=None, *programs):
+    """Makes all calls on an input."""
+    wanted = printed_by(programs[0], root, given.name) if programs else {"run": given.wanted}
+    if lacking() or not wanted["run"]:
+        return lacking() or Skipped("it compares with a built program: --program")
+    if given.wanted not in (None, wanted["run"]):
+        return "the program does not give what the case file has"
+    with tempfile.TemporaryDirectory(prefix="boxglue-library-") as path:
+        room = Room(path, given)
+        for call, words, its in calls_of(room, wanted):
+            words, env = command(root, archive, words)
+            wrong = differs(call, printed(room.run(words, env=env)), its)
+            if wrong:
+                return wrong
+    return None
+
+
+def cases(command, programs, root):
+    """The inputs. The first of the programs is the archive, and those of boxglue come after it."""
+    for given in all_inputs(root):
+        yield given.name, partial(outcome, command, given, root, *programs)
+
+
+def parts(_root):
+    """A part for each language."""
+    for name, language, command in (("library_c", "C", command_in_c), ("library_python", "Python", command_in_python)):
+        yield Part(name, f"the library called from {language}, on examples/ and cases of rows_scripts", partial(cases, command), "library", needs_program=True)
