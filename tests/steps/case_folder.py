@@ -1,4 +1,4 @@
-"""A case of tests/program: a folder with the command line of a run, and its expected results. docs/FORMATS.md, section 11, has its files."""
+"""A case of tests/program: a folder with the command line of a run, and its expected results. tests/CASES.md has its files."""
 import os
 import shutil
 import subprocess

@@ -148,7 +148,7 @@ def rules_marks():
 
 
 def pixels(length, dpi):
-    """A length of DVI units in pixels, as numerator and denominator (FORMATS.md, section 12, with the units of section 8)."""
+    """A length of DVI units in pixels, as numerator and denominator (FORMATS.md, section 11, with the units of section 8)."""
     return length * 25400000 * 1000 * dpi, 254000 * 473628672 * 1000
 
 

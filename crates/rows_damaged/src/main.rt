@@ -1,7 +1,7 @@
 //! Damaged files: the program reads good files from its standard input, and prints the answer to each file that differs from one of them in one byte,
 //! and to each beginning of it.
 //!
-//! The form of the input and of the output is in docs/FORMATS.md.
+//! The form of the input and of the output is in tests/CASES.md.
 #![tactic(auto)]
 
 mod answers;

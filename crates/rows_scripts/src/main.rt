@@ -1,9 +1,9 @@
 //! Named cases of scripts: the program reads a file of cases from its standard input, runs each, and prints its output.
 //!
-//! The form of the file is in docs/FORMATS.md. In short: `file` and `bytes` give a font file, `case` begins a case, `font`, `device`,
+//! The form of the file is in tests/CASES.md. In short: `file` and `bytes` give a font file, `case` begins a case, `font`, `device`,
 //! `resume`, `each` and `last` set how its script is run and shown, and `|` or `\` comes before a line of the script.
 //!
-//! Whole scripts are data here, since a `#[test]` function is proved like other code: twenty of them cost seven minutes.
+//! Whole scripts are data here, since a test function is proved like other code: twenty of them cost seven minutes.
 #![tactic(auto)]
 
 mod cases;
