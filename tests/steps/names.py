@@ -5,11 +5,13 @@ import os
 import re
 from functools import partial
 
-TITLE = "the names of code in docs/PROVED.md, ARCHITECTURE.md, EVIDENCE.md and DECISIONS.md are in the sources"
+TITLE = "the names of code in docs/PROVED.md, ARCHITECTURE.md, EVIDENCE.md and DECISIONS.md are in the sources, and no comment writes the test attribute"
 TRIES = False
 DOCUMENTS = ("PROVED", "ARCHITECTURE", "EVIDENCE", "DECISIONS")
 SOURCES = ("crates/*/src/*.rt", "crates/*/specs/*.antt", "crates/*/proofs/**/*.antt", "crates/rows_scripts/stdin", "tests/steps/*.py", "crates.txt")
 WORD = re.compile(r"[A-Za-z_][A-Za-z_0-9]*")
+# `rt ci` knows a crate with tests by this attribute, wherever it is.
+IN_COMMENT = re.compile(r"(?m)//.*#\s*\[[^]]*\btest\b")
 
 
 def read(path):
@@ -44,7 +46,14 @@ def outcome(root, document):
     return f"docs/{document}.md names what is not in the sources: {', '.join(absent)}" if absent else None
 
 
+def test_attributes(root):
+    """Sources whose comments write the test attribute: `rt ci` then looks for tests in a crate that may have none, and fails."""
+    wrong = [os.path.relpath(path, root) for path in glob.glob(f"{root}/crates/*/src/**/*.rt", recursive=True) if IN_COMMENT.search(read(path))]
+    return f"a comment writes the test attribute in {', '.join(sorted(wrong))}" if wrong else None
+
+
 def cases(_programs, root):
-    """A case for each document."""
+    """A case for each document, and one for the comments of the sources."""
     for document in DOCUMENTS:
         yield document, partial(outcome, root, document)
+    yield "test_attributes", partial(test_attributes, root)
