@@ -2,7 +2,7 @@ use Rattle.std.proofs.Common.{Err, ap}
 use Rattle.std.proofs.lemmas.Result.{err_from_is_err_and}
 use Rattle.tfm_core.specs.declared.fault.FontFault.{FontFault}
 use Rattle.tfm_core.proofs.FontReading.{size_refused}
-use Rattle.tfm_core.proofs.reading.Font.read.Goals as goal
+use Rattle.tfm_core.proofs.font.Font.read.Goals as goal
 
 pub returns-clause-ok : goal.returns-clause-ok
 returns-clause-ok c = record {
