@@ -30,9 +30,9 @@ pub trait Device {
     /// Takes the piece or a beginning of it, and returns how many bytes it took, at least one. Where it fails, it took nothing, and the failure is
     /// counted.
     fn write(&mut self, piece: &[u8]) -> Result<usize, DeviceFault>
-        requires some { 0 < length piece.now }
+        requires piece_not_empty { 0 < length piece.now }
         requires countable { failed self.old + 1 < 2 ^ 64 }
-        ensures within { IfOk result (λ n. (1 ≤ n) × (n ≤ length piece.now)) }
+        ensures count_bounded { IfOk result (λ n. (1 ≤ n) × (n ≤ length piece.now)) }
         ensures taken { IfOk result (λ n. bytes_written self.new ≡ written_then (bytes_written self.old) (take n piece.now)) }
         ensures stands { OnOk result (failed self.new ≡ failed self.old) }
         ensures none_taken { OnErr result (bytes_written self.new ≡ bytes_written self.old) }
@@ -91,7 +91,7 @@ impl Device for Memory {
 
     /// Takes the whole piece. It fails only where its capacity is too small and a growth is refused.
     fn write(&mut self, piece: &[u8]) -> Result<usize, DeviceFault>
-        requires some { 0 < length piece.now }
+        requires piece_not_empty { 0 < length piece.now }
         requires countable { self.old.failures + 1 < 2 ^ 64 }
         ensures all { IfOk result (λ n. n ≡ length piece.now) }
         ensures kept { OnOk result (self.new.bytes ≡ self.old.bytes ++ piece.now) }

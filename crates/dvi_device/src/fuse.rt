@@ -63,9 +63,9 @@ impl Device for Fuse {
     /// Fails at its chosen call. At each other call it takes as many bytes of the piece as it may, unless its capacity is too small and a growth is
     /// refused.
     fn write(&mut self, piece: &[u8]) -> Result<usize, DeviceFault>
-        requires some { 0 < length piece.now }
+        requires piece_not_empty { 0 < length piece.now }
         requires countable { self.old.failures + 1 < 2 ^ 64 }
-        ensures within { IfOk result (λ n. (1 ≤ n) × (n ≤ length piece.now)) }
+        ensures count_bounded { IfOk result (λ n. (1 ≤ n) × (n ≤ length piece.now)) }
         ensures most { IfOk result (λ n. n ≡ min self.old.most (length piece.now)) }
         ensures taken { IfOk result (λ n. self.new.bytes ≡ self.old.bytes ++ take n piece.now) }
         ensures stands { OnOk result (self.new.failures ≡ self.old.failures) }

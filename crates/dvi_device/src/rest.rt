@@ -66,7 +66,7 @@ impl<D: Device> Rest<D> {
     pub fn into_device(self) -> D
         ensures device { result ≡ self.device }
         ensures parts { IfSome (written_by D.bytes_written self) (GoesOnAs self.sent (D.bytes_written self.start) (D.bytes_written result)) }
-        ensures rest { (whole : List ℕ) → IfSome (written_by D.bytes_written self) (λ bytes. bytes ≡ whole) → IsFrontOf self.sent whole
+        ensures rest_sent { (whole : List ℕ) → IfSome (written_by D.bytes_written self) (λ bytes. bytes ≡ whole) → IsFrontOf self.sent whole
             → D.bytes_written result ≡ written_then (D.bytes_written self.start) (drop (length self.sent) whole) }
         ensures whole { (whole : List ℕ) → IfSome (written_by D.bytes_written self) (λ bytes. bytes ≡ whole) → IsFrontOf self.sent whole → D.bytes_written self.start ≡ Some self.sent
             → D.bytes_written result ≡ Some whole }
@@ -94,9 +94,9 @@ impl<D: Device> Device for Rest<D> {
     ghost began = { began_by D.bytes_written D.failed };
 
     fn write(&mut self, piece: &[u8]) -> Result<usize, DeviceFault>
-        requires some { 0 < length piece.now }
+        requires piece_not_empty { 0 < length piece.now }
         requires countable { D.failed self.old.device + self.old.failures + 1 < 2 ^ 64 }
-        ensures within { IfOk result (λ n. (1 ≤ n) × (n ≤ length piece.now)) }
+        ensures count_bounded { IfOk result (λ n. (1 ≤ n) × (n ≤ length piece.now)) }
         ensures taken { IfOk result (λ n. written_by D.bytes_written self.new ≡ written_then (written_by D.bytes_written self.old) (take n piece.now)) }
         ensures stands { OnOk result (D.failed self.new.device + self.new.failures ≡ D.failed self.old.device + self.old.failures) }
         ensures none_taken { OnErr result (written_by D.bytes_written self.new ≡ written_by D.bytes_written self.old) }

@@ -1,6 +1,6 @@
 -- The instructions between post and post_post, one by one.
 use Rattle.std.proofs.Common.{◌≡◌, ◌≤◌, ◌<◌, ◌+◌, ◌-◌, ◌++◌, [], ◌∷◌, List, length, take, drop, ℕ, refl, sym, ◌∙◌, ap, ap₂, subst, subst₂, inl, inr, append_assoc, append-nil, length-append, arith}
-use Rattle.std.proofs.lemmas.List.{take-append-drop, take-take, take_at, drop-drop, length-drop, length-take-le}
+use Rattle.std.proofs.lemmas.List.{take-take, take_at, drop-drop, length-drop, length-take-le}
 use Rattle.std.specs.List.{AllByRecursion}
 use Rattle.dvi_ops.specs.Instruction.{Definition, FontDef, Instruction, Do}
 use Rattle.dvi_ops.specs.File.{IsIdle}
@@ -22,21 +22,12 @@ use Rattle.dvi_scan.specs.declared.executing.PassFault.{PassFault}
 use Rattle.dvi_scan.specs.declared.executing.PassFault.TheVariants as faults
 use Rattle.dvi_fonts.specs.Closing.{BreaksClosing, Closes, ClosesOne, ClosesTo, IsClosingFault, IsDefinitionFault, IsFaultAt}
 use Rattle.dvi_scan.proofs.KnownLemmas.{same_after, same_right, same_self, same_sym}
+use Rattle.dvi_scan.proofs.ReachedLemmas.{take_next}
 
 -- The instruction that was read is there.
 pub read_found : (bytes : List ℕ) (place next bound : ℕ) (i j : Instruction) → place < next → next ≤ bound → Spells i (take (next - place) (drop place bytes)) → i ≡ j → StandsAt bytes place bound j
 read_found bytes place next bound i j forward within spelled same =
     (next - place, omega arith, subst (λ (i : Instruction). Spells i (take (next - place) (drop place bytes))) same spelled)
-
--- A list before two more, cut at a place.
-take_next : (bytes : List ℕ) (at next : ℕ) → at ≤ next → next ≤ length bytes → take next bytes ≡ take at bytes ++ take (next - at) (drop at bytes)
-take_next bytes at next low high =
-    let size : length (take at bytes ++ take (next - at) (drop at bytes)) ≡ next =
-    length-append (take at bytes) (take (next - at) (drop at bytes)) ∙ (let one = length-take-le at bytes (omega arith) in let rest = length-drop at bytes in let two = length-take-le (next - at) (drop at bytes) (omega arith) in omega arith) in
-    let whole : bytes ≡ (take at bytes ++ take (next - at) (drop at bytes)) ++ drop (next - at) (drop at bytes) =
-    sym (append_assoc (take at bytes) (take (next - at) (drop at bytes)) (drop (next - at) (drop at bytes))
-    ∙ (ap (λ (x : List ℕ). take at bytes ++ x) (take-append-drop (next - at) (drop at bytes)) ∙ take-append-drop at bytes)) in
-    ap (λ (x : List ℕ). take next x) whole ∙ take_at (take at bytes ++ take (next - at) (drop at bytes)) (drop (next - at) (drop at bytes)) next size
 
 -- The bytes from a place to another, and on to a third.
 pub span_next : (bytes : List ℕ) (from at next : ℕ) → from ≤ at → at ≤ next → next ≤ length bytes

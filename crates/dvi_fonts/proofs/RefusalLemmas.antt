@@ -2,31 +2,25 @@
 use Rattle.std.proofs.Common.{◌≡◌, ◌≢◌, List, ℕ, ℤ, Option, None, Some, Result, Ok, Err, false, refl, sym, ◌∙◌, subst}
 use Rattle.std.specs.Result.{IfErr, IsErrAnd}
 use Rattle.dvi_ops.specs.Instruction.{Definition}
-use Rattle.dvi_fonts.specs.Widths.{IsFontRefusal, IsSizedRefusal, of_size}
+use Rattle.dvi_fonts.specs.Widths.{IsFontRefusal, IsSizedRefusal, of_read}
 use Rattle.dvi_fonts.specs.declared.widths.FontRefusal.{FontRefusal}
 use Rattle.dvi_fonts.specs.declared.widths.FontRefusal.TheVariants.{OutOfMemory, NoFont, BadTfm, DimensionTooLarge}
-use Rattle.tfm_core.specs.declared.fault.FontFault.{FontFault}
-use Rattle.tfm_core.specs.declared.fault.FontFault.TheVariants as sizes
+use Rattle.tfm_core.specs.declared.reading.FontReadFault.{FontReadFault}
+use Rattle.tfm_core.specs.declared.reading.FontReadFault.TheVariants as reads
+use Rattle.tfm_core.specs.FontReads.{IsReadRefusal}
 use Rattle.tfm_core.specs.Fonts.{fits_at}
 use Rattle.tfm_core.specs.FileWidths.{file_widths, widths_by, widths_of_file}
 use Rattle.tfm_core.specs.MetricFile.{MetricFile}
 use Rattle.tfm_core.specs.NamedBytes.{NamedBytes, file_named}
 use Rattle.tfm_core.specs.Rules.{broken_in_front, metric_file}
 use Rattle.tfm_core.specs.declared.fault.TfmCause.{TfmCause}
-use Rattle.tfm_core.proofs.ReadingLemmas.{metric_file-front}
+use Rattle.tfm_core.proofs.FontReading.{front_holds}
 
 pub no_widths : (files : List NamedBytes) (d : Definition) (refusal : FontRefusal) → refusal ≢ OutOfMemory → IsFontRefusal files d refusal → file_widths files d.name d.size ≡ None
 no_widths files d OutOfMemory other refused = absurd (other refl)
 no_widths files d NoFont other refused = rw refused refl
 no_widths files d (BadTfm cause) other (file, named, bad) = rw named (rw bad refl)
 no_widths files d DimensionTooLarge other (file, named, (metrics, is, unfit)) = rw named (rw is (rw unfit refl))
-
-pub front_holds : (bytes : List ℕ) (file : MetricFile) → metric_file bytes ≡ Ok file → broken_in_front bytes ≡ None
-front_holds bytes file is = by_front (broken_in_front bytes) refl
-  where
-    by_front : (found : Option TfmCause) → broken_in_front bytes ≡ found → broken_in_front bytes ≡ None
-    by_front None e = e
-    by_front (Some cause) e = let both : Err cause ≡ Ok file = sym (metric_file-front bytes cause e) ∙ is in absurd cc
 
 -- Where a font has widths, the first file with its name breaks no rule that needs no table.
 pub widths_room : (files : List NamedBytes) (d : Definition) (w : ℤ → Option ℤ) → file_widths files d.name d.size ≡ Some w → IsFontRefusal files d OutOfMemory
@@ -45,8 +39,8 @@ pub handed_on : {A E : Type 0} (P : E → Type 0) (r : Result A E) (e : E) → I
 handed_on P (Ok x) e given p = tt
 handed_on P (Err y) e given p = subst P (sym given) p
 
--- A metric file that was read gives no font at a size.
-pub size_refused : (bytes : List ℕ) (size : ℤ) (metrics : MetricFile) (fault : FontFault) → metric_file bytes ≡ Ok metrics → (fault ≡ sizes.DimensionTooLarge → fits_at metrics size ≡ false)
-    → IsSizedRefusal bytes size (of_size fault)
-size_refused bytes size metrics sizes.OutOfMemory is unfit = front_holds bytes metrics is
-size_refused bytes size metrics sizes.DimensionTooLarge is unfit = (metrics, is, unfit refl)
+-- Why bytes give no font is why its font is refused.
+pub read_refused : (bytes : List ℕ) (size : ℤ) (fault : FontReadFault) → IsReadRefusal bytes (Some size) fault → IsSizedRefusal bytes size (of_read fault)
+read_refused bytes size reads.OutOfMemory refused = refused
+read_refused bytes size (reads.BadTfm cause) refused = refused
+read_refused bytes size reads.DimensionTooLarge refused = refused

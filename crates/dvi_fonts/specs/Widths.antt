@@ -1,10 +1,8 @@
 -- Why a font has no widths, by the font files (own).
 use Rattle.std.specs.Prelude.{◌≡◌, ◌<◌, List, ℕ, ℤ, false, Some, None, Ok, Err}
 use Rattle.dvi_ops.specs.Instruction.{Definition}
-use Rattle.tfm_core.specs.declared.fault.FontFault.{FontFault}
-use Rattle.tfm_core.specs.declared.fault.FontFault.TheVariants as sizes
-use Rattle.tfm_core.specs.declared.fault.TfmFault.{TfmFault}
-use Rattle.tfm_core.specs.declared.fault.TfmFault.TheVariants as files
+use Rattle.tfm_core.specs.declared.reading.FontReadFault.{FontReadFault}
+use Rattle.tfm_core.specs.declared.reading.FontReadFault.TheVariants as reads
 use Rattle.tfm_core.specs.declared.font.GlyphSize.{GlyphSize}
 use Rattle.tfm_core.specs.Fonts.{SizedFont, fits_at, glyph_of}
 use Rattle.tfm_core.specs.MetricFile.{MetricFile}
@@ -17,15 +15,11 @@ use Rattle.dvi_fonts.specs.declared.widths.FontRefusal.TheVariants.{OutOfMemory,
 abbrev pub HasBytes : SizedFont → Type 0
 HasBytes font = (code : ℕ) (size : GlyphSize) → glyph_of font code ≡ Some size → code < 256
 
--- The refusal of a font whose metric file was not read (own).
-abbrev pub of_file : TfmFault → FontRefusal
-of_file files.OutOfMemory = OutOfMemory
-of_file (files.Bad cause) = BadTfm cause
-
--- The refusal of a font whose metric file was read, but not at that size (own).
-abbrev pub of_size : FontFault → FontRefusal
-of_size sizes.OutOfMemory = OutOfMemory
-of_size sizes.DimensionTooLarge = DimensionTooLarge
+-- The refusal of a font that was not read from its metric file (own).
+abbrev pub of_read : FontReadFault → FontRefusal
+of_read reads.OutOfMemory = OutOfMemory
+of_read (reads.BadTfm cause) = BadTfm cause
+of_read reads.DimensionTooLarge = DimensionTooLarge
 
 -- Why the bytes give no font at a size: they are no metric file; or one of its dimensions at the size does not fit; or memory was refused for its
 -- tables. The rules that need no table are tested before any growth.

@@ -43,10 +43,8 @@ fn add_first<'a>(first: &mut Firsts<'a>, font: &FontDefinition<'a>) -> Result<()
     if first.contains_key(&font.number) {
         return Ok(());
     }
-    match first.insert(font.number, *font) {
-        Ok(_) => Ok(()),
-        Err(_) => Err(AllocError),
-    }
+    first.insert(font.number, *font)?;
+    Ok(())
 }
 
 /// The definitions of a file so far, in order. Each agrees with those before it. The first one of a number is found in a search tree.
@@ -106,9 +104,7 @@ impl<'a> KnownFonts<'a> {
         ensures ok { OnOk result (self.new ≡ self.old ++ definition font.now ∷ []) }
         ensures err { OnErr result (self.new ≡ self.old) }
     {
-        if self.all.push(*font).is_err() {
-            return Err(AllocError);
-        }
+        self.all.push(*font)?;
         match add_first(&mut self.first, font) {
             Ok(()) => Ok(()),
             Err(refusal) => {

@@ -3,13 +3,13 @@
 ghost use Rattle.std.specs.Prelude.{◌≡◌, Ok, Some, IfOk, IfErr};
 ghost use Rattle.dvi_ops.specs.Fonts.{IsFontSize};
 ghost use Rattle.dvi_ops.specs.View.{definition};
-ghost use Rattle.dvi_fonts.specs.Widths.{HasBytes, IsFontRefusal, IsSizedRefusal, of_file, of_size};
+ghost use Rattle.dvi_fonts.specs.Widths.{HasBytes, IsFontRefusal, IsSizedRefusal, of_read};
 ghost use Rattle.tfm_core.specs.FileWidths.{file_widths, width_at, widths_by};
 ghost use Rattle.tfm_core.specs.Rules.{metric_file};
 
 use dvi_ops::FontDefinition;
 use std::alloc::Global;
-use tfm_core::{Font, FontFault, FontFile, FontSize, Tfm, TfmCause, TfmFault, file_named};
+use tfm_core::{Font, FontFile, FontReadFault, FontSize, TfmCause, file_named};
 use thiserror::Error;
 
 /// Why a font has no widths.
@@ -29,24 +29,14 @@ pub enum FontRefusal {
     DimensionTooLarge,
 }
 
-impl From<TfmFault> for FontRefusal {
-    ghost from_gives = { λ fault refusal. refusal ≡ of_file fault };
+impl From<FontReadFault> for FontRefusal {
+    ghost from_gives = { λ fault refusal. refusal ≡ of_read fault };
 
-    fn from(fault: TfmFault) -> FontRefusal {
+    fn from(fault: FontReadFault) -> FontRefusal {
         match fault {
-            TfmFault::OutOfMemory => FontRefusal::OutOfMemory,
-            TfmFault::Bad(cause) => FontRefusal::BadTfm(cause),
-        }
-    }
-}
-
-impl From<FontFault> for FontRefusal {
-    ghost from_gives = { λ fault refusal. refusal ≡ of_size fault };
-
-    fn from(fault: FontFault) -> FontRefusal {
-        match fault {
-            FontFault::DimensionTooLarge => FontRefusal::DimensionTooLarge,
-            FontFault::OutOfMemory => FontRefusal::OutOfMemory,
+            FontReadFault::OutOfMemory => FontRefusal::OutOfMemory,
+            FontReadFault::BadTfm(cause) => FontRefusal::BadTfm(cause),
+            FontReadFault::DimensionTooLarge => FontRefusal::DimensionTooLarge,
         }
     }
 }
@@ -60,15 +50,13 @@ fn size_of(font: &FontDefinition<'_>) -> Option<FontSize>
 }
 
 /// The font in the bytes of a metric file, at the size of a definition.
-#[tactic(auto, using(crate::proofs::RefusalLemmas::front_holds))]
 fn sized_font(alloc: Global, bytes: &[u8], font: &FontDefinition<'_>) -> Result<Font, FontRefusal>
     requires { IsFontSize font.now.size }
     ensures ok { IfOk result (λ read. widths_by (metric_file bytes.now) font.now.size ≡ Some (width_at read)) }
     ensures bytes { IfOk result HasBytes }
     ensures bad { IfErr result (IsSizedRefusal bytes.now font.now.size) }
 {
-    let tfm = Tfm::read(alloc, bytes)?;
-    let read = Font::at_size(alloc, &tfm, size_of(font))?;
+    let read = Font::read(alloc, bytes, size_of(font))?;
     Ok(read)
 }
 

@@ -13,7 +13,7 @@ use Rattle.ship_core.specs.Marks.{ShippedPage, marks_of_page, is_huge}
 use Rattle.ship_core.specs.Pages.{page_at}
 use Rattle.ship_core.specs.Shown.{HasWidth}
 use Rattle.dvi_layout.specs.declared.fonts.LoadedFont.{LoadedFont}
-use Rattle.dvi_layout.specs.declared.progress.Offsets.{Offsets}
+use Rattle.dvi_layout.specs.declared.page.Offsets.{Offsets}
 use Rattle.node_core.specs.declared.limits.TheConstants.{MAX_DEPTH, MAX_SHIPPED_TEXT}
 use Rattle.dvi_layout.specs.Fonts.{Slots, font_in}
 

@@ -3,9 +3,13 @@
 #![tactic(auto)]
 
 mod defined;
+mod fault;
 pub mod fonts;
 mod layout;
+mod page;
 pub mod progress;
 
+pub use fault::WriteFault;
 pub use fonts::{Fonts, LoadedFont};
-pub use progress::{NextPage, Offsets, PageLoad, Progress, WriteFault};
+pub use page::{AdmittedPage, Offsets, PageLoad};
+pub use progress::{NextPage, Progress};

@@ -1,6 +1,6 @@
 //! The numbers that the writer keeps of the pages that it has sent, and the bytes that it sends next (DVItype, 13 to 20).
 
-ghost use Rattle.std.specs.Prelude.{◌≡◌, ◌<◌, ◌≤◌, ◌+◌, ◌^◌, ◌++◌, ◌+ℤ◌, [], ◌∷◌, ℤ, List, None, Some, true, false, max, pos, length, map, if◌then◌else◌, OnOk, OnErr, IfOk, IfErr};
+ghost use Rattle.std.specs.Prelude.{◌≡◌, ◌<◌, ◌≤◌, ◌+◌, ◌^◌, ◌++◌, [], ◌∷◌, ℤ, List, None, Some, false, max, pos, length, map, if◌then◌else◌, OnOk, OnErr, IfOk, IfErr};
 ghost use Rattle.std.specs.Int.{int_max};
 ghost use Rattle.std.specs.List.{AllByRecursion};
 ghost use Rattle.dvi_ops.specs.Instruction.{Bop, Eop, Post};
@@ -10,86 +10,27 @@ ghost use Rattle.dvi_ops.specs.Layout.{bytes_of, define};
 ghost use Rattle.dvi_ops.specs.Spelling.{HasSpelling};
 ghost use Rattle.dvi_ops.specs.View.{body_view, view};
 ghost use Rattle.node_core.specs.Nodes.{box_count, box_text};
-ghost use Rattle.scaled_core.specs.Dimensions.{fits};
 ghost use Rattle.ship_core.specs.Marks.{is_huge};
 ghost use Rattle.ship_core.specs.Pages.{page_at, reach_down, reach_right};
-ghost use Rattle.dvi_layout.specs.Sheets.{definitions_of, written_body};
+ghost use Rattle.dvi_layout.specs.Admitted.{shipped_page};
+ghost use Rattle.dvi_layout.specs.Sheets.{definitions_of};
 ghost use Rattle.dvi_layout.specs.SoFar.{closing_so_far, last_bytes, next_bytes, nothing_so_far, opening, stop_so_far, with_next};
 ghost use Rattle.dvi_layout.specs.Limits.{HasRoom, limit_of};
 
 use crate::defined::DefinedSlots;
+use crate::fault::WriteFault;
 use crate::fonts::Fonts;
 use crate::layout::{
     SCALED_POINTS, append_all, append_definitions, append_padding, append_page, fresh_slots,
     in_rising_order,
 };
+use crate::page::{AdmittedPage, PageLoad, reach_down, reach_right, written_body};
 use dvi_ops::{BodyOp, Op, Postamble, opcodes};
-use move_core::reuse;
 use node_core::BoxNode;
 use node_core::limits::{MAX_PAGES, MAX_SHIPPED_NODES, MAX_SHIPPED_TEXT};
 use scaled_core::Dimen;
-use ship_core::{PagePoint, ShipFault, plan_with_room};
 use std::alloc::{AllocError, Global};
 use std::marker::Model;
-use thiserror::Error;
-
-/// The greatest capacity for instructions of a page at the start. A page of a book has fewer instructions.
-const MAX_ROOM: u64 = 16_384;
-
-/// Why a page was not written, or a file not finished.
-#[derive(Clone, Copy, Debug, PartialEq, Eq, Error)]
-pub enum WriteFault {
-    /// The file is finished, or its device has failed.
-    #[error("the file is over")]
-    JobOver,
-    /// The file has the greatest number of pages, 65,535.
-    #[error("there are too many pages")]
-    TooManyPages,
-    /// The boxes of all pages would have more than 16,777,216 nodes in total.
-    #[error("too much is shipped")]
-    TooMuchShipped,
-    /// The special texts of all pages would have more than 1,048,576 bytes in total.
-    #[error("too much special text is shipped")]
-    TooMuchSpecial,
-    /// A place or a size on the page is more than 2^30 - 1 sp or less than -(2^30 - 1) sp.
-    #[error("a place or size of the page does not fit")]
-    HugePage,
-    /// A growth of memory was refused.
-    #[error("a growth of memory was refused")]
-    OutOfMemory,
-    /// The device failed during the call.
-    #[error("the device did not take the bytes")]
-    Device,
-}
-
-impl From<AllocError> for WriteFault {
-    ghost use Rattle.dvi_layout.specs.declared.progress.WriteFault.TheVariants.{OutOfMemory};
-
-    ghost from_gives = { λ _ fault. fault ≡ OutOfMemory };
-
-    fn from(_error: AllocError) -> WriteFault {
-        WriteFault::OutOfMemory
-    }
-}
-
-/// The distance by which a page is moved to the right and down, in scaled points (TeX: The Program, part 32, §617: hoffset and voffset).
-#[derive(Clone, Copy, Debug, PartialEq, Eq)]
-pub struct Offsets {
-    pub h: Dimen,
-    pub v: Dimen,
-}
-
-impl Offsets {
-    /// The reference point of a box on its page: the box's height below the origin, and then moved by the offsets.
-    pub fn point_of(self, box_node: &BoxNode) -> PagePoint
-        ensures { result ≡ record { h = self.h; v = box_node.now.height +ℤ self.v } }
-    {
-        PagePoint {
-            h: self.h.get(),
-            v: box_node.height.get() + self.v.get(),
-        }
-    }
-}
 
 /// The numbers that the writer keeps of the pages that it has sent.
 #[derive(Drop)]
@@ -113,48 +54,11 @@ impl Model for Progress {
     ghost view = { λ p. record { last = p.last; size = p.size; defined = p.defined; tall = p.tall; wide = p.wide; deep = p.deep; pages = p.pages; load = record { nodes = p.nodes; text = p.text } } };
 }
 
-/// The number of nodes of the box of a page, and the number of bytes in the texts of its specials.
-#[derive(Clone, Copy, Debug, PartialEq, Eq)]
-pub struct PageLoad {
-    pub nodes: u64,
-    pub text: u64,
-}
-
 /// The bytes of a page, with what comes before it, and the numbers to keep once they are sent.
 #[derive(Drop)]
 pub struct NextPage {
     pub bytes: Vec<u8>,
     pub behind: Progress,
-}
-
-/// The capacity for instructions of a page with that many nodes: an eighth more, for the groups and the movements of its lines.
-fn room_for(nodes: u64) -> usize {
-    nodes
-        .saturating_add(nodes / 8)
-        .saturating_add(16)
-        .min(MAX_ROOM) as usize
-}
-
-/// The instructions of a page body as it is written, with capacity for `room` of them from the start. The fault is HugePage exactly where the page is
-/// huge, and OutOfMemory otherwise.
-fn written_body<'a>(
-    alloc: Global,
-    box_node: &'a BoxNode,
-    at: PagePoint,
-    counts: &[i32; 10],
-    room: usize,
-) -> Result<Vec<BodyOp<'a>>, WriteFault>
-    ensures ok { IfOk result (λ ops. map body_view ops.items ≡ flat (written_body (page_at counts.now at.h at.v box_node.now))) }
-    ensures fits { OnOk result (is_huge (page_at counts.now at.h at.v box_node.now) ≡ false) }
-    ensures err { IfErr result (λ fault. fault
-        ≡ (if is_huge (page_at counts.now at.h at.v box_node.now) then WriteFault.HugePage else WriteFault.OutOfMemory)) }
-{
-    let _counts = *counts;
-    match plan_with_room(alloc, box_node, at, room) {
-        Ok(drawn) => Ok(reuse(drawn)?),
-        Err(ShipFault::HugePage) => Err(WriteFault::HugePage),
-        Err(ShipFault::OutOfMemory) => Err(WriteFault::OutOfMemory),
-    }
 }
 
 /// The instructions before the definitions of a page that follows `pages` others: the preamble before the first page.
@@ -171,30 +75,6 @@ fn opening(alloc: Global, pages: u32) -> Result<Vec<Op<'static>>, AllocError>
         })?;
     }
     Ok(ops)
-}
-
-/// The bottom of the page of a box.
-#[tactic(auto, unfolding(scaled_core::specs::Dimensions::dimension_of))]
-fn reach_down(box_node: &BoxNode, at: PagePoint) -> Dimen
-    requires { fits (at.v +ℤ box_node.now.depth) ≡ true }
-    ensures { result ≡ at.v +ℤ box_node.now.depth }
-{
-    match Dimen::try_new(i64::from(at.v) + i64::from(box_node.depth.get())) {
-        Some(end) => end,
-        None => unreachable!(),
-    }
-}
-
-/// The right edge of the page of a box.
-#[tactic(auto, unfolding(scaled_core::specs::Dimensions::dimension_of))]
-fn reach_right(box_node: &BoxNode, at: PagePoint) -> Dimen
-    requires { fits (at.h +ℤ box_node.now.width) ≡ true }
-    ensures { result ≡ at.h +ℤ box_node.now.width }
-{
-    match Dimen::try_new(i64::from(at.h) + i64::from(box_node.width.get())) {
-        Some(end) => end,
-        None => unreachable!(),
-    }
 }
 
 impl Progress {
@@ -287,7 +167,7 @@ impl Progress {
     /// Adds a page to the numbers: the slots of the fonts that it defines, the place of its bop in its bytes, and its bytes and nodes.
     fn keep_size(&mut self, slots: &[u8], bop: usize, size: usize, load: PageLoad)
         requires slots_bounded { length self.old.defined + length slots.now ≤ 256 }
-        requires within { bop ≤ size }
+        requires bop_bounded { bop ≤ size }
         requires room { self.old.size + size < 2 ^ 31 }
         requires pages { self.old.pages < MAX_PAGES }
         requires nodes { self.old.load.nodes + load.nodes ≤ MAX_SHIPPED_NODES }
@@ -303,13 +183,12 @@ impl Progress {
     }
 
     /// Adds the bottom and the right edge of a page to the numbers.
-    fn keep_reach(&mut self, box_node: &BoxNode, at: PagePoint, counts: &[i32; 10])
-        requires { is_huge (page_at counts.now at.h at.v box_node.now) ≡ false }
-        ensures { self.new ≡ record self.old { tall = int_max self.old.tall (reach_down (page_at counts.now at.h at.v box_node.now)); wide = int_max self.old.wide (reach_right (page_at counts.now at.h at.v box_node.now)) } }
+    fn keep_reach(&mut self, page: &AdmittedPage<'_>)
+        requires { is_huge (shipped_page page.now) ≡ false }
+        ensures { self.new ≡ record self.old { tall = int_max self.old.tall (reach_down (shipped_page page.now)); wide = int_max self.old.wide (reach_right (shipped_page page.now)) } }
     {
-        let _counts = *counts;
-        self.tall = self.tall.max(reach_down(box_node, at));
-        self.wide = self.wide.max(reach_right(box_node, at));
+        self.tall = self.tall.max(reach_down(page));
+        self.wide = self.wide.max(reach_right(page));
     }
 
     /// Adds the depth of a page with this body to the numbers: the greatest number of pushes that are open at once.
@@ -321,33 +200,29 @@ impl Progress {
         self.deep = self.deep.max(deepest);
     }
 
-    /// The page of a box that is sent next. The fault is HugePage exactly where the page is huge, even if memory is refused too, and OutOfMemory
-    /// otherwise.
+    /// The page that is sent next. The fault is HugePage exactly where the page is huge, even if memory is refused too, and OutOfMemory otherwise.
     #[tactic(auto, unfolding(crate::specs::SoFar::with_next, crate::specs::SoFar::next_bytes))]
     pub fn next_page(
         &self,
         alloc: Global,
-        box_node: &BoxNode,
-        at: PagePoint,
-        counts: &[i32; 10],
+        page: &AdmittedPage<'_>,
         fonts: &Fonts,
-        load: PageLoad,
     ) -> Result<NextPage, WriteFault>
-        requires nodes { load.nodes ≡ box_count box_node.now }
-        requires text { load.text ≡ box_text box_node.now }
-        requires room { HasRoom (with_next fonts.now self.now (page_at counts.now at.h at.v box_node.now)) }
-        ensures bytes { IfOk result (λ next. next.bytes.items ≡ next_bytes fonts.now self.now (page_at counts.now at.h at.v box_node.now)) }
-        ensures behind { IfOk result (λ next. next.behind ≡ with_next fonts.now self.now (page_at counts.now at.h at.v box_node.now)) }
-        ensures fits { OnOk result (is_huge (page_at counts.now at.h at.v box_node.now) ≡ false) }
+        requires nodes { page.now.load.nodes ≡ box_count page.now.box_node.now }
+        requires text { page.now.load.text ≡ box_text page.now.box_node.now }
+        requires room { HasRoom (with_next fonts.now self.now (shipped_page page.now)) }
+        ensures bytes { IfOk result (λ next. next.bytes.items ≡ next_bytes fonts.now self.now (shipped_page page.now)) }
+        ensures behind { IfOk result (λ next. next.behind ≡ with_next fonts.now self.now (shipped_page page.now)) }
+        ensures fits { OnOk result (is_huge (shipped_page page.now) ≡ false) }
         ensures err { IfErr result (λ fault. fault
-            ≡ (if is_huge (page_at counts.now at.h at.v box_node.now) then WriteFault.HugePage else WriteFault.OutOfMemory)) }
+            ≡ (if is_huge (shipped_page page.now) then WriteFault.HugePage else WriteFault.OutOfMemory)) }
     {
-        let body = written_body(alloc, box_node, at, counts, room_for(load.nodes))?;
+        let body = written_body(alloc, page)?;
         let (fresh, deepest) = fresh_slots(alloc, fonts, self.defined.as_slice(), &body)?;
-        let (bytes, bop) = self.lay_out(alloc, fonts, &fresh, counts, &body)?;
+        let (bytes, bop) = self.lay_out(alloc, fonts, &fresh, page.counts, &body)?;
         let mut behind = self.copied();
-        behind.keep_size(&fresh, bop, bytes.len(), load);
-        behind.keep_reach(box_node, at, counts);
+        behind.keep_size(&fresh, bop, bytes.len(), page.load);
+        behind.keep_reach(page);
         behind.keep_depth(&body, deepest);
         Ok(NextPage { bytes, behind })
     }

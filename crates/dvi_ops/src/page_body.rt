@@ -37,9 +37,9 @@ pub fn one_behind_another()
 
 /// The meaning with h and v restricted to signed 32 bits equals the meaning where all places on the way are in that range; elsewhere there is none.
 pub fn kept_where_in_range()
-    ensures within { (does : Acts) (f : Forest) (s : DviState)
+    ensures kept_is_meaning { (does : Acts) (f : Forest) (s : DviState)
         → AllByRecursion IsPoint (points does f s) → meaning (kept does) f s ≡ meaning does f s }
-    ensures back { (does : Acts) (f : Forest) (s : DviState) (out : List Mark × DviState)
+    ensures meaning_is_kept { (does : Acts) (f : Forest) (s : DviState) (out : List Mark × DviState)
         → IsPoint (s.place.h, s.place.v) → meaning (kept does) f s ≡ Some out
         → (meaning does f s ≡ Some out) × AllByRecursion IsPoint (points does f s) }
 {}

@@ -168,15 +168,13 @@ fn units_of(units: &Units) -> [u8; 12]
     bytes
 }
 
-/// Each count is in the range of its type. The loop only reads the counts: in a proof, a number in a reference has the range of its type only once it
-/// is read.
-fn counts_fit(counts: &[i32; 10])
+/// The counts of a page fit their fields, since a field has signed 32 bits. This is a fact for the proofs, and the call does nothing: the pattern names
+/// the ten numbers, because a number behind a reference has the range of its type in a proof only once it is named.
+pub fn counts_fit(counts: &[i32; 10])
     ensures ten { length counts.now ≡ 10 }
     ensures fits { AllByRecursion NumberFits counts.now }
 {
-    for count in counts {
-        let _count = *count;
-    }
+    let [_c0, _c1, _c2, _c3, _c4, _c5, _c6, _c7, _c8, _c9] = *counts;
 }
 
 /// Appends the beginning of a page.

@@ -1,6 +1,5 @@
 -- A whole file: its parts make a file, and each refusal has a reason.
-use Rattle.std.proofs.Common.{◌≡◌, ◌≢◌, ◌+◌, ◌-◌, ◌++◌, List, length, replicate, take, drop, ℕ, ℤ, Result, Ok, Err, refl, sym, ◌∙◌, ap, ap₂, subst, inl, inr, length-append, arith}
-use Rattle.std.proofs.lemmas.List.{drop-drop, drop_at, take_at, length-drop, length-take-le}
+use Rattle.std.proofs.Common.{◌≡◌, ◌≢◌, ◌+◌, ◌-◌, ◌++◌, List, length, ℕ, ℤ, Result, Ok, Err, refl, sym, ◌∙◌, ap, ap₂, subst, inl, inr, arith}
 use Rattle.std.specs.Prelude.{IfOk, IfErr}
 use Rattle.std.proofs.lemmas.Grind.{flat_map-append}
 use Rattle.dvi_fonts.specs.Closing.{ClosesTo, IsClosingFault}
@@ -9,18 +8,16 @@ use Rattle.dvi_scan.specs.Chain.{IsChainRefusal}
 use Rattle.dvi_scan.specs.Ends.{HasPostamble}
 use Rattle.dvi_scan.specs.declared.fault.FrameFault.{FrameFault}
 use Rattle.dvi_scan.specs.declared.fault.FrameFault.TheVariants as frames
-use Rattle.dvi_scan.proofs.EndLemmas.{frame_ends, frame_last, one_end}
-use Rattle.dvi_scan.proofs.PlaceLemmas.{same_front}
+use Rattle.dvi_scan.proofs.EndLemmas.{frame_ends, one_end}
 use Rattle.dvi_ops.specs.File.{Frame, IsFile, MarkedPage}
 use Rattle.dvi_ops.specs.Fonts.{WidthsByName, definitions_in, definitions}
-use Rattle.dvi_ops.specs.Instruction.{Definition, Post, Postamble}
-use Rattle.dvi_ops.specs.Table.{Spells}
+use Rattle.dvi_ops.specs.Instruction.{Definition, Postamble}
 use Rattle.dvi_ops.specs.Tokens.{Token, says, written}
 use Rattle.dvi_ops.proofs.Frames.{one_list, one_list_of_pages}
 use Rattle.dvi_scan.specs.Pass.{PassStateView}
 use Rattle.dvi_scan.specs.Passed.{IsFramed}
 use Rattle.dvi_scan.specs.Reached.{IsReached, IsTail, Left, ReadSoFar, before_pages}
-use Rattle.dvi_scan.proofs.PassedLemmas.{passed_file}
+use Rattle.dvi_scan.proofs.PassedLemmas.{frame_parts, passed_file}
 use Rattle.dvi_scan.proofs.ReachedLemmas.{reached_end, reached_first}
 use Rattle.dvi_read.specs.Opened.{Opened, GivesPages, HasFontsOf, HasUnitsOf, IsExact, IsNoFile, IsReadFrom}
 use Rattle.dvi_read.specs.Opening.{HasPages, IsDviFault, IsStray, StartsAt, ForPlaces, InTheChain, AtPost, AfterPost, ForDefinitions}
@@ -83,38 +80,6 @@ finish_refused files bytes post behind last stop chain from ahead seen (faults.B
 finish_refused files bytes post behind last stop chain from ahead seen (faults.Bad bad) has (inr (pages, ended, new, broken)) =
     AfterPost bad post behind last stop chain from ahead seen pages new refl has ended broken
 finish_refused files bytes post behind last stop chain from ahead seen fault has broken = absurd broken
-
--- The places of the parts of each frame.
-frame_parts : (bytes : List ℕ) (post behind last : ℕ) (stop : Postamble) (chain : List ℕ) → IsFramed bytes post behind last stop chain → (g : Frame bytes)
-    → (written g.front ≡ take post bytes) × (written g.tail ≡ take (last - 5 - behind) (drop behind bytes))
-frame_parts bytes post behind last stop chain framed g =
-    let found = frame_ends bytes g in
-    let (lasts, posts, stops) = one_end bytes post last (length (written g.front)) found.0 stop g.stop framed.ends found.1 in
-    let where_last = frame_last bytes g in
-    let front_whole : take post bytes ≡ written g.front = ap₂ (λ (n : ℕ) (x : List ℕ). take n x) posts g.whole ∙ take_at (written g.front) _ (length (written g.front)) refl in
-    let from_post : drop post bytes ≡ g.post ++ (written g.tail ++ (g.ending ++ replicate g.padding 223)) = ap₂ (λ (n : ℕ) (x : List ℕ). drop n x) posts g.whole ∙ drop_at (written g.front) _ (length (written g.front)) refl in
-    let there : take (length g.post) (drop post bytes) ≡ g.post = ap (λ (x : List ℕ). take (length g.post) x) from_post ∙ take_at g.post _ (length g.post) refl in
-    let spelled = subst (λ (x : List ℕ). Spells (Post g.stop) x) (sym there) g.post_spelled in
-    let same = same_front (Post stop) (Post g.stop) (behind - post) (length g.post) (drop post bytes) framed.spelled spelled in
-    let behind_is : behind ≡ post + length g.post = sizes same.1 front_whole from_post in
-    let from_behind : drop behind bytes ≡ written g.tail ++ (g.ending ++ replicate g.padding 223) =
-    ap (λ (n : ℕ). drop n bytes) behind_is ∙ (sym (drop-drop (length g.post) post bytes) ∙ (ap (λ (x : List ℕ). drop (length g.post) x) from_post ∙ drop_at g.post _ (length g.post) refl)) in
-    let tail_size : last - 5 - behind ≡ length (written g.tail) = omega arith in
-    (sym front_whole, sym (ap₂ (λ (n : ℕ) (x : List ℕ). take n x) tail_size from_behind ∙ take_at (written g.tail) _ (length (written g.tail)) refl))
-  where
-    sizes : take (behind - post) (drop post bytes) ≡ take (length g.post) (drop post bytes) → take post bytes ≡ written g.front
-        → drop post bytes ≡ g.post ++ (written g.tail ++ (g.ending ++ replicate g.padding 223)) → behind ≡ post + length g.post
-    sizes same front_whole from_post =
-        let padded = framed.ends.closed.trailed.padded in
-        let low = framed.low in
-        let high = framed.high in
-        let all = length-drop post bytes in
-        let one : length (take (behind - post) (drop post bytes)) ≡ behind - post = length-take-le (behind - post) (drop post bytes) (omega arith) in
-        let whole = ap (λ (x : List ℕ). length x) from_post in
-        let other : length (take (length g.post) (drop post bytes)) ≡ length g.post =
-        length-take-le (length g.post) (drop post bytes) (let size = length-append g.post (written g.tail ++ (g.ending ++ replicate g.padding 223)) in omega arith) in
-        let equal = ap (λ (x : List ℕ). length x) same in
-        omega arith
 
 -- The definitions that were read before post and after it are those of the whole file.
 pub fonts_read : (metrics : WidthsByName) (ahead : List ℤ) (bytes : List ℕ) (post behind last : ℕ) (stop : Postamble) (chain : List ℕ) (seen : ReadSoFar) (new : List Definition)

@@ -71,7 +71,7 @@ impl<'a, 'f> Lines<'a, 'f> {
         requires { PART ≤ vec_capacity piece.old }
         ensures all { lines_ahead self.old ≡ piece.new.items ++ lines_ahead self.new }
         ensures none { result ≡ false → lines_ahead self.old ≡ [] }
-        ensures some { IsTrue result → 0 < length piece.new.items }
+        ensures piece_not_empty { IsTrue result → 0 < length piece.new.items }
         ensures capacity { vec_capacity piece.old ≤ vec_capacity piece.new }
     {
         piece.clear();

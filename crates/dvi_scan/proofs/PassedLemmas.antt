@@ -52,6 +52,38 @@ closed_before metrics front tail right closing =
     (all_both (HasWidths metrics (definitions tail)) (λ (f : ℤ). defined f (definitions front) ≡ defined f (definitions tail)) (selections front) closing
     (front_tail front tail right (all_weaker (HasWidths metrics (definitions tail)) (IsDefined (definitions tail)) (selections front) (has_definition metrics (definitions tail)) closing)))
 
+-- The places of the parts of each frame.
+pub frame_parts : (bytes : List ℕ) (post behind last : ℕ) (stop : Postamble) (chain : List ℕ) → IsFramed bytes post behind last stop chain → (g : Frame bytes)
+    → (written g.front ≡ take post bytes) × (written g.tail ≡ take (last - 5 - behind) (drop behind bytes))
+frame_parts bytes post behind last stop chain framed g =
+    let found = frame_ends bytes g in
+    let (lasts, posts, stops) = one_end bytes post last (length (written g.front)) found.0 stop g.stop framed.ends found.1 in
+    let where_last = frame_last bytes g in
+    let front_whole : take post bytes ≡ written g.front = ap₂ (λ (n : ℕ) (x : List ℕ). take n x) posts g.whole ∙ take_at (written g.front) _ (length (written g.front)) refl in
+    let from_post : drop post bytes ≡ g.post ++ (written g.tail ++ (g.ending ++ replicate g.padding 223)) = ap₂ (λ (n : ℕ) (x : List ℕ). drop n x) posts g.whole ∙ drop_at (written g.front) _ (length (written g.front)) refl in
+    let there : take (length g.post) (drop post bytes) ≡ g.post = ap (λ (x : List ℕ). take (length g.post) x) from_post ∙ take_at g.post _ (length g.post) refl in
+    let spelled = subst (λ (x : List ℕ). Spells (Post g.stop) x) (sym there) g.post_spelled in
+    let same = same_front (Post stop) (Post g.stop) (behind - post) (length g.post) (drop post bytes) framed.spelled spelled in
+    let behind_is : behind ≡ post + length g.post = sizes same.1 front_whole from_post in
+    let from_behind : drop behind bytes ≡ written g.tail ++ (g.ending ++ replicate g.padding 223) =
+    ap (λ (n : ℕ). drop n bytes) behind_is ∙ (sym (drop-drop (length g.post) post bytes) ∙ (ap (λ (x : List ℕ). drop (length g.post) x) from_post ∙ drop_at g.post _ (length g.post) refl)) in
+    let tail_size : last - 5 - behind ≡ length (written g.tail) = omega arith in
+    (sym front_whole, sym (ap₂ (λ (n : ℕ) (x : List ℕ). take n x) tail_size from_behind ∙ take_at (written g.tail) _ (length (written g.tail)) refl))
+  where
+    sizes : take (behind - post) (drop post bytes) ≡ take (length g.post) (drop post bytes) → take post bytes ≡ written g.front
+        → drop post bytes ≡ g.post ++ (written g.tail ++ (g.ending ++ replicate g.padding 223)) → behind ≡ post + length g.post
+    sizes same front_whole from_post =
+        let padded = framed.ends.closed.trailed.padded in
+        let low = framed.low in
+        let high = framed.high in
+        let all = length-drop post bytes in
+        let one : length (take (behind - post) (drop post bytes)) ≡ behind - post = length-take-le (behind - post) (drop post bytes) (omega arith) in
+        let whole = ap (λ (x : List ℕ). length x) from_post in
+        let other : length (take (length g.post) (drop post bytes)) ≡ length g.post =
+        length-take-le (length g.post) (drop post bytes) (let size = length-append g.post (written g.tail ++ (g.ending ++ replicate g.padding 223)) in omega arith) in
+        let equal = ap (λ (x : List ℕ). length x) same in
+        omega arith
+
 -- In a file the first definition of a selected font before post is the first one after post.
 pub one_definition : (metrics : WidthsByName) (bytes : List ℕ) (pages : List MarkedPage) (f : IsFile metrics bytes pages)
     → AllByRecursion (λ n. defined n (definitions (says f.frame.front)) ≡ defined n (definitions (says f.frame.tail))) (selections (says f.frame.front))
@@ -177,16 +209,7 @@ module _ (bytes : List ℕ) (post behind last : ℕ) (stop : Postamble) (chain :
       let g = f.frame in
       let found = frame_ends bytes g in
       let (lasts, posts, stops) = one_end bytes post last (length (written g.front)) found.0 stop g.stop framed.ends found.1 in
-      let where_last = frame_last bytes g in
-      let front_whole : take post bytes ≡ written g.front = ap₂ (λ (n : ℕ) (x : List ℕ). take n x) posts g.whole ∙ take_at (written g.front) _ (length (written g.front)) refl in
-      let from_post : drop post bytes ≡ g.post ++ (written g.tail ++ (g.ending ++ replicate g.padding 223)) = ap₂ (λ (n : ℕ) (x : List ℕ). drop n x) posts g.whole ∙ drop_at (written g.front) _ (length (written g.front)) refl in
-      let there : take (length g.post) (drop post bytes) ≡ g.post = ap (λ (x : List ℕ). take (length g.post) x) from_post ∙ take_at g.post _ (length g.post) refl in
-      let spelled = subst (λ (x : List ℕ). Spells (Post g.stop) x) (sym there) g.post_spelled in
-      let same = same_front (Post stop) (Post g.stop) (behind - post) (length g.post) (drop post bytes) framed.spelled spelled in
-      let behind_is : behind ≡ post + length g.post = sizes same.1 front_whole from_post in
-      let from_behind : drop behind bytes ≡ written g.tail ++ (g.ending ++ replicate g.padding 223) =
-      ap (λ (n : ℕ). drop n bytes) behind_is ∙ (sym (drop-drop (length g.post) post bytes) ∙ (ap (λ (x : List ℕ). drop (length g.post) x) from_post ∙ drop_at g.post _ (length g.post) refl)) in
-      let tail_size : last - 5 - behind ≡ length (written g.tail) = omega arith in
+      let parts = frame_parts bytes post behind last stop chain framed g in
       let links : Links bytes post stop.last_bop (reverse (places 0 g.front)) =
       subst₂ (λ (n : ℕ) (s : Postamble). Links bytes n s.last_bop (reverse (places 0 g.front))) (sym posts) (sym stops) (file_chain metrics bytes pages f) in
       let chains : chain ≡ reverse (places 0 g.front) = one_chain bytes post post stop.last_bop chain (reverse (places 0 g.front)) framed.links links in
@@ -200,8 +223,8 @@ module _ (bytes : List ℕ) (post behind last : ℕ) (stop : Postamble) (chain :
         tail = g.tail;
         front_spelled = g.front_spelled;
         tail_spelled = g.tail_spelled;
-        front_whole = sym front_whole;
-        tail_whole = sym (ap₂ (λ (n : ℕ) (x : List ℕ). take n x) tail_size from_behind ∙ take_at (written g.tail) _ (length (written g.tail)) refl);
+        front_whole = parts.0;
+        tail_whole = parts.1;
         comment = f.comment;
         body = flat_map instructions f.parts;
         front_is = f.front_is ∙ ap (λ (s : Postamble). Pre 2 s.units f.comment ∷ flat_map instructions f.parts) (sym stops);
@@ -213,17 +236,3 @@ module _ (bytes : List ℕ) (post behind last : ℕ) (stop : Postamble) (chain :
         closing = closed_before metrics (says g.front) (says g.tail) f.fonts f.closing;
         named = named;
       }
-    where
-      sizes : take (behind - post) (drop post bytes) ≡ take (length f.frame.post) (drop post bytes) → take post bytes ≡ written f.frame.front
-          → drop post bytes ≡ f.frame.post ++ (written f.frame.tail ++ (f.frame.ending ++ replicate f.frame.padding 223)) → behind ≡ post + length f.frame.post
-      sizes same front_whole from_post =
-          let padded = framed.ends.closed.trailed.padded in
-          let low = framed.low in
-          let high = framed.high in
-          let all = length-drop post bytes in
-          let one : length (take (behind - post) (drop post bytes)) ≡ behind - post = length-take-le (behind - post) (drop post bytes) (omega arith) in
-          let whole = ap (λ (x : List ℕ). length x) from_post in
-          let other : length (take (length f.frame.post) (drop post bytes)) ≡ length f.frame.post =
-          length-take-le (length f.frame.post) (drop post bytes) (let size = length-append f.frame.post (written f.frame.tail ++ (f.frame.ending ++ replicate f.frame.padding 223)) in omega arith) in
-          let equal = ap (λ (x : List ℕ). length x) same in
-          omega arith

@@ -21,7 +21,7 @@ use Rattle.dvi_scan.proofs.LeftLemmas.{behind_bops-append, bops_met, none_missed
 use Rattle.dvi_scan.proofs.PartLemmas.{passes-append}
 
 -- A list before two more, cut at a place.
-take_next : (bytes : List ℕ) (at next : ℕ) → at ≤ next → next ≤ length bytes → take next bytes ≡ take at bytes ++ take (next - at) (drop at bytes)
+pub take_next : (bytes : List ℕ) (at next : ℕ) → at ≤ next → next ≤ length bytes → take next bytes ≡ take at bytes ++ take (next - at) (drop at bytes)
 take_next bytes at next low high =
     let size : length (take at bytes ++ take (next - at) (drop at bytes)) ≡ next =
     length-append (take at bytes) (take (next - at) (drop at bytes)) ∙ (let one = length-take-le at bytes (omega arith) in let rest = length-drop at bytes in let two = length-take-le (next - at) (drop at bytes) (omega arith) in omega arith) in

@@ -7,8 +7,8 @@ use Rattle.dvi_ops.proofs.Appends.{all_append}
 use Rattle.dvi_device.specs.Written.{written_then, GrowsByFront}
 use Rattle.dvi_device.proofs.Tellings.{grown-grown}
 use Rattle.ship_core.specs.Marks.{ShippedPage, is_huge}
-use Rattle.dvi_layout.specs.declared.progress.WriteFault.{WriteFault}
-use Rattle.dvi_layout.specs.declared.progress.WriteFault.TheVariants.{Device, HugePage, JobOver, OutOfMemory}
+use Rattle.dvi_layout.specs.declared.fault.WriteFault.{WriteFault}
+use Rattle.dvi_layout.specs.declared.fault.WriteFault.TheVariants.{Device, HugePage, JobOver, OutOfMemory}
 use Rattle.dvi_layout.specs.Fonts.{Slots}
 use Rattle.dvi_layout.specs.MoreFonts.{Extends}
 use Rattle.dvi_layout.specs.Layout.{front, whole}

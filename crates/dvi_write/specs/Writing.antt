@@ -4,8 +4,8 @@ use Rattle.std.specs.List.{AllByRecursion}
 use Rattle.ship_core.specs.Marks.{ShippedPage}
 use Rattle.dvi_device.specs.Written.{written_then}
 use Rattle.dvi_device.specs.Beginnings.{Beginning}
-use Rattle.dvi_layout.specs.declared.progress.WriteFault.{WriteFault}
-use Rattle.dvi_layout.specs.declared.progress.WriteFault.TheVariants.{JobOver, OutOfMemory, Device}
+use Rattle.dvi_layout.specs.declared.fault.WriteFault.{WriteFault}
+use Rattle.dvi_layout.specs.declared.fault.WriteFault.TheVariants.{JobOver, OutOfMemory, Device}
 use Rattle.dvi_layout.specs.Fonts.{Slots}
 use Rattle.dvi_layout.specs.Limits.{limit_of}
 use Rattle.dvi_layout.specs.Layout.{front}

@@ -1,11 +1,8 @@
 //! The writer of a DVI file: each page goes to a device as it comes, and the end after the last (DVItype, 13 to 20).
 
-ghost use Rattle.std.specs.Prelude.{◌≡◌, length};
-ghost use Rattle.std.specs.List.{AllByRecursion};
-ghost use Rattle.dvi_ops.specs.Spelling.{NumberFits};
-
 use dvi_device::{Device, write_all};
-use dvi_layout::{Fonts, NextPage, Offsets, Progress, WriteFault};
+use dvi_layout::{AdmittedPage, Fonts, NextPage, Offsets, Progress, WriteFault};
+use dvi_ops::counts_fit;
 use node_core::BoxNode;
 use std::alloc::Global;
 use std::marker::Model;
@@ -45,7 +42,7 @@ impl<D: Device> DviWriter<D> {
     ghost use Rattle.dvi_device.specs.Written.{written_then, GrowsByFront};
     ghost use Rattle.dvi_ops.specs.Fonts.{WidthsByName};
     ghost use Rattle.ship_core.specs.Marks.{ShippedPage};
-    ghost use Rattle.dvi_layout.specs.declared.progress.WriteFault.{WriteFault};
+    ghost use Rattle.dvi_layout.specs.declared.fault.WriteFault.{WriteFault};
     ghost use Rattle.dvi_layout.specs.Fonts.{Slots};
     ghost use Rattle.dvi_layout.specs.SoFar.{next_bytes, with_next};
     ghost use Rattle.dvi_layout.specs.Layout.{front, whole};
@@ -149,15 +146,16 @@ impl<D: Device> DviWriter<D> {
         }
         let at = offsets.point_of(box_node);
         let load = self.progress.admit(box_node)?;
-        ten_fit(counts);
+        counts_fit(counts);
         fonts.can_be_defined();
-        match self
-            .progress
-            .next_page(alloc, box_node, at, counts, fonts, load)
-        {
-            Ok(next) => Ok(next),
-            Err(fault) => Err(fault),
-        }
+        let page = AdmittedPage {
+            box_node,
+            at,
+            counts,
+            load,
+        };
+        let next = self.progress.next_page(alloc, &page, fonts)?;
+        Ok(next)
     }
 
     /// Sends the page of a box with these counts: the preamble before the first page, the definitions of the fonts that no earlier page uses, and the
@@ -240,16 +238,5 @@ impl<D: Device> DviWriter<D> {
             pages,
             bytes: size as u64,
         })
-    }
-}
-
-/// Ten counts fit their fields, since a field has signed 32 bits. This is a fact for the proofs: a number in a reference has its range in a proof
-/// only once it is read.
-fn ten_fit(counts: &[i32; 10])
-    ensures ten { length counts.now ≡ 10 }
-    ensures fit { AllByRecursion NumberFits counts.now }
-{
-    for count in counts {
-        let _count = *count;
     }
 }

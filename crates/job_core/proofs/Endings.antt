@@ -9,7 +9,7 @@ use Rattle.dvi_layout.specs.Fonts.{Slots}
 use Rattle.dvi_layout.specs.Layout.{whole}
 use Rattle.dvi_layout.specs.SoFar.{ProgressView}
 use Rattle.dvi_layout.specs.Shippable.{GivesFonts, IsFileOfPages}
-use Rattle.dvi_layout.specs.declared.progress.WriteFault.{WriteFault}
+use Rattle.dvi_layout.specs.declared.fault.WriteFault.{WriteFault}
 use Rattle.dvi_write.specs.Writing.{Writing, HasWritten, MayFail}
 use Rattle.job_machine.specs.State.{State}
 use Rattle.job_machine.specs.Checks.{first_refusal}

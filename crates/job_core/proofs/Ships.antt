@@ -13,9 +13,9 @@ use Rattle.node_core.specs.declared.limits.TheConstants.{MAX_PAGES, MAX_SHIPPED_
 use Rattle.job_commands.specs.Reply.{Reply}
 use Rattle.dvi_device.specs.Written.{GrowsByFront}
 use Rattle.ship_core.specs.Marks.{ShippedPage, is_huge}
-use Rattle.dvi_layout.specs.declared.progress.Offsets.{Offsets}
-use Rattle.dvi_layout.specs.declared.progress.WriteFault.{WriteFault}
-use Rattle.dvi_layout.specs.declared.progress.WriteFault.TheVariants as faults
+use Rattle.dvi_layout.specs.declared.page.Offsets.{Offsets}
+use Rattle.dvi_layout.specs.declared.fault.WriteFault.{WriteFault}
+use Rattle.dvi_layout.specs.declared.fault.WriteFault.TheVariants as faults
 use Rattle.dvi_layout.specs.Fonts.{Slots}
 use Rattle.dvi_layout.specs.Layout.{front}
 use Rattle.dvi_layout.specs.SoFar.{ProgressView, with_next}

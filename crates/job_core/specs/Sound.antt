@@ -2,8 +2,8 @@
 -- public clause speaks of it).
 use Rattle.job_commands.specs.declared.command.Refusal.{Refusal}
 use Rattle.job_commands.specs.declared.command.Refusal.TheVariants as refusals
-use Rattle.dvi_layout.specs.declared.progress.WriteFault.{WriteFault}
-use Rattle.dvi_layout.specs.declared.progress.WriteFault.TheVariants.{JobOver, TooManyPages, TooMuchShipped, TooMuchSpecial, HugePage, OutOfMemory, Device}
+use Rattle.dvi_layout.specs.declared.fault.WriteFault.{WriteFault}
+use Rattle.dvi_layout.specs.declared.fault.WriteFault.TheVariants.{JobOver, TooManyPages, TooMuchShipped, TooMuchSpecial, HugePage, OutOfMemory, Device}
 use Rattle.dvi_write.specs.Writing.{Writing}
 use Rattle.job_machine.specs.State.{State}
 use Rattle.job_state.specs.JobStateView.{JobStateView, state_of}

@@ -3,7 +3,7 @@ use Rattle.std.specs.Prelude.{◌∷◌, [], Bool, false, List, Option, Some, No
 use Rattle.node_core.specs.declared.tree.BoxNode.{BoxNode}
 use Rattle.node_core.specs.declared.params.Params.{Params}
 use Rattle.ship_core.specs.Marks.{ShippedPage, is_huge}
-use Rattle.dvi_layout.specs.declared.progress.Offsets.{Offsets}
+use Rattle.dvi_layout.specs.declared.page.Offsets.{Offsets}
 use Rattle.dvi_layout.specs.Shippable.{page_with}
 use Rattle.job_machine.specs.State.{State}
 

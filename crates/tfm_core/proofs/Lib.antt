@@ -1,6 +1,7 @@
 pub mod LawLemmas
 pub mod ByteLemmas
 pub mod FontLemmas
+pub mod FontReading
 pub mod CharacterSets
 pub mod ProgramLemmas
 pub mod RowLemmas

@@ -7,3 +7,4 @@ pub mod Scaling
 pub mod Words
 pub mod NamedBytes
 pub mod FileWidths
+pub mod FontReads

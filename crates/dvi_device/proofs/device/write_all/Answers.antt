@@ -10,7 +10,7 @@ loop-sent-preserved g c =
     let s = c.loop-sent.sent in
     let n = c.in_ok-sent.field-0 in
     let taken = rw take_rest at c.in_ok-sent.ensures.taken in
-    let within = rw take_rest at c.in_ok-sent.ensures.within in
+    let within = rw take_rest at c.in_ok-sent.ensures.count_bounded in
     record {
       within = omega (arith, within.1, length-drop s xs);
       taken = taken ∙ (ap (λ bytes_written. written_then bytes_written (take n (drop s xs))) c.loop-sent.invariant.taken ∙ grown_more _ xs s n);

@@ -65,6 +65,6 @@ returns-clause-ok c =
     record {
       comment = c.in-Pre.comment.now;
       spelled = pre_spelled c.args.bytes.now c.in-Ok.behind c.in-Ok.op c.in-Pre.id c.in-Pre.units (units c.args.ending.now.stop.units) c.in-Pre.comment c.in-Pre.is version (c.are_same.ensures.yes yes) c.in-Ok.ensures.found;
-      within = c.in-Ok.ensures.within;
+      within = c.in-Ok.ensures.end_bounded;
       units = c.are_positive.ensures.yes positive;
     }

@@ -1,7 +1,7 @@
 use Rattle.std.proofs.Common.{◌≡◌, ◌≤◌, length, nat_eq, false, arith}
 use Rattle.std.proofs.lemmas.Int.{ints}
 use Rattle.dvi_ops.proofs.Numbers.{short_below}
-use Rattle.dvi_ops.proofs.reading.code_of.Goals as goal
+use Rattle.dvi_ops.proofs.operand.code_of.Goals as goal
 
 pub overflow_cast-result : goal.overflow_cast-result
 overflow_cast-result c =

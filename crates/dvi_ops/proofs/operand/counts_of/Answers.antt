@@ -1,5 +1,5 @@
 use Rattle.dvi_ops.proofs.Numbers.{read_words}
-use Rattle.dvi_ops.proofs.reading.counts_of.Goals as goal
+use Rattle.dvi_ops.proofs.operand.counts_of.Goals as goal
 
 pub returns : goal.returns
 returns c =

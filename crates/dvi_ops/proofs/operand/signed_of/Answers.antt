@@ -4,7 +4,7 @@ use Rattle.std.specs.Int.{w32}
 use Rattle.std.specs.Int.RustNames.{FitsSigned}
 use Rattle.dvi_ops.specs.Table.{signed}
 use Rattle.dvi_ops.proofs.Numbers.{signed_fits}
-use Rattle.dvi_ops.proofs.reading.signed_of.Goals as goal
+use Rattle.dvi_ops.proofs.operand.signed_of.Goals as goal
 
 pub overflow_cast-result : goal.overflow_cast-result
 overflow_cast-result c =

@@ -1,7 +1,0 @@
-use Rattle.std.proofs.Common.{take}
-use Rattle.std.specs.List.{AllByRecursion}
-use Rattle.dvi_ops.specs.Spelling.{NumberFits}
-use Rattle.dvi_write.proofs.dvi_writer.ten_fit.Given as goal
-
-abbrev pub invariant-loop-count : goal.invariant-loop-count
-invariant-loop-count l = AllByRecursion NumberFits (take l.count-index l.counts)
