@@ -10,9 +10,7 @@ ghost use Rattle.ship_core.specs.Drawing.{Picture};
 ghost use Rattle.node_core.specs.declared.tree.Node.TheVariants as nodes;
 ghost use Rattle.ship_core.specs.Placing.{IsMarkEnd, point_in, numbers_between, strokes_at, strokes_in, reference_h, reference_v, is_rigid};
 
-use crate::placing::{
-    PagePoint, PagePosition, PlacedItem, place_item, point_at, position_behind,
-};
+use crate::placing::{PagePoint, PagePosition, PlacedItem, place_item, point_at, position_behind};
 use node_core::{BoxNode, Glyph, Kind, Node};
 use pack_core::{Cursor, advance_of};
 
@@ -84,7 +82,13 @@ impl ItemWalk {
     /// Moves past an item at the position `at`, which the walk has reached. Only glue is rounded: after another item the next position is exact, so
     /// no quotient is taken.
     #[inline(always)]
-    pub fn go_past(&mut self, box_node: &BoxNode, begin: &ListOrigin, at: &PagePosition, node: &Node)
+    pub fn go_past(
+        &mut self,
+        box_node: &BoxNode,
+        begin: &ListOrigin,
+        at: &PagePosition,
+        node: &Node,
+    )
         requires items_bounded { self.old.cursor.passed < max_nodes }
         requires at { point_in box_node.now begin.now.h begin.now.v (place_at box_node.now.setting self.old.cursor) ≡ Some at.now }
         ensures cursor { self.new.cursor ≡ one_more box_node.now.kind box_node.now.setting self.old.cursor node.now }
@@ -124,7 +128,12 @@ impl ItemWalk {
     }
 
     /// Moves past the next item, and returns its mark and place; None exactly where one of its numbers does not fit.
-    pub fn step(&mut self, box_node: &BoxNode, begin: &ListOrigin, node: &Node) -> Option<PlacedItem>
+    pub fn step(
+        &mut self,
+        box_node: &BoxNode,
+        begin: &ListOrigin,
+        node: &Node,
+    ) -> Option<PlacedItem>
         requires items_bounded { self.old.cursor.passed < max_nodes }
         requires here { self.old.here ≡ point_in box_node.now begin.now.h begin.now.v (place_at box_node.now.setting self.old.cursor) }
         ensures cursor { OnSome result (self.new.cursor ≡ one_more box_node.now.kind box_node.now.setting self.old.cursor node.now) }
