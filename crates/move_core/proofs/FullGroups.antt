@@ -24,25 +24,25 @@ pub ends_later : (pushed : Bool) (i : Instruction) (rest : List Instruction) (al
     → has_empty_group (is_push i) rest ≡ all
 ends_later pushed i rest all here is = first_false (ends_empty_group pushed i) (has_empty_group (is_push i) rest) all here is
 
--- Whether a push was kept last.
+-- Whether the last instruction is a push.
 abbrev is_after_push : (out : List Instruction) → Bool
 is_after_push [] = false
 is_after_push (i ∷ out) = is_push i
 
-kept_more : (i : Instruction) (rest out : List Instruction) → ends_empty_group (is_after_push out) i ≡ false → trimmed (i ∷ rest) out ≡ trimmed rest (i ∷ out)
-kept_more Pop rest (Push ∷ out) none = absurd (cc)
-kept_more Pop rest [] none = refl
-kept_more Pop rest (last ∷ out) none = refl
-kept_more i rest out none = refl
+trimmed_more : (i : Instruction) (rest out : List Instruction) → ends_empty_group (is_after_push out) i ≡ false → trimmed (i ∷ rest) out ≡ trimmed rest (i ∷ out)
+trimmed_more Pop rest (Push ∷ out) none = absurd (cc)
+trimmed_more Pop rest [] none = refl
+trimmed_more Pop rest (last ∷ out) none = refl
+trimmed_more i rest out none = refl
 
-kept_all : (is out : List Instruction) → has_empty_group (is_after_push out) is ≡ false → trimmed is out ≡ reverse out ++ is
-kept_all [] out none = sym (append-nil (reverse out))
-kept_all (i ∷ rest) out none =
+trimmed_all : (is out : List Instruction) → has_empty_group (is_after_push out) is ≡ false → trimmed is out ≡ reverse out ++ is
+trimmed_all [] out none = sym (append-nil (reverse out))
+trimmed_all (i ∷ rest) out none =
     let here = neither (ends_empty_group (is_after_push out) i) (has_empty_group (is_push i) rest) none in
-    kept_more i rest out here
-    ∙ (kept_all rest (i ∷ out) (ends_later (is_after_push out) i rest false here none)
+    trimmed_more i rest out here
+    ∙ (trimmed_all rest (i ∷ out) (ends_later (is_after_push out) i rest false here none)
     ∙ (ap (λ (front : List Instruction). front ++ rest) (reverse-append (i ∷ []) out) ∙ append_assoc (reverse out) (i ∷ []) rest))
 
 -- The instructions are unchanged where there is no empty group.
-pub kept_whole : (is : List Instruction) → has_empty_group false is ≡ false → trimmed is [] ≡ is
-kept_whole is none = kept_all is [] none
+pub trimmed_whole : (is : List Instruction) → has_empty_group false is ≡ false → trimmed is [] ≡ is
+trimmed_whole is none = trimmed_all is [] none

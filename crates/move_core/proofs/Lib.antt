@@ -3,7 +3,7 @@ pub mod Choices
 pub mod Meanings
 pub mod Pruned
 pub mod Tidy
-pub mod Kept
+pub mod ShorterBodies
 pub mod Laters
 pub mod Flags
 pub mod FullGroups

@@ -131,9 +131,9 @@ rewritten_forest (Group inner f) k outer rest ends =
 pub passes_body : (f : Forest) → rewritten (trimmed (flat f) []) outside_groups ≡ flat (reused f)
 unfolding onto Ends reused
 passes_body f =
-    let kept = flat (pruned f) in
+    let body = flat (pruned f) in
     let last = rewritten_forest (pruned f) nothing_known [] [] (λ axis n. refl) in
     ap (λ (is : List Instruction). rewritten is outside_groups)
     (ap (λ (is : List Instruction). trimmed is []) (sym (append-nil (flat f)))
-    ∙ (trimmed_forest f [] [] ∙ (reverse-onto kept [] ∙ sym (append-nil kept))))
+    ∙ (trimmed_forest f [] [] ∙ (reverse-onto body [] ∙ sym (append-nil body))))
     ∙ (last.1 ∙ append-nil (flat (reused_from nothing_known (pruned f))))

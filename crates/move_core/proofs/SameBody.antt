@@ -17,7 +17,7 @@ use Rattle.move_core.proofs.Meanings.{IsPlain, shown_follows, reused_follows, re
 use Rattle.move_core.proofs.Pruned.{meaning-pruned, points-pruned, nests-pruned, plain-pruned, no_hollow-pruned}
 use Rattle.move_core.proofs.Tidy.{uses_stored, sets_ahead, no_hollow-reused, nests-reused}
 use Rattle.move_core.proofs.Passing.{passes_body}
-use Rattle.move_core.proofs.Kept.{reused_shorter, pruned_shorter, reused_still, pruned_still, reused_writable, pruned_writable}
+use Rattle.move_core.proofs.ShorterBodies.{reused_shorter, pruned_shorter, reused_still, pruned_still, reused_writable, pruned_writable}
 
 -- A body whose instructions use no register.
 pub plain_forest : (f : Forest) → AllByRecursion NamesNoRegister (flat f) → IsPlain f
@@ -78,19 +78,19 @@ if_ok P Q (Ok x) next p = next x p
 if_ok P Q (Err e) next p = tt
 
 -- The passes give the reused body.
-pub gives_reused : (is kept js : List Instruction) (f : Forest) → kept ≡ trimmed is [] → js ≡ rewritten kept outside_groups → is ≡ flat f → js ≡ flat (reused f)
-gives_reused is kept js f trims writes body =
+pub gives_reused : (is middle js : List Instruction) (f : Forest) → middle ≡ trimmed is [] → js ≡ rewritten middle outside_groups → is ≡ flat f → js ≡ flat (reused f)
+gives_reused is middle js f trims writes body =
     writes ∙ (ap (λ (is : List Instruction). rewritten is outside_groups) (trims ∙ ap (λ (is : List Instruction). trimmed is []) body) ∙ passes_body f)
 
 -- A relation between each body without registers and its reused body holds between the input and the output of the passes.
-pub are_bodies : (Related : Forest → Forest → Type 0) (is kept js : List Instruction) → ((f : Forest) → IsPlain f → Related f (reused f)) →
-    IsPlainBody is → kept ≡ trimmed is [] → js ≡ rewritten kept outside_groups → AreBodies Related is js
-are_bodies Related is kept js holds (body, same, plain) trims writes f e =
-    (reused f, gives_reused is kept js f trims writes e, holds f (plain_forest f (subst (AllByRecursion NamesNoRegister) e plain)))
+pub are_bodies : (Related : Forest → Forest → Type 0) (is middle js : List Instruction) → ((f : Forest) → IsPlain f → Related f (reused f)) →
+    IsPlainBody is → middle ≡ trimmed is [] → js ≡ rewritten middle outside_groups → AreBodies Related is js
+are_bodies Related is middle js holds (body, same, plain) trims writes f e =
+    (reused f, gives_reused is middle js f trims writes e, holds f (plain_forest f (subst (AllByRecursion NamesNoRegister) e plain)))
 
 -- The same for relations between the two lists.
-pub are_lists : (Related : List Instruction → List Instruction → Type 0) (is kept js : List Instruction) → ((f : Forest) → Related (flat f) (flat (reused f))) →
-    IsPlainBody is → kept ≡ trimmed is [] → js ≡ rewritten kept outside_groups → Related is js
-are_lists Related is kept js holds (body, same, plain) trims writes =
-    subst (λ (js : List Instruction). Related is js) (sym (gives_reused is kept js body trims writes same))
+pub are_lists : (Related : List Instruction → List Instruction → Type 0) (is middle js : List Instruction) → ((f : Forest) → Related (flat f) (flat (reused f))) →
+    IsPlainBody is → middle ≡ trimmed is [] → js ≡ rewritten middle outside_groups → Related is js
+are_lists Related is middle js holds (body, same, plain) trims writes =
+    subst (λ (js : List Instruction). Related is js) (sym (gives_reused is middle js body trims writes same))
     (subst (λ (is : List Instruction). Related is (flat (reused body))) (sym same) (holds body))

@@ -11,7 +11,7 @@ pub struct AmountSet {
     pub first: [i32; 16],
     pub count: usize,
     pub others: BTreeSet<i32>,
-    ghost few: { count ≤ 16 },
+    ghost count_bounded: { count ≤ 16 },
 }
 
 impl AmountSet {

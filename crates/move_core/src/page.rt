@@ -39,6 +39,6 @@ pub fn reuse<'a>(ops: Vec<BodyOp<'a>>) -> Result<Vec<BodyOp<'a>>, AllocError>
     // The result is the reused body.
     ensures reused { IfOk result (λ written. (body : Forest) → map body_view ops.entry.items ≡ flat body → map body_view written.items ≡ flat (reused body)) }
 {
-    let kept = without_empty_groups(ops)?;
-    with_registers(kept)
+    let trimmed = without_empty_groups(ops)?;
+    with_registers(trimmed)
 }

@@ -10,15 +10,15 @@ use crate::registers::Known;
 use dvi_ops::BodyOp;
 use std::alloc::{AllocError, Global};
 
-/// Keeps one more instruction. A pop removes a push directly before it, and is not kept.
-fn keep<'a>(kept: &mut Vec<BodyOp<'a>>, op: BodyOp<'a>) -> Result<(), AllocError>
+/// Appends an instruction. A pop is not appended directly after a push, and removes it.
+fn append_trimmed<'a>(out: &mut Vec<BodyOp<'a>>, op: BodyOp<'a>) -> Result<(), AllocError>
     ensures { OnOk result ((rest : List Instruction) →
-        trimmed rest (reverse (map body_view kept.new.items)) ≡ trimmed (body_view op.entry ∷ rest) (reverse (map body_view kept.old.items))) }
+        trimmed rest (reverse (map body_view out.new.items)) ≡ trimmed (body_view op.entry ∷ rest) (reverse (map body_view out.old.items))) }
 {
-    if matches!(op, BodyOp::Pop) && matches!(kept.last(), Some(BodyOp::Push)) {
-        kept.pop();
+    if matches!(op, BodyOp::Pop) && matches!(out.last(), Some(BodyOp::Push)) {
+        out.pop();
     } else {
-        kept.push(op)?;
+        out.push(op)?;
     }
     Ok(())
 }
@@ -54,16 +54,16 @@ fn has_empty_group(ops: &[BodyOp<'_>]) -> bool
 /// The instructions without groups that are empty or consist of empty groups alone. Where there is none, the list is returned as it is, and takes no
 /// memory.
 pub fn without_empty_groups<'a>(ops: Vec<BodyOp<'a>>) -> Result<Vec<BodyOp<'a>>, AllocError>
-    ensures { IfOk result (λ kept. map body_view kept.items ≡ trimmed (map body_view ops.entry.items) []) }
+    ensures { IfOk result (λ out. map body_view out.items ≡ trimmed (map body_view ops.entry.items) []) }
 {
     if !has_empty_group(&ops) {
         return Ok(ops);
     }
-    let mut kept = Vec::with_capacity(*ops.allocator(), ops.len())?;
+    let mut out = Vec::with_capacity(*ops.allocator(), ops.len())?;
     for op in &ops {
-        keep(&mut kept, *op)?;
+        append_trimmed(&mut out, *op)?;
     }
-    Ok(kept)
+    Ok(out)
 }
 
 /// Whether an instruction is a movement without a register.
@@ -73,7 +73,7 @@ fn is_move(op: &BodyOp<'_>) -> bool
     matches!(op, BodyOp::Right(_) | BodyOp::Down(_))
 }
 
-/// Keeps the flag of an instruction, if it is a movement without a register.
+/// Appends the flag of an instruction, if it is a movement without a register.
 fn push_flag(flags: &mut Vec<bool>, op: &BodyOp<'_>, again: bool) -> Result<(), AllocError>
     ensures { OnOk result ((rest : List Instruction) → again ≡ again_in (body_view op.now) rest → reverse flags.old.items ≡ flags_of rest →
         reverse flags.new.items ≡ flags_of (body_view op.now ∷ rest)) }
@@ -127,7 +127,7 @@ impl RegisterPass {
     }
 
     /// Processes instruction i, and rewrites it in place where it is a movement.
-    fn turn<'a>(&mut self, ops: &mut Vec<BodyOp<'a>>, i: usize) -> Result<(), AllocError>
+    fn rewrite_op<'a>(&mut self, ops: &mut Vec<BodyOp<'a>>, i: usize) -> Result<(), AllocError>
         requires { i < length ops.old.items }
         ensures { OnOk result (RewritesOp self.old ops.old.items i self.new ops.new.items) }
     {
@@ -152,7 +152,7 @@ pub fn with_registers<'a>(mut ops: Vec<BodyOp<'a>>) -> Result<Vec<BodyOp<'a>>, A
         flags: which_come_again(alloc, &ops)?,
     };
     for i in 0..ops.len() {
-        pass.turn(&mut ops, i)?;
+        pass.rewrite_op(&mut ops, i)?;
     }
     Ok(ops)
 }

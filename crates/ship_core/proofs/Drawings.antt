@@ -11,7 +11,7 @@ use Rattle.node_core.specs.Nodes.{nodes_of}
 use Rattle.node_core.specs.declared.tree.Kind.{Kind}
 use Rattle.dvi_ops.specs.Body as body
 use Rattle.dvi_ops.specs.Forest.{Forest, Then, flat}
-use Rattle.ship_core.specs.Drawing.{Picture, stroke, group, grouped, moved_by, selected, ruled, after_rule, font_after, drawn}
+use Rattle.ship_core.specs.Drawing.{Picture, stroke, group, grouped, moved_by, selected, ruled, after_rule, font_after, body_of_picture}
 use Rattle.ship_core.specs.declared.placing.MarkKind.{MarkKind}
 use Rattle.ship_core.specs.declared.placing.MarkKind.TheVariants as ink
 use Rattle.ship_core.specs.declared.drawing.Drawing.{Drawing}
@@ -34,18 +34,18 @@ flat-selected (Some current) font rest = by_test (int_eq font current)
 -- A rule is drawn by a movement right, one down, and the rule.
 pub flat-drawn_rule :
     (kind : Kind) (h v : ℤ) (current : Option ℤ) (x y height width by : ℤ) (rest : Picture)
-    → flat (drawn kind h v current (stroke (body.Rule x y height width) by rest))
+    → flat (body_of_picture kind h v current (stroke (body.Rule x y height width) by rest))
     ≡ movement Across (x -ℤ h)
-    ++ (movement Downward (y -ℤ v) ++ (Do (ruled kind height width) ∷ flat (drawn kind (after_rule kind x width) y current rest)))
+    ++ (movement Downward (y -ℤ v) ++ (Do (ruled kind height width) ∷ flat (body_of_picture kind (after_rule kind x width) y current rest)))
 flat-drawn_rule kind h v current x y height width by rest =
     flat-moved_by Across (x -ℤ h) _ ∙ ap (λ is. movement Across (x -ℤ h) ++ is) (flat-moved_by Downward (y -ℤ v) _)
 
 -- A glyph is drawn by a movement right, one down, the selection of its font, and the character.
 pub flat-drawn_glyph :
     (kind : Kind) (h v : ℤ) (current : Option ℤ) (font code x y by : ℤ) (rest : Picture)
-    → flat (drawn kind h v current (stroke (body.Glyph font code x y) by rest))
+    → flat (body_of_picture kind h v current (stroke (body.Glyph font code x y) by rest))
     ≡ movement Across (x -ℤ h)
-    ++ (movement Downward (y -ℤ v) ++ (selection current font ++ (Do (SetChar code) ∷ flat (drawn kind (x +ℤ by) y (Some font) rest))))
+    ++ (movement Downward (y -ℤ v) ++ (selection current font ++ (Do (SetChar code) ∷ flat (body_of_picture kind (x +ℤ by) y (Some font) rest))))
 flat-drawn_glyph kind h v current font code x y by rest =
     flat-moved_by Across (x -ℤ h) _
     ∙ ap (λ is. movement Across (x -ℤ h) ++ is) (flat-moved_by Downward (y -ℤ v) _ ∙ ap (λ is. movement Downward (y -ℤ v) ++ is) (flat-selected current font _))
@@ -53,8 +53,8 @@ flat-drawn_glyph kind h v current font code x y by rest =
 -- A special is drawn by a movement right, one down, and the special.
 pub flat-drawn_special :
     (kind : Kind) (h v : ℤ) (current : Option ℤ) (x y : ℤ) (text : List ℕ) (by : ℤ) (rest : Picture)
-    → flat (drawn kind h v current (stroke (body.Special x y text) by rest))
-    ≡ movement Across (x -ℤ h) ++ (movement Downward (y -ℤ v) ++ (Do (Xxx text) ∷ flat (drawn kind x y current rest)))
+    → flat (body_of_picture kind h v current (stroke (body.Special x y text) by rest))
+    ≡ movement Across (x -ℤ h) ++ (movement Downward (y -ℤ v) ++ (Do (Xxx text) ∷ flat (body_of_picture kind x y current rest)))
 flat-drawn_special kind h v current x y text by rest =
     flat-moved_by Across (x -ℤ h) _ ∙ ap (λ is. movement Across (x -ℤ h) ++ is) (flat-moved_by Downward (y -ℤ v) _)
 
@@ -64,7 +64,7 @@ pub ruleset movements = (flat-drawn_rule, flat-drawn_glyph, flat-drawn_special, 
 pub noted_mark :
     (kind : Kind) (before after : List Instruction) (h v : ℤ) (current left : Option ℤ) (x y : ℤ) (text : List ℕ) (end down : ℤ) (rest : Picture)
     → after ≡ ((before ++ movement Across (x -ℤ h)) ++ movement Downward (y -ℤ v)) ++ Do (Xxx text) ∷ [] → end ≡ x → down ≡ y → left ≡ current
-    → before ++ flat (drawn kind h v current (stroke (body.Special x y text) (pos 0) rest)) ≡ after ++ flat (drawn kind end down left rest)
+    → before ++ flat (body_of_picture kind h v current (stroke (body.Special x y text) (pos 0) rest)) ≡ after ++ flat (body_of_picture kind end down left rest)
 noted_mark kind before after h v current left x y text end down rest is edge below font =
     rw (is, edge, below, font) (rw (flat-drawn_special kind h v current x y text (pos 0) rest) (simp append_assoc))
 
@@ -79,9 +79,9 @@ left_by current (ink.Glyph slot code) = Some (pos slot)
 
 drawn_ink :
     (kind : Kind) (before : List Instruction) (h v : ℤ) (current : Option ℤ) (x y width : ℤ) (i : MarkKind) (rest : Picture)
-    → before ++ flat (drawn kind h v current (stroke (mark_with x y width i) width rest))
+    → before ++ flat (body_of_picture kind h v current (stroke (mark_with x y width i) width rest))
     ≡ ((((before ++ movement Across (x -ℤ h)) ++ movement Downward (y -ℤ v)) ++ chosen current i) ++ inked kind width i)
-    ++ flat (drawn kind (h_after_mark kind x width i) y (left_by current i) rest)
+    ++ flat (body_of_picture kind (h_after_mark kind x width i) y (left_by current i) rest)
 drawn_ink kind before h v current x y width (ink.Rule height) rest =
     rw (flat-drawn_rule kind h v current x y height width width rest) (simp append_assoc)
 drawn_ink kind before h v current x y width (ink.Glyph slot code) rest =
@@ -94,7 +94,7 @@ pub drawn_mark :
     → end ≡ h_after_mark kind x width i
     → left ≡ left_by current i
     → down ≡ y
-    → before ++ flat (drawn kind h v current (stroke (mark_with x y width i) width rest)) ≡ after ++ flat (drawn kind end down left rest)
+    → before ++ flat (body_of_picture kind h v current (stroke (mark_with x y width i) width rest)) ≡ after ++ flat (body_of_picture kind end down left rest)
 drawn_mark kind before after h v current left x y width end down i rest is edge font below =
     rw (is, edge, font, below) (drawn_ink kind before h v current x y width i rest)
 

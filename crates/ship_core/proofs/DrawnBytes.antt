@@ -18,7 +18,7 @@ use Rattle.dvi_ops.proofs.Layouts.{length-bytes_of-append}
 use Rattle.dvi_ops.proofs.Spelled.{operand_length}
 use Rattle.dvi_ops.proofs.Shortest.{brief_length, special_length, movement_length, one_byte}
 use Rattle.ship_core.specs.Marks.{ShippedPage, rule_below, rule_tall, rule_wide, marks_of_item, page_v}
-use Rattle.ship_core.specs.Drawing.{Picture, blank, stroke, group, width_in, moved_by, selected, ruled, after_rule, font_after, drawn, picture_of_page, body_of}
+use Rattle.ship_core.specs.Drawing.{Picture, blank, stroke, group, width_in, moved_by, selected, ruled, after_rule, font_after, body_of_picture, picture_of_page, body_of}
 use Rattle.ship_core.specs.Shown.{HasWidth}
 use Rattle.ship_core.proofs.DrawnMarks.{EachStroke, IsByte}
 use Rattle.ship_core.proofs.Pictures.{parts, texts, each_rule, each_glyph, each_behind, few_parts, few_texts}
@@ -74,10 +74,10 @@ IsOfBytes kind (body.Special x y text) by = Unit {0}
 
 -- A stroke takes at most 19 bytes and the text of its special, and a group takes 2 bytes more than its contents.
 pub drawing_bytes :
-    (kind : Kind) (h v : ℤ) (current : Option ℤ) (p : Picture) → EachStroke IsOfBytes kind p → length (bytes_of (flat (drawn kind h v current p))) ≤ 19 * parts p + texts p
+    (kind : Kind) (h v : ℤ) (current : Option ℤ) (p : Picture) → EachStroke IsOfBytes kind p → length (bytes_of (flat (body_of_picture kind h v current p))) ≤ 19 * parts p + texts p
 drawing_bytes kind h v current blank all = omega arith
 drawing_bytes kind h v current (stroke (body.Rule x y height width) by rest) (here, all) =
-    let others = drawn kind (after_rule kind x width) y current rest in
+    let others = body_of_picture kind (after_rule kind x width) y current rest in
     let ink = Then (ruled kind height width) others in
     omega (
       arith,
@@ -88,7 +88,7 @@ drawing_bytes kind h v current (stroke (body.Rule x y height width) by rest) (he
       drawing_bytes kind (after_rule kind x width) y current rest all,
     )
 drawing_bytes kind h v current (stroke (body.Glyph font code x y) by rest) (here, all) =
-    let others = drawn kind (x +ℤ by) y (Some font) rest in
+    let others = body_of_picture kind (x +ℤ by) y (Some font) rest in
     let ink = Then (SetChar code) others in
     omega (
       arith,
@@ -100,7 +100,7 @@ drawing_bytes kind h v current (stroke (body.Glyph font code x y) by rest) (here
       drawing_bytes kind (x +ℤ by) y (Some font) rest all,
     )
 drawing_bytes kind h v current (stroke (body.Special x y text) by rest) (here, all) =
-    let others = drawn kind x y current rest in
+    let others = body_of_picture kind x y current rest in
     let ink = Then (Xxx text) others in
     omega (
       arith,
@@ -111,8 +111,8 @@ drawing_bytes kind h v current (stroke (body.Special x y text) by rest) (here, a
       drawing_bytes kind x y current rest all,
     )
 drawing_bytes kind h v current (group own inner rest) (within, all) =
-    let first = flat (drawn own h v current inner) in
-    let others = flat (drawn kind h v (font_after current inner) rest) in
+    let first = flat (body_of_picture own h v current inner) in
+    let others = flat (body_of_picture kind h v (font_after current inner) rest) in
     omega (
       arith,
       length-append (spelling Push) (bytes_of (first ++ Pop ∷ others)),

@@ -16,7 +16,7 @@ use Rattle.dvi_ops.specs.Forest.{Forest, Then, flat, meaning, nests, ahead, and_
 use Rattle.dvi_ops.specs.Spelling.{NumberFits}
 use Rattle.dvi_ops.specs.Layout.{IsWritable}
 use Rattle.dvi_ops.proofs.Appends.{all_append}
-use Rattle.ship_core.specs.Drawing.{Picture, blank, stroke, group, moved_by, selected, ruled, after_rule, font_after, drawn}
+use Rattle.ship_core.specs.Drawing.{Picture, blank, stroke, group, moved_by, selected, ruled, after_rule, font_after, body_of_picture}
 use Rattle.ship_core.specs.Shown.{at}
 use Rattle.scaled_core.proofs.Fitting.{fits_within}
 
@@ -194,12 +194,12 @@ module _ (widths : Widths) (held : MoveRegisters) where
   -- The body drawn for a picture has its marks, and ends with its font.
   pub drawn_marks :
       (kind : Kind) (h v : ℤ) (current : Option ℤ) (p : Picture) → in_range v ≡ true → EachStroke (IsDrawn widths) kind p
-      → Shows (meaning (kept (acts widths)) (drawn kind h v current p) (at h v held current)) (marks_in p) (font_after current p)
+      → Shows (meaning (kept (acts widths)) (body_of_picture kind h v current p) (at h v held current)) (marks_in p) (font_after current p)
   unfolding shown
   drawn_marks kind h v current blank below all = record { last = at h v held current; left = refl; shows = refl }
   drawn_marks kind h v current (stroke (body.Rule x y height width) by rest) below (seen, all) =
       let later = drawn_marks kind (after_rule kind x width) y current rest (point_within y seen.v) all in
-      let others = drawn kind (after_rule kind x width) y current rest in
+      let others = body_of_picture kind (after_rule kind x width) y current rest in
       record {
         last = later.last;
         left = later.left;
@@ -208,7 +208,7 @@ module _ (widths : Widths) (held : MoveRegisters) where
       }
   drawn_marks kind h v current (stroke (body.Glyph font code x y) by rest) below (can, all) =
       let later = drawn_marks kind (x +ℤ by) y (Some font) rest (point_within y can.v) all in
-      let others = drawn kind (x +ℤ by) y (Some font) rest in
+      let others = body_of_picture kind (x +ℤ by) y (Some font) rest in
       record {
         last = later.last;
         left = later.left;
@@ -218,7 +218,7 @@ module _ (widths : Widths) (held : MoveRegisters) where
       }
   drawn_marks kind h v current (stroke (body.Special x y text) by rest) below (can, all) =
       let later = drawn_marks kind x y current rest (point_within y can.v) all in
-      let others = drawn kind x y current rest in
+      let others = body_of_picture kind x y current rest in
       record {
         last = later.last;
         left = later.left;
@@ -231,8 +231,8 @@ module _ (widths : Widths) (held : MoveRegisters) where
       record {
         last = later.last;
         left = later.left;
-        shows = behind_group (shown (drawn own h v current inner) h v current) (at h v held current).place (marks_in inner) first.last (font_after current inner)
-            (λ t. meaning (kept (acts widths)) (drawn kind h v (font_after current inner) rest) t) first.shows first.left
+        shows = behind_group (shown (body_of_picture own h v current inner) h v current) (at h v held current).place (marks_in inner) first.last (font_after current inner)
+            (λ t. meaning (kept (acts widths)) (body_of_picture kind h v (font_after current inner) rest) t) first.shows first.left
             ∙ ap (ahead (marks_in inner)) later.shows;
       }
 
@@ -258,7 +258,7 @@ writable_rule Vertical height width tall wide = (tt, (tall, wide))
 
 pub drawn_writable :
     (widths : Widths) (kind : Kind) (h v : ℤ) (current : Option ℤ) (p : Picture) → Within 1073741823 h → Within 1073741823 v
-    → EachStroke (IsDrawn widths) kind p → EachStroke IsShort kind p → AllByRecursion IsWritable (flat (drawn kind h v current p))
+    → EachStroke (IsDrawn widths) kind p → EachStroke IsShort kind p → AllByRecursion IsWritable (flat (body_of_picture kind h v current p))
 drawn_writable widths kind h v current blank right low all short = tt
 drawn_writable widths kind h v current (stroke (body.Rule x y height width) by rest) right low (seen, all) (own, short) =
     writable_movement Across (x -ℤ h) _ (difference_fits x h seen.h right)
@@ -276,7 +276,7 @@ drawn_writable widths kind h v current (stroke (body.Special x y text) by rest) 
     (writable_movement Downward (y -ℤ v) _ (difference_fits y v can.v low) ((own, tt), drawn_writable widths kind x y current rest can.h can.v all short))
 drawn_writable widths kind h v current (group own inner rest) right low (within, all) (inside, short) = (
   (tt, tt),
-  all_append IsWritable (flat (drawn own h v current inner)) (Pop ∷ flat (drawn kind h v (font_after current inner) rest))
+  all_append IsWritable (flat (body_of_picture own h v current inner)) (Pop ∷ flat (body_of_picture kind h v (font_after current inner) rest))
       (drawn_writable widths own h v current inner right low within inside)
       ((tt, tt), drawn_writable widths kind h v (font_after current inner) rest right low all short),
 )
@@ -310,7 +310,7 @@ module _ (P : Instruction → Type 0) where
       by_test false = (here, all)
 
   pub each_drawn :
-      HoldsBetween → (kind : Kind) (h v : ℤ) (current : Option ℤ) (p : Picture) → EachStroke IsInked kind p → AllByRecursion P (flat (drawn kind h v current p))
+      HoldsBetween → (kind : Kind) (h v : ℤ) (current : Option ℤ) (p : Picture) → EachStroke IsInked kind p → AllByRecursion P (flat (body_of_picture kind h v current p))
   each_drawn holds kind h v current blank all = tt
   each_drawn holds kind h v current (stroke (body.Rule x y height width) by rest) (here, all) =
       each_movement Across (x -ℤ h) _ (holds.moves Across (x -ℤ h))
@@ -324,7 +324,7 @@ module _ (P : Instruction → Type 0) where
       (each_movement Downward (y -ℤ v) _ (holds.moves Downward (y -ℤ v)) (here, each_drawn holds kind x y current rest all))
   each_drawn holds kind h v current (group own inner rest) (within, all) = (
     holds.push,
-    all_append P (flat (drawn own h v current inner)) (Pop ∷ flat (drawn kind h v (font_after current inner) rest))
+    all_append P (flat (body_of_picture own h v current inner)) (Pop ∷ flat (body_of_picture kind h v (font_after current inner) rest))
         (each_drawn holds own h v current inner within)
         (holds.pop, each_drawn holds kind h v (font_after current inner) rest all),
   )
@@ -345,7 +345,7 @@ module _ (P : Instruction → Type 0) where
   all_inked holds kind (body.Special x y text) by short = holds.specials text short
 
   pub all_drawn :
-      HoldsOfAll → (kind : Kind) (h v : ℤ) (current : Option ℤ) (p : Picture) → EachStroke IsShort kind p → AllByRecursion P (flat (drawn kind h v current p))
+      HoldsOfAll → (kind : Kind) (h v : ℤ) (current : Option ℤ) (p : Picture) → EachStroke IsShort kind p → AllByRecursion P (flat (body_of_picture kind h v current p))
   all_drawn holds kind h v current p short = each_drawn holds.between kind h v current p (stroke_map IsShort IsInked (all_inked holds) kind p short)
 
 -- The depth of the groups of a picture; the body drawn for it opens as many groups.
@@ -367,14 +367,14 @@ nests_selected (Some current) font rest = by_test (int_eq font current)
     by_test true = refl
     by_test false = refl
 
-pub nests-drawn : (kind : Kind) (h v : ℤ) (current : Option ℤ) (p : Picture) → nests (drawn kind h v current p) ≡ groups p
-nests-drawn kind h v current blank = refl
-nests-drawn kind h v current (stroke (body.Rule x y height width) by rest) =
-    nests_moved Across (x -ℤ h) _ ∙ (nests_moved Downward (y -ℤ v) _ ∙ nests-drawn kind (after_rule kind x width) y current rest)
-nests-drawn kind h v current (stroke (body.Glyph font code x y) by rest) =
+pub nests-body_of_picture : (kind : Kind) (h v : ℤ) (current : Option ℤ) (p : Picture) → nests (body_of_picture kind h v current p) ≡ groups p
+nests-body_of_picture kind h v current blank = refl
+nests-body_of_picture kind h v current (stroke (body.Rule x y height width) by rest) =
+    nests_moved Across (x -ℤ h) _ ∙ (nests_moved Downward (y -ℤ v) _ ∙ nests-body_of_picture kind (after_rule kind x width) y current rest)
+nests-body_of_picture kind h v current (stroke (body.Glyph font code x y) by rest) =
     nests_moved Across (x -ℤ h) _
-    ∙ (nests_moved Downward (y -ℤ v) _ ∙ (nests_selected current font _ ∙ nests-drawn kind (x +ℤ by) y (Some font) rest))
-nests-drawn kind h v current (stroke (body.Special x y text) by rest) =
-    nests_moved Across (x -ℤ h) _ ∙ (nests_moved Downward (y -ℤ v) _ ∙ nests-drawn kind x y current rest)
-nests-drawn kind h v current (group own inner rest) =
-    omega (arith, nests-drawn own h v current inner, nests-drawn kind h v (font_after current inner) rest)
+    ∙ (nests_moved Downward (y -ℤ v) _ ∙ (nests_selected current font _ ∙ nests-body_of_picture kind (x +ℤ by) y (Some font) rest))
+nests-body_of_picture kind h v current (stroke (body.Special x y text) by rest) =
+    nests_moved Across (x -ℤ h) _ ∙ (nests_moved Downward (y -ℤ v) _ ∙ nests-body_of_picture kind x y current rest)
+nests-body_of_picture kind h v current (group own inner rest) =
+    omega (arith, nests-body_of_picture own h v current inner, nests-body_of_picture kind h v (font_after current inner) rest)

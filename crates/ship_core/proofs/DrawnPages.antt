@@ -21,7 +21,7 @@ use Rattle.ship_core.specs.Drawing.{width_in, picture_of_page, body_of}
 use Rattle.dvi_ops.specs.Plain.{NamesNoRegister}
 use Rattle.ship_core.specs.Shown.{HasWidth, at}
 use Rattle.ship_core.proofs.Places.{first_of_three, second_of_three, items_fit}
-use Rattle.ship_core.proofs.DrawnMarks.{EachStroke, IsDrawn, IsInked, IsShort, HoldsBetween, HoldsOfAll, every_stroke, all_within, drawn_marks, drawn_writable, each_drawn, all_drawn, nests-drawn}
+use Rattle.ship_core.proofs.DrawnMarks.{EachStroke, IsDrawn, IsInked, IsShort, HoldsBetween, HoldsOfAll, every_stroke, all_within, drawn_marks, drawn_writable, each_drawn, all_drawn, nests-body_of_picture}
 use Rattle.ship_core.proofs.Pictures.{marks-picture, each_rule, each_glyph, each_behind, strokes_drawn, few_groups}
 
 -- The bottom and the right edge of a page that is not huge fit.
@@ -153,7 +153,7 @@ unfolding body_of
 nests_page page =
     omega (
       arith,
-      nests-drawn page.box_node.kind (pos 0) (pos 0) None (picture_of_page page),
+      nests-body_of_picture page.box_node.kind (pos 0) (pos 0) None (picture_of_page page),
       few_groups page.box_node page.h (page_v page) [] page.box_node.list,
     )
 

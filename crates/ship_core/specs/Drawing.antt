@@ -85,18 +85,18 @@ font_after current (group kind inner rest) = font_after (font_after current inne
 -- The body that draws a picture of a list of that kind, where (h, v) is the place and `current` the font. Before each mark come the movements right
 -- and down to it, and before a glyph its font, unless it is the current one. A box is drawn between push and pop, from the current place; after it
 -- the place is the one before it, and the font stays.
-abbrev pub drawn : Kind → (h v : ℤ) → (current : Option ℤ) → Picture → Forest
-drawn kind h v current blank = Empty
-drawn kind h v current (stroke (Rule x y height width) by rest) =
+abbrev pub body_of_picture : Kind → (h v : ℤ) → (current : Option ℤ) → Picture → Forest
+body_of_picture kind h v current blank = Empty
+body_of_picture kind h v current (stroke (Rule x y height width) by rest) =
     moved_by Across (x -ℤ h)
-    (moved_by Downward (y -ℤ v) (Then (ruled kind height width) (drawn kind (after_rule kind x width) y current rest)))
-drawn kind h v current (stroke (Glyph font code x y) by rest) =
+    (moved_by Downward (y -ℤ v) (Then (ruled kind height width) (body_of_picture kind (after_rule kind x width) y current rest)))
+body_of_picture kind h v current (stroke (Glyph font code x y) by rest) =
     moved_by Across (x -ℤ h)
-    (moved_by Downward (y -ℤ v) (selected current font (Then (SetChar code) (drawn kind (x +ℤ by) y (Some font) rest))))
-drawn kind h v current (stroke (Special x y text) by rest) =
-    moved_by Across (x -ℤ h) (moved_by Downward (y -ℤ v) (Then (Xxx text) (drawn kind x y current rest)))
-drawn kind h v current (group own inner rest) =
-    Group (drawn own h v current inner) (drawn kind h v (font_after current inner) rest)
+    (moved_by Downward (y -ℤ v) (selected current font (Then (SetChar code) (body_of_picture kind (x +ℤ by) y (Some font) rest))))
+body_of_picture kind h v current (stroke (Special x y text) by rest) =
+    moved_by Across (x -ℤ h) (moved_by Downward (y -ℤ v) (Then (Xxx text) (body_of_picture kind x y current rest)))
+body_of_picture kind h v current (group own inner rest) =
+    Group (body_of_picture own h v current inner) (body_of_picture kind h v (font_after current inner) rest)
 
 -- The picture of a page.
 abbrev pub picture_of_page : ShippedPage → Picture
@@ -104,4 +104,4 @@ picture_of_page page = picture_after page.box_node page.h (page_v page) [] page.
 
 -- The body of a page, from its origin and without a font.
 unfoldable pub body_of : ShippedPage → Forest
-body_of page = drawn page.box_node.kind (pos 0) (pos 0) None (picture_of_page page)
+body_of page = body_of_picture page.box_node.kind (pos 0) (pos 0) None (picture_of_page page)

@@ -20,7 +20,7 @@ use Rattle.ship_core.specs.declared.placing.MarkKind.{MarkKind}
 use Rattle.ship_core.specs.declared.placing.MarkKind.TheVariants as ink
 use Rattle.ship_core.specs.declared.placing.PlacedMark.{PlacedMark}
 use Rattle.ship_core.specs.declared.drawing.Drawing.{Drawing}
-use Rattle.ship_core.specs.Drawing.{Picture, stroke, width_in, in_front, ruled, after_rule, font_after, drawn}
+use Rattle.ship_core.specs.Drawing.{Picture, stroke, width_in, in_front, ruled, after_rule, font_after, body_of_picture}
 
 -- A point of a page, where both numbers fit.
 abbrev pub point : (h v : ℤ) → Option PagePosition
@@ -89,7 +89,7 @@ inked kind width (ink.Glyph slot code) = Do (SetChar (pos code)) ∷ []
 
 -- The instructions so far, and those for the picture that follows.
 abbrev pub makes : Kind → Drawing → Picture → List Instruction
-makes kind d rest = map body_view d.ops.items ++ flat (drawn kind d.h d.v (option_map pos d.font) rest)
+makes kind d rest = map body_view d.ops.items ++ flat (body_of_picture kind d.h d.v (option_map pos d.font) rest)
 
 -- The font after the picture that follows.
 abbrev pub leaves : Drawing → Picture → Option ℤ

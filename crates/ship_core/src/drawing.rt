@@ -7,7 +7,7 @@ ghost use Rattle.dvi_ops.specs.Forest.{flat};
 ghost use Rattle.dvi_ops.specs.Instruction.{Across, Downward, Do, Push, Pop};
 ghost use Rattle.dvi_ops.specs.View.{body_view};
 ghost use Rattle.dvi_ops.specs.Body.{Special};
-ghost use Rattle.ship_core.specs.Drawing.{Picture, stroke, ruled, drawn};
+ghost use Rattle.ship_core.specs.Drawing.{Picture, stroke, ruled, body_of_picture};
 ghost use Rattle.ship_core.specs.Placing.{IsMarkEnd, strokes_in, inked, makes, leaves, movement, selection};
 
 use crate::placing::{MarkKind, PagePosition, PlacedMark};
@@ -100,7 +100,7 @@ fn append_ink(
 impl<'a> Drawing<'a> {
     /// A drawing without instructions, with capacity for `room` of them. The place is (0, 0), and no font is selected.
     pub fn new(alloc: Global, room: usize) -> Result<Drawing<'a>, AllocError>
-        ensures { IfOk result (λ drawing. (kind : Kind) (rest : Picture) → makes kind drawing rest ≡ flat (drawn kind (pos 0) (pos 0) None rest)) }
+        ensures { IfOk result (λ drawing. (kind : Kind) (rest : Picture) → makes kind drawing rest ≡ flat (body_of_picture kind (pos 0) (pos 0) None rest)) }
     {
         Ok(Drawing {
             ops: Vec::with_capacity(alloc, room)?,
@@ -184,8 +184,8 @@ impl<'a> Drawing<'a> {
         Ok(())
     }
 
-    /// Begins a group, and returns the place before it.
-    pub fn open(&mut self) -> Result<PagePosition, AllocError>
+    /// Appends a push, and returns the place before it.
+    pub fn push(&mut self) -> Result<PagePosition, AllocError>
         ensures h { OnOk result (self.new.h ≡ self.old.h) }
         ensures v { OnOk result (self.new.v ≡ self.old.v) }
         ensures font { OnOk result (self.new.font ≡ self.old.font) }
@@ -199,8 +199,8 @@ impl<'a> Drawing<'a> {
         })
     }
 
-    /// Ends a group that began at the place `before`, and h and v are there again. The selected font stays, since pop does not restore it.
-    pub fn close(&mut self, before: PagePosition) -> Result<(), AllocError>
+    /// Appends a pop for the push at the place `before`: h and v are there again. The selected font stays, since pop does not restore it.
+    pub fn pop(&mut self, before: PagePosition) -> Result<(), AllocError>
         ensures h { OnOk result (self.new.h ≡ before.h) }
         ensures v { OnOk result (self.new.v ≡ before.v) }
         ensures font { OnOk result (self.new.font ≡ self.old.font) }

@@ -2,7 +2,9 @@
 #![tactic(auto)]
 
 mod drawing;
+mod item_walk;
 pub mod laws;
+mod list_drawing;
 pub mod page_plan;
 mod placing;
 mod pushes;

@@ -7,7 +7,7 @@ use Rattle.pack_core.specs.Items.{advance}
 use Rattle.ship_core.specs.Marks.{right_at, down_at}
 use Rattle.ship_core.specs.Placing.{point}
 use Rattle.ship_core.proofs.Walked.{rigid_behind, rigid_more}
-use Rattle.ship_core.proofs.page_plan.ItemWalk.go_past_glyph.Goals as goal
+use Rattle.ship_core.proofs.item_walk.ItemWalk.go_past_glyph.Goals as goal
 
 pub returns-clause-cursor : goal.returns-clause-cursor
 returns-clause-cursor c =

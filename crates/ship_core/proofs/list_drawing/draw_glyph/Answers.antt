@@ -2,7 +2,7 @@ use Rattle.std.proofs.Common.{◌≡◌, ◌∙◌, sym, ap}
 use Rattle.node_core.specs.declared.tree.Node.{Node}
 use Rattle.node_core.specs.declared.tree.Node.TheVariants as nodes
 use Rattle.ship_core.proofs.Walked.{reaches}
-use Rattle.ship_core.proofs.page_plan.draw_glyph.Goals as goal
+use Rattle.ship_core.proofs.list_drawing.draw_glyph.Goals as goal
 
 pub place_glyph-requires : goal.place_glyph-requires
 place_glyph-requires c =

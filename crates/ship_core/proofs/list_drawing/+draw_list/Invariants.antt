@@ -6,7 +6,7 @@ use Rattle.pack_core.specs.Cursors.{reached, place_at}
 use Rattle.ship_core.specs.Marks.{numbers_behind}
 use Rattle.ship_core.specs.Drawing.{picture_after}
 use Rattle.ship_core.specs.Placing.{point_in, makes, leaves}
-use Rattle.ship_core.proofs.page_plan.+draw_list.Given as goal
+use Rattle.ship_core.proofs.list_drawing.+draw_list.Given as goal
 
 abbrev pub decreases-draw_list : goal.decreases-draw_list
 decreases-draw_list l = goal.size-draw_list l

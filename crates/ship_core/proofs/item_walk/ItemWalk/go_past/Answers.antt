@@ -4,7 +4,7 @@ use Rattle.pack_core.specs.Items.{advance}
 use Rattle.ship_core.specs.Marks.{right_at, down_at}
 use Rattle.ship_core.specs.Placing.{point}
 use Rattle.ship_core.proofs.Walked.{rigid_behind, rigid_more}
-use Rattle.ship_core.proofs.page_plan.ItemWalk.go_past.Goals as goal
+use Rattle.ship_core.proofs.item_walk.ItemWalk.go_past.Goals as goal
 
 pub returns-then-is_rigid-clause-cursor : goal.returns-then-is_rigid-clause-cursor
 returns-then-is_rigid-clause-cursor c =

@@ -1,6 +1,6 @@
 use Rattle.std.proofs.Common.{◌≡◌, ◌∙◌, sym, ap}
 use Rattle.ship_core.proofs.Walked.{reaches}
-use Rattle.ship_core.proofs.page_plan.draw_item.Goals as goal
+use Rattle.ship_core.proofs.list_drawing.draw_item.Goals as goal
 
 pub draw_at-requires : goal.draw_at-requires
 draw_at-requires c =

@@ -7,7 +7,7 @@ use Rattle.ship_core.specs.Marks.{right_at, down_at}
 use Rattle.ship_core.specs.Drawing.{Picture}
 use Rattle.ship_core.specs.Placing.{strokes_in, strokes_of, strokes_at, reference_h, reference_v}
 use Rattle.ship_core.proofs.Walked.{point-is, between-none, between-points, strokes-point, found_so, reaches}
-use Rattle.ship_core.proofs.page_plan.ItemWalk.step.Goals as goal
+use Rattle.ship_core.proofs.item_walk.ItemWalk.step.Goals as goal
 
 pub place_item-requires : goal.place_item-requires
 place_item-requires c =

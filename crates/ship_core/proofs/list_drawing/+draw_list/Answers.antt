@@ -16,8 +16,8 @@ use Rattle.ship_core.specs.declared.placing.PagePosition.{PagePosition}
 use Rattle.ship_core.proofs.Drawings.{Draws, then_draws, same_picture, same_drawing, grouped-none, grouped-some, drawn_group}
 use Rattle.ship_core.proofs.Places.{inside, numbers_inside, picture_left, fits_more, picture_more, item_fits, item_strokes, inner_begin, inner_numbers, inner_picture, inner_depth, leaf_numbers, leaf_picture, no_numbers, special_picture, rest_of_and, first_false, second_false, few_passed, reached-none}
 use Rattle.ship_core.proofs.Walked.{told, told_on}
-use Rattle.ship_core.proofs.page_plan.+draw_list.Goals as goal
-use Rattle.ship_core.proofs.page_plan.+draw_list.Goals.{in-Box+then-not-is_empty+in_ok-before-in-Box+in_ok-fit-in-Box+else-not-fit+in_ok-close-in-Box, in-Box+else-not-is_empty, in-Special+in_ok-draw_special-in-Special, in_default-node}
+use Rattle.ship_core.proofs.list_drawing.+draw_list.Goals as goal
+use Rattle.ship_core.proofs.list_drawing.+draw_list.Goals.{in-Box+then-not-is_empty+in_ok-before-in-Box+in_ok-fit-in-Box+else-not-fit+in_ok-pop-in-Box, in-Box+else-not-is_empty, in-Special+in_ok-draw_special-in-Special, in_default-node}
 
 pub loop-node-init : goal.loop-node-init
 loop-node-init t c =
@@ -108,7 +108,7 @@ loop-node-preserved t c =
     (same_picture b.kind first _ _ (picture_more b h v xs i x c.loop-node-test.true c.node-item.is ∙ sym mark))
     (makes_same own, leaves_same own) in
     let within : (true ≡ list_all fits (numbers_inside b x_h x_v x)) × Draws b.kind marked own c.match-node.drawing later = elim c.match-node.branch [
-      | in-Box+then-not-is_empty+in_ok-before-in-Box+in_ok-fit-in-Box+else-not-fit+in_ok-close-in-Box w ↦
+      | in-Box+then-not-is_empty+in_ok-before-in-Box+in_ok-fit-in-Box+else-not-fit+in_ok-pop-in-Box w ↦
           let box = w.in-Box.inner in
           let start = w.begin_of.result in
           let begin = inner_begin b box h v (take i xs) x w.in-Box.field-0 c.loop-node.walk.cursor c.in-Some.at.h c.in-Some.at.v start.h start.v
@@ -122,12 +122,12 @@ loop-node-preserved t c =
           let framed = group box.kind picture later in (
             sym fit ∙ (w.in_ok-fit-in-Box.ensures.fits ∙ sym (ap (list_all fits) numbers)),
             then_draws b.kind marked marked c.match-node.drawing own framed later (same_picture b.kind marked own framed grouped)
-                (then_draws b.kind marked w.close.new.self c.match-node.drawing framed later later
-                (drawn_group b.kind box.kind marked w.open.new.self w.draw_list.new.drawing w.close.new.self picture later
+                (then_draws b.kind marked w.pop.new.self c.match-node.drawing framed later later
+                (drawn_group b.kind box.kind marked w.push.new.self w.draw_list.new.drawing w.pop.new.self picture later
                 w.in_ok-before-in-Box.ensures.ops w.in_ok-before-in-Box.ensures.h w.in_ok-before-in-Box.ensures.v w.in_ok-before-in-Box.ensures.font
-                (w.in_ok-fit-in-Box.ensures.ops fit) (w.in_ok-fit-in-Box.ensures.font fit) w.in_ok-close-in-Box.ensures.ops
-                (w.in_ok-close-in-Box.ensures.h ∙ ap (λ (p : PagePosition). p.h) before) (w.in_ok-close-in-Box.ensures.v ∙ ap (λ (p : PagePosition). p.v) before) w.in_ok-close-in-Box.ensures.font)
-                (same_drawing b.kind w.close.new.self c.match-node.drawing later w.drawing-is)),
+                (w.in_ok-fit-in-Box.ensures.ops fit) (w.in_ok-fit-in-Box.ensures.font fit) w.in_ok-pop-in-Box.ensures.ops
+                (w.in_ok-pop-in-Box.ensures.h ∙ ap (λ (p : PagePosition). p.h) before) (w.in_ok-pop-in-Box.ensures.v ∙ ap (λ (p : PagePosition). p.v) before) w.in_ok-pop-in-Box.ensures.font)
+                (same_drawing b.kind w.pop.new.self c.match-node.drawing later w.drawing-is)),
           )
       | in-Box+else-not-is_empty w ↦
           let box = w.in-Box.inner in
