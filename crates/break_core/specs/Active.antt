@@ -19,7 +19,7 @@ use Rattle.break_core.specs.Passes.{problem_of}
 use Rattle.break_core.specs.Trials.{is_overfull, MayLeave, IsStop, places_up_to}
 use Rattle.break_core.specs.Leaving.{is_long, over_before}
 
--- Whether trying stops after a line, which is overfull or not, and long or not.
+-- Whether the place where a line begins leaves the active list after the line, which is overfull or not, and long or not.
 abbrev pub deactivates : StopRule → (overfull long : Bool) → Bool
 deactivates Never overfull long = false
 deactivates Overfull overfull long = overfull
