@@ -10,11 +10,11 @@ use Rattle.break_lines.specs.Legal.{is_forced}
 use Rattle.break_lines.specs.Facts.{Facts}
 use Rattle.break_lines.specs.Steady.{IsSteady}
 use Rattle.break_core.specs.Filling.{IsGrown}
-use Rattle.break_core.specs.declared.filling.StopRule.{StopRule}
-use Rattle.break_core.specs.declared.filling.StopRule.TheVariants.{Overfull, Long}
+use Rattle.break_core.specs.declared.pass_rules.StopRule.{StopRule}
+use Rattle.break_core.specs.declared.pass_rules.StopRule.TheVariants.{Overfull, Long}
 use Rattle.break_core.specs.Leaving.{is_long}
 use Rattle.break_core.specs.Trials.{is_overfull, is_bounded, MayLeave, passes_run, places_up_to, AreBounded, HasNoTrials}
-use Rattle.break_core.specs.Active.{ends, stops, IsCounted, IsWithin, AreAdded}
+use Rattle.break_core.specs.Active.{deactivates, stops, IsCounted, IsWithin, AreAdded}
 use Rattle.break_core.proofs.Long.{long_of}
 
 -- The counted trials are within the bound of the definition of stops.
@@ -24,14 +24,14 @@ pub within_pass :
     → IsCounted (stops facts params ending) facts.places before now → IsWithin facts params pass before now
 within_pass facts params pass ending before now short long counted a l (inl last) = omega (arith, counted.grown a, last)
 within_pass facts params pass ending before now short long counted a l (inr (earlier, within, inl forced)) =
-    counted.stopped a l earlier within (ap (λ t. t || ends ending (is_overfull facts params a l) (is_long facts params a l)) forced)
+    counted.stopped a l earlier within (ap (λ t. t || deactivates ending (is_overfull facts params a l) (is_long facts params a l)) forced)
 within_pass facts params pass ending before now short long counted a l (inr (earlier, within, inr (inl over))) =
-    let test : ends ending (is_overfull facts params a l) (is_long facts params a l) ≡ true =
-    ap (λ e. ends e (is_overfull facts params a l) (is_long facts params a l)) (short over.0 over.1) ∙ over.2 in
+    let test : deactivates ending (is_overfull facts params a l) (is_long facts params a l) ≡ true =
+    ap (λ e. deactivates e (is_overfull facts params a l) (is_long facts params a l)) (short over.0 over.1) ∙ over.2 in
     counted.stopped a l earlier within (ap (λ t. is_forced (facts.penalty l) || t) test ∙ or-true (is_forced (facts.penalty l)))
 within_pass facts params pass ending before now short long counted a l (inr (earlier, within, inr (inr left))) =
-    let test : ends ending (is_overfull facts params a l) (is_long facts params a l) ≡ true =
-    ap (λ e. ends e (is_overfull facts params a l) (is_long facts params a l)) (long left.0 left.1)
+    let test : deactivates ending (is_overfull facts params a l) (is_long facts params a l) ≡ true =
+    ap (λ e. deactivates e (is_overfull facts params a l) (is_long facts params a l)) (long left.0 left.1)
     ∙ long_of facts params a l left.0.steady within left.2 in
     counted.stopped a l earlier within (ap (λ t. is_forced (facts.penalty l) || t) test ∙ or-true (is_forced (facts.penalty l)))
 

@@ -24,8 +24,8 @@ use Rattle.break_core.specs.declared.broken.Pass.TheVariants.{First, Second, Thi
 use Rattle.break_lines.specs.Facts.{Facts}
 use Rattle.break_core.specs.Passes.{problem_of, bound_of, IsBefore}
 use Rattle.break_core.specs.Filling.{AreEndsInParagraph, IsDecided}
-use Rattle.break_core.specs.declared.filling.StopRule.{StopRule}
-use Rattle.break_core.specs.declared.filling.StopRule.TheVariants.{Never, Overfull, Long}
+use Rattle.break_core.specs.declared.pass_rules.StopRule.{StopRule}
+use Rattle.break_core.specs.declared.pass_rules.StopRule.TheVariants.{Never, Overfull, Long}
 use Rattle.break_core.specs.Active.{pruned, MayEnd}
 use Rattle.break_core.proofs.Detours.{answer_without, none_without}
 

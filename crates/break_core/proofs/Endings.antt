@@ -15,13 +15,13 @@ use Rattle.break_lines.specs.Sizes.{least_width, line_fits, fit_after}
 use Rattle.break_lines.specs.Legal.{is_forced}
 use Rattle.break_lines.specs.Facts.{Facts}
 use Rattle.break_lines.specs.Steady.{IsSteady}
-use Rattle.break_core.specs.declared.filling.StopRule.{StopRule}
-use Rattle.break_core.specs.declared.filling.StopRule.TheVariants.{Never, Overfull, Long}
+use Rattle.break_core.specs.declared.pass_rules.StopRule.{StopRule}
+use Rattle.break_core.specs.declared.pass_rules.StopRule.TheVariants.{Never, Overfull, Long}
 use Rattle.break_core.specs.Passes.{problem_of}
 use Rattle.break_core.specs.Filling.{IsOf, IsOffering, IsOfferingUnless}
 use Rattle.break_core.specs.Trials.{is_overfull}
 use Rattle.break_core.specs.Leaving.{is_long, over_before, is_more, kept_over}
-use Rattle.break_core.specs.Active.{ends, stops, pruned, MayEnd, IsQuiet}
+use Rattle.break_core.specs.Active.{deactivates, stops, pruned, MayEnd, IsQuiet}
 use Rattle.break_core.proofs.Active.{row_passed}
 use Rattle.break_core.proofs.Filled.{fit_is}
 use Rattle.break_core.proofs.Overfull.{no_offer, overfull_quiet}
@@ -49,12 +49,12 @@ over_found f h params a b sums over kept width overfull later is is_over is_over
 pub pruned_is :
     (f h : Facts) (params : Params) (bound : Bound) (ending : StopRule) (g : ActiveGroup) (place : ℕ) (penalty : ℤ) (sums : Sums) (line : LineFits) (left long : Bool)
     → penalty ≡ f.penalty place → line ≡ line_fits params sums → sums ≡ h.sums g.place place → h ≡ f
-    → left ≡ ends ending false long → long ≡ is_long f params g.place place
+    → left ≡ deactivates ending false long → long ≡ is_long f params g.place place
     → (s : BreakState) → s.place ≡ g.place
     → (pruned f params bound ending).line s place
     ≡ cond left None (line_of params bound penalty s.class (fit_after params.first_lines s.lines line))
 pruned_is f h params bound ending g place penalty sums line left long is_penalty is_line is_sums same is_left is_long_line s at =
-    ap (λ t. cond (ends ending false t) None ((problem_of f params bound).line s place)) (ap (λ a. is_long f params a place) at ∙ sym is_long_line)
+    ap (λ t. cond (deactivates ending false t) None ((problem_of f params bound).line s place)) (ap (λ a. is_long f params a place) at ∙ sym is_long_line)
     ∙ ap (λ t. cond t None ((problem_of f params bound).line s place)) (sym is_left)
     ∙ ap (cond left None) (fit_is f h params bound g place penalty sums line is_penalty is_line is_sums same s at)
 
@@ -80,11 +80,11 @@ not_left_out left table params bound group place penalty line old new is offerin
 -- Trying goes on if the place is not forced and trying has not stopped.
 pub goes_on :
     (f : Facts) (params : Params) (ending : StopRule) (a b : ℕ) (o long ended : Bool)
-    → ended ≡ ends ending o long → o ≡ is_overfull f params a b → long ≡ is_long f params a b → is_forced (f.penalty b) ≡ false → ended ≡ false
+    → ended ≡ deactivates ending o long → o ≡ is_overfull f params a b → long ≡ is_long f params a b → is_forced (f.penalty b) ≡ false → ended ≡ false
     → stops f params ending a b ≡ false
 goes_on f params ending a b o long ended is same_over same_long free not_ended =
-    ap (λ t. t || ends ending (is_overfull f params a b) (is_long f params a b)) free ∙ ap (λ t. ends ending t (is_long f params a b)) (sym same_over)
-    ∙ ap (ends ending o) (sym same_long) ∙ sym is ∙ not_ended
+    ap (λ t. t || deactivates ending (is_overfull f params a b) (is_long f params a b)) free ∙ ap (λ t. deactivates ending t (is_long f params a b)) (sym same_over)
+    ∙ ap (deactivates ending o) (sym same_long) ∙ sym is ∙ not_ended
 
 -- If long lines are left out, no entry of a group offers anything after one.
 long_quiet :
@@ -100,7 +100,7 @@ long_quiet facts params bound table b g steady group is k e low high at l behind
 -- If trying has stopped, the entries of the group are quiet.
 pub ended_quiet :
     (f : Facts) (params : Params) (bound : Bound) (table : List Entry) (b : ℕ) (g : ActiveGroup) (ending : StopRule) (o long ended : Bool)
-    → ended ≡ ends ending o long → o ≡ is_overfull f params g.place b → long ≡ is_long f params g.place b → MayEnd ending f params bound
+    → ended ≡ deactivates ending o long → o ≡ is_overfull f params g.place b → long ≡ is_long f params g.place b → MayEnd ending f params bound
     → IsGroup (pruned f params bound ending) table b g → ended ≡ true → IsQuiet (pruned f params bound ending) table (b + 1) g.start g.end
 ended_quiet f params bound table b g Never o long ended is same_over same_long may group yes_ended =
     let no : false ≡ true = sym is ∙ yes_ended in

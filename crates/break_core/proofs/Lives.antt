@@ -11,8 +11,8 @@ use Rattle.break_table.specs.Problems.{Problem}
 use Rattle.break_table.specs.Tables.{Entry, first_entry}
 use Rattle.break_table.proofs.Entries.{get_cases}
 use Rattle.break_lines.specs.Facts.{Facts}
-use Rattle.break_core.specs.declared.filling.StopRule.{StopRule}
-use Rattle.break_core.specs.declared.filling.Live.{Live}
+use Rattle.break_core.specs.declared.pass_rules.StopRule.{StopRule}
+use Rattle.break_core.specs.declared.active_list.Live.{Live}
 use Rattle.break_lines.specs.declared.cost.Bound.{Bound}
 use Rattle.break_core.specs.Leaving.{over_before}
 use Rattle.break_core.specs.Active.{stops, pruned, groups_of, with_group, with_live, AreOver, IsNext, IsActive, IsFilled}

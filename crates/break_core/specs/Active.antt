@@ -12,26 +12,26 @@ use Rattle.break_core.specs.declared.broken.Pass.{Pass}
 use Rattle.break_lines.specs.Legal.{is_forced}
 use Rattle.break_lines.specs.Facts.{Facts}
 use Rattle.break_lines.specs.Steady.{IsSteady}
-use Rattle.break_core.specs.declared.filling.StopRule.{StopRule}
-use Rattle.break_core.specs.declared.filling.StopRule.TheVariants.{Never, Overfull, Long}
-use Rattle.break_core.specs.declared.filling.Live.{Live}
+use Rattle.break_core.specs.declared.pass_rules.StopRule.{StopRule}
+use Rattle.break_core.specs.declared.pass_rules.StopRule.TheVariants.{Never, Overfull, Long}
+use Rattle.break_core.specs.declared.active_list.Live.{Live}
 use Rattle.break_core.specs.Passes.{problem_of}
 use Rattle.break_core.specs.Trials.{is_overfull, MayLeave, IsStop, places_up_to}
 use Rattle.break_core.specs.Leaving.{is_long, over_before}
 
--- Whether trying stops after a line, which is overfull or not, and long or not.
-abbrev pub ends : StopRule → (overfull long : Bool) → Bool
-ends Never overfull long = false
-ends Overfull overfull long = overfull
-ends Long overfull long = long
+-- Whether the place where a line begins leaves the active list after the line, which is overfull or not, and long or not.
+abbrev pub deactivates : StopRule → (overfull long : Bool) → Bool
+deactivates Never overfull long = false
+deactivates Overfull overfull long = overfull
+deactivates Long overfull long = long
 
 -- Whether no line from place a is tried beyond place l.
 abbrev pub stops : Facts → Params → StopRule → (a l : ℕ) → Bool
-stops facts params ending a l = is_forced (facts.penalty l) || ends ending (is_overfull facts params a l) (is_long facts params a l)
+stops facts params ending a l = is_forced (facts.penalty l) || deactivates ending (is_overfull facts params a l) (is_long facts params a l)
 
 -- Whether a line, which is long or not, is left out.
 abbrev pub leaves : StopRule → (long : Bool) → Bool
-leaves ending long = ends ending false long
+leaves ending long = deactivates ending false long
 
 -- A pass without the lines that are left out.
 abbrev pub pruned : Facts → Params → Bound → StopRule → Problem

@@ -15,7 +15,7 @@ use Rattle.break_lines.specs.declared.sizes.LineFits.{LineFits}
 use Rattle.break_lines.specs.declared.cost.Bound.{Bound}
 use Rattle.break_lines.specs.Costs.{line_of, line_after}
 use Rattle.break_lines.specs.SmallCosts.{IsSmallSums}
-use Rattle.break_core.specs.declared.filling.Tried.{Tried}
+use Rattle.break_core.specs.declared.offering.Tried.{Tried}
 use Rattle.break_lines.specs.Sizes.{fit_after}
 use Rattle.break_lines.specs.Facts.{Facts}
 use Rattle.break_core.specs.Passes.{problem_of, bound_of, IsBefore}

@@ -24,10 +24,7 @@ pub fn breaks(alloc: Global, nodes: &[Node], params: &Params) -> Result<Breaks, 
     ensures fault { IfErr result (λ fault. fault ≡ unwrap_or (refusal nodes.now) BreakFault.OutOfMemory) }
 {
     let mut meter = ListMeter::new(alloc, nodes)?;
-    match breaks_of(alloc, &mut meter, params, false) {
-        Ok(breaks) => Ok(breaks),
-        Err(AllocError) => Err(BreakFault::OutOfMemory),
-    }
+    Ok(breaks_of(alloc, &mut meter, params, false)?)
 }
 
 /// The breaks of a paragraph, given by a meter without trials: the same list that `breaks` chooses, but with few trials. The only error is that

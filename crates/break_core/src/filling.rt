@@ -1,52 +1,18 @@
 //! The table of a paragraph in a pass, which is filled place by place.
 
-ghost use Rattle.std.specs.Prelude.{◌≡◌, ◌+◌, ◌<◌, ◌≤◌, ◌++◌, ℕ, true, false, ◌&&◌, [], ◌∷◌, length, replicate, slice_get, Some, None, if◌then◌else◌, OnOk, IfOk};
-ghost use Rattle.break_table.specs.Tables.{Entry, max_places, slots, IsTable, IsRow, IsKept};
-ghost use Rattle.break_lines.specs.Sizes.{line_fits, IsSmallLineFits};
-ghost use Rattle.break_lines.specs.SmallCosts.{IsSmallAlone};
+ghost use Rattle.std.specs.Prelude.{◌≡◌, ◌+◌, ◌<◌, ◌≤◌, false, length, replicate, None, OnOk, IfOk};
+ghost use Rattle.break_table.specs.Tables.{max_places, slots, IsTable, IsRow};
 ghost use Rattle.break_lines.specs.Legal.{is_forced};
-ghost use Rattle.break_core.specs.Filling.{IsOf, CanOffer, IsOffering, IsOfferingUnless, offer_from, IsBestOffer, IsOfferingBest, CountsMayGrow};
-ghost use Rattle.break_core.specs.Leaving.{is_more, kept_over};
-ghost use Rattle.break_core.specs.Active.{ends, stops, leaves, pruned, groups_of, with_live, MayEnd, AreOver, IsActive, IsFilled, IsSwept, IsCounted, TrialsOnlyGrow, WereTried};
+ghost use Rattle.break_core.specs.Filling.{CountsMayGrow};
+ghost use Rattle.break_core.specs.Active.{stops, pruned, groups_of, MayEnd, AreOver, IsActive, IsFilled, IsSwept, IsCounted, TrialsOnlyGrow, WereTried};
 
-use break_lines::{Bound, LineFits, Meter, Sums, fit_both, fit_line, line_after, line_alone};
-use break_table::{ActiveGroup, ActiveNode, LineCost, empty_row, flush_row, offer, put};
-use node_core::Params;
+use crate::active_list::{Live, add_group, is_more, keep_group, kept_over};
+use crate::offering::{Tried, offer_line};
+use crate::pass_rules::Rules;
+use break_lines::Meter;
+use break_table::{ActiveGroup, ActiveNode, empty_row, flush_row};
 use std::alloc::{AllocError, Global};
 use std::mem::swap;
-
-/// When to stop trying lines from a place, besides at forced breaks: never, after an overfull line, or after a long line. A long line passes over a
-/// place to which it is overfull already, and has more overhang than there. It is in no chosen list, so it is left out.
-#[derive(Clone, Copy, Debug, PartialEq, Eq)]
-pub(crate) enum StopRule {
-    Never,
-    Overfull,
-    Long,
-}
-
-/// The rules of a pass: the parameters, the lines that it admits, and when to stop trying lines from a place.
-#[derive(Drop)]
-pub(crate) struct Rules<'a> {
-    pub(crate) params: &'a Params,
-    pub(crate) bound: Bound,
-    pub(crate) ending: StopRule,
-}
-
-/// A line that was tried: the place where it ends, the penalty of a break there, and the sums over its items.
-#[derive(Clone, Copy, Debug, PartialEq, Eq)]
-pub(crate) struct Tried {
-    place: usize,
-    penalty: i32,
-    sums: Sums,
-}
-
-/// A group of entries from which lines are tried. `over` is the width, shrunk as far as possible, of the line to the first place to which it was
-/// overfull.
-#[derive(Clone, Copy, Debug, PartialEq, Eq)]
-pub(crate) struct Live {
-    pub(crate) group: ActiveGroup,
-    pub(crate) over: Option<i64>,
-}
 
 /// The table up to a place, and the groups of its entries from which lines to later places are tried.
 #[derive(Drop)]
@@ -60,230 +26,6 @@ struct Reached {
 struct Offers {
     row: Vec<Option<ActiveNode>>,
     next: Vec<Live>,
-}
-
-impl StopRule {
-    /// Whether trying stops after this line.
-    fn ends(self, overfull: bool, long: bool) -> bool
-        ensures { result ≡ ends self overfull long }
-    {
-        match self {
-            StopRule::Never => false,
-            StopRule::Overfull => overfull,
-            StopRule::Long => long,
-        }
-    }
-}
-
-/// Whether a line of this width, shrunk as far as possible, has more overhang than the first overfull line.
-fn is_more(over: Option<i64>, width: i64) -> bool
-    ensures { result ≡ is_more over width }
-{
-    match over {
-        Some(over) => over < width,
-        None => false,
-    }
-}
-
-/// The value of `over` after a line of this width, shrunk as far as possible.
-fn kept_over(over: Option<i64>, overfull: bool, width: i64) -> Option<i64>
-    ensures { result ≡ kept_over over overfull width }
-{
-    match over {
-        Some(over) => Some(over),
-        None => {
-            if overfull {
-                return Some(width);
-            }
-            None
-        }
-    }
-}
-
-/// Offers the entries of a group for a place, by a line from there that was tried and judged. The line is judged for firstsize and for hsize at once,
-/// and costs that are the same for all entries are computed once, so that there is one trial for each pair of places.
-fn offer_each(
-    row: &mut Vec<Option<ActiveNode>>,
-    table: &[ActiveNode],
-    group: ActiveGroup,
-    rules: &Rules,
-    tried: &Tried,
-    line: &LineFits,
-)
-    requires can { CanOffer rules.now.params.now.first_lines row.old.items table.now group tried.now }
-    requires fit_bounded { IsSmallLineFits line.now }
-    ensures row { IsOffering table.now rules.now.params.now rules.now.bound group tried.now.place tried.now.penalty line.now group.start group.end row.old.items row.new.items }
-    ensures wide { length row.new.items ≡ slots rules.now.params.now.first_lines }
-{
-    let costs = line.alone(rules.params, &rules.bound, tried.penalty);
-    if costs.is_none() {
-        return;
-    }
-    let cut = rules.params.first_lines.get();
-    for index in group.start..group.end {
-        let entry = table[index];
-        let end = entry.end();
-        let offered = costs.after(rules.params, end);
-        offer(row, entry, index, tried.place, offered, cut);
-    }
-}
-
-/// Offers the entries of a group for a place, by a line that was tried from there, unless it is left out. Returns whether the line is overfull after
-/// any number of lines.
-#[cold]
-#[inline(never)]
-fn offer_counted(
-    left: bool,
-    row: &mut Vec<Option<ActiveNode>>,
-    table: &[ActiveNode],
-    group: ActiveGroup,
-    rules: &Rules,
-    tried: &Tried,
-) -> bool
-    requires can { CanOffer rules.now.params.now.first_lines row.old.items table.now group tried.now }
-    ensures row { IsOfferingUnless left table.now rules.now.params.now rules.now.bound group tried.now.place tried.now.penalty (line_fits rules.now.params.now tried.now.sums) row.old.items row.new.items }
-    ensures wide { length row.new.items ≡ slots rules.now.params.now.first_lines }
-    ensures overfull { result ≡ ((line_fits rules.now.params.now tried.now.sums).first.overfull && (line_fits rules.now.params.now tried.now.sums).rest.overfull) }
-{
-    let line = fit_both(&tried.sums, rules.params);
-    if left {
-        return line.is_overfull();
-    }
-    offer_each(row, table, group, rules, tried, &line);
-    line.is_overfull()
-}
-
-/// The offer of an entry of a table for a place by a line, if no lines are counted.
-fn offer_from(
-    table: &[ActiveNode],
-    index: usize,
-    params: &Params,
-    place: usize,
-    alone: &LineCost,
-) -> ActiveNode
-    requires within { index < length table.now }
-    requires uncounted { (e : Entry) → slice_get table.now index ≡ Some e → e.end.lines ≤ 0 }
-    requires later { (e : Entry) → slice_get table.now index ≡ Some e → e.end.place < place }
-    requires places { place ≤ max_places }
-    requires costs_bounded { IsSmallAlone alone.now }
-    ensures { (e : Entry) → slice_get table.now index ≡ Some e → result ≡ offer_from params.now e index place alone.now }
-{
-    let entry = table[index];
-    let line = line_after(params, entry.end().class, alone);
-    entry.extended(index, place, line, 0)
-}
-
-/// The better one of two offers.
-fn lesser(best: ActiveNode, offered: ActiveNode) -> ActiveNode
-    ensures { IsKept (Some best) offered result }
-{
-    if best.is_not_after(offered) {
-        return best;
-    }
-    offered
-}
-
-/// The best offer of the entries of a group for a place by a line, if no lines are counted.
-fn best_offer(
-    table: &[ActiveNode],
-    group: ActiveGroup,
-    params: &Params,
-    place: usize,
-    alone: &LineCost,
-) -> ActiveNode
-    requires some { group.start < group.end }
-    requires within { group.end ≤ length table.now }
-    requires earlier { group.place < place }
-    requires entries { IsOf 0 table.now group }
-    requires places { place ≤ max_places }
-    requires costs_bounded { IsSmallAlone alone.now }
-    ensures { IsBestOffer table.now params.now place alone.now group.start group.end result }
-{
-    let mut best = offer_from(table, group.start, params, place, alone);
-    for index in group.start + 1..group.end {
-        let offered = offer_from(table, index, params, place, alone);
-        best = lesser(best, offered);
-    }
-    best
-}
-
-/// Offers the entries of a group for a place by a line, if no lines are counted. All offers are for one state then, so only the best of them is put
-/// into the row.
-fn offer_best(
-    row: &mut Vec<Option<ActiveNode>>,
-    table: &[ActiveNode],
-    group: ActiveGroup,
-    params: &Params,
-    place: usize,
-    alone: &LineCost,
-)
-    requires wide { length row.old.items ≡ slots 0 }
-    requires rises { group.start ≤ group.end }
-    requires within { group.end ≤ length table.now }
-    requires earlier { group.place < place }
-    requires entries { IsOf 0 table.now group }
-    requires places { place ≤ max_places }
-    requires costs_bounded { IsSmallAlone alone.now }
-    ensures row { IsOfferingBest table.now params.now group place alone.now row.old.items row.new.items }
-    ensures wide { length row.new.items ≡ slots 0 }
-{
-    if group.start == group.end {
-        return;
-    }
-    put(row, best_offer(table, group, params, place, alone), 0);
-}
-
-/// Offers the entries of a group for a place, by a line that was tried from there, unless it is left out. Returns whether the line is overfull after
-/// any number of lines. If no lines are counted, the line is judged only once.
-#[inline(always)]
-fn offer_line(
-    left: bool,
-    row: &mut Vec<Option<ActiveNode>>,
-    table: &[ActiveNode],
-    group: ActiveGroup,
-    rules: &Rules,
-    tried: Tried,
-) -> bool
-    requires can { CanOffer rules.now.params.now.first_lines row.old.items table.now group tried }
-    ensures row { IsOfferingUnless left table.now rules.now.params.now rules.now.bound group tried.place tried.penalty (line_fits rules.now.params.now tried.sums) row.old.items row.new.items }
-    ensures wide { length row.new.items ≡ slots rules.now.params.now.first_lines }
-    ensures overfull { result ≡ ((line_fits rules.now.params.now tried.sums).first.overfull && (line_fits rules.now.params.now tried.sums).rest.overfull) }
-{
-    if rules.params.first_lines.get() > 0 {
-        // Only the address of this copy is taken, so `tried` stays in registers where no lines are counted.
-        let counted = tried;
-        return offer_counted(left, row, table, group, rules, &counted);
-    }
-    let line = fit_line(&tried.sums, rules.params.hsize);
-    if left {
-        return line.overfull;
-    }
-    let Some(alone) = line_alone(rules.params, &rules.bound, tried.penalty, &line) else {
-        return line.overfull;
-    };
-    offer_best(row, table, group, rules.params, tried.place, &alone);
-    line.overfull
-}
-
-/// Appends a group, unless trying lines from it has stopped.
-fn keep_group(lives: &mut Vec<Live>, ended: bool, live: Live) -> Result<(), AllocError>
-    ensures { OnOk result (lives.new.items ≡ (if ended then lives.old.items else (lives.old.items ++ live ∷ []))) }
-{
-    if !ended {
-        lives.push(live)?;
-    }
-    Ok(())
-}
-
-/// Appends the group of a place to those of earlier places, unless it has no entries. If a break at the place is forced, the earlier groups are
-/// removed first.
-fn add_group(lives: &mut Vec<Live>, forced: bool, group: ActiveGroup) -> Result<(), AllocError>
-    ensures { OnOk result (lives.new.items ≡ with_live (if forced then [] else lives.old.items) (record { group = group; over = None })) }
-{
-    if forced {
-        lives.clear();
-    }
-    keep_group(lives, group.start == group.end, Live { group, over: None })
 }
 
 /// Tries the line to a place once from each live group, and carries `over` on to the next place. The function is not inlined, so that its loop has
@@ -325,10 +67,10 @@ fn try_lines<M: Meter>(
             penalty: at.penalty,
             sums,
         };
-        let left = rules.ending.ends(false, long);
+        let left = rules.ending.deactivates(false, long);
         let overfull = offer_line(left, &mut offers.row, table, live.group, rules, tried);
         let over = kept_over(live.over, overfull, width);
-        let ended = rules.ending.ends(overfull, long);
+        let ended = rules.ending.deactivates(overfull, long);
         let kept = Live {
             group: live.group,
             over,

@@ -14,7 +14,7 @@ ghost use Rattle.break_lines.specs.Examples.{sums_of_points};
 ghost use Rattle.break_lines.specs.Facts.{Facts};
 ghost use Rattle.break_lines.specs.Legal.{is_forced, legal_places};
 ghost use Rattle.break_lines.specs.Steady.{IsSteady};
-ghost use Rattle.break_lines.specs.Kept.{BeginsBefore, kept, first_item_kept, sums_of, minus};
+ghost use Rattle.break_lines.specs.LineItems.{BeginsBefore, kept, first_item_kept, sums_of, minus};
 ghost use Rattle.break_core.specs.declared.broken.Pass.{Pass};
 ghost use Rattle.break_core.specs.declared.broken.Breaks.{Breaks};
 ghost use Rattle.break_core.specs.Passes.{problem_of, bound_of, IsBroken};

@@ -8,10 +8,13 @@
 //! `break_lines` measures lists; `vert_core` uses this crate and builds the boxes of the lines.
 #![tactic(auto)]
 
+mod active_list;
 mod breaking;
 mod broken;
 mod filling;
 pub mod laws;
+mod offering;
+mod pass_rules;
 mod passes;
 
 pub use break_lines::{Bound, BreakFault, Breakpoint, ListMeter, Meter, Sums};

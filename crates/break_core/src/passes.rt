@@ -11,7 +11,8 @@ ghost use Rattle.break_core.specs.Filling.{IsGrown, CountsMayGrow, AreEndsInPara
 ghost use Rattle.break_core.specs.Active.{TrialsOnlyGrow, MayEnd, IsWithin, AreAdded};
 
 use crate::broken::{Breaks, LineEnd, Pass};
-use crate::filling::{Rules, StopRule, fill};
+use crate::filling::fill;
+use crate::pass_rules::{Rules, StopRule};
 use break_lines::{Bound, Meter, line_size};
 use break_table::{BreakState, ChosenBreaks, chosen_list};
 use node_core::Params;

@@ -8,7 +8,7 @@ use Rattle.node_core.specs.declared.tree.Node.{Node}
 use Rattle.break_lines.specs.declared.sums.Sums.{Sums}
 use Rattle.break_lines.specs.Sizes.{least_width}
 use Rattle.break_lines.specs.Legal.{legal_places}
-use Rattle.break_lines.specs.Kept.{sums_of, first_item_kept, minus}
+use Rattle.break_lines.specs.LineItems.{sums_of, first_item_kept, minus}
 use Rattle.break_lines.specs.Facts.{Facts, facts_of, position_of, begins_at}
 use Rattle.break_lines.specs.Steady.{IsSteady}
 use Rattle.break_lines.specs.Divided.{IsLess, AddsLess, IsDivided}

@@ -12,7 +12,7 @@ use Rattle.pack_core.specs.Totals.{total}
 use Rattle.pack_core.proofs.Sums.{total-append}
 use Rattle.break_lines.specs.declared.sums.Sums.{Sums}
 use Rattle.break_lines.specs.Legal.{is_dropped}
-use Rattle.break_lines.specs.Kept.{BeginsBefore, at_break, without_first, kept, sums_of, lead, first_item_kept, minus}
+use Rattle.break_lines.specs.LineItems.{BeginsBefore, at_break, without_first, kept, sums_of, lead, first_item_kept, minus}
 
 take_none : (n : ℕ) → take {A = Node} n [] ≡ []
 take_none zero = refl

@@ -13,7 +13,7 @@ use Rattle.pack_core.specs.Totals.{total}
 use Rattle.break_table.proofs.Entries.{get_at}
 use Rattle.break_lines.specs.declared.mark.MeasuredBreak.{MeasuredBreak}
 use Rattle.break_lines.specs.Legal.{legal_places}
-use Rattle.break_lines.specs.Kept.{sums_of, first_item_kept, minus}
+use Rattle.break_lines.specs.LineItems.{sums_of, first_item_kept, minus}
 use Rattle.break_lines.specs.Facts.{facts_of, position_of, begins_at}
 use Rattle.break_lines.specs.Marks.{measured_break, start_mark, marks_of, no_sums, line_between}
 use Rattle.break_lines.specs.Steady.{IsNoNarrower, IsRising}

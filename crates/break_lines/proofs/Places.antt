@@ -12,8 +12,8 @@ use Rattle.node_core.specs.declared.tree.Node.{Node}
 use Rattle.node_core.specs.declared.tree.Node.TheVariants as nodes
 use Rattle.break_lines.specs.Legal.{is_dropped, up_to, is_legal, is_break, node_before, legal_places, penalty_of}
 use Rattle.break_lines.specs.Facts.{position_of, begins_at}
-use Rattle.break_lines.specs.Kept.{BeginsBefore}
-use Rattle.break_lines.specs.Kept.{lead}
+use Rattle.break_lines.specs.LineItems.{BeginsBefore}
+use Rattle.break_lines.specs.LineItems.{lead}
 
 -- One more number is added if it passes the test.
 pub filter_up : (test : ℕ → Bool) (n : ℕ) → filter test (up_to (n + 1)) ≡ filter test (up_to n) ++ cond (test n) (n ∷ []) []

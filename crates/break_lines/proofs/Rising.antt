@@ -7,7 +7,7 @@ use Rattle.std.proofs.lemmas.Bool.{cases_Bool, cases_lt, cond-true, cond-false}
 use Rattle.node_core.specs.declared.tree.Node.{Node}
 use Rattle.break_lines.specs.declared.sums.Sums.{Sums}
 use Rattle.break_lines.specs.Legal.{is_dropped, legal_places}
-use Rattle.break_lines.specs.Kept.{kept, sums_of, lead, first_item_kept, minus}
+use Rattle.break_lines.specs.LineItems.{kept, sums_of, lead, first_item_kept, minus}
 use Rattle.break_lines.specs.Facts.{facts_of, position_of, begins_at}
 use Rattle.break_lines.specs.Steady.{IsNoNarrower, IsRising, IsSteady}
 use Rattle.break_lines.proofs.KeptSums.{kept_sums, kept_some}

@@ -19,7 +19,7 @@ use Rattle.node_core.specs.Nodes.{max_nodes}
 use Rattle.break_lines.specs.declared.sums.Sums.{Sums}
 use Rattle.break_lines.specs.declared.mark.MeasuredBreak.{MeasuredBreak}
 use Rattle.break_lines.specs.Legal.{is_dropped, up_to, is_legal, is_break, node_before, legal_places, penalty_of}
-use Rattle.break_lines.specs.Kept.{sums_of, next_kept}
+use Rattle.break_lines.specs.LineItems.{sums_of, next_kept}
 use Rattle.break_lines.specs.Facts.{refusal}
 use Rattle.break_lines.specs.Marks.{amounts_of, plus, no_sums, measured_break}
 use Rattle.break_lines.specs.SmallMarks.{IsPrefix, IsSmallMark, AreSmallMarks}

@@ -9,7 +9,7 @@ use Rattle.break_lines.specs.declared.sums.Sums.{Sums}
 use Rattle.break_lines.specs.declared.fault.BreakFault.{BreakFault}
 use Rattle.break_lines.specs.declared.fault.BreakFault.TheVariants as faults
 use Rattle.break_lines.specs.Legal.{legal_places, penalty_of}
-use Rattle.break_lines.specs.Kept.{kept, sums_of}
+use Rattle.break_lines.specs.LineItems.{kept, sums_of}
 
 -- The facts about a paragraph: its legal places are numbered from 1, and 0 is its start.
 pub record Facts : Type 0 where

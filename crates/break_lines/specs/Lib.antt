@@ -5,7 +5,7 @@ pub mod SmallCosts
 pub mod Sizes
 pub mod Examples
 pub mod Legal
-pub mod Kept
+pub mod LineItems
 pub mod Facts
 pub mod SmallMarks
 pub mod Steady

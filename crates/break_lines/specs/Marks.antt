@@ -11,7 +11,7 @@ use Rattle.break_lines.specs.declared.sums.Sums.{Sums}
 use Rattle.break_lines.specs.declared.mark.MeasuredBreak.{MeasuredBreak}
 use Rattle.break_lines.specs.declared.walk.BreakWalk.{BreakWalk}
 use Rattle.break_lines.specs.Legal.{up_to, is_legal, legal_places, penalty_of}
-use Rattle.break_lines.specs.Kept.{sums_of, next_kept, minus}
+use Rattle.break_lines.specs.LineItems.{sums_of, next_kept, minus}
 use Rattle.break_lines.specs.Facts.{refusal}
 use Rattle.break_lines.specs.SmallMarks.{IsPrefix, AreSmallMarks}
 

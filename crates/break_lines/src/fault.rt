@@ -1,5 +1,9 @@
 //! Why a paragraph is not broken.
 
+ghost use Rattle.std.specs.Prelude.{◌≡◌};
+ghost use Rattle.break_lines.specs.declared.fault.BreakFault.TheVariants.{OutOfMemory};
+
+use std::alloc::AllocError;
 use thiserror::Error;
 
 /// Why a paragraph is not broken into lines.
@@ -14,4 +18,12 @@ pub enum BreakFault {
     /// Out of memory: an allocation was refused.
     #[error("out of memory")]
     OutOfMemory,
+}
+
+impl From<AllocError> for BreakFault {
+    ghost from_gives = { λ _ fault. fault ≡ OutOfMemory };
+
+    fn from(_error: AllocError) -> BreakFault {
+        BreakFault::OutOfMemory
+    }
 }

@@ -5,7 +5,7 @@
 
 ghost use Rattle.std.specs.Prelude.{◌≡◌, ◌+◌, ℕ};
 ghost use Rattle.node_core.specs.Nodes.{max_nodes};
-ghost use Rattle.break_lines.specs.Kept.{minus};
+ghost use Rattle.break_lines.specs.LineItems.{minus};
 ghost use Rattle.break_lines.specs.Marks.{amounts_of, plus};
 ghost use Rattle.break_lines.specs.SmallMarks.{IsPrefix, IsSmallSums};
 

@@ -31,11 +31,11 @@ pub struct ListMeter<'a> {
     pub(crate) marks: Vec<MeasuredBreak>,
     pub(crate) steady: bool,
     pub(crate) trials: Vec<u64>,
-    ghost short: { length nodes.now ≤ max_nodes },
+    ghost nodes_bounded: { length nodes.now ≤ max_nodes },
     ghost marked: { marks.items ≡ marks_of nodes.now },
-    ghost some: { 0 < length (legal_places nodes.now) },
-    ghost few: { length marks.items ≤ max_places + 1 },
-    ghost small: { AreSmallMarks marks.items },
+    ghost has_legal_places: { 0 < length (legal_places nodes.now) },
+    ghost marks_bounded: { length marks.items ≤ max_places + 1 },
+    ghost mark_sums_bounded: { AreSmallMarks marks.items },
     ghost rises: { steady ≡ true → IsSteady (facts_of nodes.now) },
     ghost falls: { IsSteady (facts_of nodes.now) → steady ≡ true },
     ghost counted: { length trials.items ≡ length marks.items },
@@ -132,5 +132,5 @@ impl<'a> Meter for ListMeter<'a> {
         self.marks[from].line_to(&self.marks[to])
     }
 
-    ghost has_places = { λ m. m.some };
+    ghost has_places = { λ m. m.has_legal_places };
 }

@@ -59,7 +59,7 @@ pub trait Meter {
     /// can.
     fn divided(&self, amount: Dimen) -> bool
         requires steady { IsSteady (facts self.now) }
-        requires some { pos 0 <ℤ amount }
+        requires amount_positive { pos 0 <ℤ amount }
         ensures divided { result ≡ true → IsDivided (facts self.now) amount }
         ensures undivided { IsDivided (facts self.now) amount → result ≡ true };
 

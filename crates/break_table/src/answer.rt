@@ -75,7 +75,7 @@ pub fn chosen_list(
     table: &[ActiveNode],
     places: usize,
 ) -> Result<Option<ChosenBreaks>, AllocError>
-    requires some { 0 < places }
+    requires has_places { 0 < places }
     requires table { IsSomeTable table.now }
     ensures { (p : Problem) → p.places ≡ places → IsTable p (places + 1) table.now →
         IfOk result (λ found. MatchOption found (AdmitsNone p) (IsAnswer p)) }

@@ -82,7 +82,7 @@ impl BreakState {
         requires cut_bounded { cut < 1000 }
         requires counted { self.lines ≤ cut }
         ensures slot { result ≡ slot self }
-        ensures within { result < slots cut }
+        ensures slot_bounded { result < slots cut }
     {
         4 * usize::from(self.lines) + self.class.rank()
     }

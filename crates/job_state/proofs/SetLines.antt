@@ -10,7 +10,7 @@ use Rattle.node_core.specs.declared.tree.Node.TheVariants as nodes
 use Rattle.node_core.specs.Items.{EachLeaf}
 use Rattle.node_core.specs.Nodes.{items_of}
 use Rattle.break_lines.specs.Legal.{is_dropped, up_to}
-use Rattle.break_lines.specs.Kept.{at_break, without_first, kept}
+use Rattle.break_lines.specs.LineItems.{at_break, without_first, kept}
 use Rattle.break_lines.specs.Facts.{facts_of, refusal}
 use Rattle.break_lines.specs.declared.fault.BreakFault.{BreakFault}
 use Rattle.break_lines.specs.declared.fault.BreakFault.TheVariants as breaking

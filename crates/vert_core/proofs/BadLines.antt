@@ -29,7 +29,7 @@ use Rattle.break_lines.specs.Costs.{stretches_forever, fit_short, fit_long, fit_
 use Rattle.break_lines.specs.Sizes.{line_size}
 use Rattle.node_core.specs.Classes.{shrinks_infinitely}
 use Rattle.break_lines.specs.Legal.{is_dropped}
-use Rattle.break_lines.specs.Kept.{at_break, without_first, kept, sums_of}
+use Rattle.break_lines.specs.LineItems.{at_break, without_first, kept, sums_of}
 use Rattle.break_lines.specs.Facts.{position_of, begins_at, facts_of, refusal}
 use Rattle.break_lines.proofs.Refusals.{no_infinite_shrink}
 

@@ -9,7 +9,7 @@ use Rattle.node_core.specs.declared.tree.Node.{Node}
 use Rattle.node_core.specs.declared.tree.Node.TheVariants as nodes
 use Rattle.node_core.specs.Classes.{class_of, is_discardable}
 use Rattle.break_lines.specs.Legal.{is_dropped}
-use Rattle.break_lines.specs.Kept.{at_break, without_first, kept}
+use Rattle.break_lines.specs.LineItems.{at_break, without_first, kept}
 
 -- The items that are dropped at the beginning of a line are those of three classes.
 pub dropped_class : (x : Node) → is_dropped x ≡ is_discardable (class_of x)

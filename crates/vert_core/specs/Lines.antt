@@ -15,7 +15,7 @@ use Rattle.scaled_core.specs.Dimensions.{fits}
 use Rattle.break_lines.specs.Sizes.{line_size}
 use Rattle.break_core.specs.declared.broken.LineEnd.{LineEnd}
 use Rattle.break_lines.specs.Legal.{up_to}
-use Rattle.break_lines.specs.Kept.{kept}
+use Rattle.break_lines.specs.LineItems.{kept}
 use Rattle.vert_core.specs.Interline.{interline, glue_of, appended}
 
 -- A paragraph that is broken into lines: its finished list, the places where its lines end, in order, the parameters, and the previous depth of the

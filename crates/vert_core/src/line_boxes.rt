@@ -4,7 +4,7 @@ ghost use Rattle.std.specs.Prelude.{◌≡◌, ◌≤◌, ◌+◌, ◌++◌, ◌
 ghost use Rattle.std.specs.List.{cons_option};
 ghost use Rattle.std.specs.Result.{is_ok};
 ghost use Rattle.node_core.specs.Nodes.{max_nodes, items_of, nodes_of};
-ghost use Rattle.break_lines.specs.Kept.{at_break, without_first, kept};
+ghost use Rattle.break_lines.specs.LineItems.{at_break, without_first, kept};
 ghost use Rattle.vert_core.specs.Lines.{boxed_line, items_fit};
 
 use node_core::{BoxNode, Node, NodeList};

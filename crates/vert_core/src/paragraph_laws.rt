@@ -8,7 +8,7 @@ ghost use Rattle.node_core.specs.Parameters.{first_params};
 ghost use Rattle.vert_core.specs.Interline.{interline, glue_of, appended};
 ghost use Rattle.vert_core.specs.Lines.{line_box, penalty_nodes, vertical_items, last_depth};
 ghost use Rattle.break_lines.specs.Facts.{position_of, begins_at, facts_of, refusal};
-ghost use Rattle.break_lines.specs.Kept.{kept};
+ghost use Rattle.break_lines.specs.LineItems.{kept};
 ghost use Rattle.break_lines.specs.Costs.{line_fit};
 ghost use Rattle.break_lines.specs.Sizes.{line_size};
 ghost use Rattle.pack_core.specs.declared.pack.Packed.{Packed};

@@ -1,6 +1,6 @@
 use Rattle.std.proofs.Common.{◌≡◌, ◌∙◌, ◌+◌, ℕ, [], ◌∷◌, None, replicate, refl, ap, sym, subst, rules, arith}
 use Rattle.break_table.specs.Tables.{slots, first_entry}
-use Rattle.break_core.specs.declared.filling.Live.{Live}
+use Rattle.break_core.specs.declared.active_list.Live.{Live}
 use Rattle.break_core.specs.Active.{stops, pruned, groups_of, AreOver, IsFilled, IsSwept}
 use Rattle.break_core.proofs.Counts.{counted_none, counted_more, kept_none, kept_on, started_more}
 use Rattle.break_core.proofs.Lives.{filled_start, over_first}

@@ -3,7 +3,7 @@ use Rattle.std.proofs.lemmas.Int.{ints}
 use Rattle.std.proofs.lemmas.List.{length-map}
 use Rattle.std.proofs.lemmas.Option.{slice_get_within}
 use Rattle.break_lines.specs.Sizes.{least_width, line_fits}
-use Rattle.break_core.specs.declared.filling.Live.{Live}
+use Rattle.break_core.specs.declared.active_list.Live.{Live}
 use Rattle.break_core.specs.Trials.{is_overfull}
 use Rattle.break_core.specs.Leaving.{is_long}
 use Rattle.break_core.specs.Active.{stops, pruned, groups_of}
@@ -102,8 +102,8 @@ loop-live-preserved g c =
     let is_long_line : long ≡ is_long f params group.place c.args.place =
     long_found f h params group.place c.args.place sums live.over width long c.is_more-long.ensures over is_width
     c.try_line-sums.ensures.sums inv.facts in
-    let tried = pruned_is f h params bound ending group c.args.place (to_z w32 (of_z w32 c.place-at.result.penalty)) sums line c.ends-left.result long
-    (penalty ∙ c.place-at.ensures.penalty) refl c.try_line-sums.ensures.sums inv.facts c.ends-left.ensures is_long_line in
+    let tried = pruned_is f h params bound ending group c.args.place (to_z w32 (of_z w32 c.place-at.result.penalty)) sums line c.deactivates-left.result long
+    (penalty ∙ c.place-at.ensures.penalty) refl c.try_line-sums.ensures.sums inv.facts c.deactivates-left.ensures is_long_line in
     let kept : Live = record { group = group; over = c.kept_over-over.result } in
     record {
       wide = c.offer_line-overfull.ensures.wide;
@@ -124,11 +124,11 @@ loop-live-preserved g c =
       row = c.offer_line-overfull.ensures.row p refl next.group.since tried
           (row_quiet p table c.args.place inv.at group.start c.loop-live.offers.row.items next.gap c.requires.last next.quiet inv.row);
       front = front_more p stop table c.args.place c.args.place inv.at inv.low (groups_of c.loop-live.offers.next.items)
-          (groups_of c.keep_group.new.lives.items) group c.ends-ended.result inv.front next
-          (goes_on f params ending group.place c.args.place overfull long c.ends-ended.result c.ends-ended.ensures is_over is_long_line)
-          (ended_quiet f params bound table c.args.place group ending overfull long c.ends-ended.result c.ends-ended.ensures is_over is_long_line c.requires.may next.group)
-          (groups_kept c.ends-ended.result c.loop-live.offers.next.items c.keep_group.new.lives.items kept c.in_ok-keep_group.ensures);
-      over = over_kept f params (c.args.place + 1) c.ends-ended.result c.loop-live.offers.next.items c.keep_group.new.lives.items kept inv.over
+          (groups_of c.keep_group.new.lives.items) group c.deactivates-ended.result inv.front next
+          (goes_on f params ending group.place c.args.place overfull long c.deactivates-ended.result c.deactivates-ended.ensures is_over is_long_line)
+          (ended_quiet f params bound table c.args.place group ending overfull long c.deactivates-ended.result c.deactivates-ended.ensures is_over is_long_line c.requires.may next.group)
+          (groups_kept c.deactivates-ended.result c.loop-live.offers.next.items c.keep_group.new.lives.items kept c.in_ok-keep_group.ensures);
+      over = over_kept f params (c.args.place + 1) c.deactivates-ended.result c.loop-live.offers.next.items c.keep_group.new.lives.items kept inv.over
           (over_found f h params group.place c.args.place sums live.over c.kept_over-over.result width overfull next.group.earlier
           c.kept_over-over.ensures over is_over is_width c.try_line-sums.ensures.sums inv.facts)
           c.in_ok-keep_group.ensures;

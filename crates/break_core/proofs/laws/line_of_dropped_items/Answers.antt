@@ -1,6 +1,6 @@
 use Rattle.std.proofs.Common.{refl}
 use Rattle.break_lines.specs.Legal.{is_dropped, is_glue, is_break, is_legal}
-use Rattle.break_lines.specs.Kept.{sums_of}
+use Rattle.break_lines.specs.LineItems.{sums_of}
 use Rattle.break_core.proofs.laws.line_of_dropped_items.Goals as goal
 
 pub returns-clause-places : goal.returns-clause-places

@@ -1,6 +1,6 @@
 use Rattle.std.proofs.Common.{refl}
 use Rattle.pack_core.specs.ListTotals.{totals_of}
-use Rattle.break_lines.specs.Kept.{sums_of}
+use Rattle.break_lines.specs.LineItems.{sums_of}
 use Rattle.break_core.proofs.laws.sums_are_totals.Goals as goal
 
 pub returns-clause-width : goal.returns-clause-width

@@ -37,4 +37,4 @@ returns c = λ p same is.
       overhang = to_z w64 (of_z w64 c.overhang.result);
       demerits = to_z w64 (of_z w64 c.demerits.result);
     })
-    same c.requires.some is best stands c.in_ok-ends.ensures (omega (arith, ints)) (omega (arith, ints))
+    same c.requires.has_places is best stands c.in_ok-ends.ensures (omega (arith, ints)) (omega (arith, ints))

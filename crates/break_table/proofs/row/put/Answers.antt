@@ -10,7 +10,7 @@ returns-then-replaces-clause-put c =
     let o = c.args.offered in
     let row = c.args.row.now.items in
     let here : c.slot-slot.result ≡ slot o.end = c.slot-slot.ensures.slot ∙ ap slot c.end.ensures.end in
-    let was = slice_get_read row (length row) c.slot-slot.result c.index.result.now refl (omega (arith, c.slot-slot.ensures.within, c.requires.wide)) c.index.ensures in
+    let was = slice_get_read row (length row) c.slot-slot.result c.index.result.now refl (omega (arith, c.slot-slot.ensures.slot_bounded, c.requires.wide)) c.index.ensures in
     record {
       held = c.index.result.now;
       stood = ap (slice_get row) (sym here) ∙ was;
@@ -24,7 +24,7 @@ returns-else-replaces-clause-put c =
     let o = c.args.offered in
     let row = c.args.row.now.items in
     let here : c.slot-slot.result ≡ slot o.end = c.slot-slot.ensures.slot ∙ ap slot c.end.ensures.end in
-    let was = slice_get_read row (length row) c.slot-slot.result c.index.result.now refl (omega (arith, c.slot-slot.ensures.within, c.requires.wide)) c.index.ensures in
+    let was = slice_get_read row (length row) c.slot-slot.result c.index.result.now refl (omega (arith, c.slot-slot.ensures.slot_bounded, c.requires.wide)) c.index.ensures in
     let stays = c.replaces.ensures.no c.if-replaces.false in
     record {
       held = c.index.result.now;

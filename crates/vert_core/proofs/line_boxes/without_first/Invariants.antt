@@ -1,5 +1,5 @@
 use Rattle.std.proofs.Common.{◌≡◌, drop}
-use Rattle.break_lines.specs.Kept.{without_first}
+use Rattle.break_lines.specs.LineItems.{without_first}
 use Rattle.vert_core.proofs.line_boxes.without_first.Given as goal
 
 abbrev pub invariant-loop-index : goal.invariant-loop-index

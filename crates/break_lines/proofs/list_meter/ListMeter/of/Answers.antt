@@ -19,11 +19,11 @@ invariant_of-result c =
     let marked : IsMarked list marks = rw c.in-Some.is at c.in_ok-marks.ensures in
     let long : c.len.result ≡ length marks = search rules in
     record {
-      short = c.requires.list_bounded;
+      nodes_bounded = c.requires.list_bounded;
       marked = marked.marks;
-      some = some_place list;
-      few = omega (arith, count_is list marks marked.marks, few_places list marked.fits);
-      small = marked.small;
+      has_legal_places = some_place list;
+      marks_bounded = omega (arith, count_is list marks marked.marks, few_places list marked.fits);
+      mark_sums_bounded = marked.small;
       rises = λ rising. c.is_steady-steady.ensures.yes list (c.deref.ensures.value ∙ marked.marks) rising;
       falls = λ steady. c.is_steady-steady.ensures.no list (c.deref.ensures.value ∙ marked.marks) steady;
       counted = ap length c.in_ok-trials.ensures ∙ length-replicate c.len.result 0 ∙ long;

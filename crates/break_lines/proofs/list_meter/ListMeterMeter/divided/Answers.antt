@@ -3,4 +3,4 @@ use Rattle.break_lines.specs.SmallMarks.{AreSmallMarks}
 use Rattle.break_lines.proofs.list_meter.ListMeterMeter.divided.Goals as goal
 
 pub is_divided-requires-clause-marks_bounded : goal.is_divided-requires-clause-marks_bounded
-is_divided-requires-clause-marks_bounded c = subst AreSmallMarks (sym c.deref.ensures.value) c.args.self.now.small
+is_divided-requires-clause-marks_bounded c = subst AreSmallMarks (sym c.deref.ensures.value) c.args.self.now.mark_sums_bounded

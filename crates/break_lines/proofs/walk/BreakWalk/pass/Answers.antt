@@ -3,7 +3,7 @@ use Rattle.std.proofs.lemmas.Int.{to_z-of_z}
 use Rattle.node_core.specs.Nodes.{max_nodes}
 use Rattle.break_lines.specs.declared.mark.MeasuredBreak.{MeasuredBreak}
 use Rattle.break_lines.specs.Legal.{is_dropped, is_legal}
-use Rattle.break_lines.specs.Kept.{sums_of}
+use Rattle.break_lines.specs.LineItems.{sums_of}
 use Rattle.break_lines.specs.Marks.{plus, amounts_of, measured_break}
 use Rattle.break_lines.specs.SmallMarks.{IsPrefix, AreSmallMarks}
 use Rattle.break_lines.proofs.Smalls.{wide}

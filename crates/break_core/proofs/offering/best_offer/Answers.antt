@@ -2,19 +2,19 @@ use Rattle.std.proofs.Common.{◌≡◌, ◌+◌, refl, subst, arith}
 use Rattle.break_table.proofs.Entries.{get_at}
 use Rattle.break_core.specs.Filling.{IsBestOffer}
 use Rattle.break_core.proofs.ActiveNodes.{best_first, best_more}
-use Rattle.break_core.proofs.filling.best_offer.Goals as goal
+use Rattle.break_core.proofs.offering.best_offer.Goals as goal
 
 pub offer_from-best-requires-clause-uncounted : goal.offer_from-best-requires-clause-uncounted
-offer_from-best-requires-clause-uncounted c = λ e at. (c.requires.entries c.args.group.start e (omega arith) c.requires.some at).1
+offer_from-best-requires-clause-uncounted c = λ e at. (c.requires.entries c.args.group.start e (omega arith) c.requires.has_entries at).1
 
 pub offer_from-best-requires-clause-later : goal.offer_from-best-requires-clause-later
-offer_from-best-requires-clause-later c = λ e at. omega (arith, (c.requires.entries c.args.group.start e (omega arith) c.requires.some at).0, c.requires.earlier)
+offer_from-best-requires-clause-later c = λ e at. omega (arith, (c.requires.entries c.args.group.start e (omega arith) c.requires.has_entries at).0, c.requires.earlier)
 
 pub loop-index-init : goal.loop-index-init
 loop-index-init c =
     let table = c.args.table.now in
     let start = c.args.group.start in
-    let first = get_at table start (omega (arith, c.requires.some, c.requires.within)) in
+    let first = get_at table start (omega (arith, c.requires.has_entries, c.requires.within)) in
     record {
       low = omega arith;
       best = best_first table c.args.params.now c.args.place c.args.alone.now start (start + 1) first.0 c.offer_from-best.result first.1 refl
@@ -38,10 +38,10 @@ loop-index-preserved c =
     record {
       low = omega (arith, inv.low);
       best = best_more table c.args.params.now c.args.place c.args.alone.now c.args.group.start index here.0 c.loop-index.best c.offer_from-offered.result
-          c.lesser-best.result inv.best (omega (arith, inv.low)) here.1 (c.offer_from-offered.ensures here.0 here.1) c.lesser-best.ensures;
+          c.or_better-best.result inv.best (omega (arith, inv.low)) here.1 (c.offer_from-offered.ensures here.0 here.1) c.or_better-best.ensures;
     }
 
 pub returns : goal.returns
 returns c =
-    let end : c.loop-index.index ≡ c.args.group.end = omega (arith, c.loop-index-test.false, c.requires.some, c.loop-index.auto) in
+    let end : c.loop-index.index ≡ c.args.group.end = omega (arith, c.loop-index-test.false, c.requires.has_entries, c.loop-index.auto) in
     subst (λ n. IsBestOffer c.args.table.now c.args.params.now c.args.place c.args.alone.now c.args.group.start n c.loop-index.best) end c.loop-index.invariant.best

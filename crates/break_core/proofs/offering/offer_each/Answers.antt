@@ -9,7 +9,7 @@ use Rattle.break_lines.proofs.Parts.{alone_is}
 use Rattle.break_lines.specs.Sizes.{fit_after}
 use Rattle.break_core.specs.Filling.{IsOffering}
 use Rattle.break_core.proofs.Filled.{none_offered}
-use Rattle.break_core.proofs.filling.offer_each.Goals as goal
+use Rattle.break_core.proofs.offering.offer_each.Goals as goal
 
 pub loop-index-init : goal.loop-index-init
 loop-index-init c = record { low = omega arith; wide = c.requires.can.wide; row = λ p cut late line_fit is. is }

@@ -1,6 +1,6 @@
 use Rattle.std.proofs.Common.{◌<◌}
 use Rattle.break_core.specs.Filling.{IsBestOffer}
-use Rattle.break_core.proofs.filling.best_offer.Given as goal
+use Rattle.break_core.proofs.offering.best_offer.Given as goal
 
 abbrev pub invariant-loop-index : goal.invariant-loop-index
 invariant-loop-index l = record {

@@ -6,7 +6,7 @@ use Rattle.break_lines.specs.Sizes.{line_fits}
 use Rattle.break_core.specs.Filling.{IsOf}
 use Rattle.break_core.proofs.ActiveNodes.{best_line, none_line, overfull_once}
 use Rattle.break_core.proofs.Endings.{left_out}
-use Rattle.break_core.proofs.filling.offer_line.Goals as goal
+use Rattle.break_core.proofs.offering.offer_line.Goals as goal
 
 pub fit_line-line-requires : goal.fit_line-line-requires
 fit_line-line-requires c = record { sums_bounded = c.requires.can.small }

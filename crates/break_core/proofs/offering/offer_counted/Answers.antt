@@ -3,7 +3,7 @@ use Rattle.std.specs.Prelude.{◌&&◌}
 use Rattle.break_lines.specs.Sizes.{line_fits}
 use Rattle.break_core.specs.Filling.{IsOfferingUnless, IsOffering}
 use Rattle.break_core.proofs.Endings.{left_out, not_left_out}
-use Rattle.break_core.proofs.filling.offer_counted.Goals as goal
+use Rattle.break_core.proofs.offering.offer_counted.Goals as goal
 
 pub fit_both-line-requires : goal.fit_both-line-requires
 fit_both-line-requires c = record { sums_bounded = c.requires.can.small }

@@ -1,7 +1,7 @@
 use Rattle.std.proofs.Common.{◌≡◌, ◌≤◌, length}
 use Rattle.break_table.specs.Tables.{slots}
 use Rattle.break_core.specs.Filling.{IsOffering}
-use Rattle.break_core.proofs.filling.offer_each.Given as goal
+use Rattle.break_core.proofs.offering.offer_each.Given as goal
 
 abbrev pub invariant-loop-index : goal.invariant-loop-index
 invariant-loop-index l = record {

@@ -1,6 +1,6 @@
 use Rattle.std.proofs.Common.{arith, ap}
 use Rattle.break_core.proofs.ActiveNodes.{best_offered}
-use Rattle.break_core.proofs.filling.offer_best.Goals as goal
+use Rattle.break_core.proofs.offering.offer_best.Goals as goal
 
 pub put-requires-clause-counted : goal.put-requires-clause-counted
 put-requires-clause-counted c = omega (arith, ap (λ x. x.end.lines) c.best_offer.ensures.is)

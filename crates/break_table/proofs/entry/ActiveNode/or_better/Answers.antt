@@ -4,20 +4,20 @@ use Rattle.std.proofs.lemmas.Option.{same_Some}
 use Rattle.break_table.specs.Orders.{NotAfter}
 use Rattle.break_table.specs.Tables.{compared_numbers}
 use Rattle.break_table.proofs.Dictionary.{not_after_refl}
-use Rattle.break_core.proofs.filling.lesser.Goals as goal
+use Rattle.break_table.proofs.entry.ActiveNode.or_better.Goals as goal
 
 pub returns-then-is_not_after : goal.returns-then-is_not_after
 returns-then-is_not_after c =
     record {
       is = inr refl;
       offered = c.is_not_after.ensures.not_after c.if-is_not_after.true;
-      older = λ h same. subst (λ x. NotAfter (compared_numbers c.args.best) (compared_numbers x)) (same_Some c.args.best h same) (not_after_refl (compared_numbers c.args.best));
+      older = λ h same. subst (λ x. NotAfter (compared_numbers c.args.self) (compared_numbers x)) (same_Some c.args.self h same) (not_after_refl (compared_numbers c.args.self));
     }
 
 pub returns : goal.returns
 returns c =
     record {
       is = inl refl;
-      offered = not_after_refl (compared_numbers c.args.offered);
-      older = λ h same. subst (λ x. NotAfter (compared_numbers c.args.offered) (compared_numbers x)) (same_Some c.args.best h same) (c.is_not_after.ensures.after c.if-is_not_after.false);
+      offered = not_after_refl (compared_numbers c.args.other);
+      older = λ h same. subst (λ x. NotAfter (compared_numbers c.args.other) (compared_numbers x)) (same_Some c.args.self h same) (c.is_not_after.ensures.after c.if-is_not_after.false);
     }

@@ -1,0 +1,175 @@
+//! The offers of the entries of a group for a place, by a line that was tried from there.
+
+ghost use Rattle.std.specs.Prelude.{◌≡◌, ◌<◌, ◌≤◌, ◌&&◌, length, slice_get, Some};
+ghost use Rattle.break_table.specs.Tables.{Entry, max_places, slots};
+ghost use Rattle.break_lines.specs.Sizes.{line_fits, IsSmallLineFits};
+ghost use Rattle.break_lines.specs.SmallCosts.{IsSmallAlone};
+ghost use Rattle.break_core.specs.Filling.{IsOf, CanOffer, IsOffering, IsOfferingUnless, offer_from, IsBestOffer, IsOfferingBest};
+
+use crate::pass_rules::Rules;
+use break_lines::{LineFits, Sums, fit_both, fit_line, line_after, line_alone};
+use break_table::{ActiveGroup, ActiveNode, LineCost, offer, put};
+use node_core::Params;
+
+/// A line that was tried: the place where it ends, the penalty of a break there, and the sums over its items.
+#[derive(Clone, Copy, Debug, PartialEq, Eq)]
+pub(crate) struct Tried {
+    pub(crate) place: usize,
+    pub(crate) penalty: i32,
+    pub(crate) sums: Sums,
+}
+
+/// Offers the entries of a group for a place, by a line from there that was tried and judged. The line is judged for firstsize and for hsize at once,
+/// and costs that are the same for all entries are computed once, so that there is one trial for each pair of places.
+fn offer_each(
+    row: &mut Vec<Option<ActiveNode>>,
+    table: &[ActiveNode],
+    group: ActiveGroup,
+    rules: &Rules,
+    tried: &Tried,
+    line: &LineFits,
+)
+    requires can { CanOffer rules.now.params.now.first_lines row.old.items table.now group tried.now }
+    requires fit_bounded { IsSmallLineFits line.now }
+    ensures row { IsOffering table.now rules.now.params.now rules.now.bound group tried.now.place tried.now.penalty line.now group.start group.end row.old.items row.new.items }
+    ensures wide { length row.new.items ≡ slots rules.now.params.now.first_lines }
+{
+    let costs = line.alone(rules.params, &rules.bound, tried.penalty);
+    if costs.is_none() {
+        return;
+    }
+    let cut = rules.params.first_lines.get();
+    for index in group.start..group.end {
+        let entry = table[index];
+        let end = entry.end();
+        let offered = costs.after(rules.params, end);
+        offer(row, entry, index, tried.place, offered, cut);
+    }
+}
+
+/// Offers the entries of a group for a place, by a line that was tried from there, unless it is left out. Returns whether the line is overfull after
+/// any number of lines.
+#[cold]
+#[inline(never)]
+fn offer_counted(
+    left: bool,
+    row: &mut Vec<Option<ActiveNode>>,
+    table: &[ActiveNode],
+    group: ActiveGroup,
+    rules: &Rules,
+    tried: &Tried,
+) -> bool
+    requires can { CanOffer rules.now.params.now.first_lines row.old.items table.now group tried.now }
+    ensures row { IsOfferingUnless left table.now rules.now.params.now rules.now.bound group tried.now.place tried.now.penalty (line_fits rules.now.params.now tried.now.sums) row.old.items row.new.items }
+    ensures wide { length row.new.items ≡ slots rules.now.params.now.first_lines }
+    ensures overfull { result ≡ ((line_fits rules.now.params.now tried.now.sums).first.overfull && (line_fits rules.now.params.now tried.now.sums).rest.overfull) }
+{
+    let line = fit_both(&tried.sums, rules.params);
+    if left {
+        return line.is_overfull();
+    }
+    offer_each(row, table, group, rules, tried, &line);
+    line.is_overfull()
+}
+
+/// The offer of an entry of a table for a place by a line, if no lines are counted.
+fn offer_from(
+    table: &[ActiveNode],
+    index: usize,
+    params: &Params,
+    place: usize,
+    alone: &LineCost,
+) -> ActiveNode
+    requires within { index < length table.now }
+    requires uncounted { (e : Entry) → slice_get table.now index ≡ Some e → e.end.lines ≤ 0 }
+    requires later { (e : Entry) → slice_get table.now index ≡ Some e → e.end.place < place }
+    requires places { place ≤ max_places }
+    requires costs_bounded { IsSmallAlone alone.now }
+    ensures { (e : Entry) → slice_get table.now index ≡ Some e → result ≡ offer_from params.now e index place alone.now }
+{
+    let entry = table[index];
+    let line = line_after(params, entry.end().class, alone);
+    entry.extended(index, place, line, 0)
+}
+
+/// The best offer of the entries of a group for a place by a line, if no lines are counted.
+fn best_offer(
+    table: &[ActiveNode],
+    group: ActiveGroup,
+    params: &Params,
+    place: usize,
+    alone: &LineCost,
+) -> ActiveNode
+    requires has_entries { group.start < group.end }
+    requires within { group.end ≤ length table.now }
+    requires earlier { group.place < place }
+    requires entries { IsOf 0 table.now group }
+    requires places { place ≤ max_places }
+    requires costs_bounded { IsSmallAlone alone.now }
+    ensures { IsBestOffer table.now params.now place alone.now group.start group.end result }
+{
+    let mut best = offer_from(table, group.start, params, place, alone);
+    for index in group.start + 1..group.end {
+        let offered = offer_from(table, index, params, place, alone);
+        best = best.or_better(offered);
+    }
+    best
+}
+
+/// Offers the entries of a group for a place by a line, if no lines are counted. All offers are for one state then, so only the best of them is put
+/// into the row.
+fn offer_best(
+    row: &mut Vec<Option<ActiveNode>>,
+    table: &[ActiveNode],
+    group: ActiveGroup,
+    params: &Params,
+    place: usize,
+    alone: &LineCost,
+)
+    requires wide { length row.old.items ≡ slots 0 }
+    requires rises { group.start ≤ group.end }
+    requires within { group.end ≤ length table.now }
+    requires earlier { group.place < place }
+    requires entries { IsOf 0 table.now group }
+    requires places { place ≤ max_places }
+    requires costs_bounded { IsSmallAlone alone.now }
+    ensures row { IsOfferingBest table.now params.now group place alone.now row.old.items row.new.items }
+    ensures wide { length row.new.items ≡ slots 0 }
+{
+    if group.start == group.end {
+        return;
+    }
+    put(row, best_offer(table, group, params, place, alone), 0);
+}
+
+/// Offers the entries of a group for a place, by a line that was tried from there, unless it is left out. Returns whether the line is overfull after
+/// any number of lines. If no lines are counted, the line is judged only once.
+#[inline(always)]
+pub(crate) fn offer_line(
+    left: bool,
+    row: &mut Vec<Option<ActiveNode>>,
+    table: &[ActiveNode],
+    group: ActiveGroup,
+    rules: &Rules,
+    tried: Tried,
+) -> bool
+    requires can { CanOffer rules.now.params.now.first_lines row.old.items table.now group tried }
+    ensures row { IsOfferingUnless left table.now rules.now.params.now rules.now.bound group tried.place tried.penalty (line_fits rules.now.params.now tried.sums) row.old.items row.new.items }
+    ensures wide { length row.new.items ≡ slots rules.now.params.now.first_lines }
+    ensures overfull { result ≡ ((line_fits rules.now.params.now tried.sums).first.overfull && (line_fits rules.now.params.now tried.sums).rest.overfull) }
+{
+    if rules.params.first_lines.get() > 0 {
+        // Only the address of this copy is taken, so `tried` stays in registers where no lines are counted.
+        let counted = tried;
+        return offer_counted(left, row, table, group, rules, &counted);
+    }
+    let line = fit_line(&tried.sums, rules.params.hsize);
+    if left {
+        return line.overfull;
+    }
+    let Some(alone) = line_alone(rules.params, &rules.bound, tried.penalty, &line) else {
+        return line.overfull;
+    };
+    offer_best(row, table, group, rules.params, tried.place, &alone);
+    line.overfull
+}

@@ -1,0 +1,37 @@
+//! The rules of a pass: the lines that it admits, and when to stop trying lines from a place.
+
+ghost use Rattle.std.specs.Prelude.{◌≡◌};
+ghost use Rattle.break_core.specs.Active.{deactivates};
+
+use break_lines::Bound;
+use node_core::Params;
+
+/// When to stop trying lines from a place, besides at forced breaks: never, after an overfull line, or after a long line. A long line passes over a
+/// place to which it is overfull already, and has more overhang than there. It is in no chosen list, so it is left out.
+#[derive(Clone, Copy, Debug, PartialEq, Eq)]
+pub(crate) enum StopRule {
+    Never,
+    Overfull,
+    Long,
+}
+
+/// The rules of a pass: the parameters, the lines that it admits, and when to stop trying lines from a place.
+#[derive(Drop)]
+pub(crate) struct Rules<'a> {
+    pub(crate) params: &'a Params,
+    pub(crate) bound: Bound,
+    pub(crate) ending: StopRule,
+}
+
+impl StopRule {
+    /// Whether the place that a line begins at leaves the active list after it.
+    pub(crate) fn deactivates(self, overfull: bool, long: bool) -> bool
+        ensures { result ≡ deactivates self overfull long }
+    {
+        match self {
+            StopRule::Never => false,
+            StopRule::Overfull => overfull,
+            StopRule::Long => long,
+        }
+    }
+}
