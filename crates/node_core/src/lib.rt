@@ -4,7 +4,9 @@
 #![tactic(auto)]
 
 pub mod class;
+mod copying;
 pub mod limits;
+mod measures;
 pub mod params;
 pub mod special;
 pub mod tree;

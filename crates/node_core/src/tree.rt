@@ -3,9 +3,9 @@
 //! In contracts the value of a list is the tree of its items, without pointers and capacities. So two lists, nodes or boxes are equal in a clause
 //! exactly when they are the same tree. `nodes_of` gives the nodes of a list in order.
 
-ghost use Rattle.std.specs.Prelude.{◌≡◌, ◌==◌, ◌<◌, ◌≤◌, ◌+◌, [], ◌∷◌, ◌++◌, length, take, OnOk, OnErr, IfOk, IfErr, min, max};
-ghost use Rattle.node_core.specs.Items.{Items, none, items_depth, items_count, items_text};
-ghost use Rattle.node_core.specs.Nodes.{max_nodes, items_of, nodes_of, box_depth, box_count, box_text, last_box, without};
+ghost use Rattle.std.specs.Prelude.{◌≡◌, ◌==◌, ◌<◌, ◌≤◌, ◌+◌, [], ◌∷◌, ◌++◌, length, take, OnOk, OnErr, IfErr};
+ghost use Rattle.node_core.specs.Items.{Items, none};
+ghost use Rattle.node_core.specs.Nodes.{max_nodes, items_of, nodes_of, last_box, without};
 
 use crate::special::SpecialText;
 use scaled_core::{Dimen, Ratio};
@@ -121,7 +121,7 @@ pub struct BoxNode {
 #[cycle(tree)]
 #[derive(Debug, Drop)]
 pub struct NodeList {
-    nodes: Vec<Node>,
+    pub(crate) nodes: Vec<Node>,
 }
 
 impl Model for NodeList {
@@ -213,11 +213,7 @@ impl NodeList {
         ensures err { OnErr result (self.new ≡ self.old) }
         ensures node_returned { IfErr result (λ failed. failed.value ≡ node) }
     {
-        // `match` and not `?`: with `?` the check stops with "was not told which modules hold the type".
-        match self.nodes.push(node) {
-            Ok(()) => Ok(()),
-            Err(failed) => Err(failed),
-        }
+        self.nodes.push(node)
     }
 
     /// Appends a box to a list of fewer than 131,072 nodes. If memory is refused, the error is the box, and the list is as it was before the call.
@@ -268,7 +264,7 @@ impl NodeList {
     #[tactic(auto, using(crate::proofs::NodeLemmas::nodes))]
     pub fn pop_box(&mut self) -> Option<BoxNode>
         ensures value { result ≡ last_box (nodes_of self.old) }
-        ensures rest { self.new ≡ items_of (without (last_box (nodes_of self.old)) (nodes_of self.old)) }
+        ensures remaining { self.new ≡ items_of (without (last_box (nodes_of self.old)) (nodes_of self.old)) }
         ensures nodes { nodes_of self.new ≡ without (last_box (nodes_of self.old)) (nodes_of self.old) }
     {
         match self.nodes.last() {
@@ -278,63 +274,6 @@ impl NodeList {
             },
             _ => None,
         }
-    }
-
-    /// A copy of the list. The error is that memory was refused.
-    #[cycle(copying)]
-    #[tactic(auto, using(crate::proofs::NodeLemmas::nodes))]
-    pub fn copy(&self, alloc: Global) -> Result<NodeList, AllocError>
-        ensures { IfOk result (λ copy. copy ≡ self.now) }
-    {
-        let mut nodes = Vec::with_capacity(alloc, self.nodes.len())?;
-        for node in &self.nodes {
-            nodes.push(node.copy(alloc)?)?;
-        }
-        Ok(NodeList { nodes })
-    }
-
-    /// The depth to which boxes nest in the list, 0 for a list without boxes, or `u64::MAX` if it is greater. Does not allocate.
-    #[tactic(auto, using(crate::proofs::NodeLemmas::nodes))]
-    pub fn depth(&self) -> u64
-        ensures { result ≡ min (items_depth self.now) u64.MAX }
-    {
-        let mut deepest = 0;
-        for node in &self.nodes {
-            if let Node::Box(_, inner) = node {
-                deepest = greater(deepest, inner.list.depth().saturating_add(1));
-            }
-        }
-        deepest
-    }
-
-    /// The number of items, including boxes and the items in inner boxes, or `u64::MAX` if it is greater. Does not allocate.
-    #[tactic(auto, using(crate::proofs::NodeLemmas::nodes))]
-    pub fn count(&self) -> u64
-        ensures { result ≡ min (items_count self.now) u64.MAX }
-    {
-        let mut count = self.nodes.len() as u64;
-        for node in &self.nodes {
-            if let Node::Box(_, inner) = node {
-                count = count.saturating_add(inner.list.count());
-            }
-        }
-        count
-    }
-
-    /// The number of bytes in the texts of the specials, including those in inner boxes, or `u64::MAX` if it is greater. Does not allocate.
-    #[tactic(auto, using(crate::proofs::NodeLemmas::nodes))]
-    pub fn text_size(&self) -> u64
-        ensures { result ≡ min (items_text self.now) u64.MAX }
-    {
-        let mut size: u64 = 0;
-        for node in &self.nodes {
-            match node {
-                Node::Box(_, inner) => size = size.saturating_add(inner.list.text_size()),
-                Node::Special(text) => size = size.saturating_add(text.as_bytes().len() as u64),
-                _ => {}
-            }
-        }
-        size
     }
 }
 
@@ -350,70 +289,5 @@ pub fn push_box(nodes: &mut Vec<Node>, shift: Dimen, box_node: BoxNode) -> Resul
             Node::Box(_, box_node) => Err(box_node),
             _ => unreachable!(),
         },
-    }
-}
-
-fn greater(a: u64, b: u64) -> u64
-    ensures { result ≡ max a b }
-{
-    if a < b { b } else { a }
-}
-
-impl Node {
-    /// A copy of the node. The error is that memory was refused.
-    #[cycle(copying)]
-    pub fn copy(&self, alloc: Global) -> Result<Node, AllocError>
-        ensures { IfOk result (λ copy. copy ≡ self.now) }
-    {
-        Ok(match self {
-            Node::Glyph(glyph) => Node::Glyph(*glyph),
-            Node::FontKern(width) => Node::FontKern(*width),
-            Node::Kern(width) => Node::Kern(*width),
-            Node::Glue(glue) => Node::Glue(*glue),
-            Node::Penalty(penalty) => Node::Penalty(*penalty),
-            Node::Rule(rule) => Node::Rule(*rule),
-            Node::Special(text) => Node::Special(text.copy(alloc)?),
-            Node::Box(shift, box_node) => Node::Box(*shift, box_node.copy(alloc)?),
-        })
-    }
-}
-
-impl BoxNode {
-    /// A copy of the box. The error is that memory was refused.
-    #[cycle(copying)]
-    pub fn copy(&self, alloc: Global) -> Result<BoxNode, AllocError>
-        ensures { IfOk result (λ copy. copy ≡ self.now) }
-    {
-        let list = self.list.copy(alloc)?;
-        Ok(BoxNode {
-            kind: self.kind,
-            width: self.width,
-            height: self.height,
-            depth: self.depth,
-            setting: self.setting,
-            list,
-        })
-    }
-
-    /// The depth to which boxes nest, 1 for a box without inner boxes, or `u64::MAX` if it is greater. Does not allocate.
-    pub fn depth(&self) -> u64
-        ensures { result ≡ min (box_depth self.now) u64.MAX }
-    {
-        self.list.depth().saturating_add(1)
-    }
-
-    /// The number of nodes: the box itself and every item in it, including those in inner boxes, or `u64::MAX` if it is greater. Does not allocate.
-    pub fn count(&self) -> u64
-        ensures { result ≡ min (box_count self.now) u64.MAX }
-    {
-        self.list.count().saturating_add(1)
-    }
-
-    /// The number of bytes in the texts of the specials in the box, including those in inner boxes, or `u64::MAX` if it is greater. Does not
-    /// allocate.
-    pub fn text_size(&self) -> u64
-        ensures { result ≡ min (box_text self.now) u64.MAX }
-    {
-        self.list.text_size()
     }
 }

@@ -26,7 +26,7 @@ pub fn list_fills_its_box()
 
 /// The glue that is set is that of the highest order whose total is not 0; if all totals are 0, none is set.
 pub fn highest_order_is_set()
-    ensures some { (totals : Order → ℤ) → (order : Order) → ((highest totals ≡ Some order) ↔ IsHighest totals order) }
+    ensures highest_order { (totals : Order → ℤ) → (order : Order) → ((highest totals ≡ Some order) ↔ IsHighest totals order) }
     ensures none { (totals : Order → ℤ) → ((highest totals ≡ None) ↔ ((order : Order) → totals order ≡ pos 0)) }
 {}
 

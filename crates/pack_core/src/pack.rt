@@ -227,11 +227,8 @@ fn with_height(shell: &Shell, height: Dimen) -> Option<Shell>
 fn vtop_shell_of(target: Target, limit: Dimen, nodes: &[Node]) -> Option<Shell>
     ensures { result ≡ some_if (list_all fits (vtop_numbers target limit nodes.now)) (vtop_shell (vbox_shell target limit nodes.now) (first_height nodes.now)) }
 {
-    let shell = vbox_shell(target, limit, nodes);
-    match &shell {
-        None => None,
-        Some(shell) => with_height(shell, first_height(nodes)),
-    }
+    let shell = vbox_shell(target, limit, nodes)?;
+    with_height(&shell, first_height(nodes))
 }
 
 /// The list in its box, or the list itself if there is no box for it.

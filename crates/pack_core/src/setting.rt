@@ -5,7 +5,7 @@ ghost use Rattle.std.specs.Option.{IfSome};
 ghost use Rattle.std.specs.List.{list_all};
 ghost use Rattle.scaled_core.specs.Dimensions.{Within, fits};
 ghost use Rattle.node_core.specs.declared.tree.Node.{Node};
-ghost use Rattle.pack_core.specs.Glue.{is_zero, highest, fraction, is_finite, stretch_totals, shrink_totals};
+ghost use Rattle.pack_core.specs.Glue.{highest, fraction, is_finite, stretch_totals, shrink_totals};
 ghost use Rattle.pack_core.specs.Boxes.{glue_totals, some_if};
 ghost use Rattle.pack_core.specs.Orders.{by_order, order_amounts};
 ghost use Rattle.pack_core.specs.Steps.{dimens_of, glue_set};
@@ -51,28 +51,22 @@ fn in_order(totals: &OrderDimens, order: Order) -> Dimen
     }
 }
 
-fn is_zero(amount: Dimen) -> bool
-    ensures { result ≡ is_zero amount }
-{
-    amount.get() == 0
-}
-
 /// The highest order whose total is not 0.
 #[tactic(auto, unfolding(crate::specs::Glue::highest))]
 fn highest_order(totals: &OrderDimens) -> Option<Order>
     ensures value { result ≡ highest (by_order totals.now) }
     ensures not_zero { IfSome result (λ order. by_order totals.now order ≢ pos 0) }
 {
-    if !is_zero(totals.filll) {
+    if totals.filll.get() != 0 {
         return Some(Order::Filll);
     }
-    if !is_zero(totals.fill) {
+    if totals.fill.get() != 0 {
         return Some(Order::Fill);
     }
-    if !is_zero(totals.fil) {
+    if totals.fil.get() != 0 {
         return Some(Order::Fil);
     }
-    if !is_zero(totals.normal) {
+    if totals.normal.get() != 0 {
         return Some(Order::Normal);
     }
     None

@@ -2,7 +2,7 @@
 
 ghost use Rattle.std.specs.Prelude.{◌≡◌, ◌^◌};
 ghost use Rattle.scaled_core.specs.Dimensions.{Within};
-ghost use Rattle.pack_core.specs.Items.{own_size, across, above, below, downward, breadth, advance, is_order, stretch_in, shrink_in};
+ghost use Rattle.pack_core.specs.Items.{own_size, across, above, below, downward, breadth, advance, stretch_in, shrink_in};
 ghost use Rattle.pack_core.specs.Items.{item_height, item_depth, first_above};
 ghost use Rattle.pack_core.specs.Places.{share};
 
@@ -141,25 +141,13 @@ pub fn advance_of(kind: Kind, node: &Node) -> i64
     }
 }
 
-fn is_order(a: Order, b: Order) -> bool
-    ensures { result ≡ is_order a b }
-{
-    match (a, b) {
-        (Order::Normal, Order::Normal) => true,
-        (Order::Fil, Order::Fil) => true,
-        (Order::Fill, Order::Fill) => true,
-        (Order::Filll, Order::Filll) => true,
-        _ => false,
-    }
-}
-
 /// How much an item can stretch in an order: only glue of this order can.
 pub fn stretch_of(order: Order, node: &Node) -> Dimen
     ensures { result ≡ stretch_in order node.now }
 {
     match node {
         Node::Glue(glue) => {
-            if is_order(order, glue.stretch_order) {
+            if order == glue.stretch_order {
                 glue.stretch
             } else {
                 Dimen::ZERO
@@ -175,7 +163,7 @@ pub fn shrink_of(order: Order, node: &Node) -> Dimen
 {
     match node {
         Node::Glue(glue) => {
-            if is_order(order, glue.shrink_order) {
+            if order == glue.shrink_order {
                 glue.shrink
             } else {
                 Dimen::ZERO

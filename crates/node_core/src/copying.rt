@@ -1,0 +1,58 @@
+//! Copies of nodes, lists and boxes.
+
+ghost use Rattle.std.specs.Prelude.{◌≡◌, IfOk};
+
+use crate::tree::{BoxNode, Node, NodeList};
+use std::alloc::{AllocError, Global};
+
+impl NodeList {
+    /// A copy of the list. The error is that memory was refused.
+    #[cycle(copying)]
+    #[tactic(auto, using(crate::proofs::NodeLemmas::nodes))]
+    pub fn copy(&self, alloc: Global) -> Result<NodeList, AllocError>
+        ensures { IfOk result (λ copy. copy ≡ self.now) }
+    {
+        let mut nodes = Vec::with_capacity(alloc, self.nodes.len())?;
+        for node in &self.nodes {
+            nodes.push(node.copy(alloc)?)?;
+        }
+        Ok(NodeList { nodes })
+    }
+}
+
+impl Node {
+    /// A copy of the node. The error is that memory was refused.
+    #[cycle(copying)]
+    pub fn copy(&self, alloc: Global) -> Result<Node, AllocError>
+        ensures { IfOk result (λ copy. copy ≡ self.now) }
+    {
+        Ok(match self {
+            Node::Glyph(glyph) => Node::Glyph(*glyph),
+            Node::FontKern(width) => Node::FontKern(*width),
+            Node::Kern(width) => Node::Kern(*width),
+            Node::Glue(glue) => Node::Glue(*glue),
+            Node::Penalty(penalty) => Node::Penalty(*penalty),
+            Node::Rule(rule) => Node::Rule(*rule),
+            Node::Special(text) => Node::Special(text.copy(alloc)?),
+            Node::Box(shift, box_node) => Node::Box(*shift, box_node.copy(alloc)?),
+        })
+    }
+}
+
+impl BoxNode {
+    /// A copy of the box. The error is that memory was refused.
+    #[cycle(copying)]
+    pub fn copy(&self, alloc: Global) -> Result<BoxNode, AllocError>
+        ensures { IfOk result (λ copy. copy ≡ self.now) }
+    {
+        let list = self.list.copy(alloc)?;
+        Ok(BoxNode {
+            kind: self.kind,
+            width: self.width,
+            height: self.height,
+            depth: self.depth,
+            setting: self.setting,
+            list,
+        })
+    }
+}
