@@ -1,5 +1,7 @@
 //! Why a page is not written, or a file not finished.
 
+ghost use Rattle.std.specs.Prelude.{◌≡◌};
+
 use std::alloc::AllocError;
 use thiserror::Error;
 

@@ -4,7 +4,7 @@ use Rattle.std.specs.Prelude.{None, false}
 use Rattle.ship_core.specs.declared.placing.PagePoint.{PagePoint}
 use Rattle.ship_core.specs.Pages.{page_at}
 use Rattle.dvi_layout.specs.Limits.{HasRoom, limit_of}
-use Rattle.dvi_layout.specs.Shippable.{IsRightPage, page_with}
+use Rattle.dvi_layout.specs.Shippable.{IsRightPage}
 use Rattle.dvi_layout.proofs.Rooms.{few_text, room_next}
 use Rattle.dvi_write.specs.Writing.{Writing, RefusesPage, refusal_of}
 use Rattle.dvi_write.proofs.Writings.{may_go, refused_by}
@@ -46,7 +46,7 @@ returns-in_err-next-clause-refused g c =
     let running : w.over ≡ false = sym (ap (λ (w : Writing). w.over) c.self.view_is) ∙ c.if-self.false in
     let page = page_at c.args.counts.now c.point_of-at.result.h c.point_of-at.result.v c.args.box_node.now in
     let limit = ap (λ (w : Writing). limit_of w.so_far page) (sym c.self.view_is) ∙ c.in_ok-load.ensures.ok c.args.counts.now c.point_of-at.result.h c.point_of-at.result.v in
-    let fault = c.in_err-next.field-0 in
+    let fault = c.in_err-next.field-0.0 in
     let passed = err_from_is_err_and c.from_residual-in_err-next.result c.from_residual-in_err-next.ensures.1 in
     rw (passed.1, passed.2)
     (subst (λ (at : PagePoint). RefusesPage w (page_at c.args.counts.now at.h at.v c.args.box_node.now) fault) c.point_of-at.ensures (refused_by w page fault running limit c.in_err-next.ensures.err))
