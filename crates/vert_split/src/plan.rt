@@ -1,8 +1,7 @@
 //! The plan of a split, found before any item is moved.
 
-ghost use Rattle.std.specs.Prelude.{◌≡◌, ◌≤◌, ◌<◌, ◌++◌, Some, None, IfOk, IfErr, OnOk, if◌then◌else◌, pos, true, false, is_ok, length, take, drop};
+ghost use Rattle.std.specs.Prelude.{◌≡◌, ◌≤◌, ◌<◌, ◌++◌, Some, None, IfOk, IfErr, OnOk, if◌then◌else◌, true, false, is_ok, length, take, drop};
 ghost use Rattle.std.specs.List.{list_all, list_any, slice_get};
-ghost use Rattle.std.specs.Int.{int_max};
 ghost use Rattle.std.specs.Option.{IfSome};
 ghost use Rattle.scaled_core.specs.Dimensions.{fits};
 ghost use Rattle.node_core.specs.Nodes.{max_nodes};
@@ -96,18 +95,11 @@ fn top_glue(height: Dimen, params: &SplitParams) -> Option<Glue>
     ensures { result ≡ (if fits (top_width params.now height) then Some (top_glue params.now height) else None) }
 {
     let left = params.split_top_skip.width.exact_sub(height);
-    let width = Dimen::try_new(positive(left))?;
+    let width = Dimen::try_new(left.max(0))?;
     Some(Glue {
         width,
         ..params.split_top_skip
     })
-}
-
-/// The number, or 0 if it is below 0.
-fn positive(value: i64) -> i64
-    ensures { result ≡ int_max (pos 0) value }
-{
-    if value < 0 { 0 } else { value }
 }
 
 /// The glue above the items that are left, the first of which is a box or a rule, and the vbox of both, if their numbers fit. Without items there is

@@ -1,7 +1,6 @@
 //! How badly the items that were passed fill a height.
 
 ghost use Rattle.std.specs.Prelude.{◌≡◌, ◌≤◌, ◌^◌, ◌≤ℤ◌, List, pos};
-ghost use Rattle.std.specs.Int.{int_min};
 ghost use Rattle.scaled_core.specs.Dimensions.{Within};
 ghost use Rattle.node_core.specs.Nodes.{max_nodes};
 ghost use Rattle.node_core.specs.declared.tree.Node.{Node};
@@ -23,7 +22,8 @@ fn natural(limit: Dimen, totals: &Totals) -> i64
     ensures value { result ≡ natural_at limit totals.now }
     ensures value_bounded { Within (2 ^ 49) result }
 {
-    totals.advance() as i64 - i64::from(smaller(totals.pending_depth(), limit).get())
+    let hanging = totals.pending_depth().min(limit);
+    totals.advance() as i64 - i64::from(hanging.get())
 }
 
 /// The badness of stretching glue with these totals by an amount.
@@ -83,10 +83,4 @@ pub fn front_badness(goal: Dimen, totals: &Totals, params: &SplitParams) -> u32
         &totals.stretch(),
         totals.shrink().normal as i64,
     )
-}
-
-fn smaller(a: Dimen, b: Dimen) -> Dimen
-    ensures { result ≡ int_min a b }
-{
-    a.min(b)
 }

@@ -132,7 +132,7 @@ fn cheaper(best: Option<Trial>, trial: Trial) -> Trial
 pub fn split_place(nodes: &[Node], height: Dimen, params: &SplitParams) -> usize
     requires list_bounded { length nodes.now ≤ max_nodes }
     ensures value { result ≡ split_place params.now height nodes.now }
-    ensures within { result ≤ length nodes.now }
+    ensures place_bounded { result ≤ length nodes.now }
     // The item after the place, if there is one, is dropped.
     ensures dropped { is_some_before_break (slice_get nodes.now result) ≡ false }
 {
