@@ -1,4 +1,4 @@
 pub mod Nests
 pub mod ParagraphEnds
 pub mod ShapedTexts
-pub mod ShortLists
+pub mod BoundedLists
