@@ -2,6 +2,7 @@
 
 use node_core::Kind;
 use scaled_core::Dimen;
+use std::alloc::AllocError;
 use tfm_core::TfmCause;
 use thiserror::Error;
 
@@ -94,6 +95,17 @@ pub enum Refusal {
     JobOver,
     #[error("the register is void")]
     VoidBox,
+}
+
+impl From<AllocError> for Refusal {
+    ghost use Rattle.std.specs.Prelude.{◌≡◌};
+    ghost use Rattle.job_commands.specs.declared.replies.Refusal.TheVariants.{OutOfMemory};
+
+    ghost from_gives = { λ _ refusal. refusal ≡ OutOfMemory };
+
+    fn from(_error: AllocError) -> Refusal {
+        Refusal::OutOfMemory
+    }
 }
 
 /// The reply of a job to a command.

@@ -184,10 +184,7 @@ impl<D: Device> Job<D> {
         if let Command::Ship(register) = command {
             return ship_page(&mut self.kept, &mut self.writer, self.alloc, *register);
         }
-        let Ok(reply) = obey(&mut self.kept, command) else {
-            return Err(Refusal::OutOfMemory);
-        };
-        reply
+        obey(&mut self.kept, command)?
     }
 
     /// Runs the commands in order, and appends one reply for each. A refused command does not stop the run.
