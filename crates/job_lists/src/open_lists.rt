@@ -108,6 +108,7 @@ pub fn room_for_box(
 ///
 /// `WrongMode` where the list is not of the command's kind, else `WrongKind` where the box is not, else `ListTooLong` where the list would have
 /// more than `MAX_ITEMS` items.
+#[tactic(auto, using(job_machine::proofs::OtherKinds::other_kinds))]
 pub fn room_for_items(
     open_list: &OpenList,
     kind: Kind,

@@ -30,7 +30,7 @@ fn refusal_for(fault: SplitFault) -> Option<Refusal>
 }
 
 /// Splits a vbox at that height, or returns it unchanged with the refusal.
-#[tactic(auto, using(crate::proofs::SplitRefusals::fault_refused))]
+#[tactic(auto, using(crate::proofs::SplitRefusals::fault_refused, job_machine::proofs::OtherKinds::other_kinds_reversed))]
 pub fn split_box(
     box_node: BoxNode,
     height: Dimen,
