@@ -66,7 +66,7 @@ def row(names, comment):
 def cited(root):
     """The names that sources import, by crate and module, and those that PROVED.md names."""
     found = {}
-    for path in glob.glob(f"{root}/crates/*/src/*.rt"):
+    for path in glob.glob(f"{root}/crates/*/src/**/*.rt", recursive=True):
         for crate, module, names in IMPORTED.findall(read(path)):
             found.setdefault((crate, module), set()).update(it.strip() for it in names.split(","))
     return found, {word for code in re.findall(r"`([^`\n]+)`", read(f"{root}/docs/PROVED.md")) for word in re.findall(r"\w+", code)}

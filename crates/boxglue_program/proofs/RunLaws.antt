@@ -1,9 +1,9 @@
 -- A job that runs the commands of a script and is finished.
 use Rattle.std.proofs.Common.{◌≡◌, ◌+◌, ◌&&◌, ◌∷◌, inl, inr, ℕ, Bool, true, false, List, [], ◌++◌, length, take, Option, Some, None, IfSome, Result, Ok, Err, IfOk, OnOk, OnErr, is_err, is_ok, refl, sym, append_assoc, arith, ◌∙◌, ap, subst, ⊎_elim}
 use Rattle.job_commands.specs.declared.command.Command.{Command}
-use Rattle.job_commands.specs.declared.command.Refusal.{Refusal}
-use Rattle.job_commands.specs.declared.command.Refusal.TheVariants as refusals
-use Rattle.job_commands.specs.declared.command.Summary.{Summary}
+use Rattle.job_commands.specs.declared.replies.Refusal.{Refusal}
+use Rattle.job_commands.specs.declared.replies.Refusal.TheVariants as refusals
+use Rattle.job_commands.specs.declared.replies.Summary.{Summary}
 use Rattle.job_commands.specs.Reply.{Reply}
 use Rattle.tfm_core.specs.NamedBytes.{NamedBytes}
 use Rattle.dvi_device.specs.Written.{IsFrontOf}

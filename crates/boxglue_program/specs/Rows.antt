@@ -1,7 +1,7 @@
 -- Known texts of answers (own).
 use Rattle.std.specs.Prelude.{◌≡◌, pos, [], ◌∷◌, Ok, Err, codes}
-use Rattle.job_commands.specs.declared.command.Answer.TheVariants.{Done, Packed, Shaped, Shipped}
-use Rattle.job_commands.specs.declared.command.Refusal.TheVariants.{NoFont, BadTfm, SlotTaken, TooMuchSpecial, ListsOpen}
+use Rattle.job_commands.specs.declared.replies.Answer.TheVariants.{Done, Packed, Shaped, Shipped}
+use Rattle.job_commands.specs.declared.replies.Refusal.TheVariants.{NoFont, BadTfm, SlotTaken, TooMuchSpecial, ListsOpen}
 use Rattle.tfm_core.specs.declared.fault.TfmCause.TheVariants.{Counts}
 use Rattle.boxglue_program.specs.Texts.{answers_text}
 

@@ -5,12 +5,12 @@ use Rattle.std.specs.Fmt.{signed_decimal}
 use Rattle.scaled_core.specs.PrintedDimensions.{dimension_text}
 use Rattle.node_core.specs.declared.tree.Kind.{Kind}
 use Rattle.node_core.specs.declared.tree.Kind.TheVariants.{Horizontal, Vertical}
-use Rattle.job_commands.specs.declared.command.Sizes.{Sizes}
-use Rattle.job_commands.specs.declared.command.Answer.{Answer}
-use Rattle.job_commands.specs.declared.command.Answer.TheVariants.{Done, Packed, Measured, MeasuredVoid, Shaped, Added, Paragraph, Split, SplitVoid, Shipped}
-use Rattle.job_commands.specs.declared.command.Refusal.{Refusal}
-use Rattle.job_commands.specs.declared.command.Refusal.TheVariants.{OutOfMemory, DimensionTooLarge, NoFont, BadTfm, SlotTaken, NoOpenList, WrongMode, WrongKind, ListTooLong, TooDeep, InfiniteShrink, TooManyBreaks, HugePage, TooManyPages, TooMuchShipped, TooMuchSpecial, ListsOpen, Device, JobOver, VoidBox}
-use Rattle.job_commands.specs.declared.command.Summary.{Summary}
+use Rattle.job_commands.specs.declared.replies.Sizes.{Sizes}
+use Rattle.job_commands.specs.declared.replies.Answer.{Answer}
+use Rattle.job_commands.specs.declared.replies.Answer.TheVariants.{Done, Packed, Measured, MeasuredVoid, Shaped, Added, Paragraph, Split, SplitVoid, Shipped}
+use Rattle.job_commands.specs.declared.replies.Refusal.{Refusal}
+use Rattle.job_commands.specs.declared.replies.Refusal.TheVariants.{OutOfMemory, DimensionTooLarge, NoFont, BadTfm, SlotTaken, NoOpenList, WrongMode, WrongKind, ListTooLong, TooDeep, InfiniteShrink, TooManyBreaks, HugePage, TooManyPages, TooMuchShipped, TooMuchSpecial, ListsOpen, Device, JobOver, VoidBox}
+use Rattle.job_commands.specs.declared.replies.Summary.{Summary}
 use Rattle.tfm_core.specs.declared.fault.TfmCause.{TfmCause}
 use Rattle.tfm_core.specs.declared.fault.TfmCause.TheVariants.{TooShort, Counts, DesignSize, CharInfo, FixWord, LigKern}
 use Rattle.boxglue_script.specs.declared.cause.Cause.{Cause}

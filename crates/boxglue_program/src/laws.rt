@@ -2,8 +2,8 @@
 
 ghost use Rattle.std.specs.Prelude.{◌≡◌, [], ℕ, List, Option, Result, OnOk, IfSome};
 ghost use Rattle.job_commands.specs.declared.command.Command.{Command};
-ghost use Rattle.job_commands.specs.declared.command.Refusal.{Refusal};
-ghost use Rattle.job_commands.specs.declared.command.Summary.{Summary};
+ghost use Rattle.job_commands.specs.declared.replies.Refusal.{Refusal};
+ghost use Rattle.job_commands.specs.declared.replies.Summary.{Summary};
 ghost use Rattle.job_commands.specs.Reply.{Reply};
 ghost use Rattle.tfm_core.specs.NamedBytes.{NamedBytes};
 ghost use Rattle.boxglue_program.specs.Rows.{OneRuleAnswers, TextAnswers};

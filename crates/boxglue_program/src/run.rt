@@ -3,8 +3,8 @@
 ghost use Rattle.std.specs.Prelude.{◌≡◌, ◌<◌, ◌+◌, ◌^◌, ◌⊎◌, ℕ, List, [], length, Some, Result, is_ok, IfOk, IfErr, IfSome};
 ghost use Rattle.std.specs.List.{list_all};
 ghost use Rattle.std.specs.Io.KnownBytes.{Appends};
-ghost use Rattle.job_commands.specs.declared.command.Refusal.{Refusal};
-ghost use Rattle.job_commands.specs.declared.command.Summary.{Summary};
+ghost use Rattle.job_commands.specs.declared.replies.Refusal.{Refusal};
+ghost use Rattle.job_commands.specs.declared.replies.Summary.{Summary};
 ghost use Rattle.job_commands.specs.Reply.{Reply};
 ghost use Rattle.job_core.specs.Jobs.{RunsTo};
 ghost use Rattle.boxglue_program.specs.Texts.{answer_lines, answers_text};

@@ -3,10 +3,12 @@
 
 pub mod command;
 pub mod laws;
+pub mod replies;
 
 pub use command::{
-    Answer, AppendBox, BoxForm, Characters, Command, CountNumber, Counting, FontLoad, Opening,
-    Parameter, Refusal, Register, Reply, Sizes, Splitting, Summary, Transfer, Unboxing,
+    AppendBox, BoxForm, Characters, Command, CountNumber, Counting, FontLoad, Opening, Parameter,
+    Register, Splitting, Transfer, Unboxing,
 };
 pub use pack_core::Target;
+pub use replies::{Answer, Refusal, Reply, Sizes, Summary};
 pub use tfm_core::{FontName, FontSize, TfmCause};

@@ -1,8 +1,8 @@
 -- The end of a job and of its machine.
 use Rattle.std.proofs.Common.{◌+◌, ◌≡◌, ◌≢◌, inl, inr, ℕ, Bool, true, false, List, [], length, take, Option, Some, None, Ok, Err, refl, ap, subst, sym, ◌∙◌}
 use Rattle.std.specs.Prelude.{◌==◌, not, IfSome}
-use Rattle.job_commands.specs.declared.command.Refusal.TheVariants.{OutOfMemory, Device, JobOver, ListsOpen}
-use Rattle.job_commands.specs.declared.command.Summary.{Summary}
+use Rattle.job_commands.specs.declared.replies.Refusal.TheVariants.{OutOfMemory, Device, JobOver, ListsOpen}
+use Rattle.job_commands.specs.declared.replies.Summary.{Summary}
 use Rattle.dvi_device.specs.Written.{written_then, GrowsByFront, IsFrontOf}
 use Rattle.dvi_ops.specs.Fonts.{WidthsByName}
 use Rattle.dvi_layout.specs.Fonts.{Slots}

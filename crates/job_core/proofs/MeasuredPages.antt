@@ -14,7 +14,7 @@ use Rattle.dvi_ops.proofs.Appends.{all_append, all_weaker}
 use Rattle.dvi_layout.specs.declared.fonts.LoadedFont.{LoadedFont}
 use Rattle.job_commands.specs.declared.command.Command.{Command}
 use Rattle.job_commands.specs.declared.command.Command.TheVariants.{LoadFont, UseFont, Open, Paragraph, End, Text, Character, Rule, Kern, Glue, Penalty, Append, Unbox, LastBox, Split, Measure, Void, Set, Count, Special, Ship}
-use Rattle.job_commands.specs.declared.command.Refusal.{Refusal}
+use Rattle.job_commands.specs.declared.replies.Refusal.{Refusal}
 use Rattle.job_commands.specs.Reply.{Reply}
 use Rattle.dvi_layout.specs.Fonts.{Slots, font_in}
 use Rattle.job_machine.specs.FontSlots.{font_of_slot, with_font, glyph_by}

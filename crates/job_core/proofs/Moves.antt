@@ -4,8 +4,8 @@ use Rattle.std.specs.Prelude.{◌≢◌, Ok, is_none, if◌then◌else◌, IfOk,
 use Rattle.node_core.specs.declared.tree.BoxNode.{BoxNode}
 use Rattle.job_commands.specs.declared.command.Command.{Command}
 use Rattle.job_commands.specs.declared.command.Command.TheVariants.{Ship}
-use Rattle.job_commands.specs.declared.command.Refusal.{Refusal}
-use Rattle.job_commands.specs.declared.command.Refusal.TheVariants.{OutOfMemory, Device, JobOver}
+use Rattle.job_commands.specs.declared.replies.Refusal.{Refusal}
+use Rattle.job_commands.specs.declared.replies.Refusal.TheVariants.{OutOfMemory, Device, JobOver}
 use Rattle.job_commands.specs.Reply.{Reply}
 use Rattle.ship_core.specs.Marks.{ShippedPage}
 use Rattle.dvi_layout.specs.Fonts.{Slots}

@@ -1,8 +1,8 @@
 -- A job over a device that continues a file whose beginning was sent before.
 use Rattle.std.proofs.Common.{◌≡◌, List, ℕ, Option, Some, Result, Ok, Err, ap, sym, ◌∙◌, subst}
 use Rattle.std.specs.Prelude.{IfSome, OnOk}
-use Rattle.job_commands.specs.declared.command.Refusal.{Refusal}
-use Rattle.job_commands.specs.declared.command.Summary.{Summary}
+use Rattle.job_commands.specs.declared.replies.Refusal.{Refusal}
+use Rattle.job_commands.specs.declared.replies.Summary.{Summary}
 use Rattle.dvi_device.specs.Written.{IsFrontOf}
 use Rattle.dvi_device.specs.Beginnings.{Beginning}
 

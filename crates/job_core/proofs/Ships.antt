@@ -5,10 +5,10 @@ use Rattle.std.specs.Option.{option_map}
 use Rattle.node_core.specs.declared.tree.BoxNode.{BoxNode}
 use Rattle.node_core.specs.Loads.{Load, heavier}
 use Rattle.node_core.specs.Nodes.{box_count, box_text}
-use Rattle.job_commands.specs.declared.command.Answer.TheVariants.{Shipped}
+use Rattle.job_commands.specs.declared.replies.Answer.TheVariants.{Shipped}
 use Rattle.job_commands.specs.declared.command.Command.TheVariants.{Ship}
-use Rattle.job_commands.specs.declared.command.Refusal.{Refusal}
-use Rattle.job_commands.specs.declared.command.Refusal.TheVariants.{JobOver, VoidBox, TooManyPages, TooMuchShipped, TooMuchSpecial, HugePage, Device}
+use Rattle.job_commands.specs.declared.replies.Refusal.{Refusal}
+use Rattle.job_commands.specs.declared.replies.Refusal.TheVariants.{JobOver, VoidBox, TooManyPages, TooMuchShipped, TooMuchSpecial, HugePage, Device}
 use Rattle.node_core.specs.declared.limits.TheConstants.{MAX_PAGES, MAX_SHIPPED_NODES, MAX_SHIPPED_TEXT}
 use Rattle.job_commands.specs.Reply.{Reply}
 use Rattle.dvi_device.specs.Written.{GrowsByFront}

@@ -2,9 +2,9 @@
 use Rattle.std.proofs.Common.{◌≡◌, ◌≢◌, ℕ, List, [], ◌∷◌, ◌++◌, length, Result, Ok, Err, refl, sym, subst}
 use Rattle.std.specs.Prelude.{IfOk, IfSome}
 use Rattle.job_commands.specs.declared.command.Command.{Command}
-use Rattle.job_commands.specs.declared.command.Refusal.{Refusal}
-use Rattle.job_commands.specs.declared.command.Refusal.TheVariants.{Device}
-use Rattle.job_commands.specs.declared.command.Summary.{Summary}
+use Rattle.job_commands.specs.declared.replies.Refusal.{Refusal}
+use Rattle.job_commands.specs.declared.replies.Refusal.TheVariants.{Device}
+use Rattle.job_commands.specs.declared.replies.Summary.{Summary}
 use Rattle.job_commands.specs.Reply.{Reply}
 use Rattle.tfm_core.specs.NamedBytes.{NamedBytes}
 use Rattle.job_machine.proofs.RunLaws.{files_kept}
@@ -16,23 +16,23 @@ use Rattle.job_core.specs.Closing.{ClosesFile}
 use Rattle.job_core.specs.Shown.{FilesPages, GivesFiles}
 use Rattle.job_core.specs.Headline.{IsDone}
 
-run_behind :
+run_joined :
     (m : Machine) (n : ℕ) (commands : List Command) (replies : List Reply) (middle : Machine) (i : ℕ) (more : List Command) (others : List Reply) (next : Machine) (k : ℕ)
     → Run m n commands replies middle i → Run middle i more others next k → Run m n (commands ++ more) (replies ++ others) next k
-run_behind m n [] [] middle i more others next k (same, count) later =
+run_joined m n [] [] middle i more others next k (same, count) later =
     subst (λ x. Run x n more others next k) same (subst (λ j. Run middle j more others next k) count later)
-run_behind m n [] (r ∷ replies) middle i more others next k run later = absurd run
-run_behind m n (c ∷ commands) [] middle i more others next k run later = absurd run
-run_behind m n (c ∷ commands) (r ∷ replies) middle i more others next k run later =
-    (run.0, run.1, run.2, run_behind run.0 run.1 commands replies middle i more others next k run.3 later)
+run_joined m n [] (r ∷ replies) middle i more others next k run later = absurd run
+run_joined m n (c ∷ commands) [] middle i more others next k run later = absurd run
+run_joined m n (c ∷ commands) (r ∷ replies) middle i more others next k run later =
+    (run.0, run.1, run.2, run_joined run.0 run.1 commands replies middle i more others next k run.3 later)
 
-pub runs_behind :
+pub runs_joined :
     (old middle new : JobView) (commands more : List Command) (replies others : List Reply)
     → RunsTo old commands replies middle → RunsTo middle more others new → RunsTo old (commands ++ more) (replies ++ others) new
-runs_behind old middle new commands more replies others ran later m holds =
+runs_joined old middle new commands more replies others ran later m holds =
     let first = ran m holds in
     let last = later first.0 first.2 in
-    (last.0, run_behind m old.failed commands replies first.0 middle.failed more others last.0 new.failed first.1 last.1, last.2)
+    (last.0, run_joined m old.failed commands replies first.0 middle.failed more others last.0 new.failed first.1 last.1, last.2)
 
 pub no_run : (job : JobView) → RunsTo job [] [] job
 no_run job m holds = (m, (refl, refl), holds)

@@ -1,7 +1,7 @@
 -- How the finished file of a job ends (own).
 use Rattle.std.specs.Prelude.{◌≢◌, [], Result, OnOk, IfSome}
-use Rattle.job_commands.specs.declared.command.Refusal.{Refusal}
-use Rattle.job_commands.specs.declared.command.Summary.{Summary}
+use Rattle.job_commands.specs.declared.replies.Refusal.{Refusal}
+use Rattle.job_commands.specs.declared.replies.Summary.{Summary}
 use Rattle.dvi_layout.specs.Closing.{IsClosedFor}
 use Rattle.job_machine.specs.Machine.{Machine}
 use Rattle.job_core.specs.Jobs.{JobView, Represents}

@@ -2,8 +2,8 @@
 use Rattle.std.specs.Prelude.{◌≡◌, ◌≢◌, [], true, List, length, Result, IfOk, OnOk, IfSome}
 use Rattle.dvi_ops.specs.Fonts.{WidthsByName}
 use Rattle.job_commands.specs.declared.command.Command.{Command}
-use Rattle.job_commands.specs.declared.command.Refusal.{Refusal}
-use Rattle.job_commands.specs.declared.command.Summary.{Summary}
+use Rattle.job_commands.specs.declared.replies.Refusal.{Refusal}
+use Rattle.job_commands.specs.declared.replies.Summary.{Summary}
 use Rattle.job_commands.specs.Reply.{Reply}
 use Rattle.tfm_core.specs.NamedBytes.{NamedBytes}
 use Rattle.job_machine.specs.Machine.{Machine, first_machine}

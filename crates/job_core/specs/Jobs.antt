@@ -1,8 +1,8 @@
 -- A job, and the machine that it represents (own).
 use Rattle.std.specs.Prelude.{◌≡◌, ◌≢◌, ◌⊎◌, ◌++◌, [], ℕ, false, true, List, length, Option, Some, None, Result}
 use Rattle.job_commands.specs.declared.command.Command.{Command}
-use Rattle.job_commands.specs.declared.command.Refusal.{Refusal}
-use Rattle.job_commands.specs.declared.command.Summary.{Summary}
+use Rattle.job_commands.specs.declared.replies.Refusal.{Refusal}
+use Rattle.job_commands.specs.declared.replies.Summary.{Summary}
 use Rattle.job_commands.specs.Reply.{Reply}
 use Rattle.ship_core.specs.Marks.{ShippedPage}
 use Rattle.dvi_device.specs.Written.{written_then, GrowsByFront}

@@ -1,5 +1,5 @@
 pub mod Jobs
-pub mod SeenCode
+pub mod JobViewCode
 pub mod Sound
 pub mod Shown
 pub mod Closing

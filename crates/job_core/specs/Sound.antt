@@ -1,7 +1,7 @@
 -- The view of a job by its state and its writer, and what holds of its state (own; the model and the invariant of `Job`, and private calls: no
 -- public clause speaks of it).
-use Rattle.job_commands.specs.declared.command.Refusal.{Refusal}
-use Rattle.job_commands.specs.declared.command.Refusal.TheVariants as refusals
+use Rattle.job_commands.specs.declared.replies.Refusal.{Refusal}
+use Rattle.job_commands.specs.declared.replies.Refusal.TheVariants as refusals
 use Rattle.dvi_layout.specs.declared.fault.WriteFault.{WriteFault}
 use Rattle.dvi_layout.specs.declared.fault.WriteFault.TheVariants.{JobOver, TooManyPages, TooMuchShipped, TooMuchSpecial, HugePage, OutOfMemory, Device}
 use Rattle.dvi_write.specs.Writing.{Writing}

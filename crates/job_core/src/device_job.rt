@@ -2,7 +2,7 @@
 
 ghost use Rattle.std.specs.Prelude.{◌≡◌, ◌≢◌, ◌<◌, ◌+◌, ◌^◌, ◌++◌, [], true, false, None, Err, List, length, IfOk, IfErr, OnOk, OnErr, IfSome};
 ghost use Rattle.job_commands.specs.declared.command.Command.TheVariants as commands;
-ghost use Rattle.job_commands.specs.declared.command.Refusal.{Refusal};
+ghost use Rattle.job_commands.specs.declared.replies.Refusal.{Refusal};
 ghost use Rattle.job_commands.specs.Reply.{Reply as AReply};
 ghost use Rattle.dvi_device.specs.Written.{written_then, GrowsByFront, IsFrontOf};
 ghost use Rattle.dvi_layout.specs.Layout.{front, whole};
@@ -108,7 +108,7 @@ fn obey(kept: &mut JobState, command: &Command) -> Result<Reply, AllocError>
 
 /// A job: its state, and the writer of its file over the device.
 ///
-/// The proved link to the abstract machine of `job_lists` is `Represents`: the job represents a machine, and each call moves both together.
+/// The proved link to the abstract machine of `job_machine` is `Represents`: the job represents a machine, and each call moves both together.
 #[derive(Drop)]
 pub struct Job<D: Device> {
     alloc: Global,
@@ -120,11 +120,11 @@ impl<D: Device> Model for Job<D> {
     ghost use Rattle.job_state.specs.JobStateView.{before_shipping};
     ghost use Rattle.job_core.specs.Jobs.{JobView};
     ghost use Rattle.job_core.specs.Sound.{IsSound, view_of};
-    ghost use Rattle.job_core.specs.SeenCode.{coded_seen};
+    ghost use Rattle.job_core.specs.JobViewCode.{coded_job_view};
 
     ghost Value = { JobView };
 
-    ghost coded = { coded_seen };
+    ghost coded = { coded_job_view };
 
     ghost view = { λ job. view_of job.kept job.writer };
 
@@ -138,7 +138,7 @@ impl<D: Device> Job<D> {
     ghost use Rattle.dvi_layout.specs.Layout.{front, whole};
     ghost use Rattle.dvi_device.specs.Written.{written_then, GrowsByFront, IsFrontOf};
     ghost use Rattle.job_commands.specs.declared.command.Command.TheVariants as commands;
-    ghost use Rattle.job_commands.specs.declared.command.Refusal.{Refusal};
+    ghost use Rattle.job_commands.specs.declared.replies.Refusal.{Refusal};
     ghost use Rattle.job_commands.specs.Reply.{Reply as AReply};
     ghost use Rattle.job_core.specs.Jobs.{Represents, KeepsTo, RunsTo, FinishesTo, before_writing};
     ghost use Rattle.job_core.specs.Shown.{FilesPages};
@@ -184,10 +184,7 @@ impl<D: Device> Job<D> {
         if let Command::Ship(register) = command {
             return ship_page(&mut self.kept, &mut self.writer, self.alloc, *register);
         }
-        let Ok(reply) = obey(&mut self.kept, command) else {
-            return Err(Refusal::OutOfMemory);
-        };
-        reply
+        obey(&mut self.kept, command)?
     }
 
     /// Runs the commands in order, and appends one reply for each. A refused command does not stop the run.

@@ -2,9 +2,9 @@
 
 ghost use Rattle.std.specs.Prelude.{◌≡◌, ◌≢◌, ◌++◌, [], ◌∷◌, ℕ, List, length, Result, Err, IfOk, IfSome};
 ghost use Rattle.job_commands.specs.declared.command.Command.{Command};
-ghost use Rattle.job_commands.specs.declared.command.Refusal.{Refusal};
-ghost use Rattle.job_commands.specs.declared.command.Refusal.TheVariants as refusals;
-ghost use Rattle.job_commands.specs.declared.command.Summary.{Summary};
+ghost use Rattle.job_commands.specs.declared.replies.Refusal.{Refusal};
+ghost use Rattle.job_commands.specs.declared.replies.Refusal.TheVariants as refusals;
+ghost use Rattle.job_commands.specs.declared.replies.Summary.{Summary};
 ghost use Rattle.job_commands.specs.Reply.{Reply};
 ghost use Rattle.tfm_core.specs.NamedBytes.{NamedBytes};
 ghost use Rattle.dvi_layout.specs.Layout.{whole};
@@ -36,7 +36,7 @@ pub fn headline()
 pub fn runs_are_joined()
     ensures none { (job : JobView) → RunsTo job [] [] job }
     ensures step { (old new : JobView) (command : Command) (reply : Reply) → KeepsTo old command reply new → RunsTo old (command ∷ []) (reply ∷ []) new }
-    ensures behind { (old middle new : JobView) (commands more : List Command) (replies others : List Reply)
+    ensures joined { (old middle new : JobView) (commands more : List Command) (replies others : List Reply)
         → RunsTo old commands replies middle → RunsTo middle more others new → RunsTo old (commands ++ more) (replies ++ others) new }
 {}
 

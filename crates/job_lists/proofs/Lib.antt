@@ -1,5 +1,5 @@
 pub mod Nests
 pub mod ParagraphEnds
 pub mod ShapedTexts
-pub mod ShortLists
+pub mod BoundedLists
 pub mod FontReads

@@ -11,7 +11,7 @@ use Rattle.node_core.specs.Nodes.{items_of, nodes_of}
 use Rattle.pack_core.specs.declared.pack.Packed as packs
 use Rattle.job_commands.specs.declared.command.Command.TheVariants.{End}
 use Rattle.job_commands.specs.declared.command.Opening.{Opening}
-use Rattle.job_commands.specs.declared.command.Refusal.{Refusal}
+use Rattle.job_commands.specs.declared.replies.Refusal.{Refusal}
 use Rattle.vert_core.specs.declared.paragraph.SetParagraph.{SetParagraph}
 use Rattle.job_machine.specs.declared.OpenList.{OpenList}
 use Rattle.job_machine.specs.declared.ListPurpose.TheVariants.{Box}

@@ -8,9 +8,9 @@ use Rattle.node_core.specs.declared.tree.Node.{Node}
 use Rattle.node_core.specs.Items.{Items, none}
 use Rattle.node_core.specs.Nodes.{items_of, nodes_of}
 use Rattle.node_core.proofs.NodeLemmas.{items_of-nodes_of}
-use Rattle.job_commands.specs.declared.command.Refusal.{Refusal}
-use Rattle.job_commands.specs.declared.command.Refusal.TheVariants.{ListTooLong}
-use Rattle.job_commands.specs.declared.command.Answer.TheVariants.{Shaped}
+use Rattle.job_commands.specs.declared.replies.Refusal.{Refusal}
+use Rattle.job_commands.specs.declared.replies.Refusal.TheVariants.{ListTooLong}
+use Rattle.job_commands.specs.declared.replies.Answer.TheVariants.{Shaped}
 use Rattle.shape_core.specs.Texts.{text_items, text_missing}
 use Rattle.dvi_layout.specs.declared.fonts.LoadedFont.{LoadedFont}
 use Rattle.job_machine.specs.FontSlots.{CharacterItems, unshaped, text_items_in}

@@ -1,3 +1,3 @@
-pub mod ShortLists
+pub mod BoundedLists
 pub mod EmptiedNest
 pub mod Lending

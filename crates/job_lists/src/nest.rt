@@ -28,7 +28,7 @@ use vert_core::{CountedParagraph, ParagraphFault, SetParagraph, set_paragraph};
 /// The innermost of these lists, mutably. It takes the lists and not the `Nest`, whose invariant a lent list would have to keep.
 fn innermost_of(lists: &mut SmallVec<OpenList, 4>) -> Option<&mut OpenList>
     ensures* writes_back { sem 𝓛 (LendsInnermost lists.entry result) }
-    ensures some { IfSome result (λ lent. innermost lists.old.items ≡ Some lent.now) }
+    ensures list_lent { IfSome result (λ lent. innermost lists.old.items ≡ Some lent.now) }
     ensures none { result ≡ None → innermost lists.old.items ≡ None }
 {
     let last = lists.len().saturating_sub(1);
@@ -51,7 +51,7 @@ impl Model for Nest {
     ghost use Rattle.job_machine.specs.declared.OpenList.{OpenList};
     ghost use Rattle.job_machine.specs.contracts.OpenList as open_list;
     ghost use Rattle.node_core.specs.declared.limits.TheConstants.{MAX_OPEN_LISTS};
-    ghost use Rattle.job_lists.specs.ShortLists.{AreShort};
+    ghost use Rattle.job_lists.specs.BoundedLists.{AreBounded};
 
     ghost Value = { List OpenList };
 
@@ -59,7 +59,7 @@ impl Model for Nest {
 
     ghost view = { λ nest. nest.lists.items };
 
-    ghost invariant = { λ nest. (length nest.lists.items ≤ MAX_OPEN_LISTS) × AreShort nest.lists.items × (nest.spare ≡ none) };
+    ghost invariant = { λ nest. (length nest.lists.items ≤ MAX_OPEN_LISTS) × AreBounded nest.lists.items × (nest.spare ≡ none) };
 }
 
 impl Nest {
@@ -89,8 +89,8 @@ impl Nest {
     }
 
     /// States that the innermost list has at most `MAX_ITEMS` items. It does nothing.
-    #[tactic(auto, using(crate::proofs::ShortLists::innermost_short))]
-    pub fn innermost_is_short(&self)
+    #[tactic(auto, using(crate::proofs::BoundedLists::innermost_bounded))]
+    pub fn innermost_is_bounded(&self)
         ensures { length (nodes_of (items_in (innermost self.now))) ≤ MAX_ITEMS }
     {
         let _lists = &self.lists;
@@ -171,7 +171,7 @@ impl Nest {
     }
 
     /// Appends a box to the innermost list, after the glue before it. Where memory is refused, the box comes back and nothing changes.
-    #[tactic(auto, using(job_machine::proofs::States::same_innermost, crate::proofs::ShortLists::short_with_box))]
+    #[tactic(auto, using(job_machine::proofs::States::same_innermost, crate::proofs::BoundedLists::bounded_with_box))]
     pub fn append_to_innermost(
         &mut self,
         box_node: BoxNode,
@@ -192,7 +192,7 @@ impl Nest {
     /// Removes the last item of the innermost list and returns it, if it is a box. The glue before it stays, and so does the previous depth.
     pub fn pop_box(&mut self) -> Option<BoxNode>
         ensures value { result ≡ last_box (nodes_of (items_in (innermost self.old))) }
-        ensures rest { self.new ≡ without_last self.old (innermost self.old) }
+        ensures last_removed { self.new ≡ without_last self.old (innermost self.old) }
     {
         let Some(innermost) = innermost_of(&mut self.lists) else {
             return None;
@@ -204,7 +204,7 @@ impl Nest {
     #[tactic(auto, using(job_machine::proofs::States::same_innermost))]
     pub fn pack(&mut self, params: &Params) -> Option<Packed>
         ensures value { result ≡ packed_list params.now (innermost self.old) }
-        ensures some { IfSome result (λ packed. self.new ≡ emptied_nest self.old (innermost self.old)) }
+        ensures emptied { IfSome result (λ packed. self.new ≡ emptied_nest self.old (innermost self.old)) }
         ensures none { result ≡ None → self.new ≡ self.old }
         ensures list { IfSome result (λ packed. packed.box_node.list ≡ items_in (innermost self.old)) }
         ensures list_bounded { IfSome result (λ packed. length (nodes_of packed.box_node.list) ≤ MAX_ITEMS) }
@@ -217,7 +217,7 @@ impl Nest {
     }
 
     /// Takes the items of the innermost list, which is then empty, in the vector that it kept. It takes no memory.
-    #[tactic(auto, using(crate::proofs::ShortLists::innermost_short))]
+    #[tactic(auto, using(crate::proofs::BoundedLists::innermost_bounded))]
     pub fn take_items(&mut self) -> Vec<Node>
         ensures items { result.items ≡ nodes_of (items_in (innermost self.old)) }
         ensures emptied { self.new ≡ emptied_nest self.old (innermost self.old) }
@@ -271,7 +271,7 @@ impl Nest {
 
     /// Appends a box to the list around the innermost one, and drops the innermost one.
     /// Where memory is refused, the box comes back and nothing changes.
-    #[tactic(auto, using(crate::proofs::ShortLists::short_with_box))]
+    #[tactic(auto, using(crate::proofs::BoundedLists::bounded_with_box))]
     pub fn close_into(&mut self, box_node: BoxNode, params: &Params) -> Result<(), BoxNode>
         requires { first_refusal (box_checks params.now (innermost (outer self.old)) box_node) ≡ None }
         ensures ok { OnOk result (self.new ≡ with_box params.now (outer self.old) (pos 0) box_node (innermost (outer self.old))) }
@@ -292,7 +292,7 @@ impl Nest {
 
     /// Sets the paragraph of the innermost list, after a box of that depth. The lists do not change.
     /// `OutOfMemory` is reported only for a paragraph that may be broken.
-    #[tactic(auto, using(job_machine::proofs::States::same_innermost, crate::proofs::ShortLists::innermost_short))]
+    #[tactic(auto, using(job_machine::proofs::States::same_innermost, crate::proofs::BoundedLists::innermost_bounded))]
     pub(crate) fn set_innermost(
         &mut self,
         previous_depth: Dimen,
@@ -314,7 +314,7 @@ impl Nest {
 
     /// Appends the lines of a paragraph to the list around the innermost one, and drops the innermost one.
     /// Where memory is refused, nothing changes.
-    #[tactic(auto, using(crate::proofs::ShortLists::short_with_nodes))]
+    #[tactic(auto, using(crate::proofs::BoundedLists::bounded_with_nodes))]
     pub(crate) fn close_paragraph(&mut self, set: SetParagraph) -> Result<(), AllocError>
         requires open { IsSome (innermost (outer self.old)) }
         requires room { length (nodes_of (items_in (innermost (outer self.old)))) + length (nodes_of set.items) ≤ MAX_ITEMS }

@@ -10,7 +10,7 @@ ghost use Rattle.job_machine.specs.Checks.{box_checks, inner_checks, first_refus
 ghost use Rattle.job_machine.specs.Effects.{list_with_box};
 
 use job_commands::{BoxForm, Refusal};
-use job_machine::{ListPurpose, OpenList, is_other};
+use job_machine::{ListPurpose, OpenList};
 use node_core::limits::MAX_ITEMS;
 use node_core::{BoxNode, Glue, Kind, NodeList, Params};
 use pack_core::{Packed, Target, TooLarge, hpack, vpack, vtop};
@@ -52,7 +52,7 @@ fn pack_for(purpose: ListPurpose, params: &Params, list: NodeList) -> Result<Pac
 /// The box of a list, which is then empty. None where a size does not fit, and the list is then unchanged.
 pub(crate) fn pack(open_list: &mut OpenList, alloc: Global, params: &Params) -> Option<Packed>
     ensures value { result ≡ packed_list params.now (Some open_list.old) }
-    ensures some { IfSome result (λ packed. open_list.new ≡ record open_list.old { list = none }) }
+    ensures emptied { IfSome result (λ packed. open_list.new ≡ record open_list.old { list = none }) }
     ensures none { result ≡ None → open_list.new ≡ open_list.old }
     ensures list { IfSome result (λ packed. packed.box_node.list ≡ open_list.old.list) }
 {
@@ -108,6 +108,7 @@ pub fn room_for_box(
 ///
 /// `WrongMode` where the list is not of the command's kind, else `WrongKind` where the box is not, else `ListTooLong` where the list would have
 /// more than `MAX_ITEMS` items.
+#[tactic(auto, using(job_machine::proofs::OtherKinds::other_kinds))]
 pub fn room_for_items(
     open_list: &OpenList,
     kind: Kind,
@@ -119,13 +120,13 @@ pub fn room_for_items(
     ensures list_bounded { IfOk result (λ count. length (nodes_of open_list.now.list) + count ≤ max MAX_ITEMS (length (nodes_of open_list.now.list))) }
 {
     let length = open_list.list.len();
-    if is_other(kind, open_list.purpose.kind()) {
+    if kind != open_list.purpose.kind() {
         return Err(Refusal::WrongMode);
     }
     let Some(box_node) = held else {
         return Ok(0);
     };
-    if is_other(kind, box_node.kind) {
+    if kind != box_node.kind {
         return Err(Refusal::WrongKind);
     }
     let items = box_node.list.len();

@@ -16,7 +16,7 @@ use std::alloc::AllocError;
 
 /// The reply to characters whose items were appended after the first `before` ones. Where the list is then longer than `MAX_ITEMS`, it is cut back.
 fn keep_shaped(items: &mut Vec<Node>, before: usize, missing: Missing) -> Reply
-    requires within { before ≤ length items.old.items }
+    requires before_bounded { before ≤ length items.old.items }
     ensures reply { (list added : List ANode) → items.old.items ≡ list ++ added → before ≡ length list → result ≡ reply_by (first_refusal (room_checks (length list) added)) (shaped_answer (record { items = added; missing = missing.characters })) }
     ensures items { (list added : List ANode) → items.old.items ≡ list ++ added → before ≡ length list → items.new.items ≡ state_by (first_refusal (room_checks (length list) added)) list (list ++ added) }
 {

@@ -14,7 +14,7 @@ use Rattle.job_machine.specs.Effects.{with_home, with_closed, with_purpose, with
 use Rattle.job_machine.specs.Machine.{state_by, state_after}
 use Rattle.job_commands.specs.declared.command.AppendBox.{AppendBox}
 use Rattle.job_commands.specs.declared.command.Unboxing.{Unboxing}
-use Rattle.job_commands.specs.declared.command.Refusal.{Refusal}
+use Rattle.job_commands.specs.declared.replies.Refusal.{Refusal}
 use Rattle.job_commands.specs.declared.command.Command.{Command}
 use Rattle.job_commands.specs.declared.command.Command.TheVariants.{LoadFont, UseFont, Open, Paragraph, End, Text, Character, Rule, Kern, Glue, Penalty, Append, Unbox, LastBox, Split, Measure, Void, Set, Count, Special, Ship}
 

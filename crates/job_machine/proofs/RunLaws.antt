@@ -7,8 +7,8 @@ use Rattle.tfm_core.specs.NamedBytes.{NamedBytes}
 use Rattle.ship_core.specs.Marks.{ShippedPage}
 use Rattle.job_commands.specs.declared.command.Command.{Command}
 use Rattle.job_commands.specs.declared.command.Command.TheVariants.{LoadFont, UseFont, Open, Paragraph, End, Text, Character, Rule, Kern, Glue, Penalty, Append, Unbox, LastBox, Split, Measure, Void, Set, Count, Special, Ship}
-use Rattle.job_commands.specs.declared.command.Refusal.{Refusal}
-use Rattle.job_commands.specs.declared.command.Refusal.TheVariants.{JobOver, VoidBox, TooManyPages, TooMuchShipped, TooMuchSpecial, HugePage}
+use Rattle.job_commands.specs.declared.replies.Refusal.{Refusal}
+use Rattle.job_commands.specs.declared.replies.Refusal.TheVariants.{JobOver, VoidBox, TooManyPages, TooMuchShipped, TooMuchSpecial, HugePage}
 use Rattle.job_commands.specs.Reply.{Reply}
 use Rattle.job_machine.specs.State.{State, held_in, shipped_with}
 use Rattle.job_machine.specs.NextPages.{is_huge_in, shipped_pages}

@@ -16,8 +16,8 @@ use Rattle.job_machine.specs.declared.ListPurpose.{ListPurpose}
 use Rattle.job_machine.specs.declared.ListPurpose.TheVariants as purposes
 use Rattle.job_commands.specs.declared.command.Command.{Command}
 use Rattle.job_commands.specs.declared.command.Command.TheVariants.{LoadFont, UseFont, Open, Paragraph, End, Text, Character, Rule, Kern, Glue, Penalty, Append, Unbox, LastBox, Split, Measure, Void, Set, Count, Special, Ship}
-use Rattle.job_commands.specs.declared.command.Refusal.{Refusal}
-use Rattle.job_commands.specs.declared.command.Refusal.TheVariants.{DimensionTooLarge, NoFont, SlotTaken, NoOpenList, WrongMode, WrongKind, ListTooLong, TooDeep, InfiniteShrink, HugePage, TooManyPages, TooMuchShipped, TooMuchSpecial, JobOver, VoidBox}
+use Rattle.job_commands.specs.declared.replies.Refusal.{Refusal}
+use Rattle.job_commands.specs.declared.replies.Refusal.TheVariants.{DimensionTooLarge, NoFont, SlotTaken, NoOpenList, WrongMode, WrongKind, ListTooLong, TooDeep, InfiniteShrink, HugePage, TooManyPages, TooMuchShipped, TooMuchSpecial, JobOver, VoidBox}
 use Rattle.node_core.specs.declared.limits.TheConstants.{MAX_OPEN_LISTS, MAX_ITEMS, MAX_DEPTH, MAX_PAGES, MAX_SHIPPED_NODES, MAX_SPECIAL_TEXT, MAX_SHIPPED_TEXT}
 use Rattle.pack_core.specs.declared.pack.Packed as packs
 use Rattle.scaled_core.specs.Dimensions.{fits}

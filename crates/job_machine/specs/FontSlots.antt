@@ -12,8 +12,8 @@ use Rattle.shape_core.specs.Spaces.{space_glue}
 use Rattle.node_core.specs.declared.tree.Node.{Node}
 use Rattle.dvi_layout.specs.declared.fonts.LoadedFont.{LoadedFont}
 use Rattle.dvi_layout.specs.Fonts.{Slots, font_in}
-use Rattle.job_commands.specs.declared.command.Refusal.{Refusal}
-use Rattle.job_commands.specs.declared.command.Refusal.TheVariants.{NoFont, BadTfm, DimensionTooLarge}
+use Rattle.job_commands.specs.declared.replies.Refusal.{Refusal}
+use Rattle.job_commands.specs.declared.replies.Refusal.TheVariants.{NoFont, BadTfm, DimensionTooLarge}
 
 -- The current font: none before a `use`.
 abbrev pub current_font : Slots → Option ℕ → Option LoadedFont

@@ -14,10 +14,10 @@ use Rattle.vert_core.specs.declared.paragraph.ParagraphFault.{ParagraphFault}
 use Rattle.vert_core.specs.declared.paragraph.ParagraphFault.TheVariants as faults
 use Rattle.vert_core.specs.Paragraphs.{unbroken}
 use Rattle.vert_core.specs.Setting.{setting}
-use Rattle.job_commands.specs.declared.command.Answer.{Answer}
-use Rattle.job_commands.specs.declared.command.Answer.TheVariants as answers
-use Rattle.job_commands.specs.declared.command.Refusal.{Refusal}
-use Rattle.job_commands.specs.declared.command.Refusal.TheVariants.{NoOpenList, InfiniteShrink, TooManyBreaks, DimensionTooLarge, TooDeep, ListTooLong}
+use Rattle.job_commands.specs.declared.replies.Answer.{Answer}
+use Rattle.job_commands.specs.declared.replies.Answer.TheVariants as answers
+use Rattle.job_commands.specs.declared.replies.Refusal.{Refusal}
+use Rattle.job_commands.specs.declared.replies.Refusal.TheVariants.{NoOpenList, InfiniteShrink, TooManyBreaks, DimensionTooLarge, TooDeep, ListTooLong}
 use Rattle.node_core.specs.declared.limits.TheConstants.{MAX_ITEMS, MAX_DEPTH}
 use Rattle.job_machine.specs.declared.OpenList.{OpenList}
 use Rattle.job_machine.specs.State.{innermost, with_innermost, items_in}

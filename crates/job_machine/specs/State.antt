@@ -10,7 +10,7 @@ use Rattle.node_core.specs.Parameters.{first_params}
 use Rattle.job_machine.specs.declared.OpenList.{OpenList}
 use Rattle.job_commands.specs.declared.command.FontLoad.{FontLoad}
 use Rattle.node_core.specs.declared.limits.TheConstants.{REGISTERS, COUNTS}
-use Rattle.job_commands.specs.declared.command.Refusal.{Refusal}
+use Rattle.job_commands.specs.declared.replies.Refusal.{Refusal}
 use Rattle.tfm_core.specs.NamedBytes.{NamedBytes, file_named}
 use Rattle.tfm_core.specs.Fonts.{SizedFont}
 use Rattle.dvi_layout.specs.Fonts.{Slots}

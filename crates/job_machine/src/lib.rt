@@ -12,7 +12,6 @@ pub mod totality;
 
 ghost use Rattle.std.specs.Prelude.{◌≡◌};
 ghost use Rattle.job_machine.specs.OpenLists.{kind_by};
-ghost use Rattle.job_machine.specs.Checks.{is_other};
 
 use job_commands::{BoxForm, Opening};
 use node_core::{Kind, NodeList};
@@ -40,13 +39,6 @@ impl ListPurpose {
             ListPurpose::Paragraph => Kind::Horizontal,
         }
     }
-}
-
-/// Whether two kinds differ.
-pub fn is_other(a: Kind, b: Kind) -> bool
-    ensures { result ≡ is_other a b }
-{
-    a != b
 }
 
 /// An open list of a job.

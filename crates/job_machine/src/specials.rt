@@ -3,7 +3,7 @@
 ghost use Rattle.std.specs.Prelude.{◌≡◌, ◌++◌, ◌∷◌, [], ℕ, List, None, Some, Ok};
 ghost use Rattle.node_core.specs.declared.tree.Node.TheVariants as nodes;
 ghost use Rattle.node_core.specs.Nodes.{items_of, nodes_of};
-ghost use Rattle.job_commands.specs.declared.command.Answer.TheVariants as answers;
+ghost use Rattle.job_commands.specs.declared.replies.Answer.TheVariants as answers;
 ghost use Rattle.job_commands.specs.declared.command.Command.TheVariants as commands;
 ghost use Rattle.job_machine.specs.declared.OpenList.{OpenList};
 ghost use Rattle.job_machine.specs.State.{State, innermost};

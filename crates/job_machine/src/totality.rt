@@ -3,9 +3,9 @@
 ghost use Rattle.std.specs.Prelude.{◌≡◌, ◌≢◌, ◌+◌, [], ℕ, true, List, Result, Err};
 ghost use Rattle.std.specs.List.{AllByRecursion};
 ghost use Rattle.job_commands.specs.declared.command.Command.{Command};
-ghost use Rattle.job_commands.specs.declared.command.Refusal.{Refusal as ARefusal};
-ghost use Rattle.job_commands.specs.declared.command.Refusal.TheVariants as refusals;
-ghost use Rattle.job_commands.specs.declared.command.Summary.{Summary};
+ghost use Rattle.job_commands.specs.declared.replies.Refusal.{Refusal as ARefusal};
+ghost use Rattle.job_commands.specs.declared.replies.Refusal.TheVariants as refusals;
+ghost use Rattle.job_commands.specs.declared.replies.Summary.{Summary};
 ghost use Rattle.job_commands.specs.Reply.{Reply as AReply};
 ghost use Rattle.job_machine.specs.Machine.{Machine};
 ghost use Rattle.job_machine.specs.Runs.{StepsTo, Run, Finishes, MayRunOutOfMemory};
@@ -34,7 +34,7 @@ pub fn over_for_good()
 
 /// The end of a job is refused with OutOfMemory only if there are pages, and with Device only if the device's count of failures rose by one.
 /// After every refusal but Device the machine is as before.
-pub fn ends()
+pub fn refusals_of_the_end()
     ensures memory { (m next : Machine) (n k : ℕ) → Finishes m n (Err refusals.OutOfMemory) next k → m.pages ≢ [] }
     ensures device { (m next : Machine) (n k : ℕ) → Finishes m n (Err refusals.Device) next k → k ≡ n + 1 }
     ensures refused { (m next : Machine) (n k : ℕ) (refusal : ARefusal) → refusal ≢ refusals.Device → Finishes m n (Err refusal) next k → next ≡ m }

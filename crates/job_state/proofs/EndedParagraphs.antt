@@ -1,10 +1,10 @@
 -- The end of a paragraph changes the open lists, and all else stays.
 use Rattle.std.proofs.Common.{◌≡◌, ◌∙◌, false, List, Option, Some, None, Result, Ok, Err, refl, ap, sym}
 use Rattle.std.specs.Prelude.{◌++◌, ◌∷◌, [], IfOk, OnOk, OnErr}
-use Rattle.job_commands.specs.declared.command.Answer.{Answer}
+use Rattle.job_commands.specs.declared.replies.Answer.{Answer}
 use Rattle.job_commands.specs.declared.command.Command.TheVariants as commands
 use Rattle.job_commands.specs.declared.command.Command.TheVariants.{End}
-use Rattle.job_commands.specs.declared.command.Refusal.{Refusal}
+use Rattle.job_commands.specs.declared.replies.Refusal.{Refusal}
 use Rattle.job_commands.specs.Reply.{Reply}
 use Rattle.job_machine.specs.declared.OpenList.{OpenList}
 use Rattle.job_machine.specs.declared.ListPurpose.TheVariants.{Paragraph}

@@ -14,8 +14,8 @@ use Rattle.tfm_core.proofs.ByteLemmas.{byte-glyph_of}
 use Rattle.dvi_layout.specs.declared.fonts.LoadedFont.{LoadedFont}
 use Rattle.job_commands.specs.declared.command.Command.{Command}
 use Rattle.job_commands.specs.declared.command.Command.TheVariants.{LoadFont, UseFont, Open, Paragraph, End, Text, Character, Rule, Kern, Glue, Penalty, Append, Unbox, LastBox, Split, Measure, Void, Set, Count, Special, Ship}
-use Rattle.job_commands.specs.declared.command.Refusal.{Refusal}
-use Rattle.job_commands.specs.declared.command.Refusal.TheVariants.{DimensionTooLarge}
+use Rattle.job_commands.specs.declared.replies.Refusal.{Refusal}
+use Rattle.job_commands.specs.declared.replies.Refusal.TheVariants.{DimensionTooLarge}
 use Rattle.dvi_layout.specs.Fonts.{Slots, font_in}
 use Rattle.job_machine.specs.FontSlots.{sized_font, font_of_slot, with_font}
 use Rattle.job_machine.proofs.KeptRest.{KeepsRest, end_keeps, append_keeps, unbox_keeps}

@@ -28,8 +28,8 @@ use Rattle.dvi_layout.specs.declared.fonts.LoadedFont.{LoadedFont}
 use Rattle.job_commands.specs.declared.command.Command.{Command}
 use Rattle.job_commands.specs.declared.command.Command.TheVariants.{LoadFont, UseFont, Open, Paragraph, End, Text, Character, Rule, Kern, Glue, Penalty, Append, Unbox, LastBox, Split, Measure, Void, Set, Count, Special, Ship}
 use Rattle.job_commands.specs.declared.command.FontLoad.{FontLoad}
-use Rattle.job_commands.specs.declared.command.Refusal.{Refusal}
-use Rattle.job_commands.specs.declared.command.Refusal.TheVariants.{SlotTaken, NoOpenList, TooDeep, ListTooLong, JobOver}
+use Rattle.job_commands.specs.declared.replies.Refusal.{Refusal}
+use Rattle.job_commands.specs.declared.replies.Refusal.TheVariants.{SlotTaken, NoOpenList, TooDeep, ListTooLong, JobOver}
 use Rattle.dvi_layout.specs.Fonts.{Slots, font_in}
 use Rattle.job_machine.specs.FontSlots.{with_font, glyph_by, text_items_in, character_in, text_shaped, character_shaped}
 use Rattle.dvi_layout.proofs.EachOf.{each_taken, each_set, each_at, each_copy, each_held}

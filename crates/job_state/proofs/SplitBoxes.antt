@@ -3,7 +3,7 @@ use Rattle.std.proofs.Common.{◌≡◌, ◌∙◌, sym, false, List, Option, So
 use Rattle.std.specs.Prelude.{IfOk, OnOk, OnErr}
 use Rattle.node_core.specs.declared.tree.BoxNode.{BoxNode}
 use Rattle.job_commands.specs.declared.command.Command.TheVariants.{Split}
-use Rattle.job_commands.specs.declared.command.Refusal.{Refusal}
+use Rattle.job_commands.specs.declared.replies.Refusal.{Refusal}
 use Rattle.job_commands.specs.declared.command.Splitting.{Splitting}
 use Rattle.job_commands.specs.Reply.{Reply}
 use Rattle.job_machine.specs.State.{State, held_in}

@@ -14,8 +14,8 @@ use Rattle.vert_split.specs.declared.parts.SplitFault.{SplitFault}
 use Rattle.vert_split.specs.declared.parts.SplitFault.TheVariants as faults
 use Rattle.node_core.specs.Classes.{shrinks_infinitely}
 use Rattle.vert_split.specs.Split.{split_numbers, refusal, fault_of, front_of, rest_of}
-use Rattle.job_commands.specs.declared.command.Refusal.{Refusal}
-use Rattle.job_commands.specs.declared.command.Refusal.TheVariants.{InfiniteShrink, DimensionTooLarge}
+use Rattle.job_commands.specs.declared.replies.Refusal.{Refusal}
+use Rattle.job_commands.specs.declared.replies.Refusal.TheVariants.{InfiniteShrink, DimensionTooLarge}
 use Rattle.job_commands.specs.declared.command.Splitting.{Splitting}
 use Rattle.job_machine.specs.State.{held_in}
 use Rattle.job_machine.specs.Checks.{is_other, split_checks, first_refusal}

@@ -2,8 +2,8 @@
 use Rattle.std.specs.Prelude.{Option, Some, None}
 use Rattle.vert_split.specs.declared.parts.SplitFault.{SplitFault}
 use Rattle.vert_split.specs.declared.parts.SplitFault.TheVariants as faults
-use Rattle.job_commands.specs.declared.command.Refusal.{Refusal}
-use Rattle.job_commands.specs.declared.command.Refusal.TheVariants.{InfiniteShrink, DimensionTooLarge}
+use Rattle.job_commands.specs.declared.replies.Refusal.{Refusal}
+use Rattle.job_commands.specs.declared.replies.Refusal.TheVariants.{InfiniteShrink, DimensionTooLarge}
 
 -- The refusal for a fault; None if memory was refused.
 abbrev pub refusal_for : SplitFault → Option Refusal

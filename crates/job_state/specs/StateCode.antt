@@ -1,4 +1,4 @@
--- How the logic stores the state of a job, and the state of a machine (own; the models of `Kept` and `Job` alone, no public clause speaks of it).
+-- How the logic stores the state of a job, and the state of a machine (own; the models of `JobState` and `Job` alone, no public clause speaks of it).
 use Rattle.std.specs.Prelude.{ℕ, ℤ, Bool, List, Option, refl}
 use Rattle.std.specs.Coded.{Coded, code_by, coded×, coded_ℕ, coded_ℤ, coded_bool, coded_list, coded_option}
 use Rattle.node_core.specs.declared.tree.BoxNode.{BoxNode}
@@ -34,8 +34,8 @@ coded_parts =
     (coded× (coded_list (coded_option box_node.the_row.coded)) (coded_list coded_ℤ))
 
 -- How the state of a job is stored: by its parts.
-abbrev pub coded_keeping : Coded JobStateView
-coded_keeping =
+abbrev pub coded_job_state : Coded JobStateView
+coded_job_state =
     code_by StateParts coded_parts (λ k. (((k.files, (k.fonts, k.current)), (k.params, k.nest)), (k.registers, k.counts)))
     (λ p. record { files = p.0.0.0; fonts = p.0.0.1.0; current = p.0.0.1.1; params = p.0.1.0; nest = p.0.1.1; registers = p.1.0; counts = p.1.1 }) (λ _. refl)
 
@@ -46,6 +46,6 @@ coded_load = code_by (ℕ × ℕ) (coded× coded_ℕ coded_ℕ) (λ l. (l.nodes,
 -- How the state of a machine is stored: by the state of a job, the numbers of what was shipped and of pages, and whether it is over.
 abbrev pub coded_state : Coded State
 coded_state =
-    code_by (JobStateView × ((Load × ℕ) × Bool)) (coded× coded_keeping (coded× (coded× coded_load coded_ℕ) coded_bool))
+    code_by (JobStateView × ((Load × ℕ) × Bool)) (coded× coded_job_state (coded× (coded× coded_load coded_ℕ) coded_bool))
     (λ s. (record { files = s.files; fonts = s.fonts; current = s.current; params = s.params; nest = s.nest; registers = s.registers; counts = s.counts }, ((s.shipped, s.pages), s.over)))
     (λ p. state_of p.0 p.1.0.0 p.1.0.1 p.1.1) (λ _. refl)

@@ -7,7 +7,6 @@ ghost use Rattle.job_machine.specs.Checks.{split_checks, first_refusal};
 ghost use Rattle.job_state.specs.SplitFaults.{refusal_for};
 
 use job_commands::Refusal;
-use job_machine::is_other;
 use node_core::{BoxNode, Kind, SplitParams};
 use scaled_core::Dimen;
 use vert_core::{Split, SplitFault, split_list};
@@ -31,7 +30,7 @@ fn refusal_for(fault: SplitFault) -> Option<Refusal>
 }
 
 /// Splits a vbox at that height, or returns it unchanged with the refusal.
-#[tactic(auto, using(crate::proofs::SplitRefusals::fault_refused))]
+#[tactic(auto, using(crate::proofs::SplitRefusals::fault_refused, job_machine::proofs::OtherKinds::other_kinds_reversed))]
 pub fn split_box(
     box_node: BoxNode,
     height: Dimen,
@@ -45,7 +44,7 @@ pub fn split_box(
     ensures growth { IfErr result (λ unsplit. unsplit.refusal ≡ None → IsSome (rest_of params.now height (nodes_of box_node.list))) }
     ensures box_returned { IfErr result (λ unsplit. unsplit.box_node ≡ box_node) }
 {
-    if is_other(Kind::Vertical, box_node.kind) {
+    if box_node.kind != Kind::Vertical {
         return Err(UnsplitBox {
             box_node,
             refusal: Some(Refusal::WrongKind),

@@ -2,8 +2,8 @@
 use Rattle.std.proofs.Common.{◌≡◌, ◌≢◌, ◌∙◌, [], ◌∷◌, ℕ, Bool, List, map, Option, Some, None, Result, Ok, Err, refl, ap, subst}
 use Rattle.std.proofs.Math.Logic.{◌⊎◌, inl, inr}
 use Rattle.std.specs.Prelude.{IfSome, OnOk}
-use Rattle.job_commands.specs.declared.command.Refusal.{Refusal}
-use Rattle.job_commands.specs.declared.command.Summary.{Summary}
+use Rattle.job_commands.specs.declared.replies.Refusal.{Refusal}
+use Rattle.job_commands.specs.declared.replies.Summary.{Summary}
 use Rattle.dvi_read.specs.Listing.{listing}
 use Rattle.dvi_ops.specs.File.{MarkedPage, IsFile}
 use Rattle.dvi_ops.specs.Fonts.{WidthsByName}

@@ -1,8 +1,8 @@
 -- A finished file is read back.
 use Rattle.std.proofs.Common.{◌≢◌, [], ◌∷◌, ℕ, List, map, Option, Some, None, Result, Ok, Err, refl}
 use Rattle.std.specs.Prelude.{IfSome, OnOk}
-use Rattle.job_commands.specs.declared.command.Refusal.{Refusal}
-use Rattle.job_commands.specs.declared.command.Summary.{Summary}
+use Rattle.job_commands.specs.declared.replies.Refusal.{Refusal}
+use Rattle.job_commands.specs.declared.replies.Summary.{Summary}
 use Rattle.dvi_read.specs.Opened.{Opened, GivesPages, IsExact}
 use Rattle.dvi_read.specs.declared.fault.DviFault.{DviFault}
 use Rattle.job_core.specs.Jobs.{Represents, JobView}

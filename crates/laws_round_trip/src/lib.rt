@@ -3,8 +3,8 @@
 #![tactic(auto)]
 
 ghost use Rattle.std.specs.Prelude.{◌≡◌, ◌≢◌, [], ℕ, Bool, List, Some, Result, Ok, IfSome, OnOk};
-ghost use Rattle.job_commands.specs.declared.command.Refusal.{Refusal};
-ghost use Rattle.job_commands.specs.declared.command.Summary.{Summary};
+ghost use Rattle.job_commands.specs.declared.replies.Refusal.{Refusal};
+ghost use Rattle.job_commands.specs.declared.replies.Summary.{Summary};
 ghost use Rattle.job_core.specs.Jobs.{Represents, JobView};
 ghost use Rattle.job_core.specs.Shown.{FilesPages};
 ghost use Rattle.boxglue_print.specs.Outputs.{IsListed};

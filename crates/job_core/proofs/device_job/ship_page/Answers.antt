@@ -1,8 +1,8 @@
 use Rattle.std.proofs.Common.{Ok, Err, refl, ap, sym, ◌∙◌, subst}
 use Rattle.std.specs.Option.{option_copied}
-use Rattle.job_commands.specs.declared.command.Answer.TheVariants.{Done}
+use Rattle.job_commands.specs.declared.replies.Answer.TheVariants.{Done}
 use Rattle.job_commands.specs.declared.command.Command.TheVariants.{Ship, Void}
-use Rattle.job_commands.specs.declared.command.Refusal.{Refusal}
+use Rattle.job_commands.specs.declared.replies.Refusal.{Refusal}
 use Rattle.dvi_layout.specs.declared.fault.WriteFault.{WriteFault}
 use Rattle.dvi_layout.specs.Shippable.{page_with}
 use Rattle.dvi_write.specs.Writing.{Writing}

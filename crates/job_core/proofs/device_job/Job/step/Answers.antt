@@ -10,8 +10,8 @@ returns-then-is_over-clause-keeps g c = rw (← c.self.view_is) (over_replies _ 
 
 pub invariant_of-self-2 : goal.invariant_of-self-2
 invariant_of-self-2 g c =
-    subst IsSound (sym c.in-Ok.ensures.state)
-    (sound_after (before_shipping c.self.inside.kept) c.args.command.now c.in-Ok.reply c.in-Ok.ensures.reply c.in-Ok.ensures.numbers c.self.invariant)
+    subst IsSound (sym c.in_ok-obey.ensures.state)
+    (sound_after (before_shipping c.self.inside.kept) c.args.command.now c.in_ok-obey.field-0 c.in_ok-obey.ensures.reply c.in_ok-obey.ensures.numbers c.self.invariant)
 
 pub returns : goal.returns
 returns g c =
@@ -21,10 +21,10 @@ returns g c =
     let w = c.self.inside.writer in
     rw (← c.self.view_is)
     (record {
-      keeps = obeyed kept w c.args.command.now other running c.obey.new.kept c.in-Ok.reply c.in-Ok.ensures.reply c.in-Ok.ensures.state;
+      keeps = obeyed kept w c.args.command.now other running c.obey.new.kept c.in_ok-obey.field-0 c.in_ok-obey.ensures.reply c.in_ok-obey.ensures.state;
       idle = λ over. absurd (true_or_false over running);
-      unsent = written_stays c.in-Ok.reply w.bytes_written;
+      unsent = written_stays c.in_ok-obey.field-0 w.bytes_written;
       part = λ is.
-          absurd (never_device (view_of kept w).state c.args.command.now c.in-Ok.reply (seen_reply kept w c.args.command.now other running c.in-Ok.reply c.in-Ok.ensures.reply) is);
+          absurd (never_device (view_of kept w).state c.args.command.now c.in_ok-obey.field-0 (seen_reply kept w c.args.command.now other running c.in_ok-obey.field-0 c.in_ok-obey.ensures.reply) is);
       began = refl;
     })

@@ -3,14 +3,14 @@ use Rattle.node_core.specs.declared.limits.TheConstants.{MAX_ITEMS}
 use Rattle.node_core.specs.Nodes.{nodes_of}
 use Rattle.job_machine.specs.declared.OpenList.{OpenList}
 use Rattle.job_machine.specs.State.{innermost, items_in}
-use Rattle.job_lists.proofs.ShortLists.{one_changed, more_fit}
+use Rattle.job_lists.proofs.BoundedLists.{one_changed, more_fit}
 use Rattle.job_lists.proofs.nest.Nest.append_list.Goals as goal
 
 pub invariant_of-self-2 : goal.invariant_of-self-2
 invariant_of-self-2 c =
     let nest : List OpenList = c.self.inside.lists.items in
     let l : OpenList = c.in-Some.innermost.now in
-    let found : innermost nest ≡ Some l = c.in-Some.ensures.some in
+    let found : innermost nest ≡ Some l = c.in-Some.ensures.list_lent in
     let room : length (nodes_of l.list) + length (nodes_of c.args.list.now) ≤ MAX_ITEMS =
     omega (arith, c.requires, ap (λ (lists : List OpenList). length (nodes_of (items_in (innermost lists)))) c.self.view_is, ap (λ (o : Option OpenList). length (nodes_of (items_in o))) found) in
     let lists =

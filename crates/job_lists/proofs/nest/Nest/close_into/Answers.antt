@@ -3,10 +3,10 @@ use Rattle.std.specs.Prelude.{pos}
 use Rattle.job_machine.specs.declared.OpenList.{OpenList}
 use Rattle.job_machine.specs.State.{innermost, outer}
 use Rattle.job_machine.specs.Checks.{box_checks, first_refusal}
-use Rattle.job_lists.specs.ShortLists.{IsShort}
+use Rattle.job_lists.specs.BoundedLists.{IsBounded}
 use Rattle.job_machine.proofs.States.{no_box, none_around}
 use Rattle.job_lists.proofs.Nests.{around_found, closing_into}
-use Rattle.job_lists.proofs.ShortLists.{changed_and_taken, short_with_box}
+use Rattle.job_lists.proofs.BoundedLists.{changed_and_taken, bounded_with_box}
 use Rattle.job_lists.proofs.nest.Nest.close_into.Goals as goal
 
 pub append_with_glue-requires : goal.append_with_glue-requires
@@ -32,7 +32,7 @@ invariant_of-self-2 c =
     ∙ (ap (λ (lists : List OpenList). first_refusal (box_checks c.args.params.now (innermost (outer lists)) c.args.box_node)) c.self.view_is ∙ c.requires) in
     let lists =
     changed_and_taken nest (count - 2) (length (set nest (count - 2) changed) - 1) changed c.pop.new.self.items c.self.invariant.0 c.self.invariant.1
-    (subst IsShort (sym c.in_ok-append_with_glue.ensures.ok) (short_with_box c.args.params.now (pos 0) c.args.box_node c.in-Some.around.now free)) c.pop.ensures.rest in
+    (subst IsBounded (sym c.in_ok-append_with_glue.ensures.ok) (bounded_with_box c.args.params.now (pos 0) c.args.box_node c.in-Some.around.now free)) c.pop.ensures.rest in
     (lists.0, lists.1, c.self.invariant.2)
 
 pub unreachable-requires : goal.unreachable-requires

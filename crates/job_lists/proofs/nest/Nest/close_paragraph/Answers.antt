@@ -2,12 +2,12 @@ use Rattle.std.proofs.Common.{◌≤◌, ◌+◌, ◌-◌, List, length, set, Op
 use Rattle.node_core.specs.declared.limits.TheConstants.{MAX_ITEMS}
 use Rattle.node_core.specs.Nodes.{nodes_of}
 use Rattle.job_machine.specs.declared.OpenList.{OpenList}
-use Rattle.job_lists.specs.ShortLists.{IsShort}
+use Rattle.job_lists.specs.BoundedLists.{IsBounded}
 use Rattle.job_machine.specs.State.{innermost, outer, items_in}
 use Rattle.std.specs.Prelude.{IsSome}
 use Rattle.job_machine.proofs.States.{none_around}
 use Rattle.job_lists.proofs.Nests.{around_found, lines_left, no_list}
-use Rattle.job_lists.proofs.ShortLists.{one_changed, short_with_nodes}
+use Rattle.job_lists.proofs.BoundedLists.{one_changed, bounded_with_nodes}
 use Rattle.job_lists.proofs.nest.Nest.close_paragraph.Goals as goal
 
 pub returns-clause-ok : goal.returns-clause-ok
@@ -26,7 +26,7 @@ invariant_of-self-2 c =
     omega (arith, c.requires.room, ap (λ (lists : List OpenList). length (nodes_of (items_in (innermost (outer lists))))) c.self.view_is, ap (λ (l : Option OpenList). length (nodes_of (items_in l))) found) in
     let lists =
     one_changed nest (count - 2) changed c.self.invariant.0 c.self.invariant.1
-    (subst IsShort (sym c.in_ok-append_lines.ensures.ok) (short_with_nodes (nodes_of around.list) (nodes_of c.args.set.items) room)) in
+    (subst IsBounded (sym c.in_ok-append_lines.ensures.ok) (bounded_with_nodes (nodes_of around.list) (nodes_of c.args.set.items) room)) in
     (lists.0, lists.1, c.self.invariant.2)
 
 pub unreachable-requires : goal.unreachable-requires
