@@ -3,6 +3,7 @@
 #![tactic(auto)]
 
 mod faults;
+pub mod laws;
 mod output;
 
 pub use dvi_read::{Dvi, DviFault, Lines, PART};
